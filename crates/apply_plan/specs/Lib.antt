@@ -1,0 +1,9 @@
+pub mod Action
+pub mod Address
+pub mod Element
+pub mod Header
+pub mod Plan
+pub mod PlanGives
+pub mod ResourceChange
+pub mod Steps
+pub mod Tree

@@ -1,0 +1,35 @@
+-- A planned change of one object (JSON Output Format, "Plan Representation", `resource_changes`).
+use Rattle.std.specs.Prelude.{ℕ, ◌+◌, List, [], length, drop, Bool, true, false, ◌&&◌, if◌then◌else◌, Option, Some, None}
+use Rattle.std.specs.Str.{bytes_eq}
+use Rattle.apply_plan.specs.declared.key.Key.{Key}
+use Rattle.apply_plan.specs.declared.mode.Mode.{Mode}
+use Rattle.apply_plan.specs.declared.step_kind.StepKind.{StepKind}
+use Rattle.apply_plan.specs.Tree.{is_empty}
+
+pub record ResourceChange : Type 0 where
+  pub address : List ℕ
+  -- empty in the root module
+  pub module_address : List ℕ
+  pub mode : Mode
+  pub kind_name : List ℕ
+  pub name : List ℕ
+  pub key : Key
+  -- the key of a deposed object, which stands beside the current one
+  pub deposed : Option (List ℕ)
+  -- the id that the object had before, where it had one and it may be shown
+  pub prior_id : Option (List ℕ)
+  pub steps : List StepKind
+
+-- the address within its module
+abbrev pub resource_of : ResourceChange → List ℕ
+resource_of change = if is_empty change.module_address then change.address else drop (length change.module_address + 1) change.address
+
+abbrev pub same_deposed : Option (List ℕ) → Option (List ℕ) → Bool
+same_deposed None None = true
+same_deposed None (Some other) = false
+same_deposed (Some key) None = false
+same_deposed (Some key) (Some other) = bytes_eq key other
+
+-- two changes are of one object: they have one address, and one deposed key or none
+abbrev pub is_same_object : ResourceChange → ResourceChange → Bool
+is_same_object one other = bytes_eq one.address other.address && same_deposed one.deposed other.deposed

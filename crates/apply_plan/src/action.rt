@@ -1,0 +1,35 @@
+//! The action lists that are in scope.
+
+ghost use Rattle.std.specs.Prelude.{◌≡◌};
+ghost use Rattle.apply_plan.specs.Action.{steps_of_action};
+
+use crate::step_kind::StepKind;
+
+/// What is to be done to an object (JSON Output Format, "Change Representation", `actions`).
+#[derive(Clone, Copy, Debug, PartialEq, Eq)]
+pub enum Action {
+    NoOp,
+    Create,
+    Read,
+    Update,
+    Delete,
+    DeleteThenCreate,
+    CreateThenDelete,
+}
+
+impl Action {
+    /// The steps, in the order in which they are applied.
+    pub fn steps(self) -> &'static [StepKind]
+        ensures { result.now ≡ steps_of_action self }
+    {
+        match self {
+            Action::NoOp => &[],
+            Action::Create => &[StepKind::Create],
+            Action::Read => &[StepKind::Read],
+            Action::Update => &[StepKind::Update],
+            Action::Delete => &[StepKind::Delete],
+            Action::DeleteThenCreate => &[StepKind::Delete, StepKind::Create],
+            Action::CreateThenDelete => &[StepKind::Create, StepKind::Delete],
+        }
+    }
+}

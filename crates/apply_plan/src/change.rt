@@ -1,0 +1,133 @@
+//! A planned change of one object.
+
+ghost use Rattle.std.specs.Prelude.{◌≡◌, ◌≤◌, length};
+ghost use Rattle.std.specs.Option.{option_copied};
+ghost use Rattle.apply_plan.specs.Address.{provider_of};
+ghost use Rattle.apply_plan.specs.ResourceChange.{resource_of};
+
+use crate::action::Action;
+use crate::address;
+use crate::key::Key;
+use crate::mode::Mode;
+use crate::step_kind::StepKind;
+use crate::text::Text;
+use std::marker::Model;
+
+/// A planned change of one object (JSON Output Format, "Plan Representation", `resource_changes`).
+///
+/// Contracts see it as its members, with the steps in the place of the actions.
+#[derive(Debug, Drop)]
+pub struct Change {
+    pub(crate) address: Text,
+    pub(crate) module_address: Text,
+    pub(crate) mode: Mode,
+    pub(crate) kind_name: Text,
+    pub(crate) name: Text,
+    pub(crate) key: Key,
+    pub(crate) deposed: Option<Text>,
+    pub(crate) prior_id: Option<Text>,
+    pub(crate) action: Action,
+}
+
+impl Model for Change {
+    ghost use Rattle.std.specs.Prelude.{◌≡◌, is_some, true};
+    ghost use Rattle.apply_plan.specs.Action.{steps_of_action};
+    ghost use Rattle.apply_plan.specs.Address.{relative_address};
+    ghost use Rattle.apply_plan.specs.ResourceChange.{ResourceChange};
+
+    ghost Value = { ResourceChange };
+
+    ghost view = { λ c. record {
+      address = c.address;
+      module_address = c.module_address;
+      mode = c.mode;
+      kind_name = c.kind_name;
+      name = c.name;
+      key = c.key;
+      deposed = c.deposed;
+      prior_id = c.prior_id;
+      steps = steps_of_action c.action;
+    } };
+
+    ghost invariant = { λ c. is_some (relative_address c.module_address c.address) ≡ true };
+}
+
+impl Change {
+    /// The absolute address, never empty.
+    pub fn address(&self) -> &str
+        ensures { result.now ≡ self.now.address }
+    {
+        self.address.as_str()
+    }
+
+    /// The address of the module, empty for the root module.
+    pub fn module(&self) -> &str
+        ensures { result.now ≡ self.now.module_address }
+    {
+        self.module_address.as_str()
+    }
+
+    /// The address within the module, as a part of the address.
+    pub fn resource(&self) -> &str
+        ensures { result.now ≡ resource_of self.now }
+    {
+        address::relative(self.module_address.as_str(), self.address.as_str()).unwrap()
+    }
+
+    /// The resource type, never empty.
+    pub fn kind_name(&self) -> &str
+        ensures { result.now ≡ self.now.kind_name }
+    {
+        self.kind_name.as_str()
+    }
+
+    /// The provider that the type implies: what stands before its first underscore, or all of it.
+    pub fn provider(&self) -> &str
+        ensures { result.now ≡ provider_of self.now.kind_name }
+    {
+        address::provider(self.kind_name.as_str())
+    }
+
+    /// The resource's name, never empty.
+    pub fn name(&self) -> &str
+        ensures { result.now ≡ self.now.name }
+    {
+        self.name.as_str()
+    }
+
+    /// Whether it is a managed resource or a data source.
+    pub fn mode(&self) -> Mode
+        ensures { result ≡ self.now.mode }
+    {
+        self.mode
+    }
+
+    /// The instance key.
+    pub fn key(&self) -> &Key
+        ensures { result.now ≡ self.now.key }
+    {
+        &self.key
+    }
+
+    /// The key of a deposed object, never empty. `None` for the current object at the address.
+    pub fn deposed(&self) -> Option<&str>
+        ensures { option_copied result ≡ self.now.deposed }
+    {
+        self.deposed.as_ref().map(Text::as_str)
+    }
+
+    /// The id that the object had before the change, never empty. `None` where it had none or it is sensitive.
+    pub fn prior_id(&self) -> Option<&str>
+        ensures { option_copied result ≡ self.now.prior_id }
+    {
+        self.prior_id.as_ref().map(Text::as_str)
+    }
+
+    /// The steps, at most two, in the order in which they are applied. A replacement has two.
+    pub fn steps(&self) -> &[StepKind]
+        ensures steps { result.now ≡ self.now.steps }
+        ensures few { length self.now.steps ≤ 2 }
+    {
+        self.action.steps()
+    }
+}

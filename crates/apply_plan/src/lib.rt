@@ -1,0 +1,20 @@
+//! Saved Terraform plans (JSON Output Format 1.x): what a plan is, and how it is read.
+#![tactic(auto)]
+
+mod action;
+mod address;
+mod change;
+mod key;
+mod mode;
+mod plan;
+mod plan_error;
+mod step_kind;
+mod text;
+
+pub use change::Change;
+pub use key::Key;
+pub use mode::Mode;
+pub use plan::Plan;
+pub use plan_error::PlanError;
+pub use step_kind::StepKind;
+pub use text::Text;
