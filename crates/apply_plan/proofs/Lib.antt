@@ -1,3 +1,4 @@
+pub mod ActionLists
 pub mod Options
 pub mod Relative
 pub mod Texts

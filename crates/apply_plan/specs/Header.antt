@@ -10,15 +10,10 @@ pub record Header : Type 0 where
   -- what stands in `resource_changes`
   pub elements : Items
 
--- a format whose members are known: 1.x
-abbrev pub known_format : List ℕ → Option (List ℕ)
-known_format format = if starts_with nat_eq format (codes "1.") then Some format else None
-
 -- `format_version` is 1.x, `terraform_version` a text or absent, `resource_changes` an array or absent
 unfoldable pub header_of : Data → Option Header
 header_of d = do
   format ← text_of (codes "format_version") d
-  known ← known_format format
   version ← text_or (codes "0.0.0") (member_of (codes "terraform_version") d)
   elements ← items_or_none (member_of (codes "resource_changes") d)
-  Some (record { version = version; elements = elements })
+  if starts_with nat_eq format (codes "1.") then Some (record { version = version; elements = elements }) else None

@@ -1,9 +1,12 @@
 pub mod Action
 pub mod Address
 pub mod Element
+pub mod ElementView
 pub mod Header
+pub mod HeaderView
 pub mod Plan
 pub mod PlanGives
+pub mod PlannedView
 pub mod ResourceChange
 pub mod Steps
 pub mod Tree

@@ -49,14 +49,19 @@ abbrev pub or_refuse : {A : Type 0} → PlanError → Option A → Result A Plan
 or_refuse refusal None = Err refusal
 or_refuse refusal (Some x) = Ok x
 
--- The change of an element, or the first fault that holds of it. Behind it stand the changes before it, with
--- each of which it is compared.
+-- the change that element n describes, or the first fault that it has by itself
+unfoldable pub planned_at : ℕ → Data → Result ResourceChange PlanError
+planned_at n d = do
+  e ← or_refuse (BadChange n) (element_of d)
+  steps ← or_refuse (BadActions n) (steps_of e.actions)
+  relative ← or_refuse (BadAddress n) (relative_address e.module_address e.address)
+  Ok (change_of e steps)
+
+-- the change of an element behind other changes, with each of which it is compared; or its first fault
 unfoldable pub change_after : List ResourceChange → Data → Result ResourceChange PlanError
 change_after earlier d = do
-  e ← or_refuse (BadChange (length earlier)) (element_of d)
-  steps ← or_refuse (BadActions (length earlier)) (steps_of e.actions)
-  relative ← or_refuse (BadAddress (length earlier)) (relative_address e.module_address e.address)
-  let change = change_of e steps in if list_any (is_same_object change) earlier then Err (Duplicate (length earlier)) else Ok change
+  change ← planned_at (length earlier) d
+  if list_any (is_same_object change) earlier then Err (Duplicate (length earlier)) else Ok change
 
 -- the changes before the elements, and then those of the elements, or the fault of the first faulty one
 unfoldable pub changes_after : List ResourceChange → Items → Result (List ResourceChange) PlanError

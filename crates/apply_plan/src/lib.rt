@@ -4,12 +4,16 @@
 mod action;
 mod address;
 mod change;
+mod element;
+mod header;
 mod key;
 mod mode;
 mod plan;
 mod plan_error;
+mod planned;
 mod step_kind;
 mod text;
+mod tree;
 
 pub use change::Change;
 pub use key::Key;

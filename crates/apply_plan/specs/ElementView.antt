@@ -1,0 +1,28 @@
+-- What contracts see of an element that stands in the tree, for the private type that reads one.
+use Rattle.std.specs.Prelude.{Option}
+use Rattle.std.specs.Option.{option_copied}
+use Rattle.serde_json.specs.View.{items_view}
+use Rattle.apply_plan.specs.declared.element.Element as seen
+use Rattle.apply_plan.specs.declared.element.IndexKey.{IndexKey}
+use Rattle.apply_plan.specs.declared.element.IndexKey.TheVariants as index
+use Rattle.apply_plan.specs.declared.key.Key.{Key}
+use Rattle.apply_plan.specs.declared.key.Key.TheVariants as key
+use Rattle.apply_plan.specs.Element.{Element}
+
+abbrev pub key_view : IndexKey → Key
+key_view index.None = key.None
+key_view (index.Number z) = key.Number z
+key_view (index.Name s) = key.Name s.now
+
+abbrev pub element_view : seen.Element → Element
+element_view e = record {
+  address = e.address.now;
+  mode = e.mode;
+  kind_name = e.kind_name.now;
+  name = e.name.now;
+  module_address = e.module_address.now;
+  key = key_view e.key;
+  deposed = option_copied e.deposed;
+  actions = items_view e.actions.now;
+  prior_id = option_copied e.prior_id
+}
