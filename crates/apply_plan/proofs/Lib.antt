@@ -1,4 +1,6 @@
 pub mod ActionLists
+pub mod OneByOne
 pub mod Options
 pub mod Relative
+pub mod Seen
 pub mod Texts

@@ -8,5 +8,6 @@ pub mod Plan
 pub mod PlanGives
 pub mod PlannedView
 pub mod ResourceChange
+pub mod SeenObjects
 pub mod Steps
 pub mod Tree

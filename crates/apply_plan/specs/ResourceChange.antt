@@ -30,6 +30,6 @@ same_deposed None (Some other) = false
 same_deposed (Some key) None = false
 same_deposed (Some key) (Some other) = bytes_eq key other
 
--- two changes are of one object: they have one address, and one deposed key or none
+-- an earlier change is of the same object: it has the same address, and the same deposed key or none
 abbrev pub is_same_object : ResourceChange → ResourceChange → Bool
-is_same_object one other = bytes_eq one.address other.address && same_deposed one.deposed other.deposed
+is_same_object change earlier = bytes_eq earlier.address change.address && same_deposed earlier.deposed change.deposed

@@ -1,6 +1,6 @@
 //! A planned change of one object.
 
-ghost use Rattle.std.specs.Prelude.{◌≡◌, ◌≤◌, length};
+ghost use Rattle.std.specs.Prelude.{◌≡◌, ◌≤◌, length, IfOk};
 ghost use Rattle.std.specs.Option.{option_copied};
 ghost use Rattle.apply_plan.specs.Address.{provider_of};
 ghost use Rattle.apply_plan.specs.ResourceChange.{resource_of};
@@ -9,8 +9,10 @@ use crate::action::Action;
 use crate::address;
 use crate::key::Key;
 use crate::mode::Mode;
+use crate::planned::Planned;
 use crate::step_kind::StepKind;
 use crate::text::Text;
+use std::alloc::{AllocError, Global};
 use std::marker::Model;
 
 /// A planned change of one object (JSON Output Format, "Plan Representation", `resource_changes`).
@@ -53,6 +55,26 @@ impl Model for Change {
 }
 
 impl Change {
+    ghost use Rattle.apply_plan.specs.PlannedView.{planned_view};
+
+    /// The change that an element of the tree describes, with copies of its texts.
+    pub(crate) fn new(alloc: Global, planned: Planned<'_>) -> Result<Change, AllocError>
+        ensures { IfOk result (λ change. change ≡ planned_view planned.entry) }
+    {
+        let element = planned.element;
+        Ok(Change {
+            address: Text::new(alloc, element.address)?,
+            module_address: Text::new(alloc, element.module_address)?,
+            mode: element.mode,
+            kind_name: Text::new(alloc, element.kind_name)?,
+            name: Text::new(alloc, element.name)?,
+            key: Key::new(alloc, element.key)?,
+            deposed: Text::of_option(alloc, element.deposed)?,
+            prior_id: Text::of_option(alloc, element.prior_id)?,
+            action: planned.action,
+        })
+    }
+
     /// The absolute address, never empty.
     pub fn address(&self) -> &str
         ensures { result.now ≡ self.now.address }

@@ -1,6 +1,7 @@
 //! Texts that a plan or a script owns.
 
-ghost use Rattle.std.specs.Prelude.{◌≡◌, IfOk, string_bytes};
+ghost use Rattle.std.specs.Prelude.{◌≡◌, IfOk};
+ghost use Rattle.std.specs.Option.{option_copied};
 
 use std::alloc::{AllocError, Global};
 use std::marker::Model;
@@ -27,6 +28,16 @@ impl Text {
         Ok(Text {
             inner: String::from_str(alloc, text)?,
         })
+    }
+
+    /// A copy of the text, where there is one.
+    pub(crate) fn of_option(alloc: Global, text: Option<&str>) -> Result<Option<Text>, AllocError>
+        ensures { IfOk result (λ copy. copy ≡ option_copied text.entry) }
+    {
+        match text {
+            Some(text) => Ok(Some(Text::new(alloc, text)?)),
+            None => Ok(None),
+        }
     }
 
     /// The text, borrowed.

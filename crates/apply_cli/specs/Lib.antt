@@ -1,0 +1,4 @@
+pub mod Events
+pub mod Messages
+pub mod Stream
+pub mod Words
