@@ -4,3 +4,5 @@ pub mod Options
 pub mod Relative
 pub mod Seen
 pub mod Texts
+pub mod Trees
+pub mod WholePlan

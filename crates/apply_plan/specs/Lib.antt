@@ -4,6 +4,7 @@ pub mod Element
 pub mod ElementView
 pub mod Header
 pub mod HeaderView
+pub mod JsonText
 pub mod Plan
 pub mod PlanGives
 pub mod PlannedView

@@ -6,14 +6,14 @@ use Rattle.apply_plan.proofs.OneByOne.{faulty, goes_on, is_done, next_is, repeat
 use Rattle.apply_plan.proofs.Seen.{HaveBeenSeen-push, was_named, was_not_named}
 use Rattle.apply_plan.proofs.reading.changes_of.Goals as goal
 
-pub returns-in_err-planned : goal.returns-in_err-planned
-returns-in_err-planned c =
+pub returns-in_err-planned-clause-defined : goal.returns-in_err-planned-clause-defined
+returns-in_err-planned-clause-defined c =
     let p = err_from_is_err_and c.from_residual-in_err-planned.result c.from_residual-in_err-planned.ensures.1 in
     let read = next_is c.loop-number.changes.items c.args.elements.now c.loop-number.number c.index-elements-number.result _ c.loop-number-test.true c.index-elements-number.is c.loop-number.invariant.read in
     rw (p.1, p.2) (faulty c.in_err-planned.field-0.0 c.loop-number.changes.items c.loop-number.number (view c.index-elements-number.result) _ _ c.loop-number.invariant.count c.in_err-planned.ensures read)
 
-pub returns-then-not-branch : goal.returns-then-not-branch
-returns-then-not-branch c =
+pub returns-then-not-branch-clause-defined : goal.returns-then-not-branch-clause-defined
+returns-then-not-branch-clause-defined c =
     let read = next_is c.loop-number.changes.items c.args.elements.now c.loop-number.number c.index-elements-number.result _ c.loop-number-test.true c.index-elements-number.is c.loop-number.invariant.read in
     let named = was_named c.loop-number.seen c.loop-number.changes.items c.of-in-loop-number.result c.in_ok-planned.planned c.in_ok-insert.field-0 c.of-in-loop-number.ensures.address c.of-in-loop-number.ensures.deposed c.loop-number.invariant.seen c.in_ok-insert.ensures.fresh c.if-not-branch.true in
     repeats c.loop-number.changes.items c.loop-number.number (view c.index-elements-number.result) _ _ _ c.loop-number.invariant.count c.in_ok-planned.ensures named read
@@ -28,5 +28,5 @@ loop-number-preserved c =
       read = rw (c.in_ok-push.ensures.items, c.in_ok-new.ensures) (goes_on c.loop-number.changes.items c.loop-number.number (view c.index-elements-number.result) _ _ _ c.loop-number.invariant.count c.in_ok-planned.ensures new read);
     }
 
-pub returns : goal.returns
-returns c = is_done c.loop-number.changes.items c.args.elements.now c.loop-number.number _ c.loop-number-test.false c.loop-number.invariant.read
+pub returns-clause-defined : goal.returns-clause-defined
+returns-clause-defined c = is_done c.loop-number.changes.items c.args.elements.now c.loop-number.number _ c.loop-number-test.false c.loop-number.invariant.read
