@@ -1,3 +1,4 @@
+pub mod AcceptedPlans
 pub mod ActionLists
 pub mod OneByOne
 pub mod Options

@@ -5,6 +5,7 @@ pub mod ElementView
 pub mod Header
 pub mod HeaderView
 pub mod JsonText
+pub mod Laws
 pub mod Plan
 pub mod PlanGives
 pub mod PlannedView

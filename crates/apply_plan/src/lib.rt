@@ -8,6 +8,7 @@ mod element;
 mod header;
 mod json_text;
 mod key;
+mod laws;
 mod mode;
 mod object_id;
 mod plan;
@@ -21,6 +22,9 @@ mod tree;
 
 pub use change::Change;
 pub use key::Key;
+pub use laws::{
+    each_object_is_named_once, other_members_are_ignored, relative_addresses_join_their_module,
+};
 pub use mode::Mode;
 pub use plan::Plan;
 pub use plan_error::PlanError;
