@@ -31,3 +31,9 @@ pub use plan_error::PlanError;
 pub use reading::{MAX_BYTES, MAX_CHANGES, read_plan};
 pub use step_kind::StepKind;
 pub use text::Text;
+
+#[cfg(test)]
+mod plain;
+
+#[cfg(test)]
+mod tests;
