@@ -52,10 +52,11 @@ joined : (module_address address found : List ℕ) → relative_address module_a
 joined [] address found e = (not_empty address found e, unless_empty_some address found e)
 joined (byte ∷ bytes) address found e =
     let whole = bind_some (after_prefix (byte ∷ bytes) address >>= after_prefix (codes ".")) unless_empty found e in
-    let behind = bind_some (after_prefix (byte ∷ bytes) address) (after_prefix (codes ".")) whole.0 whole.1 in
-    (not_empty whole.0 found whole.2,
-    split_at_prefix (byte ∷ bytes) address behind.0 behind.1
-    ∙ ap (λ (r : List ℕ). (byte ∷ bytes) ++ r) (split_at_prefix (codes ".") behind.0 whole.0 behind.2 ∙ ap (λ (r : List ℕ). codes "." ++ r) (unless_empty_some whole.0 found whole.2)))
+    let behind = bind_some (after_prefix (byte ∷ bytes) address) (after_prefix (codes ".")) whole.0 whole.1 in (
+      not_empty whole.0 found whole.2,
+      split_at_prefix (byte ∷ bytes) address behind.0 behind.1
+          ∙ ap (λ (r : List ℕ). (byte ∷ bytes) ++ r) (split_at_prefix (codes ".") behind.0 whole.0 behind.2 ∙ ap (λ (r : List ℕ). codes "." ++ r) (unless_empty_some whole.0 found whole.2)),
+    )
 
 pub relative_joins : (change : ResourceChange) (found : List ℕ) → relative_address change.module_address change.address ≡ Some found → HasRelativeAddress change
 relative_joins change found e =

@@ -24,5 +24,5 @@ element_view e = record {
   key = key_view e.key;
   deposed = option_copied e.deposed;
   actions = items_view e.actions.now;
-  prior_id = option_copied e.prior_id
+  prior_id = option_copied e.prior_id;
 }

@@ -34,6 +34,5 @@ pub use text::Text;
 
 #[cfg(test)]
 mod plain;
-
 #[cfg(test)]
 mod tests;

@@ -24,7 +24,7 @@ pub const MAX_BYTES: usize = 67_108_864;
 pub const MAX_CHANGES: usize = 10_000;
 
 /// The changes of the elements.
-fn changes_of(alloc: Global, elements: &[Value]) -> Result<Vec<Change>, PlanError>
+pub(crate) fn changes_of(alloc: Global, elements: &[Value]) -> Result<Vec<Change>, PlanError>
     requires { length elements.now ≤ max_changes }
     ensures defined { Gives (λ changes. changes.items) result (changes_after [] (items_view elements.now)) }
     ensures count { IfOk result (λ changes. vec_len changes ≡ length elements.now) }
