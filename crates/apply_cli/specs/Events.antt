@@ -1,5 +1,5 @@
 -- What one worker reports who applies all changes in their order, where every step takes no time and completes.
-use Rattle.std.specs.Prelude.{ℕ, ◌+◌, List, [], ◌∷◌, count_by, Bool, true, false}
+use Rattle.std.specs.Prelude.{List, [], ◌∷◌, count_by, Bool, true, false}
 use Rattle.std.specs.List.{flat_map}
 use Rattle.apply_cli.specs.declared.counts.Counts.{Counts}
 use Rattle.apply_plan.specs.declared.step_kind.StepKind.{StepKind}
@@ -55,5 +55,5 @@ abbrev pub totals_of : List Event → Counts
 totals_of events = record {
   added = count_by (λ e. adds e.what e.step) events;
   changed = count_by (λ e. updates e.what e.step) events;
-  removed = count_by (λ e. removes e.what e.step) events
+  removed = count_by (λ e. removes e.what e.step) events;
 }

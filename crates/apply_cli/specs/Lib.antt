@@ -1,4 +1,7 @@
+pub mod Counting
 pub mod Events
 pub mod Messages
+pub mod Sending
+pub mod Status
 pub mod Stream
 pub mod Words

@@ -93,7 +93,8 @@ impl Change {
     pub fn resource(&self) -> &str
         ensures { result.now ≡ resource_of self.now }
     {
-        address::relative(self.module_address.as_str(), self.address.as_str()).unwrap()
+        let Change { module_address, address, .. } = self;
+        address::relative(module_address.as_str(), address.as_str()).unwrap()
     }
 
     /// The resource type, never empty.
@@ -107,7 +108,7 @@ impl Change {
     pub fn provider(&self) -> &str
         ensures { result.now ≡ provider_of self.now.kind_name }
     {
-        address::provider(self.kind_name.as_str())
+        address::provider(self.kind_name())
     }
 
     /// The resource's name, never empty.

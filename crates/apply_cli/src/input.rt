@@ -1,0 +1,80 @@
+//! The bytes of the input.
+
+ghost use Rattle.std.specs.Prelude.{◌≡◌, ◌<◌, ◌≤◌, ◌+◌, List, ℕ, ◌++◌, IfOk, IfSome, IsTrue, length, take};
+ghost use Rattle.std.specs.Io.KnownBytes.{Consumes, IsAtEnd};
+
+use crate::input_fault::InputFault;
+use std::alloc::{AllocError, Global};
+use std::io::{ErrorKind, Read};
+
+/// One byte more than a plan may have, so that a longer one is seen to be too long.
+const MAX_READ: usize = 67_108_865;
+
+/// How many bytes are asked for at once.
+const BUFFER_LEN: usize = 65_536;
+
+/// The bytes of the input up to its end, and no more than 67,108,865 of them. A read that was interrupted is
+/// tried again. `Err` where another read fails, or memory is refused.
+pub fn read_all<R: Read + Drop>(alloc: Global, mut input: R) -> Result<Vec<u8>, InputFault>
+    ensures bytes { IfOk result
+        (λ bytes. IfSome (R.remaining input) (λ all. bytes.items ≡ take MAX_READ all)) }
+    ensures few { IfOk result (λ bytes. length bytes.items ≤ MAX_READ) }
+{
+    let mut buffer = zeros(alloc, BUFFER_LEN)?;
+    read_front(alloc, &mut input, &mut buffer, MAX_READ)
+}
+
+/// So many zeros.
+fn zeros(alloc: Global, count: usize) -> Result<Vec<u8>, AllocError>
+    ensures { IfOk result (λ zeros. length zeros.items ≡ count) }
+{
+    vec![in alloc; 0; count]
+}
+
+/// The first bytes of the input, up to the limit, read through the buffer.
+fn read_front<R: Read>(
+    alloc: Global,
+    input: &mut R,
+    buffer: &mut [u8],
+    limit: usize,
+) -> Result<Vec<u8>, InputFault>
+    requires { 0 < length buffer.old }
+    ensures bytes { IfOk result
+        (λ bytes. IfSome (R.remaining input.old) (λ all. bytes.items ≡ take limit all)) }
+    ensures few { IfOk result (λ bytes. length bytes.items ≤ limit) }
+{
+    let mut bytes = Vec::new(alloc);
+    for _ in 0..u64::MAX {
+        let room = buffer.len().min(limit - bytes.len());
+        if room == 0 {
+            return Ok(bytes);
+        }
+        if read_some(input, &mut buffer[..room], &mut bytes)? {
+            return Ok(bytes);
+        }
+    }
+    Err(InputFault::Read)
+}
+
+/// Appends what one read gives, and says whether that was the end.
+fn read_some<R: Read>(
+    input: &mut R,
+    buffer: &mut [u8],
+    bytes: &mut Vec<u8>,
+) -> Result<bool, InputFault>
+    requires { 0 < length buffer.old }
+    ensures { IfOk result (λ ended. (piece : List ℕ)
+        × (bytes.new.items ≡ bytes.old.items ++ piece)
+        × (length piece ≤ length buffer.old)
+        × Consumes (R.remaining input.old) (R.remaining input.new) piece
+        × (IsTrue ended → IsAtEnd (R.remaining input.new))) }
+{
+    match input.read(buffer) {
+        Ok(count) => {
+            bytes.extend_from_slice(&buffer[..count])?;
+            Ok(count == 0)
+        }
+        Err(error) if error.kind() == ErrorKind::Interrupted => Ok(false),
+        Err(_) => Err(InputFault::Read),
+    }
+}

@@ -1,0 +1,33 @@
+//! The exit statuses, beside 0.
+
+ghost use Rattle.std.specs.Prelude.{◌≡◌};
+ghost use Rattle.apply_cli.specs.Status.{input_status_of, plan_status_of};
+
+use crate::input_fault::InputFault;
+use apply_plan::PlanError;
+
+/// The input could not be read, or is no plan.
+pub const REFUSED: u8 = 2;
+
+/// Memory was refused, or the output could not be written.
+pub const FAILED: u8 = 3;
+
+/// The status for an input that was not read.
+pub fn input_status(fault: InputFault) -> u8
+    ensures { result ≡ input_status_of fault }
+{
+    match fault {
+        InputFault::Read => REFUSED,
+        InputFault::Memory => FAILED,
+    }
+}
+
+/// The status for an input that was read and refused.
+pub fn plan_status(fault: PlanError) -> u8
+    ensures { result ≡ plan_status_of fault }
+{
+    match fault {
+        PlanError::Memory => FAILED,
+        _ => REFUSED,
+    }
+}

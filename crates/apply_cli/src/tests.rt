@@ -1,0 +1,75 @@
+//! What no clause says: whole lines as bytes, the texts of faults, readers and writers that fail, and that runs
+//! succeed with ample memory.
+
+mod faults;
+mod streams;
+
+use crate::input::read_all;
+use crate::input_fault::InputFault;
+use crate::run::run_first;
+use std::alloc::{AllocError, Global};
+use std::io;
+use std::io::{ErrorKind, Read, Write};
+use std::test::Fail;
+
+/// Runs the program on the bytes: the status, what it printed, and what it said of faults.
+fn run(alloc: Global, plan: &str) -> Result<(u8, String, String), AllocError> {
+    let mut output = Vec::new(alloc);
+    let mut faults = Vec::new(alloc);
+    let status = run_first(alloc, plan.as_bytes(), &mut output, &mut faults);
+    let output = String::from_utf8_lossy(alloc, &output)?;
+    let faults = String::from_utf8_lossy(alloc, &faults)?;
+    Ok((status, output, faults))
+}
+
+/// Gives one byte a call, and a fault where `before` bytes were given.
+#[derive(Drop)]
+struct FailingReader {
+    bytes: &'static [u8],
+    before: usize,
+    fault: ErrorKind,
+}
+
+impl Read for FailingReader {
+    fn read(&mut self, buffer: &mut [u8]) -> io::Result<usize> {
+        if self.before == 0 {
+            self.before = usize::MAX;
+            return Err(io::Error::from(self.fault));
+        }
+        if self.bytes.is_empty() || buffer.is_empty() {
+            return Ok(0);
+        }
+        self.before -= 1;
+        buffer[0] = self.bytes[0];
+        self.bytes = &self.bytes[1..];
+        Ok(1)
+    }
+}
+
+/// Takes at most `per_write` bytes a call and `room` bytes in all, and fails from then on. Its flush may fail too.
+#[derive(Drop)]
+struct FailingWriter {
+    taken: Vec<u8>,
+    per_write: usize,
+    room: usize,
+    fails_to_flush: bool,
+}
+
+impl Write for FailingWriter {
+    fn write(&mut self, bytes: &[u8]) -> io::Result<usize> {
+        let count = bytes.len().min(self.per_write).min(self.room);
+        if count == 0 && !bytes.is_empty() {
+            return Err(io::Error::from(ErrorKind::BrokenPipe));
+        }
+        self.taken.extend_from_slice(&bytes[..count])?;
+        self.room -= count;
+        Ok(count)
+    }
+
+    fn flush(&mut self) -> io::Result<()> {
+        if self.fails_to_flush {
+            return Err(io::Error::from(ErrorKind::BrokenPipe));
+        }
+        Ok(())
+    }
+}
