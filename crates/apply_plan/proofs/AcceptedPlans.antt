@@ -2,6 +2,7 @@
 use Rattle.std.proofs.Common.{◌≡◌, ℕ, Bool, true, false, List, [], ◌∷◌, ◌++◌, length, take, drop, codes, nat_eq, cond, ltb, Option, Some, None, Result, Ok, Err, refl, sym, ap, subst, ◌∙◌, append_assoc, ⊎_elim}
 use Rattle.std.specs.Prelude.{◌≢◌, ◌&&◌, ◌||◌}
 use Rattle.std.specs.List.{AllByRecursion, list_any}
+use Rattle.std.specs.Option.{option_eq}
 use Rattle.std.specs.Str.{bytes_eq}
 use Rattle.std.proofs.lemmas.Slice.Eq.{bytes_eq-Decides}
 use Rattle.serde_json.specs.Data.{Data, Items, no_items, item}
@@ -13,31 +14,14 @@ use Rattle.apply_plan.specs.Address.{relative_address}
 use Rattle.apply_plan.specs.Element.{Element, element_of}
 use Rattle.apply_plan.specs.Header.{header_of}
 use Rattle.apply_plan.specs.Laws.{AgreeOn, HasRelativeAddress, NamesEachObjectOnce, known_members}
-use Rattle.apply_plan.specs.Plan.{◌>>=◌, SavedPlan, change_after, change_of, changes_after, max_bytes, max_changes, or_refuse, plan_of, plan_of_tree, planned_at}
-use Rattle.apply_plan.specs.ResourceChange.{ResourceChange, is_same_object, resource_of, same_deposed}
+use Rattle.apply_plan.specs.Plan.{◌>>=◌, SavedPlan, changes_of, change_of, max_bytes, max_changes, or_refuse, plan_of, plan_of_tree, planned_at}
+use Rattle.apply_plan.specs.OneByOne.{change_after, changes_after}
+use Rattle.apply_plan.specs.ResourceChange.{ResourceChange, is_same_object}
 use Rattle.apply_plan.specs.Steps.{steps_of}
-use Rattle.apply_plan.specs.Tree.{tree_of}
+use Rattle.apply_plan.specs.Tree.{list_of, tree_of}
 use Rattle.apply_plan.proofs.Relative.{relative_joins}
-
--- ---- steps that may be refused
-
-bind_ok : {A B : Type 0} (r : Result A PlanError) (f : A → Result B PlanError) (y : B) → (r >>= f) ≡ Ok y → (x : A) × (r ≡ Ok x) × (f x ≡ Ok y)
-bind_ok (Ok x) f y e = (x, refl, e)
-bind_ok (Err d) f y e = absurd cc
-
-or_refuse_ok : {A : Type 0} (refusal : PlanError) (o : Option A) (x : A) → or_refuse refusal o ≡ Ok x → o ≡ Some x
-or_refuse_ok refusal None x e = absurd cc
-or_refuse_ok refusal (Some y) x e = cc
-
-guard_ok : {A : Type 0} (b : Bool) (d : PlanError) (r : Result A PlanError) (y : A) → cond b (Err d) r ≡ Ok y → (b ≡ false) × (r ≡ Ok y)
-guard_ok true d r y e = absurd cc
-guard_ok false d r y e = (refl, e)
-
-abbrev done : {A : Type 0} → A → Result A PlanError
-done x = Ok x
-
-ok_is : {A : Type 0} (x y : A) → done x ≡ done y → x ≡ y
-ok_is x y e = cc
+use Rattle.apply_plan.proofs.Results.{bind_ok, done, guard_ok, ok_is, or_refuse_ok}
+use Rattle.apply_plan.proofs.WholeList.{read_one_by_one}
 
 -- what the elements of an accepted plan lead to
 accepted : (bytes : List ℕ) (plan : SavedPlan) → plan_of bytes ≡ Ok plan → (elements : Items) × (changes_after [] elements ≡ Ok plan.changes)
@@ -47,8 +31,8 @@ accepted bytes plan e =
     let parsed = bind_ok (or_refuse NotJson (tree_of bytes)) plan_of_tree plan sized.1 in
     let top = bind_ok (or_refuse NotAPlan (header_of parsed.0)) _ plan parsed.2 in
     let few = guard_ok (ltb max_changes (items_len top.0.elements)) TooMany _ plan top.2 in
-    let listed = bind_ok (changes_after [] top.0.elements) _ plan few.1 in
-    (top.0.elements, listed.1 ∙ ap (λ (p : SavedPlan). done p.changes) (ok_is _ plan listed.2))
+    let listed = bind_ok (changes_of (list_of top.0.elements)) _ plan few.1 in
+    (top.0.elements, sym (read_one_by_one top.0.elements) ∙ listed.1 ∙ ap (λ (p : SavedPlan). done p.changes) (ok_is _ plan listed.2))
 
 -- a property that holds of no change and is kept by each further one holds of all changes of a plan
 kept : (P : List ResourceChange → Type 0) → ((earlier : List ResourceChange) (d : Data) (change : ResourceChange) → change_after earlier d ≡ Ok change → P earlier → P (earlier ++ change ∷ []))
@@ -69,12 +53,12 @@ All-push : (P : ResourceChange → Type 0) (changes : List ResourceChange) (chan
 All-push P [] change all holds = (holds, tt)
 All-push P (first ∷ others) change all holds = (all.0, All-push P others change all.1 holds)
 
-same_deposed-refl : (key : Option (List ℕ)) → same_deposed key key ≡ true
-same_deposed-refl None = refl
-same_deposed-refl (Some key) = (bytes_eq-Decides key key).1 refl
+option_eq-refl : (key : Option (List ℕ)) → option_eq bytes_eq key key ≡ true
+option_eq-refl None = refl
+option_eq-refl (Some key) = (bytes_eq-Decides key key).1 refl
 
-same_texts : (address other : List ℕ) (deposed key : Option (List ℕ)) → other ≡ address → key ≡ deposed → (bytes_eq address other && same_deposed deposed key) ≡ true
-same_texts address other deposed key same_address same_key = rw (same_address, same_key, (bytes_eq-Decides address address).1 refl) (same_deposed-refl deposed)
+same_texts : (address other : List ℕ) (deposed key : Option (List ℕ)) → other ≡ address → key ≡ deposed → (bytes_eq address other && option_eq bytes_eq deposed key) ≡ true
+same_texts address other deposed key same_address same_key = rw (same_address, same_key, (bytes_eq-Decides address address).1 refl) (option_eq-refl deposed)
 
 differs : (earlier change : ResourceChange) → is_same_object change earlier ≡ false → (change.address ≡ earlier.address) × (change.deposed ≡ earlier.deposed) → ⊥
 differs earlier change other same =

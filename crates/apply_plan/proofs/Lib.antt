@@ -7,3 +7,5 @@ pub mod Seen
 pub mod Texts
 pub mod Trees
 pub mod WholePlan
+pub mod Results
+pub mod WholeList

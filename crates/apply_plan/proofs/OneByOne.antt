@@ -8,7 +8,8 @@ use Rattle.serde_json.specs.View.{view, items_view}
 use Rattle.serde_json.specs.declared.value.Value.{Value}
 use Rattle.apply_plan.specs.declared.plan_error.PlanError.{PlanError}
 use Rattle.apply_plan.specs.declared.plan_error.PlanError.TheVariants as refusal
-use Rattle.apply_plan.specs.Plan.{◌>>=◌, planned_at, change_after, changes_after}
+use Rattle.apply_plan.specs.Plan.{◌>>=◌, planned_at}
+use Rattle.apply_plan.specs.OneByOne.{change_after, changes_after}
 use Rattle.apply_plan.specs.PlanGives.{Refuses}
 use Rattle.apply_plan.specs.ResourceChange.{ResourceChange, is_same_object}
 

@@ -4,7 +4,7 @@ use Rattle.std.specs.Prelude.{◌||◌, ◌&&◌}
 use Rattle.std.specs.BTreeSet.{BTreeSet, contains, Updates}
 use Rattle.std.specs.Cmp.Lexicographic.{slice_cmp}
 use Rattle.std.specs.List.{list_any}
-use Rattle.std.specs.Option.{option_cmp, option_copied}
+use Rattle.std.specs.Option.{option_cmp, option_copied, option_eq}
 use Rattle.std.specs.Str.{bytes_eq}
 use Rattle.std.specs.Ordering.{is_eq, nat_cmp, ordering_then}
 use Rattle.std.specs.declared.cmp.Ordering.TheVariants.{Less, Equal, Greater}
@@ -15,7 +15,7 @@ use Rattle.apply_plan.specs.declared.object_id.ObjectId.{ObjectId}
 use Rattle.apply_plan.specs.declared.planned.Planned.{Planned}
 use Rattle.apply_plan.specs.declared.seen_objects.SeenObjects.{SeenObjects}
 use Rattle.apply_plan.specs.PlannedView.{planned_view}
-use Rattle.apply_plan.specs.ResourceChange.{ResourceChange, is_same_object, same_deposed}
+use Rattle.apply_plan.specs.ResourceChange.{ResourceChange, is_same_object}
 use Rattle.apply_plan.specs.SeenObjects.{has_seen, is_same_id}
 
 -- the order finds two objects equal just where they are the same
@@ -35,7 +35,7 @@ then_is_eq Less second = refl
 then_is_eq Equal second = refl
 then_is_eq Greater second = refl
 
-keys_ordered : (one other : Option (Bor (List ℕ))) → is_eq (option_cmp (λ a b. slice_cmp nat_cmp a.now b.now) one other) ≡ same_deposed (option_copied one) (option_copied other)
+keys_ordered : (one other : Option (Bor (List ℕ))) → is_eq (option_cmp (λ a b. slice_cmp nat_cmp a.now b.now) one other) ≡ option_eq bytes_eq (option_copied one) (option_copied other)
 keys_ordered None None = refl
 keys_ordered None (Some other) = refl
 keys_ordered (Some one) None = refl
@@ -60,7 +60,7 @@ added_is old new id updates other = sym (contains_is new other) ∙ updates.0 ot
 
 -- a change is of that object
 abbrev pub is_of : ObjectId → ResourceChange → Bool
-is_of id change = bytes_eq change.address id.address.now && same_deposed change.deposed (option_copied id.deposed)
+is_of id change = bytes_eq change.address id.address.now && option_eq bytes_eq change.deposed (option_copied id.deposed)
 
 -- the set has the objects of the changes and no others
 abbrev pub HaveBeenSeen : SeenObjects → List ResourceChange → Type 0

@@ -9,11 +9,13 @@ use Rattle.apply_plan.specs.declared.plan_error.PlanError.{PlanError}
 use Rattle.apply_plan.specs.declared.plan_error.PlanError.TheVariants.{TooMany}
 use Rattle.apply_plan.specs.Header.{header_of}
 use Rattle.apply_plan.specs.HeaderView.{header_view}
-use Rattle.apply_plan.specs.Plan.{SavedPlan, changes_after, max_changes, plan_of_tree}
+use Rattle.apply_plan.specs.Plan.{SavedPlan, max_changes, plan_of_tree}
+use Rattle.apply_plan.specs.OneByOne.{changes_after}
 use Rattle.apply_plan.specs.PlanGives.{Refuses}
 use Rattle.apply_plan.specs.ResourceChange.{ResourceChange}
 use Rattle.apply_plan.proofs.OneByOne.{Refuses-follows}
 use Rattle.apply_plan.proofs.Trees.{items_len-view}
+use Rattle.apply_plan.proofs.WholeList.{read_one_by_one}
 
 -- too many elements
 pub too_many : (tree : Data) (header : seen.Header) → Some (header_view header) ≡ header_of tree → max_changes < length header.elements.now → plan_of_tree tree ≡ Err TooMany
@@ -28,7 +30,7 @@ pub faulty_changes : (e : PlanError) (tree : Data) (header : seen.Header) → So
 unfolding plan_of_tree
 faulty_changes e tree header top few h =
     let no_more : ltb max_changes (items_len (items_view header.elements.now)) ≡ false = rw (items_len-view header.elements.now) (le-ltb _ _ few) in
-    Refuses-follows e (changes_after [] (items_view header.elements.now)) (plan_of_tree tree) (λ f fault. rw (← top, no_more, fault) refl) h
+    Refuses-follows e (changes_after [] (items_view header.elements.now)) (plan_of_tree tree) (λ f fault. rw (← top, no_more, read_one_by_one (items_view header.elements.now), fault) refl) h
 
 -- no fault
 pub made : (tree : Data) (header : seen.Header) (changes : List ResourceChange) → Some (header_view header) ≡ header_of tree → length header.elements.now ≤ max_changes
@@ -36,4 +38,4 @@ pub made : (tree : Data) (header : seen.Header) (changes : List ResourceChange) 
 unfolding plan_of_tree
 made tree header changes top few h =
     let no_more : ltb max_changes (items_len (items_view header.elements.now)) ≡ false = rw (items_len-view header.elements.now) (le-ltb _ _ few) in
-    rw (← top, no_more, h) refl
+    rw (← top, no_more, read_one_by_one (items_view header.elements.now), h) refl

@@ -6,6 +6,7 @@ pub mod Header
 pub mod HeaderView
 pub mod JsonText
 pub mod Laws
+pub mod OneByOne
 pub mod Plan
 pub mod PlanGives
 pub mod PlannedView

@@ -1,6 +1,8 @@
 -- The plan that bytes are, or the first refusal (JSON Output Format, "Plan Representation").
-use Rattle.std.specs.Prelude.{ℕ, List, [], ◌∷◌, ◌++◌, length, nat_lt, if◌then◌else◌, Option, Some, None, Result, Ok, Err}
-use Rattle.std.specs.List.{list_any}
+use Rattle.std.specs.Prelude.{ℕ, List, [], ◌∷◌, length, map, take, Bool, false, ◌&&◌, nat_lt, if◌then◌else◌, Option, Some, None, Result, Ok, Err}
+use Rattle.std.specs.List.{enumerate_from, list_any}
+use Rattle.std.specs.Option.{option_eq, option_map_or}
+use Rattle.std.specs.Str.{bytes_eq}
 use Rattle.serde_json.specs.Data.{Data, Items, no_items, item}
 use Rattle.serde_json.specs.Events.{items_len}
 use Rattle.apply_plan.specs.declared.plan_error.PlanError.{PlanError}
@@ -9,9 +11,9 @@ use Rattle.apply_plan.specs.declared.step_kind.StepKind.{StepKind}
 use Rattle.apply_plan.specs.Address.{relative_address}
 use Rattle.apply_plan.specs.Element.{Element, element_of}
 use Rattle.apply_plan.specs.Header.{header_of}
-use Rattle.apply_plan.specs.ResourceChange.{ResourceChange, is_same_object}
+use Rattle.apply_plan.specs.ResourceChange.{ResourceChange}
 use Rattle.apply_plan.specs.Steps.{steps_of}
-use Rattle.apply_plan.specs.Tree.{tree_of}
+use Rattle.apply_plan.specs.Tree.{list_of, tree_of}
 
 pub record SavedPlan : Type 0 where
   -- the version of Terraform that made it
@@ -57,24 +59,33 @@ planned_at n d = do
   relative ← or_refuse (BadAddress n) (relative_address e.module_address e.address)
   Ok (change_of e steps)
 
--- the change of an element behind other changes, with each of which it is compared; or its first fault
-unfoldable pub change_after : List ResourceChange → Data → Result ResourceChange PlanError
-change_after earlier d = do
-  change ← planned_at (length earlier) d
-  if list_any (is_same_object change) earlier then Err (Duplicate (length earlier)) else Ok change
+-- whether an element has the address of the change, and its deposed key or none
+abbrev pub names_object_of : ResourceChange → Data → Bool
+names_object_of change d = option_map_or (λ e. bytes_eq e.address change.address && option_eq bytes_eq e.deposed change.deposed) (element_of d) false
 
--- the changes before the elements, and then those of the elements, or the fault of the first faulty one
-unfoldable pub changes_after : List ResourceChange → Items → Result (List ResourceChange) PlanError
-changes_after earlier no_items = Ok earlier
-changes_after earlier (item d ds) = do
-  change ← change_after earlier d
-  changes_after (earlier ++ change ∷ []) ds
+-- what an element describes, or the first fault that holds of it; it is compared with each element before it
+unfoldable pub change_at : List Data → Data → Result ResourceChange PlanError
+change_at before d = do
+  change ← planned_at (length before) d
+  if list_any (names_object_of change) before then Err (Duplicate (length before)) else Ok change
+
+-- all values, or the first refusal among them
+abbrev pub all_or_first : {A : Type 0} → List (Result A PlanError) → Result (List A) PlanError
+all_or_first [] = Ok []
+all_or_first (answer ∷ answers) = do
+  x ← answer
+  xs ← all_or_first answers
+  Ok (x ∷ xs)
+
+-- the changes of the elements, or the fault of the first that has one
+unfoldable pub changes_of : List Data → Result (List ResourceChange) PlanError
+changes_of elements = all_or_first (map (λ p. change_at (take p.0 elements) p.1) (enumerate_from 0 elements))
 
 unfoldable pub plan_of_tree : Data → Result SavedPlan PlanError
 plan_of_tree d = do
   header ← or_refuse NotAPlan (header_of d)
   if nat_lt max_changes (items_len header.elements) then Err TooMany else do
-    changes ← changes_after [] header.elements
+    changes ← changes_of (list_of header.elements)
     Ok (record { version = header.version; changes = changes })
 
 unfoldable pub plan_of : List ℕ → Result SavedPlan PlanError

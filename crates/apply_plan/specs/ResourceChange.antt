@@ -1,5 +1,6 @@
 -- A planned change of one object (JSON Output Format, "Plan Representation", `resource_changes`).
-use Rattle.std.specs.Prelude.{ℕ, ◌+◌, List, [], length, drop, Bool, true, false, ◌&&◌, if◌then◌else◌, Option, Some, None}
+use Rattle.std.specs.Prelude.{ℕ, ◌+◌, List, length, drop, Bool, ◌&&◌, if◌then◌else◌, Option}
+use Rattle.std.specs.Option.{option_eq}
 use Rattle.std.specs.Str.{bytes_eq}
 use Rattle.apply_plan.specs.declared.key.Key.{Key}
 use Rattle.apply_plan.specs.declared.mode.Mode.{Mode}
@@ -24,12 +25,6 @@ pub record ResourceChange : Type 0 where
 abbrev pub resource_of : ResourceChange → List ℕ
 resource_of change = if is_empty change.module_address then change.address else drop (length change.module_address + 1) change.address
 
-abbrev pub same_deposed : Option (List ℕ) → Option (List ℕ) → Bool
-same_deposed None None = true
-same_deposed None (Some other) = false
-same_deposed (Some key) None = false
-same_deposed (Some key) (Some other) = bytes_eq key other
-
 -- an earlier change is of the same object: it has the same address, and the same deposed key or none
 abbrev pub is_same_object : ResourceChange → ResourceChange → Bool
-is_same_object change earlier = bytes_eq earlier.address change.address && same_deposed earlier.deposed change.deposed
+is_same_object change earlier = bytes_eq earlier.address change.address && option_eq bytes_eq earlier.deposed change.deposed

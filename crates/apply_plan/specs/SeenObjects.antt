@@ -1,14 +1,13 @@
 -- A set of objects, for the private type that keeps one.
 use Rattle.std.specs.Prelude.{◌&&◌, Bool}
 use Rattle.std.specs.List.{list_any}
-use Rattle.std.specs.Option.{option_copied}
+use Rattle.std.specs.Option.{option_copied, option_eq}
 use Rattle.std.specs.Str.{bytes_eq}
 use Rattle.apply_plan.specs.declared.object_id.ObjectId.{ObjectId}
 use Rattle.apply_plan.specs.declared.seen_objects.SeenObjects.{SeenObjects}
-use Rattle.apply_plan.specs.ResourceChange.{ResourceChange, same_deposed}
 
 abbrev pub is_same_id : ObjectId → ObjectId → Bool
-is_same_id one other = bytes_eq one.address.now other.address.now && same_deposed (option_copied one.deposed) (option_copied other.deposed)
+is_same_id one other = bytes_eq one.address.now other.address.now && option_eq bytes_eq (option_copied one.deposed) (option_copied other.deposed)
 
 -- the object is in the set
 abbrev pub has_seen : SeenObjects → ObjectId → Bool

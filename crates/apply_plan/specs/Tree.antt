@@ -2,7 +2,7 @@
 use Rattle.std.specs.Prelude.{ℕ, List, [], ◌∷◌, Bool, true, false, if◌then◌else◌, Option, Some, None}
 use Rattle.std.specs.Option.{option_map_or}
 use Rattle.std.specs.Str.{bytes_eq, is_utf8}
-use Rattle.serde_json.specs.Data.{Data, null, boolean, number, string, array, object, Items, no_items}
+use Rattle.serde_json.specs.Data.{Data, null, boolean, number, string, array, object, Items, no_items, item}
 use Rattle.serde_json.specs.Find.{get, as_str, as_array}
 use Rattle.serde_json.specs.Read.{read}
 
@@ -50,10 +50,15 @@ abbrev pub text_or : List ℕ → Option Data → Option (List ℕ)
 text_or absent None = Some absent
 text_or absent (Some d) = as_str d
 
--- a list of values, or the empty one where it is absent; none where it is no array
-abbrev pub items_or_none : Option Data → Option Items
-items_or_none None = Some no_items
-items_or_none (Some d) = as_array d
+-- the values of an array, or no values where it is absent; none where it is no array
+abbrev pub items_or_empty : Option Data → Option Items
+items_or_empty None = Some no_items
+items_or_empty (Some d) = as_array d
+
+-- the values of an array, as a list
+abbrev pub list_of : Items → List Data
+list_of no_items = []
+list_of (item d ds) = d ∷ list_of ds
 
 -- a text and nothing else
 abbrev pub is_word : List ℕ → Data → Bool

@@ -5,7 +5,7 @@ ghost use Rattle.std.specs.List.{starts_with};
 ghost use Rattle.serde_json.specs.View.{view, items_view};
 ghost use Rattle.apply_plan.specs.Header.{header_of};
 ghost use Rattle.apply_plan.specs.HeaderView.{header_view};
-ghost use Rattle.apply_plan.specs.Tree.{items_or_none, member_of};
+ghost use Rattle.apply_plan.specs.Tree.{items_or_empty, member_of};
 
 use crate::tree::{member, text_member, text_member_or};
 use serde_json::Value;
@@ -28,8 +28,8 @@ impl<'a> Header<'a> {
     {
         let format = text_member(tree, "format_version")?;
         let version = text_member_or(tree, "terraform_version", UNKNOWN_VERSION)?;
-        let elements = array_or_none(member(tree, "resource_changes"))?;
-        if is_known(format) {
+        let elements = array_or_empty(member(tree, "resource_changes"))?;
+        if is_format_1(format) {
             Some(Header { version, elements })
         } else {
             None
@@ -37,17 +37,17 @@ impl<'a> Header<'a> {
     }
 }
 
-/// Whether the members of that format are known: 1.x.
-fn is_known(format: &str) -> bool
+/// Whether it is a format whose members are known: 1.x.
+fn is_format_1(format: &str) -> bool
     ensures { result ≡ starts_with nat_eq format.now (codes "1.") }
 {
     format.starts_with("1.")
 }
 
-/// The items of an array, or none where it is absent.
-fn array_or_none(found: Option<&Value>) -> Option<&[Value]>
+/// The values of an array, or no values where it is absent. `None` where it is no array.
+fn array_or_empty(found: Option<&Value>) -> Option<&[Value]>
     ensures { option_map (λ items. items_view items.now) result
-        ≡ items_or_none (option_map (λ value. view value.now) found.entry) }
+        ≡ items_or_empty (option_map (λ value. view value.now) found.entry) }
 {
     match found {
         Some(value) => Some(value.as_array()?.as_slice()),

@@ -4,7 +4,8 @@
 ghost use Rattle.std.specs.Prelude.{◌≡◌, ◌≤◌, [], length, vec_len, IfOk};
 ghost use Rattle.std.specs.List.{list_any};
 ghost use Rattle.serde_json.specs.View.{items_view};
-ghost use Rattle.apply_plan.specs.Plan.{changes_after, max_changes};
+ghost use Rattle.apply_plan.specs.Plan.{max_changes};
+ghost use Rattle.apply_plan.specs.OneByOne.{changes_after};
 ghost use Rattle.apply_plan.specs.PlanGives.{Gives};
 ghost use Rattle.apply_plan.specs.PlannedView.{planned_view};
 ghost use Rattle.apply_plan.specs.ResourceChange.{is_same_object};

@@ -2,7 +2,8 @@
 
 ghost use Rattle.std.specs.Prelude.{◌≡◌, ◌≤◌, [], length, vec_len, IfOk};
 ghost use Rattle.serde_json.specs.View.{view, items_view};
-ghost use Rattle.apply_plan.specs.Plan.{changes_after, max_changes, plan_of, plan_of_tree};
+ghost use Rattle.apply_plan.specs.Plan.{max_changes, plan_of, plan_of_tree};
+ghost use Rattle.apply_plan.specs.OneByOne.{changes_after};
 ghost use Rattle.apply_plan.specs.PlanGives.{Gives};
 
 use crate::change::Change;

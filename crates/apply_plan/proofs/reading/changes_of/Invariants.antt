@@ -1,6 +1,6 @@
 use Rattle.std.proofs.Common.{◌≡◌, [], drop, length}
 use Rattle.serde_json.specs.View.{items_view}
-use Rattle.apply_plan.specs.Plan.{changes_after}
+use Rattle.apply_plan.specs.OneByOne.{changes_after}
 use Rattle.apply_plan.proofs.Seen.{HaveBeenSeen}
 use Rattle.apply_plan.proofs.reading.changes_of.Given as goal
 
