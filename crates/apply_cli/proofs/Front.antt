@@ -1,11 +1,9 @@
 -- The front of an input, with one byte more than a plan may have, is as good as the whole input.
 use Rattle.std.proofs.Common.{◌≡◌, ℕ, ◌+◌, ◌<◌, ◌≤◌, List, length, take, Bool, true, false, nat_lt, Option, None, Some, IfSome, Ok, Err, refl, sym, ap, subst, ◌∙◌, arith, take_all}
 use Rattle.std.proofs.lemmas.List.{length-take}
-use Rattle.std.specs.Io.KnownBytes.{Appends}
 use Rattle.std.proofs.lemmas.Bool.{lt-ltb, ltb-true, ltb-false}
 use Rattle.apply_plan.specs.declared.plan_error.PlanError.TheVariants.{TooLarge}
 use Rattle.apply_plan.specs.Plan.{SavedPlan, plan_of, max_bytes}
-use Rattle.apply_cli.specs.Stream.{stream_of}
 
 too_large : (bytes : List ℕ) → nat_lt max_bytes (length bytes) ≡ true → plan_of bytes ≡ Err TooLarge
 unfolding plan_of
@@ -26,12 +24,11 @@ plan_of-front_by limit all false same short =
 plan_of-front : (all : List ℕ) → plan_of (take 67108865 all) ≡ plan_of all
 plan_of-front all = plan_of-front_by 67108864 all (nat_lt 67108864 (length all)) refl refl
 
--- what was written for the plan of the front was written for the plan of the input
-pub streamed : (known : Option (List ℕ)) (bytes : List ℕ) (plan : SavedPlan) (old new : Option (List ℕ))
+-- what holds of the plan that the front is holds of the plan that the input is
+pub of_whole : (known : Option (List ℕ)) (bytes : List ℕ) (P : SavedPlan → Type 0)
     → IfSome known (λ all. bytes ≡ take 67108865 all)
-    → plan_of bytes ≡ Ok plan
-    → Appends old new (stream_of plan)
-    → IfSome known (λ all. (saved : SavedPlan) × (plan_of all ≡ Ok saved) × Appends old new (stream_of saved))
-streamed None bytes plan old new front read written = tt
-streamed (Some all) bytes plan old new front read written =
-    (plan, sym (plan_of-front all) ∙ ap plan_of (sym front) ∙ read, written)
+    → ((plan : SavedPlan) × (plan_of bytes ≡ Ok plan) × P plan)
+    → IfSome known (λ all. (plan : SavedPlan) × (plan_of all ≡ Ok plan) × P plan)
+of_whole None bytes P front found = tt
+of_whole (Some all) bytes P front found =
+    (found.0, sym (plan_of-front all) ∙ ap plan_of (sym front) ∙ found.1, found.2)

@@ -1,6 +1,6 @@
 pub mod Front
 pub mod Lines
-pub mod More
+pub mod NoFloats
 pub mod Sending
 pub mod Texts
-pub mod Whole
+pub mod Totals

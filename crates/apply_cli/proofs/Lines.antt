@@ -8,7 +8,7 @@ use Rattle.serde_json.specs.Written.{has_float}
 use Rattle.serde_json.proofs.FreeTexts.{text_of_value}
 use Rattle.apply_cli.specs.Messages.{message_object, line_of}
 use Rattle.apply_cli.specs.Sending.{SendsMessage}
-use Rattle.apply_cli.proofs.Whole.{message_whole}
+use Rattle.apply_cli.proofs.NoFloats.{message_whole}
 
 -- a message around a value that is sent as a tree is sent as a tree
 sends_message : (message name : List ℕ) (d : Data) (type_name : List ℕ) (old new : Log) → SendsMessage message name (SendsValue d) type_name old new → SendsValue (message_object message name d type_name) old new

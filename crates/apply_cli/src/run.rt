@@ -1,7 +1,8 @@
 //! The program, from its input to its exit status.
 
-ghost use Rattle.std.specs.Prelude.{◌≡◌, ◌⊎◌, IfSome, Ok};
+ghost use Rattle.std.specs.Prelude.{◌≡◌, ◌⊎◌, IfSome, Ok, Err};
 ghost use Rattle.std.specs.Io.KnownBytes.{Appends, Keeps};
+ghost use Rattle.apply_plan.specs.declared.plan_error.PlanError.{PlanError};
 ghost use Rattle.apply_plan.specs.Plan.{SavedPlan, plan_of};
 ghost use Rattle.apply_cli.specs.Stream.{stream_of};
 
@@ -31,14 +32,30 @@ pub fn run_first<R: Read + Drop, W: Write, E: Write>(
     ensures refused { result ≡ 2 → Keeps (W.contents output.old) (W.contents output.new) }
     ensures statuses { (result ≡ 0) ⊎ ((result ≡ 2) ⊎ (result ≡ 3)) }
 {
-    let bytes = match read_all(alloc, input) {
-        Ok(bytes) => bytes,
+    match read_all(alloc, input) {
+        Ok(bytes) => run_plan(alloc, &bytes, output, faults),
         Err(fault) => {
             report(faults, fault);
-            return input_status(fault);
+            input_status(fault)
         }
-    };
-    let plan = match read_plan(alloc, &bytes) {
+    }
+}
+
+/// The same for a plan that was read. Status 2 is answered only where the bytes are no plan.
+fn run_plan<W: Write, E: Write>(
+    alloc: Global,
+    bytes: &[u8],
+    output: &mut W,
+    faults: &mut E,
+) -> u8
+    ensures stream { result ≡ 0 → (plan : SavedPlan) × (plan_of bytes.now ≡ Ok plan)
+        × Appends (W.contents output.old) (W.contents output.new) (stream_of plan) }
+    ensures quiet { result ≡ 0 → Keeps (E.contents faults.old) (E.contents faults.new) }
+    ensures refused { result ≡ 2 → (refusal : PlanError) × (plan_of bytes.now ≡ Err refusal)
+        × Keeps (W.contents output.old) (W.contents output.new) }
+    ensures statuses { (result ≡ 0) ⊎ ((result ≡ 2) ⊎ (result ≡ 3)) }
+{
+    let plan = match read_plan(alloc, bytes) {
         Ok(plan) => plan,
         Err(fault) => {
             report(faults, fault);

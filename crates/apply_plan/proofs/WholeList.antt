@@ -85,8 +85,8 @@ one_by_one (item d ds) before earlier all whole are =
     let answer : change_after earlier d ≡ change_at (take (length before) all) d = rw front (same_answer before earlier d are) in
     let one_more : length (before ++ d ∷ []) ≡ length before + 1 = omega (arith, length-append before (d ∷ [])) in
     let further : (made : ResourceChange) → change_after earlier d ≡ Ok made → changes_after (earlier ++ made ∷ []) ds ≡ behind (earlier ++ made ∷ []) (all_or_first (answers all (length before + 1) (list_of ds))) = λ made e.
-        one_by_one ds (before ++ d ∷ []) (earlier ++ made ∷ []) all (whole ∙ sym (append_assoc before (d ∷ []) (list_of ds))) (AreChangesOf-push before earlier d made are (is_planned earlier d made e))
-        ∙ ap (λ (n : ℕ). behind (earlier ++ made ∷ []) (all_or_first (answers all n (list_of ds)))) one_more in
+    one_by_one ds (before ++ d ∷ []) (earlier ++ made ∷ []) all (whole ∙ sym (append_assoc before (d ∷ []) (list_of ds))) (AreChangesOf-push before earlier d made are (is_planned earlier d made e))
+    ∙ ap (λ (n : ℕ). behind (earlier ++ made ∷ []) (all_or_first (answers all n (list_of ds)))) one_more in
     by_answer earlier (λ made. changes_after (earlier ++ made ∷ []) ds) (all_or_first (answers all (length before + 1) (list_of ds))) (change_after earlier d) (change_at (take (length before) all) d) answer further
 
 behind_nothing : (r : Result (List ResourceChange) PlanError) → behind [] r ≡ r

@@ -2,7 +2,7 @@
 use Rattle.std.specs.Prelude.{Option}
 use Rattle.std.specs.Option.{option_copied}
 use Rattle.serde_json.specs.View.{items_view}
-use Rattle.apply_plan.specs.declared.element.Element as seen
+use Rattle.apply_plan.specs.declared.element.Element as in_tree
 use Rattle.apply_plan.specs.declared.element.IndexKey.{IndexKey}
 use Rattle.apply_plan.specs.declared.element.IndexKey.TheVariants as index
 use Rattle.apply_plan.specs.declared.key.Key.{Key}
@@ -14,7 +14,7 @@ key_view index.None = key.None
 key_view (index.Number z) = key.Number z
 key_view (index.Name s) = key.Name s.now
 
-abbrev pub element_view : seen.Element → Element
+abbrev pub element_view : in_tree.Element → Element
 element_view e = record {
   address = e.address.now;
   mode = e.mode;

@@ -1,4 +1,4 @@
--- What holds of every accepted plan, in words that the definition of a plan does not use.
+-- What follows for every accepted plan.
 use Rattle.std.specs.Prelude.{◌≡◌, ◌≢◌, ℕ, List, [], ◌∷◌, ◌++◌, codes, ⊤}
 use Rattle.std.specs.List.{AllByRecursion}
 use Rattle.serde_json.specs.Data.{Data}

@@ -1,4 +1,4 @@
--- Looking into the tree that a JSON text is (RFC 8259), by the rules that plans and scripts share.
+-- Looking into the tree that a JSON text is (RFC 8259).
 use Rattle.std.specs.Prelude.{ℕ, List, [], ◌∷◌, Bool, true, false, if◌then◌else◌, Option, Some, None}
 use Rattle.std.specs.Option.{option_map_or}
 use Rattle.std.specs.Str.{bytes_eq, is_utf8}

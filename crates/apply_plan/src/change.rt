@@ -75,7 +75,7 @@ impl Change {
         })
     }
 
-    /// The absolute address, never empty.
+    /// The absolute address.
     pub fn address(&self) -> &str
         ensures { result.now ≡ self.now.address }
     {
@@ -93,11 +93,15 @@ impl Change {
     pub fn resource(&self) -> &str
         ensures { result.now ≡ resource_of self.now }
     {
-        let Change { module_address, address, .. } = self;
+        let Change {
+            module_address,
+            address,
+            ..
+        } = self;
         address::relative(module_address.as_str(), address.as_str()).unwrap()
     }
 
-    /// The resource type, never empty.
+    /// The resource type.
     pub fn kind_name(&self) -> &str
         ensures { result.now ≡ self.now.kind_name }
     {
@@ -111,7 +115,7 @@ impl Change {
         address::provider(self.kind_name())
     }
 
-    /// The resource's name, never empty.
+    /// The resource's name.
     pub fn name(&self) -> &str
         ensures { result.now ≡ self.now.name }
     {
@@ -132,14 +136,14 @@ impl Change {
         &self.key
     }
 
-    /// The key of a deposed object, never empty. `None` for the current object at the address.
+    /// The key of a deposed object. `None` for the current object at the address.
     pub fn deposed(&self) -> Option<&str>
         ensures { option_copied result ≡ self.now.deposed }
     {
         self.deposed.as_ref().map(Text::as_str)
     }
 
-    /// The id that the object had before the change, never empty. `None` where it had none or it is sensitive.
+    /// The id that the object had before the change. `None` where it had none or it is sensitive.
     pub fn prior_id(&self) -> Option<&str>
         ensures { option_copied result ≡ self.now.prior_id }
     {

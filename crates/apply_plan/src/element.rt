@@ -86,7 +86,8 @@ fn index_key(index: Option<&Value>) -> Option<IndexKey<'_>>
     }
 }
 
-fn is_yes(found: Option<&Value>) -> bool
+/// Whether the value is `true` and nothing else.
+fn says_true(found: Option<&Value>) -> bool
     ensures { result ≡ is_true (option_map (λ found. view found.now) found.entry) }
 {
     match found {
@@ -100,7 +101,7 @@ fn hides(sensitive: Option<&Value>) -> bool
     ensures { result ≡ hides_id (option_map (λ found. view found.now) sensitive.entry) }
 {
     match sensitive {
-        Some(value) => is_yes(Some(value)) || is_yes(member(value, "id")),
+        Some(value) => says_true(Some(value)) || says_true(member(value, "id")),
         None => false,
     }
 }

@@ -9,7 +9,8 @@ ghost use Rattle.apply_plan.specs.Plan.{SavedPlan, plan_of};
 
 /// An accepted plan changes each object once: no two of its changes have one address and one deposed key.
 pub fn each_object_is_named_once()
-    ensures { (bytes : List ℕ) (plan : SavedPlan) → plan_of bytes ≡ Ok plan → NamesEachObjectOnce plan.changes }
+    ensures { (bytes : List ℕ) (plan : SavedPlan) → plan_of bytes ≡ Ok plan
+        → NamesEachObjectOnce plan.changes }
 {}
 
 /// In an accepted plan a relative address is never empty, and with the module's address and a dot it gives back the
@@ -19,7 +20,8 @@ pub fn relative_addresses_join_their_module()
         → AllByRecursion HasRelativeAddress plan.changes }
 {}
 
-/// The order of an element's members, and members that are not known, make no difference.
+/// Of an element the known members alone are read: two elements that agree on those are read alike, whatever else they
+/// hold.
 pub fn other_members_are_ignored()
     ensures { (one other : Data) → AgreeOn known_members one other → element_of one ≡ element_of other }
 {}

@@ -1,5 +1,5 @@
-//! The reader as its definition says it, change by change and two by two: slow and plain. Tests compare the reader
-//! with it.
+//! Reading the elements as the definition says it: each is compared with every one before it, slow and plain. Tests
+//! compare the reader with it.
 
 ghost use Rattle.std.specs.Prelude.{◌≡◌, ◌≤◌, [], length, vec_len, IfOk};
 ghost use Rattle.std.specs.List.{list_any};
@@ -31,7 +31,8 @@ fn is_repeated(changes: &[Change], planned: &Planned<'_>) -> bool
 /// The changes of the elements, each compared with every one before it.
 pub fn changes_of(alloc: Global, elements: &[Value]) -> Result<Vec<Change>, PlanError>
     requires { length elements.now ≤ max_changes }
-    ensures defined { Gives (λ changes. changes.items) result (changes_after [] (items_view elements.now)) }
+    ensures defined { Gives (λ changes. changes.items) result
+        (changes_after [] (items_view elements.now)) }
     ensures count { IfOk result (λ changes. vec_len changes ≡ length elements.now) }
 {
     let mut changes = Vec::new(alloc);

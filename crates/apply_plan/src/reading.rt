@@ -1,8 +1,8 @@
 //! Reading a plan.
 
-ghost use Rattle.std.specs.Prelude.{◌≡◌, ◌≤◌, [], length, vec_len, IfOk};
+ghost use Rattle.std.specs.Prelude.{◌≡◌, ◌≤◌, [], length, vec_len, Err, IfOk};
 ghost use Rattle.serde_json.specs.View.{view, items_view};
-ghost use Rattle.apply_plan.specs.Plan.{max_changes, plan_of, plan_of_tree};
+ghost use Rattle.apply_plan.specs.Plan.{max_bytes, max_changes, plan_of, plan_of_tree};
 ghost use Rattle.apply_plan.specs.OneByOne.{changes_after};
 ghost use Rattle.apply_plan.specs.PlanGives.{Gives};
 
@@ -27,7 +27,8 @@ pub const MAX_CHANGES: usize = 10_000;
 /// The changes of the elements.
 pub(crate) fn changes_of(alloc: Global, elements: &[Value]) -> Result<Vec<Change>, PlanError>
     requires { length elements.now ≤ max_changes }
-    ensures defined { Gives (λ changes. changes.items) result (changes_after [] (items_view elements.now)) }
+    ensures defined { Gives (λ changes. changes.items) result
+        (changes_after [] (items_view elements.now)) }
     ensures count { IfOk result (λ changes. vec_len changes ≡ length elements.now) }
 {
     let mut changes = Vec::with_capacity(alloc, elements.len())?;
@@ -62,11 +63,12 @@ fn plan_of_value(alloc: Global, tree: &Value) -> Result<Plan, PlanError>
 /// Reads a saved plan (JSON Output Format, "Plan Representation") as `terraform show -json` prints it.
 ///
 /// Members that are not known are ignored, `null` counts as absent, and of a member that stands twice the last
-/// counts. The answer is the plan, or the first refusal in the order of the variants of [`PlanError`]; want of memory
-/// is answered where it is met.
+/// counts. The answer is the plan, or the refusal that [`PlanError`] describes; want of memory is answered where it is
+/// met, and never for a plan that is too large.
 #[tactic(auto, unfolding(crate::specs::Plan::plan_of))]
 pub fn read_plan(alloc: Global, bytes: &[u8]) -> Result<Plan, PlanError>
-    ensures { Gives (λ plan. plan) result (plan_of bytes.now) }
+    ensures defined { Gives (λ plan. plan) result (plan_of bytes.now) }
+    ensures memory { result ≡ Err PlanError.Memory → length bytes.now ≤ max_bytes }
 {
     if bytes.len() > MAX_BYTES {
         return Err(PlanError::TooLarge);

@@ -27,7 +27,8 @@ impl<'a> SeenObjects<'a> {
     /// Adds the object, and answers whether it is new.
     pub fn insert(&mut self, id: ObjectId<'a>) -> Result<bool, AllocError>
         ensures fresh { IfOk result (λ fresh. fresh ≡ not (has_seen self.old id.entry)) }
-        ensures added { OnOk result ((other : _) → has_seen self.new other ≡ (is_same_id id.entry other || has_seen self.old other)) }
+        ensures added { OnOk result ((other : _)
+            → has_seen self.new other ≡ (is_same_id id.entry other || has_seen self.old other)) }
     {
         Ok(self.ids.insert(id)?)
     }

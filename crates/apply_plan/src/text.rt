@@ -1,4 +1,4 @@
-//! Texts that a plan or a script owns.
+//! Texts that a plan owns.
 
 ghost use Rattle.std.specs.Prelude.{◌≡◌, IfOk};
 ghost use Rattle.std.specs.Option.{option_copied};

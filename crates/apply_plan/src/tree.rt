@@ -1,4 +1,4 @@
-//! Looking into a parsed JSON text (RFC 8259), by the rules that plans and scripts share.
+//! Looking into a parsed JSON text (RFC 8259).
 
 ghost use Rattle.std.specs.Prelude.{◌≡◌, option_map};
 ghost use Rattle.std.specs.Option.{option_copied};

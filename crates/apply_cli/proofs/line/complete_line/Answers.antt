@@ -2,7 +2,7 @@ use Rattle.std.proofs.Common.{codes, ◌∙◌}
 use Rattle.std.proofs.lemmas.Result.{IfOk-weaker}
 use Rattle.apply_cli.specs.Messages.{complete_hook}
 use Rattle.apply_cli.proofs.Lines.{message_line}
-use Rattle.apply_cli.proofs.Whole.{complete_whole}
+use Rattle.apply_cli.proofs.NoFloats.{complete_whole}
 use Rattle.apply_cli.proofs.line.complete_line.Goals as goal
 
 pub returns : goal.returns

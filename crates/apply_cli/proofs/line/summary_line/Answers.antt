@@ -2,7 +2,7 @@ use Rattle.std.proofs.Common.{codes, ◌∙◌}
 use Rattle.std.proofs.lemmas.Result.{IfOk-weaker}
 use Rattle.apply_cli.specs.Messages.{changes_object}
 use Rattle.apply_cli.proofs.Lines.{message_line}
-use Rattle.apply_cli.proofs.Whole.{changes_whole}
+use Rattle.apply_cli.proofs.NoFloats.{changes_whole}
 use Rattle.apply_cli.proofs.line.summary_line.Goals as goal
 
 pub returns : goal.returns

@@ -1,5 +1,5 @@
 use Rattle.std.proofs.Common.{arith}
-use Rattle.apply_cli.proofs.More.{lines_more, counts_more}
+use Rattle.apply_cli.proofs.Totals.{lines_more, counts_more}
 use Rattle.apply_cli.proofs.stream.write_changes.Goals as goal
 
 pub loop-number-preserved : goal.loop-number-preserved
