@@ -4,11 +4,12 @@ ghost use Rattle.std.specs.Prelude.{◌≡◌, ◌<◌, ◌≤◌, ◌+◌, List
 ghost use Rattle.std.specs.Io.KnownBytes.{Consumes, IsAtEnd};
 
 use crate::input_fault::InputFault;
+use apply_plan::MAX_BYTES;
 use std::alloc::{AllocError, Global};
 use std::io::{ErrorKind, Read};
 
 /// One byte more than a plan may have, so that a longer one is seen to be too long.
-const MAX_READ: usize = 67_108_865;
+const MAX_READ: usize = MAX_BYTES + 1;
 
 /// How many bytes are asked for at once.
 const BUFFER_LEN: usize = 65_536;

@@ -110,9 +110,12 @@ fn deposed_beside_current(rt: HostRuntime) -> Result<(), Fail> {
         reads_as_plainly(&rt, alloc, text.as_str());
         assert_eq!(rt; read(alloc, text.as_str()).err(), wanted);
     }
-    let text = plan_text(alloc, deposed)?;
+    let elements = format!(in alloc; "{current},{deposed}")?;
+    let text = plan_text(alloc, elements.as_str())?;
     let plan = accepted(&rt, alloc, text.as_str());
-    assert_eq!(rt; only(&rt, &plan).deposed(), Some("00000001"));
+    assert!(rt; plan.len() == 2);
+    assert_eq!(rt; plan.change(0).deposed(), None);
+    assert_eq!(rt; plan.change(1).deposed(), Some("00000001"));
     Ok(())
 }
 
@@ -181,6 +184,32 @@ fn types_imply_providers(rt: HostRuntime) -> Result<(), Fail> {
         assert_eq!(rt; change.provider(), provider, "{kind_name}");
         assert_eq!(rt; change.mode(), Mode::DataSource);
         assert!(rt; matches!(change.key(), Key::Number(-1)));
+    }
+    Ok(())
+}
+
+#[test]
+fn indexes_are_kept(rt: HostRuntime) -> Result<(), Fail> {
+    let alloc = rt.alloc();
+    for (index, wanted) in [
+        ("null", "None"),
+        ("0", "Number(0)"),
+        ("9223372036854775807", "Number(9223372036854775807)"),
+        ("-9223372036854775808", "Number(-9223372036854775808)"),
+        (r#""""#, r#"Name(Text { inner: "" })"#),
+        (r#""k""#, r#"Name(Text { inner: "k" })"#),
+    ] {
+        let element = format!(in alloc;
+            r#"{{"address":"a.b","module_address":"","mode":"managed","type":"a","name":"b","index":{index},"change":{{"actions":["create"]}}}}"#
+        )?;
+        let text = plan_text(alloc, element.as_str())?;
+        let plan = accepted(&rt, alloc, text.as_str());
+        let change = only(&rt, &plan);
+        let key = change.key();
+        let shown = format!(in alloc; "{key:?}")?;
+        assert_eq!(rt; shown.as_str(), wanted, "{index}");
+        assert_eq!(rt; change.module(), "");
+        assert_eq!(rt; change.resource(), "a.b");
     }
     Ok(())
 }

@@ -101,6 +101,11 @@ fn each_member_has_its_rule(rt: HostRuntime) -> Result<(), Fail> {
         ("change", r#"{"actions":null}"#, MALFORMED),
         ("change", r#"{"actions":"create"}"#, MALFORMED),
         ("change", r#"{"actions":{}}"#, MALFORMED),
+        ("change", r#"{"actions":5}"#, MALFORMED),
+        ("change", r#"{"actions":true}"#, MALFORMED),
+        ("name", r#"5,"name":"n""#, ACCEPTED),
+        ("name", r#""n","name":5"#, MALFORMED),
+        ("deposed", r#"5,"deposed":null"#, ACCEPTED),
     ] {
         assert_eq!(rt; refusal(&rt, alloc, name, value)?, wanted, "{name} {value}");
     }
@@ -163,6 +168,7 @@ fn an_element_is_an_object(rt: HostRuntime) -> Result<(), Fail> {
     let alloc = rt.alloc();
     for element in ["5", "null", r#""x""#, "[]", "true"] {
         let text = plan_text(alloc, element)?;
+        reads_as_plainly(&rt, alloc, text.as_str());
         assert_eq!(rt; read(alloc, text.as_str()).err(), MALFORMED, "{element}");
     }
     Ok(())
@@ -189,6 +195,23 @@ fn the_first_fault_is_reported(rt: HostRuntime) -> Result<(), Fail> {
         (malformed, again, PlanError::BadChange(1)),
     ] {
         let elements = format!(in alloc; "{again},{second},{third}")?;
+        let text = plan_text(alloc, elements.as_str())?;
+        reads_as_plainly(&rt, alloc, text.as_str());
+        assert_eq!(rt; read(alloc, text.as_str()).err(), Some(wanted));
+    }
+    let repeated_malformed =
+        r#"{"address":"a.a","mode":"x","type":"a","name":"a","change":{"actions":["create"]}}"#;
+    let repeated_out_of_scope =
+        r#"{"address":"a.a","mode":"managed","type":"a","name":"a","change":{"actions":[]}}"#;
+    let repeated_misplaced =
+        r#"{"address":"a.a","module_address":"b","mode":"managed","type":"a","name":"a","change":{"actions":["create"]}}"#;
+    for (second, wanted) in [
+        (repeated_malformed, PlanError::BadChange(1)),
+        (repeated_out_of_scope, PlanError::BadActions(1)),
+        (repeated_misplaced, PlanError::BadAddress(1)),
+        (again, PlanError::Duplicate(1)),
+    ] {
+        let elements = format!(in alloc; "{again},{second}")?;
         let text = plan_text(alloc, elements.as_str())?;
         reads_as_plainly(&rt, alloc, text.as_str());
         assert_eq!(rt; read(alloc, text.as_str()).err(), Some(wanted));

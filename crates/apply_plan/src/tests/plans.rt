@@ -1,7 +1,7 @@
 use super::*;
 
 #[test]
-fn the_top_level_has_its_rules(rt: HostRuntime) -> Result<(), Fail> {
+fn refused_plans(rt: HostRuntime) -> Result<(), Fail> {
     let alloc = rt.alloc();
     for text in [
         "[]",
@@ -18,6 +18,14 @@ fn the_top_level_has_its_rules(rt: HostRuntime) -> Result<(), Fail> {
         r#"{"format_version":"1.0","terraform_version":5}"#,
         r#"{"format_version":"1.0","resource_changes":{}}"#,
         r#"{"format_version":"1.0","resource_changes":"x"}"#,
+        r#"{"format_version":true}"#,
+        r#"{"format_version":["1.0"]}"#,
+        r#"{"format_version":{}}"#,
+        r#"{"format_version":"1.0","terraform_version":true}"#,
+        r#"{"format_version":"1.0","terraform_version":[]}"#,
+        r#"{"format_version":"1.0","terraform_version":{}}"#,
+        r#"{"format_version":"1.0","resource_changes":5}"#,
+        r#"{"format_version":"1.0","resource_changes":true}"#,
         r#"{"format_version":"1.0","format_version":"2.0"}"#,
     ] {
         assert_eq!(rt;
@@ -136,6 +144,13 @@ fn a_plan_has_at_most_10000_changes(rt: HostRuntime) -> Result<(), Fail> {
     let one_more = format!(in alloc; "5,{elements}")?;
     let text = plan_text(alloc, one_more.as_str())?;
     assert_eq!(rt; read(alloc, text.as_str()).err(), Some(PlanError::TooMany));
+    let other_format = format!(in alloc;
+        r#"{{"format_version":"2.0","resource_changes":[{one_more}]}}"#
+    )?;
+    assert_eq!(rt;
+        read(alloc, other_format.as_str()).err(),
+        Some(PlanError::NotAPlan)
+    );
     Ok(())
 }
 
