@@ -42,12 +42,7 @@ pub fn run_first<R: Read + Drop, W: Write, E: Write>(
 }
 
 /// The same for a plan that was read. Status 2 is answered only where the bytes are no plan.
-fn run_plan<W: Write, E: Write>(
-    alloc: Global,
-    bytes: &[u8],
-    output: &mut W,
-    faults: &mut E,
-) -> u8
+fn run_plan<W: Write, E: Write>(alloc: Global, bytes: &[u8], output: &mut W, faults: &mut E) -> u8
     ensures stream { result ≡ 0 → (plan : SavedPlan) × (plan_of bytes.now ≡ Ok plan)
         × Appends (W.contents output.old) (W.contents output.new) (stream_of plan) }
     ensures quiet { result ≡ 0 → Keeps (E.contents faults.old) (E.contents faults.new) }

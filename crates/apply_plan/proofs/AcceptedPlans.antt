@@ -1,20 +1,18 @@
 -- The laws of accepted plans.
-use Rattle.std.proofs.Common.{◌≡◌, ℕ, Bool, true, false, List, [], ◌∷◌, ◌++◌, length, take, drop, codes, nat_eq, cond, ltb, Option, Some, None, Result, Ok, Err, refl, sym, ap, subst, ◌∙◌, append_assoc, ⊎_elim}
-use Rattle.std.specs.Prelude.{◌≢◌, ◌&&◌, ◌||◌}
+use Rattle.std.proofs.Common.{◌≡◌, ℕ, Bool, true, false, List, [], ◌∷◌, ◌++◌, length, cond, ltb, Option, Some, None, Ok, Err, refl, sym, ap, subst, ◌∙◌}
+use Rattle.std.specs.Prelude.{◌&&◌, ◌||◌}
 use Rattle.std.specs.List.{AllByRecursion, list_any}
 use Rattle.std.specs.Option.{option_eq}
 use Rattle.std.specs.Str.{bytes_eq}
 use Rattle.std.proofs.lemmas.Slice.Eq.{bytes_eq-Decides}
 use Rattle.serde_json.specs.Data.{Data, Items, no_items, item}
 use Rattle.serde_json.specs.Events.{items_len}
-use Rattle.apply_plan.specs.declared.plan_error.PlanError.{PlanError}
 use Rattle.apply_plan.specs.declared.plan_error.PlanError.TheVariants.{TooLarge, NotJson, NotAPlan, TooMany, BadChange, BadActions, BadAddress, Duplicate}
-use Rattle.apply_plan.specs.declared.step_kind.StepKind.{StepKind}
 use Rattle.apply_plan.specs.Address.{relative_address}
-use Rattle.apply_plan.specs.Element.{Element, element_of}
+use Rattle.apply_plan.specs.Element.{element_of}
 use Rattle.apply_plan.specs.Header.{header_of}
 use Rattle.apply_plan.specs.Laws.{AgreeOn, HasRelativeAddress, NamesEachObjectOnce, known_members}
-use Rattle.apply_plan.specs.Plan.{◌>>=◌, SavedPlan, changes_of, change_of, max_bytes, max_changes, or_refuse, plan_of, plan_of_tree, planned_at}
+use Rattle.apply_plan.specs.Plan.{SavedPlan, changes_of, change_of, max_bytes, max_changes, or_refuse, plan_of, plan_of_tree, planned_at}
 use Rattle.apply_plan.specs.OneByOne.{change_after, changes_after}
 use Rattle.apply_plan.specs.ResourceChange.{ResourceChange, is_same_object}
 use Rattle.apply_plan.specs.Steps.{steps_of}

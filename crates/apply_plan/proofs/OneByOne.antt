@@ -1,5 +1,5 @@
 -- Reading the changes one after the other, as a loop does.
-use Rattle.std.proofs.Common.{◌≡◌, ℕ, suc, ◌+◌, ◌<◌, ◌≤◌, Bool, true, false, not, List, [], ◌∷◌, ◌++◌, length, drop, get_or, Result, Ok, Err, refl, sym, ap, ◌∙◌, add-one, arith, length-drop}
+use Rattle.std.proofs.Common.{◌≡◌, ℕ, suc, ◌+◌, ◌<◌, ◌≤◌, true, false, List, [], ◌∷◌, ◌++◌, length, drop, get_or, Result, Ok, Err, refl, sym, ap, ◌∙◌, add-one, arith, length-drop}
 use Rattle.std.specs.List.{list_any}
 use Rattle.std.proofs.Math.Seq.{drop-cons}
 use Rattle.std.proofs.lemmas.List.{nil_from_length}
@@ -8,7 +8,7 @@ use Rattle.serde_json.specs.View.{view, items_view}
 use Rattle.serde_json.specs.declared.value.Value.{Value}
 use Rattle.apply_plan.specs.declared.plan_error.PlanError.{PlanError}
 use Rattle.apply_plan.specs.declared.plan_error.PlanError.TheVariants as refusal
-use Rattle.apply_plan.specs.Plan.{◌>>=◌, planned_at}
+use Rattle.apply_plan.specs.Plan.{planned_at}
 use Rattle.apply_plan.specs.OneByOne.{change_after, changes_after}
 use Rattle.apply_plan.specs.PlanGives.{Refuses}
 use Rattle.apply_plan.specs.ResourceChange.{ResourceChange, is_same_object}

@@ -1,5 +1,5 @@
 -- Reading the elements one by one, behind the changes so far, gives what the definition says of the whole list.
-use Rattle.std.proofs.Common.{◌≡◌, ℕ, ◌+◌, Option, Bool, false, List, [], ◌∷◌, ◌++◌, length, take, map, cond, Result, Ok, Err, refl, sym, ap, subst, ◌∙◌, append_assoc, arith}
+use Rattle.std.proofs.Common.{◌≡◌, ℕ, ◌+◌, Option, false, List, [], ◌∷◌, ◌++◌, length, take, map, cond, Result, Ok, Err, refl, sym, ap, subst, ◌∙◌, append_assoc, arith}
 use Rattle.std.specs.List.{enumerate_from, list_any}
 use Rattle.std.specs.Prelude.{◌&&◌}
 use Rattle.std.specs.Option.{option_eq, option_map_or}

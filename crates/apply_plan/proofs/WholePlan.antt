@@ -1,5 +1,5 @@
 -- The plan of a tree, by its top level and its elements.
-use Rattle.std.proofs.Common.{◌≡◌, ◌<◌, ◌≤◌, true, false, ltb, [], List, length, Option, Some, Result, Ok, Err, refl, sym}
+use Rattle.std.proofs.Common.{◌≡◌, ◌<◌, ◌≤◌, true, false, ltb, [], List, length, Some, Ok, Err, refl}
 use Rattle.std.proofs.lemmas.Bool.{le-ltb, lt-ltb}
 use Rattle.serde_json.specs.Data.{Data}
 use Rattle.serde_json.specs.Events.{items_len}
@@ -9,7 +9,7 @@ use Rattle.apply_plan.specs.declared.plan_error.PlanError.{PlanError}
 use Rattle.apply_plan.specs.declared.plan_error.PlanError.TheVariants.{TooMany}
 use Rattle.apply_plan.specs.Header.{header_of}
 use Rattle.apply_plan.specs.HeaderView.{header_view}
-use Rattle.apply_plan.specs.Plan.{SavedPlan, max_changes, plan_of_tree}
+use Rattle.apply_plan.specs.Plan.{max_changes, plan_of_tree}
 use Rattle.apply_plan.specs.OneByOne.{changes_after}
 use Rattle.apply_plan.specs.PlanGives.{Refuses}
 use Rattle.apply_plan.specs.ResourceChange.{ResourceChange}

@@ -1,5 +1,4 @@
 -- What contracts see of an element that stands in the tree, for the private type that reads one.
-use Rattle.std.specs.Prelude.{Option}
 use Rattle.std.specs.Option.{option_copied}
 use Rattle.serde_json.specs.View.{items_view}
 use Rattle.apply_plan.specs.declared.element.Element as in_tree

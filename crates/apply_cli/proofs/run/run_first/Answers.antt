@@ -1,4 +1,4 @@
-use Rattle.std.proofs.Common.{◌≡◌, Ok, ap, ◌∙◌, sym}
+use Rattle.std.proofs.Common.{ap, ◌∙◌, sym}
 use Rattle.std.specs.Io.KnownBytes.{Appends}
 use Rattle.apply_plan.specs.Plan.{SavedPlan, plan_of}
 use Rattle.apply_cli.specs.Stream.{stream_of}
