@@ -18,7 +18,8 @@ use std::alloc::{AllocError, Global};
 
 /// The line that reports that a step starts. `Err` where memory is refused.
 pub fn start_line(alloc: Global, change: &Change, step: StepKind) -> Result<Vec<u8>, AllocError>
-    ensures { IfOk result (λ line. line.items ≡ messages.event_text (event_of change.now step Started)) }
+    ensures { IfOk result
+        (λ line. line.items ≡ messages.event_text (event_of change.now step Started)) }
 {
     let message = start_message(alloc, change, step)?;
     let object = MessageObject {
@@ -32,7 +33,8 @@ pub fn start_line(alloc: Global, change: &Change, step: StepKind) -> Result<Vec<
 
 /// The line that reports that a step is complete. `Err` where memory is refused.
 pub fn complete_line(alloc: Global, change: &Change, step: StepKind) -> Result<Vec<u8>, AllocError>
-    ensures { IfOk result (λ line. line.items ≡ messages.event_text (event_of change.now step Completed)) }
+    ensures { IfOk result
+        (λ line. line.items ≡ messages.event_text (event_of change.now step Completed)) }
 {
     let message = complete_message(alloc, change, step)?;
     let object = MessageObject {

@@ -57,7 +57,8 @@ fn member_count(id: Option<&str>) -> usize
 
 /// Sends the two members of an id, where there is one.
 fn send_id<S: Serializer>(out: &mut S, id: Option<&str>) -> Result<(), S::Error>
-    ensures { OnOk result (SendsId (option_copied id.entry) (S.written out.old) (S.written out.new)) }
+    ensures { OnOk result
+        (SendsId (option_copied id.entry) (S.written out.old) (S.written out.new)) }
 {
     if let Some(id) = id {
         send_text(out, "id_key", "id")?;

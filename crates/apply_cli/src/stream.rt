@@ -53,7 +53,8 @@ fn write_change<W: Write>(
     requires { total counts.old + 2 ≤ u64.MAX }
     ensures lines { OnOk result (Appends (W.contents output.old) (W.contents output.new)
         (lines_of (change_events change.now))) }
-    ensures counts { OnOk result (counts.new ≡ plus counts.old (totals_of (change_events change.now))) }
+    ensures counts { OnOk result
+        (counts.new ≡ plus counts.old (totals_of (change_events change.now))) }
     ensures few { OnOk result (total counts.new ≤ total counts.old + 2) }
 {
     for step in change.steps() {
@@ -73,7 +74,8 @@ fn write_step<W: Write>(
     requires { total counts.old < u64.MAX }
     ensures lines { OnOk result (Appends (W.contents output.old) (W.contents output.new)
         (lines_of (step_events change.now step))) }
-    ensures counts { OnOk result (counts.new ≡ plus counts.old (totals_of (step_events change.now step))) }
+    ensures counts { OnOk result
+        (counts.new ≡ plus counts.old (totals_of (step_events change.now step))) }
     ensures few { OnOk result (total counts.new ≤ total counts.old + 1) }
 {
     let line = start_line(alloc, change, step)?;

@@ -67,7 +67,8 @@ impl Action {
     }
 
     fn together(first: &Value, second: &Value) -> Option<Action>
-        ensures { option_map steps_of_action result ≡ steps_together (view first.now) (view second.now) }
+        ensures { option_map steps_of_action result
+            ≡ steps_together (view first.now) (view second.now) }
     {
         if is_text(first, "delete") && is_text(second, "create") {
             Some(Action::DeleteThenCreate)

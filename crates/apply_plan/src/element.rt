@@ -76,7 +76,8 @@ fn mode_of(word: &str) -> Option<Mode>
 
 /// The instance key that the member `index` is. `None` where it is none.
 fn index_key(index: Option<&Value>) -> Option<IndexKey<'_>>
-    ensures { option_map key_view result ≡ key_of (option_map (λ found. view found.now) index.entry) }
+    ensures { option_map key_view result
+        ≡ key_of (option_map (λ found. view found.now) index.entry) }
 {
     match index {
         None => Some(IndexKey::None),

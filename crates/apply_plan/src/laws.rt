@@ -23,5 +23,6 @@ pub fn relative_addresses_join_their_module()
 /// Of an element the known members alone are read: two elements that agree on those are read alike, whatever else they
 /// hold.
 pub fn other_members_are_ignored()
-    ensures { (one other : Data) → AgreeOn known_members one other → element_of one ≡ element_of other }
+    ensures { (one other : Data) → AgreeOn known_members one other
+        → element_of one ≡ element_of other }
 {}
