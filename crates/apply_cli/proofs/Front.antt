@@ -2,8 +2,8 @@
 use Rattle.std.proofs.Common.{◌≡◌, ℕ, ◌+◌, ◌<◌, ◌≤◌, List, length, take, Bool, true, false, nat_lt, Option, None, Some, IfSome, Ok, Err, refl, sym, ap, subst, ◌∙◌, arith, take_all}
 use Rattle.std.proofs.lemmas.List.{length-take}
 use Rattle.std.proofs.lemmas.Bool.{lt-ltb, ltb-true, ltb-false}
-use Rattle.apply_plan.specs.declared.plan_error.PlanError.TheVariants.{TooLarge}
-use Rattle.apply_plan.specs.Plan.{SavedPlan, plan_of, max_bytes}
+use Rattle.apply_plan.specs.declared.plan.plan_error.PlanError.TheVariants.{TooLarge}
+use Rattle.apply_plan.specs.Plan.SavedPlan.{SavedPlan, plan_of, max_bytes}
 
 too_large : (bytes : List ℕ) → nat_lt max_bytes (length bytes) ≡ true → plan_of bytes ≡ Err TooLarge
 unfolding plan_of

@@ -3,10 +3,10 @@ use Rattle.std.proofs.Common.{◌≡◌, ℕ, List, codes, ℤ, pos, negsuc, Opt
 use Rattle.serde_json.specs.Data.{Data, Members, number, member, no_members}
 use Rattle.serde_json.specs.Find.{of_integer}
 use Rattle.serde_json.specs.Written.{has_float, members_have_float}
-use Rattle.apply_plan.specs.declared.key.Key.{Key}
-use Rattle.apply_plan.specs.declared.key.Key.TheVariants as key
-use Rattle.apply_plan.specs.declared.step_kind.StepKind.{StepKind}
-use Rattle.apply_plan.specs.ResourceChange.{ResourceChange}
+use Rattle.apply_plan.specs.declared.plan.key.Key.{Key}
+use Rattle.apply_plan.specs.declared.plan.key.Key.TheVariants as key
+use Rattle.apply_plan.specs.declared.plan.step_kind.StepKind.{StepKind}
+use Rattle.apply_plan.specs.Plan.ResourceChange.{ResourceChange}
 use Rattle.apply_cli.specs.declared.counts.Counts.{Counts}
 use Rattle.apply_cli.specs.Messages.{key_data, resource_object, shown_id, id_members, start_hook, complete_hook, changes_object, message_object}
 

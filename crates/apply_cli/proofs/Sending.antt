@@ -4,7 +4,7 @@ use Rattle.serde.specs.Event.{Log, Logs, map_begins, map_ends}
 use Rattle.serde_json.specs.Data.{Data, object, member, no_members, string}
 use Rattle.serde_json.specs.Events.{SendsValue}
 use Rattle.apply_cli.specs.Messages.{id_members, key_data}
-use Rattle.apply_plan.specs.declared.key.Key.{Key}
+use Rattle.apply_plan.specs.declared.plan.key.Key.{Key}
 use Rattle.apply_cli.specs.Sending.{SendsMember, SendsText, SendsId, start_len}
 
 -- a text that equals another

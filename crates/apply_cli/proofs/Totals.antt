@@ -5,7 +5,7 @@ use Rattle.std.proofs.lemmas.List.{take_more}
 use Rattle.std.proofs.lemmas.List.Sums.{sum_by-append}
 use Rattle.std.proofs.lemmas.Option.{slice_get_within, get_or_from_slice_get}
 use Rattle.std.specs.Io.KnownBytes.{Appends}
-use Rattle.apply_plan.specs.ResourceChange.{ResourceChange}
+use Rattle.apply_plan.specs.Plan.ResourceChange.{ResourceChange}
 use Rattle.apply_cli.specs.declared.counts.Counts.{Counts}
 use Rattle.apply_cli.specs.Counting.{plus}
 use Rattle.apply_cli.specs.Events.{Event, change_events, worker_events, totals_of}

@@ -1,8 +1,8 @@
 -- What was counted, and sums of it.
 use Rattle.std.specs.Prelude.{ℕ, ◌+◌}
 use Rattle.apply_cli.specs.declared.counts.Counts.{Counts}
-use Rattle.apply_plan.specs.declared.step_kind.StepKind.{StepKind}
-use Rattle.apply_plan.specs.declared.step_kind.StepKind.TheVariants.{Create, Update, Delete, Read}
+use Rattle.apply_plan.specs.declared.plan.step_kind.StepKind.{StepKind}
+use Rattle.apply_plan.specs.declared.plan.step_kind.StepKind.TheVariants.{Create, Update, Delete, Read}
 
 -- with one completed step more; a read counts nothing
 abbrev pub counted : Counts → StepKind → Counts

@@ -2,9 +2,9 @@
 use Rattle.std.specs.Prelude.{List, [], ◌∷◌, count_by, Bool, true, false}
 use Rattle.std.specs.List.{flat_map}
 use Rattle.apply_cli.specs.declared.counts.Counts.{Counts}
-use Rattle.apply_plan.specs.declared.step_kind.StepKind.{StepKind}
-use Rattle.apply_plan.specs.declared.step_kind.StepKind.TheVariants.{Create, Update, Delete, Read}
-use Rattle.apply_plan.specs.ResourceChange.{ResourceChange}
+use Rattle.apply_plan.specs.declared.plan.step_kind.StepKind.{StepKind}
+use Rattle.apply_plan.specs.declared.plan.step_kind.StepKind.TheVariants.{Create, Update, Delete, Read}
+use Rattle.apply_plan.specs.Plan.ResourceChange.{ResourceChange}
 
 pub data What : Type 0 where
   Started : What

@@ -6,12 +6,12 @@ use Rattle.serde_json.specs.Written.{compact_text}
 use Rattle.apply_cli.specs.declared.counts.Counts.{Counts}
 use Rattle.apply_cli.specs.Events.{What, Started, Completed, Event}
 use Rattle.apply_cli.specs.Words.{action_word, start_word, noun_word}
-use Rattle.apply_plan.specs.declared.key.Key.{Key}
-use Rattle.apply_plan.specs.declared.key.Key.TheVariants as key
-use Rattle.apply_plan.specs.declared.step_kind.StepKind.{StepKind}
-use Rattle.apply_plan.specs.declared.step_kind.StepKind.TheVariants.{Create, Update, Delete, Read}
-use Rattle.apply_plan.specs.Address.{provider_of}
-use Rattle.apply_plan.specs.ResourceChange.{ResourceChange, resource_of}
+use Rattle.apply_plan.specs.declared.plan.key.Key.{Key}
+use Rattle.apply_plan.specs.declared.plan.key.Key.TheVariants as key
+use Rattle.apply_plan.specs.declared.plan.step_kind.StepKind.{StepKind}
+use Rattle.apply_plan.specs.declared.plan.step_kind.StepKind.TheVariants.{Create, Update, Delete, Read}
+use Rattle.apply_plan.specs.Plan.Address.{provider_of}
+use Rattle.apply_plan.specs.Plan.ResourceChange.{ResourceChange, resource_of}
 
 -- the moment of every line: the start of 1970
 abbrev pub moment : List ℕ

@@ -1,7 +1,7 @@
 -- The exit status that a fault has: 2 where the input is at fault, and 3 where memory ran out.
 use Rattle.std.specs.Prelude.{ℕ}
-use Rattle.apply_plan.specs.declared.plan_error.PlanError.{PlanError}
-use Rattle.apply_plan.specs.declared.plan_error.PlanError.TheVariants as plan
+use Rattle.apply_plan.specs.declared.plan.plan_error.PlanError.{PlanError}
+use Rattle.apply_plan.specs.declared.plan.plan_error.PlanError.TheVariants as plan
 use Rattle.apply_cli.specs.declared.input_fault.InputFault.{InputFault}
 use Rattle.apply_cli.specs.declared.input_fault.InputFault.TheVariants as input
 

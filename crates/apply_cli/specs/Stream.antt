@@ -3,7 +3,7 @@ use Rattle.std.specs.Prelude.{ℕ, List, ◌++◌}
 use Rattle.std.specs.List.{flat_map}
 use Rattle.apply_cli.specs.Events.{Event, worker_events, totals_of}
 use Rattle.apply_cli.specs.Messages.{event_text, summary_text}
-use Rattle.apply_plan.specs.Plan.{SavedPlan}
+use Rattle.apply_plan.specs.Plan.SavedPlan.{SavedPlan}
 
 -- the lines of events
 abbrev pub lines_of : List Event → List ℕ

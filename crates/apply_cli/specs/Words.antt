@@ -1,7 +1,7 @@
 -- The words that a message has for a step (Machine-Readable UI, "Operation Messages").
 use Rattle.std.specs.Prelude.{ℕ, List, codes}
-use Rattle.apply_plan.specs.declared.step_kind.StepKind.{StepKind}
-use Rattle.apply_plan.specs.declared.step_kind.StepKind.TheVariants.{Create, Update, Delete, Read}
+use Rattle.apply_plan.specs.declared.plan.step_kind.StepKind.{StepKind}
+use Rattle.apply_plan.specs.declared.plan.step_kind.StepKind.TheVariants.{Create, Update, Delete, Read}
 
 -- the member `action` of a hook
 abbrev pub action_word : StepKind → List ℕ

@@ -2,8 +2,8 @@
 
 ghost use Rattle.std.specs.Prelude.{◌≡◌, ◌⊎◌, IfSome, Ok, Err};
 ghost use Rattle.std.specs.Io.KnownBytes.{Appends, Keeps};
-ghost use Rattle.apply_plan.specs.declared.plan_error.PlanError.{PlanError};
-ghost use Rattle.apply_plan.specs.Plan.{SavedPlan, plan_of};
+ghost use Rattle.apply_plan.specs.declared.plan.plan_error.PlanError.{PlanError};
+ghost use Rattle.apply_plan.specs.Plan.SavedPlan.{SavedPlan, plan_of};
 ghost use Rattle.apply_cli.specs.Stream.{stream_of};
 
 use crate::input::read_all;

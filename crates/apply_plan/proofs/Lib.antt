@@ -1,11 +1,5 @@
-pub mod AcceptedPlans
-pub mod ActionLists
-pub mod OneByOne
 pub mod Options
-pub mod Relative
-pub mod Seen
+pub mod Plans
+pub mod Results
 pub mod Texts
 pub mod Trees
-pub mod WholePlan
-pub mod Results
-pub mod WholeList

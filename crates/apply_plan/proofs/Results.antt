@@ -1,7 +1,7 @@
 -- Steps that may be refused.
 use Rattle.std.proofs.Common.{◌≡◌, Bool, true, false, cond, Option, Some, None, Result, Ok, Err, refl}
-use Rattle.apply_plan.specs.declared.plan_error.PlanError.{PlanError}
-use Rattle.apply_plan.specs.Plan.{◌>>=◌, or_refuse}
+use Rattle.apply_plan.specs.declared.plan.plan_error.PlanError.{PlanError}
+use Rattle.apply_plan.specs.Plan.SavedPlan.{◌>>=◌, or_refuse}
 
 pub bind_ok : {A B : Type 0} (r : Result A PlanError) (f : A → Result B PlanError) (y : B) → (r >>= f) ≡ Ok y → (x : A) × (r ≡ Ok x) × (f x ≡ Ok y)
 bind_ok (Ok x) f y e = (x, refl, e)

@@ -7,7 +7,7 @@ use Rattle.std.proofs.lemmas.Bool.{cases_Bool}
 use Rattle.std.proofs.lemmas.Bool.Decides.{Decides-eqb}
 use Rattle.std.proofs.lemmas.Slice.Eq.{starts_is}
 use denote.Ref.{Bor}
-use Rattle.apply_plan.specs.Address.{after_prefix}
+use Rattle.apply_plan.specs.Plan.Address.{after_prefix}
 
 starts_not : (prefix text : List ℕ) → FindsTextPrefix prefix text None → starts_with nat_eq text prefix ≡ false
 starts_not prefix text lacks = ⊎_elim (λ e. absurd (lacks _ ((starts_is Decides-eqb text prefix _ refl).0 e))) (λ e. e) (cases_Bool (starts_with nat_eq text prefix))

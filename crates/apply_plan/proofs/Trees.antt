@@ -8,7 +8,7 @@ use Rattle.serde_json.specs.Events.{items_len}
 use Rattle.serde_json.specs.Read.{read}
 use Rattle.serde_json.specs.View.{items_view}
 use Rattle.serde_json.specs.declared.value.Value.{Value}
-use Rattle.apply_plan.specs.Tree.{tree_of}
+use Rattle.apply_plan.specs.Json.{tree_of}
 
 pub tree_is : (bytes : List ℕ) (tree : Data) → IsUtf8 bytes → read bytes ≡ Some tree → tree_of bytes ≡ Some tree
 tree_is bytes tree utf8 found = rw (is_utf8-from_IsUtf8 bytes utf8) found

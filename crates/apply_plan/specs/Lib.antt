@@ -1,16 +1,3 @@
-pub mod Action
-pub mod Address
-pub mod Element
-pub mod ElementView
-pub mod Header
-pub mod HeaderView
-pub mod JsonText
-pub mod Laws
-pub mod OneByOne
+pub mod Json
 pub mod Plan
 pub mod PlanGives
-pub mod PlannedView
-pub mod ResourceChange
-pub mod SeenObjects
-pub mod Steps
-pub mod Tree

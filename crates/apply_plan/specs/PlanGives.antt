@@ -1,8 +1,8 @@
 -- What a reader of plans answers: what the definition says, unless memory ran out.
 use Rattle.std.specs.Prelude.{◌≡◌, Result, Ok, Err}
-use Rattle.apply_plan.specs.declared.plan_error.PlanError.{PlanError}
-use Rattle.apply_plan.specs.declared.plan_error.PlanError.TheVariants as refusal
-use Rattle.apply_plan.specs.declared.plan_error.PlanError.TheVariants.{TooLarge, NotJson, NotAPlan, TooMany, BadChange, BadActions, BadAddress, Duplicate}
+use Rattle.apply_plan.specs.declared.plan.plan_error.PlanError.{PlanError}
+use Rattle.apply_plan.specs.declared.plan.plan_error.PlanError.TheVariants as refusal
+use Rattle.apply_plan.specs.declared.plan.plan_error.PlanError.TheVariants.{TooLarge, NotJson, NotAPlan, TooMany, BadChange, BadActions, BadAddress, Duplicate}
 
 -- a refusal for another cause than memory is the defined one
 abbrev pub Refuses : {Y : Type 0} → PlanError → Result Y PlanError → Type 0

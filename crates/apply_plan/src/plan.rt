@@ -1,9 +1,26 @@
-//! A saved plan.
+//! A saved plan, and how it is read.
 
 ghost use Rattle.std.specs.Prelude.{◌≡◌, ◌<◌, ◌≤◌, length, Some, slice_get};
-ghost use Rattle.apply_plan.specs.Plan.{max_changes};
+ghost use Rattle.apply_plan.specs.Plan.SavedPlan.{max_changes};
 
-use crate::change::Change;
+pub mod action;
+pub mod address;
+pub mod change;
+pub mod element;
+pub mod header;
+pub mod key;
+pub mod laws;
+pub mod mode;
+pub mod object_id;
+#[cfg(test)]
+pub mod plain;
+pub mod plan_error;
+pub mod planned;
+pub mod reading;
+pub mod seen_objects;
+pub mod step_kind;
+
+use crate::plan::change::Change;
 use crate::text::Text;
 use std::marker::Model;
 
@@ -17,7 +34,7 @@ pub struct Plan {
 
 impl Model for Plan {
     ghost use Rattle.std.specs.Prelude.{◌≤◌, vec_len};
-    ghost use Rattle.apply_plan.specs.Plan.{SavedPlan, max_changes};
+    ghost use Rattle.apply_plan.specs.Plan.SavedPlan.{SavedPlan, max_changes};
 
     ghost Value = { SavedPlan };
 

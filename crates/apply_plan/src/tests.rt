@@ -4,9 +4,10 @@ mod accepted;
 mod elements;
 mod plans;
 
-use crate::header::Header;
-use crate::json_text::parse;
-use crate::{MAX_CHANGES, Plan, PlanError, Text, plain, read_plan, reading};
+use crate::json::parsing::parse;
+use crate::plan::header::Header;
+use crate::plan::{plain, reading};
+use crate::{MAX_CHANGES, Plan, PlanError, Text, read_plan};
 use std::alloc::{AllocError, Global};
 use std::process::Abort;
 use std::test::Fail;

@@ -1,6 +1,6 @@
 use Rattle.std.proofs.Common.{ap, ◌∙◌, sym}
 use Rattle.std.specs.Io.KnownBytes.{Appends}
-use Rattle.apply_plan.specs.Plan.{SavedPlan, plan_of}
+use Rattle.apply_plan.specs.Plan.SavedPlan.{SavedPlan, plan_of}
 use Rattle.apply_cli.specs.Stream.{stream_of}
 use Rattle.apply_cli.proofs.Front.{of_whole}
 use Rattle.apply_cli.proofs.run.run_first.Goals as goal

@@ -1,0 +1,8 @@
+-- Lemmas on plans.
+pub mod AcceptedPlans
+pub mod ActionLists
+pub mod OneByOne
+pub mod Relative
+pub mod Seen
+pub mod WholeList
+pub mod WholePlan

@@ -1,0 +1,10 @@
+use Rattle.std.proofs.Common.{◌≡◌, [], drop, length}
+use Rattle.serde_json.specs.View.{items_view}
+use Rattle.apply_plan.specs.Plan.OneByOne.{changes_after}
+use Rattle.apply_plan.proofs.plan.plain.changes_of.Given as goal
+
+abbrev pub invariant-loop-number : goal.invariant-loop-number
+invariant-loop-number l = record {
+  count : length l.changes.items ≡ l.number;
+  read : changes_after l.changes.items (items_view (drop l.number l.elements)) ≡ changes_after [] (items_view l.elements);
+}

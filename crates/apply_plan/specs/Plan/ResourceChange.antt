@@ -1,0 +1,30 @@
+-- A planned change of one object (JSON Output Format, "Plan Representation", `resource_changes`).
+use Rattle.std.specs.Prelude.{ℕ, ◌+◌, List, length, drop, Bool, ◌&&◌, if◌then◌else◌, Option}
+use Rattle.std.specs.Option.{option_eq}
+use Rattle.std.specs.Str.{bytes_eq}
+use Rattle.apply_plan.specs.declared.plan.key.Key.{Key}
+use Rattle.apply_plan.specs.declared.plan.mode.Mode.{Mode}
+use Rattle.apply_plan.specs.declared.plan.step_kind.StepKind.{StepKind}
+use Rattle.apply_plan.specs.Json.{is_empty}
+
+pub record ResourceChange : Type 0 where
+  pub address : List ℕ
+  -- empty in the root module
+  pub module_address : List ℕ
+  pub mode : Mode
+  pub kind_name : List ℕ
+  pub name : List ℕ
+  pub key : Key
+  -- the key of a deposed object, which stands beside the current one
+  pub deposed : Option (List ℕ)
+  -- the id that the object had before, where it had one and it may be shown
+  pub prior_id : Option (List ℕ)
+  pub steps : List StepKind
+
+-- the address within its module
+abbrev pub resource_of : ResourceChange → List ℕ
+resource_of change = if is_empty change.module_address then change.address else drop (length change.module_address + 1) change.address
+
+-- an earlier change is of the same object: it has the same address, and the same deposed key or none
+abbrev pub is_same_object : ResourceChange → ResourceChange → Bool
+is_same_object change earlier = bytes_eq earlier.address change.address && option_eq bytes_eq earlier.deposed change.deposed

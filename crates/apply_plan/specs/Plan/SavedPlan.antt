@@ -1,0 +1,92 @@
+-- The plan that bytes are, or the first refusal (JSON Output Format, "Plan Representation").
+use Rattle.std.specs.Prelude.{ℕ, List, [], ◌∷◌, length, map, take, Bool, false, ◌&&◌, nat_lt, if◌then◌else◌, Option, Some, None, Result, Ok, Err}
+use Rattle.std.specs.List.{enumerate_from, list_any}
+use Rattle.std.specs.Option.{option_eq, option_map_or}
+use Rattle.std.specs.Str.{bytes_eq}
+use Rattle.serde_json.specs.Data.{Data}
+use Rattle.serde_json.specs.Events.{items_len}
+use Rattle.apply_plan.specs.declared.plan.plan_error.PlanError.{PlanError}
+use Rattle.apply_plan.specs.declared.plan.plan_error.PlanError.TheVariants.{TooLarge, NotJson, NotAPlan, TooMany, BadChange, BadActions, BadAddress, Duplicate}
+use Rattle.apply_plan.specs.declared.plan.step_kind.StepKind.{StepKind}
+use Rattle.apply_plan.specs.Plan.Address.{relative_address}
+use Rattle.apply_plan.specs.Plan.Element.{Element, element_of}
+use Rattle.apply_plan.specs.Plan.Header.{header_of}
+use Rattle.apply_plan.specs.Plan.ResourceChange.{ResourceChange}
+use Rattle.apply_plan.specs.Plan.Steps.{steps_of}
+use Rattle.apply_plan.specs.Json.{list_of, tree_of}
+
+pub record SavedPlan : Type 0 where
+  -- the version of Terraform that made it
+  pub version : List ℕ
+  pub changes : List ResourceChange
+
+-- 64 MiB
+abbrev pub max_bytes : ℕ
+max_bytes = 67108864
+
+abbrev pub max_changes : ℕ
+max_changes = 10000
+
+-- what an element describes, with its steps
+abbrev pub change_of : Element → List StepKind → ResourceChange
+change_of e steps = record {
+  address = e.address;
+  module_address = e.module_address;
+  mode = e.mode;
+  kind_name = e.kind_name;
+  name = e.name;
+  key = e.key;
+  deposed = e.deposed;
+  prior_id = e.prior_id;
+  steps = steps;
+}
+
+infixl 10 ◌>>=◌
+abbrev pub ◌>>=◌ : {A B : Type 0} → Result A PlanError → (A → Result B PlanError) → Result B PlanError
+(Ok x) >>= f = f x
+(Err e) >>= f = Err e
+
+-- a value that has to be there, or the refusal
+abbrev pub or_refuse : {A : Type 0} → PlanError → Option A → Result A PlanError
+or_refuse refusal None = Err refusal
+or_refuse refusal (Some x) = Ok x
+
+-- the change that element n describes, or the first fault that it has by itself
+unfoldable pub planned_at : ℕ → Data → Result ResourceChange PlanError
+planned_at n d = do
+  e ← or_refuse (BadChange n) (element_of d)
+  steps ← or_refuse (BadActions n) (steps_of e.actions)
+  relative ← or_refuse (BadAddress n) (relative_address e.module_address e.address)
+  Ok (change_of e steps)
+
+-- whether an element has the address of the change, and its deposed key or none
+abbrev pub names_object_of : ResourceChange → Data → Bool
+names_object_of change d = option_map_or (λ e. bytes_eq e.address change.address && option_eq bytes_eq e.deposed change.deposed) (element_of d) false
+
+-- what an element describes, or the first fault that holds of it; it is compared with each element before it
+unfoldable pub change_at : List Data → Data → Result ResourceChange PlanError
+change_at before d = do
+  change ← planned_at (length before) d
+  if list_any (names_object_of change) before then Err (Duplicate (length before)) else Ok change
+
+-- all values, or the first refusal among them
+abbrev pub all_or_first : {A : Type 0} → List (Result A PlanError) → Result (List A) PlanError
+all_or_first [] = Ok []
+all_or_first (answer ∷ answers) = do
+  x ← answer
+  xs ← all_or_first answers
+  Ok (x ∷ xs)
+
+-- the changes of the elements, or the fault of the first that has one
+unfoldable pub changes_of : List Data → Result (List ResourceChange) PlanError
+changes_of elements = all_or_first (map (λ p. change_at (take p.0 elements) p.1) (enumerate_from 0 elements))
+
+unfoldable pub plan_of_tree : Data → Result SavedPlan PlanError
+plan_of_tree d = do
+  header ← or_refuse NotAPlan (header_of d)
+  if nat_lt max_changes (items_len header.elements) then Err TooMany else do
+    changes ← changes_of (list_of header.elements)
+    Ok (record { version = header.version; changes = changes })
+
+unfoldable pub plan_of : List ℕ → Result SavedPlan PlanError
+plan_of bytes = if nat_lt max_bytes (length bytes) then Err TooLarge else (or_refuse NotJson (tree_of bytes) >>= plan_of_tree)

@@ -1,0 +1,30 @@
+-- The steps of a list of actions (JSON Output Format, "Change Representation", `actions`).
+use Rattle.std.specs.Prelude.{List, [], ◌∷◌, codes, ◌&&◌, if◌then◌else◌, Option, Some, None}
+use Rattle.serde_json.specs.Data.{Data, Items, no_items, item}
+use Rattle.apply_plan.specs.declared.plan.step_kind.StepKind.{StepKind}
+use Rattle.apply_plan.specs.declared.plan.step_kind.StepKind.TheVariants.{Create, Update, Delete, Read}
+use Rattle.apply_plan.specs.Json.{is_word}
+
+-- of a single action
+abbrev pub steps_alone : Data → Option (List StepKind)
+steps_alone action =
+    if is_word (codes "no-op") action then Some []
+    else if is_word (codes "create") action then Some (Create ∷ [])
+    else if is_word (codes "read") action then Some (Read ∷ [])
+    else if is_word (codes "update") action then Some (Update ∷ [])
+    else if is_word (codes "delete") action then Some (Delete ∷ [])
+    else None
+
+-- of a replacement
+abbrev pub steps_together : Data → Data → Option (List StepKind)
+steps_together first second =
+    if is_word (codes "delete") first && is_word (codes "create") second then Some (Delete ∷ Create ∷ [])
+    else if is_word (codes "create") first && is_word (codes "delete") second then Some (Create ∷ Delete ∷ [])
+    else None
+
+-- the steps of an action list; none where it is not one of the seven
+abbrev pub steps_of : Items → Option (List StepKind)
+steps_of no_items = None
+steps_of (item action no_items) = steps_alone action
+steps_of (item first (item second no_items)) = steps_together first second
+steps_of (item first (item second (item third others))) = None

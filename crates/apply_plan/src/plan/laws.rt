@@ -1,0 +1,28 @@
+//! Laws of plans. Each function does nothing; its contract is the law.
+
+ghost use Rattle.std.specs.Prelude.{◌≡◌, ℕ, List, Ok};
+ghost use Rattle.std.specs.List.{AllByRecursion};
+ghost use Rattle.serde_json.specs.Data.{Data};
+ghost use Rattle.apply_plan.specs.Plan.Element.{element_of};
+ghost use Rattle.apply_plan.specs.Plan.Laws.{AgreeOn, HasRelativeAddress, NamesEachObjectOnce, known_members};
+ghost use Rattle.apply_plan.specs.Plan.SavedPlan.{SavedPlan, plan_of};
+
+/// An accepted plan changes each object once: no two of its changes have one address and one deposed key.
+pub fn each_object_is_named_once()
+    ensures { (bytes : List ℕ) (plan : SavedPlan) → plan_of bytes ≡ Ok plan
+        → NamesEachObjectOnce plan.changes }
+{}
+
+/// In an accepted plan a relative address is never empty, and with the module's address and a dot it gives back the
+/// address.
+pub fn relative_addresses_join_their_module()
+    ensures { (bytes : List ℕ) (plan : SavedPlan) → plan_of bytes ≡ Ok plan
+        → AllByRecursion HasRelativeAddress plan.changes }
+{}
+
+/// Of an element the known members alone are read: two elements that agree on those are read alike, whatever else they
+/// hold.
+pub fn other_members_are_ignored()
+    ensures { (one other : Data) → AgreeOn known_members one other
+        → element_of one ≡ element_of other }
+{}

@@ -1,0 +1,25 @@
+//! Which object a change is of.
+
+ghost use Rattle.std.specs.Prelude.{◌≡◌};
+
+use crate::plan::planned::Planned;
+
+/// The address of an object, and the key of a deposed one. No two changes of a plan have both in common.
+#[derive(Clone, Copy, PartialEq, Eq, PartialOrd, Ord)]
+pub struct ObjectId<'a> {
+    pub address: &'a str,
+    pub deposed: Option<&'a str>,
+}
+
+impl<'a> ObjectId<'a> {
+    /// The object that the element is about.
+    pub fn of(planned: &Planned<'a>) -> ObjectId<'a>
+        ensures address { result.address ≡ planned.now.element.address }
+        ensures deposed { result.deposed ≡ planned.now.element.deposed }
+    {
+        ObjectId {
+            address: planned.element.address,
+            deposed: planned.element.deposed,
+        }
+    }
+}

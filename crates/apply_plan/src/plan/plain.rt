@@ -1,0 +1,48 @@
+//! Reading the elements as the definition says it: each is compared with every one before it, slow and plain. Tests
+//! compare the reader with it.
+
+ghost use Rattle.std.specs.Prelude.{◌≡◌, ◌≤◌, [], length, vec_len, IfOk};
+ghost use Rattle.std.specs.List.{list_any};
+ghost use Rattle.serde_json.specs.View.{items_view};
+ghost use Rattle.apply_plan.specs.Plan.SavedPlan.{max_changes};
+ghost use Rattle.apply_plan.specs.Plan.OneByOne.{changes_after};
+ghost use Rattle.apply_plan.specs.PlanGives.{Gives};
+ghost use Rattle.apply_plan.specs.Plan.PlannedView.{planned_view};
+ghost use Rattle.apply_plan.specs.Plan.ResourceChange.{is_same_object};
+
+use crate::plan::change::Change;
+use crate::plan::plan_error::PlanError;
+use crate::plan::planned::Planned;
+use serde_json::Value;
+use std::alloc::Global;
+
+fn is_same(earlier: &Change, planned: &Planned<'_>) -> bool
+    ensures { result ≡ is_same_object (planned_view planned.now) earlier.now }
+{
+    earlier.address() == planned.element.address && earlier.deposed() == planned.element.deposed
+}
+
+fn is_repeated(changes: &[Change], planned: &Planned<'_>) -> bool
+    ensures { result ≡ list_any (is_same_object (planned_view planned.now)) changes.now }
+{
+    changes.iter().any(|earlier| is_same(earlier, planned))
+}
+
+/// The changes of the elements, each compared with every one before it.
+pub fn changes_of(alloc: Global, elements: &[Value]) -> Result<Vec<Change>, PlanError>
+    requires { length elements.now ≤ max_changes }
+    ensures defined { Gives (λ changes. changes.items) result
+        (changes_after [] (items_view elements.now)) }
+    ensures count { IfOk result (λ changes. vec_len changes ≡ length elements.now) }
+{
+    let mut changes = Vec::new(alloc);
+    for (number, element) in elements.iter().enumerate() {
+        let number = number as u32;
+        let planned = Planned::of(number, element)?;
+        if is_repeated(&changes, &planned) {
+            return Err(PlanError::Duplicate(number));
+        }
+        changes.push(Change::new(alloc, planned)?)?;
+    }
+    Ok(changes)
+}

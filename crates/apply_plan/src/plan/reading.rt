@@ -1,0 +1,81 @@
+//! Reading a plan.
+
+ghost use Rattle.std.specs.Prelude.{◌≡◌, ◌≤◌, [], length, vec_len, Err, IfOk};
+ghost use Rattle.serde_json.specs.View.{view, items_view};
+ghost use Rattle.apply_plan.specs.Plan.SavedPlan.{max_bytes, max_changes, plan_of, plan_of_tree};
+ghost use Rattle.apply_plan.specs.Plan.OneByOne.{changes_after};
+ghost use Rattle.apply_plan.specs.PlanGives.{Gives};
+
+use crate::json::parsing::{JsonFault, parse};
+use crate::plan::Plan;
+use crate::plan::change::Change;
+use crate::plan::header::Header;
+use crate::plan::object_id::ObjectId;
+use crate::plan::plan_error::PlanError;
+use crate::plan::planned::Planned;
+use crate::plan::seen_objects::SeenObjects;
+use crate::text::Text;
+use serde_json::Value;
+use std::alloc::Global;
+
+/// The greatest size of a plan, in bytes: 64 MiB.
+pub const MAX_BYTES: usize = 67_108_864;
+
+/// The greatest number of changes in a plan.
+pub const MAX_CHANGES: usize = 10_000;
+
+/// The changes of the elements.
+pub(crate) fn changes_of(alloc: Global, elements: &[Value]) -> Result<Vec<Change>, PlanError>
+    requires { length elements.now ≤ max_changes }
+    ensures defined { Gives (λ changes. changes.items) result
+        (changes_after [] (items_view elements.now)) }
+    ensures count { IfOk result (λ changes. vec_len changes ≡ length elements.now) }
+{
+    let mut changes = Vec::with_capacity(alloc, elements.len())?;
+    let mut seen = SeenObjects::new(alloc);
+    for (number, element) in elements.iter().enumerate() {
+        let number = number as u32;
+        let planned = Planned::of(number, element)?;
+        if !seen.insert(ObjectId::of(&planned))? {
+            return Err(PlanError::Duplicate(number));
+        }
+        changes.push(Change::new(alloc, planned)?)?;
+    }
+    Ok(changes)
+}
+
+/// The plan that the tree is.
+#[tactic(auto, unfolding(crate::specs::Plan::SavedPlan::plan_of_tree))]
+fn plan_of_value(alloc: Global, tree: &Value) -> Result<Plan, PlanError>
+    ensures { Gives (λ plan. plan) result (plan_of_tree (view tree.now)) }
+{
+    let Some(header) = Header::of(tree) else {
+        return Err(PlanError::NotAPlan);
+    };
+    if header.elements.len() > MAX_CHANGES {
+        return Err(PlanError::TooMany);
+    }
+    let changes = changes_of(alloc, header.elements)?;
+    let version = Text::new(alloc, header.version)?;
+    Ok(Plan { version, changes })
+}
+
+/// Reads a saved plan (JSON Output Format, "Plan Representation") as `terraform show -json` prints it.
+///
+/// Members that are not known are ignored, `null` counts as absent, and of a member that stands twice the last
+/// counts. The answer is the plan, or the refusal that [`PlanError`] describes; want of memory is answered where it is
+/// met, and never for a plan that is too large.
+#[tactic(auto, unfolding(crate::specs::Plan::SavedPlan::plan_of))]
+pub fn read_plan(alloc: Global, bytes: &[u8]) -> Result<Plan, PlanError>
+    ensures defined { Gives (λ plan. plan) result (plan_of bytes.now) }
+    ensures memory { result ≡ Err PlanError.Memory → length bytes.now ≤ max_bytes }
+{
+    if bytes.len() > MAX_BYTES {
+        return Err(PlanError::TooLarge);
+    }
+    match parse(alloc, bytes) {
+        Ok(tree) => plan_of_value(alloc, &tree),
+        Err(JsonFault::NotJson) => Err(PlanError::NotJson),
+        Err(JsonFault::Memory) => Err(PlanError::Memory),
+    }
+}
