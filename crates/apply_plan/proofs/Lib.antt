@@ -1,5 +1,7 @@
+pub mod OneByOne
 pub mod Options
 pub mod Plans
 pub mod Results
 pub mod Texts
 pub mod Trees
+pub mod WholeList

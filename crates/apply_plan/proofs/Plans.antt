@@ -1,7 +1,7 @@
 -- Lemmas on plans.
 pub mod AcceptedPlans
 pub mod ActionLists
-pub mod OneByOne
+pub mod Alike
 pub mod Relative
 pub mod Seen
 pub mod WholeList

@@ -1,23 +1,27 @@
 -- Steps that may be refused.
 use Rattle.std.proofs.Common.{◌≡◌, Bool, true, false, cond, Option, Some, None, Result, Ok, Err, refl}
-use Rattle.apply_plan.specs.declared.plan.plan_error.PlanError.{PlanError}
-use Rattle.apply_plan.specs.Plan.SavedPlan.{◌>>=◌, or_refuse}
+use Rattle.apply_plan.specs.Results.{◌>>=◌, or_refuse}
 
-pub bind_ok : {A B : Type 0} (r : Result A PlanError) (f : A → Result B PlanError) (y : B) → (r >>= f) ≡ Ok y → (x : A) × (r ≡ Ok x) × (f x ≡ Ok y)
+pub bind_ok : {A B E : Type 0} (r : Result A E) (f : A → Result B E) (y : B) → (r >>= f) ≡ Ok y → (x : A) × (r ≡ Ok x) × (f x ≡ Ok y)
 bind_ok (Ok x) f y e = (x, refl, e)
 bind_ok (Err d) f y e = absurd cc
 
-pub or_refuse_ok : {A : Type 0} (refusal : PlanError) (o : Option A) (x : A) → or_refuse refusal o ≡ Ok x → o ≡ Some x
+pub or_refuse_ok : {A E : Type 0} (refusal : E) (o : Option A) (x : A) → or_refuse refusal o ≡ Ok x → o ≡ Some x
 or_refuse_ok refusal None x e = absurd cc
 or_refuse_ok refusal (Some y) x e = cc
 
 -- a test that refused nothing
-pub guard_ok : {A : Type 0} (b : Bool) (d : PlanError) (r : Result A PlanError) (y : A) → cond b (Err d) r ≡ Ok y → (b ≡ false) × (r ≡ Ok y)
+pub guard_ok : {A E : Type 0} (b : Bool) (d : E) (r : Result A E) (y : A) → cond b (Err d) r ≡ Ok y → (b ≡ false) × (r ≡ Ok y)
 guard_ok true d r y e = absurd cc
 guard_ok false d r y e = (refl, e)
 
-abbrev pub done : {A : Type 0} → A → Result A PlanError
+abbrev pub done : {A E : Type 0} → A → Result A E
 done x = Ok x
 
-pub ok_is : {A : Type 0} (x y : A) → done x ≡ done y → x ≡ y
+pub ok_is : {A E : Type 0} (x y : A) → done {E = E} x ≡ done y → x ≡ y
 ok_is x y e = cc
+
+-- two steps that go on alike
+pub bind_same : {A B E : Type 0} (r : Result A E) (f g : A → Result B E) → ((x : A) → f x ≡ g x) → (r >>= f) ≡ (r >>= g)
+bind_same (Ok x) f g same = same x
+bind_same (Err e) f g same = refl

@@ -1,5 +1,6 @@
 -- Looking into the tree that a JSON text is (RFC 8259).
 pub mod Parsed
+pub mod Reading
 use Rattle.std.specs.Prelude.{ℕ, List, [], ◌∷◌, Bool, true, false, if◌then◌else◌, Option, Some, None}
 use Rattle.std.specs.Option.{option_map_or}
 use Rattle.std.specs.Str.{bytes_eq, is_utf8}
@@ -11,6 +12,10 @@ infixl 10 ◌>>=◌
 abbrev pub ◌>>=◌ : {A B : Type 0} → Option A → (A → Option B) → Option B
 None >>= f = None
 (Some x) >>= f = f x
+
+-- the greatest size of a text, 64 MiB
+abbrev pub max_bytes : ℕ
+max_bytes = 67108864
 
 -- the tree that `serde_json` states for the bytes; none where they are no JSON, or nest more than 127 deep
 abbrev pub tree_of : List ℕ → Option Data

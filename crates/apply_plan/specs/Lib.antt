@@ -1,3 +1,4 @@
 pub mod Json
+pub mod OneByOne
 pub mod Plan
-pub mod PlanGives
+pub mod Results

@@ -5,6 +5,7 @@ mod json;
 mod plan;
 mod text;
 
+pub use json::parsing::MAX_BYTES;
 pub use plan::Plan;
 pub use plan::change::Change;
 pub use plan::key::Key;
@@ -13,7 +14,7 @@ pub use plan::laws::{
 };
 pub use plan::mode::Mode;
 pub use plan::plan_error::PlanError;
-pub use plan::reading::{MAX_BYTES, MAX_CHANGES, read_plan};
+pub use plan::reading::{MAX_CHANGES, read_plan};
 pub use plan::step_kind::StepKind;
 pub use text::Text;
 

@@ -11,18 +11,20 @@ use Rattle.apply_plan.specs.declared.plan.plan_error.PlanError.TheVariants.{TooL
 use Rattle.apply_plan.specs.Plan.Address.{relative_address}
 use Rattle.apply_plan.specs.Plan.Element.{element_of}
 use Rattle.apply_plan.specs.Plan.Header.{header_of}
-use Rattle.apply_plan.specs.Plan.Laws.{AgreeOn, HasRelativeAddress, NamesEachObjectOnce, known_members}
-use Rattle.apply_plan.specs.Plan.SavedPlan.{SavedPlan, changes_of, change_of, max_bytes, max_changes, or_refuse, plan_of, plan_of_tree, planned_at}
-use Rattle.apply_plan.specs.Plan.OneByOne.{change_after, changes_after}
+use Rattle.apply_plan.specs.Plan.Laws.{HasRelativeAddress, NamesEachObjectOnce}
+use Rattle.apply_plan.specs.Plan.SavedPlan.{SavedPlan, changes_of, change_of, max_changes, plan_of, plan_of_tree, planned_at}
+use Rattle.apply_plan.specs.OneByOne.{made_after}
+use Rattle.apply_plan.specs.Plan.OneByOne.{change_after}
 use Rattle.apply_plan.specs.Plan.ResourceChange.{ResourceChange, is_same_object}
 use Rattle.apply_plan.specs.Plan.Steps.{steps_of}
-use Rattle.apply_plan.specs.Json.{list_of, tree_of}
+use Rattle.apply_plan.specs.Json.{list_of, max_bytes, tree_of}
+use Rattle.apply_plan.specs.Results.{or_refuse}
 use Rattle.apply_plan.proofs.Plans.Relative.{relative_joins}
 use Rattle.apply_plan.proofs.Results.{bind_ok, done, guard_ok, ok_is, or_refuse_ok}
-use Rattle.apply_plan.proofs.Plans.WholeList.{read_one_by_one}
+use Rattle.apply_plan.proofs.Plans.WholeList.{changes_one_by_one}
 
 -- what the elements of an accepted plan lead to
-accepted : (bytes : List ℕ) (plan : SavedPlan) → plan_of bytes ≡ Ok plan → (elements : Items) × (changes_after [] elements ≡ Ok plan.changes)
+accepted : (bytes : List ℕ) (plan : SavedPlan) → plan_of bytes ≡ Ok plan → (elements : Items) × (made_after change_after [] elements ≡ Ok plan.changes)
 unfolding plan_of plan_of_tree
 accepted bytes plan e =
     let sized = guard_ok (ltb max_bytes (length bytes)) TooLarge _ plan e in
@@ -30,15 +32,15 @@ accepted bytes plan e =
     let top = bind_ok (or_refuse NotAPlan (header_of parsed.0)) _ plan parsed.2 in
     let few = guard_ok (ltb max_changes (items_len top.0.elements)) TooMany _ plan top.2 in
     let listed = bind_ok (changes_of (list_of top.0.elements)) _ plan few.1 in
-    (top.0.elements, sym (read_one_by_one top.0.elements) ∙ listed.1 ∙ ap (λ (p : SavedPlan). done p.changes) (ok_is _ plan listed.2))
+    (top.0.elements, changes_one_by_one top.0.elements ∙ listed.1 ∙ ap (λ (p : SavedPlan). done p.changes) (ok_is _ plan listed.2))
 
 -- a property that holds of no change and is kept by each further one holds of all changes of a plan
 kept : (P : List ResourceChange → Type 0) → ((earlier : List ResourceChange) (d : Data) (change : ResourceChange) → change_after earlier d ≡ Ok change → P earlier → P (earlier ++ change ∷ []))
-    → (elements : Items) (earlier all : List ResourceChange) → P earlier → changes_after earlier elements ≡ Ok all → P all
-unfolding changes_after
+    → (elements : Items) (earlier all : List ResourceChange) → P earlier → made_after change_after earlier elements ≡ Ok all → P all
+unfolding made_after
 kept P step no_items earlier all holds e = subst P (ok_is earlier all e) holds
 kept P step (item d ds) earlier all holds e =
-    let first = bind_ok (change_after earlier d) (λ change. changes_after (earlier ++ change ∷ []) ds) all e in
+    let first = bind_ok (change_after earlier d) (λ change. made_after change_after (earlier ++ change ∷ []) ds) all e in
     kept P step ds (earlier ++ first.0 ∷ []) all (step earlier d first.0 first.1 holds) first.2
 
 -- ---- each object once
@@ -100,9 +102,3 @@ pub all_joined : (bytes : List ℕ) (plan : SavedPlan) → plan_of bytes ≡ Ok 
 all_joined bytes plan e =
     let listed = accepted bytes plan e in
     kept (AllByRecursion HasRelativeAddress) (λ earlier d change h all. All-push HasRelativeAddress earlier change all (has_relative earlier d change h)) listed.0 [] plan.changes tt listed.1
-
--- ---- members that are not read
-
-pub same_element : (one other : Data) → AgreeOn known_members one other → element_of one ≡ element_of other
-unfolding element_of
-same_element one other agree = rw (agree.0, agree.1.0, agree.1.1.0, agree.1.1.1.0, agree.1.1.1.1.0, agree.1.1.1.1.1.0, agree.1.1.1.1.1.1.0, agree.1.1.1.1.1.1.1.0) refl

@@ -1,5 +1,5 @@
 -- The plan of a tree, by its top level and its elements.
-use Rattle.std.proofs.Common.{◌≡◌, ◌<◌, ◌≤◌, true, false, ltb, [], List, length, Some, Ok, Err, refl}
+use Rattle.std.proofs.Common.{◌≡◌, ◌<◌, ◌≤◌, true, false, ltb, List, length, Some, Ok, Err, refl}
 use Rattle.std.proofs.lemmas.Bool.{le-ltb, lt-ltb}
 use Rattle.serde_json.specs.Data.{Data}
 use Rattle.serde_json.specs.Events.{items_len}
@@ -7,15 +7,12 @@ use Rattle.serde_json.specs.View.{items_view}
 use Rattle.apply_plan.specs.declared.plan.header.Header as in_tree
 use Rattle.apply_plan.specs.declared.plan.plan_error.PlanError.{PlanError}
 use Rattle.apply_plan.specs.declared.plan.plan_error.PlanError.TheVariants.{TooMany}
+use Rattle.apply_plan.specs.Json.{list_of}
 use Rattle.apply_plan.specs.Plan.Header.{header_of}
 use Rattle.apply_plan.specs.Plan.HeaderView.{header_view}
-use Rattle.apply_plan.specs.Plan.SavedPlan.{max_changes, plan_of_tree}
-use Rattle.apply_plan.specs.Plan.OneByOne.{changes_after}
-use Rattle.apply_plan.specs.PlanGives.{Refuses}
 use Rattle.apply_plan.specs.Plan.ResourceChange.{ResourceChange}
-use Rattle.apply_plan.proofs.Plans.OneByOne.{Refuses-follows}
+use Rattle.apply_plan.specs.Plan.SavedPlan.{changes_of, max_changes, plan_of_tree}
 use Rattle.apply_plan.proofs.Trees.{items_len-view}
-use Rattle.apply_plan.proofs.Plans.WholeList.{read_one_by_one}
 
 -- too many elements
 pub too_many : (tree : Data) (header : in_tree.Header) → Some (header_view header) ≡ header_of tree → max_changes < length header.elements.now → plan_of_tree tree ≡ Err TooMany
@@ -24,18 +21,21 @@ too_many tree header top many =
     let more : ltb max_changes (items_len (items_view header.elements.now)) ≡ true = rw (items_len-view header.elements.now) (lt-ltb _ _ many) in
     rw (← top, more) refl
 
+pub few_elements : (header : in_tree.Header) → length header.elements.now ≤ max_changes → items_len (items_view header.elements.now) ≤ max_changes
+few_elements header few = rw (items_len-view header.elements.now) few
+
 -- a faulty element
 pub faulty_changes : (e : PlanError) (tree : Data) (header : in_tree.Header) → Some (header_view header) ≡ header_of tree → length header.elements.now ≤ max_changes
-    → Refuses e (changes_after [] (items_view header.elements.now)) → Refuses e (plan_of_tree tree)
+    → changes_of (list_of (items_view header.elements.now)) ≡ Err e → plan_of_tree tree ≡ Err e
 unfolding plan_of_tree
-faulty_changes e tree header top few h =
+faulty_changes e tree header top few fault =
     let no_more : ltb max_changes (items_len (items_view header.elements.now)) ≡ false = rw (items_len-view header.elements.now) (le-ltb _ _ few) in
-    Refuses-follows e (changes_after [] (items_view header.elements.now)) (plan_of_tree tree) (λ f fault. rw (← top, no_more, read_one_by_one (items_view header.elements.now), fault) refl) h
+    rw (← top, no_more, fault) refl
 
 -- no fault
 pub made : (tree : Data) (header : in_tree.Header) (changes : List ResourceChange) → Some (header_view header) ≡ header_of tree → length header.elements.now ≤ max_changes
-    → changes_after [] (items_view header.elements.now) ≡ Ok changes → plan_of_tree tree ≡ Ok (record { version = header.version.now; changes = changes })
+    → changes_of (list_of (items_view header.elements.now)) ≡ Ok changes → plan_of_tree tree ≡ Ok (record { version = header.version.now; changes = changes })
 unfolding plan_of_tree
 made tree header changes top few h =
     let no_more : ltb max_changes (items_len (items_view header.elements.now)) ≡ false = rw (items_len-view header.elements.now) (le-ltb _ _ few) in
-    rw (← top, no_more, read_one_by_one (items_view header.elements.now), h) refl
+    rw (← top, no_more, h) refl

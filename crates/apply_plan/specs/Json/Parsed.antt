@@ -1,10 +1,11 @@
 -- What a failed parse says of the bytes, for private clauses.
-use Rattle.std.specs.Prelude.{◌≡◌, Option, None}
-use Rattle.serde_json.specs.Data.{Data}
+use Rattle.std.specs.Prelude.{◌≡◌, ◌<◌, ◌≤◌, ℕ, List, length, None}
 use Rattle.apply_plan.specs.declared.json.parsing.JsonFault.{JsonFault}
-use Rattle.apply_plan.specs.declared.json.parsing.JsonFault.TheVariants.{NotJson, Memory}
+use Rattle.apply_plan.specs.declared.json.parsing.JsonFault.TheVariants.{TooLarge, NotJson, Memory}
+use Rattle.apply_plan.specs.Json.{max_bytes, tree_of}
 
--- where memory was not at fault, there is no tree
-abbrev pub IsNoJson : JsonFault → Option Data → Type 0
-IsNoJson NotJson tree = tree ≡ None
-IsNoJson Memory tree = Unit {0}
+-- there are too many bytes, or they are no tree; want of memory says only that there are not too many
+abbrev pub IsNoTree : JsonFault → List ℕ → Type 0
+IsNoTree TooLarge bytes = max_bytes < length bytes
+IsNoTree NotJson bytes = (length bytes ≤ max_bytes) × (tree_of bytes ≡ None)
+IsNoTree Memory bytes = length bytes ≤ max_bytes

@@ -52,6 +52,14 @@ prior_id_of change =
     if hides_id (member_of (codes "before_sensitive") change) then None
     else (member_of (codes "before") change >>= λ before. non_empty_text_of (codes "id") before)
 
+-- what the member `change` says: the actions, and the id before the change
+abbrev pub planned_change_of : Data → Option (Items × Option (List ℕ))
+planned_change_of d = do
+  change ← member_of (codes "change") d
+  list ← member_of (codes "actions") change
+  actions ← as_array list
+  Some (actions, prior_id_of change)
+
 -- the element's members; none where one of them breaks its rule
 unfoldable pub element_of : Data → Option Element
 element_of d = do
@@ -63,9 +71,7 @@ element_of d = do
   module_address ← text_or [] (member_of (codes "module_address") d)
   key ← key_of (member_of (codes "index") d)
   deposed ← text_or [] (member_of (codes "deposed") d)
-  change ← member_of (codes "change") d
-  list ← member_of (codes "actions") change
-  actions ← as_array list
+  planned ← planned_change_of d
   Some (record {
     address = address;
     mode = mode;
@@ -74,6 +80,6 @@ element_of d = do
     module_address = module_address;
     key = key;
     deposed = unless_empty deposed;
-    actions = actions;
-    prior_id = prior_id_of change;
+    actions = planned.0;
+    prior_id = planned.1;
   })

@@ -1,6 +1,6 @@
 -- The plan that bytes are, or the first refusal (JSON Output Format, "Plan Representation").
-use Rattle.std.specs.Prelude.{ℕ, List, [], ◌∷◌, length, map, take, Bool, false, ◌&&◌, nat_lt, if◌then◌else◌, Option, Some, None, Result, Ok, Err}
-use Rattle.std.specs.List.{enumerate_from, list_any}
+use Rattle.std.specs.Prelude.{ℕ, List, length, Bool, false, ◌&&◌, nat_lt, if◌then◌else◌, Option, Some, None, Result, Ok, Err}
+use Rattle.std.specs.List.{list_any}
 use Rattle.std.specs.Option.{option_eq, option_map_or}
 use Rattle.std.specs.Str.{bytes_eq}
 use Rattle.serde_json.specs.Data.{Data}
@@ -13,16 +13,14 @@ use Rattle.apply_plan.specs.Plan.Element.{Element, element_of}
 use Rattle.apply_plan.specs.Plan.Header.{header_of}
 use Rattle.apply_plan.specs.Plan.ResourceChange.{ResourceChange}
 use Rattle.apply_plan.specs.Plan.Steps.{steps_of}
-use Rattle.apply_plan.specs.Json.{list_of, tree_of}
+use Rattle.apply_plan.specs.Results.{◌>>=◌, all_or_first, each_with_earlier, or_refuse}
+use Rattle.apply_plan.specs.Json.{list_of}
+use Rattle.apply_plan.specs.Json.Reading.{of_bytes}
 
 pub record SavedPlan : Type 0 where
   -- the version of Terraform that made it
   pub version : List ℕ
   pub changes : List ResourceChange
-
--- 64 MiB
-abbrev pub max_bytes : ℕ
-max_bytes = 67108864
 
 abbrev pub max_changes : ℕ
 max_changes = 10000
@@ -40,16 +38,6 @@ change_of e steps = record {
   prior_id = e.prior_id;
   steps = steps;
 }
-
-infixl 10 ◌>>=◌
-abbrev pub ◌>>=◌ : {A B : Type 0} → Result A PlanError → (A → Result B PlanError) → Result B PlanError
-(Ok x) >>= f = f x
-(Err e) >>= f = Err e
-
--- a value that has to be there, or the refusal
-abbrev pub or_refuse : {A : Type 0} → PlanError → Option A → Result A PlanError
-or_refuse refusal None = Err refusal
-or_refuse refusal (Some x) = Ok x
 
 -- the change that element n describes, or the first fault that it has by itself
 unfoldable pub planned_at : ℕ → Data → Result ResourceChange PlanError
@@ -69,17 +57,9 @@ change_at before d = do
   change ← planned_at (length before) d
   if list_any (names_object_of change) before then Err (Duplicate (length before)) else Ok change
 
--- all values, or the first refusal among them
-abbrev pub all_or_first : {A : Type 0} → List (Result A PlanError) → Result (List A) PlanError
-all_or_first [] = Ok []
-all_or_first (answer ∷ answers) = do
-  x ← answer
-  xs ← all_or_first answers
-  Ok (x ∷ xs)
-
 -- the changes of the elements, or the fault of the first that has one
 unfoldable pub changes_of : List Data → Result (List ResourceChange) PlanError
-changes_of elements = all_or_first (map (λ p. change_at (take p.0 elements) p.1) (enumerate_from 0 elements))
+changes_of elements = all_or_first (each_with_earlier change_at elements)
 
 unfoldable pub plan_of_tree : Data → Result SavedPlan PlanError
 plan_of_tree d = do
@@ -88,5 +68,6 @@ plan_of_tree d = do
     changes ← changes_of (list_of header.elements)
     Ok (record { version = header.version; changes = changes })
 
+-- the plan that the bytes are, or the first refusal
 unfoldable pub plan_of : List ℕ → Result SavedPlan PlanError
-plan_of bytes = if nat_lt max_bytes (length bytes) then Err TooLarge else (or_refuse NotJson (tree_of bytes) >>= plan_of_tree)
+plan_of bytes = of_bytes TooLarge NotJson plan_of_tree bytes

@@ -3,8 +3,8 @@
 ghost use Rattle.std.specs.Prelude.{◌≡◌, option_map};
 ghost use Rattle.std.specs.Option.{option_copied};
 ghost use Rattle.serde_json.specs.View.{view};
-ghost use Rattle.apply_plan.specs.Plan.Element.{element_of, hides_id, is_true, key_of, mode_named, prior_id_of};
-ghost use Rattle.apply_plan.specs.Plan.ElementView.{element_view, key_view};
+ghost use Rattle.apply_plan.specs.Plan.Element.{element_of, hides_id, is_true, key_of, mode_named, planned_change_of, prior_id_of};
+ghost use Rattle.apply_plan.specs.Plan.ElementView.{element_view, key_view, planned_view};
 ghost use Rattle.apply_plan.specs.Json.{member_of};
 
 use crate::json::members::{member, non_empty, non_empty_text_member, text_member, text_member_or};
@@ -46,8 +46,7 @@ impl<'a> Element<'a> {
         let module_address = text_member_or(value, "module_address", "")?;
         let key = index_key(member(value, "index"))?;
         let deposed = text_member_or(value, "deposed", "")?;
-        let change = member(value, "change")?;
-        let actions = member(change, "actions")?.as_array()?;
+        let (actions, prior_id) = planned_change(value)?;
         Some(Element {
             address,
             mode,
@@ -57,9 +56,18 @@ impl<'a> Element<'a> {
             key,
             deposed: non_empty(deposed),
             actions,
-            prior_id: prior_id(change),
+            prior_id,
         })
     }
+}
+
+/// The list of actions and the id before the change. `None` where there is no such list.
+fn planned_change(value: &Value) -> Option<(&[Value], Option<&str>)>
+    ensures { option_map planned_view result ≡ planned_change_of (view value.now) }
+{
+    let change = member(value, "change")?;
+    let actions = member(change, "actions")?.as_array()?;
+    Some((actions, prior_id(change)))
 }
 
 fn mode_of(word: &str) -> Option<Mode>

@@ -3,9 +3,8 @@
 ghost use Rattle.std.specs.Prelude.{◌≡◌, ℕ, List, Ok};
 ghost use Rattle.std.specs.List.{AllByRecursion};
 ghost use Rattle.serde_json.specs.Data.{Data};
-ghost use Rattle.apply_plan.specs.Plan.Element.{element_of};
-ghost use Rattle.apply_plan.specs.Plan.Laws.{AgreeOn, HasRelativeAddress, NamesEachObjectOnce, known_members};
-ghost use Rattle.apply_plan.specs.Plan.SavedPlan.{SavedPlan, plan_of};
+ghost use Rattle.apply_plan.specs.Plan.Laws.{HasRelativeAddress, NamesEachObjectOnce, SaySamePlan};
+ghost use Rattle.apply_plan.specs.Plan.SavedPlan.{SavedPlan, plan_of, plan_of_tree};
 
 /// An accepted plan changes each object once: no two of its changes have one address and one deposed key.
 pub fn each_object_is_named_once()
@@ -20,9 +19,8 @@ pub fn relative_addresses_join_their_module()
         → AllByRecursion HasRelativeAddress plan.changes }
 {}
 
-/// Of an element the known members alone are read: two elements that agree on those are read alike, whatever else they
-/// hold.
+/// Unknown members are ignored, wherever they stand: two trees that agree on the members that are read, at the top level,
+/// in the elements, in their `change` and in its `before`, are read alike, whatever else they hold.
 pub fn other_members_are_ignored()
-    ensures { (one other : Data) → AgreeOn known_members one other
-        → element_of one ≡ element_of other }
+    ensures { (one other : Data) → SaySamePlan one other → plan_of_tree one ≡ plan_of_tree other }
 {}

@@ -1,14 +1,14 @@
 //! Reading the elements as the definition says it: each is compared with every one before it, slow and plain. Tests
 //! compare the reader with it.
 
-ghost use Rattle.std.specs.Prelude.{◌≡◌, ◌≤◌, [], length, vec_len, IfOk};
+ghost use Rattle.std.specs.Prelude.{◌≡◌, ◌≤◌, length, vec_len, IfOk};
 ghost use Rattle.std.specs.List.{list_any};
 ghost use Rattle.serde_json.specs.View.{items_view};
-ghost use Rattle.apply_plan.specs.Plan.SavedPlan.{max_changes};
-ghost use Rattle.apply_plan.specs.Plan.OneByOne.{changes_after};
-ghost use Rattle.apply_plan.specs.PlanGives.{Gives};
+ghost use Rattle.apply_plan.specs.Json.{list_of};
+ghost use Rattle.apply_plan.specs.Plan.SavedPlan.{changes_of, max_changes};
 ghost use Rattle.apply_plan.specs.Plan.PlannedView.{planned_view};
 ghost use Rattle.apply_plan.specs.Plan.ResourceChange.{is_same_object};
+ghost use Rattle.apply_plan.specs.Results.{Gives};
 
 use crate::plan::change::Change;
 use crate::plan::plan_error::PlanError;
@@ -31,8 +31,8 @@ fn is_repeated(changes: &[Change], planned: &Planned<'_>) -> bool
 /// The changes of the elements, each compared with every one before it.
 pub fn changes_of(alloc: Global, elements: &[Value]) -> Result<Vec<Change>, PlanError>
     requires { length elements.now ≤ max_changes }
-    ensures defined { Gives (λ changes. changes.items) result
-        (changes_after [] (items_view elements.now)) }
+    ensures defined { Gives PlanError.Memory (λ changes. changes.items) result
+        (changes_of (list_of (items_view elements.now))) }
     ensures count { IfOk result (λ changes. vec_len changes ≡ length elements.now) }
 {
     let mut changes = Vec::new(alloc);

@@ -20,14 +20,14 @@ pub struct Planned<'a> {
 
 impl<'a> Planned<'a> {
     ghost use Rattle.apply_plan.specs.Plan.SavedPlan.{planned_at};
-    ghost use Rattle.apply_plan.specs.PlanGives.{Gives};
     ghost use Rattle.apply_plan.specs.Plan.PlannedView.{planned_view};
+    ghost use Rattle.apply_plan.specs.Results.{IsExactly};
     ghost use Rattle.serde_json.specs.View.{view};
 
-    /// The element of that number, or the first fault that it has by itself.
+    /// The element of that number, or the first fault that it has by itself. No memory is taken.
     #[tactic(auto, unfolding(crate::specs::Plan::SavedPlan::planned_at))]
     pub fn of(number: u32, value: &'a Value) -> Result<Planned<'a>, PlanError>
-        ensures { Gives planned_view result (planned_at number (view value.now)) }
+        ensures { IsExactly planned_view result (planned_at number (view value.now)) }
     {
         let Some(element) = Element::of(value) else {
             return Err(PlanError::BadChange(number));

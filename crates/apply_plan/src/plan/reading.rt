@@ -1,10 +1,12 @@
 //! Reading a plan.
 
-ghost use Rattle.std.specs.Prelude.{◌≡◌, ◌≤◌, [], length, vec_len, Err, IfOk};
+ghost use Rattle.std.specs.Prelude.{◌≡◌, ◌≤◌, length, vec_len, IfOk, Some};
+ghost use Rattle.serde_json.specs.Events.{items_len};
 ghost use Rattle.serde_json.specs.View.{view, items_view};
-ghost use Rattle.apply_plan.specs.Plan.SavedPlan.{max_bytes, max_changes, plan_of, plan_of_tree};
-ghost use Rattle.apply_plan.specs.Plan.OneByOne.{changes_after};
-ghost use Rattle.apply_plan.specs.PlanGives.{Gives};
+ghost use Rattle.apply_plan.specs.Json.{list_of, max_bytes};
+ghost use Rattle.apply_plan.specs.Plan.Header.{Header as TopLevel, header_of};
+ghost use Rattle.apply_plan.specs.Plan.SavedPlan.{changes_of, max_changes, plan_of, plan_of_tree};
+ghost use Rattle.apply_plan.specs.Results.{Gives};
 
 use crate::json::parsing::{JsonFault, parse};
 use crate::plan::Plan;
@@ -18,17 +20,14 @@ use crate::text::Text;
 use serde_json::Value;
 use std::alloc::Global;
 
-/// The greatest size of a plan, in bytes: 64 MiB.
-pub const MAX_BYTES: usize = 67_108_864;
-
 /// The greatest number of changes in a plan.
 pub const MAX_CHANGES: usize = 10_000;
 
 /// The changes of the elements.
 pub(crate) fn changes_of(alloc: Global, elements: &[Value]) -> Result<Vec<Change>, PlanError>
     requires { length elements.now ≤ max_changes }
-    ensures defined { Gives (λ changes. changes.items) result
-        (changes_after [] (items_view elements.now)) }
+    ensures defined { Gives PlanError.Memory (λ changes. changes.items) result
+        (changes_of (list_of (items_view elements.now))) }
     ensures count { IfOk result (λ changes. vec_len changes ≡ length elements.now) }
 {
     let mut changes = Vec::with_capacity(alloc, elements.len())?;
@@ -47,7 +46,10 @@ pub(crate) fn changes_of(alloc: Global, elements: &[Value]) -> Result<Vec<Change
 /// The plan that the tree is.
 #[tactic(auto, unfolding(crate::specs::Plan::SavedPlan::plan_of_tree))]
 fn plan_of_value(alloc: Global, tree: &Value) -> Result<Plan, PlanError>
-    ensures { Gives (λ plan. plan) result (plan_of_tree (view tree.now)) }
+    ensures defined { Gives PlanError.Memory (λ plan. plan) result (plan_of_tree (view tree.now)) }
+    // Memory is not asked for before the top level was found to be in order.
+    ensures memory { result ≡ Err PlanError.Memory → (top : TopLevel)
+        × (header_of (view tree.now) ≡ Some top) × (items_len top.elements ≤ max_changes) }
 {
     let Some(header) = Header::of(tree) else {
         return Err(PlanError::NotAPlan);
@@ -67,14 +69,12 @@ fn plan_of_value(alloc: Global, tree: &Value) -> Result<Plan, PlanError>
 /// met, and never for a plan that is too large.
 #[tactic(auto, unfolding(crate::specs::Plan::SavedPlan::plan_of))]
 pub fn read_plan(alloc: Global, bytes: &[u8]) -> Result<Plan, PlanError>
-    ensures defined { Gives (λ plan. plan) result (plan_of bytes.now) }
+    ensures defined { Gives PlanError.Memory (λ plan. plan) result (plan_of bytes.now) }
     ensures memory { result ≡ Err PlanError.Memory → length bytes.now ≤ max_bytes }
 {
-    if bytes.len() > MAX_BYTES {
-        return Err(PlanError::TooLarge);
-    }
     match parse(alloc, bytes) {
         Ok(tree) => plan_of_value(alloc, &tree),
+        Err(JsonFault::TooLarge) => Err(PlanError::TooLarge),
         Err(JsonFault::NotJson) => Err(PlanError::NotJson),
         Err(JsonFault::Memory) => Err(PlanError::Memory),
     }

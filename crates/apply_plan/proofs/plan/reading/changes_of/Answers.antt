@@ -1,32 +1,46 @@
-use Rattle.std.proofs.Common.{[], ◌∷◌, arith}
+use Rattle.std.proofs.Common.{[], ◌∷◌, ◌∙◌, arith, rules}
 use Rattle.std.proofs.lemmas.List.{length-append}
 use Rattle.std.proofs.lemmas.Result.{err_from_is_err_and}
-use Rattle.serde_json.specs.View.{view}
-use Rattle.apply_plan.proofs.Plans.OneByOne.{faulty, goes_on, is_done, next_is, repeats}
+use Rattle.serde_json.specs.View.{view, items_view}
+use Rattle.apply_plan.specs.Plan.OneByOne.{change_after}
+use Rattle.apply_plan.proofs.OneByOne.{goes_on, is_done, refused}
 use Rattle.apply_plan.proofs.Plans.Seen.{HaveBeenSeen-push, was_named, was_not_named}
+use Rattle.apply_plan.proofs.Plans.WholeList.{changes_one_by_one, faulty, is_new, repeats}
 use Rattle.apply_plan.proofs.plan.reading.changes_of.Goals as goal
+
+pub loop-number-init : goal.loop-number-init
+loop-number-init c =
+    record {
+      count = search rules;
+      seen = λ id. rw c.in_ok-changes.ensures.items (c.new-seen.ensures id);
+      read = rw c.in_ok-changes.ensures.items (changes_one_by_one (items_view c.args.elements.now));
+    }
 
 pub returns-in_err-planned-clause-defined : goal.returns-in_err-planned-clause-defined
 returns-in_err-planned-clause-defined c =
     let p = err_from_is_err_and c.from_residual-in_err-planned.result c.from_residual-in_err-planned.ensures.1 in
-    let read = next_is c.loop-number.changes.items c.args.elements.now c.loop-number.number c.index-elements-number.result _ c.loop-number-test.true c.index-elements-number.is c.loop-number.invariant.read in
-    rw (p.1, p.2) (faulty c.in_err-planned.field-0.0 c.loop-number.changes.items c.loop-number.number (view c.index-elements-number.result) _ _ c.loop-number.invariant.count c.in_err-planned.ensures read)
+    let made = c.loop-number.changes.items in
+    rw (p.1, p.2)
+    (λ memory. refused change_after made c.args.elements.now c.loop-number.number c.index-elements-number.result _ _ c.loop-number-test.true c.index-elements-number.is c.loop-number.invariant.read
+    (faulty made c.loop-number.number (view c.index-elements-number.result) _ c.loop-number.invariant.count c.in_err-planned.ensures))
 
 pub returns-then-not-branch-clause-defined : goal.returns-then-not-branch-clause-defined
 returns-then-not-branch-clause-defined c =
-    let read = next_is c.loop-number.changes.items c.args.elements.now c.loop-number.number c.index-elements-number.result _ c.loop-number-test.true c.index-elements-number.is c.loop-number.invariant.read in
-    let named = was_named c.loop-number.seen c.loop-number.changes.items c.of-in-loop-number.result c.in_ok-planned.planned c.in_ok-insert.field-0 c.of-in-loop-number.ensures.address c.of-in-loop-number.ensures.deposed c.loop-number.invariant.seen c.in_ok-insert.ensures.fresh c.if-not-branch.true in
-    repeats c.loop-number.changes.items c.loop-number.number (view c.index-elements-number.result) _ _ _ c.loop-number.invariant.count c.in_ok-planned.ensures named read
+    let made = c.loop-number.changes.items in
+    let named = was_named c.loop-number.seen made c.of-in-loop-number.result c.in_ok-planned.planned c.in_ok-insert.field-0 c.of-in-loop-number.ensures.address c.of-in-loop-number.ensures.deposed c.loop-number.invariant.seen c.in_ok-insert.ensures.fresh c.if-not-branch.true in
+    λ memory. refused change_after made c.args.elements.now c.loop-number.number c.index-elements-number.result _ _ c.loop-number-test.true c.index-elements-number.is c.loop-number.invariant.read
+    (repeats made c.loop-number.number (view c.index-elements-number.result) _ c.loop-number.invariant.count c.in_ok-planned.ensures named)
 
 pub loop-number-preserved : goal.loop-number-preserved
 loop-number-preserved c =
-    let read = next_is c.loop-number.changes.items c.args.elements.now c.loop-number.number c.index-elements-number.result _ c.loop-number-test.true c.index-elements-number.is c.loop-number.invariant.read in
-    let new = was_not_named c.loop-number.seen c.loop-number.changes.items c.of-in-loop-number.result c.in_ok-planned.planned c.in_ok-insert.field-0 c.of-in-loop-number.ensures.address c.of-in-loop-number.ensures.deposed c.loop-number.invariant.seen c.in_ok-insert.ensures.fresh c.if-not-branch.false in
+    let made = c.loop-number.changes.items in
+    let new = was_not_named c.loop-number.seen made c.of-in-loop-number.result c.in_ok-planned.planned c.in_ok-insert.field-0 c.of-in-loop-number.ensures.address c.of-in-loop-number.ensures.deposed c.loop-number.invariant.seen c.in_ok-insert.ensures.fresh c.if-not-branch.false in
     record {
-      count = rw c.in_ok-push.ensures.items (omega (arith, length-append c.loop-number.changes.items (c.in_ok-new.field-0 ∷ [])));
-      seen = rw (c.in_ok-push.ensures.items, c.in_ok-new.ensures) (HaveBeenSeen-push c.loop-number.seen c.insert.new.self c.loop-number.changes.items c.of-in-loop-number.result c.in_ok-planned.planned c.of-in-loop-number.ensures.address c.of-in-loop-number.ensures.deposed c.loop-number.invariant.seen c.in_ok-insert.ensures.added);
-      read = rw (c.in_ok-push.ensures.items, c.in_ok-new.ensures) (goes_on c.loop-number.changes.items c.loop-number.number (view c.index-elements-number.result) _ _ _ c.loop-number.invariant.count c.in_ok-planned.ensures new read);
+      count = rw c.in_ok-push.ensures.items (omega (arith, length-append made (c.in_ok-new.field-0 ∷ [])));
+      seen = rw (c.in_ok-push.ensures.items, c.in_ok-new.ensures) (HaveBeenSeen-push c.loop-number.seen c.insert.new.self made c.of-in-loop-number.result c.in_ok-planned.planned c.of-in-loop-number.ensures.address c.of-in-loop-number.ensures.deposed c.loop-number.invariant.seen c.in_ok-insert.ensures.added);
+      read = rw (c.in_ok-push.ensures.items, c.in_ok-new.ensures) (goes_on change_after made c.args.elements.now c.loop-number.number c.index-elements-number.result _ _ c.loop-number-test.true c.index-elements-number.is c.loop-number.invariant.read
+      (is_new made c.loop-number.number (view c.index-elements-number.result) _ c.loop-number.invariant.count c.in_ok-planned.ensures new));
     }
 
 pub returns-clause-defined : goal.returns-clause-defined
-returns-clause-defined c = is_done c.loop-number.changes.items c.args.elements.now c.loop-number.number _ c.loop-number-test.false c.loop-number.invariant.read
+returns-clause-defined c = is_done change_after c.loop-number.changes.items c.args.elements.now c.loop-number.number _ c.loop-number-test.false c.loop-number.invariant.read

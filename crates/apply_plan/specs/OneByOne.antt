@@ -1,0 +1,11 @@
+-- Reading a list as a loop does, for private clauses: each element behind what was made of the elements before it.
+use Rattle.std.specs.Prelude.{List, [], ◌∷◌, ◌++◌, Result, Ok}
+use Rattle.serde_json.specs.Data.{Data, Items, no_items, item}
+use Rattle.apply_plan.specs.Results.{◌>>=◌}
+
+-- what was made before the elements, and then of the elements, or the first refusal
+unfoldable pub made_after : {A E : Type 0} → (List A → Data → Result A E) → List A → Items → Result (List A) E
+made_after answer earlier no_items = Ok earlier
+made_after answer earlier (item d ds) = do
+  made ← answer earlier d
+  made_after answer (earlier ++ made ∷ []) ds
