@@ -2,3 +2,4 @@ pub mod Json
 pub mod OneByOne
 pub mod Plan
 pub mod Results
+pub mod Script

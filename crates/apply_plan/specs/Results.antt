@@ -1,5 +1,5 @@
 -- Answers that may be refusals: one step after another, and the answers for a whole list.
-use Rattle.std.specs.Prelude.{◌≡◌, ◌≢◌, ℕ, List, [], ◌∷◌, map, take, Option, Some, None, Result, Ok, Err}
+use Rattle.std.specs.Prelude.{◌≡◌, ◌≢◌, List, [], ◌∷◌, map, take, Option, Some, None, Result, Ok, Err}
 use Rattle.std.specs.List.{enumerate_from}
 
 infixl 10 ◌>>=◌

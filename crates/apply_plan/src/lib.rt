@@ -1,8 +1,9 @@
-//! Saved Terraform plans (JSON Output Format 1.x): what a plan is, and how it is read.
+//! Saved Terraform plans (JSON Output Format 1.x) and scripts of outcomes: what they are, and how they are read.
 #![tactic(auto)]
 
 mod json;
 mod plan;
+mod script;
 mod text;
 
 pub use json::parsing::MAX_BYTES;
@@ -16,6 +17,12 @@ pub use plan::mode::Mode;
 pub use plan::plan_error::PlanError;
 pub use plan::reading::{MAX_CHANGES, read_plan};
 pub use plan::step_kind::StepKind;
+pub use script::Script;
+pub use script::diag::Diag;
+pub use script::ending::Ending;
+pub use script::outcome::{MAX_SECONDS, Outcome};
+pub use script::reading::read_script;
+pub use script::script_error::ScriptError;
 pub use text::Text;
 
 #[cfg(test)]

@@ -16,10 +16,10 @@ use Rattle.apply_plan.specs.declared.plan.planned.Planned.{Planned}
 use Rattle.apply_plan.specs.declared.plan.seen_objects.SeenObjects.{SeenObjects}
 use Rattle.apply_plan.specs.Plan.PlannedView.{planned_view}
 use Rattle.apply_plan.specs.Plan.ResourceChange.{ResourceChange, is_same_object}
-use Rattle.apply_plan.specs.Plan.SeenObjects.{has_seen, is_same_id}
+use Rattle.apply_plan.specs.Plan.SeenObjects.{has_seen, is_of, is_same_id}
 
 -- the order finds two objects equal just where they are the same
-abbrev OrdersObjects : (ObjectId → ObjectId → Ordering) → Type 0
+abbrev pub OrdersObjects : (ObjectId → ObjectId → Ordering) → Type 0
 OrdersObjects cmp = (one other : ObjectId) → is_eq (cmp one other) ≡ is_same_id one other
 
 any_same : (p q : ObjectId → Bool) → ((id : ObjectId) → p id ≡ q id) → (ids : List ObjectId) → list_any p ids ≡ list_any q ids
@@ -41,7 +41,7 @@ keys_ordered None (Some other) = refl
 keys_ordered (Some one) None = refl
 keys_ordered (Some one) (Some other) = is_eq-slice_cmp one.now other.now
 
-orders : OrdersObjects by_address_and_key
+pub orders : OrdersObjects by_address_and_key
 orders one other =
     then_is_eq (slice_cmp nat_cmp one.address.now other.address.now) (option_cmp (λ a b. slice_cmp nat_cmp a.now b.now) one.deposed other.deposed)
     ∙ (rw (is_eq-slice_cmp one.address.now other.address.now, keys_ordered one.deposed other.deposed) refl)
@@ -57,10 +57,6 @@ or_from_cond false b = refl
 pub added_is : (old new : BTreeSet ObjectId) (id : ObjectId) → Updates by_address_and_key old new id true
     → (other : ObjectId) → list_any (is_same_id other) new.keys ≡ (is_same_id id other || list_any (is_same_id other) old.keys)
 added_is old new id updates other = sym (contains_is new other) ∙ updates.0 other ∙ rw (orders id other, contains_is old other) (or_from_cond (is_same_id id other) (list_any (is_same_id other) old.keys))
-
--- a change is of that object
-abbrev pub is_of : ObjectId → ResourceChange → Bool
-is_of id change = bytes_eq change.address id.address.now && option_eq bytes_eq change.deposed (option_copied id.deposed)
 
 -- the set has the objects of the changes and no others
 abbrev pub HaveBeenSeen : SeenObjects → List ResourceChange → Type 0

@@ -1,5 +1,5 @@
 -- Reading the elements one by one, behind the changes so far, gives the changes that are defined over the whole list.
-use Rattle.std.proofs.Common.{◌≡◌, ℕ, ◌+◌, Bool, true, false, Option, List, [], ◌∷◌, ◌++◌, length, cond, Result, Ok, Err, refl, sym, ap, subst, ◌∙◌, arith}
+use Rattle.std.proofs.Common.{◌≡◌, ℕ, Bool, true, false, Option, List, [], ◌∷◌, ◌++◌, length, cond, Ok, Err, refl, ap, subst, ◌∙◌, arith}
 use Rattle.std.specs.List.{list_any}
 use Rattle.std.specs.Prelude.{◌&&◌}
 use Rattle.std.specs.Option.{option_eq, option_map_or}
@@ -17,7 +17,7 @@ use Rattle.apply_plan.specs.Plan.OneByOne.{change_after}
 use Rattle.apply_plan.specs.Plan.ResourceChange.{ResourceChange, is_same_object}
 use Rattle.apply_plan.specs.Plan.SavedPlan.{change_at, change_of, changes_of, names_object_of, planned_at}
 use Rattle.apply_plan.specs.Plan.Steps.{steps_of}
-use Rattle.apply_plan.specs.Results.{◌>>=◌, or_refuse}
+use Rattle.apply_plan.specs.Results.{or_refuse}
 use Rattle.apply_plan.proofs.Results.{bind_ok, bind_same, guard_ok, ok_is, or_refuse_ok}
 use Rattle.apply_plan.proofs.WholeList.{AnswersAlike, read_one_by_one}
 

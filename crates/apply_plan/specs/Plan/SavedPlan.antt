@@ -1,5 +1,5 @@
 -- The plan that bytes are, or the first refusal (JSON Output Format, "Plan Representation").
-use Rattle.std.specs.Prelude.{ℕ, List, length, Bool, false, ◌&&◌, nat_lt, if◌then◌else◌, Option, Some, None, Result, Ok, Err}
+use Rattle.std.specs.Prelude.{ℕ, List, length, Bool, false, ◌&&◌, nat_lt, if◌then◌else◌, Result, Ok, Err}
 use Rattle.std.specs.List.{list_any}
 use Rattle.std.specs.Option.{option_eq, option_map_or}
 use Rattle.std.specs.Str.{bytes_eq}

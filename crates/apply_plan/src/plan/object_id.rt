@@ -1,7 +1,9 @@
 //! Which object a change is of.
 
 ghost use Rattle.std.specs.Prelude.{◌≡◌};
+ghost use Rattle.std.specs.Option.{option_copied};
 
+use crate::plan::change::Change;
 use crate::plan::planned::Planned;
 
 /// The address of an object, and the key of a deposed one. No two changes of a plan have both in common.
@@ -20,6 +22,17 @@ impl<'a> ObjectId<'a> {
         ObjectId {
             address: planned.element.address,
             deposed: planned.element.deposed,
+        }
+    }
+
+    /// The object that the change is of.
+    pub fn of_change(change: &'a Change) -> ObjectId<'a>
+        ensures address { result.address.now ≡ change.now.address }
+        ensures deposed { option_copied result.deposed ≡ change.now.deposed }
+    {
+        ObjectId {
+            address: change.address(),
+            deposed: change.deposed(),
         }
     }
 }

@@ -1,4 +1,4 @@
-use Rattle.std.proofs.Common.{[], ◌∷◌, ◌∙◌, arith, rules}
+use Rattle.std.proofs.Common.{[], ◌∷◌, arith, rules}
 use Rattle.std.proofs.lemmas.List.{length-append}
 use Rattle.std.proofs.lemmas.Result.{err_from_is_err_and}
 use Rattle.serde_json.specs.View.{view, items_view}
@@ -39,7 +39,7 @@ loop-number-preserved c =
       count = rw c.in_ok-push.ensures.items (omega (arith, length-append made (c.in_ok-new.field-0 ∷ [])));
       seen = rw (c.in_ok-push.ensures.items, c.in_ok-new.ensures) (HaveBeenSeen-push c.loop-number.seen c.insert.new.self made c.of-in-loop-number.result c.in_ok-planned.planned c.of-in-loop-number.ensures.address c.of-in-loop-number.ensures.deposed c.loop-number.invariant.seen c.in_ok-insert.ensures.added);
       read = rw (c.in_ok-push.ensures.items, c.in_ok-new.ensures) (goes_on change_after made c.args.elements.now c.loop-number.number c.index-elements-number.result _ _ c.loop-number-test.true c.index-elements-number.is c.loop-number.invariant.read
-      (is_new made c.loop-number.number (view c.index-elements-number.result) _ c.loop-number.invariant.count c.in_ok-planned.ensures new));
+          (is_new made c.loop-number.number (view c.index-elements-number.result) _ c.loop-number.invariant.count c.in_ok-planned.ensures new));
     }
 
 pub returns-clause-defined : goal.returns-clause-defined

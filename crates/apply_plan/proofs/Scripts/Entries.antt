@@ -1,0 +1,239 @@
+-- What entries say: the change that one is about, and what several say of each change.
+use Rattle.std.proofs.Common.{◌≡◌, ℕ, zero, suc, ◌+◌, ◌<◌, ◌≤◌, Bool, true, false, cond, List, [], ◌∷◌, ◌++◌, length, map, get_or, set, Option, Some, None, option_map, IfSome, refl, sym, ap, subst, ◌∙◌, add-one, arith, ⊎_elim}
+use Rattle.std.specs.Prelude.{◌&&◌, ◌||◌, find, is_some, slice_get, ◌==◌}
+use Rattle.std.specs.List.{count_by, enumerate_from, list_any, range_with_len}
+use Rattle.std.specs.Option.{option_eq, option_or}
+use Rattle.std.specs.Str.{bytes_eq}
+use Rattle.std.proofs.lemmas.Bool.{cases_Bool, cases_lt, ltb-false}
+use Rattle.std.proofs.lemmas.Bool.Decides.{eqb_tells}
+use Rattle.std.proofs.lemmas.List.{get_or-set_other, get_or-set_same, length-set, same_lists}
+use Rattle.std.proofs.lemmas.List.Folds.{list_any_at}
+use Rattle.std.proofs.lemmas.List.FromFn.{get_or-map-range_with_len, length-map-range_with_len}
+use Rattle.std.proofs.lemmas.List.Sums.{sum_by-cons, sum_by-set}
+use Rattle.std.proofs.lemmas.Option.{get_or_from_slice_get, slice_get-get_or, slice_get_past, slice_get_within, some_pair_parts}
+use Rattle.std.proofs.lemmas.Slice.Eq.{bytes_eq-Decides}
+use Rattle.apply_plan.specs.declared.script.outcome.Outcome.{Outcome}
+use Rattle.apply_plan.specs.Plan.ResourceChange.{ResourceChange}
+use Rattle.apply_plan.specs.Json.{◌>>=◌}
+use Rattle.apply_plan.specs.Script.Entry.{Entry}
+use Rattle.apply_plan.specs.Script.Outcome.{is_too_long, max_seconds}
+use Rattle.apply_plan.specs.Script.Outcomes.{IsInRange, Outcomes, by_number, change_of_entry, is_about, said_at, said_of}
+
+-- ---- the change that an entry is about
+
+record IsFirst (p : ResourceChange → Bool) (changes : List ResourceChange) (s n : ℕ) (change : ResourceChange) : Type 0 where
+  place : ℕ
+  number : n ≡ s + place
+  stands : slice_get changes place ≡ Some change
+  passes : p change ≡ true
+
+found_from : (p : ResourceChange → Bool) (s : ℕ) (changes : List ResourceChange) (n : ℕ) (change : ResourceChange) → find (λ e. p e.1) (enumerate_from s changes) ≡ Some (n, change) → IsFirst p changes s n change
+found_from p s [] n change found = absurd cc
+found_from p s (first ∷ others) n change found =
+    ⊎_elim
+    (λ (yes : p first ≡ true).
+    let here : cond true (Some (s, first)) (find (λ e. p e.1) (enumerate_from (s + 1) others)) ≡ Some (n, change) = rw yes at found in
+    let parts = some_pair_parts s n first change here in
+    let number = parts.0 in
+    record { place = 0; number = omega (arith, number); stands = ap (λ (c : ResourceChange). Some c) parts.1; passes = ap p (sym parts.1) ∙ yes })
+    (λ (no : p first ≡ false).
+    let later : find (λ e. p e.1) (enumerate_from (s + 1) others) ≡ Some (n, change) = rw no at found in
+    let rest = found_from p (s + 1) others n change later in
+    let number = rest.number in
+    record { place = suc rest.place; number = omega (arith, number); stands = rest.stands; passes = rest.passes })
+    (cases_Bool (p first))
+
+-- the entry is about the change of that number
+pub record IsChangeOf (changes : List ResourceChange) (entry : Entry) (number : ℕ) (change : ResourceChange) : Type 0 where
+  pub found : change_of_entry changes entry ≡ Some (number, change)
+  pub stands : slice_get changes number ≡ Some change
+  pub about : is_about change entry ≡ true
+
+pub change_is : (changes : List ResourceChange) (entry : Entry) (number : ℕ) (change : ResourceChange) → change_of_entry changes entry ≡ Some (number, change) → IsChangeOf changes entry number change
+change_is changes entry number change found =
+    let first = found_from (λ c. is_about c entry) 0 changes number change found in
+    let same : first.place ≡ number = omega (arith, first.number) in
+    record { found = found; stands = subst (λ (i : ℕ). slice_get changes i ≡ Some change) same first.stands; about = first.passes }
+
+-- the same where the number is known
+numbered : (o : Option (ℕ × ResourceChange)) (number : ℕ) → option_map (λ p. p.0) o ≡ Some number → (change : ResourceChange) × (o ≡ Some (number, change))
+numbered None number e = absurd cc
+numbered (Some p) number e =
+    let same : p.0 ≡ number = cc in
+    (p.1, ap (λ (n : ℕ). Some (n, p.1)) same)
+
+pub change_numbered : (changes : List ResourceChange) (entry : Entry) (number : ℕ) (change : ResourceChange) → Some number ≡ option_map (λ p. p.0) (change_of_entry changes entry) → Some change ≡ slice_get changes number
+    → IsChangeOf changes entry number change
+change_numbered changes entry number change known stands =
+    let some = numbered (change_of_entry changes entry) number (sym known) in
+    let is = change_is changes entry number some.0 some.1 in
+    let same : some.0 ≡ change = let both : Some some.0 ≡ Some change = sym is.stands ∙ sym stands in cc in
+    subst (λ (c : ResourceChange). IsChangeOf changes entry number c) same is
+
+pub some_change : (changes : List ResourceChange) (entry : Entry) (number : ℕ) → Some number ≡ option_map (λ p. p.0) (change_of_entry changes entry) → (change : ResourceChange) × IsChangeOf changes entry number change
+some_change changes entry number known =
+    let some = numbered (change_of_entry changes entry) number (sym known) in
+    (some.0, change_is changes entry number some.0 some.1)
+
+pub is_numbered : (changes : List ResourceChange) (entry : Entry) (number : ℕ) → Some number ≡ option_map (λ p. p.0) (change_of_entry changes entry) → number < length changes
+is_numbered changes entry number known =
+    let some = numbered (change_of_entry changes entry) number (sym known) in
+    slice_get_within changes number some.0 (change_is changes entry number some.0 some.1).stands
+
+pub not_numbered : (o : Option (ℕ × ResourceChange)) → None ≡ option_map (λ (p : ℕ × ResourceChange). p.0) o → o ≡ None
+not_numbered None e = refl
+not_numbered (Some p) e = absurd cc
+
+both_true : (a b : Bool) → (a && b) ≡ true → (a ≡ true) × (b ≡ true)
+both_true true b e = (refl, e)
+both_true false b e = absurd cc
+
+option_eq-same : (one other : Option (List ℕ)) → option_eq bytes_eq one other ≡ true → one ≡ other
+option_eq-same None None e = refl
+option_eq-same None (Some other) e = absurd cc
+option_eq-same (Some one) None e = absurd cc
+option_eq-same (Some one) (Some other) e = ap (λ (text : List ℕ). Some text) ((bytes_eq-Decides one other).0 e)
+
+about_object : (change : ResourceChange) (entry : Entry) → is_about change entry ≡ true → (change.address ≡ entry.address) × (change.deposed ≡ entry.deposed)
+about_object change entry e =
+    let parts = both_true (bytes_eq change.address entry.address) (option_eq bytes_eq change.deposed entry.deposed) e in
+    ((bytes_eq-Decides change.address entry.address).0 parts.0, option_eq-same change.deposed entry.deposed parts.1)
+
+-- two entries are about one change just where their changes have one number
+pub about_same : (changes : List ResourceChange) (entry other : Entry) (number at : ℕ) (change theirs : ResourceChange) → IsChangeOf changes entry number change → IsChangeOf changes other at theirs
+    → is_about change other ≡ (at == number)
+about_same changes entry other number at change theirs is are =
+    ⊎_elim
+    (λ same.
+    let both : Some theirs ≡ Some change = sym are.stands ∙ ap (λ (i : ℕ). slice_get changes i) same.1 ∙ is.stands in
+    let one : theirs ≡ change = cc in
+    ap (λ (c : ResourceChange). is_about c other) (sym one) ∙ are.about ∙ sym same.0)
+    (λ apart.
+    ⊎_elim
+    (λ (yes : is_about change other ≡ true).
+    let mine = about_object change entry is.about in
+    let its = about_object change other yes in
+    let found : change_of_entry changes entry ≡ change_of_entry changes other = rw (← mine.0, ← mine.1, its.0, its.1) refl in
+    let parts = some_pair_parts number at change theirs (sym is.found ∙ found ∙ are.found) in
+    absurd (apart.1 (sym parts.0)))
+    (λ (no : is_about change other ≡ false). no ∙ sym apart.0)
+    (cases_Bool (is_about change other)))
+    (eqb_tells at number)
+
+-- ---- what several entries say
+
+said_of-append : (made : List (ℕ × List Outcome)) (one : ℕ × List Outcome) (number : ℕ) → said_of (made ++ one ∷ []) number ≡ option_or (said_of made number) (cond (one.0 == number) (Some one.1) None)
+said_of-append [] one number = elim (one.0 == number) as (λ b. option_map (λ (e : ℕ × List Outcome). e.1) (cond b (Some one) None) ≡ cond b (Some one.1) None) [ true ↦ refl | false ↦ refl ]
+said_of-append (first ∷ others) one number =
+    elim (first.0 == number) as (λ b. option_map (λ (e : ℕ × List Outcome). e.1) (cond b (Some first) (find (λ e. e.0 == number) (others ++ one ∷ []))) ≡ option_or (option_map (λ e. e.1) (cond b (Some first) (find (λ e. e.0 == number) others))) (cond (one.0 == number) (Some one.1) None))
+    [ true ↦ refl | false ↦ said_of-append others one number ]
+
+is_some_or : (o : Option (List Outcome)) (b : Bool) (x : List Outcome) → is_some (option_or o (cond b (Some x) None)) ≡ (is_some o || b)
+is_some_or None true x = refl
+is_some_or None false x = refl
+is_some_or (Some y) b x = refl
+
+pub is_said-append : (made : List (ℕ × List Outcome)) (one : ℕ × List Outcome) (number : ℕ) → is_some (said_of (made ++ one ∷ []) number) ≡ (is_some (said_of made number) || (one.0 == number))
+is_said-append made one number = rw (said_of-append made one number) (is_some_or (said_of made number) (one.0 == number) one.1)
+
+-- what they say of a change stands at its number
+pub at_number : (count : ℕ) (made : List (ℕ × List Outcome)) (number : ℕ) → number < count → said_at (by_number count made) number ≡ said_of made number
+at_number count made number below =
+    let within : number < length (by_number count made) = rw (length-map-range_with_len (said_of made) 0 count) below in
+    let place : 0 + number ≡ number = omega arith in
+    rw (slice_get-get_or (by_number count made) number None within, get_or-map-range_with_len (said_of made) 0 count number number None below place) refl
+
+none_past : (count : ℕ) (made : List (ℕ × List Outcome)) (number : ℕ) → count ≤ number → said_at (by_number count made) number ≡ None
+none_past count made number past =
+    let long : length (by_number count made) ≤ number = rw (length-map-range_with_len (said_of made) 0 count) past in
+    rw (slice_get_past (by_number count made) number long) refl
+
+pub length-by_number : (count : ℕ) (made : List (ℕ × List Outcome)) → length (by_number count made) ≡ count
+length-by_number count made = length-map-range_with_len (said_of made) 0 count
+
+-- one entry more changes one place
+pub by_number-append : (count : ℕ) (made : List (ℕ × List Outcome)) (number : ℕ) (outcomes : List Outcome) → number < count → said_of made number ≡ None
+    → by_number count (made ++ (number, outcomes) ∷ []) ≡ set (by_number count made) number (Some outcomes)
+by_number-append count made number outcomes below none =
+    let before = by_number count made in
+    let after = by_number count (made ++ (number, outcomes) ∷ []) in
+    let within : number < length before = rw (length-by_number count made) below in
+    let lengths : length after ≡ length (set before number (Some outcomes)) = length-by_number count (made ++ (number, outcomes) ∷ []) ∙ sym (length-by_number count made) ∙ sym (length-set before number (Some outcomes)) in
+    same_lists after (set before number (Some outcomes)) lengths (λ k d h.
+    let low : k < count = rw (length-by_number count (made ++ (number, outcomes) ∷ [])) at h in
+    let place : 0 + k ≡ k = omega arith in
+    let mine : get_or after k d ≡ option_or (said_of made k) (cond (number == k) (Some outcomes) None) =
+    get_or-map-range_with_len (said_of (made ++ (number, outcomes) ∷ [])) 0 count k k d low place ∙ said_of-append made (number, outcomes) k in
+    let theirs : get_or before k d ≡ said_of made k = get_or-map-range_with_len (said_of made) 0 count k k d low place in
+    ⊎_elim
+    (λ same.
+    mine ∙ rw (same.0, ← same.1, none) refl ∙ sym (get_or-set_same before number (Some outcomes) d within) ∙ ap (λ (i : ℕ). get_or (set before number (Some outcomes)) i d) same.1)
+    (λ apart.
+    mine ∙ rw apart.0 (or_none (said_of made k)) ∙ sym theirs ∙ sym (get_or-set_other before number k (Some outcomes) d (λ e. apart.1 (sym e))))
+    (eqb_tells number k))
+  where
+    or_none : (o : Option (List Outcome)) → option_or o None ≡ o
+    or_none None = refl
+    or_none (Some x) = refl
+
+pub nothing_said : (count : ℕ) → by_number (count + 1) [] ≡ by_number count [] ++ None ∷ []
+nothing_said count = ap (λ (n : ℕ). by_number n []) (add-one count) ∙ from 0 count
+  where
+    from : (a n : ℕ) → map (said_of []) (range_with_len a (suc n)) ≡ map (said_of []) (range_with_len a n) ++ None ∷ []
+    from a zero = refl
+    from a (suc n) = ap (λ (said : Outcomes). None ∷ said) (from (a + 1) n)
+
+-- ---- how much has been said
+
+abbrev counted : Option (List Outcome) → ℕ
+counted said = cond (is_some said) 1 0
+
+pub none_counted : (count : ℕ) → count_by is_some (by_number count []) ≡ 0
+none_counted count = from 0 count
+  where
+    from : (a n : ℕ) → count_by is_some (map (said_of []) (range_with_len a n)) ≡ 0
+    from a zero = refl
+    from a (suc n) = sum_by-cons counted None (map (said_of []) (range_with_len (a + 1) n)) ∙ ap (λ (n : ℕ). 0 + n) (from (a + 1) n)
+
+pub counted_more : (said : Outcomes) (number : ℕ) (outcomes : List Outcome) → number < length said → said_at said number ≡ None → count_by is_some (set said number (Some outcomes)) ≡ count_by is_some said + 1
+counted_more said number outcomes below none =
+    let at = slice_get-get_or said number None below in
+    let nothing : get_or said number None ≡ None = sym (ap (λ (o : Option (Option (List Outcome))). o >>= λ said. said) at) ∙ none in
+    let grown = sum_by-set counted said number (Some outcomes) None below in
+    let none_before : counted (get_or said number None) ≡ 0 = ap counted nothing in
+    omega (arith, grown, none_before)
+
+-- ---- no step takes too long
+
+-- what the entries say is in range
+abbrev pub SaysInRange : List (ℕ × List Outcome) → Type 0
+SaysInRange made = (number : ℕ) → IfSome (said_of made number) (λ outcomes. list_any is_too_long outcomes ≡ false)
+
+pub in_range_more : (made : List (ℕ × List Outcome)) (one : ℕ × List Outcome) → SaysInRange made → list_any is_too_long one.1 ≡ false → SaysInRange (made ++ one ∷ [])
+in_range_more made one before short number = subst (λ o. IfSome o (λ outcomes. list_any is_too_long outcomes ≡ false)) (sym (said_of-append made one number)) (either (said_of made number) (one.0 == number) (before number))
+  where
+    either : (o : Option (List Outcome)) (b : Bool) → IfSome o (λ outcomes. list_any is_too_long outcomes ≡ false) → IfSome (option_or o (cond b (Some one.1) None)) (λ outcomes. list_any is_too_long outcomes ≡ false)
+    either None true h = short
+    either None false h = tt
+    either (Some outcomes) b h = h
+
+short_at : (outcomes : List Outcome) (k : ℕ) (o : Option Outcome) → list_any is_too_long outcomes ≡ false → slice_get outcomes k ≡ o → IfSome o (λ outcome. outcome.seconds ≤ max_seconds)
+short_at outcomes k None none at = tt
+short_at outcomes k (Some outcome) none at =
+    ⊎_elim
+    (λ (yes : is_too_long outcome ≡ true).
+    let found : list_any is_too_long outcomes ≡ true = list_any_at is_too_long outcomes k outcome (slice_get_within outcomes k outcome at) (ap is_too_long (get_or_from_slice_get outcomes k outcome outcome at) ∙ yes) in
+    absurd cc)
+    (λ (no : is_too_long outcome ≡ false). ltb-false max_seconds outcome.seconds no)
+    (cases_Bool (is_too_long outcome))
+
+given_in_range : (said : Option (List Outcome)) (k : ℕ) → IfSome said (λ outcomes. list_any is_too_long outcomes ≡ false) → IfSome (said >>= λ outcomes. slice_get outcomes k) (λ outcome. outcome.seconds ≤ max_seconds)
+given_in_range None k h = tt
+given_in_range (Some outcomes) k h = short_at outcomes k (slice_get outcomes k) h refl
+
+pub is_in_range : (count : ℕ) (made : List (ℕ × List Outcome)) → SaysInRange made → IsInRange (by_number count made)
+is_in_range count made says c k =
+    ⊎_elim
+    (λ (below : c < count). subst (λ (said : Option (List Outcome)). IfSome (said >>= λ outcomes. slice_get outcomes k) (λ outcome. outcome.seconds ≤ max_seconds)) (sym (at_number count made c below)) (given_in_range (said_of made c) k (says c)))
+    (λ (past : count ≤ c). subst (λ (said : Option (List Outcome)). IfSome (said >>= λ outcomes. slice_get outcomes k) (λ outcome. outcome.seconds ≤ max_seconds)) (sym (none_past count made c past)) tt)
+    (cases_lt c count)

@@ -1,0 +1,88 @@
+-- What one entry says, in the steps of a reader.
+use Rattle.std.proofs.Common.{◌≡◌, ℕ, ◌<◌, ◌≤◌, Bool, true, false, cond, nat_lt, List, [], ◌∷◌, length, map, get_or, Option, Some, None, option_map, Result, Ok, Err, refl, sym, ap, ◌∙◌, arith}
+use Rattle.std.specs.Prelude.{◌||◌, is_some, vec_len}
+use Rattle.std.specs.List.{list_any}
+use Rattle.std.proofs.lemmas.Bool.{le-ltb, lt-ltb}
+use Rattle.std.proofs.lemmas.List.{length-map}
+use Rattle.std.proofs.lemmas.Option.{slice_get_read}
+use Rattle.serde_json.specs.Data.{Data}
+use Rattle.apply_plan.specs.declared.script.outcome.Outcome.{Outcome}
+use Rattle.apply_plan.specs.declared.script.script_error.ScriptError.{ScriptError}
+use Rattle.apply_plan.specs.declared.script.script_error.ScriptError.TheVariants.{BadShape, UnknownChange, Duplicate, TooManySteps, SecondsRange}
+use Rattle.apply_plan.specs.declared.script.tree_entry.TreeEntry.{TreeEntry}
+use Rattle.apply_plan.specs.declared.script.tree_step.TreeStep.{TreeStep}
+use Rattle.apply_plan.specs.Json.{◌>>=◌}
+use Rattle.apply_plan.specs.Plan.ResourceChange.{ResourceChange}
+use Rattle.apply_plan.specs.Script.Entry.{Entry, entry_of}
+use Rattle.apply_plan.specs.Script.OneByOne.{entry_beside}
+use Rattle.apply_plan.specs.Script.Outcome.{is_too_long}
+use Rattle.apply_plan.specs.Script.Outcomes.{Outcomes, change_of_entry, said_at}
+use Rattle.apply_plan.specs.Script.TreeView.{entry_view, step_view}
+use Rattle.apply_plan.proofs.Scripts.Entries.{IsChangeOf}
+
+pub entry_found : (d : Data) (found : Option TreeEntry) (entry : TreeEntry) → option_map entry_view found ≡ entry_of d → found ≡ Some entry → Some (entry_view entry) ≡ entry_of d
+entry_found d found entry is some = sym (ap (λ (o : Option TreeEntry). option_map entry_view o) some) ∙ is
+
+pub malformed : (changes : List ResourceChange) (said : Outcomes) (n : ℕ) (d : Data) (found : Option TreeEntry) → option_map entry_view found ≡ entry_of d → found ≡ None
+    → entry_beside changes said n d ≡ Err (BadShape (Some n))
+unfolding entry_beside
+malformed changes said n d found is none = rw (← is, none) refl
+
+pub unknown : (changes : List ResourceChange) (said : Outcomes) (n : ℕ) (d : Data) (found : Option TreeEntry) (entry : TreeEntry) → option_map entry_view found ≡ entry_of d → found ≡ Some entry
+    → change_of_entry changes (entry_view entry) ≡ None → entry_beside changes said n d ≡ Err (UnknownChange n)
+unfolding entry_beside
+unknown changes said n d found entry is some none = rw (← is, some, none) refl
+
+-- what is left to ask of an entry that is about a change
+abbrev asked : Outcomes → (n number : ℕ) → ResourceChange → Entry → Result (ℕ × List Outcome) ScriptError
+asked said n number change entry =
+    cond (is_some (said_at said number)) (Err (Duplicate n))
+    (cond (nat_lt (length change.steps) (length entry.steps)) (Err (TooManySteps n))
+    (cond (list_any is_too_long entry.steps) (Err (SecondsRange n)) (Ok (number, entry.steps))))
+
+-- a reader has found the entry and the change that it is about
+pub record IsFound (changes : List ResourceChange) (said : Outcomes) (d : Data) (entry : TreeEntry) (number : ℕ) (change : ResourceChange) (there : Option (List Outcome)) : Type 0 where
+  pub entry_is : Some (entry_view entry) ≡ entry_of d
+  pub change_is : IsChangeOf changes (entry_view entry) number change
+  pub below : number < length said
+  pub there_is : there ≡ get_or said number there
+
+known : (changes : List ResourceChange) (said : Outcomes) (n : ℕ) (d : Data) (entry : TreeEntry) (number : ℕ) (change : ResourceChange) (there : Option (List Outcome)) → IsFound changes said d entry number change there
+    → entry_beside changes said n d ≡ asked said n number change (entry_view entry)
+unfolding entry_beside
+known changes said n d entry number change there is = rw (← is.entry_is, is.change_is.found) refl
+
+said_there : (said : Outcomes) (number : ℕ) (there : Option (List Outcome)) → number < length said → there ≡ get_or said number there → said_at said number ≡ there
+said_there said number there below is = ap (λ (o : Option (Option (List Outcome))). o >>= λ said. said) (slice_get_read said (length said) number there refl below is)
+
+pub repeats : (changes : List ResourceChange) (said : Outcomes) (n : ℕ) (d : Data) (entry : TreeEntry) (number : ℕ) (change : ResourceChange) (there : Option (List Outcome)) → IsFound changes said d entry number change there
+    → is_some there ≡ true → entry_beside changes said n d ≡ Err (Duplicate n)
+repeats changes said n d entry number change there is some =
+    known changes said n d entry number change there is ∙ rw (said_there said number there is.below is.there_is, some) refl
+
+pub too_many : (changes : List ResourceChange) (said : Outcomes) (n : ℕ) (d : Data) (entry : TreeEntry) (number : ℕ) (change : ResourceChange) (there : Option (List Outcome)) → IsFound changes said d entry number change there
+    → is_some there ≡ false → length change.steps < vec_len entry.steps → entry_beside changes said n d ≡ Err (TooManySteps n)
+too_many changes said n d entry number change there is none more =
+    let longer : nat_lt (length change.steps) (length (map step_view entry.steps.items)) ≡ true =
+    rw (length-map entry.steps.items step_view) (let beyond : length change.steps < length entry.steps.items = omega (arith, entry.steps.ok.0) in lt-ltb _ _ beyond) in
+    known changes said n d entry number change there is ∙ rw (said_there said number there is.below is.there_is, none, longer) refl
+
+list_any-map : (steps : List TreeStep) → list_any is_too_long (map step_view steps) ≡ list_any (λ step. is_too_long (step_view step)) steps
+list_any-map [] = refl
+list_any-map (step ∷ steps) = ap (λ b. is_too_long (step_view step) || b) (list_any-map steps)
+
+timed : (changes : List ResourceChange) (said : Outcomes) (n : ℕ) (d : Data) (entry : TreeEntry) (number : ℕ) (change : ResourceChange) (there : Option (List Outcome)) (long : Bool) → IsFound changes said d entry number change there
+    → is_some there ≡ false → vec_len entry.steps ≤ length change.steps → list_any (λ step. is_too_long (step_view step)) entry.steps.items ≡ long
+    → entry_beside changes said n d ≡ cond long (Err (SecondsRange n)) (Ok (number, map step_view entry.steps.items))
+timed changes said n d entry number change there long is none few too_long =
+    let no_longer : nat_lt (length change.steps) (length (map step_view entry.steps.items)) ≡ false =
+    rw (length-map entry.steps.items step_view) (let within : length entry.steps.items ≤ length change.steps = omega (arith, entry.steps.ok.0) in le-ltb _ _ within) in
+    known changes said n d entry number change there is ∙ rw (said_there said number there is.below is.there_is, none, no_longer, list_any-map entry.steps.items, too_long) refl
+
+pub too_slow : (changes : List ResourceChange) (said : Outcomes) (n : ℕ) (d : Data) (entry : TreeEntry) (number : ℕ) (change : ResourceChange) (there : Option (List Outcome)) → IsFound changes said d entry number change there
+    → is_some there ≡ false → vec_len entry.steps ≤ length change.steps → list_any (λ step. is_too_long (step_view step)) entry.steps.items ≡ true → entry_beside changes said n d ≡ Err (SecondsRange n)
+too_slow changes said n d entry number change there is none few long = timed changes said n d entry number change there true is none few long
+
+pub accepted : (changes : List ResourceChange) (said : Outcomes) (n : ℕ) (d : Data) (entry : TreeEntry) (number : ℕ) (change : ResourceChange) (there : Option (List Outcome)) → IsFound changes said d entry number change there
+    → is_some there ≡ false → vec_len entry.steps ≤ length change.steps → list_any (λ step. is_too_long (step_view step)) entry.steps.items ≡ false → entry_beside changes said n d ≡ Ok (number, map step_view entry.steps.items)
+accepted changes said n d entry number change there is none few short = timed changes said n d entry number change there false is none few short

@@ -1,0 +1,9 @@
+-- The numbers of changes by object, for the private type that keeps them.
+use Rattle.std.specs.Prelude.{ℕ, Option}
+use Rattle.std.specs.Map.{lookup}
+use Rattle.apply_plan.specs.declared.plan.object_id.ObjectId.{ObjectId}
+use Rattle.apply_plan.specs.declared.script.change_numbers.ChangeNumbers.{ChangeNumbers}
+use Rattle.apply_plan.specs.Plan.SeenObjects.{is_same_id}
+
+abbrev pub number_of : ChangeNumbers → ObjectId → Option ℕ
+number_of numbers id = lookup (is_same_id id) numbers.numbers.entries

@@ -1,0 +1,65 @@
+-- An entry of a script: its members, each under its rule (the script's own format).
+use Rattle.std.specs.Prelude.{ℕ, List, [], ◌∷◌, codes, map, Option, Some, None, option_map}
+use Rattle.serde_json.specs.Data.{Data}
+use Rattle.serde_json.specs.Find.{as_array, as_number, as_u64}
+use Rattle.apply_plan.specs.declared.script.diag.Diag.{Diag}
+use Rattle.apply_plan.specs.declared.script.ending.Ending.{Ending}
+use Rattle.apply_plan.specs.declared.script.ending.Ending.TheVariants.{Done, Failed}
+use Rattle.apply_plan.specs.declared.script.outcome.Outcome.{Outcome}
+use Rattle.apply_plan.specs.Json.{◌>>=◌, unless_empty, list_of, member_of, text_of, text_or}
+
+pub record Entry : Type 0 where
+  pub address : List ℕ
+  pub deposed : Option (List ℕ)
+  pub steps : List Outcome
+
+-- a diagnostic: a summary, and a detail that may be absent, which is then empty
+abbrev pub diag_of : Data → Option Diag
+diag_of d = do
+  summary ← text_of (codes "summary") d
+  detail ← text_or [] (member_of (codes "detail") d)
+  Some (record { summary = summary; detail = detail })
+
+-- a diagnostic that may be absent
+abbrev pub diag_or_none : Option Data → Option (Option Diag)
+diag_or_none None = Some None
+diag_or_none (Some d) = option_map Some (diag_of d)
+
+-- the seconds: a whole number that fits 64 bits
+abbrev pub seconds_of : Data → Option ℕ
+seconds_of d = member_of (codes "seconds") d >>= as_number >>= as_u64
+
+-- how a step ends, by its id, its warning and its failure; a step that failed has neither of the others
+abbrev pub ending_of : (id : Option (List ℕ)) → (warning failed : Option Diag) → Option Ending
+ending_of id warning None = Some (Done id warning)
+ending_of None None (Some diag) = Some (Failed diag)
+ending_of None (Some warning) (Some diag) = None
+ending_of (Some id) warning (Some diag) = None
+
+-- a step
+unfoldable pub step_of : Data → Option Outcome
+step_of d = do
+  seconds ← seconds_of d
+  id ← text_or [] (member_of (codes "id") d)
+  warning ← diag_or_none (member_of (codes "warning") d)
+  failed ← diag_or_none (member_of (codes "failed") d)
+  result ← ending_of (unless_empty id) warning failed
+  Some (record { seconds = seconds; result = result })
+
+-- all values, where each is there
+abbrev pub all_some : {A : Type 0} → List (Option A) → Option (List A)
+all_some [] = Some []
+all_some (found ∷ others) = do
+  x ← found
+  xs ← all_some others
+  Some (x ∷ xs)
+
+-- the entry's members; none where one of them breaks its rule
+unfoldable pub entry_of : Data → Option Entry
+entry_of d = do
+  address ← text_of (codes "address") d
+  deposed ← text_or [] (member_of (codes "deposed") d)
+  list ← member_of (codes "steps") d
+  items ← as_array list
+  steps ← all_some (map step_of (list_of items))
+  Some (record { address = address; deposed = unless_empty deposed; steps = steps })

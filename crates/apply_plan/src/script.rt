@@ -1,0 +1,68 @@
+//! A script of outcomes, and how it is read.
+
+ghost use Rattle.std.specs.Prelude.{◌≡◌, ◌≤◌, [], IfSome};
+ghost use Rattle.std.specs.Option.{option_copied};
+ghost use Rattle.apply_plan.specs.Script.Outcome.{max_seconds};
+
+pub mod change_numbers;
+pub mod diag;
+pub mod ending;
+pub mod outcome;
+pub mod reading;
+pub mod script_error;
+pub mod step_outcomes;
+pub mod tree_diag;
+pub mod tree_ending;
+pub mod tree_entry;
+pub mod tree_step;
+
+use crate::script::outcome::Outcome;
+use crate::script::step_outcomes::StepOutcomes;
+use std::alloc::Global;
+use std::marker::Model;
+
+/// What the providers will answer to the steps of a plan.
+///
+/// Contracts see, for each change by number, the outcomes of its first steps, or nothing.
+#[derive(Debug, Drop)]
+pub struct Script {
+    pub(crate) changes: Vec<Option<StepOutcomes>>,
+}
+
+impl Model for Script {
+    ghost use Rattle.apply_plan.specs.Script.Outcomes.{IsInRange, Outcomes};
+
+    ghost Value = { Outcomes };
+
+    ghost view = { λ s. s.changes.items };
+
+    ghost invariant = { λ s. IsInRange s.changes.items };
+}
+
+impl Script {
+    ghost use Rattle.apply_plan.specs.Script.Outcomes.{given_outcome};
+
+    /// A script that says nothing: every step has the default outcome.
+    pub fn empty(alloc: Global) -> Script
+        ensures { result ≡ [] }
+    {
+        Script {
+            changes: Vec::new(alloc),
+        }
+    }
+
+    /// What the script says of a step of a change, both counted from 0. `None` means the default: the step is done
+    /// after 0 seconds, with no id and no warning.
+    ///
+    /// Any numbers may be asked for, also those of another plan than the one that the script was read for.
+    pub fn outcome(&self, change: u32, step: u8) -> Option<&Outcome>
+        ensures given { option_copied result ≡ given_outcome self.now change step }
+        ensures in_range { IfSome (given_outcome self.now change step)
+            (λ outcome. outcome.seconds ≤ max_seconds) }
+    {
+        self.changes
+            .get(change as usize)?
+            .as_ref()?
+            .get(step as usize)
+    }
+}

@@ -1,0 +1,40 @@
+//! The numbers of a plan's changes, by object.
+
+ghost use Rattle.std.specs.Prelude.{◌≡◌, IfOk, find, option_map};
+ghost use Rattle.std.specs.List.{enumerate_from};
+
+use crate::plan::Plan;
+use crate::plan::object_id::ObjectId;
+use std::alloc::{AllocError, Global};
+use std::collections::BTreeMap;
+
+/// The number of the change of each object of a plan.
+#[derive(Drop)]
+pub struct ChangeNumbers<'a> {
+    numbers: BTreeMap<ObjectId<'a>, u32>,
+}
+
+impl<'a> ChangeNumbers<'a> {
+    ghost use Rattle.apply_plan.specs.Plan.SeenObjects.{is_of};
+    ghost use Rattle.apply_plan.specs.Script.ChangeNumbers.{number_of};
+
+    /// The numbers of the changes of the plan.
+    pub fn of(alloc: Global, plan: &'a Plan) -> Result<ChangeNumbers<'a>, AllocError>
+        ensures { IfOk result (λ numbers. (id : _) → number_of numbers id
+            ≡ option_map (λ p. p.0) (find (λ p. is_of id p.1) (enumerate_from 0 plan.now.changes))) }
+    {
+        let mut numbers = BTreeMap::new(alloc);
+        // From the last to the first, so that the first of several would count.
+        for number in (0..plan.len()).rev() {
+            numbers.insert(ObjectId::of_change(plan.change(number)), number)?;
+        }
+        Ok(ChangeNumbers { numbers })
+    }
+
+    /// The number of the change of the object.
+    pub fn get(&self, id: ObjectId<'a>) -> Option<u32>
+        ensures { result ≡ number_of self.now id.entry }
+    {
+        self.numbers.get(&id).copied()
+    }
+}

@@ -1,0 +1,69 @@
+//! Why bytes are not a script.
+
+ghost use Rattle.std.specs.Prelude.{◌≡◌};
+ghost use Rattle.apply_plan.specs.declared.script.script_error.ScriptError.TheVariants.{Memory};
+
+use std::alloc::{AllocError, AllocFailed};
+use std::fmt;
+use thiserror::Error;
+
+/// Why bytes were refused as a script for a plan.
+///
+/// The variants are tested in this order. Those that name an entry name the first faulty one, counted from 0, with its
+/// first fault.
+#[derive(Clone, Copy, Debug, Drop, Error, PartialEq, Eq)]
+pub enum ScriptError {
+    /// There are more than 67,108,864 bytes.
+    #[error("the script is larger than 67108864 bytes")]
+    TooLarge,
+    /// The bytes are not JSON (RFC 8259) in UTF-8, or it nests more than 127 deep.
+    #[error("the script is not JSON")]
+    NotJson,
+    /// A member is missing, or is not what it has to be: at the top level, or in an entry.
+    #[error("{place} is malformed", place = Place(*.0))]
+    BadShape(Option<u32>),
+    /// The plan has no change with the entry's `address` and `deposed` key.
+    #[error("script entry {0} names an unknown change")]
+    UnknownChange(u32),
+    /// An earlier entry is about the same change.
+    #[error("script entry {0} repeats an earlier entry")]
+    Duplicate(u32),
+    /// The entry has more steps than its change.
+    #[error("script entry {0} has too many steps")]
+    TooManySteps(u32),
+    /// A step of the entry takes more than 86,400 seconds.
+    #[error("script entry {0} has a step over 86400 seconds")]
+    SecondsRange(u32),
+    /// Memory was refused. It comes where the growth stands, before the refusals that would be found later.
+    #[error("out of memory")]
+    Memory,
+}
+
+impl From<AllocError> for ScriptError {
+    ghost from_gives = { λ _ refusal. refusal ≡ Memory };
+
+    fn from(_refused: AllocError) -> ScriptError {
+        ScriptError::Memory
+    }
+}
+
+impl<T: Drop> From<AllocFailed<T>> for ScriptError {
+    ghost from_gives = { λ _ refusal. refusal ≡ Memory };
+
+    fn from(_refused: AllocFailed<T>) -> ScriptError {
+        ScriptError::Memory
+    }
+}
+
+/// Where a script is malformed: in an entry, or at its top level.
+#[derive(Drop)]
+struct Place(Option<u32>);
+
+impl fmt::Display for Place {
+    fn fmt<W: fmt::Write>(&self, f: &mut fmt::Formatter<W>) -> fmt::Result {
+        match self.0 {
+            Some(number) => write!(f, "script entry {number}"),
+            None => write!(f, "the script"),
+        }
+    }
+}

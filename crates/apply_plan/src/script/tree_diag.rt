@@ -1,0 +1,39 @@
+//! A diagnostic of a script, as it stands in the tree.
+
+ghost use Rattle.std.specs.Prelude.{◌≡◌, option_map};
+ghost use Rattle.serde_json.specs.View.{view};
+ghost use Rattle.apply_plan.specs.Script.Entry.{diag_of, diag_or_none};
+ghost use Rattle.apply_plan.specs.Script.TreeView.{diag_view};
+
+use crate::json::members::{text_member, text_member_or};
+use serde_json::Value;
+
+/// A diagnostic that the tree holds.
+#[derive(Clone, Copy)]
+pub struct TreeDiag<'a> {
+    pub summary: &'a str,
+    pub detail: &'a str,
+}
+
+impl<'a> TreeDiag<'a> {
+    /// The diagnostic that the value is. `None` where one of its members breaks its rule.
+    pub fn of(value: &'a Value) -> Option<TreeDiag<'a>>
+        ensures { option_map diag_view result ≡ diag_of (view value.now) }
+    {
+        Some(TreeDiag {
+            summary: text_member(value, "summary")?,
+            detail: text_member_or(value, "detail", "")?,
+        })
+    }
+
+    /// The diagnostic that a member is, or none where the member is absent. `None` where it is there and is none.
+    pub fn of_member(found: Option<&'a Value>) -> Option<Option<TreeDiag<'a>>>
+        ensures { option_map (λ diag. option_map diag_view diag) result
+            ≡ diag_or_none (option_map (λ value. view value.now) found.entry) }
+    {
+        match found {
+            Some(value) => Some(Some(TreeDiag::of(value)?)),
+            None => Some(None),
+        }
+    }
+}
