@@ -1,34 +1,29 @@
--- The front of an input, with one byte more than a plan may have, is as good as the whole input.
-use Rattle.std.proofs.Common.{◌≡◌, ℕ, ◌+◌, ◌<◌, ◌≤◌, List, length, take, Bool, true, false, nat_lt, Option, None, Some, IfSome, Ok, Err, refl, sym, ap, subst, ◌∙◌, arith, take_all}
+-- A front of an input that is a plan is the whole input, where it has one byte more than a plan may have.
+use Rattle.std.proofs.Common.{◌≡◌, ℕ, ◌+◌, ◌<◌, ◌≤◌, List, length, take, true, nat_lt, Option, None, Some, IfSome, Ok, Err, refl, sym, ◌∙◌, arith, take_all, ⊎_elim}
 use Rattle.std.proofs.lemmas.List.{length-take}
-use Rattle.std.proofs.lemmas.Bool.{lt-ltb, ltb-true, ltb-false}
+use Rattle.std.proofs.lemmas.Bool.{cases_lt, lt-ltb}
 use Rattle.apply_plan.specs.declared.plan.plan_error.PlanError.TheVariants.{TooLarge}
-use Rattle.apply_plan.specs.Plan.SavedPlan.{SavedPlan, plan_of, max_bytes}
+use Rattle.apply_plan.specs.Json.{max_bytes}
+use Rattle.apply_plan.specs.Plan.SavedPlan.{SavedPlan, plan_of}
 
-too_large : (bytes : List ℕ) → nat_lt max_bytes (length bytes) ≡ true → plan_of bytes ≡ Err TooLarge
+pub too_large : (bytes : List ℕ) → max_bytes < length bytes → plan_of bytes ≡ Err TooLarge
 unfolding plan_of
-too_large bytes long = rw long refl
+too_large bytes long = let more : nat_lt max_bytes (length bytes) ≡ true = lt-ltb _ _ long in rw more refl
+
+small : (bytes : List ℕ) (plan : SavedPlan) → plan_of bytes ≡ Ok plan → length bytes ≤ max_bytes
+small bytes plan is =
+    ⊎_elim (λ (long : max_bytes < length bytes). let refused = too_large bytes long in absurd cc) (λ (short : length bytes ≤ max_bytes). short) (cases_lt max_bytes (length bytes))
 
 -- the limit stands as a variable, so that no tactic counts up to it
-plan_of-front_by : (limit : ℕ) (all : List ℕ) (is_long : Bool) → max_bytes ≡ limit → nat_lt limit (length all) ≡ is_long → plan_of (take (limit + 1) all) ≡ plan_of all
-plan_of-front_by limit all true same long =
-    let beyond : limit < length all = ltb-true limit (length all) long in
-    let cut : limit < length (take (limit + 1) all) = omega (arith, length-take (limit + 1) all) in
-    let P : ℕ → List ℕ → Type 0 = λ n bytes. nat_lt n (length bytes) ≡ true in
-    too_large _ (subst (λ n. P n (take (limit + 1) all)) (sym same) (lt-ltb limit (length (take (limit + 1) all)) cut)) ∙ sym (too_large all (subst (λ n. P n all) (sym same) long))
-plan_of-front_by limit all false same short =
-    let within : length all ≤ limit = ltb-false limit (length all) short in
-    let fits : length all ≤ limit + 1 = omega arith in
-    ap plan_of (take_all (limit + 1) all fits)
+whole_by : (limit : ℕ) (all bytes : List ℕ) → bytes ≡ take (limit + 1) all → length bytes ≤ limit → all ≡ bytes
+whole_by limit all bytes front short =
+    ⊎_elim
+    (λ (long : limit < length all).
+    let cut : length (take (limit + 1) all) ≤ limit = rw (← front) short in
+    absurd (omega (arith, length-take (limit + 1) all)))
+    (λ (fits : length all ≤ limit). let within : length all ≤ limit + 1 = omega arith in sym (front ∙ take_all (limit + 1) all within))
+    (cases_lt limit (length all))
 
-plan_of-front : (all : List ℕ) → plan_of (take 67108865 all) ≡ plan_of all
-plan_of-front all = plan_of-front_by 67108864 all (nat_lt 67108864 (length all)) refl refl
-
--- what holds of the plan that the front is holds of the plan that the input is
-pub of_whole : (known : Option (List ℕ)) (bytes : List ℕ) (P : SavedPlan → Type 0)
-    → IfSome known (λ all. bytes ≡ take 67108865 all)
-    → ((plan : SavedPlan) × (plan_of bytes ≡ Ok plan) × P plan)
-    → IfSome known (λ all. (plan : SavedPlan) × (plan_of all ≡ Ok plan) × P plan)
-of_whole None bytes P front found = tt
-of_whole (Some all) bytes P front found =
-    (found.0, sym (plan_of-front all) ∙ ap plan_of (sym front) ∙ found.1, found.2)
+pub whole : (known : Option (List ℕ)) (bytes : List ℕ) (plan : SavedPlan) → IfSome known (λ all. bytes ≡ take (max_bytes + 1) all) → plan_of bytes ≡ Ok plan → IfSome known (λ all. all ≡ bytes)
+whole None bytes plan front is = tt
+whole (Some all) bytes plan front is = whole_by max_bytes all bytes front (small bytes plan is)

@@ -7,7 +7,7 @@ use Rattle.apply_plan.specs.declared.plan.key.Key.{Key}
 use Rattle.apply_plan.specs.declared.plan.key.Key.TheVariants as key
 use Rattle.apply_plan.specs.declared.plan.step_kind.StepKind.{StepKind}
 use Rattle.apply_plan.specs.Plan.ResourceChange.{ResourceChange}
-use Rattle.apply_cli.specs.declared.counts.Counts.{Counts}
+use Rattle.apply_events.specs.declared.counts.Counts.{Counts}
 use Rattle.apply_cli.specs.Messages.{key_data, resource_object, shown_id, id_members, start_hook, complete_hook, changes_object, message_object}
 
 integer_whole : (z : ℤ) → has_float (number (of_integer z)) ≡ false

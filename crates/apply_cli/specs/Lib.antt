@@ -1,5 +1,4 @@
 pub mod Counting
-pub mod Events
 pub mod Messages
 pub mod Sending
 pub mod Status

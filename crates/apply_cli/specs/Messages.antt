@@ -1,10 +1,13 @@
 -- The messages as JSON objects, with their members in the byte order of their names (Machine-Readable UI).
-use Rattle.std.specs.Prelude.{ℕ, List, [], ◌∷◌, ◌++◌, codes, decimal, Option, Some, None}
+use Rattle.std.specs.Prelude.{ℕ, zero, List, [], ◌∷◌, ◌++◌, codes, decimal, slice_get, Option, Some, None}
+use Rattle.std.specs.Option.{option_map_or}
 use Rattle.serde_json.specs.Data.{Data, null, number, string, object, unsigned, Members, no_members, member}
 use Rattle.serde_json.specs.Find.{of_integer}
 use Rattle.serde_json.specs.Written.{compact_text}
-use Rattle.apply_cli.specs.declared.counts.Counts.{Counts}
-use Rattle.apply_cli.specs.Events.{What, Started, Completed, Event}
+use Rattle.apply_events.specs.declared.counts.Counts.{Counts}
+use Rattle.apply_events.specs.declared.event.Event.{Event}
+use Rattle.apply_events.specs.declared.what.What.{What}
+use Rattle.apply_events.specs.declared.what.What.TheVariants.{Start, Complete}
 use Rattle.apply_cli.specs.Words.{action_word, start_word, noun_word}
 use Rattle.apply_plan.specs.declared.plan.key.Key.{Key}
 use Rattle.apply_plan.specs.declared.plan.key.Key.TheVariants as key
@@ -12,6 +15,7 @@ use Rattle.apply_plan.specs.declared.plan.step_kind.StepKind.{StepKind}
 use Rattle.apply_plan.specs.declared.plan.step_kind.StepKind.TheVariants.{Create, Update, Delete, Read}
 use Rattle.apply_plan.specs.Plan.Address.{provider_of}
 use Rattle.apply_plan.specs.Plan.ResourceChange.{ResourceChange, resource_of}
+use Rattle.apply_plan.specs.Plan.SavedPlan.{SavedPlan}
 
 -- the moment of every line: the start of 1970
 abbrev pub moment : List ℕ
@@ -88,13 +92,16 @@ message_object message name d type_name =
 abbrev pub line_of : Data → List ℕ
 line_of d = compact_text d ++ 10 ∷ []
 
-abbrev pub event_object : What → ResourceChange → StepKind → Data
-event_object Started change step = message_object (start_message change step) (codes "hook") (start_hook change step) (codes "apply_start")
-event_object Completed change step = message_object (complete_message change step) (codes "hook") (complete_hook change step) (codes "apply_complete")
+-- The line that tells what happens to a step of a change. A step that is done at once starts and completes, and nothing
+-- else happens to it: nothing else has a line yet.
+abbrev pub step_text : ResourceChange → StepKind → What → List ℕ
+step_text change step Start = line_of (message_object (start_message change step) (codes "hook") (start_hook change step) (codes "apply_start"))
+step_text change step (Complete zero) = line_of (message_object (complete_message change step) (codes "hook") (complete_hook change step) (codes "apply_complete"))
+step_text change step _ = []
 
--- the line of an event
-abbrev pub event_text : Event → List ℕ
-event_text e = line_of (event_object e.what e.change e.step)
+-- the line of an event of the plan
+abbrev pub event_text : SavedPlan → Event → List ℕ
+event_text plan event = option_map_or (λ change. option_map_or (λ step. step_text change step event.what) (slice_get change.steps event.step) []) (slice_get plan.changes event.change) []
 
 unfoldable pub changes_object : Counts → Data
 changes_object counts =

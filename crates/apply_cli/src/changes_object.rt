@@ -1,7 +1,7 @@
 //! The object `changes` of the summary.
 
-use crate::counts::Counts;
 use crate::member::{send_member, send_text};
+use apply_events::Counts;
 use serde::{Described, Serialize, Serializer};
 
 /// How many additions, changes and removals were completed, as a JSON object.

@@ -2,6 +2,7 @@
 
 ghost use Rattle.std.specs.Prelude.{◌≡◌, ◌<◌, ◌≤◌, ◌+◌, List, ℕ, ◌++◌, IfOk, IfSome, IsTrue, length, take};
 ghost use Rattle.std.specs.Io.KnownBytes.{Consumes, IsAtEnd};
+ghost use Rattle.apply_plan.specs.Json.{max_bytes};
 
 use crate::input_fault::InputFault;
 use apply_plan::MAX_BYTES;
@@ -18,8 +19,8 @@ const BUFFER_LEN: usize = 65_536;
 /// tried again. `Err` where another read fails, or memory is refused.
 pub fn read_all<R: Read + Drop>(alloc: Global, mut input: R) -> Result<Vec<u8>, InputFault>
     ensures bytes { IfOk result
-        (λ bytes. IfSome (R.remaining input) (λ all. bytes.items ≡ take MAX_READ all)) }
-    ensures few { IfOk result (λ bytes. length bytes.items ≤ MAX_READ) }
+        (λ bytes. IfSome (R.remaining input) (λ all. bytes.items ≡ take (max_bytes + 1) all)) }
+    ensures few { IfOk result (λ bytes. length bytes.items ≤ max_bytes + 1) }
 {
     let mut buffer = zeros(alloc, BUFFER_LEN)?;
     read_front(alloc, &mut input, &mut buffer, MAX_READ)

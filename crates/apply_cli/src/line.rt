@@ -3,15 +3,15 @@
 ghost use Rattle.std.specs.Prelude.{◌≡◌, ℕ, List, [], ◌∷◌, ◌++◌, IfOk, string_bytes};
 ghost use Rattle.serde.specs.Event.{Log};
 ghost use Rattle.serde_json.specs.Sent.{IsTextOf};
-ghost use Rattle.apply_cli.specs.Events.{Started, Completed, event_of};
+ghost use Rattle.apply_events.specs.declared.what.What.TheVariants as what;
 ghost use Rattle.apply_cli.specs.Messages as messages;
 
 use crate::changes_object::ChangesObject;
 use crate::complete_hook::CompleteHook;
-use crate::counts::Counts;
 use crate::message_object::MessageObject;
 use crate::start_hook::{StartHook, shown_id};
 use crate::step_words::{noun_word, start_word};
+use apply_events::Counts;
 use apply_plan::{Change, StepKind};
 use serde::Serialize;
 use std::alloc::{AllocError, Global};
@@ -19,7 +19,7 @@ use std::alloc::{AllocError, Global};
 /// The line that reports that a step starts. `Err` where memory is refused.
 pub fn start_line(alloc: Global, change: &Change, step: StepKind) -> Result<Vec<u8>, AllocError>
     ensures { IfOk result
-        (λ line. line.items ≡ messages.event_text (event_of change.now step Started)) }
+        (λ line. line.items ≡ messages.step_text change.now step what.Start) }
 {
     let message = start_message(alloc, change, step)?;
     let object = MessageObject {
@@ -31,10 +31,10 @@ pub fn start_line(alloc: Global, change: &Change, step: StepKind) -> Result<Vec<
     line(alloc, &object)
 }
 
-/// The line that reports that a step is complete. `Err` where memory is refused.
+/// The line that reports that a step is complete after no time. `Err` where memory is refused.
 pub fn complete_line(alloc: Global, change: &Change, step: StepKind) -> Result<Vec<u8>, AllocError>
     ensures { IfOk result
-        (λ line. line.items ≡ messages.event_text (event_of change.now step Completed)) }
+        (λ line. line.items ≡ messages.step_text change.now step (what.Complete 0)) }
 {
     let message = complete_message(alloc, change, step)?;
     let object = MessageObject {

@@ -3,7 +3,6 @@
 
 mod changes_object;
 mod complete_hook;
-mod counts;
 mod input;
 mod input_fault;
 mod key_value;

@@ -6,7 +6,8 @@ mod streams;
 
 use crate::input::read_all;
 use crate::input_fault::InputFault;
-use crate::run::run_first;
+use crate::run::{run_first, run_input, run_plan};
+use apply_plan::PlanError;
 use std::alloc::{AllocError, Global};
 use std::io;
 use std::io::{ErrorKind, Read, Write};

@@ -211,3 +211,39 @@ fn a_fault_that_cannot_be_said_is_dropped(rt: HostRuntime) -> Result<(), Fail> {
     assert_eq!(rt; output.len(), 0);
     Ok(())
 }
+
+#[test]
+fn each_answer_of_reading_has_its_status(rt: HostRuntime) -> Result<(), Fail> {
+    let alloc = rt.alloc();
+    for (fault, wanted, said) in [
+        (
+            InputFault::Read,
+            2,
+            "applystream: the plan could not be read\n",
+        ),
+        (InputFault::Memory, 3, "applystream: out of memory\n"),
+    ] {
+        let mut output = Vec::new(alloc);
+        let mut faults = Vec::new(alloc);
+        let status = run_input(alloc, Err(fault), &mut output, &mut faults);
+        assert_eq!(rt; status, wanted);
+        assert_eq!(rt; output.len(), 0);
+        assert!(rt; faults.as_slice() == said.as_bytes(), "at {said}");
+    }
+    for (refusal, wanted, said) in [
+        (
+            PlanError::BadChange(7),
+            2,
+            "applystream: change 7 is malformed\n",
+        ),
+        (PlanError::Memory, 3, "applystream: out of memory\n"),
+    ] {
+        let mut output = Vec::new(alloc);
+        let mut faults = Vec::new(alloc);
+        let status = run_plan(alloc, Err(refusal), &mut output, &mut faults);
+        assert_eq!(rt; status, wanted);
+        assert_eq!(rt; output.len(), 0);
+        assert!(rt; faults.as_slice() == said.as_bytes(), "at {said}");
+    }
+    Ok(())
+}

@@ -1,13 +1,10 @@
-use Rattle.std.proofs.Common.{ap, ◌∙◌, sym}
 use Rattle.std.specs.Io.KnownBytes.{Appends}
-use Rattle.apply_plan.specs.Plan.SavedPlan.{SavedPlan, plan_of}
+use Rattle.apply_plan.specs.Plan.SavedPlan.{SavedPlan}
 use Rattle.apply_cli.specs.Stream.{stream_of}
-use Rattle.apply_cli.proofs.Front.{of_whole}
+use Rattle.apply_cli.proofs.Statuses.{of_input}
 use Rattle.apply_cli.proofs.run.run_first.Goals as goal
 
-pub returns-in-Ok-clause-stream : goal.returns-in-Ok-clause-stream
-returns-in-Ok-clause-stream g c success =
-    let P : SavedPlan → Type 0 = λ plan. Appends (g.W.Write.contents c.args.output.now) (g.W.Write.contents c.run_plan.new.output) (stream_of plan) in
-    let found = c.run_plan.ensures.stream success in
-    let read = ap plan_of (sym c.deref.ensures.value) ∙ found.1 in
-    of_whole (g.R.Read.remaining c.args.input) c.in-Ok.bytes.items P c.in-Ok.ensures.bytes (found.0, read, found.2)
+pub returns-clause-stream : goal.returns-clause-stream
+returns-clause-stream g c =
+    let P : SavedPlan → Type 0 = λ plan. Appends (g.W.Write.contents c.args.output.now) (g.W.Write.contents c.run_input.new.output) (stream_of plan) in
+    of_input c.read_all.result (g.R.Read.remaining c.args.input) c.run_input.result P c.read_all.ensures.bytes c.run_input.ensures.stream c.run_input.ensures.unread

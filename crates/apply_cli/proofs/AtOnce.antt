@@ -1,0 +1,134 @@
+-- The events of changes whose steps are done at once, and their counts.
+use Rattle.std.proofs.Common.{◌≡◌, ℕ, zero, suc, ◌+◌, ◌-◌, ◌*◌, ◌<◌, ◌≤◌, List, [], ◌∷◌, ◌++◌, length, map, Option, Some, None, refl, sym, ap, ◌∙◌, add-one, add-zero, add_assoc, append_assoc, arith}
+use Rattle.std.specs.Prelude.{sum_by, slice_get, count_by}
+use Rattle.std.specs.List.{enumerate_from, flat_map, range_with_len}
+use Rattle.std.specs.Option.{option_map_or}
+use Rattle.std.specs.Io.KnownBytes.{Appends}
+use Rattle.std.proofs.lemmas.Grind.{common_steps, flat_map-append}
+use Rattle.std.proofs.lemmas.List.{append-nil, length-append}
+use Rattle.std.proofs.lemmas.List.Sums.{count_by-le-length, sum_by-append, sum_by-cons}
+use Rattle.apply_plan.specs.declared.plan.step_kind.StepKind.{StepKind}
+use Rattle.apply_plan.specs.declared.plan.step_kind.StepKind.TheVariants.{Create, Update, Delete}
+use Rattle.apply_plan.specs.Plan.ResourceChange.{ResourceChange}
+use Rattle.apply_plan.specs.Plan.SavedPlan.{SavedPlan}
+use Rattle.apply_events.specs.declared.counts.Counts.{Counts}
+use Rattle.apply_events.specs.declared.event.Event.{Event}
+use Rattle.apply_events.specs.ChangeEvents.{begun, change_events, in_turn, span_of}
+use Rattle.apply_events.specs.Step.{Step, Work, kinds_of, step_of, steps_of}
+use Rattle.apply_events.specs.StepEvents.{step_events, step_time}
+use Rattle.apply_events.specs.Totals.{completes, is_errored, is_halted, plus, totals_of}
+use Rattle.apply_cli.specs.Counting.{total}
+use Rattle.apply_cli.specs.Messages.{event_text}
+use Rattle.apply_cli.specs.Stream.{at_once, events_of, lines_of}
+
+-- the steps of those kinds, from number n on
+abbrev steps_from : SavedPlan → (c n : ℕ) → List StepKind → List Step
+steps_from plan c n kinds = map (λ p. step_of (at_once plan) c p.0 p.1) (enumerate_from n kinds)
+
+no_time : (plan : SavedPlan) (c n : ℕ) (kinds : List StepKind) → sum_by step_time (begun (steps_from plan c n kinds)) ≡ 0
+no_time plan c n [] = refl
+no_time plan c n (kind ∷ kinds) = sum_by-cons step_time (step_of (at_once plan) c n kind) (begun (steps_from plan c (n + 1) kinds)) ∙ ap (λ (m : ℕ). 0 + m) (no_time plan c (n + 1) kinds)
+
+-- a change takes no time
+pub span_is_nothing : (plan : SavedPlan) (c : ℕ) → span_of (at_once plan) c ≡ 0
+span_is_nothing plan c = no_time plan c 0 (kinds_of plan c)
+
+few_by_kinds : (plan : SavedPlan) (c : ℕ) (kinds : List StepKind) → length kinds ≤ 2 → length (in_turn (step_events 0) step_time (begun (steps_from plan c 0 kinds)) 0) ≤ 4
+few_by_kinds plan c [] few = omega arith
+few_by_kinds plan c (one ∷ []) few = omega arith
+few_by_kinds plan c (one ∷ two ∷ []) few = omega arith
+few_by_kinds plan c (one ∷ two ∷ three ∷ kinds) few = absurd (omega arith)
+
+-- a change has at most four events
+pub few_events : (plan : SavedPlan) (c : ℕ) (change : ResourceChange) (kinds : List StepKind) → Some change ≡ slice_get plan.changes c → kinds ≡ change.steps → length kinds ≤ 2 → length (change_events (at_once plan) 0 c 0) ≤ 4
+few_events plan c change kinds found steps few =
+    let is : kinds_of plan c ≡ kinds = ap (λ (o : Option ResourceChange). option_map_or (λ change. change.steps) o []) (sym found) ∙ sym steps in
+    few_by_kinds plan c (kinds_of plan c) (rw is few)
+
+-- the events of the changes from number n on: those of the next one, and of the others
+pub next_change : (plan : SavedPlan) (n count : ℕ) → n < count
+    → in_turn (change_events (at_once plan) 0) (span_of (at_once plan)) (range_with_len n (count - n)) 0
+    ≡ change_events (at_once plan) 0 n 0 ++ in_turn (change_events (at_once plan) 0) (span_of (at_once plan)) (range_with_len (n + 1) (count - (n + 1))) 0
+next_change plan n count below =
+    let more : count - n ≡ suc (count - (n + 1)) = omega arith in
+    let begin : 0 + span_of (at_once plan) n ≡ 0 = omega (arith, span_is_nothing plan n) in
+    ap (λ (m : ℕ). in_turn (change_events (at_once plan) 0) (span_of (at_once plan)) (range_with_len n m) 0) more
+    ∙ ap (λ (at : ℕ). change_events (at_once plan) 0 n 0 ++ in_turn (change_events (at_once plan) 0) (span_of (at_once plan)) (range_with_len (n + 1) (count - (n + 1))) at) begin
+
+-- ---- lines and counts of events that follow others
+
+pub lines_more : (plan : SavedPlan) (events more : List Event) (old mid new : Option (List ℕ)) → Appends old mid (lines_of plan events) → Appends mid new (lines_of plan more) → Appends old new (lines_of plan (events ++ more))
+lines_more plan events more old mid new first next = rw (flat_map-append (event_text plan) events more) (grind (arith, common_steps))
+
+pub line_more : (plan : SavedPlan) (events : List Event) (event : Event) (old mid new : Option (List ℕ)) → Appends old mid (lines_of plan events) → Appends mid new (event_text plan event) → Appends old new (lines_of plan (events ++ event ∷ []))
+line_more plan events event old mid new first next =
+    let one : lines_of plan (event ∷ []) ≡ event_text plan event = append-nil (event_text plan event) in
+    lines_more plan events (event ∷ []) old mid new first (rw one next)
+
+pub totals_of-append : (plan : SavedPlan) (events more : List Event) → totals_of plan (events ++ more) ≡ plus (totals_of plan events) (totals_of plan more)
+totals_of-append plan events more = simp sum_by-append
+
+plus-assoc : (a b c : Counts) → plus (plus a b) c ≡ plus a (plus b c)
+plus-assoc a b c = simp add_assoc
+
+pub counts_more : (plan : SavedPlan) (events more : List Event) (old counts new : Counts) → counts ≡ plus old (totals_of plan events) → new ≡ plus counts (totals_of plan more) → new ≡ plus old (totals_of plan (events ++ more))
+counts_more plan events more old counts new first next =
+    next ∙ ap (λ (c : Counts). plus c (totals_of plan more)) first ∙ plus-assoc old (totals_of plan events) (totals_of plan more) ∙ ap (λ (c : Counts). plus old c) (sym (totals_of-append plan events more))
+
+-- each number counts at most all events
+pub record IsFew (counts : Counts) (n : ℕ) : Type 0 where
+  pub added : counts.added ≤ n
+  pub changed : counts.changed ≤ n
+  pub removed : counts.removed ≤ n
+  pub failed : counts.failed ≤ n
+  pub halted : counts.halted ≤ n
+
+pub few_counted : (plan : SavedPlan) (events : List Event) → IsFew (totals_of plan events) (length events)
+few_counted plan events = record {
+  added = count_by-le-length (completes plan Create) events;
+  changed = count_by-le-length (completes plan Update) events;
+  removed = count_by-le-length (completes plan Delete) events;
+  failed = count_by-le-length (λ event. is_errored event.what) events;
+  halted = count_by-le-length (λ event. is_halted event.what) events;
+}
+
+-- every number has room for one event more
+pub record HasRoom (counts : Counts) : Type 0 where
+  pub added : counts.added < 18446744073709551615
+  pub changed : counts.changed < 18446744073709551615
+  pub removed : counts.removed < 18446744073709551615
+  pub failed : counts.failed < 18446744073709551615
+  pub halted : counts.halted < 18446744073709551615
+
+pub room_left : (plan : SavedPlan) (events rest all : List Event) (old counts : Counts) → events ++ rest ≡ all → length all ≤ 4 → counts ≡ plus old (totals_of plan events) → total old + 20 ≤ 18446744073709551615
+    → HasRoom counts
+room_left plan events rest all old counts joined few counted room =
+    let so_far : length events ≤ 4 = omega (arith, length-append events rest, ap length joined) in
+    let each = few_counted plan events in
+    let added = each.added in
+    let changed = each.changed in
+    let removed = each.removed in
+    let failed = each.failed in
+    let halted = each.halted in
+    record {
+      added = omega (arith, ap (λ (c : Counts). c.added) counted);
+      changed = omega (arith, ap (λ (c : Counts). c.changed) counted);
+      removed = omega (arith, ap (λ (c : Counts). c.removed) counted);
+      failed = omega (arith, ap (λ (c : Counts). c.failed) counted);
+      halted = omega (arith, ap (λ (c : Counts). c.halted) counted);
+    }
+
+pub few_more : (plan : SavedPlan) (events rest all : List Event) (old counts : Counts) → events ++ rest ≡ all → length all ≤ 4 → counts ≡ plus old (totals_of plan events) → total counts ≤ total old + 20
+few_more plan events rest all old counts joined few counted =
+    let so_far : length events ≤ 4 = omega (arith, length-append events rest, ap length joined) in
+    let each = few_counted plan events in
+    let added = each.added in
+    let changed = each.changed in
+    let removed = each.removed in
+    let failed = each.failed in
+    let halted = each.halted in
+    let whole : total counts ≡ total (plus old (totals_of plan events)) = ap total counted in
+    omega arith
+
+pub nothing_counted : (plan : SavedPlan) (counts : Counts) → counts ≡ plus counts (totals_of plan [])
+nothing_counted plan counts = sym (simp add-zero)

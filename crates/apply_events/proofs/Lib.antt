@@ -1,0 +1,11 @@
+pub mod Begun
+pub mod Ended
+pub mod Ends
+pub mod Joined
+pub mod Moments
+pub mod PlannedSteps
+pub mod ProgressTimes
+pub mod Rising
+pub mod StepNumbers
+pub mod Stages
+pub mod UnderWay

@@ -1,0 +1,161 @@
+-- The moments along lists of events.
+use Rattle.std.proofs.Common.{◌≡◌, ℕ, zero, suc, ◌+◌, ◌-◌, ◌*◌, ◌<◌, ◌≤◌, nat_eq, Bool, true, false, List, [], ◌∷◌, ◌++◌, cond, filter, length, map, Option, Some, None, IfSome, get_or, refl, ap, sym, ◌∙◌, arith, ⊎_elim}
+use Rattle.std.specs.Prelude.{All, is_some, option_map, option_to_list, slice_get, sum_by}
+use Rattle.std.specs.List.{IsDistinct, enumerate_from, list_any, range_with_len}
+use Rattle.std.proofs.lemmas.Bool.Decides.{eqb_tells}
+use Rattle.std.proofs.lemmas.List.Sums.{sum_by-cons}
+use Rattle.std.proofs.lemmas.Map.Steps.{length-le_from_distinct_below}
+use Rattle.apply_plan.specs.declared.plan.step_kind.StepKind.{StepKind}
+use Rattle.apply_plan.specs.Script.Outcome.{max_seconds}
+use Rattle.apply_plan.specs.Script.Outcomes.{IsInRange, Outcomes, given_outcome, outcome_of}
+use Rattle.apply_plan.specs.declared.script.outcome.Outcome.{Outcome}
+use Rattle.apply_plan.specs.Script.Outcome.{default_outcome}
+use Rattle.std.specs.Prelude.{unwrap_or}
+use Rattle.apply_hooks.specs.declared.phase.Phase.{Phase}
+use Rattle.apply_hooks.specs.declared.phase.Phase.TheVariants.{Pre}
+use Rattle.apply_events.specs.declared.event.Event.{Event}
+use Rattle.apply_events.specs.declared.what.What.TheVariants.{Progress, Halted}
+use Rattle.apply_events.specs.ChangeEvents.{begun, change_events, in_turn, span_of}
+use Rattle.apply_events.specs.Fits.{latest}
+use Rattle.apply_events.specs.Laws.{IsRead, NamesEachOnce}
+use Rattle.apply_events.specs.ProgressTimes.{is_multiple_of_ten, progress_times}
+use Rattle.apply_events.specs.Step.{Step, Work, kinds_of, step_of, steps_of}
+use Rattle.apply_events.specs.StepEvents.{endings, event, goes_on, halts, phase_after, started, step_events, step_time}
+use Rattle.apply_events.specs.WorkerEvents.{worker_events}
+use Rattle.apply_events.proofs.Rising.{Rises, Rises-append, Rises-at_most, Rises-higher, Rises-lower, Rises-map_more, Rises-map_same}
+
+abbrev pub moment_of : Event → ℕ
+moment_of e = e.at
+
+filter_rises : (test : ℕ → Bool) (low n : ℕ) → Rises (λ x. x) low (low + n) (filter test (range_with_len low n))
+filter_rises test low zero = omega arith
+filter_rises test low (suc n) =
+    let rest : Rises (λ x. x) (low + 1) (low + suc n) (filter test (range_with_len (low + 1) n)) = (let e : low + 1 + n ≡ low + suc n = omega arith in rw (← e) (filter_rises test (low + 1) n)) in
+    elim (test low) as (λ b. Rises (λ x. x) low (low + suc n) (cond b (low ∷ filter test (range_with_len (low + 1) n)) (filter test (range_with_len (low + 1) n)))) [
+      | true ↦ (omega arith, Rises-lower (λ x. x) low (low + 1) (low + suc n) (filter test (range_with_len (low + 1) n)) (omega arith) rest)
+      | false ↦ Rises-lower (λ x. x) low (low + 1) (low + suc n) (filter test (range_with_len (low + 1) n)) (omega arith) rest
+    ]
+
+progress_rises : (d : ℕ) → Rises (λ x. x) 0 d (progress_times d)
+progress_rises zero = omega arith
+progress_rises (suc d) =
+    let less : suc d - 1 ≡ d = omega arith in
+    let high : 1 + d ≡ suc d = omega arith in
+    Rises-lower (λ x. x) 0 1 (suc d) (progress_times (suc d)) (omega arith)
+    (rw less (rw high at (filter_rises is_multiple_of_ten 1 d)))
+
+halts_rise : (w : ℕ) (s : Step) (phase : Phase) (at : ℕ) (found : Option ℕ) → Rises moment_of at at (option_to_list (option_map (λ hook. event w s at (Halted phase hook)) found))
+halts_rise w s phase at None = omega arith
+halts_rise w s phase at (Some hook) = (omega arith, omega arith)
+
+started_rise : (w : ℕ) (s : Step) (at : ℕ) → Rises moment_of at (at + s.seconds) (started w s at)
+started_rise w s at =
+    let progress = map (λ (p : ℕ). event w s (at + p) (Progress p)) (progress_times s.seconds) in
+    let ends = map (λ what. event w s (at + s.seconds) what) (endings s) in (
+      omega arith,
+      Rises-append moment_of at (at + s.seconds) (at + s.seconds) (progress ++ ends) (halts w s (phase_after s.fails) (at + s.seconds))
+          (Rises-append moment_of at (at + s.seconds) (at + s.seconds) progress ends
+          (let none : at + 0 ≡ at = omega arith in rw none at (Rises-map_more moment_of (λ p. event w s (at + p) (Progress p)) at 0 s.seconds (progress_times s.seconds) (λ p. refl) (progress_rises s.seconds)))
+          (Rises-map_same moment_of (λ what. event w s (at + s.seconds) what) (at + s.seconds) (endings s) (λ what. refl)))
+          (halts_rise w s (phase_after s.fails) (at + s.seconds) (s.halts (phase_after s.fails))),
+    )
+
+step_rises : (w : ℕ) (s : Step) (at : ℕ) → Rises moment_of at (at + step_time s) (step_events w s at)
+step_rises w s at = step_rises-at w s at (s.halts Pre)
+  where
+    step_rises-at : (w : ℕ) (s : Step) (at : ℕ) (found : Option ℕ) → Rises moment_of at (at + cond (is_some found) 0 s.seconds) (cond (is_some found) (option_to_list (option_map (λ hook. event w s at (Halted Pre hook)) found)) (started w s at))
+    step_rises-at w s at None = started_rise w s at
+    step_rises-at w s at (Some hook) = (omega arith, omega arith)
+
+in_turn_rises : {X : Type 0} (events : X → ℕ → List Event) (time : X → ℕ) (xs : List X) (at : ℕ) → ((x : X) (at : ℕ) → Rises moment_of at (at + time x) (events x at))
+    → Rises moment_of at (at + sum_by time xs) (in_turn events time xs at)
+in_turn_rises events time [] at each = omega arith
+in_turn_rises events time (x ∷ xs) at each =
+    let sums : at + sum_by time (x ∷ xs) ≡ at + time x + sum_by time xs = (let e : sum_by time (x ∷ xs) ≡ time x + sum_by time xs = sum_by-cons time x xs in omega arith) in
+    rw sums (Rises-append moment_of at (at + time x) (at + time x + sum_by time xs) (events x at) (in_turn events time xs (at + time x)) (each x at) (in_turn_rises events time xs (at + time x) each))
+
+pub change_rises : (work : Work) (w c at : ℕ) → Rises moment_of at (at + span_of work c) (change_events work w c at)
+change_rises work w c at = in_turn_rises (step_events w) step_time (begun (steps_of work c)) at (step_rises w)
+
+worker_rises : (work : Work) (w : ℕ) (changes : List ℕ) → Rises moment_of 0 (0 + sum_by (span_of work) changes) (worker_events work w changes)
+worker_rises work w changes = in_turn_rises (change_events work w) (span_of work) changes 0 (change_rises work w)
+
+-- ---- the first event
+
+IfSome-first : (at : ℕ) (xs ys : List Event) → IfSome (slice_get xs 0) (λ e. e.at ≡ at) → IfSome (slice_get ys 0) (λ e. e.at ≡ at) → IfSome (slice_get (xs ++ ys) 0) (λ e. e.at ≡ at)
+IfSome-first at [] ys first second = second
+IfSome-first at (x ∷ xs) ys first second = first
+
+step_first : (w : ℕ) (s : Step) (rest : List Step) (at : ℕ) (found : Option ℕ) (more : List Event)
+    → IfSome (slice_get (cond (is_some found) (option_to_list (option_map (λ hook. event w s at (Halted Pre hook)) found)) (started w s at) ++ more) 0) (λ e. e.at ≡ at)
+step_first w s rest at None more = refl
+step_first w s rest at (Some hook) more = refl
+
+steps_first : (w : ℕ) (steps : List Step) (at : ℕ) → IfSome (slice_get (in_turn (step_events w) step_time steps at) 0) (λ e. e.at ≡ at)
+steps_first w [] at = tt
+steps_first w (s ∷ steps) at = step_first w s steps at (s.halts Pre) (in_turn (step_events w) step_time steps (at + step_time s))
+
+pub change_first : (work : Work) (w c at : ℕ) → IfSome (slice_get (change_events work w c at) 0) (λ e. e.at ≡ at)
+change_first work w c at = steps_first w (begun (steps_of work c)) at
+
+-- ---- how late it can be
+
+short : (found : Option Outcome) → IfSome found (λ outcome. outcome.seconds ≤ max_seconds) → (unwrap_or found default_outcome).seconds ≤ 86400
+short None h = omega arith
+short (Some outcome) h = h
+
+time_short : (s : Step) → s.seconds ≤ 86400 → step_time s ≤ 86400
+time_short s h = elim (is_some (s.halts Pre)) as (λ b. cond b 0 s.seconds ≤ 86400) [ true ↦ omega arith | false ↦ h ]
+
+abbrev AreShort : List Step → Type 0
+AreShort [] = Unit {0}
+AreShort (s ∷ steps) = (s.seconds ≤ 86400) × AreShort steps
+
+planned_short : (work : Work) (c n : ℕ) (kinds : List StepKind) → IsInRange work.script → AreShort (map (λ p. step_of work c p.0 p.1) (enumerate_from n kinds))
+planned_short work c n [] range = tt
+planned_short work c n (kind ∷ kinds) range = (short (given_outcome work.script c n) (range c n), planned_short work c (n + 1) kinds range)
+
+begun_time : (steps : List Step) → AreShort steps → sum_by step_time (begun steps) ≤ 86400 * length steps
+begun_time [] h = omega arith
+begun_time (s ∷ steps) h =
+    let first : step_time s ≤ 86400 = time_short s h.0 in
+    let rest : sum_by step_time (begun steps) ≤ 86400 * length steps = begun_time steps h.1 in
+    elim (goes_on s) as (λ b. sum_by step_time (s ∷ cond b (begun steps) []) ≤ 86400 * suc (length steps)) [
+      | true ↦ (let e : sum_by step_time (s ∷ begun steps) ≡ step_time s + sum_by step_time (begun steps) = sum_by-cons step_time s (begun steps) in omega arith)
+      | false ↦ (let e : sum_by step_time (s ∷ []) ≡ step_time s + 0 = sum_by-cons step_time s [] in omega arith)
+    ]
+
+length-planned : (work : Work) (c n : ℕ) (kinds : List StepKind) → length (map (λ p. step_of work c p.0 p.1) (enumerate_from n kinds)) ≡ length kinds
+length-planned work c n [] = refl
+length-planned work c n (kind ∷ kinds) = ap suc (length-planned work c (n + 1) kinds)
+
+span_short : (work : Work) (c : ℕ) → IsRead work → span_of work c ≤ 172800
+span_short work c read =
+    let few : length (kinds_of work.plan c) ≤ 2 = read.few_steps c in
+    let same : length (steps_of work c) ≡ length (kinds_of work.plan c) = length-planned work c 0 (kinds_of work.plan c) in
+    let time : span_of work c ≤ 86400 * length (steps_of work c) = begun_time (steps_of work c) (planned_short work c 0 (kinds_of work.plan c) read.short_steps) in
+    omega arith
+
+spans_short : (work : Work) (changes : List ℕ) → IsRead work → sum_by (span_of work) changes ≤ 172800 * length changes
+spans_short work [] read = omega arith
+spans_short work (c ∷ changes) read =
+    let first : span_of work c ≤ 172800 = span_short work c read in
+    let rest : sum_by (span_of work) changes ≤ 172800 * length changes = spans_short work changes read in
+    let e : sum_by (span_of work) (c ∷ changes) ≡ span_of work c + sum_by (span_of work) changes = sum_by-cons (span_of work) c changes in
+    omega arith
+
+below : (xs : List ℕ) (n q : ℕ) → All (λ x. x < n) xs → list_any (λ x. nat_eq q x) xs ≡ true → q < n
+below [] n q all h = cc
+below (x ∷ xs) n q all h =
+    ⊎_elim
+    (λ e. let first : x < n = all 0 0 (omega arith) in let same : q ≡ x = e.1 in omega arith)
+    (λ e. below xs n q (λ k d less. all (suc k) d (omega arith)) (rw e.0 at h))
+    (eqb_tells q x)
+
+pub worker_in_time : (work : Work) (w : ℕ) (changes : List ℕ) → IsRead work → NamesEachOnce work changes → All (λ e. e.at ≤ latest) (worker_events work w changes)
+worker_in_time work w changes read named =
+    let spans : sum_by (span_of work) changes ≤ 172800 * length changes = spans_short work changes read in
+    let many : length changes ≤ length work.plan.changes = length-le_from_distinct_below changes (length work.plan.changes) named.once (λ q h. below changes (length work.plan.changes) q named.known h) in
+    let few : length work.plan.changes ≤ 10000 = read.few_changes in
+    Rises-at_most moment_of 0 latest (worker_events work w changes)
+    (Rises-higher moment_of 0 (0 + sum_by (span_of work) changes) latest (worker_events work w changes) (omega arith) (worker_rises work w changes))

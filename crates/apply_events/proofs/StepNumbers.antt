@@ -1,0 +1,110 @@
+-- The numbers of steps, and of the events that are still to come.
+use Rattle.std.proofs.Common.{◌≡◌, ℕ, zero, suc, ◌+◌, ◌≤◌, true, false, not, ◌&&◌, List, [], ◌∷◌, ◌++◌, cond, drop, length, map, Option, Some, None, refl, arith}
+use Rattle.std.specs.Prelude.{is_none, is_some, option_map, option_to_list}
+use Rattle.std.specs.List.{enumerate_from}
+use Rattle.apply_plan.specs.declared.plan.step_kind.StepKind.{StepKind}
+use Rattle.apply_hooks.specs.declared.phase.Phase.{Phase}
+use Rattle.apply_hooks.specs.declared.phase.Phase.TheVariants.{Pre, PostDone}
+use Rattle.apply_events.specs.declared.event.Event.{Event}
+use Rattle.apply_events.specs.declared.stage.Stage.{Stage}
+use Rattle.apply_events.specs.declared.stage.Stage.TheVariants.{Before, Running, Noting, Halting, Over}
+use Rattle.apply_events.specs.declared.what.What.TheVariants.{Progress, Halted}
+use Rattle.apply_events.specs.ChangeEvents.{begun, in_turn}
+use Rattle.apply_events.specs.Notes.{note_of}
+use Rattle.apply_events.specs.Stages.{behind, events_from, from_stage, halt_after, running, tens_between}
+use Rattle.apply_events.specs.Step.{Step, Work, kinds_of, step_of, steps_of}
+use Rattle.apply_events.specs.StepEvents.{endings, event, goes_on, halts, phase_after, started, step_events, step_time}
+use Rattle.apply_events.proofs.Rising.{Rises, Rises-append, Rises-higher, Rises-lower, Rises-map_same}
+
+-- the steps are numbered from n on
+abbrev pub AreNumbered : ℕ → List Step → Type 0
+AreNumbered n [] = Unit {0}
+AreNumbered n (s ∷ steps) = (s.number ≡ n) × AreNumbered (n + 1) steps
+
+enumerated : (work : Work) (c n : ℕ) (kinds : List StepKind) → AreNumbered n (map (λ p. step_of work c p.0 p.1) (enumerate_from n kinds))
+enumerated work c n [] = tt
+enumerated work c n (kind ∷ kinds) = (refl, enumerated work c (n + 1) kinds)
+
+pub steps_of-numbered : (work : Work) (c : ℕ) → AreNumbered 0 (steps_of work c)
+steps_of-numbered work c = enumerated work c 0 (kinds_of work.plan c)
+
+pub AreNumbered-drop : (n k : ℕ) (steps : List Step) → AreNumbered n steps → AreNumbered (n + k) (drop k steps)
+AreNumbered-drop n zero steps h = let e : n + 0 ≡ n = omega arith in rw e h
+AreNumbered-drop n (suc k) [] h = tt
+AreNumbered-drop n (suc k) (s ∷ steps) h =
+    let e : n + 1 + k ≡ n + suc k = omega arith in rw (← e) (AreNumbered-drop (n + 1) k steps h.1)
+
+pub AreNumbered-begun : (n : ℕ) (steps : List Step) → AreNumbered n steps → AreNumbered n (begun steps)
+AreNumbered-begun n [] h = tt
+AreNumbered-begun n (s ∷ steps) h =
+    (h.0, elim (goes_on s) as (λ b. AreNumbered (n + 1) (cond b (begun steps) [])) [ true ↦ AreNumbered-begun (n + 1) steps h.1 | false ↦ tt ])
+
+-- ---- the numbers along a list of events never fall
+
+abbrev pub number_of : Event → ℕ
+number_of e = e.step
+
+halts_rise : (w : ℕ) (s : Step) (phase : Phase) (at : ℕ) (found : Option ℕ) → Rises number_of s.number s.number (option_to_list (option_map (λ hook. event w s at (Halted phase hook)) found))
+halts_rise w s phase at None = omega arith
+halts_rise w s phase at (Some hook) = (omega arith, omega arith)
+
+pub running_rise : (w : ℕ) (s : Step) (at told : ℕ) → Rises number_of s.number s.number (running w s at told)
+running_rise w s at told =
+    Rises-append number_of s.number s.number s.number (map (λ p. event w s (at + p) (Progress p)) (tens_between told s.seconds) ++ map (λ what. event w s (at + s.seconds) what) (endings s)) (halts w s (phase_after s.fails) (at + s.seconds))
+    (Rises-append number_of s.number s.number s.number (map (λ p. event w s (at + p) (Progress p)) (tens_between told s.seconds)) (map (λ what. event w s (at + s.seconds) what) (endings s))
+    (Rises-map_same number_of (λ p. event w s (at + p) (Progress p)) s.number (tens_between told s.seconds) (λ p. refl))
+    (Rises-map_same number_of (λ what. event w s (at + s.seconds) what) s.number (endings s) (λ what. refl)))
+    (halts_rise w s (phase_after s.fails) (at + s.seconds) (s.halts (phase_after s.fails)))
+
+pub step_events_rise : (w : ℕ) (s : Step) (at : ℕ) → Rises number_of s.number s.number (step_events w s at)
+step_events_rise w s at = step_events_rise-at w s at (s.halts Pre)
+  where
+    step_events_rise-at : (w : ℕ) (s : Step) (at : ℕ) (found : Option ℕ) → Rises number_of s.number s.number (cond (is_some found) (option_to_list (option_map (λ hook. event w s at (Halted Pre hook)) found)) (started w s at))
+    step_events_rise-at w s at None = (omega arith, running_rise w s at 0)
+    step_events_rise-at w s at (Some hook) = (omega arith, omega arith)
+
+pub in_turn_rise : (w n : ℕ) (steps : List Step) (at : ℕ) → AreNumbered n steps → Rises number_of n (n + length steps) (in_turn (step_events w) step_time steps at)
+in_turn_rise w n [] at h = omega arith
+in_turn_rise w n (s ∷ steps) at h =
+    let here : s.number ≡ n = h.0 in
+    Rises-append number_of n s.number (n + suc (length steps)) (step_events w s at) (in_turn (step_events w) step_time steps (at + step_time s))
+    (Rises-lower number_of n s.number s.number (step_events w s at) (omega arith) (step_events_rise w s at))
+    (Rises-lower number_of s.number (n + 1) (n + suc (length steps)) (in_turn (step_events w) step_time steps (at + step_time s)) (omega arith)
+    (let high : n + 1 + length steps ≡ n + suc (length steps) = omega arith in rw (← high) (in_turn_rise w (n + 1) steps (at + step_time s) h.1)))
+
+length-begun : (steps : List Step) → length (begun steps) ≤ length steps
+length-begun [] = omega arith
+length-begun (s ∷ steps) =
+    let rest : length (begun steps) ≤ length steps = length-begun steps in
+    elim (goes_on s) as (λ b. suc (length (cond b (begun steps) [])) ≤ suc (length steps)) [ true ↦ omega arith | false ↦ omega arith ]
+
+pub events_from_rise : (w n : ℕ) (steps : List Step) (at : ℕ) → AreNumbered n steps → Rises number_of n (n + length steps) (events_from w steps at)
+events_from_rise w n steps at h =
+    Rises-higher number_of n (n + length (begun steps)) (n + length steps) (events_from w steps at) (let few : length (begun steps) ≤ length steps = length-begun steps in omega arith)
+    (in_turn_rise w n (begun steps) at (AreNumbered-begun n steps h))
+
+behind_rise : (w n : ℕ) (s : Step) (steps : List Step) (at : ℕ) → AreNumbered (n + 1) steps → Rises number_of n (n + suc (length steps)) (behind w s steps at)
+behind_rise w n s steps at h =
+    elim (not s.fails && is_none (s.halts PostDone)) as (λ b. Rises number_of n (n + suc (length steps)) (cond b (events_from w steps (at + s.seconds)) [])) [
+      | true ↦ Rises-lower number_of n (n + 1) (n + suc (length steps)) (events_from w steps (at + s.seconds)) (omega arith)
+          (let high : n + 1 + length steps ≡ n + suc (length steps) = omega arith in rw (← high) (events_from_rise w (n + 1) steps (at + s.seconds) h))
+      | false ↦ omega arith
+    ]
+
+after_rise : (w n : ℕ) (s : Step) (steps : List Step) (at : ℕ) (events : List Event) → AreNumbered n (s ∷ steps) → Rises number_of s.number s.number events
+    → Rises number_of n (n + suc (length steps)) (events ++ behind w s steps at)
+after_rise w n s steps at events h own =
+    let here : s.number ≡ n = h.0 in
+    Rises-append number_of n n (n + suc (length steps)) events (behind w s steps at) (rw here at own) (behind_rise w n s steps at h.1)
+
+-- the events to come are of the steps that are left
+pub to_come_rise : (w n : ℕ) (left : List Step) (at told : ℕ) (stage : Stage) → AreNumbered n left → Rises number_of n (n + length left) (from_stage w left at told stage)
+to_come_rise w n left at told Before h = events_from_rise w n left at h
+to_come_rise w n left at told Over h = omega arith
+to_come_rise w n [] at told Running h = omega arith
+to_come_rise w n [] at told Noting h = omega arith
+to_come_rise w n [] at told (Halting hook) h = omega arith
+to_come_rise w n (s ∷ steps) at told Running h = after_rise w n s steps at (running w s at told) h (running_rise w s at told)
+to_come_rise w n (s ∷ steps) at told Noting h =
+    after_rise w n s steps at (event w s (at + s.seconds) (note_of s.fails) ∷ halt_after w s at) h (omega arith, halts_rise w s (phase_after s.fails) (at + s.seconds) (s.halts (phase_after s.fails)))
+to_come_rise w n (s ∷ steps) at told (Halting hook) h = let here : s.number ≡ n = h.0 in (omega arith, omega arith)

@@ -1,0 +1,20 @@
+use Rattle.std.proofs.Common.{◌∙◌}
+use Rattle.apply_events.specs.Runner.{course_of, left_of}
+use Rattle.apply_events.specs.RunnerStep.{rest_of, step_at_hand}
+use Rattle.apply_events.specs.Step.{steps_of}
+use Rattle.apply_events.proofs.Stages.{finish_goes_on, finish_halts}
+use Rattle.apply_events.proofs.UnderWay.{next_time}
+use Rattle.apply_events.proofs.runner.Runner.finish.Goals as goal
+
+pub returns-in-Some-clause-next : goal.returns-in-Some-clause-next
+returns-in-Some-clause-next g c =
+    finish_halts c.args.self.now.worker (step_at_hand c.args.self.now c.args.kind) (rest_of c.args.self.now) (left_of c.args.self.now) c.args.self.now.at c.args.self.now.told c.in-Some.hook c.requires.step.step (cc)
+
+pub returns-in-None-2-clause-next : goal.returns-in-None-2-clause-next
+returns-in-None-2-clause-next g c =
+    c.pass-in-None-2.ensures.next
+    ∙ finish_goes_on c.args.self.now.worker (step_at_hand c.args.self.now c.args.kind) (rest_of c.args.self.now) c.args.self.now.at c.args.self.now.told (cc) (cc)
+
+pub pass-requires-in-None-2-clause-time : goal.pass-requires-in-None-2-clause-time
+pass-requires-in-None-2-clause-time g c =
+    next_time (steps_of (course_of c.args.self.now).work c.args.self.now.change) c.args.self.now.step (step_at_hand c.args.self.now c.args.kind) c.args.self.now.begin c.args.self.now.at c.requires.step

@@ -1,0 +1,23 @@
+-- Words of the laws of events.
+use Rattle.std.specs.Prelude.{ℕ, ◌<◌, ◌≤◌, ◌==◌, Bool, ◌&&◌, ◌||◌, List, length, All, nat_eq}
+use Rattle.std.specs.List.{IsDistinct}
+use Rattle.apply_plan.specs.Plan.SavedPlan.{max_changes}
+use Rattle.apply_plan.specs.Script.Outcomes.{IsInRange}
+use Rattle.apply_events.specs.declared.event.Event.{Event}
+use Rattle.apply_events.specs.Step.{Work, kinds_of}
+use Rattle.apply_events.specs.Totals.{is_complete, is_errored}
+
+-- step k completes or fails
+abbrev pub ends_step : ℕ → Event → Bool
+ends_step k event = event.step == k && (is_complete event.what || is_errored event.what)
+
+-- the work is what a plan and a script that were read give
+pub record IsRead (work : Work) : Type 0 where
+  pub few_changes : length work.plan.changes ≤ max_changes
+  pub few_steps : (c : ℕ) → length (kinds_of work.plan c) ≤ 2
+  pub short_steps : IsInRange work.script
+
+-- each change that is named is in the plan, and stands once
+pub record NamesEachOnce (work : Work) (changes : List ℕ) : Type 0 where
+  pub known : All (λ c. c < length work.plan.changes) changes
+  pub once : IsDistinct nat_eq changes

@@ -1,0 +1,14 @@
+pub mod ChangeEvents
+pub mod Course
+pub mod Fits
+pub mod Laws
+pub mod Notes
+pub mod OfWorker
+pub mod ProgressTimes
+pub mod Runner
+pub mod RunnerStep
+pub mod Stages
+pub mod Step
+pub mod StepEvents
+pub mod Totals
+pub mod WorkerEvents

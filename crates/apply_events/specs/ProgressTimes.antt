@@ -1,0 +1,10 @@
+-- When a step reports progress (Machine-Readable UI, "Operation Messages", `apply_progress`).
+use Rattle.std.specs.Prelude.{ℕ, ◌-◌, ◌%◌, ◌==◌, Bool, List, filter}
+use Rattle.std.specs.List.{range_with_len}
+
+abbrev pub is_multiple_of_ten : ℕ → Bool
+is_multiple_of_ten n = n % 10 == 0
+
+-- the multiples of ten strictly between 0 and d, rising: the seconds after which a step of d seconds reports progress
+abbrev pub progress_times : ℕ → List ℕ
+progress_times d = filter is_multiple_of_ten (range_with_len 1 (d - 1))

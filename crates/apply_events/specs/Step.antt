@@ -1,0 +1,60 @@
+-- A step of a change, as its events depend on it.
+use Rattle.std.specs.Prelude.{ℕ, List, [], map, Bool, true, false, Option, Some, None, slice_get}
+use Rattle.std.specs.List.{enumerate_from}
+use Rattle.std.specs.Option.{option_map_or}
+use Rattle.apply_plan.specs.declared.plan.step_kind.StepKind.{StepKind}
+use Rattle.apply_plan.specs.declared.script.ending.Ending.{Ending}
+use Rattle.apply_plan.specs.declared.script.ending.Ending.TheVariants.{Done, Failed}
+use Rattle.apply_plan.specs.Plan.SavedPlan.{SavedPlan}
+use Rattle.apply_plan.specs.Script.Outcomes.{Outcomes, outcome_of}
+use Rattle.apply_hooks.specs.declared.phase.Phase.{Phase}
+use Rattle.apply_hooks.specs.declared.rule.Rule.{Rule}
+use Rattle.apply_hooks.specs.Hooks.{first_halting}
+
+-- what is applied: a plan, what the providers answer to its steps, and the rules of each hook
+pub record Work : Type 0 where
+  pub plan : SavedPlan
+  pub script : Outcomes
+  pub hooks : List (List Rule)
+
+pub record Step : Type 0 where
+  -- the number of its change, and its own in that change
+  pub change : ℕ
+  pub number : ℕ
+  -- how long it takes, in seconds
+  pub seconds : ℕ
+  pub fails : Bool
+  pub warns : Bool
+  -- the first hook that halts it, in each phase
+  pub halts : Phase → Option ℕ
+
+abbrev pub is_failed : Ending → Bool
+is_failed (Done id warning) = false
+is_failed (Failed diag) = true
+
+abbrev pub has_warning : Ending → Bool
+has_warning (Done id None) = false
+has_warning (Done id (Some diag)) = true
+has_warning (Failed diag) = false
+
+-- the steps that a plan has for change c; none where there is no such change
+abbrev pub kinds_of : SavedPlan → ℕ → List StepKind
+kinds_of plan c = option_map_or (λ change. change.steps) (slice_get plan.changes c) []
+
+abbrev pub address_of : SavedPlan → ℕ → List ℕ
+address_of plan c = option_map_or (λ change. change.address) (slice_get plan.changes c) []
+
+-- step k of change c, which is of that kind
+abbrev pub step_of : Work → (c k : ℕ) → StepKind → Step
+step_of work c k kind = record {
+  change = c;
+  number = k;
+  seconds = (outcome_of work.script c k).seconds;
+  fails = is_failed (outcome_of work.script c k).result;
+  warns = has_warning (outcome_of work.script c k).result;
+  halts = λ phase. first_halting work.hooks (record { phase = phase; kind = kind; address = address_of work.plan c });
+}
+
+-- the steps of change c
+abbrev pub steps_of : Work → ℕ → List Step
+steps_of work c = map (λ p. step_of work c p.0 p.1) (enumerate_from 0 (kinds_of work.plan c))

@@ -1,0 +1,53 @@
+-- The events of one step (Machine-Readable UI, "Operation Messages"; hooks before and after each action).
+use Rattle.std.specs.Prelude.{ℕ, ◌+◌, List, [], ◌∷◌, ◌++◌, map, Bool, not, ◌&&◌, is_some, is_none, if◌then◌else◌, option_map, option_to_list}
+use Rattle.apply_hooks.specs.declared.phase.Phase.{Phase}
+use Rattle.apply_hooks.specs.declared.phase.Phase.TheVariants.{Pre, PostDone, PostFailed}
+use Rattle.apply_events.specs.declared.event.Event.{Event}
+use Rattle.apply_events.specs.declared.what.What.{What}
+use Rattle.apply_events.specs.declared.what.What.TheVariants.{Start, Progress, Complete, Errored, ErrorNote, WarnNote, Halted}
+use Rattle.apply_events.specs.ProgressTimes.{progress_times}
+use Rattle.apply_events.specs.Step.{Step}
+
+-- something happens to a step at a moment
+abbrev pub event : (worker : ℕ) → Step → (at : ℕ) → What → Event
+event worker step at what = record { worker = worker; change = step.change; step = step.number; what = what; at = at }
+
+-- the halt in a phase, where a hook halts
+abbrev pub halts : (worker : ℕ) → Step → Phase → (at : ℕ) → List Event
+halts worker step phase at = option_to_list (option_map (λ hook. event worker step at (Halted phase hook)) (step.halts phase))
+
+-- the phase in which hooks are asked after a step that fails or does not
+abbrev pub phase_after : (fails : Bool) → Phase
+phase_after fails = if fails then PostFailed else PostDone
+
+-- how it ends
+abbrev pub end_of : (fails : Bool) → (seconds : ℕ) → What
+end_of fails seconds = if fails then Errored seconds else Complete seconds
+
+-- the notes that follow the end
+abbrev pub notes : (fails warns : Bool) → List What
+notes fails warns = if fails then ErrorNote ∷ [] else if warns then WarnNote ∷ [] else []
+
+-- what happens at the end, but for a halt
+abbrev pub endings : Step → List What
+endings step = end_of step.fails step.seconds ∷ notes step.fails step.warns
+
+-- the step starts at a moment, reports progress, and ends
+abbrev pub started : (worker : ℕ) → Step → (at : ℕ) → List Event
+started worker step at =
+    event worker step at Start ∷ []
+    ++ map (λ p. event worker step (at + p) (Progress p)) (progress_times step.seconds)
+    ++ map (λ what. event worker step (at + step.seconds) what) (endings step)
+    ++ halts worker step (phase_after step.fails) (at + step.seconds)
+
+-- the events of a step that begins at a moment: a halt alone, where a hook halts before it
+abbrev pub step_events : (worker : ℕ) → Step → (at : ℕ) → List Event
+step_events worker step at = if is_some (step.halts Pre) then halts worker step Pre at else started worker step at
+
+-- how long it takes
+abbrev pub step_time : Step → ℕ
+step_time step = if is_some (step.halts Pre) then 0 else step.seconds
+
+-- it completes, and no hook halts
+abbrev pub goes_on : Step → Bool
+goes_on step = is_none (step.halts Pre) && not step.fails && is_none (step.halts PostDone)

@@ -1,0 +1,104 @@
+//! What the events of a step take from its outcome.
+
+ghost use Rattle.std.specs.Prelude.{◌≡◌, ◌≤◌, ◌||◌};
+ghost use Rattle.apply_plan.specs.Script.Outcome.{max_seconds};
+ghost use Rattle.apply_plan.specs.Script.Outcomes.{outcome_of};
+ghost use Rattle.apply_events.specs.Step.{has_warning, is_failed};
+ghost use Rattle.apply_events.specs.Notes.{note_of};
+ghost use Rattle.apply_events.specs.StepEvents.{end_of, phase_after};
+
+use crate::what::What;
+use apply_hooks::Phase;
+use apply_plan::{Ending, Script};
+
+/// What the events of a step take from its outcome, without its texts.
+#[derive(Clone, Copy, Debug)]
+pub struct Brief {
+    /// How long the step takes, in seconds.
+    pub seconds: u32,
+    /// Whether it fails.
+    pub fails: bool,
+    /// Whether it completes with a warning.
+    pub warns: bool,
+}
+
+impl Brief {
+    /// That of a step of a change, also where the script says nothing of it.
+    pub fn new(script: &Script, change: u32, step: u8) -> Brief
+        ensures seconds { result.seconds ≡ (outcome_of script.now change step).seconds }
+        ensures fails { result.fails ≡ is_failed (outcome_of script.now change step).result }
+        ensures warns { result.warns ≡ has_warning (outcome_of script.now change step).result }
+        ensures few { result.seconds ≤ max_seconds }
+    {
+        match script.outcome(change, step) {
+            Some(outcome) => Brief {
+                seconds: outcome.seconds,
+                fails: fails(&outcome.result),
+                warns: warns(&outcome.result),
+            },
+            None => Brief {
+                seconds: 0,
+                fails: false,
+                warns: false,
+            },
+        }
+    }
+
+    /// How the step ends.
+    pub fn end(self) -> What
+        ensures { result ≡ end_of self.fails self.seconds }
+    {
+        if self.fails {
+            What::Errored(self.seconds)
+        } else {
+            What::Complete(self.seconds)
+        }
+    }
+
+    /// Whether a note follows the end.
+    pub fn has_note(self) -> bool
+        ensures { result ≡ (self.fails || self.warns) }
+    {
+        self.fails || self.warns
+    }
+
+    /// The note, where one follows.
+    pub fn note(self) -> What
+        ensures { result ≡ note_of self.fails }
+    {
+        if self.fails {
+            What::ErrorNote
+        } else {
+            What::WarnNote
+        }
+    }
+
+    /// The phase in which hooks are asked after the step.
+    pub fn phase_after(self) -> Phase
+        ensures { result ≡ phase_after self.fails }
+    {
+        if self.fails {
+            Phase::PostFailed
+        } else {
+            Phase::PostDone
+        }
+    }
+}
+
+fn fails(ending: &Ending) -> bool
+    ensures { result ≡ is_failed ending.now }
+{
+    match ending {
+        Ending::Done { .. } => false,
+        Ending::Failed { .. } => true,
+    }
+}
+
+fn warns(ending: &Ending) -> bool
+    ensures { result ≡ has_warning ending.now }
+{
+    match ending {
+        Ending::Done { warning, .. } => warning.is_some(),
+        Ending::Failed { .. } => false,
+    }
+}

@@ -1,0 +1,19 @@
+use crate::what::What;
+
+/// The greatest moment of an event, in seconds: 10,000 changes of two steps, each of 86,400 seconds.
+pub const LATEST: u64 = 1_728_000_000;
+
+/// Something that happens to a step of a change.
+#[derive(Clone, Copy, Debug, PartialEq, Eq)]
+pub struct Event {
+    /// The worker that applies the change.
+    pub worker: u8,
+    /// The change, counted from 0 in the plan.
+    pub change: u32,
+    /// The step, counted from 0 in the change.
+    pub step: u8,
+    /// What happens.
+    pub what: What,
+    /// When, in seconds after the worker began.
+    pub at: u64,
+}

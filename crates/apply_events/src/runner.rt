@@ -1,0 +1,322 @@
+//! A change that is being applied.
+
+ghost use Rattle.std.specs.Prelude.{◌≡◌, ◌+◌, ◌-◌, ◌*◌, ◌%◌, ◌<◌, ◌≤◌, length, true};
+ghost use Rattle.apply_hooks.specs.Registry.{rules_of};
+ghost use Rattle.apply_events.specs.Stages.{is_on_course, time_behind};
+ghost use Rattle.apply_events.specs.Step.{steps_of};
+ghost use Rattle.std.specs.Prelude.{slice_get};
+
+use crate::brief::Brief;
+use crate::event::Event;
+use crate::stage::Stage;
+use crate::what::What;
+use apply_hooks::{Asked, HookCall, Phase, Registry};
+use apply_plan::{Plan, Script, StepKind};
+
+/// A change that is being applied: it gives the change's events one by one, and keeps but a few words.
+///
+/// Contracts know it by `course_of`, which is its work, worker, change and begin, and by `to_come`, the events that are
+/// still to come.
+#[derive(Drop)]
+pub struct Runner<'a> {
+    plan: &'a Plan,
+    script: &'a Script,
+    registry: &'a Registry,
+    worker: u8,
+    change: u32,
+    /// When the change begins.
+    begin: u64,
+    /// The step at hand.
+    step: u8,
+    /// When it begins.
+    at: u64,
+    /// After how many seconds its last progress was told.
+    told: u32,
+    stage: Stage,
+    ghost is_planned: { change < length plan.now.changes },
+    ghost few: { step ≤ 2 },
+    ghost soon: { at ≤ begin + 86400 * step },
+    ghost in_time: { at + 86400 * (2 - step) ≤ 1728000000 },
+    ghost on_ten: { told % 10 ≡ 0 },
+    ghost on_time: { at ≡ begin + time_behind (steps_of (record {
+      plan = plan.now;
+      script = script.now;
+      hooks = rules_of registry.now;
+    }) change) step stage },
+    ghost on_course: { is_on_course (steps_of (record {
+      plan = plan.now;
+      script = script.now;
+      hooks = rules_of registry.now;
+    }) change) step stage ≡ true },
+}
+
+impl<'a> Runner<'a> {
+    ghost use Rattle.std.specs.Prelude.{[], ◌∷◌, ◌++◌, ◌↔◌, Some, IfSome, IfNone};
+    ghost use Rattle.apply_plan.specs.Script.Outcome.{max_seconds};
+    ghost use Rattle.apply_plan.specs.Script.Outcomes.{outcome_of};
+    ghost use Rattle.apply_events.specs.ChangeEvents.{change_events, span_of};
+    ghost use Rattle.apply_events.specs.Fits.{HasStep, latest};
+    ghost use Rattle.apply_events.specs.Course.{GivesNext, beginning_of, ended_of};
+    ghost use Rattle.apply_events.specs.Runner.{course_of, left_of, to_come};
+    ghost use Rattle.apply_events.specs.RunnerStep.{rest_of, step_at_hand};
+    ghost use Rattle.apply_events.specs.Step.{has_warning, is_failed};
+    ghost use Rattle.apply_events.specs.Stages.{IsUnderWay, behind, from_stage, halt_after};
+
+    /// The runner of a change that begins at a moment, in seconds, early enough that two steps of a day end by `LATEST`.
+    pub fn start(
+        plan: &'a Plan,
+        script: &'a Script,
+        registry: &'a Registry,
+        worker: u8,
+        change: u32,
+        at: u64,
+    ) -> Runner<'a>
+        requires change { change < length plan.now.changes }
+        requires in_time { at + 172800 ≤ latest }
+        ensures course { course_of result ≡ record {
+          work = record { plan = plan.now; script = script.now; hooks = rules_of registry.now };
+          worker = worker;
+          change = change;
+          begin = at;
+        } }
+        ensures events { to_come result ≡ change_events (course_of result).work worker change at }
+    {
+        Runner {
+            plan,
+            script,
+            registry,
+            worker,
+            change,
+            begin: at,
+            step: 0,
+            at,
+            told: 0,
+            stage: Stage::Before,
+        }
+    }
+
+    /// The next event. `None` where none is left, now and from then on.
+    ///
+    /// The hooks before a step are asked by the call that gives the step's first event, those after it by the call that
+    /// gives the last event that comes whether they halt or not.
+    pub fn next(&mut self) -> Option<Event>
+        ensures next { GivesNext (to_come self.old) result (to_come self.new) }
+        ensures has_step { IfSome result
+            (λ event. HasStep (course_of self.old).work.plan event.change event.step) }
+        ensures course { course_of self.new ≡ course_of self.old }
+    {
+        let Some(kind) = self.kind() else {
+            return None;
+        };
+        match self.stage {
+            Stage::Before => Some(self.begin(kind)),
+            Stage::Running => Some(self.report(kind)),
+            Stage::Noting => Some(self.note(kind)),
+            Stage::Halting(hook) => Some(self.halt(kind, hook)),
+            Stage::Over => None,
+        }
+    }
+
+    /// Asks the hooks before the step, and starts it or halts.
+    fn begin(&mut self, kind: StepKind) -> Event
+        requires step { left_of self.old ≡ step_at_hand self.old kind ∷ rest_of self.old }
+        requires few { self.old.step < 2 }
+        requires stage { self.old.stage ≡ Stage.Before }
+        ensures next { to_come self.old ≡ result ∷ to_come self.new }
+        ensures place { (result.change ≡ self.old.change) × (result.step ≡ self.old.step) }
+        ensures course { course_of self.new ≡ course_of self.old }
+    {
+        match self.halting(Phase::Pre, kind) {
+            Some(hook) => {
+                let event = self.event(
+                    self.at,
+                    What::Halted {
+                        phase: Phase::Pre,
+                        hook,
+                    },
+                );
+                self.stage = Stage::Over;
+                event
+            }
+            None => {
+                let event = self.event(self.at, What::Start);
+                self.stage = Stage::Running;
+                self.told = 0;
+                event
+            }
+        }
+    }
+
+    /// Tells the progress, or the end.
+    fn report(&mut self, kind: StepKind) -> Event
+        requires step { left_of self.old ≡ step_at_hand self.old kind ∷ rest_of self.old }
+        requires few { self.old.step < 2 }
+        requires stage { self.old.stage ≡ Stage.Running }
+        ensures next { to_come self.old ≡ result ∷ to_come self.new }
+        ensures place { (result.change ≡ self.old.change) × (result.step ≡ self.old.step) }
+        ensures course { course_of self.new ≡ course_of self.old }
+    {
+        let brief = self.brief();
+        if brief.seconds.saturating_sub(10) > self.told {
+            let told = self.told + 10;
+            let event = self.event(self.at + told as u64, What::Progress(told));
+            self.told = told;
+            event
+        } else {
+            let event = self.event(self.at + brief.seconds as u64, brief.end());
+            if brief.has_note() {
+                self.stage = Stage::Noting;
+            } else {
+                self.finish(kind);
+            }
+            event
+        }
+    }
+
+    /// Tells the note of the end.
+    fn note(&mut self, kind: StepKind) -> Event
+        requires step { left_of self.old ≡ step_at_hand self.old kind ∷ rest_of self.old }
+        requires few { self.old.step < 2 }
+        requires stage { self.old.stage ≡ Stage.Noting }
+        ensures next { to_come self.old ≡ result ∷ to_come self.new }
+        ensures place { (result.change ≡ self.old.change) × (result.step ≡ self.old.step) }
+        ensures course { course_of self.new ≡ course_of self.old }
+    {
+        let brief = self.brief();
+        let event = self.event(self.at + brief.seconds as u64, brief.note());
+        self.finish(kind);
+        event
+    }
+
+    /// Tells the halt after the step.
+    fn halt(&mut self, kind: StepKind, hook: u8) -> Event
+        requires step { left_of self.old ≡ step_at_hand self.old kind ∷ rest_of self.old }
+        requires few { self.old.step < 2 }
+        requires stage { self.old.stage ≡ Stage.Halting hook }
+        ensures next { to_come self.old ≡ result ∷ to_come self.new }
+        ensures place { (result.change ≡ self.old.change) × (result.step ≡ self.old.step) }
+        ensures course { course_of self.new ≡ course_of self.old }
+    {
+        let brief = self.brief();
+        let phase = brief.phase_after();
+        let event = self.event(self.at + brief.seconds as u64, What::Halted { phase, hook });
+        self.pass(kind, Stage::Over);
+        event
+    }
+
+    /// Asks the hooks after the step, all other events of which were told.
+    fn finish(&mut self, kind: StepKind)
+        requires step { IsUnderWay (steps_of (course_of self.old).work self.old.change) self.old.step
+            (step_at_hand self.old kind) self.old.begin self.old.at }
+        requires few { self.old.step < 2 }
+        ensures next { to_come self.new ≡ halt_after self.old.worker (step_at_hand self.old kind) self.old.at
+            ++ behind self.old.worker (step_at_hand self.old kind) (rest_of self.old) self.old.at }
+        ensures course { course_of self.new ≡ course_of self.old }
+    {
+        let brief = self.brief();
+        match self.halting(brief.phase_after(), kind) {
+            Some(hook) => self.stage = Stage::Halting(hook),
+            None if brief.fails => self.pass(kind, Stage::Over),
+            None => self.pass(kind, Stage::Before),
+        }
+    }
+
+    /// Leaves the step behind.
+    fn pass(&mut self, kind: StepKind, stage: Stage)
+        requires few { self.old.step < 2 }
+        requires time { self.old.at + (step_at_hand self.old kind).seconds
+            ≡ self.old.begin + time_behind (steps_of (course_of self.old).work self.old.change) (self.old.step + 1) stage }
+        requires course { is_on_course (steps_of (course_of self.old).work self.old.change) (self.old.step + 1) stage ≡ true }
+        ensures next { to_come self.new ≡ from_stage self.old.worker (rest_of self.old)
+            (self.old.at + (step_at_hand self.old kind).seconds) self.old.told stage }
+        ensures course { course_of self.new ≡ course_of self.old }
+    {
+        let seconds = self.brief().seconds;
+        self.at += seconds as u64;
+        self.step += 1;
+        self.stage = stage;
+    }
+
+    /// The step whose first event comes next, if the first event of a step does.
+    pub fn begins(&self) -> Option<u8>
+        ensures { result ≡ beginning_of (to_come self.now) }
+    {
+        let _kind = self.kind()?;
+        match self.stage {
+            Stage::Before => Some(self.step),
+            Stage::Running | Stage::Noting | Stage::Halting(_) | Stage::Over => None,
+        }
+    }
+
+    /// When the change has ended so far, in seconds: its begin and the times of the steps whose last event was given.
+    /// After `None` it is the begin and the change's whole span.
+    pub fn ended_at(&self) -> u64
+        ensures ended { result ≡ ended_of (course_of self.now) (to_come self.now) }
+        ensures whole { to_come self.now ≡ [] → result ≡ (course_of self.now).begin
+            + span_of (course_of self.now).work (course_of self.now).change }
+        ensures in_time { result ≤ (course_of self.now).begin + 172800 }
+    {
+        self.at
+    }
+
+    /// What the step at hand does. `None` where all steps were passed.
+    fn kind(&self) -> Option<StepKind>
+        ensures step { IfSome result (λ kind. left_of self.now ≡ step_at_hand self.now kind ∷ rest_of self.now) }
+        ensures few { IfSome result (λ _. self.now.step < 2) }
+        ensures has_step { IfSome result (λ _. HasStep self.now.plan.now self.now.change self.now.step) }
+        ensures none { IfNone result (left_of self.now ≡ []) }
+    {
+        kind_at(self.plan.change(self.change).steps(), self.step)
+    }
+
+    /// What the events of the step at hand take from its outcome.
+    fn brief(&self) -> Brief
+        ensures seconds { result.seconds ≡ (outcome_of self.now.script.now self.now.change self.now.step).seconds }
+        ensures fails { result.fails ≡ is_failed (outcome_of self.now.script.now self.now.change self.now.step).result }
+        ensures warns { result.warns ≡ has_warning (outcome_of self.now.script.now self.now.change self.now.step).result }
+        ensures few { result.seconds ≤ max_seconds }
+    {
+        Brief::new(self.script, self.change, self.step)
+    }
+
+    /// Something that happens to the step at hand.
+    fn event(&self, at: u64, what: What) -> Event
+        ensures { result ≡ record {
+          worker = self.now.worker;
+          change = self.now.change;
+          step = self.now.step;
+          what = what;
+          at = at;
+        } }
+    {
+        Event {
+            worker: self.worker,
+            change: self.change,
+            step: self.step,
+            what,
+            at,
+        }
+    }
+
+    /// The first hook that halts the step in the phase.
+    fn halting(&self, phase: Phase, kind: StepKind) -> Option<u8>
+        ensures { result ≡ (step_at_hand self.now kind).halts phase }
+    {
+        let asked = self.registry.ask(&HookCall {
+            phase,
+            kind,
+            address: self.plan.change(self.change).address(),
+        });
+        match asked {
+            Asked::HaltedBy(hook) => Some(hook),
+            Asked::Go => None,
+        }
+    }
+}
+
+/// What the step of that number does, if there is one.
+fn kind_at(steps: &[StepKind], step: u8) -> Option<StepKind>
+    ensures { result ≡ slice_get steps.now step }
+{
+    steps.get(step as usize).copied()
+}

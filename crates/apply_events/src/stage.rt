@@ -1,0 +1,14 @@
+/// How far the step at hand is.
+#[derive(Clone, Copy, Debug, PartialEq, Eq)]
+pub enum Stage {
+    /// No hook was asked yet.
+    Before,
+    /// It has started, and has not ended.
+    Running,
+    /// Its end was told. Its note comes next.
+    Noting,
+    /// All was told but the halt by that hook.
+    Halting(u8),
+    /// There is no step at hand: the change is over.
+    Over,
+}

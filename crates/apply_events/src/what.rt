@@ -1,0 +1,25 @@
+use apply_hooks::Phase;
+
+/// What happens to a step (Machine-Readable UI, "Operation Messages"; the hooks before and after each action).
+#[derive(Clone, Copy, Debug, PartialEq, Eq)]
+pub enum What {
+    /// It starts (`apply_start`).
+    Start,
+    /// It goes on, so many seconds after its start (`apply_progress`): a multiple of 10.
+    Progress(u32),
+    /// It completes, so many seconds after its start (`apply_complete`).
+    Complete(u32),
+    /// It fails, so many seconds after its start (`apply_errored`).
+    Errored(u32),
+    /// The error is told (`diagnostic`).
+    ErrorNote,
+    /// The provider's warning is told (`diagnostic`).
+    WarnNote,
+    /// A hook halts its change: no further step of it is begun.
+    Halted {
+        /// When the hook was asked.
+        phase: Phase,
+        /// The hook's number in the registry, 31 at most: the first that halted.
+        hook: u8,
+    },
+}

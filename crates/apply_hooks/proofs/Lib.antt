@@ -1,0 +1,2 @@
+pub mod FirstHalting
+pub mod Positions

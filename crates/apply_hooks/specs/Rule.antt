@@ -1,0 +1,15 @@
+-- Rules.
+use Rattle.std.specs.Prelude.{Bool, true, ◌&&◌, nat_eq}
+use Rattle.std.specs.List.{starts_with}
+use Rattle.std.specs.Option.{option_map_or}
+use Rattle.apply_hooks.specs.HookCall.{Call}
+use Rattle.apply_hooks.specs.Phase.{is_phase}
+use Rattle.apply_hooks.specs.StepKind.{is_kind}
+use Rattle.apply_hooks.specs.declared.rule.Rule.{Rule}
+
+-- each part that is given is equal, and the address begins with the text
+abbrev pub matches : Rule → Call → Bool
+matches rule call =
+    option_map_or (is_phase call.phase) rule.phase true
+    && option_map_or (is_kind call.kind) rule.kind true
+    && starts_with nat_eq call.address rule.address_begins

@@ -1,0 +1,8 @@
+-- Verdicts.
+use Rattle.std.specs.Prelude.{Bool, true, false}
+use Rattle.apply_hooks.specs.declared.verdict.Verdict.{Verdict}
+use Rattle.apply_hooks.specs.declared.verdict.Verdict.TheVariants.{Continue, Halt}
+
+abbrev pub is_halt : Verdict → Bool
+is_halt Halt = true
+is_halt Continue = false

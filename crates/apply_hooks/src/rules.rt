@@ -1,0 +1,69 @@
+//! Lists of rules.
+
+ghost use Rattle.std.specs.Prelude.{◌≡◌, ◌++◌, ◌∷◌, [], find, IfErr, OnErr, OnOk};
+ghost use Rattle.std.specs.Option.{option_copied};
+ghost use Rattle.apply_hooks.specs.HookCall.{call_of};
+ghost use Rattle.apply_hooks.specs.Rule.{matches};
+
+use crate::hook::Hook;
+use crate::hook_call::HookCall;
+use crate::rule::Rule;
+use crate::verdict::Verdict;
+use std::alloc::Global;
+use std::marker::Model;
+
+/// A list of rules. The first that matches a call answers it.
+#[derive(Debug, Drop)]
+pub struct Rules {
+    rules: Vec<Rule>,
+}
+
+impl Model for Rules {
+    ghost use Rattle.std.specs.Prelude.{List};
+    ghost use Rattle.apply_hooks.specs.declared.rule.Rule.{Rule};
+
+    ghost Value = { List Rule };
+
+    ghost view = { λ r. r.rules.items };
+}
+
+impl Rules {
+    /// No rules.
+    pub fn new(alloc: Global) -> Rules
+        ensures { result ≡ [] }
+    {
+        Rules {
+            rules: Vec::new(alloc),
+        }
+    }
+
+    /// Adds a rule as the last. `Err` where memory is refused: then the rule comes back, and the list is as before.
+    pub fn push(&mut self, rule: Rule) -> Result<(), Rule>
+        ensures ok { OnOk result (self.new ≡ self.old ++ rule ∷ []) }
+        ensures err { OnErr result (self.new ≡ self.old) }
+        ensures back { IfErr result (λ back. back ≡ rule) }
+    {
+        match self.rules.push(rule) {
+            Ok(()) => Ok(()),
+            Err(refused) => Err(refused.value),
+        }
+    }
+}
+
+impl Hook for Rules {
+    ghost rules = { λ own. own };
+
+    fn decide(&self, call: &HookCall<'_>) -> Verdict {
+        match first_match(&self.rules, call) {
+            Some(rule) => rule.verdict,
+            None => Verdict::Continue,
+        }
+    }
+}
+
+/// The first rule that matches the call.
+fn first_match<'r>(rules: &'r [Rule], call: &HookCall<'_>) -> Option<&'r Rule>
+    ensures { option_copied result ≡ find (λ rule. matches rule (call_of call.now)) rules.now }
+{
+    rules.iter().find(|rule| rule.matches(call))
+}
