@@ -2,12 +2,15 @@
 
 mod accepted;
 mod elements;
+mod outcomes;
 mod plans;
+mod script_members;
+mod scripts;
 
 use crate::json::parsing::parse;
 use crate::plan::header::Header;
 use crate::plan::{plain, reading};
-use crate::{MAX_CHANGES, Plan, PlanError, Text, read_plan};
+use crate::{MAX_CHANGES, Plan, PlanError, Text, read_plan, read_script};
 use std::alloc::{AllocError, Global};
 use std::process::Abort;
 use std::test::Fail;
