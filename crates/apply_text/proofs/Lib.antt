@@ -1,0 +1,7 @@
+mod Dates
+mod Heads
+mod Hooks
+mod LinesAdded
+mod Moments
+mod Sending
+mod Texts

@@ -1,0 +1,40 @@
+-- A step of a change with what the script says of it, for private clauses.
+use Rattle.std.specs.Prelude.{ℕ, List, unwrap_or, codes}
+use Rattle.std.specs.Option.{option_copied}
+use Rattle.apply_plan.specs.declared.script.diag.Diag.{Diag}
+use Rattle.apply_plan.specs.declared.script.ending.Ending.{Ending}
+use Rattle.apply_plan.specs.Script.Outcome.{default_outcome}
+use Rattle.apply_events.specs.declared.what.What.{What}
+use Rattle.apply_events.specs.declared.what.What.TheVariants.{Start, Progress, Complete, Errored, ErrorNote, WarnNote, Halted}
+use Rattle.apply_text.specs.declared.applied_step.AppliedStep.{AppliedStep}
+use Rattle.apply_text.specs.declared.applied_step.DiagTexts.{DiagTexts}
+use Rattle.apply_text.specs.Message.{Message, event_message}
+
+-- how it ends
+abbrev pub ending_of : AppliedStep → Ending
+ending_of step = (unwrap_or (option_copied step.outcome) default_outcome).result
+
+abbrev pub diag_of : DiagTexts → Diag
+diag_of texts = record { summary = texts.summary.now; detail = texts.detail.now }
+
+-- the message of an event of it
+abbrev pub message_of : AppliedStep → What → Message
+message_of step what = event_message step.change.now step.kind (ending_of step) what
+
+abbrev pub level_of : What → List ℕ
+level_of Start = codes "info"
+level_of (Progress seconds) = codes "info"
+level_of (Complete seconds) = codes "info"
+level_of (Errored seconds) = codes "info"
+level_of ErrorNote = codes "error"
+level_of WarnNote = codes "warn"
+level_of (Halted phase hook) = codes "error"
+
+abbrev pub type_of : What → List ℕ
+type_of Start = codes "apply_start"
+type_of (Progress seconds) = codes "apply_progress"
+type_of (Complete seconds) = codes "apply_complete"
+type_of (Errored seconds) = codes "apply_errored"
+type_of ErrorNote = codes "diagnostic"
+type_of WarnNote = codes "diagnostic"
+type_of (Halted phase hook) = codes "diagnostic"

@@ -1,0 +1,11 @@
+pub mod AppliedStep
+pub mod Calendar
+pub mod Elapsed
+pub mod Latest
+pub mod Lines
+pub mod Message
+pub mod Moment
+pub mod Objects
+pub mod Sending
+pub mod Start
+pub mod Words

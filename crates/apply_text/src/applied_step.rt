@@ -1,0 +1,104 @@
+//! A step of a change, with what the script says of it.
+
+ghost use Rattle.std.specs.Prelude.{◌≡◌, unwrap_or};
+ghost use Rattle.std.specs.Option.{option_copied};
+ghost use Rattle.apply_text.specs.AppliedStep.{diag_of, ending_of};
+ghost use Rattle.apply_text.specs.Message as messages;
+ghost use Rattle.apply_text.specs.Message.{no_diag};
+
+use apply_plan::{Change, Diag, Ending, Outcome, StepKind};
+
+/// A step of a change, with what the script says of it. Where it says nothing, the step is done and nothing is told.
+#[derive(Clone, Copy, Drop)]
+pub struct AppliedStep<'a> {
+    pub change: &'a Change,
+    pub kind: StepKind,
+    pub outcome: Option<&'a Outcome>,
+}
+
+/// The two texts of a diagnostic.
+#[derive(Clone, Copy, Drop)]
+pub struct DiagTexts<'a> {
+    pub summary: &'a str,
+    pub detail: &'a str,
+}
+
+impl<'a> DiagTexts<'a> {
+    /// Those of a diagnostic, or empty ones where there is none.
+    fn new(diag: Option<&'a Diag>) -> DiagTexts<'a>
+        ensures { diag_of result ≡ unwrap_or (option_copied diag.entry) no_diag }
+    {
+        match diag {
+            Some(diag) => DiagTexts {
+                summary: diag.summary.as_str(),
+                detail: diag.detail.as_str(),
+            },
+            None => DiagTexts {
+                summary: "",
+                detail: "",
+            },
+        }
+    }
+}
+
+impl<'a> AppliedStep<'a> {
+    /// The id that is told when the step starts: the prior one. `None` for a create, or where there is none.
+    pub fn start_id(&self) -> Option<&'a str>
+        ensures { option_copied result ≡ messages.start_id self.now.kind self.now.change.now }
+    {
+        match self.kind {
+            StepKind::Create => None,
+            StepKind::Update | StepKind::Delete | StepKind::Read => self.change.prior_id(),
+        }
+    }
+
+    /// The id that is told when the step completes: the provider's. `None` for a delete, or where there is none.
+    pub fn end_id(&self) -> Option<&'a str>
+        ensures { option_copied result ≡ messages.end_id self.now.kind (ending_of self.now) }
+    {
+        match self.kind {
+            StepKind::Delete => None,
+            StepKind::Create | StepKind::Update | StepKind::Read => self.told_id(),
+        }
+    }
+
+    /// The id that the provider tells of the object.
+    fn told_id(&self) -> Option<&'a str>
+        ensures { option_copied result ≡ messages.told_id (ending_of self.now) }
+    {
+        match &self.outcome?.result {
+            Ending::Done { id: Some(id), .. } => Some(id.as_str()),
+            Ending::Done { id: None, .. } | Ending::Failed { .. } => None,
+        }
+    }
+
+    /// Why the step failed.
+    pub fn failure(&self) -> DiagTexts<'a>
+        ensures { diag_of result ≡ messages.failure_of (ending_of self.now) }
+    {
+        match self.outcome {
+            Some(
+                Outcome {
+                    result: Ending::Failed { diag },
+                    ..
+                },
+            ) => DiagTexts::new(Some(diag)),
+            _ => DiagTexts::new(None),
+        }
+    }
+
+    /// What the provider warned of.
+    pub fn warning(&self) -> DiagTexts<'a>
+        ensures { diag_of result ≡ messages.warning_of (ending_of self.now) }
+    {
+        match self.outcome {
+            Some(
+                Outcome {
+                    result: Ending::Done { warning, .. },
+                    ..
+                },
+            ) => DiagTexts::new(warning.as_ref()),
+            _ => DiagTexts::new(None),
+        }
+    }
+}

@@ -1,0 +1,5 @@
+//! Parts of texts, as they are printed.
+
+pub mod elapsed;
+pub mod id_note;
+pub mod moment;

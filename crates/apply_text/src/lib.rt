@@ -1,0 +1,20 @@
+//! The lines of a stream: what is said of an apply, as JSON, one message a line (Machine-Readable UI).
+#![tactic(auto)]
+
+mod applied_step;
+mod display;
+mod line_buffer;
+mod lines;
+mod messages;
+mod moment_error;
+mod objects;
+mod operation;
+mod start;
+mod step_words;
+
+pub use display::elapsed::elapsed_text;
+pub use line_buffer::LineBuffer;
+pub use lines::{event_line, summary_line, version_line};
+pub use moment_error::MomentError;
+pub use operation::Operation;
+pub use start::Start;

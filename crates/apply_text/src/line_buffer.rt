@@ -1,0 +1,184 @@
+//! A buffer of lines.
+
+ghost use Rattle.std.specs.Prelude.{◌≡◌, ◌≤◌, ◌∷◌, ◌++◌, [], length, take, string_bytes, IsOk, OnOk, OnErr};
+ghost use Rattle.std.specs.Str.{IsUtf8};
+ghost use Rattle.json.specs.Print.{print};
+ghost use Rattle.apply_events.specs.Fits.{HasStep, latest as last_moment};
+ghost use Rattle.apply_text.specs.Lines.{event_text, summary_text, version_text};
+
+use crate::applied_step::AppliedStep;
+use crate::display::moment::Moment;
+use crate::messages::{put_event, put_summary, put_version};
+use crate::operation::Operation;
+use crate::start::Start;
+use apply_events::{Counts, Event};
+use apply_plan::{Plan, Script};
+use json::Writer;
+use std::alloc::{AllocError, Global};
+use std::marker::Model;
+use std::mem::replace;
+
+/// Lines of a stream, one behind the other. Room that was made once is kept, so that further lines cost no growth.
+///
+/// Contracts see the bytes of the lines.
+#[derive(Drop)]
+pub struct LineBuffer {
+    alloc: Global,
+    bytes: Vec<u8>,
+    // Room for the texts that a message is put together of.
+    room: String,
+}
+
+impl Model for LineBuffer {
+    ghost use Rattle.std.specs.Prelude.{ℕ, List};
+    ghost use Rattle.std.specs.Str.{IsUtf8};
+
+    ghost Value = { List ℕ };
+
+    ghost view = { λ buffer. buffer.bytes.items };
+
+    ghost invariant = { λ buffer. IsUtf8 buffer.bytes.items };
+}
+
+impl LineBuffer {
+    /// No line, and no room.
+    pub fn new(alloc: Global) -> LineBuffer
+        ensures { result ≡ [] }
+    {
+        LineBuffer {
+            alloc,
+            bytes: Vec::new(alloc),
+            room: String::new(alloc),
+        }
+    }
+
+    /// The lines.
+    pub fn as_bytes(&self) -> &[u8]
+        ensures { result.now ≡ self.now }
+    {
+        self.bytes.as_slice()
+    }
+
+    /// The lines as a text.
+    pub fn into_string(self) -> String
+        ensures { string_bytes result ≡ self }
+    {
+        String::from_utf8(self.bytes).unwrap()
+    }
+
+    /// Drops the lines, and keeps the room.
+    pub fn clear(&mut self)
+        ensures { self.new ≡ [] }
+    {
+        self.bytes.clear();
+    }
+
+    /// Appends the first line of a stream: the version of Terraform that made the plan, at the start (Machine-Readable UI,
+    /// "Version Message"). `Err` where memory is refused; the lines are then as they were.
+    pub fn push_version(&mut self, plan: &Plan, start: Start) -> Result<(), AllocError>
+        ensures ok { OnOk result (self.new ≡ self.old ++ version_text plan.now start) }
+        ensures err { OnErr result (self.new ≡ self.old) }
+    {
+        let moment = Moment::new(start, 0);
+        let before = self.bytes.len();
+        let mut out = self.begin_line();
+        let written = put_version(&mut out, &mut self.room, &moment, plan.version());
+        self.end_line(out, before, written)
+    }
+
+    /// Appends the line of an event, `latest` seconds after the start: the greatest moment of an event up to this one.
+    /// `Err` where memory is refused; the lines are then as they were.
+    pub fn push_event(
+        &mut self,
+        plan: &Plan,
+        script: &Script,
+        start: Start,
+        latest: u64,
+        event: &Event,
+    ) -> Result<(), AllocError>
+        requires has_step { HasStep plan.now event.now.change event.now.step }
+        requires in_time { latest ≤ last_moment }
+        ensures ok { OnOk result
+            (self.new ≡ self.old ++ event_text plan.now script.now start latest event.now) }
+        ensures err { OnErr result (self.new ≡ self.old) }
+    {
+        let moment = Moment::new(start, latest);
+        let change = plan.change(event.change);
+        let step = AppliedStep {
+            change,
+            kind: change.steps()[event.step as usize],
+            outcome: script.outcome(event.change, event.step),
+        };
+        let before = self.bytes.len();
+        let mut out = self.begin_line();
+        let written = put_event(&mut out, &mut self.room, &moment, step, event.what);
+        self.end_line(out, before, written)
+    }
+
+    /// Appends the last line of a stream: how much was completed (Machine-Readable UI, "Change Summary"). `Err` where
+    /// memory is refused; the lines are then as they were.
+    pub fn push_summary(
+        &mut self,
+        start: Start,
+        latest: u64,
+        operation: Operation,
+        counts: &Counts,
+    ) -> Result<(), AllocError>
+        requires in_time { latest ≤ last_moment }
+        ensures ok { OnOk result
+            (self.new ≡ self.old ++ summary_text start latest operation counts.now) }
+        ensures err { OnErr result (self.new ≡ self.old) }
+    {
+        let moment = Moment::new(start, latest);
+        let before = self.bytes.len();
+        let mut out = self.begin_line();
+        let written = put_summary(&mut out, &mut self.room, &moment, operation, counts);
+        self.end_line(out, before, written)
+    }
+
+    /// A writer behind the lines, which it takes along.
+    fn begin_line(&mut self) -> Writer
+        ensures before { result.before ≡ self.old }
+        ensures tokens { result.tokens ≡ [] }
+        ensures utf8 { IsUtf8 result.before }
+    {
+        Writer::new(replace(&mut self.bytes, Vec::new(self.alloc)))
+    }
+
+    /// Takes the lines back, with the new one where all of it was written.
+    fn end_line(
+        &mut self,
+        out: Writer,
+        before: usize,
+        written: Result<(), AllocError>,
+    ) -> Result<(), AllocError>
+        requires len { before ≡ length out.before }
+        requires utf8 { IsUtf8 out.before }
+        ensures ok { OnOk result (IsOk written × (self.new ≡ out.before ++ (print out.tokens ++ 10 ∷ []))) }
+        ensures err { OnErr result (self.new ≡ out.before) }
+    {
+        self.bytes = out.into_inner();
+        match written {
+            Ok(()) => self.push_line_feed(before),
+            Err(refused) => {
+                self.bytes.truncate(before);
+                Err(refused)
+            }
+        }
+    }
+
+    /// Ends the line, or takes it away from where it begins.
+    fn push_line_feed(&mut self, begin: usize) -> Result<(), AllocError>
+        requires { IsUtf8 (take begin self.old) }
+        ensures ok { OnOk result (self.new ≡ self.old ++ 10 ∷ []) }
+        ensures err { OnErr result (self.new ≡ take begin self.old) }
+    {
+        match self.bytes.extend_from_slice(b"\n") {
+            Ok(()) => Ok(()),
+            Err(refused) => {
+                self.bytes.truncate(begin);
+                Err(refused)
+            }
+        }
+    }
+}

@@ -1,0 +1,192 @@
+//! The messages, written token by token into the buffer of a line. Each takes `room` for the texts that it puts together.
+
+ghost use Rattle.std.specs.Prelude.{◌≡◌, ◌++◌, codes, string_bytes, OnOk};
+ghost use Rattle.apply_text.specs.AppliedStep.{level_of, message_of, type_of};
+ghost use Rattle.apply_text.specs.Lines.{message_object, version_members};
+ghost use Rattle.apply_text.specs.Message as messages;
+ghost use Rattle.apply_text.specs.Sending.{Sends, data_tokens, member_tokens, message_tokens};
+
+use crate::applied_step::{AppliedStep, DiagTexts};
+use crate::display::elapsed::Elapsed;
+use crate::display::id_note::IdNote;
+use crate::display::moment::Moment;
+use crate::objects::changes_object::put_changes;
+use crate::objects::diagnostic_object::put_diagnostic;
+use crate::objects::hook_object::put_hook;
+use crate::objects::member::put_text;
+use crate::objects::message_object::{begin_message, end_message};
+use crate::operation::Operation;
+use crate::step_words::{action_word, noun_word, phase_words, start_word, still_word};
+use apply_events::{Counts, What};
+use json::Writer;
+use std::alloc::AllocError;
+
+/// Writes the first message.
+pub fn put_version(
+    out: &mut Writer,
+    room: &mut String,
+    moment: &Moment,
+    version: &str,
+) -> Result<(), AllocError>
+    ensures { Sends result out.old out.new (data_tokens
+        (message_object (codes "info") (codes "Terraform " ++ version.now) moment.now (version_members version.now))) }
+{
+    room.clear();
+    write!(room, "Terraform {version}")?;
+    begin_message(out, room, "info", moment)?;
+    put_text(out, "terraform", version)?;
+    put_text(out, "type", "version")?;
+    put_text(out, "ui", "1.0")?;
+    out.end_object()
+}
+
+/// Writes the last message.
+pub fn put_summary(
+    out: &mut Writer,
+    room: &mut String,
+    moment: &Moment,
+    operation: Operation,
+    counts: &Counts,
+) -> Result<(), AllocError>
+    ensures { Sends result out.old out.new
+        (message_tokens moment.now (messages.summary_message operation counts.now)) }
+{
+    say_totals(room, operation, counts)?;
+    begin_message(out, room, "info", moment)?;
+    put_changes(out, operation, counts)?;
+    end_message(out, "change_summary")
+}
+
+/// What the summary says.
+fn say_totals(room: &mut String, operation: Operation, counts: &Counts) -> Result<(), AllocError>
+    ensures { OnOk result (string_bytes room.new ≡ messages.totals_text operation counts.now) }
+{
+    let added = counts.added;
+    let changed = counts.changed;
+    let removed = counts.removed;
+    room.clear();
+    match operation {
+        Operation::Apply => write!(
+            room,
+            "Apply complete! Resources: {added} added, {changed} changed, {removed} destroyed."
+        ),
+        Operation::Destroy => write!(room, "Destroy complete! Resources: {removed} destroyed."),
+    }
+}
+
+/// Writes the message of an event of a step.
+pub fn put_event(
+    out: &mut Writer,
+    room: &mut String,
+    moment: &Moment,
+    step: AppliedStep<'_>,
+    what: What,
+) -> Result<(), AllocError>
+    ensures { Sends result out.old out.new (message_tokens moment.now (message_of step.entry what)) }
+{
+    say_event(room, step, what)?;
+    begin_message(out, room, level(what), moment)?;
+    put_body(out, room, step, what)?;
+    end_message(out, type_name(what))
+}
+
+/// What is said of an event.
+fn say_event(room: &mut String, step: AppliedStep<'_>, what: What) -> Result<(), AllocError>
+    ensures { OnOk result (string_bytes room.new ≡ (message_of step.entry what).text) }
+{
+    let address = step.change.address();
+    room.clear();
+    match what {
+        What::Start => {
+            let word = start_word(step.kind);
+            let note = IdNote {
+                id: step.start_id(),
+            };
+            write!(room, "{address}: {word}...{note}")
+        }
+        What::Progress(seconds) => {
+            let word = still_word(step.kind);
+            let elapsed = Elapsed { seconds };
+            write!(room, "{address}: Still {word}... [{elapsed} elapsed]")
+        }
+        What::Complete(seconds) => {
+            let noun = noun_word(step.kind);
+            let elapsed = Elapsed { seconds };
+            let note = IdNote { id: step.end_id() };
+            write!(room, "{address}: {noun} complete after {elapsed}{note}")
+        }
+        What::Errored(seconds) => {
+            let noun = noun_word(step.kind);
+            let elapsed = Elapsed { seconds };
+            write!(room, "{address}: {noun} errored after {elapsed}")
+        }
+        What::ErrorNote => {
+            let DiagTexts { summary, .. } = step.failure();
+            write!(room, "Error: {summary}")
+        }
+        What::WarnNote => {
+            let DiagTexts { summary, .. } = step.warning();
+            write!(room, "Warning: {summary}")
+        }
+        What::Halted { .. } => write!(room, "Error: execution halted"),
+    }
+}
+
+/// The level of the message of an event.
+fn level(what: What) -> &'static str
+    ensures { result.now ≡ level_of what }
+{
+    match what {
+        What::Start | What::Progress(_) | What::Complete(_) | What::Errored(_) => "info",
+        What::ErrorNote | What::Halted { .. } => "error",
+        What::WarnNote => "warn",
+    }
+}
+
+/// The type of the message of an event.
+fn type_name(what: What) -> &'static str
+    ensures { result.now ≡ type_of what }
+{
+    match what {
+        What::Start => "apply_start",
+        What::Progress(_) => "apply_progress",
+        What::Complete(_) => "apply_complete",
+        What::Errored(_) => "apply_errored",
+        What::ErrorNote | What::WarnNote | What::Halted { .. } => "diagnostic",
+    }
+}
+
+/// Writes the member of its own that the message of an event has.
+fn put_body(
+    out: &mut Writer,
+    room: &mut String,
+    step: AppliedStep<'_>,
+    what: What,
+) -> Result<(), AllocError>
+    ensures { Sends result out.old out.new
+        (member_tokens (message_of step.entry what).name (message_of step.entry what).body) }
+{
+    let AppliedStep { change, kind, .. } = step;
+    match what {
+        What::Start => put_hook(out, change, kind, None, step.start_id()),
+        What::Progress(seconds) => put_hook(out, change, kind, Some(seconds), None),
+        What::Complete(seconds) => put_hook(out, change, kind, Some(seconds), step.end_id()),
+        What::Errored(seconds) => put_hook(out, change, kind, Some(seconds), None),
+        What::ErrorNote => {
+            let DiagTexts { summary, detail } = step.failure();
+            put_diagnostic(out, change.address(), "error", summary, detail)
+        }
+        What::WarnNote => {
+            let DiagTexts { summary, detail } = step.warning();
+            put_diagnostic(out, change.address(), "warning", summary, detail)
+        }
+        What::Halted { phase, hook } => {
+            let words = phase_words(phase);
+            let action = action_word(kind);
+            room.clear();
+            write!(room, "Hook {hook} answered Halt {words} {action}.")?;
+            let detail = room.as_str();
+            put_diagnostic(out, change.address(), "error", "execution halted", detail)
+        }
+    }
+}

@@ -1,0 +1,9 @@
+//! The JSON objects of messages, written token by token into the buffer of a line.
+
+pub mod changes_object;
+pub mod diagnostic_object;
+pub mod hook_object;
+pub mod key_value;
+pub mod member;
+pub mod message_object;
+pub mod resource_object;
