@@ -1,6 +1,10 @@
+mod Completions
 mod Dates
+mod Durations
+mod Feeds
 mod Heads
 mod Hooks
+mod Latest
 mod LinesAdded
 mod Moments
 mod Sending

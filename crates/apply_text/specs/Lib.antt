@@ -2,6 +2,7 @@ pub mod AppliedStep
 pub mod Calendar
 pub mod Elapsed
 pub mod Latest
+pub mod Laws
 pub mod Lines
 pub mod Message
 pub mod Moment

@@ -3,6 +3,7 @@
 
 mod applied_step;
 mod display;
+mod laws;
 mod line_buffer;
 mod lines;
 mod messages;
@@ -13,8 +14,15 @@ mod start;
 mod step_words;
 
 pub use display::elapsed::elapsed_text;
+pub use laws::{
+    a_line_has_one_line_feed, moments_of_lines_never_fall, the_summary_counts_the_lines_of_completion,
+    whole_units_are_told_with_zeros,
+};
 pub use line_buffer::LineBuffer;
 pub use lines::{event_line, summary_line, version_line};
 pub use moment_error::MomentError;
 pub use operation::Operation;
 pub use start::Start;
+
+#[cfg(test)]
+mod tests;

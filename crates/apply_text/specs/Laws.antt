@@ -1,0 +1,20 @@
+-- Words of the laws of lines.
+use Rattle.std.specs.Prelude.{ℕ, List, count_by, codes, ◌==◌, Bool, false, not, ◌&&◌, slice_get}
+use Rattle.std.specs.Option.{option_map_or}
+use Rattle.std.specs.Str.{bytes_eq}
+use Rattle.apply_plan.specs.declared.plan.step_kind.StepKind.TheVariants.{Read}
+use Rattle.apply_plan.specs.Plan.SavedPlan.{SavedPlan}
+use Rattle.apply_plan.specs.Script.Outcomes.{Outcomes, outcome_of}
+use Rattle.apply_hooks.specs.StepKind.{is_kind}
+use Rattle.apply_events.specs.declared.event.Event.{Event}
+use Rattle.apply_text.specs.Message.{event_message}
+
+-- the event's message is an `apply_complete`, and not that of a read
+abbrev pub tells_of_completion : SavedPlan → Outcomes → Event → Bool
+tells_of_completion plan script event =
+    option_map_or (λ change.
+    option_map_or (λ step. bytes_eq (event_message change step (outcome_of script event.change event.step).result event.what).type_name (codes "apply_complete") && not (is_kind Read step)) (slice_get change.steps event.step) false) (slice_get plan.changes event.change) false
+
+-- how many line feeds are in a text
+abbrev pub line_feeds : List ℕ → ℕ
+line_feeds text = count_by (λ byte. byte == 10) text

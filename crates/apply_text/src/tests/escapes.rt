@@ -1,0 +1,132 @@
+//! Texts that JSON has to escape (RFC 8259, section 7), and texts that it has not.
+
+use super::*;
+use serde_json::Value;
+
+/// A character as the input may write it, and as each line has to: quotation mark, backslash and control characters
+/// are escaped, in the shortest way, and nothing else is. What a source file cannot hold is `itself`.
+const ESCAPES: &str = r#"\u0000 => \u0000
+\u0001 => \u0001
+\u0002 => \u0002
+\u0003 => \u0003
+\u0004 => \u0004
+\u0005 => \u0005
+\u0006 => \u0006
+\u0007 => \u0007
+\b => \b
+\t => \t
+\n => \n
+\u000b => \u000b
+\f => \f
+\r => \r
+\u000e => \u000e
+\u000f => \u000f
+\u0010 => \u0010
+\u0011 => \u0011
+\u0012 => \u0012
+\u0013 => \u0013
+\u0014 => \u0014
+\u0015 => \u0015
+\u0016 => \u0016
+\u0017 => \u0017
+\u0018 => \u0018
+\u0019 => \u0019
+\u001a => \u001a
+\u001b => \u001b
+\u001c => \u001c
+\u001d => \u001d
+\u001e => \u001e
+\u001f => \u001f
+\" => \"
+\\ => \\
+\u002f => /
+\u007f => itself
+\u00e9 => é
+\u2028 => itself
+\ufeff => itself
+\u65e5 => 日
+\ud83d\ude00 => 😀"#;
+
+/// A plan in which each text has the character, in place of the percent sign.
+const PLAN: &str =
+    r#"{"format_version":"1.2","terraform_version":"%","resource_changes":[{"address":"m.%.a%","module_address":"m.%","mode":"managed","type":"t%","name":"n%","index":"k%","change":{"actions":["update"],"before":{"id":"p%"}}},{"address":"m.%.b%","module_address":"m.%","mode":"managed","type":"t%","name":"n%","index":"k%","change":{"actions":["update"],"before":{"id":"p%"}}}]}"#;
+
+/// A script of the same kind.
+const SCRIPT: &str =
+    r#"{"changes":[{"address":"m.%.a%","steps":[{"seconds":0,"id":"i%","warning":{"summary":"s%","detail":"d%"}}]},{"address":"m.%.b%","steps":[{"seconds":0,"failed":{"summary":"s%","detail":"d%"}}]}]}"#;
+
+/// The stream of both, with the character in its place.
+const STREAM: &str =
+    r#"{"@level":"info","@message":"Terraform %","@module":"terraform.ui","@timestamp":"1970-01-01T00:00:00Z","terraform":"%","type":"version","ui":"1.0"}
+{"@level":"info","@message":"m.%.a%: Modifying... [id=p%]","@module":"terraform.ui","@timestamp":"1970-01-01T00:00:00Z","hook":{"action":"update","id_key":"id","id_value":"p%","resource":{"addr":"m.%.a%","implied_provider":"t%","module":"m.%","resource":"a%","resource_key":"k%","resource_name":"n%","resource_type":"t%"}},"type":"apply_start"}
+{"@level":"info","@message":"m.%.a%: Modifications complete after 0s [id=i%]","@module":"terraform.ui","@timestamp":"1970-01-01T00:00:00Z","hook":{"action":"update","elapsed_seconds":0,"id_key":"id","id_value":"i%","resource":{"addr":"m.%.a%","implied_provider":"t%","module":"m.%","resource":"a%","resource_key":"k%","resource_name":"n%","resource_type":"t%"}},"type":"apply_complete"}
+{"@level":"warn","@message":"Warning: s%","@module":"terraform.ui","@timestamp":"1970-01-01T00:00:00Z","diagnostic":{"address":"m.%.a%","detail":"d%","severity":"warning","summary":"s%"},"type":"diagnostic"}
+{"@level":"info","@message":"m.%.b%: Modifying... [id=p%]","@module":"terraform.ui","@timestamp":"1970-01-01T00:00:00Z","hook":{"action":"update","id_key":"id","id_value":"p%","resource":{"addr":"m.%.b%","implied_provider":"t%","module":"m.%","resource":"b%","resource_key":"k%","resource_name":"n%","resource_type":"t%"}},"type":"apply_start"}
+{"@level":"info","@message":"m.%.b%: Modifications errored after 0s","@module":"terraform.ui","@timestamp":"1970-01-01T00:00:00Z","hook":{"action":"update","elapsed_seconds":0,"resource":{"addr":"m.%.b%","implied_provider":"t%","module":"m.%","resource":"b%","resource_key":"k%","resource_name":"n%","resource_type":"t%"}},"type":"apply_errored"}
+{"@level":"error","@message":"Error: s%","@module":"terraform.ui","@timestamp":"1970-01-01T00:00:00Z","diagnostic":{"address":"m.%.b%","detail":"d%","severity":"error","summary":"s%"},"type":"diagnostic"}
+{"@level":"info","@message":"Apply complete! Resources: 0 added, 1 changed, 0 destroyed.","@module":"terraform.ui","@timestamp":"1970-01-01T00:00:00Z","changes":{"add":0,"change":1,"operation":"apply","remove":0},"type":"change_summary"}
+"#;
+
+#[test]
+fn texts_are_escaped(rt: HostRuntime) -> Result<(), Fail> {
+    let alloc = rt.alloc();
+    let registry = Registry::new(alloc);
+    for line in ESCAPES.lines() {
+        let (given, escaped) = parted(&rt, line, " => ");
+        let plan = PLAN.replace(alloc, "%", given)?;
+        let script = SCRIPT.replace(alloc, "%", given)?;
+        let character = character_of(&rt, alloc, given)?;
+        let escaped = if escaped == "itself" {
+            character.as_str()
+        } else {
+            escaped
+        };
+        let wanted = STREAM.replace(alloc, "%", escaped)?;
+        let written = stream(
+            &rt,
+            alloc,
+            plan.as_str(),
+            script.as_str(),
+            &registry,
+            Operation::Apply,
+        )?;
+        assert_eq!(rt; written.as_str(), wanted.as_str(), "{given}");
+        let plan = plan_of(&rt, alloc, plan.as_str());
+        reads_back(&rt, alloc, written.as_str(), &plan)?;
+    }
+    Ok(())
+}
+
+/// The text that an escape stands for.
+fn character_of(rt: &impl Abort, alloc: Global, escape: &str) -> Result<String, AllocError> {
+    let quoted = format!(in alloc; "\"{escape}\"")?;
+    match Value::from_str(alloc, quoted.as_str()) {
+        Ok(Value::String(text)) => Ok(text),
+        _ => panic!(rt; "no text: {quoted}"),
+    }
+}
+
+/// Reads each line as JSON: the version and the address of the first change are as the plan has them.
+fn reads_back(
+    rt: &impl Abort,
+    alloc: Global,
+    written: &str,
+    plan: &Plan,
+) -> Result<(), AllocError> {
+    assert!(rt; plan.len() == 2);
+    let mut lines = written.split_terminator("\n");
+    for (number, pointer, wanted) in [
+        (0, "/terraform", plan.version()),
+        (1, "/hook/resource/addr", plan.change(0).address()),
+        (2, "/hook/id_key", "id"),
+        (3, "/diagnostic/address", plan.change(0).address()),
+    ] {
+        let line = lines.next().unwrap_or("");
+        let Ok(value) = Value::from_str(alloc, line) else {
+            panic!(rt; "line {number} is no JSON: {line}");
+        };
+        let found = value.pointer(pointer).and_then(Value::as_str);
+        assert_eq!(rt; found, Some(wanted), "line {number}");
+    }
+    Ok(())
+}

@@ -1,0 +1,181 @@
+//! Moments and durations, as text.
+
+use super::*;
+use crate::display::moment::Moment;
+
+/// A text, and the seconds of the start that it says, or why it says none.
+const STARTS: &str = r#"1970-01-01T00:00:00Z => 0
+1970-01-01T00:00:01Z => 1
+1970-01-01T00:00:00.999999999Z => 0
+1969-12-31T23:59:59Z => the moment is out of range
+1969-12-31T23:59:59.5Z => the moment is out of range
+1969-12-31T23:59:59.999999999Z => the moment is out of range
+9000-01-01T00:00:00Z => the moment is out of range
+8999-12-31T23:59:59Z => 221845391999
+8999-12-31T23:59:59.999999999Z => 221845391999
+9999-12-30T22:00:00Z => the moment is out of range
+-000001-01-01T00:00:00Z => the moment is out of range
+not a time => the moment is not a moment
+ => the moment is not a moment
+2021-05-25 => the moment is not a moment
+2021-05-25T13:32:41 => the moment is not a moment
+2021-02-29T00:00:00Z => the moment is not a moment
+2021-05-25T13:32:41Zx => the moment is not a moment
+ 2021-05-25T13:32:41Z => the moment is not a moment
+2021-05-25T13:32:41.275359-04:00 => 1621963961
+2021-05-25T17:32:41+00:00 => 1621963961
+2021-05-25t17:32:41z => 1621963961
+2020-02-29T23:59:59Z => 1583020799
+1970-01-01T01:00:00+01:00 => 0
+1970-01-01T00:59:59+01:00 => the moment is out of range
+8999-12-31T23:59:59-00:01 => the moment is out of range"#;
+
+/// A start and the seconds after it, and the moment that is.
+const MOMENTS: &str = r#"1970-01-01T00:00:00Z 0 => 1970-01-01T00:00:00Z
+1970-01-01T00:00:00Z 1 => 1970-01-01T00:00:01Z
+1970-01-01T00:00:00Z 59 => 1970-01-01T00:00:59Z
+1970-01-01T00:00:00Z 60 => 1970-01-01T00:01:00Z
+1970-01-01T00:00:00Z 3600 => 1970-01-01T01:00:00Z
+1970-01-01T00:00:00Z 86399 => 1970-01-01T23:59:59Z
+1970-01-01T00:00:00Z 86400 => 1970-01-02T00:00:00Z
+1970-12-31T00:00:00Z 0 => 1970-12-31T00:00:00Z
+1970-12-31T00:00:00Z 86399 => 1970-12-31T23:59:59Z
+1971-01-01T00:00:00Z 0 => 1971-01-01T00:00:00Z
+1971-01-01T00:00:00Z 86399 => 1971-01-01T23:59:59Z
+1972-02-28T00:00:00Z 0 => 1972-02-28T00:00:00Z
+1972-02-28T00:00:00Z 86399 => 1972-02-28T23:59:59Z
+1972-02-29T00:00:00Z 0 => 1972-02-29T00:00:00Z
+1972-02-29T00:00:00Z 86399 => 1972-02-29T23:59:59Z
+1972-03-01T00:00:00Z 0 => 1972-03-01T00:00:00Z
+1972-03-01T00:00:00Z 86399 => 1972-03-01T23:59:59Z
+1999-12-31T00:00:00Z 0 => 1999-12-31T00:00:00Z
+1999-12-31T00:00:00Z 86399 => 1999-12-31T23:59:59Z
+2000-02-29T00:00:00Z 0 => 2000-02-29T00:00:00Z
+2000-02-29T00:00:00Z 86399 => 2000-02-29T23:59:59Z
+2000-03-01T00:00:00Z 0 => 2000-03-01T00:00:00Z
+2000-03-01T00:00:00Z 86399 => 2000-03-01T23:59:59Z
+2000-12-31T00:00:00Z 0 => 2000-12-31T00:00:00Z
+2000-12-31T00:00:00Z 86399 => 2000-12-31T23:59:59Z
+2001-01-01T00:00:00Z 0 => 2001-01-01T00:00:00Z
+2001-01-01T00:00:00Z 86399 => 2001-01-01T23:59:59Z
+2021-05-25T00:00:00Z 0 => 2021-05-25T00:00:00Z
+2021-05-25T00:00:00Z 86399 => 2021-05-25T23:59:59Z
+2026-11-22T00:00:00Z 0 => 2026-11-22T00:00:00Z
+2026-11-22T00:00:00Z 86399 => 2026-11-22T23:59:59Z
+2100-02-28T00:00:00Z 0 => 2100-02-28T00:00:00Z
+2100-02-28T00:00:00Z 86399 => 2100-02-28T23:59:59Z
+2100-03-01T00:00:00Z 0 => 2100-03-01T00:00:00Z
+2100-03-01T00:00:00Z 86399 => 2100-03-01T23:59:59Z
+2400-02-29T00:00:00Z 0 => 2400-02-29T00:00:00Z
+2400-02-29T00:00:00Z 86399 => 2400-02-29T23:59:59Z
+4000-02-29T00:00:00Z 0 => 4000-02-29T00:00:00Z
+4000-02-29T00:00:00Z 86399 => 4000-02-29T23:59:59Z
+8999-12-31T00:00:00Z 0 => 8999-12-31T00:00:00Z
+8999-12-31T00:00:00Z 86399 => 8999-12-31T23:59:59Z
+1973-01-31T23:59:59Z 1 => 1973-02-01T00:00:00Z
+1973-04-30T23:59:59Z 1 => 1973-05-01T00:00:00Z
+1973-06-30T23:59:59Z 1 => 1973-07-01T00:00:00Z
+1973-09-30T23:59:59Z 1 => 1973-10-01T00:00:00Z
+1973-11-30T23:59:59Z 1 => 1973-12-01T00:00:00Z
+1973-07-31T23:59:59Z 1 => 1973-08-01T00:00:00Z
+1973-08-31T23:59:59Z 1 => 1973-09-01T00:00:00Z
+1973-10-31T23:59:59Z 1 => 1973-11-01T00:00:00Z
+8999-12-31T23:59:59Z 86400 => 9000-01-01T23:59:59Z
+1970-01-01T00:00:00Z 1728000000 => 2024-10-04T00:00:00Z
+8999-12-31T23:59:59Z 1728000000 => 9054-10-04T23:59:59Z"#;
+
+/// A number of seconds, and how it is printed.
+const DURATIONS: &str = r#"0 => 0s
+1 => 1s
+9 => 9s
+10 => 10s
+59 => 59s
+60 => 1m0s
+61 => 1m1s
+599 => 9m59s
+600 => 10m0s
+3599 => 59m59s
+3600 => 1h0m0s
+3605 => 1h0m5s
+3660 => 1h1m0s
+35999 => 9h59m59s
+36000 => 10h0m0s
+86399 => 23h59m59s
+86400 => 24h0m0s
+90061 => 25h1m1s
+4294967295 => 1193046h28m15s"#;
+
+#[test]
+fn starts_are_read(rt: HostRuntime) -> Result<(), Fail> {
+    let alloc = rt.alloc();
+    for line in STARTS.lines() {
+        let (text, wanted) = parted(&rt, line, " => ");
+        let found = match Start::read(text) {
+            Ok(start) => start.seconds().to_string(alloc)?,
+            Err(error) => error.to_string(alloc)?,
+        };
+        assert_eq!(rt; found.as_str(), wanted, "{text}");
+    }
+    assert_eq!(rt; Start::zero().seconds(), 0);
+    Ok(())
+}
+
+#[test]
+fn moments_are_printed(rt: HostRuntime) -> Result<(), Fail> {
+    let alloc = rt.alloc();
+    for line in MOMENTS.lines() {
+        let (numbers, wanted) = parted(&rt, line, " => ");
+        let (start, latest) = parted(&rt, numbers, " ");
+        let latest = number_of(&rt, latest);
+        assert!(rt; latest <= LATEST, "{line}");
+        let Ok(start) = Start::read(start) else {
+            panic!(rt; "no start: {line}");
+        };
+        let moment = Moment::new(start, latest);
+        assert_eq!(rt; moment.to_string(alloc)?.as_str(), wanted, "{line}");
+    }
+    Ok(())
+}
+
+#[test]
+fn durations_are_printed(rt: HostRuntime) -> Result<(), Fail> {
+    let alloc = rt.alloc();
+    for line in DURATIONS.lines() {
+        let (seconds, wanted) = parted(&rt, line, " => ");
+        let Ok(seconds) = u32::try_from(number_of(&rt, seconds)) else {
+            panic!(rt; "no duration: {line}");
+        };
+        assert_eq!(rt; elapsed_text(alloc, seconds)?.as_str(), wanted);
+    }
+    Ok(())
+}
+
+/// The last second that a stream can tell of a step that began at the last start.
+#[test]
+fn the_last_moment_is_a_day_after_the_last_start(rt: HostRuntime) -> Result<(), Fail> {
+    let alloc = rt.alloc();
+    let plan = plan_of(&rt, alloc, ONE_CREATE);
+    let script = script_of(&rt, alloc, A_DAY, &plan);
+    let Ok(start) = Start::read("8999-12-31T23:59:59Z") else {
+        panic!(rt; "no start");
+    };
+    let event = Event {
+        worker: 0,
+        change: 0,
+        step: 0,
+        what: What::Complete(86_400),
+        at: 86_400,
+    };
+    let written = event_line(alloc, &plan, &script, start, 86_400, &event)?;
+    assert_eq!(rt; written.as_str().trim_end(), LAST_LINE);
+    Ok(())
+}
+
+const ONE_CREATE: &str =
+    r#"{"format_version":"1.2","terraform_version":"1.9.0","resource_changes":[{"address":"null_resource.a","mode":"managed","type":"null_resource","name":"a","change":{"actions":["create"]}}]}"#;
+
+/// The create takes a day.
+const A_DAY: &str = r#"{"changes":[{"address":"null_resource.a","steps":[{"seconds":86400}]}]}"#;
+
+const LAST_LINE: &str =
+    r#"{"@level":"info","@message":"null_resource.a: Creation complete after 24h0m0s","@module":"terraform.ui","@timestamp":"9000-01-01T23:59:59Z","hook":{"action":"create","elapsed_seconds":86400,"resource":{"addr":"null_resource.a","implied_provider":"null","module":"","resource":"null_resource.a","resource_key":null,"resource_name":"a","resource_type":"null_resource"}},"type":"apply_complete"}"#;
