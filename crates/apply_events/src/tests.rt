@@ -7,7 +7,6 @@ mod asking;
 mod changes;
 mod counting;
 mod fitting;
-mod terraform;
 
 use crate::{Counts, Event, LATEST, Runner, What, fits};
 use apply_hooks::{Answer, FnHook, HookCall, Phase, Registry, Rule, Rules, Verdict};

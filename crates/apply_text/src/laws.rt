@@ -28,7 +28,7 @@ pub fn whole_units_are_told_with_zeros()
 pub fn the_summary_counts_the_lines_of_completion()
     ensures { (plan : SavedPlan) (script : Outcomes) (events : List Event)
         → let totals = totals_of plan events in
-          totals.added + totals.changed + totals.removed ≡ count_by (tells_of_completion plan script) events }
+        totals.added + totals.changed + totals.removed ≡ count_by (tells_of_completion plan script) events }
 {}
 
 /// A line has one line feed, at its end.
