@@ -1,11 +1,12 @@
 -- The events of changes whose steps are done at once, and their counts.
-use Rattle.std.proofs.Common.{◌≡◌, ℕ, zero, suc, ◌+◌, ◌-◌, ◌*◌, ◌<◌, ◌≤◌, List, [], ◌∷◌, ◌++◌, length, map, Option, Some, None, refl, sym, ap, ◌∙◌, add-one, add-zero, add_assoc, append_assoc, arith}
-use Rattle.std.specs.Prelude.{sum_by, slice_get, count_by}
+use Rattle.std.proofs.Common.{◌≡◌, ℕ, zero, suc, ◌+◌, ◌-◌, ◌*◌, ◌<◌, ◌≤◌, List, [], ◌∷◌, ◌++◌, length, map, take, Option, Some, None, refl, sym, ap, ◌∙◌, subst, add-one, add-zero, add_assoc, append_assoc, arith}
+use Rattle.std.specs.Prelude.{sum_by, slice_get, count_by, fold, max, All}
 use Rattle.std.specs.List.{enumerate_from, flat_map, range_with_len}
 use Rattle.std.specs.Option.{option_map_or}
 use Rattle.std.specs.Io.KnownBytes.{Appends}
 use Rattle.std.proofs.lemmas.Grind.{common_steps, flat_map-append}
 use Rattle.std.proofs.lemmas.List.{append-nil, length-append}
+use Rattle.std.proofs.lemmas.List.Elements.{All-append, All-weaker}
 use Rattle.std.proofs.lemmas.List.Sums.{count_by-le-length, sum_by-append, sum_by-cons}
 use Rattle.apply_plan.specs.declared.plan.step_kind.StepKind.{StepKind}
 use Rattle.apply_plan.specs.declared.plan.step_kind.StepKind.TheVariants.{Create, Update, Delete}
@@ -17,9 +18,11 @@ use Rattle.apply_events.specs.ChangeEvents.{begun, change_events, in_turn, span_
 use Rattle.apply_events.specs.Step.{Step, Work, kinds_of, step_of, steps_of}
 use Rattle.apply_events.specs.StepEvents.{step_events, step_time}
 use Rattle.apply_events.specs.Totals.{completes, is_errored, is_halted, plus, totals_of}
+use Rattle.apply_text.specs.declared.operation.Operation.TheVariants.{Apply}
+use Rattle.apply_text.specs.Latest.{latest_of}
+use Rattle.apply_text.specs.Lines.{event_text, lines_of, summary_text, version_text}
 use Rattle.apply_cli.specs.Counting.{total}
-use Rattle.apply_cli.specs.Messages.{event_text}
-use Rattle.apply_cli.specs.Stream.{at_once, events_of, lines_of}
+use Rattle.apply_cli.specs.Stream.{at_once, events_of, lines_at_once, stream_at_once}
 
 -- the steps of those kinds, from number n on
 abbrev steps_from : SavedPlan → (c n : ℕ) → List StepKind → List Step
@@ -57,12 +60,12 @@ next_change plan n count below =
 
 -- ---- lines and counts of events that follow others
 
-pub lines_more : (plan : SavedPlan) (events more : List Event) (old mid new : Option (List ℕ)) → Appends old mid (lines_of plan events) → Appends mid new (lines_of plan more) → Appends old new (lines_of plan (events ++ more))
-lines_more plan events more old mid new first next = rw (flat_map-append (event_text plan) events more) (grind (arith, common_steps))
+pub lines_more : (plan : SavedPlan) (events more : List Event) (old mid new : Option (List ℕ)) → Appends old mid (lines_at_once plan events) → Appends mid new (lines_at_once plan more) → Appends old new (lines_at_once plan (events ++ more))
+lines_more plan events more old mid new first next = rw (flat_map-append (event_text plan [] 0 0) events more) (grind (arith, common_steps))
 
-pub line_more : (plan : SavedPlan) (events : List Event) (event : Event) (old mid new : Option (List ℕ)) → Appends old mid (lines_of plan events) → Appends mid new (event_text plan event) → Appends old new (lines_of plan (events ++ event ∷ []))
+pub line_more : (plan : SavedPlan) (events : List Event) (event : Event) (old mid new : Option (List ℕ)) → Appends old mid (lines_at_once plan events) → Appends mid new (event_text plan [] 0 0 event) → Appends old new (lines_at_once plan (events ++ event ∷ []))
 line_more plan events event old mid new first next =
-    let one : lines_of plan (event ∷ []) ≡ event_text plan event = append-nil (event_text plan event) in
+    let one : lines_at_once plan (event ∷ []) ≡ event_text plan [] 0 0 event = append-nil (event_text plan [] 0 0 event) in
     lines_more plan events (event ∷ []) old mid new first (rw one next)
 
 pub totals_of-append : (plan : SavedPlan) (events more : List Event) → totals_of plan (events ++ more) ≡ plus (totals_of plan events) (totals_of plan more)
@@ -132,3 +135,40 @@ few_more plan events rest all old counts joined few counted =
 
 pub nothing_counted : (plan : SavedPlan) (counts : Counts) → counts ≡ plus counts (totals_of plan [])
 nothing_counted plan counts = sym (simp add-zero)
+
+-- ---- nothing happens after the start
+
+abbrev IsAtStart : Event → Type 0
+IsAtStart event = event.at ≡ 0
+
+all_at_start : (plan : SavedPlan) → ((c : ℕ) → All (λ (event : Event). event.at ≤ 0 + span_of (at_once plan) c) (change_events (at_once plan) 0 c 0)) → (changes : List ℕ) → All IsAtStart (in_turn (change_events (at_once plan) 0) (span_of (at_once plan)) changes 0)
+all_at_start plan ends [] = tt
+all_at_start plan ends (c ∷ changes) =
+    let here : All IsAtStart (change_events (at_once plan) 0 c 0) = All-weaker (λ (event : Event). event.at ≤ 0 + span_of (at_once plan) c) IsAtStart (λ event early. omega (arith, early, span_is_nothing plan c)) (change_events (at_once plan) 0 c 0) (ends c) in
+    let begin : 0 + span_of (at_once plan) c ≡ 0 = omega (arith, span_is_nothing plan c) in
+    let later = subst (λ (at : ℕ). All IsAtStart (in_turn (change_events (at_once plan) 0) (span_of (at_once plan)) changes at)) (sym begin) (all_at_start plan ends changes) in
+    All-append IsAtStart (change_events (at_once plan) 0 c 0) (in_turn (change_events (at_once plan) 0) (span_of (at_once plan)) changes (0 + span_of (at_once plan) c)) here later
+
+latest_is_start : (events : List Event) (i : ℕ) → All IsAtStart events → latest_of events i ≡ 0
+latest_is_start events zero start = refl
+latest_is_start [] (suc i) start = refl
+latest_is_start (event ∷ events) (suc i) start =
+    ap (λ (m : ℕ). fold max (max 0 m) (map (λ (event : Event). event.at) (take i events))) start.0 ∙ latest_is_start events i start.1
+
+-- each line is at the start
+lines_at_start : (plan : SavedPlan) (latest : ℕ → ℕ) → ((i : ℕ) → latest i ≡ 0) → (n : ℕ) (events : List Event) → flat_map (λ p. event_text plan [] 0 (latest (p.0 + 1)) p.1) (enumerate_from n events) ≡ lines_at_once plan events
+lines_at_start plan latest start n [] = refl
+lines_at_start plan latest start n (event ∷ events) =
+    ap (λ (m : ℕ). event_text plan [] 0 m event ++ flat_map (λ p. event_text plan [] 0 (latest (p.0 + 1)) p.1) (enumerate_from (n + 1) events)) (start (n + 1))
+    ∙ ap (λ lines. event_text plan [] 0 0 event ++ lines) (lines_at_start plan latest start (n + 1) events)
+
+-- the version, the lines and the summary are the stream
+pub stream_is : (plan : SavedPlan) → ((work : Work) (worker c at : ℕ) → All (λ (event : Event). event.at ≤ at + span_of work c) (change_events work worker c at)) → (counts : Counts) → counts ≡ totals_of plan (events_of plan)
+    → version_text plan 0 ++ lines_at_once plan (events_of plan) ++ summary_text 0 0 Apply counts ≡ stream_at_once plan
+stream_is plan ends counts counted =
+    let events = events_of plan in
+    let start : All IsAtStart events = all_at_start plan (λ c. ends (at_once plan) 0 c 0) (range_with_len 0 (length plan.changes)) in
+    let lines : lines_of plan [] 0 events ≡ version_text plan 0 ++ lines_at_once plan events = ap (λ lines. version_text plan 0 ++ lines) (lines_at_start plan (latest_of events) (λ i. latest_is_start events i start) 0 events) in
+    ap (λ text. text ++ summary_text 0 0 Apply counts) (sym lines)
+    ∙ ap (λ (m : ℕ). lines_of plan [] 0 events ++ summary_text 0 m Apply counts) (sym (latest_is_start events (length events) start))
+    ∙ ap (λ (c : Counts). lines_of plan [] 0 events ++ summary_text 0 (latest_of events (length events)) Apply c) counted

@@ -1,7 +1,3 @@
-pub mod AtOnce
-pub mod Front
-pub mod Lines
-pub mod NoFloats
-pub mod Sending
-pub mod Statuses
-pub mod Texts
+mod AtOnce
+mod Front
+mod Statuses

@@ -1,12 +1,12 @@
--- The whole output for a plan: a line for each event, and the summary.
-use Rattle.std.specs.Prelude.{ℕ, List, [], ◌++◌, length}
-use Rattle.std.specs.List.{flat_map, range_with_len}
+-- The whole output for a plan.
+use Rattle.std.specs.Prelude.{ℕ, List, [], length, flat_map}
+use Rattle.std.specs.List.{range_with_len}
 use Rattle.apply_plan.specs.Plan.SavedPlan.{SavedPlan}
 use Rattle.apply_events.specs.declared.event.Event.{Event}
 use Rattle.apply_events.specs.Step.{Work}
-use Rattle.apply_events.specs.Totals.{totals_of}
 use Rattle.apply_events.specs.WorkerEvents.{worker_events}
-use Rattle.apply_cli.specs.Messages.{event_text, summary_text}
+use Rattle.apply_text.specs.declared.operation.Operation.TheVariants.{Apply}
+use Rattle.apply_text.specs.Lines.{event_text, stream_of}
 
 -- the plan, where a script says nothing, so that each step is done at once, and no hook halts
 abbrev pub at_once : SavedPlan → Work
@@ -16,10 +16,10 @@ at_once plan = record { plan = plan; script = []; hooks = [] }
 abbrev pub events_of : SavedPlan → List Event
 events_of plan = worker_events (at_once plan) 0 (range_with_len 0 (length plan.changes))
 
--- the lines of events
-abbrev pub lines_of : SavedPlan → List Event → List ℕ
-lines_of plan events = flat_map (event_text plan) events
+-- what is written for a plan: the stream of these events, from the start of 1970 on
+abbrev pub stream_at_once : SavedPlan → List ℕ
+stream_at_once plan = stream_of plan [] 0 Apply (events_of plan)
 
--- what is written for a plan: the lines of the events, and the summary of what they completed
-abbrev pub stream_of : SavedPlan → List ℕ
-stream_of plan = lines_of plan (events_of plan) ++ summary_text (totals_of plan (events_of plan))
+-- the lines of events that all happen at the start, for private clauses
+abbrev pub lines_at_once : SavedPlan → List Event → List ℕ
+lines_at_once plan events = flat_map (event_text plan [] 0 0) events

@@ -1,19 +1,10 @@
 //! Prints the stream of messages for applying a saved plan, which is read from standard input.
 #![tactic(auto)]
 
-mod changes_object;
-mod complete_hook;
 mod input;
 mod input_fault;
-mod key_value;
-mod line;
-mod member;
-mod message_object;
-mod resource_object;
 mod run;
-mod start_hook;
 mod status;
-mod step_words;
 mod stream;
 mod stream_fault;
 #[cfg(test)]

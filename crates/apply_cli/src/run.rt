@@ -6,7 +6,7 @@ ghost use Rattle.apply_plan.specs.declared.plan.plan_error.PlanError.{PlanError}
 ghost use Rattle.apply_plan.specs.Json.{max_bytes};
 ghost use Rattle.apply_plan.specs.Plan.SavedPlan.{SavedPlan, plan_of};
 ghost use Rattle.apply_cli.specs.Status.{input_status_of, plan_status_of};
-ghost use Rattle.apply_cli.specs.Stream.{stream_of};
+ghost use Rattle.apply_cli.specs.Stream.{stream_at_once};
 
 use crate::input::read_all;
 use crate::input_fault::InputFault;
@@ -30,7 +30,7 @@ pub fn run_first<R: Read + Drop, W: Write, E: Write>(
 ) -> u8
     // The bytes are those of the input, all of them, where the reader tells its bytes.
     ensures stream { result ≡ 0 → (bytes : List ℕ) × (plan : SavedPlan) × (plan_of bytes ≡ Ok plan)
-        × Appends (W.contents output.old) (W.contents output.new) (stream_of plan)
+        × Appends (W.contents output.old) (W.contents output.new) (stream_at_once plan)
         × IfSome (R.remaining input) (λ all. all ≡ bytes) }
     ensures quiet { result ≡ 0 → Keeps (E.contents faults.old) (E.contents faults.new) }
     ensures refused { result ≡ 2 → Keeps (W.contents output.old) (W.contents output.new) }
@@ -47,7 +47,7 @@ pub fn run_input<W: Write, E: Write>(
     faults: &mut E,
 ) -> u8
     ensures stream { IfOk input (λ bytes. result ≡ 0 → (plan : SavedPlan) × (plan_of bytes.items ≡ Ok plan)
-        × Appends (W.contents output.old) (W.contents output.new) (stream_of plan)) }
+        × Appends (W.contents output.old) (W.contents output.new) (stream_at_once plan)) }
     ensures unread { IfErr input (λ fault. result ≡ input_status_of fault) }
     ensures quiet { result ≡ 0 → Keeps (E.contents faults.old) (E.contents faults.new) }
     ensures refused { result ≡ 2 → Keeps (W.contents output.old) (W.contents output.new) }
@@ -70,7 +70,7 @@ pub fn run_bytes<W: Write, E: Write>(
     faults: &mut E,
 ) -> u8
     ensures stream { result ≡ 0 → (plan : SavedPlan) × (plan_of bytes.now ≡ Ok plan)
-        × Appends (W.contents output.old) (W.contents output.new) (stream_of plan) }
+        × Appends (W.contents output.old) (W.contents output.new) (stream_at_once plan) }
     ensures quiet { result ≡ 0 → Keeps (E.contents faults.old) (E.contents faults.new) }
     ensures refused { result ≡ 2 → (refusal : PlanError) × (plan_of bytes.now ≡ Err refusal)
         × Keeps (W.contents output.old) (W.contents output.new) }
@@ -88,7 +88,7 @@ pub fn run_plan<W: Write, E: Write>(
     faults: &mut E,
 ) -> u8
     ensures stream { IfOk plan (λ plan. result ≡ 0
-        → Appends (W.contents output.old) (W.contents output.new) (stream_of plan)) }
+        → Appends (W.contents output.old) (W.contents output.new) (stream_at_once plan)) }
     ensures quiet { result ≡ 0 → Keeps (E.contents faults.old) (E.contents faults.new) }
     ensures applied { IfOk plan (λ plan. (result ≡ 0) ⊎ (result ≡ 3)) }
     ensures refused { IfErr plan (λ refusal. (result ≡ plan_status_of refusal)

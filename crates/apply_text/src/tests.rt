@@ -1,5 +1,7 @@
 //! What no clause says: that the definitions are the ones that were meant, and that calls succeed with ample memory.
 
+ghost use Rattle.apply_events.specs.Fits.{HasStep};
+
 mod escapes;
 mod moments;
 mod streams;
@@ -71,21 +73,31 @@ fn stream(
             };
             assert!(rt; event.at <= LATEST);
             at = event.at;
+            check_step(rt, &plan, &event);
             let line = event_line(alloc, &plan, &script, start, at, &event)?;
             text.push_str(line.as_str())?;
             count(rt, &mut counts, &plan, &event);
         }
     }
+    assert!(rt; at <= LATEST);
     let line = summary_line(alloc, start, at, operation, &counts)?;
     text.push_str(line.as_str())?;
     Ok(text)
 }
 
 /// Counts an event, where there is room.
-fn count(rt: &impl Abort, counts: &mut Counts, plan: &Plan, event: &Event) {
-    assert!(rt; event.change < plan.len());
-    assert!(rt; (event.step as usize) < plan.change(event.change).steps().len());
+fn count(rt: &impl Abort, counts: &mut Counts, plan: &Plan, event: &Event)
+    requires { HasStep plan.now event.now.change event.now.step }
+{
     assert!(rt; counts.added < 1_000 && counts.changed < 1_000 && counts.removed < 1_000);
     assert!(rt; counts.failed < 1_000 && counts.halted < 1_000);
     counts.count(plan, event);
+}
+
+/// The plan has to have the event's step.
+fn check_step(rt: &impl Abort, plan: &Plan, event: &Event)
+    ensures { HasStep plan.now event.now.change event.now.step }
+{
+    assert!(rt; event.change < plan.len());
+    assert!(rt; (event.step as usize) < plan.change(event.change).steps().len());
 }

@@ -166,6 +166,7 @@ fn the_last_moment_is_a_day_after_the_last_start(rt: HostRuntime) -> Result<(), 
         what: What::Complete(86_400),
         at: 86_400,
     };
+    check_step(&rt, &plan, &event);
     let written = event_line(alloc, &plan, &script, start, 86_400, &event)?;
     assert_eq!(rt; written.as_str().trim_end(), LAST_LINE);
     Ok(())

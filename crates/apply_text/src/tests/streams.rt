@@ -224,6 +224,7 @@ fn hooks_halt(rt: HostRuntime) -> Result<(), Fail> {
             what: What::Halted { phase, hook },
             at: 3,
         };
+        check_step(&rt, &plan, &event);
         let written = event_line(alloc, &plan, &script, Start::zero(), 4, &event)?;
         assert_eq!(rt; written.as_str().trim_end(), wanted);
     }
