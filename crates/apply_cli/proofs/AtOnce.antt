@@ -1,12 +1,12 @@
 -- The events of changes whose steps are done at once, and their counts.
-use Rattle.std.proofs.Common.{◌≡◌, ℕ, zero, suc, ◌+◌, ◌-◌, ◌*◌, ◌<◌, ◌≤◌, List, [], ◌∷◌, ◌++◌, length, map, take, Option, Some, None, refl, sym, ap, ◌∙◌, subst, add-one, add-zero, add_assoc, append_assoc, arith}
-use Rattle.std.specs.Prelude.{sum_by, slice_get, count_by, fold, max, All}
+use Rattle.std.proofs.Common.{◌≡◌, ℕ, zero, suc, ◌+◌, ◌-◌, ◌<◌, ◌≤◌, List, [], ◌∷◌, ◌++◌, length, map, take, Option, Some, refl, sym, ap, ◌∙◌, subst, add-zero, add_assoc, arith}
+use Rattle.std.specs.Prelude.{sum_by, slice_get, fold, max, All}
 use Rattle.std.specs.List.{enumerate_from, flat_map, range_with_len}
 use Rattle.std.specs.Option.{option_map_or}
-use Rattle.std.specs.Io.KnownBytes.{Appends}
+use Rattle.std.specs.Io.KnownBytes.{Appends, Keeps}
 use Rattle.std.proofs.lemmas.Grind.{common_steps, flat_map-append}
 use Rattle.std.proofs.lemmas.List.{append-nil, length-append}
-use Rattle.std.proofs.lemmas.List.Elements.{All-append, All-weaker}
+use Rattle.std.proofs.lemmas.List.Elements.{All-append, All-nil, All-weaker}
 use Rattle.std.proofs.lemmas.List.Sums.{count_by-le-length, sum_by-append, sum_by-cons}
 use Rattle.apply_plan.specs.declared.plan.step_kind.StepKind.{StepKind}
 use Rattle.apply_plan.specs.declared.plan.step_kind.StepKind.TheVariants.{Create, Update, Delete}
@@ -15,7 +15,7 @@ use Rattle.apply_plan.specs.Plan.SavedPlan.{SavedPlan}
 use Rattle.apply_events.specs.declared.counts.Counts.{Counts}
 use Rattle.apply_events.specs.declared.event.Event.{Event}
 use Rattle.apply_events.specs.ChangeEvents.{begun, change_events, in_turn, span_of}
-use Rattle.apply_events.specs.Step.{Step, Work, kinds_of, step_of, steps_of}
+use Rattle.apply_events.specs.Step.{Step, Work, kinds_of, step_of}
 use Rattle.apply_events.specs.StepEvents.{step_events, step_time}
 use Rattle.apply_events.specs.Totals.{completes, is_errored, is_halted, plus, totals_of}
 use Rattle.apply_text.specs.declared.operation.Operation.TheVariants.{Apply}
@@ -142,7 +142,7 @@ abbrev IsAtStart : Event → Type 0
 IsAtStart event = event.at ≡ 0
 
 all_at_start : (plan : SavedPlan) → ((c : ℕ) → All (λ (event : Event). event.at ≤ 0 + span_of (at_once plan) c) (change_events (at_once plan) 0 c 0)) → (changes : List ℕ) → All IsAtStart (in_turn (change_events (at_once plan) 0) (span_of (at_once plan)) changes 0)
-all_at_start plan ends [] = tt
+all_at_start plan ends [] = All-nil IsAtStart
 all_at_start plan ends (c ∷ changes) =
     let here : All IsAtStart (change_events (at_once plan) 0 c 0) = All-weaker (λ (event : Event). event.at ≤ 0 + span_of (at_once plan) c) IsAtStart (λ event early. omega (arith, early, span_is_nothing plan c)) (change_events (at_once plan) 0 c 0) (ends c) in
     let begin : 0 + span_of (at_once plan) c ≡ 0 = omega (arith, span_is_nothing plan c) in
@@ -153,7 +153,7 @@ latest_is_start : (events : List Event) (i : ℕ) → All IsAtStart events → l
 latest_is_start events zero start = refl
 latest_is_start [] (suc i) start = refl
 latest_is_start (event ∷ events) (suc i) start =
-    ap (λ (m : ℕ). fold max (max 0 m) (map (λ (event : Event). event.at) (take i events))) start.0 ∙ latest_is_start events i start.1
+    ap (λ (m : ℕ). fold max (max 0 m) (map (λ (event : Event). event.at) (take i events))) (start 0 event (omega arith)) ∙ latest_is_start events i (λ k d within. start (suc k) d (omega (arith, within)))
 
 -- each line is at the start
 lines_at_start : (plan : SavedPlan) (latest : ℕ → ℕ) → ((i : ℕ) → latest i ≡ 0) → (n : ℕ) (events : List Event) → flat_map (λ p. event_text plan [] 0 (latest (p.0 + 1)) p.1) (enumerate_from n events) ≡ lines_at_once plan events
@@ -164,11 +164,18 @@ lines_at_start plan latest start n (event ∷ events) =
 
 -- the version, the lines and the summary are the stream
 pub stream_is : (plan : SavedPlan) → ((work : Work) (worker c at : ℕ) → All (λ (event : Event). event.at ≤ at + span_of work c) (change_events work worker c at)) → (counts : Counts) → counts ≡ totals_of plan (events_of plan)
-    → version_text plan 0 ++ lines_at_once plan (events_of plan) ++ summary_text 0 0 Apply counts ≡ stream_at_once plan
-stream_is plan ends counts counted =
+    → (version summary : List ℕ) → version ≡ version_text plan 0 → summary ≡ summary_text 0 0 Apply counts
+    → version ++ lines_at_once plan (events_of plan) ++ summary ≡ stream_at_once plan
+stream_is plan ends counts counted version summary first last =
     let events = events_of plan in
     let start : All IsAtStart events = all_at_start plan (λ c. ends (at_once plan) 0 c 0) (range_with_len 0 (length plan.changes)) in
     let lines : lines_of plan [] 0 events ≡ version_text plan 0 ++ lines_at_once plan events = ap (λ lines. version_text plan 0 ++ lines) (lines_at_start plan (latest_of events) (λ i. latest_is_start events i start) 0 events) in
-    ap (λ text. text ++ summary_text 0 0 Apply counts) (sym lines)
+    ap (λ text. text ++ lines_at_once plan events ++ summary) first
+    ∙ ap (λ text. version_text plan 0 ++ lines_at_once plan events ++ text) last
+    ∙ ap (λ text. text ++ summary_text 0 0 Apply counts) (sym lines)
     ∙ ap (λ (m : ℕ). lines_of plan [] 0 events ++ summary_text 0 m Apply counts) (sym (latest_is_start events (length events) start))
     ∙ ap (λ (c : Counts). lines_of plan [] 0 events ++ summary_text 0 (latest_of events (length events)) Apply c) counted
+
+-- three pieces one after the other, and a flush
+pub all_appended : (old first second third new : Option (List ℕ)) (x y z all : List ℕ) → Appends old first x → Appends first second y → Appends second third z → Keeps third new → x ++ y ++ z ≡ all → Appends old new all
+all_appended old first second third new x y z all one two three kept is = rw (← is) (grind (arith, common_steps))

@@ -11,6 +11,7 @@ use apply_plan::PlanError;
 use std::alloc::{AllocError, Global};
 use std::io;
 use std::io::{ErrorKind, Read, Write};
+use std::process::Abort;
 use std::test::Fail;
 
 /// Runs the program on the bytes: the status, what it printed, and what it said of faults.

@@ -97,7 +97,7 @@ fn ten_thousand_updates_are_the_most(rt: HostRuntime) -> Result<(), Fail> {
             .filter(|byte| **byte == b'\n')
             .count();
         if count == 10_000 {
-            assert_eq!(rt; lines, 20_001);
+            assert_eq!(rt; lines, 20_002);
             assert!(rt; output.contains("Resources: 0 added, 10000 changed, 0 destroyed."));
         } else {
             assert_eq!(rt; lines, 0);
