@@ -2,35 +2,81 @@
 
 mod accepted;
 mod elements;
+mod limits;
 mod outcomes;
 mod plans;
 mod script_members;
 mod scripts;
+mod table;
 
 use crate::json::parsing::parse;
 use crate::plan::header::Header;
 use crate::plan::{plain, reading};
-use crate::{MAX_CHANGES, Plan, PlanError, Text, read_plan, read_script};
+use crate::{MAX_CHANGES, Plan, Script, Text, read_plan, read_script};
 use std::alloc::{AllocError, Global};
 use std::process::Abort;
 use std::test::Fail;
 
-/// A plan with these elements.
-fn plan_text(alloc: Global, elements: &str) -> Result<String, AllocError> {
-    format!(in alloc;
-        r#"{{"format_version":"1.2","terraform_version":"1.9.0","resource_changes":[{elements}]}}"#
-    )
+/// A plan of one change, which creates `null_resource.a`.
+const ONE_CREATE: &str =
+    r#"{"format_version":"1.2","terraform_version":"1.9.0","resource_changes":[{"address":"null_resource.a","mode":"managed","type":"null_resource","name":"a","change":{"actions":["create"]}}]}"#;
+
+/// The plan that the text has to be.
+fn plan_of(rt: &impl Abort, alloc: Global, text: &str) -> Plan {
+    match read_plan(alloc, text.as_bytes()) {
+        Ok(plan) => plan,
+        Err(error) => panic!(rt; "{text}: {error}"),
+    }
 }
 
-/// An element for the resource `null_resource.NAME`.
-fn element_text(alloc: Global, name: &str, actions: &str) -> Result<String, AllocError> {
-    format!(in alloc;
-        r#"{{"address":"null_resource.{name}","mode":"managed","type":"null_resource","name":"{name}","change":{{"actions":{actions}}}}}"#
-    )
+/// The script for the plan that the text has to be.
+fn script_of(rt: &impl Abort, alloc: Global, text: &str, plan: &Plan) -> Script {
+    match read_script(alloc, text.as_bytes(), plan) {
+        Ok(script) => script,
+        Err(error) => panic!(rt; "{text}: {error}"),
+    }
 }
 
-fn read(alloc: Global, text: &str) -> Result<Plan, PlanError> {
-    read_plan(alloc, text.as_bytes())
+/// What is answered to bytes as a plan: `accepted`, or the text of the refusal.
+fn answer_to_plan(alloc: Global, bytes: &[u8]) -> Result<String, AllocError> {
+    match read_plan(alloc, bytes) {
+        Ok(_) => String::from_str(alloc, "accepted"),
+        Err(error) => error.to_string(alloc),
+    }
+}
+
+/// What is answered to bytes as a script for the plan: `accepted`, or the text of the refusal.
+fn answer_to_script(alloc: Global, plan: &Plan, bytes: &[u8]) -> Result<String, AllocError> {
+    match read_script(alloc, bytes, plan) {
+        Ok(_) => String::from_str(alloc, "accepted"),
+        Err(error) => error.to_string(alloc),
+    }
+}
+
+/// Fails where bytes as a plan are answered otherwise.
+fn plan_is_answered(
+    rt: &impl Abort,
+    alloc: Global,
+    bytes: &[u8],
+    wanted: &str,
+) -> Result<(), AllocError> {
+    let found = answer_to_plan(alloc, bytes)?;
+    assert_eq!(rt; found.as_str(), wanted);
+    Ok(())
+}
+
+/// Fails where bytes as a script for the plan are answered otherwise.
+fn script_is_answered(
+    rt: &impl Abort,
+    alloc: Global,
+    plan: &str,
+    bytes: &[u8],
+    wanted: &str,
+) -> Result<(), AllocError> {
+    let plan = plan_of(rt, alloc, plan);
+    let found = answer_to_script(alloc, &plan, bytes)?;
+    assert_eq!(rt; found.as_str(), wanted);
+    Ok(())
 }
 
 /// Whether the changes that the reader and the plain reader give are printed alike.

@@ -1,222 +1,228 @@
+use super::table::{cells, plans_are_answered, push_row, rows, spelled_rows};
 use super::*;
 
-const ACCEPTED: Option<PlanError> = None;
+/// A plan of these elements.
+const PLAN: &str =
+    r#"{"format_version":"1.2","terraform_version":"1.9.0","resource_changes":[CELL]}"#;
 
-const MALFORMED: Option<PlanError> = Some(PlanError::BadChange(0));
+/// The members of the usual element.
+const USUAL: &str = r#"
+address => "t.n"
+mode => "managed"
+type => "t"
+name => "n"
+change => {"actions":["create"]}
+"#;
 
-const OUT_OF_SCOPE: Option<PlanError> = Some(PlanError::BadActions(0));
-
-const MISPLACED: Option<PlanError> = Some(PlanError::BadAddress(0));
-
-/// An element without the member of that name, and with `member` at its end.
-fn element_with(alloc: Global, name: &str, member: &str) -> Result<String, AllocError> {
-    let mut text = String::from_str(alloc, "{")?;
-    for (known, value) in [
-        ("address", r#""t.n""#),
-        ("mode", r#""managed""#),
-        ("type", r#""t""#),
-        ("name", r#""n""#),
-        ("change", r#"{"actions":["create"]}"#),
-    ] {
-        if known != name {
-            text.push_str("\"")?;
-            text.push_str(known)?;
-            text.push_str("\":")?;
-            text.push_str(value)?;
-            text.push_str(",")?;
-        }
-    }
-    text.push_str(member)?;
-    text.push_str("}")?;
-    Ok(text)
-}
-
-/// Reads a plan of one element that has this value for the member of that name, and not what it had before.
-fn refusal(
+/// The usual element, but that the member of that name has this value. `absent` stands for no such member.
+fn element_with(
     rt: &impl Abort,
     alloc: Global,
     name: &str,
     value: &str,
-) -> Result<Option<PlanError>, AllocError> {
-    let member = if value.is_empty() {
-        format!(in alloc; r#""other":0"#)?
+) -> Result<String, AllocError> {
+    let mut text = String::from_str(alloc, "{")?;
+    for (known, usual) in rows(rt, alloc, USUAL)? {
+        if known != name {
+            push_member(&mut text, known, usual)?;
+            text.push_str(",")?;
+        }
+    }
+    if value == "absent" {
+        push_member(&mut text, "other", "0")?;
     } else {
-        format!(in alloc; r#""{name}":{value}"#)?
-    };
-    let element = element_with(alloc, name, member.as_str())?;
-    let text = plan_text(alloc, element.as_str())?;
-    reads_as_plainly(rt, alloc, text.as_str());
-    Ok(read(alloc, text.as_str()).err())
+        push_member(&mut text, name, value)?;
+    }
+    text.push_str("}")?;
+    Ok(text)
 }
+
+fn push_member(text: &mut String, name: &str, value: &str) -> Result<(), AllocError> {
+    text.push_str("\"")?;
+    text.push_str(name)?;
+    text.push_str("\":")?;
+    text.push_str(value)
+}
+
+/// Reads a plan of one element for each row, which names a member and its value, and compares the answer.
+fn members_are_answered(rt: &impl Abort, alloc: Global, table: &str) -> Result<(), AllocError> {
+    let mut elements = String::new(alloc);
+    for (name, rest) in rows(rt, alloc, table)? {
+        let (value, wanted) = cells(rt, rest);
+        let element = element_with(rt, alloc, name, value)?;
+        push_row(&mut elements, element.as_str(), wanted)?;
+    }
+    plans_are_answered(rt, alloc, PLAN, elements.as_str())
+}
+
+const MEMBERS: &str = r#"
+address => absent => change 0 is malformed
+address => null => change 0 is malformed
+address => 5 => change 0 is malformed
+address => true => change 0 is malformed
+address => [] => change 0 is malformed
+address => {} => change 0 is malformed
+address => "" => change 0 has an address that does not fit its module
+mode => absent => change 0 is malformed
+mode => null => change 0 is malformed
+mode => 5 => change 0 is malformed
+mode => true => change 0 is malformed
+mode => [] => change 0 is malformed
+mode => {} => change 0 is malformed
+mode => "" => change 0 is malformed
+mode => "Managed" => change 0 is malformed
+mode => "ephemeral" => change 0 is malformed
+mode => "data" => accepted
+type => absent => change 0 is malformed
+type => null => change 0 is malformed
+type => 5 => change 0 is malformed
+type => true => change 0 is malformed
+type => [] => change 0 is malformed
+type => {} => change 0 is malformed
+type => "" => change 0 is malformed
+type => "_" => accepted
+name => absent => change 0 is malformed
+name => null => change 0 is malformed
+name => 5 => change 0 is malformed
+name => true => change 0 is malformed
+name => [] => change 0 is malformed
+name => {} => change 0 is malformed
+name => "" => change 0 is malformed
+name => 5,"name":"n" => accepted
+name => "n","name":5 => change 0 is malformed
+change => absent => change 0 is malformed
+change => null => change 0 is malformed
+change => 5 => change 0 is malformed
+change => true => change 0 is malformed
+change => [] => change 0 is malformed
+change => "create" => change 0 is malformed
+change => {} => change 0 is malformed
+change => {"actions":null} => change 0 is malformed
+change => {"actions":"create"} => change 0 is malformed
+change => {"actions":{}} => change 0 is malformed
+change => {"actions":5} => change 0 is malformed
+change => {"actions":true} => change 0 is malformed
+module_address => true => change 0 is malformed
+module_address => [] => change 0 is malformed
+module_address => {} => change 0 is malformed
+module_address => 1.5 => change 0 is malformed
+module_address => absent => accepted
+module_address => null => accepted
+module_address => "" => accepted
+module_address => 5 => change 0 is malformed
+module_address => "module.b" => change 0 has an address that does not fit its module
+module_address => "t" => accepted
+module_address => "t.n" => change 0 has an address that does not fit its module
+module_address => "t." => change 0 has an address that does not fit its module
+index => true => change 0 is malformed
+index => [] => change 0 is malformed
+index => {} => change 0 is malformed
+index => 1.5 => change 0 is malformed
+index => absent => accepted
+index => null => accepted
+index => "" => accepted
+deposed => true => change 0 is malformed
+deposed => [] => change 0 is malformed
+deposed => {} => change 0 is malformed
+deposed => 1.5 => change 0 is malformed
+deposed => absent => accepted
+deposed => null => accepted
+deposed => "" => accepted
+deposed => 5 => change 0 is malformed
+deposed => "00000001" => accepted
+deposed => 5,"deposed":null => accepted
+"#;
 
 #[test]
 fn each_member_has_its_rule(rt: HostRuntime) -> Result<(), Fail> {
-    let alloc = rt.alloc();
-    for name in ["address", "mode", "type", "name", "change"] {
-        for value in ["", "null", "5", "true", "[]"] {
-            assert_eq!(rt;
-                refusal(&rt, alloc, name, value)?,
-                MALFORMED,
-                "{name} {value}"
-            );
-        }
-    }
-    for name in ["address", "mode", "type", "name"] {
-        assert_eq!(rt; refusal(&rt, alloc, name, "{}")?, MALFORMED, "{name}");
-    }
-    for name in ["module_address", "index", "deposed"] {
-        for value in ["true", "[]", "{}", "1.5"] {
-            assert_eq!(rt;
-                refusal(&rt, alloc, name, value)?,
-                MALFORMED,
-                "{name} {value}"
-            );
-        }
-        for value in ["", "null", r#""""#] {
-            assert_eq!(rt;
-                refusal(&rt, alloc, name, value)?,
-                ACCEPTED,
-                "{name} {value}"
-            );
-        }
-    }
-    for (name, value, wanted) in [
-        ("address", r#""""#, MISPLACED),
-        ("mode", r#""""#, MALFORMED),
-        ("mode", r#""Managed""#, MALFORMED),
-        ("mode", r#""ephemeral""#, MALFORMED),
-        ("mode", r#""data""#, ACCEPTED),
-        ("type", r#""""#, MALFORMED),
-        ("type", r#""_""#, ACCEPTED),
-        ("name", r#""""#, MALFORMED),
-        ("module_address", "5", MALFORMED),
-        ("module_address", r#""module.b""#, MISPLACED),
-        ("module_address", r#""t""#, ACCEPTED),
-        ("module_address", r#""t.n""#, MISPLACED),
-        ("module_address", r#""t.""#, MISPLACED),
-        ("deposed", "5", MALFORMED),
-        ("deposed", r#""00000001""#, ACCEPTED),
-        ("change", r#""create""#, MALFORMED),
-        ("change", "{}", MALFORMED),
-        ("change", r#"{"actions":null}"#, MALFORMED),
-        ("change", r#"{"actions":"create"}"#, MALFORMED),
-        ("change", r#"{"actions":{}}"#, MALFORMED),
-        ("change", r#"{"actions":5}"#, MALFORMED),
-        ("change", r#"{"actions":true}"#, MALFORMED),
-        ("name", r#"5,"name":"n""#, ACCEPTED),
-        ("name", r#""n","name":5"#, MALFORMED),
-        ("deposed", r#"5,"deposed":null"#, ACCEPTED),
-    ] {
-        assert_eq!(rt; refusal(&rt, alloc, name, value)?, wanted, "{name} {value}");
-    }
+    members_are_answered(&rt, rt.alloc(), MEMBERS)?;
     Ok(())
 }
+
+const INDEXES: &str = r#"
+index => 0 => accepted
+index => -1 => accepted
+index => 9223372036854775807 => accepted
+index => -9223372036854775808 => accepted
+index => "k" => accepted
+index => 9223372036854775808 => change 0 is malformed
+index => -9223372036854775809 => change 0 is malformed
+index => 1.5 => change 0 is malformed
+index => 1.0 => change 0 is malformed
+index => 1e2 => change 0 is malformed
+index => -0 => change 0 is malformed
+"#;
 
 #[test]
 fn an_index_is_a_text_or_a_whole_number(rt: HostRuntime) -> Result<(), Fail> {
-    let alloc = rt.alloc();
-    for value in [
-        "0",
-        "-1",
-        "9223372036854775807",
-        "-9223372036854775808",
-        r#""k""#,
-    ] {
-        assert_eq!(rt; refusal(&rt, alloc, "index", value)?, ACCEPTED, "{value}");
-    }
-    for value in [
-        "9223372036854775808",
-        "-9223372036854775809",
-        "1.5",
-        "1.0",
-        "1e2",
-        "-0",
-    ] {
-        assert_eq!(rt; refusal(&rt, alloc, "index", value)?, MALFORMED, "{value}");
-    }
+    members_are_answered(&rt, rt.alloc(), INDEXES)?;
     Ok(())
 }
+
+const ACTIONS: &str = r#"
+change => {"actions":["forget"]} => change 0 has an action list that is out of scope
+change => {"actions":[]} => change 0 has an action list that is out of scope
+change => {"actions":["create","create"]} => change 0 has an action list that is out of scope
+change => {"actions":[1]} => change 0 has an action list that is out of scope
+change => {"actions":[null]} => change 0 has an action list that is out of scope
+change => {"actions":["Create"]} => change 0 has an action list that is out of scope
+change => {"actions":[""]} => change 0 has an action list that is out of scope
+change => {"actions":["no-op","create"]} => change 0 has an action list that is out of scope
+change => {"actions":["delete","create","delete"]} => change 0 has an action list that is out of scope
+change => {"actions":["create","forget"]} => change 0 has an action list that is out of scope
+change => {"actions":[["create"]]} => change 0 has an action list that is out of scope
+"#;
 
 #[test]
 fn refused_actions(rt: HostRuntime) -> Result<(), Fail> {
-    let alloc = rt.alloc();
-    for actions in [
-        r#"["forget"]"#,
-        "[]",
-        r#"["create","create"]"#,
-        "[1]",
-        "[null]",
-        r#"["Create"]"#,
-        r#"[""]"#,
-        r#"["no-op","create"]"#,
-        r#"["delete","create","delete"]"#,
-        r#"["create","forget"]"#,
-        r#"[["create"]]"#,
-    ] {
-        let change = format!(in alloc; r#"{{"actions":{actions}}}"#)?;
-        assert_eq!(rt;
-            refusal(&rt, alloc, "change", change.as_str())?,
-            OUT_OF_SCOPE,
-            "{actions}"
-        );
-    }
+    members_are_answered(&rt, rt.alloc(), ACTIONS)?;
     Ok(())
 }
 
+const NO_OBJECTS: &str = r#"
+5 => change 0 is malformed
+null => change 0 is malformed
+"x" => change 0 is malformed
+[] => change 0 is malformed
+true => change 0 is malformed
+"#;
+
 #[test]
 fn an_element_is_an_object(rt: HostRuntime) -> Result<(), Fail> {
-    let alloc = rt.alloc();
-    for element in ["5", "null", r#""x""#, "[]", "true"] {
-        let text = plan_text(alloc, element)?;
-        reads_as_plainly(&rt, alloc, text.as_str());
-        assert_eq!(rt; read(alloc, text.as_str()).err(), MALFORMED, "{element}");
-    }
+    plans_are_answered(&rt, rt.alloc(), PLAN, NO_OBJECTS)?;
     Ok(())
 }
+
+/// Elements by their faults.
+const ELEMENTS: &str = r#"
+usual => {"address":"a.a","mode":"managed","type":"a","name":"a","change":{"actions":["create"]}}
+misplaced => {"address":"a.b","module_address":"module.c","mode":"managed","type":"a","name":"b","change":{"actions":["create"]}}
+malformed => {"address":"a.b","mode":"x","type":"a","name":"b","change":{"actions":["forget"]}}
+out_of_scope => {"address":"a.b","module_address":"module.c","mode":"managed","type":"a","name":"b","change":{"actions":["forget"]}}
+malformed_again => {"address":"a.a","mode":"x","type":"a","name":"a","change":{"actions":["create"]}}
+out_of_scope_again => {"address":"a.a","mode":"managed","type":"a","name":"a","change":{"actions":[]}}
+misplaced_again => {"address":"a.a","module_address":"b","mode":"managed","type":"a","name":"a","change":{"actions":["create"]}}
+"#;
+
+const FIRST_FAULTS: &str = r#"
+usual misplaced malformed => change 1 has an address that does not fit its module
+usual malformed misplaced => change 1 is malformed
+usual out_of_scope malformed => change 1 has an action list that is out of scope
+usual usual malformed => change 1 repeats an earlier change
+usual malformed usual => change 1 is malformed
+usual malformed_again => change 1 is malformed
+usual out_of_scope_again => change 1 has an action list that is out of scope
+usual misplaced_again => change 1 has an address that does not fit its module
+usual usual => change 1 repeats an earlier change
+malformed => change 0 is malformed
+"#;
 
 /// Of two faults in one element the first in the order of the refusals is reported, and of two faulty elements the
 /// first.
 #[test]
 fn the_first_fault_is_reported(rt: HostRuntime) -> Result<(), Fail> {
     let alloc = rt.alloc();
-    let again =
-        r#"{"address":"a.a","mode":"managed","type":"a","name":"a","change":{"actions":["create"]}}"#;
-    let misplaced =
-        r#"{"address":"a.b","module_address":"module.c","mode":"managed","type":"a","name":"b","change":{"actions":["create"]}}"#;
-    let malformed =
-        r#"{"address":"a.b","mode":"x","type":"a","name":"b","change":{"actions":["forget"]}}"#;
-    let out_of_scope =
-        r#"{"address":"a.b","module_address":"module.c","mode":"managed","type":"a","name":"b","change":{"actions":["forget"]}}"#;
-    for (second, third, wanted) in [
-        (misplaced, malformed, PlanError::BadAddress(1)),
-        (malformed, misplaced, PlanError::BadChange(1)),
-        (out_of_scope, malformed, PlanError::BadActions(1)),
-        (again, malformed, PlanError::Duplicate(1)),
-        (malformed, again, PlanError::BadChange(1)),
-    ] {
-        let elements = format!(in alloc; "{again},{second},{third}")?;
-        let text = plan_text(alloc, elements.as_str())?;
-        reads_as_plainly(&rt, alloc, text.as_str());
-        assert_eq!(rt; read(alloc, text.as_str()).err(), Some(wanted));
-    }
-    let repeated_malformed =
-        r#"{"address":"a.a","mode":"x","type":"a","name":"a","change":{"actions":["create"]}}"#;
-    let repeated_out_of_scope =
-        r#"{"address":"a.a","mode":"managed","type":"a","name":"a","change":{"actions":[]}}"#;
-    let repeated_misplaced =
-        r#"{"address":"a.a","module_address":"b","mode":"managed","type":"a","name":"a","change":{"actions":["create"]}}"#;
-    for (second, wanted) in [
-        (repeated_malformed, PlanError::BadChange(1)),
-        (repeated_out_of_scope, PlanError::BadActions(1)),
-        (repeated_misplaced, PlanError::BadAddress(1)),
-        (again, PlanError::Duplicate(1)),
-    ] {
-        let elements = format!(in alloc; "{again},{second}")?;
-        let text = plan_text(alloc, elements.as_str())?;
-        reads_as_plainly(&rt, alloc, text.as_str());
-        assert_eq!(rt; read(alloc, text.as_str()).err(), Some(wanted));
-    }
-    let alone = plan_text(alloc, malformed)?;
-    assert_eq!(rt; read(alloc, alone.as_str()).err(), MALFORMED);
+    let table = spelled_rows(&rt, alloc, ELEMENTS, FIRST_FAULTS)?;
+    plans_are_answered(&rt, alloc, PLAN, table.as_str())?;
     Ok(())
 }

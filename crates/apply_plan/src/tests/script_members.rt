@@ -1,327 +1,265 @@
-use super::scripts::{plan_to, refusal_of, script_text};
+use super::table::scripts_are_answered;
 use super::*;
-use crate::ScriptError;
 
-const ACCEPTED: Option<ScriptError> = None;
-
-const MALFORMED: Option<ScriptError> = Some(ScriptError::BadShape(Some(0)));
-
-const UNKNOWN: Option<ScriptError> = Some(ScriptError::UnknownChange(0));
-
-const TOO_LONG: Option<ScriptError> = Some(ScriptError::SecondsRange(0));
+const TOP_LEVELS: &str = r#"
+[] => the script is malformed
+null => the script is malformed
+true => the script is malformed
+5 => the script is malformed
+"changes" => the script is malformed
+[{"changes":[]}] => the script is malformed
+{"changes":null} => the script is malformed
+{"changes":true} => the script is malformed
+{"changes":5} => the script is malformed
+{"changes":"[]"} => the script is malformed
+{"changes":{}} => the script is malformed
+{"Changes":[]} => the script is malformed
+{"changes":[],"changes":null} => the script is malformed
+{"changes":[],"changes":{}} => the script is malformed
+{"changes":[]} => accepted
+{"changes":5,"changes":[]} => accepted
+{"changes":[5],"changes":[]} => accepted
+{"version":2,"changes":[],"other":{"changes":5}} => accepted
+"#;
 
 #[test]
 fn the_top_level_is_an_object_with_entries(rt: HostRuntime) -> Result<(), Fail> {
-    let alloc = rt.alloc();
-    let plan = plan_to(&rt, alloc, r#"["create"]"#)?;
-    for text in [
-        "[]",
-        "null",
-        "true",
-        "5",
-        r#""changes""#,
-        r#"[{"changes":[]}]"#,
-        r#"{"changes":null}"#,
-        r#"{"changes":true}"#,
-        r#"{"changes":5}"#,
-        r#"{"changes":"[]"}"#,
-        r#"{"changes":{}}"#,
-        r#"{"Changes":[]}"#,
-        r#"{"changes":[],"changes":null}"#,
-        r#"{"changes":[],"changes":{}}"#,
-    ] {
-        assert_eq!(rt;
-            refusal_of(alloc, text, &plan),
-            Some(ScriptError::BadShape(None)),
-            "{text}"
-        );
-    }
-    for text in [
-        r#"{"changes":[]}"#,
-        r#"{"changes":5,"changes":[]}"#,
-        r#"{"changes":[5],"changes":[]}"#,
-        r#"{"version":2,"changes":[],"other":{"changes":5}}"#,
-    ] {
-        assert_eq!(rt; refusal_of(alloc, text, &plan), ACCEPTED, "{text}");
-    }
+    scripts_are_answered(&rt, rt.alloc(), ONE_CREATE, "CELL", TOP_LEVELS)?;
     Ok(())
 }
+
+const NO_ENTRIES: &str = r#"
+null => script entry 0 is malformed
+true => script entry 0 is malformed
+5 => script entry 0 is malformed
+"null_resource.a" => script entry 0 is malformed
+[] => script entry 0 is malformed
+{} => script entry 0 is malformed
+"#;
+
+/// The members of an entry.
+const ENTRIES: &str = r#"
+"steps":[] => script entry 0 is malformed
+"address":null,"steps":[] => script entry 0 is malformed
+"address":true,"steps":[] => script entry 0 is malformed
+"address":5,"steps":[] => script entry 0 is malformed
+"address":[],"steps":[] => script entry 0 is malformed
+"address":["null_resource.a"],"steps":[] => script entry 0 is malformed
+"address":{},"steps":[] => script entry 0 is malformed
+"address":"","steps":[] => script entry 0 names an unknown change
+"address":"null_resource.","steps":[] => script entry 0 names an unknown change
+"address":"null_resource.b","steps":[] => script entry 0 names an unknown change
+"address":"null_resource.a ","steps":[] => script entry 0 names an unknown change
+"address":"null_resource.a","steps":[] => accepted
+"address":"null_resource.\u0061","steps":[] => accepted
+"address":5,"address":"null_resource.a","steps":[] => accepted
+"address":"null_resource.a","address":"x.y","steps":[] => script entry 0 names an unknown change
+"address":"null_resource.a","address":null,"steps":[] => script entry 0 is malformed
+"address":"null_resource.a","deposed":null,"steps":[] => accepted
+"address":"null_resource.a","deposed":"","steps":[] => accepted
+"address":"null_resource.a","deposed":"00000001","steps":[] => script entry 0 names an unknown change
+"address":"null_resource.a","deposed":" ","steps":[] => script entry 0 names an unknown change
+"address":"null_resource.a","deposed":true,"steps":[] => script entry 0 is malformed
+"address":"null_resource.a","deposed":1,"steps":[] => script entry 0 is malformed
+"address":"null_resource.a","deposed":[],"steps":[] => script entry 0 is malformed
+"address":"null_resource.a","deposed":{},"steps":[] => script entry 0 is malformed
+"address":"null_resource.a","deposed":"1","deposed":"","steps":[] => accepted
+"address":"null_resource.a","deposed":"","deposed":"1","steps":[] => script entry 0 names an unknown change
+"address":"null_resource.a" => script entry 0 is malformed
+"address":"null_resource.a","steps":null => script entry 0 is malformed
+"address":"null_resource.a","steps":true => script entry 0 is malformed
+"address":"null_resource.a","steps":0 => script entry 0 is malformed
+"address":"null_resource.a","steps":"[]" => script entry 0 is malformed
+"address":"null_resource.a","steps":{} => script entry 0 is malformed
+"address":"null_resource.a","steps":{"seconds":0} => script entry 0 is malformed
+"address":"null_resource.a","steps":5,"steps":[] => accepted
+"address":"null_resource.a","steps":[],"steps":5 => script entry 0 is malformed
+"address":"null_resource.a","steps":[],"Steps":5,"mode":[1.5] => accepted
+"#;
 
 #[test]
 fn each_member_of_an_entry_has_its_rule(rt: HostRuntime) -> Result<(), Fail> {
-    let alloc = rt.alloc();
-    let plan = plan_to(&rt, alloc, r#"["create"]"#)?;
-    for entry in ["null", "true", "5", r#""null_resource.a""#, "[]", "{}"] {
-        let text = script_text(alloc, entry)?;
-        assert_eq!(rt;
-            refusal_of(alloc, text.as_str(), &plan),
-            MALFORMED,
-            "{entry}"
-        );
-    }
-    for (members, wanted) in [
-        (r#""steps":[]"#, MALFORMED),
-        (r#""address":null,"steps":[]"#, MALFORMED),
-        (r#""address":true,"steps":[]"#, MALFORMED),
-        (r#""address":5,"steps":[]"#, MALFORMED),
-        (r#""address":[],"steps":[]"#, MALFORMED),
-        (r#""address":["null_resource.a"],"steps":[]"#, MALFORMED),
-        (r#""address":{},"steps":[]"#, MALFORMED),
-        (r#""address":"","steps":[]"#, UNKNOWN),
-        (r#""address":"null_resource.","steps":[]"#, UNKNOWN),
-        (r#""address":"null_resource.b","steps":[]"#, UNKNOWN),
-        (r#""address":"null_resource.a ","steps":[]"#, UNKNOWN),
-        (r#""address":"null_resource.a","steps":[]"#, ACCEPTED),
-        (r#""address":"null_resource.\u0061","steps":[]"#, ACCEPTED),
-        (
-            r#""address":5,"address":"null_resource.a","steps":[]"#,
-            ACCEPTED,
-        ),
-        (
-            r#""address":"null_resource.a","address":"x.y","steps":[]"#,
-            UNKNOWN,
-        ),
-        (
-            r#""address":"null_resource.a","address":null,"steps":[]"#,
-            MALFORMED,
-        ),
-        (
-            r#""address":"null_resource.a","deposed":null,"steps":[]"#,
-            ACCEPTED,
-        ),
-        (
-            r#""address":"null_resource.a","deposed":"","steps":[]"#,
-            ACCEPTED,
-        ),
-        (
-            r#""address":"null_resource.a","deposed":"00000001","steps":[]"#,
-            UNKNOWN,
-        ),
-        (
-            r#""address":"null_resource.a","deposed":" ","steps":[]"#,
-            UNKNOWN,
-        ),
-        (
-            r#""address":"null_resource.a","deposed":true,"steps":[]"#,
-            MALFORMED,
-        ),
-        (
-            r#""address":"null_resource.a","deposed":1,"steps":[]"#,
-            MALFORMED,
-        ),
-        (
-            r#""address":"null_resource.a","deposed":[],"steps":[]"#,
-            MALFORMED,
-        ),
-        (
-            r#""address":"null_resource.a","deposed":{},"steps":[]"#,
-            MALFORMED,
-        ),
-        (
-            r#""address":"null_resource.a","deposed":"1","deposed":"","steps":[]"#,
-            ACCEPTED,
-        ),
-        (
-            r#""address":"null_resource.a","deposed":"","deposed":"1","steps":[]"#,
-            UNKNOWN,
-        ),
-        (r#""address":"null_resource.a""#, MALFORMED),
-        (r#""address":"null_resource.a","steps":null"#, MALFORMED),
-        (r#""address":"null_resource.a","steps":true"#, MALFORMED),
-        (r#""address":"null_resource.a","steps":0"#, MALFORMED),
-        (r#""address":"null_resource.a","steps":"[]""#, MALFORMED),
-        (r#""address":"null_resource.a","steps":{}"#, MALFORMED),
-        (
-            r#""address":"null_resource.a","steps":{"seconds":0}"#,
-            MALFORMED,
-        ),
-        (
-            r#""address":"null_resource.a","steps":5,"steps":[]"#,
-            ACCEPTED,
-        ),
-        (
-            r#""address":"null_resource.a","steps":[],"steps":5"#,
-            MALFORMED,
-        ),
-        (
-            r#""address":"null_resource.a","steps":[],"Steps":5,"mode":[1.5]"#,
-            ACCEPTED,
-        ),
-    ] {
-        let entry = format!(in alloc; "{{{members}}}")?;
-        let text = script_text(alloc, entry.as_str())?;
-        assert_eq!(rt;
-            refusal_of(alloc, text.as_str(), &plan),
-            wanted,
-            "{members}"
-        );
-    }
+    scripts_are_answered(
+        &rt,
+        rt.alloc(),
+        ONE_CREATE,
+        r#"{"changes":[CELL]}"#,
+        NO_ENTRIES,
+    )?;
+    scripts_are_answered(
+        &rt,
+        rt.alloc(),
+        ONE_CREATE,
+        r#"{"changes":[{CELL}]}"#,
+        ENTRIES,
+    )?;
     Ok(())
 }
 
-/// Reads a script with this step of the only change.
-fn refusal_of_step(
-    alloc: Global,
-    plan: &Plan,
-    step: &str,
-) -> Result<Option<ScriptError>, AllocError> {
-    let entry = format!(in alloc; r#"{{"address":"null_resource.a","steps":[{step}]}}"#)?;
-    let text = script_text(alloc, entry.as_str())?;
-    Ok(refusal_of(alloc, text.as_str(), plan))
-}
+/// A script with this step of the only change.
+const STEP: &str = r#"{"changes":[{"address":"null_resource.a","steps":[CELL]}]}"#;
+
+/// A script with these seconds in the step of the only change.
+const SECONDS_ALONE: &str =
+    r#"{"changes":[{"address":"null_resource.a","steps":[{"seconds":CELL}]}]}"#;
+
+const SECONDS: &str = r#"
+0 => accepted
+1 => accepted
+86400 => accepted
+86401 => script entry 0 has a step over 86400 seconds
+4294967295 => script entry 0 has a step over 86400 seconds
+4294967296 => script entry 0 has a step over 86400 seconds
+9223372036854775808 => script entry 0 has a step over 86400 seconds
+18446744073709551615 => script entry 0 has a step over 86400 seconds
+18446744073709551616 => script entry 0 is malformed
+-1 => script entry 0 is malformed
+-0 => script entry 0 is malformed
+1.5 => script entry 0 is malformed
+1.0 => script entry 0 is malformed
+1e2 => script entry 0 is malformed
+"1" => script entry 0 is malformed
+"" => script entry 0 is malformed
+null => script entry 0 is malformed
+true => script entry 0 is malformed
+[1] => script entry 0 is malformed
+{} => script entry 0 is malformed
+86401,"seconds":1 => accepted
+1.5,"seconds":1 => accepted
+1,"seconds":86401 => script entry 0 has a step over 86400 seconds
+1,"seconds":null => script entry 0 is malformed
+"#;
+
+const NO_STEPS: &str = r#"
+null => script entry 0 is malformed
+true => script entry 0 is malformed
+5 => script entry 0 is malformed
+"0" => script entry 0 is malformed
+[] => script entry 0 is malformed
+{} => script entry 0 is malformed
+{"id":"7"} => script entry 0 is malformed
+"#;
 
 #[test]
 fn seconds_are_a_whole_number(rt: HostRuntime) -> Result<(), Fail> {
-    let alloc = rt.alloc();
-    let plan = plan_to(&rt, alloc, r#"["create"]"#)?;
-    for (seconds, wanted) in [
-        ("0", ACCEPTED),
-        ("1", ACCEPTED),
-        ("86400", ACCEPTED),
-        ("86401", TOO_LONG),
-        ("4294967295", TOO_LONG),
-        ("4294967296", TOO_LONG),
-        ("9223372036854775808", TOO_LONG),
-        ("18446744073709551615", TOO_LONG),
-        ("18446744073709551616", MALFORMED),
-        ("-1", MALFORMED),
-        ("-0", MALFORMED),
-        ("1.5", MALFORMED),
-        ("1.0", MALFORMED),
-        ("1e2", MALFORMED),
-        (r#""1""#, MALFORMED),
-        (r#""""#, MALFORMED),
-        ("null", MALFORMED),
-        ("true", MALFORMED),
-        ("[1]", MALFORMED),
-        ("{}", MALFORMED),
-        (r#"86401,"seconds":1"#, ACCEPTED),
-        (r#"1.5,"seconds":1"#, ACCEPTED),
-        (r#"1,"seconds":86401"#, TOO_LONG),
-        (r#"1,"seconds":null"#, MALFORMED),
-    ] {
-        let step = format!(in alloc; r#"{{"seconds":{seconds}}}"#)?;
-        assert_eq!(rt;
-            refusal_of_step(alloc, &plan, step.as_str())?,
-            wanted,
-            "{seconds}"
-        );
-    }
-    for step in ["null", "true", "5", r#""0""#, "[]", "{}", r#"{"id":"7"}"#] {
-        assert_eq!(rt; refusal_of_step(alloc, &plan, step)?, MALFORMED, "{step}");
-    }
+    scripts_are_answered(&rt, rt.alloc(), ONE_CREATE, SECONDS_ALONE, SECONDS)?;
+    scripts_are_answered(&rt, rt.alloc(), ONE_CREATE, STEP, NO_STEPS)?;
     Ok(())
 }
+
+/// A script with these members in the step of the only change.
+const MEMBERS_OF_STEP: &str =
+    r#"{"changes":[{"address":"null_resource.a","steps":[{"seconds":0,CELL}]}]}"#;
+
+const MEMBERS: &str = r#"
+"id":null => accepted
+"id":"" => accepted
+"id":"7" => accepted
+"id":7,"id":"7" => accepted
+"id":"7","id":7 => script entry 0 is malformed
+"id":true => script entry 0 is malformed
+"id":5 => script entry 0 is malformed
+"id":1.5 => script entry 0 is malformed
+"id":[] => script entry 0 is malformed
+"id":["7"] => script entry 0 is malformed
+"id":{} => script entry 0 is malformed
+"warning":null => accepted
+"warning":5,"warning":null => accepted
+"warning":null,"warning":5 => script entry 0 is malformed
+"warning":true => script entry 0 is malformed
+"warning":5 => script entry 0 is malformed
+"warning":1.5 => script entry 0 is malformed
+"warning":[] => script entry 0 is malformed
+"warning":["7"] => script entry 0 is malformed
+"warning":{} => script entry 0 is malformed
+"failed":null => accepted
+"failed":5,"failed":null => accepted
+"failed":null,"failed":5 => script entry 0 is malformed
+"failed":true => script entry 0 is malformed
+"failed":5 => script entry 0 is malformed
+"failed":1.5 => script entry 0 is malformed
+"failed":[] => script entry 0 is malformed
+"failed":["7"] => script entry 0 is malformed
+"failed":{} => script entry 0 is malformed
+"other":[{"failed":5}] => accepted
+"provider":null => accepted
+"#;
 
 #[test]
 fn each_member_of_a_step_has_its_rule(rt: HostRuntime) -> Result<(), Fail> {
-    let alloc = rt.alloc();
-    let plan = plan_to(&rt, alloc, r#"["create"]"#)?;
-    for (name, value, wanted) in [
-        ("id", "null", ACCEPTED),
-        ("id", r#""""#, ACCEPTED),
-        ("id", r#""7""#, ACCEPTED),
-        ("id", r#"7,"id":"7""#, ACCEPTED),
-        ("id", r#""7","id":7"#, MALFORMED),
-        ("warning", "null", ACCEPTED),
-        ("warning", r#"5,"warning":null"#, ACCEPTED),
-        ("warning", r#"null,"warning":5"#, MALFORMED),
-        ("failed", "null", ACCEPTED),
-        ("failed", r#"5,"failed":null"#, ACCEPTED),
-        ("failed", r#"null,"failed":5"#, MALFORMED),
-        ("other", r#"[{"failed":5}]"#, ACCEPTED),
-        ("provider", r#"null"#, ACCEPTED),
-    ] {
-        let step = format!(in alloc; r#"{{"seconds":0,"{name}":{value}}}"#)?;
-        assert_eq!(rt;
-            refusal_of_step(alloc, &plan, step.as_str())?,
-            wanted,
-            "{name} {value}"
-        );
-    }
-    for name in ["id", "warning", "failed"] {
-        for value in ["true", "5", "1.5", "[]", r#"["7"]"#, "{}"] {
-            let step = format!(in alloc; r#"{{"seconds":0,"{name}":{value}}}"#)?;
-            assert_eq!(rt;
-                refusal_of_step(alloc, &plan, step.as_str())?,
-                MALFORMED,
-                "{name} {value}"
-            );
-        }
-    }
+    scripts_are_answered(&rt, rt.alloc(), ONE_CREATE, MEMBERS_OF_STEP, MEMBERS)?;
     Ok(())
 }
+
+/// Scripts with this diagnostic in the step of the only change.
+const WARNING: &str =
+    r#"{"changes":[{"address":"null_resource.a","steps":[{"seconds":0,"warning":CELL}]}]}"#;
+
+const FAILED: &str =
+    r#"{"changes":[{"address":"null_resource.a","steps":[{"seconds":0,"failed":CELL}]}]}"#;
+
+const DIAGNOSTICS: &str = r#"
+"boom" => script entry 0 is malformed
+"" => script entry 0 is malformed
+[{"summary":"boom"}] => script entry 0 is malformed
+{"detail":"why"} => script entry 0 is malformed
+{"summary":null} => script entry 0 is malformed
+{"summary":true} => script entry 0 is malformed
+{"summary":5} => script entry 0 is malformed
+{"summary":[]} => script entry 0 is malformed
+{"summary":{}} => script entry 0 is malformed
+{"summary":""} => accepted
+{"summary":"boom"} => accepted
+{"summary":5,"summary":"boom"} => accepted
+{"summary":"boom","summary":5} => script entry 0 is malformed
+{"summary":"boom","detail":null} => accepted
+{"summary":"boom","detail":""} => accepted
+{"summary":"boom","detail":"why"} => accepted
+{"summary":"boom","detail":true} => script entry 0 is malformed
+{"summary":"boom","detail":5} => script entry 0 is malformed
+{"summary":"boom","detail":[]} => script entry 0 is malformed
+{"summary":"boom","detail":{}} => script entry 0 is malformed
+{"summary":"boom","detail":5,"detail":"why"} => accepted
+{"summary":"boom","detail":"why","detail":5} => script entry 0 is malformed
+{"summary":"boom","severity":5} => accepted
+"#;
 
 #[test]
 fn a_diagnostic_has_a_summary(rt: HostRuntime) -> Result<(), Fail> {
-    let alloc = rt.alloc();
-    let plan = plan_to(&rt, alloc, r#"["create"]"#)?;
-    for (diag, wanted) in [
-        (r#""boom""#, MALFORMED),
-        (r#""""#, MALFORMED),
-        (r#"[{"summary":"boom"}]"#, MALFORMED),
-        (r#"{"detail":"why"}"#, MALFORMED),
-        (r#"{"summary":null}"#, MALFORMED),
-        (r#"{"summary":true}"#, MALFORMED),
-        (r#"{"summary":5}"#, MALFORMED),
-        (r#"{"summary":[]}"#, MALFORMED),
-        (r#"{"summary":{}}"#, MALFORMED),
-        (r#"{"summary":""}"#, ACCEPTED),
-        (r#"{"summary":"boom"}"#, ACCEPTED),
-        (r#"{"summary":5,"summary":"boom"}"#, ACCEPTED),
-        (r#"{"summary":"boom","summary":5}"#, MALFORMED),
-        (r#"{"summary":"boom","detail":null}"#, ACCEPTED),
-        (r#"{"summary":"boom","detail":""}"#, ACCEPTED),
-        (r#"{"summary":"boom","detail":"why"}"#, ACCEPTED),
-        (r#"{"summary":"boom","detail":true}"#, MALFORMED),
-        (r#"{"summary":"boom","detail":5}"#, MALFORMED),
-        (r#"{"summary":"boom","detail":[]}"#, MALFORMED),
-        (r#"{"summary":"boom","detail":{}}"#, MALFORMED),
-        (r#"{"summary":"boom","detail":5,"detail":"why"}"#, ACCEPTED),
-        (r#"{"summary":"boom","detail":"why","detail":5}"#, MALFORMED),
-        (r#"{"summary":"boom","severity":5}"#, ACCEPTED),
-    ] {
-        for name in ["warning", "failed"] {
-            let step = format!(in alloc; r#"{{"seconds":0,"{name}":{diag}}}"#)?;
-            assert_eq!(rt;
-                refusal_of_step(alloc, &plan, step.as_str())?,
-                wanted,
-                "{name} {diag}"
-            );
-        }
-    }
+    scripts_are_answered(&rt, rt.alloc(), ONE_CREATE, WARNING, DIAGNOSTICS)?;
+    scripts_are_answered(&rt, rt.alloc(), ONE_CREATE, FAILED, DIAGNOSTICS)?;
     Ok(())
 }
 
+/// A script with these members in the step of the only change, which failed.
+const MEMBERS_OF_FAILED: &str =
+    r#"{"changes":[{"address":"null_resource.a","steps":[{"seconds":0,"failed":{"summary":"boom"},CELL}]}]}"#;
+
+const BESIDE_FAILED: &str = r#"
+"id":"7" => script entry 0 is malformed
+"id":" " => script entry 0 is malformed
+"id":"" => accepted
+"id":null => accepted
+"id":7 => script entry 0 is malformed
+"warning":{"summary":"slow"} => script entry 0 is malformed
+"warning":{"summary":""} => script entry 0 is malformed
+"warning":{} => script entry 0 is malformed
+"warning":null => accepted
+"id":"","warning":null => accepted
+"id":"7","warning":{"summary":"slow"} => script entry 0 is malformed
+"id":"","warning":{"summary":"slow"} => script entry 0 is malformed
+"id":"7","warning":null => script entry 0 is malformed
+"failed":null,"id":"7","warning":{"summary":"slow"} => accepted
+"#;
+
 #[test]
 fn a_step_that_failed_has_no_id_and_no_warning(rt: HostRuntime) -> Result<(), Fail> {
-    let alloc = rt.alloc();
-    let plan = plan_to(&rt, alloc, r#"["create"]"#)?;
-    for (members, wanted) in [
-        (r#""id":"7""#, MALFORMED),
-        (r#""id":" ""#, MALFORMED),
-        (r#""id":"""#, ACCEPTED),
-        (r#""id":null"#, ACCEPTED),
-        (r#""id":7"#, MALFORMED),
-        (r#""warning":{"summary":"slow"}"#, MALFORMED),
-        (r#""warning":{"summary":""}"#, MALFORMED),
-        (r#""warning":{}"#, MALFORMED),
-        (r#""warning":null"#, ACCEPTED),
-        (r#""id":"","warning":null"#, ACCEPTED),
-        (r#""id":"7","warning":{"summary":"slow"}"#, MALFORMED),
-        (r#""id":"","warning":{"summary":"slow"}"#, MALFORMED),
-        (r#""id":"7","warning":null"#, MALFORMED),
-        (
-            r#""failed":null,"id":"7","warning":{"summary":"slow"}"#,
-            ACCEPTED,
-        ),
-    ] {
-        let step = format!(in alloc; r#"{{"seconds":0,"failed":{{"summary":"boom"}},{members}}}"#)?;
-        assert_eq!(rt;
-            refusal_of_step(alloc, &plan, step.as_str())?,
-            wanted,
-            "{members}"
-        );
-    }
+    scripts_are_answered(
+        &rt,
+        rt.alloc(),
+        ONE_CREATE,
+        MEMBERS_OF_FAILED,
+        BESIDE_FAILED,
+    )?;
     Ok(())
 }
