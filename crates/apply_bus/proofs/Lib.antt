@@ -1,0 +1,16 @@
+pub mod BusStates
+pub mod BusSteps
+pub mod ClaimsStates
+pub mod ClaimsSteps
+pub mod Dealing
+pub mod Each
+pub mod Gathered
+pub mod Interleaved
+pub mod Items
+pub mod NewDrawers
+pub mod Numbers
+pub mod Seen
+pub mod Sent
+pub mod Settling
+pub mod Taking
+pub mod Views

@@ -1,0 +1,68 @@
+-- What contracts see of a bus's ends.
+use Rattle.std.specs.Prelude.{◌≡◌, ℕ, ◌<◌, zero, suc, List, [], ◌∷◌, ◌++◌, All}
+use mathlib.Core.List.{IsPrefix}
+use Rattle.atomic_table.specs.Seated.{TableId}
+use Rattle.atomic_table.specs.declared.badge.Badge.{Badge}
+use Rattle.crossbeam_channel.specs.declared.flavors.array.Key.{Key}
+use Rattle.apply_events.specs.declared.event.Event.{Event}
+use Rattle.apply_events.specs.OfWorker.{of_worker}
+use Rattle.apply_bus.specs.declared.item.Item.{Item}
+use Rattle.apply_bus.specs.Items.{events}
+
+-- which bus it is, among all
+pub record BusName : Type 0 where
+  pub table : TableId
+  pub key : Badge (Key Item)
+
+-- a sender, open or closed: its bus, how many items that holds at most, its worker, and the events that it has sent
+pub record Sender : Type 0 where
+  pub bus : BusName
+  pub capacity : ℕ
+  pub worker : ℕ
+  pub sent : List Event
+
+-- a receiver: its bus, whose workers are those below `workers`, and the items that it has taken
+pub record Receiver : Type 0 where
+  pub bus : BusName
+  pub workers : ℕ
+  pub taken : List Item
+
+-- a worker, and the events that it has sent
+pub record Stream : Type 0 where
+  pub worker : ℕ
+  pub sent : List Event
+
+-- what a receiver had taken when it ended, and what each sender that was joined since has sent
+pub record Account : Type 0 where
+  pub bus : BusName
+  pub workers : ℕ
+  pub taken : List Item
+  pub streams : List Stream
+
+abbrev pub stream_of : Sender → Stream
+stream_of sender = record { worker = sender.worker; sent = sender.sent }
+
+-- a receiver that ended, before any sender is joined
+abbrev pub account_of : Receiver → Account
+account_of receiver = record { bus = receiver.bus; workers = receiver.workers; taken = receiver.taken; streams = [] }
+
+-- the senders of the first n workers of a bus, before any send
+abbrev pub new_senders : BusName → (capacity n : ℕ) → List Sender
+new_senders bus capacity zero = []
+new_senders bus capacity (suc n) = new_senders bus capacity n ++ record { bus = bus; capacity = capacity; worker = n; sent = [] } ∷ []
+
+-- each of the senders is of this bus
+abbrev pub AreOf : BusName → List Sender → Type 0
+AreOf bus senders = All (λ sender. sender.bus ≡ bus) senders
+
+-- the events taken of the worker are those that it sent
+abbrev pub IsTakenWhole : List Item → Stream → Type 0
+IsTakenWhole taken stream = of_worker stream.worker (events taken) ≡ stream.sent
+
+-- the events taken of the worker are a prefix of those that it sent
+abbrev pub IsTakenInPart : List Item → Stream → Type 0
+IsTakenInPart taken stream = IsPrefix (of_worker stream.worker (events taken)) stream.sent
+
+-- each event taken names a worker of the bus
+abbrev pub NamesWorkersBelow : ℕ → List Item → Type 0
+NamesWorkersBelow workers taken = All (λ (event : Event). event.worker < workers) (events taken)

@@ -1,0 +1,74 @@
+-- What the ends of a bus keep in their passes.
+use Rattle.std.specs.Prelude.{◌≡◌, ℕ, ◌+◌, ◌<◌, ◌≤◌, ◌++◌, List, [], ◌∷◌, All, length, map, true}
+use Rattle.crossbeam_channel.specs.Claims.{view, Pass}
+use Rattle.apply_events.specs.declared.event.Event.{Event}
+use Rattle.apply_bus.specs.declared.bus_rule.Known.{Known}
+use Rattle.apply_bus.specs.declared.bus_rule.Knowledge.{Knowledge}
+use Rattle.apply_bus.specs.declared.item.Item.{Item}
+use Rattle.apply_bus.specs.declared.item.Item.TheVariants.{Event as Told, Close}
+use Rattle.apply_bus.specs.Bus.{Stream}
+use Rattle.apply_bus.specs.BusRule.{sending}
+use Rattle.apply_bus.specs.Items.{closes, events, max_taken, worker_of}
+
+abbrev pub first_sent : List Known → List Item
+first_sent [] = []
+first_sent (k ∷ ks) = k.sent
+
+-- the events that a sender has sent
+abbrev pub sent_by : Knowledge → List Event
+sent_by v = events (first_sent v.senders)
+
+-- the events as items
+abbrev pub told : List Event → List Item
+told [] = []
+told (event ∷ rest) = Told event ∷ told rest
+
+-- the view of a sender that is open: it has sent events alone
+abbrev pub IsOpen : ℕ → Knowledge → Type 0
+IsOpen worker v = v ≡ sending worker (told (sent_by v))
+
+-- the view of a sender that is closed: it has sent events and then its close
+abbrev pub IsClosed : ℕ → Knowledge → Type 0
+IsClosed worker v = v ≡ sending worker (told (sent_by v) ++ Close worker ∷ [])
+
+-- the view of a receiver that still lacks as many closes
+pub record IsReceiving (left : ℕ) (v : Knowledge) : Type 0 where
+  pub receives : v.receives ≡ true
+  pub missing : left + closes v.taken ≡ v.workers
+  pub named : All (λ item. worker_of item < v.workers) v.taken
+
+-- the items taken are as many as were counted, and no more than may be
+pub record IsCounted (count : ℕ) (v : Knowledge) : Type 0 where
+  pub counted : count ≡ length v.taken
+  pub few : length v.taken ≤ max_taken
+
+abbrev pub stream_from : Known → Stream
+stream_from k = record { worker = k.worker; sent = events k.sent }
+
+-- what the senders that were taken in have sent
+abbrev pub streams_in : Knowledge → List Stream
+streams_in v = map stream_from v.senders
+
+abbrev pub pass_sent : Pass Item Knowledge → List Event
+pass_sent p = sent_by (view p)
+
+abbrev pub IsOpenPass : ℕ → Pass Item Knowledge → Type 0
+IsOpenPass worker p = IsOpen worker (view p)
+
+abbrev pub IsClosedPass : ℕ → Pass Item Knowledge → Type 0
+IsClosedPass worker p = IsClosed worker (view p)
+
+abbrev pub IsReceivingPass : ℕ → Pass Item Knowledge → Type 0
+IsReceivingPass left p = IsReceiving left (view p)
+
+abbrev pub IsCountedPass : ℕ → Pass Item Knowledge → Type 0
+IsCountedPass count p = IsCounted count (view p)
+
+abbrev pub pass_taken : Pass Item Knowledge → List Item
+pass_taken p = (view p).taken
+
+abbrev pub pass_workers : Pass Item Knowledge → ℕ
+pass_workers p = (view p).workers
+
+abbrev pub pass_streams : Pass Item Knowledge → List Stream
+pass_streams p = streams_in (view p)

@@ -1,0 +1,13 @@
+pub mod Bus
+pub mod BusEnds
+pub mod BusRule
+pub mod BusState
+pub mod Claims
+pub mod ClaimsRule
+pub mod ClaimsState
+pub mod Each
+pub mod Interleaving
+pub mod Items
+pub mod Partition
+pub mod Passes
+pub mod Seats

@@ -1,0 +1,45 @@
+//! A bus of events from several workers to one receiver, and claims on numbers that workers draw.
+#![tactic(auto)]
+
+mod bus_error;
+mod bus_rule;
+mod claims;
+mod claims_rule;
+mod closed;
+mod drawer;
+mod gathering;
+mod item;
+mod laws;
+mod lost;
+mod opening;
+mod rx;
+mod salvaged;
+mod sending;
+mod settled;
+mod shared;
+mod taken;
+mod tx;
+mod undelivered;
+
+pub use bus_error::BusError;
+pub use claims::Claims;
+pub use closed::Closed;
+pub use drawer::Drawer;
+pub use gathering::Gathering;
+pub use item::Item;
+pub use laws::{
+    an_interleaving_has_the_summed_length, an_interleaving_of_one_worker_is_its_list,
+    totals_of_an_interleaving_add_up,
+};
+pub use lost::Lost;
+pub use opening::{MAX_CAPACITY, MAX_WORKERS, open};
+pub use rx::{MAX_TAKEN, Rx};
+pub use salvaged::{Salvaged, salvage};
+pub use settled::{Settled, settle};
+pub use shared::{Shared, finish};
+pub use taken::Taken;
+pub use tx::Tx;
+pub use undelivered::Undelivered;
+
+#[cfg(test)]
+mod tests;

@@ -1,0 +1,39 @@
+//! What was taken from a bus on which the receiving was given up.
+
+ghost use Rattle.std.specs.Prelude.{◌≡◌, ◌++◌, map, All};
+ghost use Rattle.apply_bus.specs.Bus.{stream_of, AreOf, IsTakenInPart};
+
+use crate::closed::Closed;
+use crate::taken::Taken;
+use crate::tx::Tx;
+use std::marker::Model;
+
+/// What was taken from a bus, and what each of its senders has sent. Contracts alone see it.
+#[derive(Drop)]
+pub struct Salvaged {
+    taken: Taken,
+}
+
+impl Model for Salvaged {
+    ghost use Rattle.apply_bus.specs.Bus.{Account};
+
+    ghost Value = { Account };
+
+    ghost view = { λ s. s.taken };
+}
+
+/// Joins senders of a bus, closed or not, to what was taken of it: the events taken of each worker are a prefix of those
+/// that it sent.
+pub fn salvage(mut taken: Taken, closed: Vec<Closed>, open: Vec<Tx>) -> Salvaged
+    requires closed { AreOf taken.bus closed.items }
+    requires not_closed { AreOf taken.bus «open».items }
+    ensures joined { result ≡ record taken {
+      streams = taken.streams ++ map stream_of closed.items ++ map stream_of «open».items;
+    } }
+    ensures closed { All (IsTakenInPart taken.taken) (map stream_of closed.items) }
+    ensures not_closed { All (IsTakenInPart taken.taken) (map stream_of «open».items) }
+{
+    taken.join_all_closed(closed);
+    taken.join_all_open(open);
+    Salvaged { taken }
+}

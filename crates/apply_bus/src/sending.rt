@@ -1,0 +1,68 @@
+//! How a sender waits for room.
+
+ghost use Rattle.std.specs.Prelude.{◌≡◌, MatchBool};
+ghost use Rattle.crossbeam_channel.specs.Claims.{IsSeatAt};
+ghost use Rattle.crossbeam_channel.specs.Ends.{sends_on};
+ghost use Rattle.apply_bus.specs.BusRule.{after_send};
+ghost use Rattle.apply_bus.specs.Items.{worker_of};
+ghost use Rattle.apply_bus.specs.Passes.{IsOpenPass, knowledge_of};
+
+use crate::bus_rule::{BusRule, Knowledge, Sends};
+use crate::item::Item;
+use crossbeam_channel::{Pass, RuledSender};
+use std::sync::Wait;
+use std::sync::atomic::AtomicU64;
+use std::time::Duration;
+use std::{hint, thread};
+
+/// The pauses in which a sender spins.
+const SPINS: u32 = 6;
+
+/// The pauses before a sender goes to sleep.
+const PAUSES_AWAKE: u32 = 200;
+
+/// Sends an item, and waits while the channel is full. `false` where the receiving has ended: then nothing was sent.
+pub(crate) fn send_item<R: Wait>(
+    rt: &R,
+    end: &RuledSender<Item, Knowledge, BusRule>,
+    pass: &mut Pass<Item, Knowledge>,
+    item: Item,
+) -> bool
+    requires seat { IsSeatAt (sends_on end.now) pass.old }
+    requires sender { IsOpenPass (worker_of item) pass.old }
+    ensures seat { IsSeatAt (sends_on end.now) pass.new }
+    ensures sent { MatchBool result
+        (knowledge_of pass.new ≡ after_send (knowledge_of pass.old) item)
+        (knowledge_of pass.new ≡ knowledge_of pass.old) }
+{
+    let mut pauses = 0;
+    for _ in rt.forever() {
+        match end.try_send_as::<Sends, R>(rt, pass, item) {
+            Ok(()) => return true,
+            Err(refused) => {
+                if !refused.is_full() {
+                    return false;
+                }
+            }
+        }
+        pauses = pause(rt, pauses);
+    }
+    unreachable!()
+}
+
+/// Waits a little, longer each time: spins, then yields, then sleeps. It never sleeps on the channel, so that the
+/// receiver has nobody to wake. The answer is one more than the pauses so far.
+fn pause<R: Wait>(rt: &R, pauses: u32) -> u32 {
+    if pauses <= SPINS {
+        for _ in 0..1u32 << pauses.min(SPINS) {
+            hint::spin_loop();
+        }
+    } else if pauses <= PAUSES_AWAKE {
+        thread::yield_now();
+    } else {
+        let word = AtomicU64::new(0);
+        let micros = 50u64 << (pauses - PAUSES_AWAKE).min(4);
+        word.park_timeout(rt, 0, Duration::from_micros(micros));
+    }
+    pauses.saturating_add(1)
+}
