@@ -1,6 +1,6 @@
 //! A buffer of lines.
 
-ghost use Rattle.std.specs.Prelude.{◌≡◌, ◌≤◌, ◌∷◌, ◌++◌, [], length, take, string_bytes, IsOk, OnOk, OnErr};
+ghost use Rattle.std.specs.Prelude.{◌≡◌, ◌≤◌, ◌∷◌, ◌++◌, [], length, take, string_bytes, IfOk, IsOk, OnOk, OnErr};
 ghost use Rattle.std.specs.Str.{IsUtf8};
 ghost use Rattle.json.specs.Print.{print};
 ghost use Rattle.apply_events.specs.Fits.{HasStep, latest as last_moment};
@@ -17,6 +17,12 @@ use json::Writer;
 use std::alloc::{AllocError, Global};
 use std::marker::Model;
 use std::mem::replace;
+
+/// How long a line is that needs no further growth.
+const LINE_LEN: usize = 1_024;
+
+/// How long the texts are that it may be put together of.
+const TEXT_LEN: usize = 256;
 
 /// Lines of a stream, one behind the other. Room that was made once is kept, so that further lines cost no growth.
 ///
@@ -50,6 +56,18 @@ impl LineBuffer {
             bytes: Vec::new(alloc),
             room: String::new(alloc),
         }
+    }
+
+    /// No line, and room for one of up to 1,024 bytes, whose texts have up to 256, without a further growth. `Err` where
+    /// memory is refused.
+    pub fn with_room(alloc: Global) -> Result<LineBuffer, AllocError>
+        ensures { IfOk result (λ buffer. buffer ≡ []) }
+    {
+        Ok(LineBuffer {
+            alloc,
+            bytes: Vec::with_capacity(alloc, LINE_LEN)?,
+            room: String::with_capacity(alloc, TEXT_LEN)?,
+        })
     }
 
     /// The lines.

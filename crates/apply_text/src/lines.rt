@@ -16,7 +16,7 @@ use std::alloc::{AllocError, Global};
 pub fn version_line(alloc: Global, plan: &Plan, start: Start) -> Result<String, AllocError>
     ensures { IfOk result (λ line. string_bytes line ≡ version_text plan.now start) }
 {
-    let mut buffer = LineBuffer::new(alloc);
+    let mut buffer = LineBuffer::with_room(alloc)?;
     buffer.push_version(plan, start)?;
     Ok(buffer.into_string())
 }
@@ -38,7 +38,7 @@ pub fn event_line(
     ensures { IfOk result
         (λ line. string_bytes line ≡ event_text plan.now script.now start latest event.now) }
 {
-    let mut buffer = LineBuffer::new(alloc);
+    let mut buffer = LineBuffer::with_room(alloc)?;
     buffer.push_event(plan, script, start, latest, event)?;
     Ok(buffer.into_string())
 }
@@ -56,7 +56,7 @@ pub fn summary_line(
     ensures { IfOk result
         (λ line. string_bytes line ≡ summary_text start latest operation counts.now) }
 {
-    let mut buffer = LineBuffer::new(alloc);
+    let mut buffer = LineBuffer::with_room(alloc)?;
     buffer.push_summary(start, latest, operation, counts)?;
     Ok(buffer.into_string())
 }
