@@ -222,10 +222,10 @@ fn hooks_halt(rt: HostRuntime) -> Result<(), Fail> {
             change: 0,
             step: 0,
             what: What::Halted { phase, hook },
-            at: 3,
+            at: 0,
         };
         check_step(&rt, &plan, &event);
-        let written = event_line(alloc, &plan, &script, Start::zero(), 4, &event)?;
+        let written = event_line(alloc, &plan, &script, Start::zero(), 0, &event)?;
         assert_eq!(rt; written.as_str().trim_end(), wanted);
     }
     Ok(())
@@ -235,8 +235,8 @@ fn hooks_halt(rt: HostRuntime) -> Result<(), Fail> {
 const ONE_REPLACEMENT: &str =
     r#"{"format_version":"1.2","terraform_version":"1.9.0","resource_changes":[{"address":"null_resource.a","mode":"managed","type":"null_resource","name":"a","change":{"actions":["delete","create"]}}]}"#;
 
-/// When a hook was asked, and the line that tells that it halted, four seconds after the start.
+/// When a hook was asked, and the line that tells that it halted.
 const HALTS: &str =
-    r#"before => {"@level":"error","@message":"Error: execution halted","@module":"terraform.ui","@timestamp":"1970-01-01T00:00:04Z","diagnostic":{"address":"null_resource.a","detail":"Hook 1 answered Halt before delete.","severity":"error","summary":"execution halted"},"type":"diagnostic"}
-after => {"@level":"error","@message":"Error: execution halted","@module":"terraform.ui","@timestamp":"1970-01-01T00:00:04Z","diagnostic":{"address":"null_resource.a","detail":"Hook 0 answered Halt after delete.","severity":"error","summary":"execution halted"},"type":"diagnostic"}
-after failed => {"@level":"error","@message":"Error: execution halted","@module":"terraform.ui","@timestamp":"1970-01-01T00:00:04Z","diagnostic":{"address":"null_resource.a","detail":"Hook 31 answered Halt after failed delete.","severity":"error","summary":"execution halted"},"type":"diagnostic"}"#;
+    r#"before => {"@level":"error","@message":"Error: execution halted","@module":"terraform.ui","@timestamp":"1970-01-01T00:00:00Z","diagnostic":{"address":"null_resource.a","detail":"Hook 1 answered Halt before delete.","severity":"error","summary":"execution halted"},"type":"diagnostic"}
+after => {"@level":"error","@message":"Error: execution halted","@module":"terraform.ui","@timestamp":"1970-01-01T00:00:00Z","diagnostic":{"address":"null_resource.a","detail":"Hook 0 answered Halt after delete.","severity":"error","summary":"execution halted"},"type":"diagnostic"}
+after failed => {"@level":"error","@message":"Error: execution halted","@module":"terraform.ui","@timestamp":"1970-01-01T00:00:00Z","diagnostic":{"address":"null_resource.a","detail":"Hook 31 answered Halt after failed delete.","severity":"error","summary":"execution halted"},"type":"diagnostic"}"#;
