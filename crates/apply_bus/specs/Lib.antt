@@ -9,5 +9,4 @@ pub mod Each
 pub mod Interleaving
 pub mod Items
 pub mod Partition
-pub mod Passes
 pub mod Seats

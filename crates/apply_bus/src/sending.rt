@@ -1,11 +1,11 @@
 //! How a sender waits for room.
 
 ghost use Rattle.std.specs.Prelude.{◌≡◌, MatchBool};
-ghost use Rattle.crossbeam_channel.specs.Claims.{IsSeatAt};
+ghost use Rattle.crossbeam_channel.specs.Claims.{view, IsSeatAt};
 ghost use Rattle.crossbeam_channel.specs.Ends.{sends_on};
+ghost use Rattle.apply_bus.specs.BusEnds.{IsOpenPass};
 ghost use Rattle.apply_bus.specs.BusRule.{after_send};
 ghost use Rattle.apply_bus.specs.Items.{worker_of};
-ghost use Rattle.apply_bus.specs.Passes.{IsOpenPass, knowledge_of};
 
 use crate::bus_rule::{BusRule, Knowledge, Sends};
 use crate::item::Item;
@@ -32,8 +32,8 @@ pub(crate) fn send_item<R: Wait>(
     requires sender { IsOpenPass (worker_of item) pass.old }
     ensures seat { IsSeatAt (sends_on end.now) pass.new }
     ensures sent { MatchBool result
-        (knowledge_of pass.new ≡ after_send (knowledge_of pass.old) item)
-        (knowledge_of pass.new ≡ knowledge_of pass.old) }
+        (view pass.new ≡ after_send (view pass.old) item)
+        (view pass.new ≡ view pass.old) }
 {
     let mut pauses = 0;
     for _ in rt.forever() {

@@ -14,6 +14,7 @@ use crate::plan::header::Header;
 use crate::plan::{plain, reading};
 use crate::{MAX_CHANGES, Plan, Script, Text, read_plan, read_script};
 use std::alloc::{AllocError, Global};
+use std::fmt::Display;
 use std::process::Abort;
 use std::test::Fail;
 
@@ -30,8 +31,8 @@ fn plan_of(rt: &impl Abort, alloc: Global, text: &str) -> Plan {
 }
 
 /// The script for the plan that the text has to be.
-fn script_of(rt: &impl Abort, alloc: Global, text: &str, plan: &Plan) -> Script {
-    match read_script(alloc, text.as_bytes(), plan) {
+fn script_of(rt: &impl Abort, alloc: Global, plan: &str, text: &str) -> Script {
+    match read_script(alloc, text.as_bytes(), &plan_of(rt, alloc, plan)) {
         Ok(script) => script,
         Err(error) => panic!(rt; "{text}: {error}"),
     }
@@ -51,6 +52,16 @@ fn answer_to_script(alloc: Global, plan: &Plan, bytes: &[u8]) -> Result<String, 
         Ok(_) => String::from_str(alloc, "accepted"),
         Err(error) => error.to_string(alloc),
     }
+}
+
+/// The same, where the plan is a text too.
+fn answer_for(
+    rt: &impl Abort,
+    alloc: Global,
+    plan: &str,
+    bytes: &[u8],
+) -> Result<String, AllocError> {
+    answer_to_script(alloc, &plan_of(rt, alloc, plan), bytes)
 }
 
 /// Fails where bytes as a plan are answered otherwise.
@@ -73,9 +84,20 @@ fn script_is_answered(
     bytes: &[u8],
     wanted: &str,
 ) -> Result<(), AllocError> {
-    let plan = plan_of(rt, alloc, plan);
-    let found = answer_to_script(alloc, &plan, bytes)?;
+    let found = answer_for(rt, alloc, plan, bytes)?;
     assert_eq!(rt; found.as_str(), wanted);
+    Ok(())
+}
+
+/// Fails where the error has another text.
+fn is_told(
+    rt: &impl Abort,
+    alloc: Global,
+    error: &impl Display,
+    wanted: &str,
+) -> Result<(), AllocError> {
+    let text = error.to_string(alloc)?;
+    assert_eq!(rt; text.as_str(), wanted);
     Ok(())
 }
 

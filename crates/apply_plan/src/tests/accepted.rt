@@ -99,9 +99,8 @@ steps => [Create]
 fn quoted_module_address(rt: HostRuntime) -> Result<(), Fail> {
     let alloc = rt.alloc();
     reads_as_plainly(&rt, alloc, QUOTED_PLAN);
-    let plan = plan_of(&rt, alloc, QUOTED_PLAN);
     for (part, wanted) in rows(&rt, alloc, QUOTED_PARTS)? {
-        let found = part_of(&rt, alloc, &plan, part)?;
+        let found = part_of(&rt, alloc, &plan_of(&rt, alloc, QUOTED_PLAN), part)?;
         compare(&rt, part, found.as_str(), wanted);
     }
     Ok(())
@@ -140,7 +139,7 @@ fn each_action_list_has_its_steps(rt: HostRuntime) -> Result<(), Fail> {
     Ok(())
 }
 
-/// Elements of one address.
+/// Elements for one address.
 const OBJECTS: &str = r#"
 current => {"address":"a.b","mode":"managed","type":"a","name":"b","change":{"actions":["delete"]}}
 deposed => {"address":"a.b","deposed":"00000001","mode":"managed","type":"a","name":"b","change":{"actions":["delete"]}}
@@ -148,6 +147,7 @@ other => {"address":"a.b","deposed":"00000002","mode":"managed","type":"a","name
 blank => {"address":"a.b","deposed":"","mode":"managed","type":"a","name":"b","change":{"actions":["delete"]}}
 "#;
 
+/// Elements of one plan.
 const DEPOSED: &str = r#"
 current deposed other => accepted
 deposed other current => accepted
@@ -175,6 +175,7 @@ fn deposed_keys_are_kept(rt: HostRuntime) -> Result<(), Fail> {
         "CELL",
         elements.as_str(),
     )?;
+    reads_as_plainly(&rt, alloc, text.as_str());
     let plan = plan_of(&rt, alloc, text.as_str());
     assert!(rt; plan.len() == 2);
     assert_eq!(rt; plan.change(0).deposed(), None);
@@ -182,6 +183,7 @@ fn deposed_keys_are_kept(rt: HostRuntime) -> Result<(), Fail> {
     Ok(())
 }
 
+/// Members of the change, and the prior id.
 const PRIOR_IDS: &str = r#"
 "before":{"id":"i-1"} => Some("i-1")
 "before":{"id":"i-1"},"before_sensitive":{"id":false} => Some("i-1")
@@ -206,6 +208,7 @@ fn sensitive_ids_are_hidden(rt: HostRuntime) -> Result<(), Fail> {
     Ok(())
 }
 
+/// The type, and the provider that it implies, the mode and the key.
 const PROVIDERS: &str = r#"
 random_pet => "random" DataSource Number(-1)
 terraform => "terraform" DataSource Number(-1)
@@ -222,6 +225,7 @@ fn types_imply_providers(rt: HostRuntime) -> Result<(), Fail> {
     Ok(())
 }
 
+/// The index, and the key, the module and the address within it.
 const KEYS: &str = r#"
 null => None "" "a.b"
 0 => Number(0) "" "a.b"

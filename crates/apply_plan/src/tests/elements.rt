@@ -44,7 +44,7 @@ fn push_member(text: &mut String, name: &str, value: &str) -> Result<(), AllocEr
     text.push_str(value)
 }
 
-/// Reads a plan of one element for each row, which names a member and its value, and compares the answer.
+/// For each row, which names a member and its value, reads a plan of one element, and compares the answer.
 fn members_are_answered(rt: &impl Abort, alloc: Global, table: &str) -> Result<(), AllocError> {
     let mut elements = String::new(alloc);
     for (name, rest) in rows(rt, alloc, table)? {
@@ -55,6 +55,7 @@ fn members_are_answered(rt: &impl Abort, alloc: Global, table: &str) -> Result<(
     plans_are_answered(rt, alloc, PLAN, elements.as_str())
 }
 
+/// Each member absent, `null`, of the wrong types, empty, and of values that are refused or not.
 const MEMBERS: &str = r#"
 address => absent => change 0 is malformed
 address => null => change 0 is malformed
@@ -204,6 +205,7 @@ out_of_scope_again => {"address":"a.a","mode":"managed","type":"a","name":"a","c
 misplaced_again => {"address":"a.a","module_address":"b","mode":"managed","type":"a","name":"a","change":{"actions":["create"]}}
 "#;
 
+/// Elements of one plan.
 const FIRST_FAULTS: &str = r#"
 usual misplaced malformed => change 1 has an address that does not fit its module
 usual malformed misplaced => change 1 is malformed

@@ -1,3 +1,5 @@
+//! The greatest sizes: in bytes, in depth and in changes.
+
 use super::table::{plans_are_answered, push_row, scripts_are_answered};
 use super::*;
 
@@ -86,20 +88,14 @@ fn push_numbered(
     list.push_str(numbered.as_str())
 }
 
-/// 10,000 elements.
-fn elements(alloc: Global) -> Result<String, AllocError> {
+/// A plan of 10,000 changes.
+fn most_changes(alloc: Global) -> Result<String, AllocError> {
     let element =
         r#"{"address":"a.aNUMBER","mode":"managed","type":"a","name":"aNUMBER","change":{"actions":["update"]}}"#;
     let mut elements = String::new(alloc);
     for number in 0..10_000 {
         push_numbered(alloc, &mut elements, element, number)?;
     }
-    Ok(elements)
-}
-
-/// A plan of 10,000 changes.
-fn most_changes(alloc: Global) -> Result<String, AllocError> {
-    let elements = elements(alloc)?;
     r#"{"format_version":"1.2","resource_changes":[CELL]}"#.replace(
         alloc,
         "CELL",
@@ -133,7 +129,7 @@ fn a_plan_has_at_most_10000_changes(rt: HostRuntime) -> Result<(), Fail> {
 const ENTRY: &str = r#"{"address":"a.aNUMBER","steps":[{"seconds":NUMBER}]}"#;
 
 /// Entries for 10,000 changes, the last change first.
-fn entries(alloc: Global) -> Result<String, AllocError> {
+fn most_entries(alloc: Global) -> Result<String, AllocError> {
     let mut entries = String::new(alloc);
     for number in (0..10_000).rev() {
         push_numbered(alloc, &mut entries, ENTRY, number)?;
@@ -145,23 +141,16 @@ fn script_text(alloc: Global, entries: &str) -> Result<String, AllocError> {
     r#"{"changes":[CELL]}"#.replace(alloc, "CELL", entries)
 }
 
-/// What is answered where one more entry, for the change of that number, stands behind the entries.
-fn answer_to_more(
-    alloc: Global,
-    plan: &Plan,
-    entries: &str,
-    number: u32,
-) -> Result<String, AllocError> {
-    let mut more = String::from_str(alloc, entries)?;
-    push_numbered(alloc, &mut more, ENTRY, number)?;
-    let text = script_text(alloc, more.as_str())?;
-    answer_to_script(alloc, plan, text.as_bytes())
+fn largest_script(rt: &impl Abort, alloc: Global) -> Result<Script, AllocError> {
+    let plan = most_changes(alloc)?;
+    let entries = most_entries(alloc)?;
+    let text = script_text(alloc, entries.as_str())?;
+    Ok(script_of(rt, alloc, plan.as_str(), text.as_str()))
 }
 
-/// Fails where the script with these entries does not say of each change how many seconds it takes.
-fn says_each(rt: &impl Abort, alloc: Global, plan: &Plan, entries: &str) -> Result<(), AllocError> {
-    let text = script_text(alloc, entries)?;
-    let script = script_of(rt, alloc, text.as_str(), plan);
+#[test]
+fn each_of_10000_changes_has_an_entry(rt: HostRuntime) -> Result<(), Fail> {
+    let script = largest_script(&rt, rt.alloc())?;
     for number in 0..10_000 {
         let found = script.outcome(number, 0).map(|outcome| outcome.seconds);
         assert_eq!(rt; found, Some(number));
@@ -171,22 +160,37 @@ fn says_each(rt: &impl Abort, alloc: Global, plan: &Plan, entries: &str) -> Resu
     Ok(())
 }
 
-#[test]
-fn each_of_10000_changes_has_an_entry(rt: HostRuntime) -> Result<(), Fail> {
-    let alloc = rt.alloc();
+fn largest_plan(rt: &impl Abort, alloc: Global) -> Result<Plan, AllocError> {
     let text = most_changes(alloc)?;
-    let plan = plan_of(&rt, alloc, text.as_str());
-    let entries = entries(alloc)?;
-    says_each(&rt, alloc, &plan, entries.as_str())?;
-    let repeated = answer_to_more(alloc, &plan, entries.as_str(), 0)?;
-    assert_eq!(rt;
-        repeated.as_str(),
-        "script entry 10000 repeats an earlier entry"
-    );
-    let unknown = answer_to_more(alloc, &plan, entries.as_str(), 10_000)?;
-    assert_eq!(rt;
-        unknown.as_str(),
-        "script entry 10000 names an unknown change"
-    );
+    Ok(plan_of(rt, alloc, text.as_str()))
+}
+
+/// Fails where one more entry behind these, for the change of that number, is answered otherwise.
+fn one_more_is_answered(
+    rt: &impl Abort,
+    alloc: Global,
+    plan: &Plan,
+    entries: &str,
+    number: u32,
+    wanted: &str,
+) -> Result<(), AllocError> {
+    let mut more = String::from_str(alloc, entries)?;
+    push_numbered(alloc, &mut more, ENTRY, number)?;
+    let text = script_text(alloc, more.as_str())?;
+    let found = answer_to_script(alloc, plan, text.as_bytes())?;
+    assert_eq!(rt; found.as_str(), wanted);
+    Ok(())
+}
+
+#[test]
+fn an_entry_after_10000_is_refused(rt: HostRuntime) -> Result<(), Fail> {
+    let alloc = rt.alloc();
+    let plan = largest_plan(&rt, alloc)?;
+    let entries = most_entries(alloc)?;
+    let entries = entries.as_str();
+    let repeated = "script entry 10000 repeats an earlier entry";
+    one_more_is_answered(&rt, alloc, &plan, entries, 0, repeated)?;
+    let unknown = "script entry 10000 names an unknown change";
+    one_more_is_answered(&rt, alloc, &plan, entries, 10_000, unknown)?;
     Ok(())
 }

@@ -62,27 +62,26 @@ fn said_at(
     }
 }
 
-/// Reads the script for `FIVE_CHANGES`, and compares what it says of each row's change and step.
+/// Compares what the script says of each row's change and step.
 fn steps_are_said(
     rt: &impl Abort,
     alloc: Global,
-    script: &str,
+    script: &Script,
     table: &str,
 ) -> Result<(), AllocError> {
-    let plan = plan_of(rt, alloc, FIVE_CHANGES);
-    let script = script_of(rt, alloc, script, &plan);
     for (change, rest) in rows(rt, alloc, table)? {
         let (step, wanted) = cells(rt, rest);
-        let found = said_at(rt, alloc, &script, change, step)?;
+        let found = said_at(rt, alloc, script, change, step)?;
         compare(rt, change, found.as_str(), wanted);
     }
     Ok(())
 }
 
-/// In another order than the plan's, with nothing of the third change.
+/// A script in another order than the plan's, with nothing of the third change.
 const SAYS: &str =
     r#"{"changes":[{"address":"a.d","steps":[{"seconds":5,"failed":{"summary":"boom","detail":"why"}}]},{"address":"a.c","steps":[]},{"address":"a.b","deposed":"","steps":[{"seconds":1},{"seconds":86400,"id":"42","warning":{"summary":"slow","detail":"very"}}]},{"address":"a.a","steps":[{"seconds":3,"id":"i-1"}]}]}"#;
 
+/// By the numbers of the changes, and of the steps in them.
 const SAID: &str = r#"
 0 => 0 => 3 done, id "i-1"
 0 => 1 => default
@@ -115,8 +114,11 @@ const SAID_OF_DEPOSED: &str = r#"
 
 #[test]
 fn a_script_says_what_is_written(rt: HostRuntime) -> Result<(), Fail> {
-    steps_are_said(&rt, rt.alloc(), SAYS, SAID)?;
-    steps_are_said(&rt, rt.alloc(), SAYS_OF_DEPOSED, SAID_OF_DEPOSED)?;
+    let alloc = rt.alloc();
+    let script = script_of(&rt, alloc, FIVE_CHANGES, SAYS);
+    steps_are_said(&rt, alloc, &script, SAID)?;
+    let deposed = script_of(&rt, alloc, FIVE_CHANGES, SAYS_OF_DEPOSED);
+    steps_are_said(&rt, alloc, &deposed, SAID_OF_DEPOSED)?;
     Ok(())
 }
 
@@ -150,13 +152,6 @@ const STEPS: &str = r#"
 "seconds":0,"id":"\u00e9\n" => 0 done, id "é\n"
 "#;
 
-/// What a script for one delete says of it.
-fn said_of_delete(rt: &impl Abort, alloc: Global, script: &str) -> Result<String, AllocError> {
-    let plan = plan_of(rt, alloc, ONE_DELETE);
-    let script = script_of(rt, alloc, script, &plan);
-    said(alloc, &script, 0, 0)
-}
-
 #[test]
 fn a_step_says_what_is_written(rt: HostRuntime) -> Result<(), Fail> {
     let alloc = rt.alloc();
@@ -164,21 +159,30 @@ fn a_step_says_what_is_written(rt: HostRuntime) -> Result<(), Fail> {
         r#"{"changes":[{"address":"null_resource.a","steps":[{CELL}],"id":"9","seconds":9}]}"#;
     for (members, wanted) in rows(&rt, alloc, STEPS)? {
         let text = script.replace(alloc, "CELL", members)?;
-        let found = said_of_delete(&rt, alloc, text.as_str())?;
+        let found = said(
+            alloc,
+            &script_of(&rt, alloc, ONE_DELETE, text.as_str()),
+            0,
+            0,
+        )?;
         compare(&rt, members, found.as_str(), wanted);
     }
     Ok(())
 }
 
+const NOTHING: &str = r#"
+0 => 0 => default
+1 => 1 => default
+4 => 0 => default
+5 => 0 => default
+4294967295 => 255 => default
+"#;
+
 #[test]
 fn an_empty_script_says_nothing(rt: HostRuntime) -> Result<(), Fail> {
     let alloc = rt.alloc();
-    let plan = plan_of(&rt, alloc, FIVE_CHANGES);
-    let read = script_of(&rt, alloc, r#"{"changes":[]}"#, &plan);
-    for script in [&Script::empty(alloc), &read] {
-        for (change, step) in [(0, 0), (1, 1), (4, 0), (5, 0), (4_294_967_295, 255)] {
-            assert!(rt; script.outcome(change, step).is_none());
-        }
-    }
+    steps_are_said(&rt, alloc, &Script::empty(alloc), NOTHING)?;
+    let read = script_of(&rt, alloc, FIVE_CHANGES, r#"{"changes":[]}"#);
+    steps_are_said(&rt, alloc, &read, NOTHING)?;
     Ok(())
 }

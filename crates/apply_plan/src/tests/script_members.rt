@@ -37,7 +37,7 @@ true => script entry 0 is malformed
 {} => script entry 0 is malformed
 "#;
 
-/// The members of an entry.
+/// Members of an entry.
 const ENTRIES: &str = r#"
 "steps":[] => script entry 0 is malformed
 "address":null,"steps":[] => script entry 0 is malformed

@@ -146,6 +146,7 @@ other => {"address":"null_resource.b","steps":[]}
 other_deposed => {"address":"null_resource.b","deposed":"00000001","steps":[]}
 "#;
 
+/// Entries of one script.
 const ONE_ENTRY_EACH: &str = r#"
 current deposed other => accepted
 deposed other current => accepted
@@ -169,63 +170,52 @@ fn each_change_has_one_entry(rt: HostRuntime) -> Result<(), Fail> {
     Ok(())
 }
 
-fn is_told(
-    rt: &impl Abort,
-    alloc: Global,
-    error: ScriptError,
-    wanted: &str,
-) -> Result<(), AllocError> {
-    let text = error.to_string(alloc)?;
-    assert_eq!(rt; text.as_str(), wanted);
-    Ok(())
-}
-
 #[test]
 fn script_refusals_have_their_texts(rt: HostRuntime) -> Result<(), Fail> {
     let alloc = rt.alloc();
     is_told(
         &rt,
         alloc,
-        ScriptError::TooLarge,
+        &ScriptError::TooLarge,
         "the script is larger than 67108864 bytes",
     )?;
-    is_told(&rt, alloc, ScriptError::NotJson, "the script is not JSON")?;
+    is_told(&rt, alloc, &ScriptError::NotJson, "the script is not JSON")?;
     is_told(
         &rt,
         alloc,
-        ScriptError::BadShape(None),
+        &ScriptError::BadShape(None),
         "the script is malformed",
     )?;
     is_told(
         &rt,
         alloc,
-        ScriptError::BadShape(Some(3)),
+        &ScriptError::BadShape(Some(3)),
         "script entry 3 is malformed",
     )?;
     is_told(
         &rt,
         alloc,
-        ScriptError::UnknownChange(4),
+        &ScriptError::UnknownChange(4),
         "script entry 4 names an unknown change",
     )?;
     is_told(
         &rt,
         alloc,
-        ScriptError::Duplicate(5),
+        &ScriptError::Duplicate(5),
         "script entry 5 repeats an earlier entry",
     )?;
     is_told(
         &rt,
         alloc,
-        ScriptError::TooManySteps(6),
+        &ScriptError::TooManySteps(6),
         "script entry 6 has too many steps",
     )?;
     is_told(
         &rt,
         alloc,
-        ScriptError::SecondsRange(7),
+        &ScriptError::SecondsRange(7),
         "script entry 7 has a step over 86400 seconds",
     )?;
-    is_told(&rt, alloc, ScriptError::Memory, "out of memory")?;
+    is_told(&rt, alloc, &ScriptError::Memory, "out of memory")?;
     Ok(())
 }

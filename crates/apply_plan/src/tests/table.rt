@@ -112,10 +112,9 @@ pub fn scripts_are_answered(
     script: &str,
     table: &str,
 ) -> Result<(), AllocError> {
-    let plan = plan_of(rt, alloc, plan);
     for (cell, wanted) in rows(rt, alloc, table)? {
         let text = script.replace(alloc, "CELL", cell)?;
-        let found = answer_to_script(alloc, &plan, text.as_bytes())?;
+        let found = answer_for(rt, alloc, plan, text.as_bytes())?;
         compare(rt, cell, found.as_str(), wanted);
     }
     Ok(())
