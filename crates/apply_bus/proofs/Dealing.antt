@@ -23,10 +23,10 @@ lists_rise : (who : ℕ → ℕ) (m : ℕ) (named : List ℕ) → All IsStrictly
 lists_rise who m [] = All-nil IsStrictlyIncreasing
 lists_rise who m (w ∷ named) = All-cons IsStrictlyIncreasing (numbers_of who w m) (lists who m named) (numbers_rise who w m) (lists_rise who m named)
 
-count_first : (x y : ℕ) (ys : List ℕ) → y ≡ x → count_of x (y ∷ ys) ≡ 1 + count_of x ys
+pub count_first : (x y : ℕ) (ys : List ℕ) → y ≡ x → count_of x (y ∷ ys) ≡ 1 + count_of x ys
 count_first x y ys e = sum_by-cons (λ z. cond (z == x) 1 0) y ys ∙ ap (λ b. cond b 1 0 + count_of x ys) (eq-eqb y x e)
 
-count_later : (x y : ℕ) (ys : List ℕ) → y ≢ x → count_of x (y ∷ ys) ≡ count_of x ys
+pub count_later : (x y : ℕ) (ys : List ℕ) → y ≢ x → count_of x (y ∷ ys) ≡ count_of x ys
 count_later x y ys n = sum_by-cons (λ z. cond (z == x) 1 0) y ys ∙ ap (λ b. cond b 1 0 + count_of x ys) (ne_eqb y x n) ∙ omega arith
 
 -- a number below m stands as often as the one to whom it falls is named

@@ -9,6 +9,7 @@ pub mod Interleaved
 pub mod Items
 pub mod NewDrawers
 pub mod Numbers
+pub mod Parts
 pub mod Seen
 pub mod Sent
 pub mod Settling

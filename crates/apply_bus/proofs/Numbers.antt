@@ -48,7 +48,8 @@ numbers_same a b w (suc m) h =
 
 -- ---- they rise
 
-rises_more : (xs : List ℕ) (m : ℕ) → IsStrictlyIncreasing xs → All (λ x. x < m) xs → IsStrictlyIncreasing (xs ++ m ∷ [])
+-- one above them all goes on rising
+pub rises_more : (xs : List ℕ) (m : ℕ) → IsStrictlyIncreasing xs → All (λ x. x < m) xs → IsStrictlyIncreasing (xs ++ m ∷ [])
 rises_more xs m h low k lt =
     let len = length-append xs (m ∷ []) in
     let first : k < length xs = omega (arith, len) in

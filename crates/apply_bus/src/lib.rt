@@ -28,8 +28,11 @@ pub use drawer::Drawer;
 pub use gathering::Gathering;
 pub use item::Item;
 pub use laws::{
-    an_interleaving_has_the_summed_length, an_interleaving_of_one_worker_is_its_list,
-    totals_of_an_interleaving_add_up,
+    a_list_of_a_partition_names_each_number_once,
+    a_partition_for_one_worker_is_all_numbers_in_order, a_rising_list_fits_below_its_limit,
+    a_rising_list_rises_on, an_interleaving_has_the_summed_length,
+    an_interleaving_of_one_worker_is_its_list, numbers_can_be_dealt_out,
+    totals_of_an_interleaving_add_up, workers_in_order_stand_once,
 };
 pub use lost::Lost;
 pub use opening::{MAX_CAPACITY, MAX_WORKERS, open};

@@ -1,19 +1,17 @@
 -- A step ends once.
-use Rattle.std.proofs.Common.{◌≡◌, ℕ, zero, suc, ◌+◌, ◌<◌, ◌≤◌, nat_eq, Bool, true, false, ◌&&◌, ◌||◌, List, [], ◌∷◌, ◌++◌, cond, length, map, Option, Some, None, refl, ap, sym, ◌∙◌, arith, ◌⊎◌, inl, inr, ⊎_elim}
+use Rattle.std.proofs.Common.{◌≡◌, ℕ, zero, suc, ◌+◌, ◌<◌, ◌≤◌, nat_eq, Bool, true, false, ◌&&◌, List, [], ◌∷◌, ◌++◌, cond, length, map, Option, Some, None, refl, ap, arith, ◌⊎◌, inl, inr, ⊎_elim}
 use Rattle.std.specs.Prelude.{count_by, is_some, option_map, option_to_list}
 use Rattle.std.proofs.lemmas.Bool.Decides.{eqb_tells}
 use Rattle.std.proofs.lemmas.List.Sums.{sum_by-append, sum_by-cons}
 use Rattle.apply_hooks.specs.declared.phase.Phase.{Phase}
 use Rattle.apply_hooks.specs.declared.phase.Phase.TheVariants.{Pre}
 use Rattle.apply_events.specs.declared.event.Event.{Event}
-use Rattle.apply_events.specs.declared.what.What.{What}
 use Rattle.apply_events.specs.declared.what.What.TheVariants.{Progress, Halted, Start}
 use Rattle.apply_events.specs.ChangeEvents.{begun, change_events, in_turn}
 use Rattle.apply_events.specs.Laws.{ends_step}
 use Rattle.apply_events.specs.ProgressTimes.{progress_times}
 use Rattle.apply_events.specs.Step.{Step, Work, steps_of}
 use Rattle.apply_events.specs.StepEvents.{end_of, endings, event, halts, notes, phase_after, started, step_events, step_time}
-use Rattle.apply_events.specs.Totals.{is_complete, is_errored}
 use Rattle.apply_events.proofs.Rising.{Rises, Rises-le}
 use Rattle.apply_events.proofs.StepNumbers.{AreNumbered, AreNumbered-begun, in_turn_rise, number_of, step_events_rise, steps_of-numbered}
 

@@ -1,5 +1,5 @@
 -- Totals and parts of lists that are joined.
-use Rattle.std.proofs.Common.{◌≡◌, ℕ, ◌+◌, nat_eq, Bool, true, false, List, [], ◌∷◌, ◌++◌, cond, filter, map, Option, Some, None, refl, ap, sym, ◌∙◌, ⊎_elim}
+use Rattle.std.proofs.Common.{◌≡◌, ℕ, ◌+◌, nat_eq, Bool, true, List, [], ◌∷◌, ◌++◌, cond, map, Option, Some, None, refl, ap, ◌∙◌, ⊎_elim}
 use Rattle.std.specs.Prelude.{count_by, is_some, option_map, option_to_list}
 use Rattle.std.proofs.lemmas.Bool.Decides.{eqb_tells}
 use Rattle.std.proofs.lemmas.List.Elements.{filter-append}

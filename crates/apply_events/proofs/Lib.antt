@@ -9,3 +9,4 @@ pub mod Rising
 pub mod StepNumbers
 pub mod Stages
 pub mod UnderWay
+pub mod WorkerLists

@@ -1,13 +1,13 @@
 -- The moments along lists of events.
-use Rattle.std.proofs.Common.{◌≡◌, ℕ, zero, suc, ◌+◌, ◌-◌, ◌*◌, ◌<◌, ◌≤◌, nat_eq, Bool, true, false, List, [], ◌∷◌, ◌++◌, cond, filter, length, map, Option, Some, None, IfSome, get_or, refl, ap, sym, ◌∙◌, arith, ⊎_elim}
+use Rattle.std.proofs.Common.{◌≡◌, ℕ, zero, suc, ◌+◌, ◌-◌, ◌*◌, ◌<◌, ◌≤◌, nat_eq, Bool, true, false, List, [], ◌∷◌, ◌++◌, cond, filter, length, map, Option, Some, None, IfSome, refl, ap, arith, ⊎_elim}
 use Rattle.std.specs.Prelude.{All, is_some, option_map, option_to_list, slice_get, sum_by}
-use Rattle.std.specs.List.{IsDistinct, enumerate_from, list_any, range_with_len}
+use Rattle.std.specs.List.{enumerate_from, list_any, range_with_len}
 use Rattle.std.proofs.lemmas.Bool.Decides.{eqb_tells}
 use Rattle.std.proofs.lemmas.List.Sums.{sum_by-cons}
 use Rattle.std.proofs.lemmas.Map.Steps.{length-le_from_distinct_below}
 use Rattle.apply_plan.specs.declared.plan.step_kind.StepKind.{StepKind}
 use Rattle.apply_plan.specs.Script.Outcome.{max_seconds}
-use Rattle.apply_plan.specs.Script.Outcomes.{IsInRange, Outcomes, given_outcome, outcome_of}
+use Rattle.apply_plan.specs.Script.Outcomes.{IsInRange, given_outcome}
 use Rattle.apply_plan.specs.declared.script.outcome.Outcome.{Outcome}
 use Rattle.apply_plan.specs.Script.Outcome.{default_outcome}
 use Rattle.std.specs.Prelude.{unwrap_or}
@@ -129,7 +129,7 @@ length-planned : (work : Work) (c n : ℕ) (kinds : List StepKind) → length (m
 length-planned work c n [] = refl
 length-planned work c n (kind ∷ kinds) = ap suc (length-planned work c (n + 1) kinds)
 
-span_short : (work : Work) (c : ℕ) → IsRead work → span_of work c ≤ 172800
+pub span_short : (work : Work) (c : ℕ) → IsRead work → span_of work c ≤ 172800
 span_short work c read =
     let few : length (kinds_of work.plan c) ≤ 2 = read.few_steps c in
     let same : length (steps_of work c) ≡ length (kinds_of work.plan c) = length-planned work c 0 (kinds_of work.plan c) in

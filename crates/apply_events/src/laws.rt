@@ -1,11 +1,11 @@
 //! Laws of lists of events. Each function does nothing; its contract is the law.
 
-ghost use Rattle.std.specs.Prelude.{◌≡◌, ◌≤◌, ◌+◌, ◌++◌, ℕ, All, IfSome, List, count_by, slice_get};
+ghost use Rattle.std.specs.Prelude.{◌≡◌, ◌≤◌, ◌+◌, ◌++◌, ◌∷◌, [], ℕ, All, IfSome, List, count_by, slice_get, sum_by};
 ghost use Rattle.std.specs.List.Sorted.{IsNonDecreasingBy};
 ghost use Rattle.apply_plan.specs.Plan.SavedPlan.{SavedPlan};
 ghost use Rattle.apply_events.specs.declared.event.Event.{Event};
 ghost use Rattle.apply_events.specs.ChangeEvents.{change_events, span_of};
-ghost use Rattle.apply_events.specs.Fits.{latest};
+ghost use Rattle.apply_events.specs.Fits.{HasStep, latest};
 ghost use Rattle.apply_events.specs.Laws.{IsRead, NamesEachOnce, ends_step};
 ghost use Rattle.apply_events.specs.OfWorker.{of_worker};
 ghost use Rattle.apply_events.specs.Step.{Work};
@@ -63,4 +63,22 @@ pub fn a_worker_names_itself()
 pub fn no_event_comes_after_latest()
     ensures { (work : Work) (worker : ℕ) (changes : List ℕ) → IsRead work → NamesEachOnce work changes
         → All (λ (event : Event). event.at ≤ latest) (worker_events work worker changes) }
+{}
+
+/// Each event of a worker is of a step that the plan has, also where the changes that are named are not all in it.
+pub fn every_event_has_its_step()
+    ensures { (work : Work) (worker : ℕ) (changes : List ℕ)
+        → All (λ (event : Event). HasStep work.plan event.change event.step) (worker_events work worker changes) }
+{}
+
+/// The events of one change more come behind those of the others, from the end of their spans on.
+pub fn a_further_change_comes_behind()
+    ensures { (work : Work) (worker c : ℕ) (changes : List ℕ)
+        → worker_events work worker (changes ++ c ∷ []) ≡ worker_events work worker changes
+        ++ change_events work worker c (sum_by (span_of work) changes) }
+{}
+
+/// With a plan and a script that were read, no change takes longer than two days.
+pub fn a_span_is_short()
+    ensures { (work : Work) (c : ℕ) → IsRead work → span_of work c ≤ 172800 }
 {}

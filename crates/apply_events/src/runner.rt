@@ -103,6 +103,8 @@ impl<'a> Runner<'a> {
         ensures next { GivesNext (to_come self.old) result (to_come self.new) }
         ensures has_step { IfSome result
             (λ event. HasStep (course_of self.old).work.plan event.change event.step) }
+        ensures worker { IfSome result (λ event. event.worker ≡ (course_of self.old).worker) }
+        ensures in_time { IfSome result (λ event. event.at ≤ latest) }
         ensures course { course_of self.new ≡ course_of self.old }
     {
         let Some(kind) = self.kind() else {
@@ -123,7 +125,9 @@ impl<'a> Runner<'a> {
         requires few { self.old.step < 2 }
         requires stage { self.old.stage ≡ Stage.Before }
         ensures next { to_come self.old ≡ result ∷ to_come self.new }
-        ensures place { (result.change ≡ self.old.change) × (result.step ≡ self.old.step) }
+        ensures place { (result.worker ≡ self.old.worker) × (result.change ≡ self.old.change)
+            × (result.step ≡ self.old.step) }
+        ensures in_time { result.at ≤ latest }
         ensures course { course_of self.new ≡ course_of self.old }
     {
         match self.halting(Phase::Pre, kind) {
@@ -153,7 +157,9 @@ impl<'a> Runner<'a> {
         requires few { self.old.step < 2 }
         requires stage { self.old.stage ≡ Stage.Running }
         ensures next { to_come self.old ≡ result ∷ to_come self.new }
-        ensures place { (result.change ≡ self.old.change) × (result.step ≡ self.old.step) }
+        ensures place { (result.worker ≡ self.old.worker) × (result.change ≡ self.old.change)
+            × (result.step ≡ self.old.step) }
+        ensures in_time { result.at ≤ latest }
         ensures course { course_of self.new ≡ course_of self.old }
     {
         let brief = self.brief();
@@ -179,7 +185,9 @@ impl<'a> Runner<'a> {
         requires few { self.old.step < 2 }
         requires stage { self.old.stage ≡ Stage.Noting }
         ensures next { to_come self.old ≡ result ∷ to_come self.new }
-        ensures place { (result.change ≡ self.old.change) × (result.step ≡ self.old.step) }
+        ensures place { (result.worker ≡ self.old.worker) × (result.change ≡ self.old.change)
+            × (result.step ≡ self.old.step) }
+        ensures in_time { result.at ≤ latest }
         ensures course { course_of self.new ≡ course_of self.old }
     {
         let brief = self.brief();
@@ -194,7 +202,9 @@ impl<'a> Runner<'a> {
         requires few { self.old.step < 2 }
         requires stage { self.old.stage ≡ Stage.Halting hook }
         ensures next { to_come self.old ≡ result ∷ to_come self.new }
-        ensures place { (result.change ≡ self.old.change) × (result.step ≡ self.old.step) }
+        ensures place { (result.worker ≡ self.old.worker) × (result.change ≡ self.old.change)
+            × (result.step ≡ self.old.step) }
+        ensures in_time { result.at ≤ latest }
         ensures course { course_of self.new ≡ course_of self.old }
     {
         let brief = self.brief();

@@ -1,0 +1,94 @@
+-- From what was told to how the run has ended.
+use Rattle.std.proofs.Common.{◌≡◌, ◌≤◌, ◌<◌, ◌+◌, ◌⊎◌, ℕ, true, List, [], Option, Result, Ok, Err, IfOk, IfErr, length, sym, ap, ◌∙◌, subst, refl, arith, add-zero, ⊎_elim}
+use Rattle.std.proofs.KnownBytes.{Appends-nil}
+use Rattle.std.proofs.lemmas.List.Elements.{All-nil}
+use mathlib.Core.List.{IsPrefix}
+use Rattle.apply_plan.specs.Plan.SavedPlan.{SavedPlan}
+use Rattle.apply_plan.specs.Script.Outcomes.{Outcomes}
+use Rattle.apply_events.specs.declared.event.Event.{Event}
+use Rattle.apply_events.specs.Step.{Work}
+use Rattle.apply_bus.specs.Partition.{IsPartition}
+use Rattle.apply_text.specs.Lines.{lines_of, stream_of}
+use Rattle.apply_run.specs.Applied.{IsApplied, IsAppliedInPart, reports_of}
+use Rattle.apply_run.specs.declared.fault.Fault.{Fault}
+use Rattle.apply_run.specs.declared.options.Options.{Options}
+use Rattle.apply_run.specs.declared.report.Report.{Report}
+use Rattle.apply_run.specs.declared.stop.Stop.{Stop}
+use Rattle.apply_run.specs.declared.stop.Stop.TheVariants.{Going, Failed, NoMemory}
+use Rattle.apply_run.specs.declared.why.Why.{Why}
+use Rattle.apply_run.specs.declared.why.Why.TheVariants.{Bus, Memory, Workers, Write}
+use Rattle.apply_run.specs.Ended.{IsCutOff, IsFaulted, IsWhole}
+use Rattle.apply_run.specs.Outlet.{failed_writes}
+use Rattle.apply_run.specs.Run.{DidNothing, HasFailed, HasStreamed, Sight, WasCutOff, lines_for, stream_for}
+use Rattle.apply_run.specs.Telling.{HasTold, Telling}
+
+pub if_ok : {A E : Type 0} → (r : Result A E) (P Q : A → Type 0) → ((x : A) → P x → Q x) → IfOk r P → IfOk r Q
+if_ok (Ok x) P Q f h = f x h
+if_ok (Err e) P Q f h = tt
+
+pub if_err : {A E : Type 0} → (r : Result A E) (P Q : E → Type 0) → ((x : E) → P x → Q x) → IfErr r P → IfErr r Q
+if_err (Ok x) P Q f h = tt
+if_err (Err e) P Q f h = f e h
+
+-- what is so of a plan, a script and a start is so of equal ones
+pub same_of : (P : SavedPlan → Outcomes → ℕ → Type 0) (plan plan' : SavedPlan) (script script' : Outcomes) (start start' : ℕ) → plan ≡ plan' → script ≡ script' → start ≡ start' → P plan script start → P plan' script' start'
+same_of P plan plan' script script' start start' e f g h = subst (λ p. P p script' start') e (subst (λ s. P plan s start') f (subst (λ t. P plan script t) g h))
+
+few_failed : (stop : Stop) → failed_writes stop ≤ 1
+few_failed Going = omega arith
+few_failed Failed = omega arith
+few_failed NoMemory = omega arith
+
+-- all of the stream was written
+pub streamed : (work : Work) (options : Options) (report : Report) (before after : Sight) (lists : List (List ℕ)) (events : List Event) → IsApplied work options.workers lists events
+    → IsWhole work.plan events (stream_for work options events) report before.bytes after.bytes before.failed after.failed → HasStreamed work options report before after
+streamed work options report before after lists events applied whole = record { lists = lists; events = events; applied = applied; whole = whole }
+
+cut_off : (work : Work) (options : Options) (report : Report) (before after : Sight) (lists : List (List ℕ)) (events : List Event) → IsAppliedInPart work options.workers lists events
+    → IsCutOff work.plan events (lines_for work options events) report before.bytes after.bytes before.failed after.failed → WasCutOff 0 work options report before after
+cut_off work options report before after lists events applied part = record {
+  lists = lists;
+  events = events;
+  applied = applied;
+  part = subst (λ n. IsCutOff work.plan events (lines_for work options events) report before.bytes after.bytes n after.failed) (sym (add-zero before.failed)) part;
+}
+
+-- a write failed, or memory was refused for a line
+pub faulted : (work : Work) (options : Options) (fault : Fault) (before after : Sight) (lists : List (List ℕ)) (events : List Event) → IsApplied work options.workers lists events → IsAppliedInPart work options.workers lists events
+    → IsFaulted work.plan work.script options.start options.operation events fault before.bytes after.bytes before.failed after.failed → HasFailed fault.why work options fault.report before after
+faulted work options fault before after lists events applied in_part h = ⊎_elim
+    (λ (w : (fault.why ≡ Write) × IsCutOff work.plan events (stream_for work options events) fault.report before.bytes after.bytes (before.failed + 1) after.failed).
+    subst (λ why. HasFailed why work options fault.report before after) (sym w.0) (record { lists = lists; events = events; applied = applied; part = w.1 }))
+    (λ (m : (fault.why ≡ Memory) × IsCutOff work.plan events (lines_for work options events) fault.report before.bytes after.bytes before.failed after.failed).
+    subst (λ why. HasFailed why work options fault.report before after) (sym m.0) (cut_off work options fault.report before after lists events in_part m.1))
+    h
+
+-- the bus failed
+pub lost : (work : Work) (options : Options) (why : Why) (report : Report) (before after : Sight) (lists : List (List ℕ)) (events : List Event) (stop : Stop) → why ≡ Bus → IsAppliedInPart work options.workers lists events
+    → IsCutOff work.plan events (lines_for work options events) report before.bytes after.bytes (before.failed + failed_writes stop) after.failed → HasFailed why work options report before after
+lost work options why report before after lists events stop is in_part part = subst (λ w. HasFailed w work options report before after) (sym is)
+    (record { failed = failed_writes stop; few = few_failed stop; cut_off = record { lists = lists; events = events; applied = in_part; part = part } })
+
+abbrev IsEmpty : Report → Type 0
+IsEmpty report = report ≡ record { counts = record { added = 0; changed = 0; removed = 0; failed = 0; halted = 0 }; taken = 0; written = 0 }
+
+nothing : (work : Work) (options : Options) (report : Report) (sight : Sight) (lists : List (List ℕ)) → IsPartition options.workers (length work.plan.changes) lists → IsEmpty report → WasCutOff 0 work options report sight sight
+nothing work options report sight lists dealt empty =
+    cut_off work options report sight sight lists []
+    (record { dealt_out = dealt; told = record { named = All-nil (λ (event : Event). event.worker < options.workers); parts = λ w low. (reports_of work lists w, refl) } })
+    (record {
+      part = [];
+      is_prefix = (lines_for work options [], refl);
+      delivered = record { counts = ap (λ (r : Report). r.counts) empty; taken = ap (λ (r : Report). r.taken) empty; written = ap (λ (r : Report). r.written) empty; appended = Appends-nil sight.bytes };
+      failed = refl;
+    })
+
+-- memory was refused before the run began
+pub refused : (work : Work) (options : Options) (why : Why) (report : Report) (before after : Sight) (lists : List (List ℕ)) → IsPartition options.workers (length work.plan.changes) lists → why ≡ Memory → IsEmpty report → after ≡ before
+    → HasFailed why work options report before after
+refused work options why report before after lists dealt is empty same =
+    subst (λ w. HasFailed w work options report before after) (sym is) (subst (λ s. WasCutOff 0 work options report before s) (sym same) (nothing work options report before lists dealt empty))
+
+-- a thread was refused
+pub not_started : (work : Work) (options : Options) (why : Why) (report : Report) (before after : Sight) → why ≡ Workers → IsEmpty report → after ≡ before → HasFailed why work options report before after
+not_started work options why report before after is empty same = subst (λ w. HasFailed w work options report before after) (sym is) (record { report_is = empty; same = same })

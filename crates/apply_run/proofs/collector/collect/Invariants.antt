@@ -1,0 +1,27 @@
+use Rattle.std.proofs.Common.{◌≡◌, ◌↔◌, ◌≤◌, ◌+◌, ◌-◌, All, false, length}
+use Rattle.apply_bus.specs.Items.{events, max_taken}
+use Rattle.apply_run.specs.Room.{HasRoom}
+use Rattle.apply_run.specs.Fitting.{IsOf}
+use Rattle.apply_run.specs.Telling.{HasTold, telling_of}
+use Rattle.apply_run.proofs.collector.collect.Given as goal
+
+-- the events so far were told
+abbrev pub invariant-loop-rx : goal.invariant-loop-rx
+invariant-loop-rx g l = record {
+  bus : l.rx.bus ≡ l.fn.rx.bus;
+  workers : l.rx.workers ≡ l.fn.rx.workers;
+  plan : l.stream.plan.now ≡ l.fn.stream.plan.now;
+  script : l.stream.script.now ≡ l.fn.stream.script.now;
+  start : l.stream.start ≡ l.fn.stream.start;
+  room : HasRoom (telling_of g.S.Sink.bytes g.S.Sink.failed l.stream);
+  few : l.stream.taken ≤ length l.rx.taken;
+  told : All (IsOf l.fn.stream.plan.now) (events l.rx.taken)
+      → HasTold l.fn.stream.plan.now l.fn.stream.script.now l.fn.stream.start (g.S.Sink.bytes l.fn.stream.output.sink) (g.S.Sink.failed l.fn.stream.output.sink) (events l.rx.taken)
+      (telling_of g.S.Sink.bytes g.S.Sink.failed l.stream);
+  fits : l.misfit ≡ false ↔ All (IsOf l.fn.stream.plan.now) (events l.rx.taken);
+  lost : l.lost_takes ≤ 1000;
+}
+
+-- an item more, or a lost take more
+abbrev pub decreases-loop-rx : goal.decreases-loop-rx
+decreases-loop-rx g l = (max_taken - length l.rx.taken) + (1000 - l.lost_takes)

@@ -1,0 +1,21 @@
+-- A plan that was applied by workers.
+use Rattle.std.specs.Prelude.{ℕ, List, [], length, slice_index_or}
+use Rattle.apply_events.specs.declared.event.Event.{Event}
+use Rattle.apply_events.specs.Step.{Work}
+use Rattle.apply_events.specs.WorkerEvents.{worker_events}
+use Rattle.apply_bus.specs.Interleaving.{IsInterleaving, IsInterleavingOfPrefixes}
+use Rattle.apply_bus.specs.Partition.{IsPartition}
+
+-- what each worker reports of its list of changes
+abbrev pub reports_of : Work → List (List ℕ) → (worker : ℕ) → List Event
+reports_of work lists worker = worker_events work worker (slice_index_or lists worker [])
+
+-- the changes were dealt out to the workers, and the events are an interleaving of what they report
+pub record IsApplied (work : Work) (workers : ℕ) (lists : List (List ℕ)) (events : List Event) : Type 0 where
+  pub dealt_out : IsPartition workers (length work.plan.changes) lists
+  pub told : IsInterleaving workers (reports_of work lists) events
+
+-- the same of a prefix of what each reports
+pub record IsAppliedInPart (work : Work) (workers : ℕ) (lists : List (List ℕ)) (events : List Event) : Type 0 where
+  pub dealt_out : IsPartition workers (length work.plan.changes) lists
+  pub told : IsInterleavingOfPrefixes workers (reports_of work lists) events

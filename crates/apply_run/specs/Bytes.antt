@@ -1,0 +1,49 @@
+-- What is answered to the bytes of a plan and of a script.
+use Rattle.std.specs.Prelude.{◌≡◌, ◌⊎◌, ℕ, List, [], Option, Some, None, Result, Ok, Err}
+use Rattle.apply_plan.specs.declared.plan.plan_error.PlanError.{PlanError}
+use Rattle.apply_plan.specs.declared.plan.plan_error.PlanError.TheVariants as plan_error
+use Rattle.apply_plan.specs.declared.script.script_error.ScriptError.{ScriptError}
+use Rattle.apply_plan.specs.declared.script.script_error.ScriptError.TheVariants as script_error
+use Rattle.apply_plan.specs.Plan.SavedPlan.{SavedPlan, plan_of}
+use Rattle.apply_plan.specs.Script.Outcomes.{Outcomes, script_of}
+use Rattle.apply_hooks.specs.declared.rule.Rule.{Rule}
+use Rattle.apply_run.specs.declared.options.Options.{Options}
+use Rattle.apply_run.specs.declared.refusal.Refusal.{Refusal}
+use Rattle.apply_run.specs.declared.refusal.Refusal.TheVariants.{Plan, Script, Size, Fault}
+use Rattle.apply_run.specs.declared.report.Report.{Report}
+use Rattle.apply_run.specs.Options.{IsInRange}
+use Rattle.apply_run.specs.Run.{HasFailed, HasStreamed, Sight}
+
+-- the script that the bytes are for the plan, and the empty one where there are none
+abbrev pub given_script : SavedPlan → Option (List ℕ) → Result Outcomes ScriptError
+given_script plan None = Ok []
+given_script plan (Some bytes) = script_of plan bytes
+
+-- what was given: the bytes of a plan, those of a script or none, and the rules of each hook
+pub record Given : Type 0 where
+  pub plan : List ℕ
+  pub script : Option (List ℕ)
+  pub hooks : List (List Rule)
+
+-- the bytes are that plan, and that script for it
+pub record IsRead (given : Given) (plan : SavedPlan) (script : Outcomes) : Type 0 where
+  pub plan_is : plan_of given.plan ≡ Ok plan
+  pub script_is : given_script plan given.script ≡ Ok script
+
+-- the plan was read and applied, and all of its stream was written
+pub record WasApplied (given : Given) (options : Options) (report : Report) (before after : Sight) : Type 0 where
+  pub plan : SavedPlan
+  pub script : Outcomes
+  pub read : IsRead given plan script
+  pub sizes : IsInRange options
+  pub streamed : HasStreamed (record { plan = plan; script = script; hooks = given.hooks }) options report before after
+
+-- the plan is refused as it is defined, else the script as it is defined, else the sizes where they are out of range, want of memory aside; the sink is as it was. Otherwise the run has ended in a fault
+abbrev pub WasRefused : Given → Options → Refusal → (before after : Sight) → Type 0
+WasRefused given options (Plan refusal) before after = ((refusal ≡ plan_error.Memory) ⊎ (plan_of given.plan ≡ Err refusal)) × (after ≡ before)
+WasRefused given options (Script refusal) before after =
+    (plan : SavedPlan) × (plan_of given.plan ≡ Ok plan) × ((refusal ≡ script_error.Memory) ⊎ (given_script plan given.script ≡ Err refusal)) × (after ≡ before)
+WasRefused given options Size before after = (plan : SavedPlan) × (script : Outcomes) × IsRead given plan script × ¬ IsInRange options × (after ≡ before)
+WasRefused given options (Fault fault) before after =
+    (plan : SavedPlan) × (script : Outcomes) × IsRead given plan script × IsInRange options
+    × HasFailed fault.why (record { plan = plan; script = script; hooks = given.hooks }) options fault.report before after

@@ -1,0 +1,21 @@
+-- What contracts see of the sinks that are given here.
+use Rattle.std.specs.Prelude.{ℕ, ◌-◌, min, List, Option, Some, None}
+
+-- a sink in memory: the bytes that it took, for how many it has room without growing, how many bytes it takes with each
+-- write, and in all, where there is such a limit, and how many writes have failed
+pub record InMemory : Type 0 where
+  pub taken : List ℕ
+  pub room : ℕ
+  pub per_write : ℕ
+  pub fail_after : Option ℕ
+  pub failures : ℕ
+
+-- a sink over a writer, and how many writes and flushes have failed
+pub record OverWriter (W : Type 0) : Type 0 where
+  pub writer : W
+  pub failures : ℕ
+
+-- of a slice of `len` bytes, at most so many with each write, and at most so many in all, where there is such a limit
+abbrev pub most_taken : (per_write : ℕ) → (fail_after : Option ℕ) → (had len : ℕ) → ℕ
+most_taken per_write None had len = min per_write len
+most_taken per_write (Some fail_after) had len = min (min per_write len) (fail_after - had)

@@ -1,0 +1,92 @@
+//! The run of a plan.
+
+ghost use Rattle.std.specs.Prelude.{◌≡◌, ◌<◌, ◌-◌, ◌^◌, IfErr, IfOk};
+ghost use Rattle.apply_hooks.specs.Registry.{rules_of};
+ghost use Rattle.apply_run.specs.Options.{IsInRange};
+ghost use Rattle.apply_run.specs.Run.{HasFailed, HasStreamed};
+
+use crate::ended::Ended;
+use crate::fault::Fault;
+use crate::gate::Gate;
+use crate::not_begun::NotBegun;
+use crate::options::Options;
+use crate::prepared::Prepared;
+use crate::report::Report;
+use crate::run::run;
+use crate::signal::Signal;
+use crate::sink::Sink;
+use crate::stream::Stream;
+use crate::why::Why;
+use apply_bus::numbers_can_be_dealt_out;
+use apply_hooks::Registry;
+use apply_plan::{Plan, Script};
+use std::alloc::Global;
+use std::marker::Brand;
+use std::sync::Wait;
+use std::thread::Threads;
+
+/// Applies a plan by workers in threads, with what the script says of its steps, and writes the stream of what they report
+/// while they do: the version, a line for each event as it is taken, and the summary (Machine-Readable UI). A step without
+/// an entry in the script is done after 0 seconds. The sink comes back beside every answer.
+///
+/// `Ok` where all of the stream was written. Otherwise `Err`, with why, and with what was done:
+///
+/// - `Why::Bus` where an event or a close was lost between a worker and this thread. No run meets it.
+/// - `Why::Workers` where a thread was refused: no worker has begun, and nothing was written.
+/// - `Why::Memory` where memory was refused, before the threads or for a line: that line and all later ones, with the
+///   summary, were not written.
+/// - `Why::Write` where the sink failed: it was written to no more. All events were taken all the same.
+pub fn apply_stream<'a, S: Sink + Drop, G: Gate, R: Threads + Wait + Sync>(
+    rt: &R,
+    alloc: Global,
+    plan: &'a Plan,
+    script: &'a Script,
+    registry: &Registry,
+    options: Options,
+    sink: S,
+    gate: &G,
+) -> (S, Result<Report, Fault>)
+    requires sizes { IsInRange options }
+    requires failures { S.failed sink < 2 ^ 64 - 1 }
+
+    ensures ok { IfOk result.1 (λ report. HasStreamed
+        (record { plan = plan.now; script = script.now; hooks = rules_of registry.now }) options report
+        (record { bytes = S.bytes sink; failed = S.failed sink })
+        (record { bytes = S.bytes result.0; failed = S.failed result.0 })) }
+
+    ensures err { IfErr result.1 (λ fault. HasFailed fault.why
+        (record { plan = plan.now; script = script.now; hooks = rules_of registry.now }) options fault.report
+        (record { bytes = S.bytes sink; failed = S.failed sink })
+        (record { bytes = S.bytes result.0; failed = S.failed result.0 })) }
+{
+    numbers_can_be_dealt_out();
+    let Options {
+        start,
+        operation,
+        ..
+    } = options;
+    let Ok(prepared) = Prepared::new(alloc, options, plan.len()) else {
+        return (sink, Err(Fault::at_once(Why::Memory)));
+    };
+    let Prepared {
+        claims,
+        ends,
+        buffer,
+    } = prepared;
+    let signal = Signal::new();
+    let stream = Stream::new(plan, script, start, buffer, sink);
+    let ended = run::<Brand, S, G, R>(
+        rt, alloc, plan, script, registry, gate, &claims, &signal, ends, stream,
+    );
+    match ended {
+        Ok(Ended { stream, whole }) => {
+            if whole {
+                stream.end(operation)
+            } else {
+                let (sink, fault) = stream.give_up(Why::Bus);
+                (sink, Err(fault))
+            }
+        }
+        Err(NotBegun { stream, why }) => (stream.into_sink(), Err(Fault::at_once(why))),
+    }
+}

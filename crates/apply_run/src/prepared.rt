@@ -1,0 +1,44 @@
+//! What a run takes memory for before its threads start.
+
+ghost use Rattle.std.specs.Prelude.{◌≡◌, IfOk};
+ghost use Rattle.apply_run.specs.Ends.{AreReady};
+ghost use Rattle.apply_run.specs.Options.{IsInRange};
+
+use crate::ends::Ends;
+use crate::options::Options;
+use apply_bus::{BusError, Claims, open};
+use apply_text::LineBuffer;
+use std::alloc::Global;
+
+/// All that a run takes memory for before its threads start, but for the list of these threads.
+#[derive(Drop)]
+pub(crate) struct Prepared {
+    pub claims: Claims,
+    pub ends: Ends,
+    pub buffer: LineBuffer,
+}
+
+impl Prepared {
+    /// For so many changes. `Err` where memory is refused.
+    pub fn new(alloc: Global, options: Options, changes: u32) -> Result<Prepared, BusError>
+        requires { IsInRange options }
+        ensures claims { IfOk result (λ ready. (ready.claims.limit ≡ changes) × (ready.claims.workers ≡ options.workers)) }
+        ensures ends { IfOk result (λ ready. AreReady ready.claims ready.ends.rx.bus ready.ends) }
+    {
+        let (claims, drawers) = Claims::open(alloc, options.workers, changes)?;
+        let (senders, rx) = open(alloc, options.workers, options.capacity)?;
+        let worked = Vec::with_capacity(alloc, usize::from(options.workers))?;
+        let buffer = LineBuffer::with_room(alloc)?;
+        let ends = Ends {
+            drawers,
+            senders,
+            rx,
+            worked,
+        };
+        Ok(Prepared {
+            claims,
+            ends,
+            buffer,
+        })
+    }
+}

@@ -1,0 +1,215 @@
+//! A stream that is being written.
+
+ghost use Rattle.std.specs.Prelude.{◌≡◌, ◌<◌, ◌≤◌, ◌+◌, ◌-◌, ◌^◌, ◌∷◌, ◌++◌, ℕ, List, [], Option, IfErr, IfOk, OnOk, length};
+ghost use Rattle.apply_events.specs.declared.event.Event.{Event};
+ghost use Rattle.apply_text.specs.Lines.{lines_of, stream_of, summary_text};
+ghost use Rattle.apply_run.specs.Ended.{IsCutOff, IsFaulted, IsWhole};
+ghost use Rattle.apply_run.specs.Outlet.{IsRefused, Writes, failed_writes, outlet_of};
+ghost use Rattle.apply_run.specs.Room.{HasRoom, IsNew, max_told};
+ghost use Rattle.apply_run.specs.Fitting.{IsOf};
+ghost use Rattle.apply_run.specs.Telling.{HasTold, telling_of};
+
+use crate::fault::Fault;
+use crate::output::Output;
+use crate::report::Report;
+use crate::sink::Sink;
+use crate::stop::Stop;
+use crate::why::Why;
+use apply_events::{Counts, Event, totals_of_joined_lists_add_up};
+use apply_plan::{Plan, Script};
+use apply_text::{LineBuffer, Operation, Start};
+use std::alloc::AllocError;
+
+/// A stream that is being written: what its lines are made of, where they go, and what was told so far.
+#[derive(Drop)]
+pub(crate) struct Stream<'a, S: Drop> {
+    pub plan: &'a Plan,
+    pub script: &'a Script,
+    pub start: Start,
+    pub output: Output<S>,
+    /// Room for one line, which is kept from line to line.
+    pub buffer: LineBuffer,
+    /// What the events told so far add up to.
+    pub counts: Counts,
+    /// How many events were told so far.
+    pub taken: u64,
+    /// The greatest of their moments.
+    pub latest: u64,
+}
+
+impl<'a, S: Sink + Drop> Stream<'a, S> {
+    /// Nothing was told or written yet. The lines are built in the buffer.
+    pub fn new(
+        plan: &'a Plan,
+        script: &'a Script,
+        start: Start,
+        buffer: LineBuffer,
+        sink: S,
+    ) -> Stream<'a, S>
+        requires { S.failed sink < 2 ^ 64 - 1 }
+        ensures is_new { IsNew (telling_of S.bytes S.failed result) }
+        ensures same { (result.plan.now ≡ plan.now) × (result.script.now ≡ script.now) × (result.start ≡ start) }
+        ensures sink { result.output.sink ≡ sink }
+    {
+        Stream {
+            plan,
+            script,
+            start,
+            output: Output::new(sink),
+            buffer,
+            counts: Counts::new(),
+            taken: 0,
+            latest: 0,
+        }
+    }
+
+    /// Writes the version line. Nothing was told or written before.
+    pub fn write_version(&mut self)
+        requires { IsNew (telling_of S.bytes S.failed self.old) }
+        ensures told { HasTold self.old.plan.now self.old.script.now self.old.start
+            (S.bytes self.old.output.sink) (S.failed self.old.output.sink) [] (telling_of S.bytes S.failed self.new) }
+        ensures room { HasRoom (telling_of S.bytes S.failed self.new) }
+        ensures none { self.new.taken ≡ 0 }
+        ensures same { (self.new.plan.now ≡ self.old.plan.now) × (self.new.script.now ≡ self.old.script.now)
+            × (self.new.start ≡ self.old.start) }
+    {
+        self.buffer.clear();
+        let built = self.buffer.push_version(self.plan, self.start);
+        self.write_built(built);
+    }
+
+    /// Counts an event of the plan, and writes its line unless the writing has stopped.
+    pub fn tell(&mut self, event: &Event)
+        requires event { IsOf self.old.plan.now event.now }
+        requires room { HasRoom (telling_of S.bytes S.failed self.old) }
+        requires few { self.old.taken < max_told }
+        ensures told { (before : Option (List ℕ)) (failures : ℕ) (events : List Event)
+            → HasTold self.old.plan.now self.old.script.now self.old.start before failures events
+            (telling_of S.bytes S.failed self.old)
+            → HasTold self.old.plan.now self.old.script.now self.old.start before failures (events ++ event.now ∷ [])
+            (telling_of S.bytes S.failed self.new) }
+        ensures room { HasRoom (telling_of S.bytes S.failed self.new) }
+        ensures one_more { self.new.taken ≡ self.old.taken + 1 }
+        ensures same { (self.new.plan.now ≡ self.old.plan.now) × (self.new.script.now ≡ self.old.script.now)
+            × (self.new.start ≡ self.old.start) }
+    {
+        totals_of_joined_lists_add_up();
+        self.counts.count(self.plan, event);
+        self.taken += 1;
+        self.latest = self.latest.max(event.at);
+        // A line that is not written is not built.
+        if let Stop::Going = self.output.stop {
+            self.buffer.clear();
+            let built = self
+                .buffer
+                .push_event(self.plan, self.script, self.start, self.latest, event);
+            self.write_built(built);
+        }
+    }
+
+    /// Writes the summary, unless the writing has stopped, and gives the sink back.
+    ///
+    /// `Err` with `Why::Write` where a write has failed, now or before, and with `Why::Memory` where a line was refused
+    /// memory: then the sink has a prefix of the stream, and without the summary in the second case.
+    pub fn end(mut self, operation: Operation) -> (S, Result<Report, Fault>)
+        requires { HasRoom (telling_of S.bytes S.failed self) }
+        ensures ok { IfOk result.1 (λ report. (before : Option (List ℕ)) (failures : ℕ) (events : List Event)
+            → HasTold self.entry.plan.now self.entry.script.now self.entry.start before failures events
+            (telling_of S.bytes S.failed self.entry)
+            → IsWhole self.entry.plan.now events
+            (stream_of self.entry.plan.now self.entry.script.now self.entry.start operation events)
+            report before (S.bytes result.0) failures (S.failed result.0)) }
+        ensures err { IfErr result.1 (λ fault. (before : Option (List ℕ)) (failures : ℕ) (events : List Event)
+            → HasTold self.entry.plan.now self.entry.script.now self.entry.start before failures events
+            (telling_of S.bytes S.failed self.entry)
+            → IsFaulted self.entry.plan.now self.entry.script.now self.entry.start operation events
+            fault before (S.bytes result.0) failures (S.failed result.0)) }
+    {
+        self.write_summary(operation);
+        let report = self.report();
+        let result = match self.output.stop {
+            Stop::Going => Ok(report),
+            Stop::Failed => Err(Fault {
+                why: Why::Write,
+                report,
+            }),
+            Stop::NoMemory => Err(Fault {
+                why: Why::Memory,
+                report,
+            }),
+        };
+        (self.into_sink(), result)
+    }
+
+    /// Gives the sink back, with no summary, and the fault of that cause.
+    pub fn give_up(self, why: Why) -> (S, Fault)
+        ensures why { result.1.why ≡ why }
+        ensures part { (before : Option (List ℕ)) (failures : ℕ) (events : List Event)
+            → HasTold self.entry.plan.now self.entry.script.now self.entry.start before failures events
+            (telling_of S.bytes S.failed self.entry)
+            → IsCutOff self.entry.plan.now events
+            (lines_of self.entry.plan.now self.entry.script.now self.entry.start events)
+            result.1.report before (S.bytes result.0)
+            (failures + failed_writes self.entry.output.stop) (S.failed result.0) }
+    {
+        let report = self.report();
+        (self.into_sink(), Fault { why, report })
+    }
+
+    /// Writes the summary, unless the writing has stopped.
+    fn write_summary(&mut self, operation: Operation)
+        requires { HasRoom (telling_of S.bytes S.failed self.old) }
+        ensures written { Writes (outlet_of S.bytes S.failed self.old.output) (outlet_of S.bytes S.failed self.new.output)
+            (summary_text self.old.start self.old.latest operation self.old.counts) }
+        ensures memory { self.new.output.stop ≡ Stop.NoMemory
+            → IsRefused (outlet_of S.bytes S.failed self.old.output) (outlet_of S.bytes S.failed self.new.output) }
+        ensures told { (self.new.counts ≡ self.old.counts) × (self.new.taken ≡ self.old.taken) }
+    {
+        if let Stop::Going = self.output.stop {
+            self.buffer.clear();
+            let built = self
+                .buffer
+                .push_summary(self.start, self.latest, operation, &self.counts);
+            self.write_built(built);
+        }
+    }
+
+    /// What was done so far.
+    fn report(&self) -> Report
+        ensures { result ≡ record { counts = self.now.counts; taken = self.now.taken; written = self.now.output.written } }
+    {
+        Report {
+            counts: self.counts,
+            taken: self.taken,
+            written: self.output.written,
+        }
+    }
+
+    /// The sink.
+    pub fn into_sink(self) -> S
+        ensures { result ≡ self.entry.output.sink }
+    {
+        self.output.sink
+    }
+
+    /// Writes the line in the buffer. Where it could not be built, nothing more is written.
+    fn write_built(&mut self, built: Result<(), AllocError>)
+        requires open { self.old.output.stop ≡ Stop.Going → S.failed self.old.output.sink < 2 ^ 64 - 1 }
+        requires room { self.old.output.written ≤ 2 ^ 127 }
+        ensures written { (line : List ℕ) → OnOk built (self.old.buffer ≡ line)
+            → Writes (outlet_of S.bytes S.failed self.old.output) (outlet_of S.bytes S.failed self.new.output) line }
+        ensures open { self.new.output.stop ≡ Stop.Going → S.failed self.new.output.sink < 2 ^ 64 - 1 }
+        ensures room { self.new.output.written ≤ self.old.output.written + 2 ^ 64 }
+        ensures memory { self.new.output.stop ≡ Stop.NoMemory
+            → IsRefused (outlet_of S.bytes S.failed self.old.output) (outlet_of S.bytes S.failed self.new.output) }
+        ensures told { (self.new.counts ≡ self.old.counts) × (self.new.taken ≡ self.old.taken)
+            × (self.new.latest ≡ self.old.latest) }
+        ensures same { (self.new.plan.now ≡ self.old.plan.now) × (self.new.script.now ≡ self.old.script.now)
+            × (self.new.start ≡ self.old.start) }
+    {
+        match built {
+            Ok(()) => self.output.write(self.buffer.as_bytes()),
+            Err(_) => self.output.stop_for_memory(),
+        }
+    }
+}

@@ -1,0 +1,20 @@
+//! Why a run did not end well.
+
+use thiserror::Error;
+
+/// Why a run did not end well.
+#[derive(Clone, Copy, Debug, Drop, Error, PartialEq, Eq)]
+pub enum Why {
+    /// Events were lost between the workers and the collector. No run over a bus of its own meets it.
+    #[error("the event bus failed")]
+    Bus,
+    /// A thread was refused. No worker had begun.
+    #[error("a worker could not be started")]
+    Workers,
+    /// Memory was refused: before the threads, or for a line.
+    #[error("out of memory")]
+    Memory,
+    /// The sink failed.
+    #[error("the output could not be written")]
+    Write,
+}

@@ -1,0 +1,107 @@
+//! A worker: it draws changes, and sends what happens to them.
+
+ghost use Rattle.std.specs.Prelude.{◌≡◌, ◌<◌, ◌≤◌, ◌+◌, ◌++◌, [], true, length, All, IfSome, List};
+ghost use mathlib.Core.List.{IsPrefix};
+ghost use Rattle.apply_events.specs.declared.event.Event.{Event};
+ghost use Rattle.apply_events.specs.ChangeEvents.{change_events, span_of};
+ghost use Rattle.apply_events.specs.Fits.{latest};
+ghost use Rattle.apply_events.specs.WorkerEvents.{worker_events};
+ghost use Rattle.apply_plan.specs.Plan.SavedPlan.{max_changes};
+ghost use Rattle.apply_hooks.specs.Registry.{rules_of};
+ghost use Rattle.apply_run.specs.Drawn.{IsDrawn};
+ghost use Rattle.apply_run.specs.Fitting.{IsOf};
+ghost use Rattle.apply_run.specs.Job.{work_of};
+ghost use Rattle.apply_run.specs.Threads.{IsNewDrawer, IsNewSender, IsRun};
+ghost use Rattle.apply_run.specs.Worked.{IsWorkOf};
+
+use crate::gate::Gate;
+use crate::job::Job;
+use crate::run_name::RunName;
+use crate::worked::{Sender, Worked};
+use apply_bus::{Drawer, Tx, a_rising_list_fits_below_its_limit, a_rising_list_rises_on};
+use apply_events::{Runner, a_further_change_comes_behind};
+use std::sync::Wait;
+
+/// Waits until the workers may begin, draws changes until none is left, and sends their events. Nothing grows.
+pub(crate) fn work<K: RunName, G: Gate, R: Wait>(
+    rt: &R,
+    job: &Job<'_, G>,
+    mut drawer: Drawer,
+    mut tx: Tx,
+) -> Worked
+    requires run { IsRun K.work K.claims job.now.plan.now job.now.script.now (rules_of job.now.registry.now) job.now.claims.now }
+    requires drawer { IsNewDrawer K.claims tx.worker drawer }
+    requires sender { IsNewSender K.bus tx.worker tx }
+    ensures { IsWorkOf K.work K.claims K.bus tx.worker result }
+{
+    let sender = if job.signal.wait(rt) && apply_all(rt, job, &mut drawer, &mut tx) {
+        match tx.close(rt) {
+            Ok(closed) => Sender::Closed(closed),
+            Err(tx) => Sender::Open(tx),
+        }
+    } else {
+        Sender::Open(tx)
+    };
+    Worked { drawer, sender }
+}
+
+/// Draws changes until none is left, and sends their events. `false` where one came back: nothing more was sent then.
+fn apply_all<G: Gate, R: Wait>(rt: &R, job: &Job<'_, G>, drawer: &mut Drawer, tx: &mut Tx) -> bool
+    requires claims { drawer.old.claims ≡ job.now.claims.now }
+    requires limit { job.now.claims.now.limit ≡ length job.now.plan.now.changes }
+    requires few { job.now.claims.now.limit ≤ max_changes }
+    requires fresh { (drawer.old.drawn ≡ []) × (tx.old.sent ≡ []) }
+    ensures sender { (tx.new.bus ≡ tx.old.bus) × (tx.new.worker ≡ tx.old.worker) }
+    ensures drawer { (drawer.new.claims ≡ drawer.old.claims) × (drawer.new.worker ≡ drawer.old.worker) }
+    ensures whole { result ≡ true → (drawer.new.met_none ≡ true)
+        × (tx.new.sent ≡ worker_events (work_of job.now) tx.old.worker drawer.new.drawn) }
+    ensures part { IsPrefix tx.new.sent (worker_events (work_of job.now) tx.old.worker drawer.new.drawn) }
+    ensures drawn { IsDrawn job.now.claims.now.limit drawer.new.drawn }
+    ensures fits { All (IsOf job.now.plan.now) tx.new.sent }
+{
+    // The numbers rise below the limit, so they end, and each change begins early enough.
+    a_rising_list_rises_on();
+    a_rising_list_fits_below_its_limit();
+    a_further_change_comes_behind();
+    let mut at = 0;
+    while let Some(change) = job.claims.draw(drawer) {
+        match apply_change(rt, job, change, at, tx) {
+            Some(end) => at = end,
+            None => return false,
+        }
+    }
+    true
+}
+
+/// Sends the events of a change that begins at a moment, and says when it ends. `None` where one came back: nothing more
+/// was sent then.
+fn apply_change<G: Gate, R: Wait>(
+    rt: &R,
+    job: &Job<'_, G>,
+    change: u32,
+    at: u64,
+    tx: &mut Tx,
+) -> Option<u64>
+    requires change { change < length job.now.plan.now.changes }
+    requires in_time { at + 172800 ≤ latest }
+    ensures sender { (tx.new.bus ≡ tx.old.bus) × (tx.new.worker ≡ tx.old.worker) }
+    ensures whole { IfSome result (λ end. (end ≡ at + span_of (work_of job.now) change) × (end ≤ at + 172800)
+        × (tx.new.sent ≡ tx.old.sent ++ change_events (work_of job.now) tx.old.worker change at)) }
+    ensures part { (part : List Event) × (tx.new.sent ≡ tx.old.sent ++ part)
+        × IsPrefix part (change_events (work_of job.now) tx.old.worker change at)
+        × All (IsOf job.now.plan.now) part }
+{
+    let worker = tx.worker();
+    let mut runner = Runner::start(job.plan, job.script, job.registry, worker, change, at);
+    loop {
+        if let Some(step) = runner.begins() {
+            job.gate.pass(worker, change, step);
+        }
+        let Some(event) = runner.next() else {
+            return Some(runner.ended_at());
+        };
+        let Ok(()) = tx.send(rt, event) else {
+            return None;
+        };
+    }
+}
