@@ -10,7 +10,7 @@ pub too_large : (bytes : List ℕ) → max_bytes < length bytes → plan_of byte
 unfolding plan_of
 too_large bytes long = let more : nat_lt max_bytes (length bytes) ≡ true = lt-ltb _ _ long in rw more refl
 
-small : (bytes : List ℕ) (plan : SavedPlan) → plan_of bytes ≡ Ok plan → length bytes ≤ max_bytes
+pub small : (bytes : List ℕ) (plan : SavedPlan) → plan_of bytes ≡ Ok plan → length bytes ≤ max_bytes
 small bytes plan is =
     ⊎_elim (λ (long : max_bytes < length bytes). let refused = too_large bytes long in absurd cc) (λ (short : length bytes ≤ max_bytes). short) (cases_lt max_bytes (length bytes))
 

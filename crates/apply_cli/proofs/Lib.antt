@@ -1,3 +1,3 @@
-mod AtOnce
+mod Applied
 mod Front
 mod Statuses

@@ -11,16 +11,6 @@ use Rattle.apply_cli.specs.declared.input_fault.InputFault.TheVariants as input
 use Rattle.apply_cli.specs.Status.{input_status_of, plan_status_of}
 use Rattle.apply_cli.proofs.Front.{too_large, whole}
 
--- too many bytes are refused with 2
-pub large : (read : Result SavedPlan PlanError) (bytes : List ℕ) (status : ℕ) (Rest : Type 0) → Gives plan.Memory (λ plan. plan) read (plan_of bytes) → (read ≡ Err plan.Memory → length bytes ≤ max_bytes)
-    → IfErr read (λ refusal. (status ≡ plan_status_of refusal) × Rest) → max_bytes < length bytes → status ≡ 2
-large (Ok plan) bytes status Rest defined memory refused long = let too_long = too_large bytes long in absurd cc
-large (Err refusal) bytes status Rest defined memory refused long =
-    let other : refusal ≢ plan.Memory = λ is. let few = memory (ap (λ (e : PlanError). Err e) is) in omega arith in
-    let both : Err refusal ≡ Err plan.TooLarge = sym (defined other) ∙ too_large bytes long in
-    let same : refusal ≡ plan.TooLarge = cc in
-    refused.0 ∙ ap plan_status_of same
-
 -- what holds with 0 of the bytes that were read holds of the input
 pub of_input : (read : Result (Vec ℕ Global) InputFault) (known : Option (List ℕ)) (status : ℕ) (P : SavedPlan → Type 0)
     → IfOk read (λ bytes. IfSome known (λ all. bytes.items ≡ take (max_bytes + 1) all))

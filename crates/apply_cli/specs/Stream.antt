@@ -1,12 +1,12 @@
 -- The whole output for a plan.
-use Rattle.std.specs.Prelude.{ℕ, List, [], length, flat_map}
+use Rattle.std.specs.Prelude.{ℕ, List, [], length}
 use Rattle.std.specs.List.{range_with_len}
 use Rattle.apply_plan.specs.Plan.SavedPlan.{SavedPlan}
 use Rattle.apply_events.specs.declared.event.Event.{Event}
 use Rattle.apply_events.specs.Step.{Work}
 use Rattle.apply_events.specs.WorkerEvents.{worker_events}
 use Rattle.apply_text.specs.declared.operation.Operation.TheVariants.{Apply}
-use Rattle.apply_text.specs.Lines.{event_text, stream_of}
+use Rattle.apply_text.specs.Lines.{stream_of}
 
 -- the plan, where a script says nothing, so that each step is done at once, and no hook halts
 abbrev pub at_once : SavedPlan → Work
@@ -19,7 +19,3 @@ events_of plan = worker_events (at_once plan) 0 (range_with_len 0 (length plan.c
 -- what is written for a plan: the stream of these events, from the start of 1970 on
 abbrev pub stream_at_once : SavedPlan → List ℕ
 stream_at_once plan = stream_of plan [] 0 Apply (events_of plan)
-
--- the lines of events that all happen at the start, for private clauses
-abbrev pub lines_at_once : SavedPlan → List Event → List ℕ
-lines_at_once plan events = flat_map (event_text plan [] 0 0) events

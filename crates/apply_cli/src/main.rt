@@ -5,23 +5,22 @@ mod input;
 mod input_fault;
 mod run;
 mod status;
-mod stream;
-mod stream_fault;
 #[cfg(test)]
 mod tests;
 
 use crate::run::{report, run_first};
 use crate::status::FAILED;
-use crate::stream_fault::StreamFault;
+use apply_run::{StdSink, Why};
 use std::io::BufWriter;
 use std::process::ExitCode;
 
 fn main(rt: HostRuntime) -> ExitCode {
     let mut faults = rt.stderr();
-    let Ok(mut output) = BufWriter::new(rt.alloc(), rt.stdout()) else {
-        report(&mut faults, StreamFault::Memory);
+    let Ok(output) = BufWriter::new(rt.alloc(), rt.stdout()) else {
+        report(&mut faults, Why::Memory);
         return ExitCode::from(FAILED);
     };
-    let status = run_first(rt.alloc(), rt.reader(), &mut output, &mut faults);
+    let output = StdSink::new(output);
+    let (_output, status) = run_first(&rt, rt.alloc(), rt.reader(), output, &mut faults);
     ExitCode::from(status)
 }

@@ -1,10 +1,11 @@
 //! The exit statuses, beside 0.
 
 ghost use Rattle.std.specs.Prelude.{◌≡◌};
-ghost use Rattle.apply_cli.specs.Status.{input_status_of, plan_status_of};
+ghost use Rattle.apply_cli.specs.Status.{input_status_of, refusal_status_of};
 
 use crate::input_fault::InputFault;
-use apply_plan::PlanError;
+use apply_plan::{PlanError, ScriptError};
+use apply_run::Refusal;
 
 /// The input could not be read, or is no plan.
 pub const REFUSED: u8 = 2;
@@ -22,12 +23,13 @@ pub fn input_status(fault: InputFault) -> u8
     }
 }
 
-/// The status for an input that was read and refused.
-pub fn plan_status(fault: PlanError) -> u8
-    ensures { result ≡ plan_status_of fault }
+/// The status for a plan that was not applied, or not to the end.
+pub fn refusal_status(refusal: Refusal) -> u8
+    ensures { result ≡ refusal_status_of refusal }
 {
-    match fault {
-        PlanError::Memory => FAILED,
-        _ => REFUSED,
+    match refusal {
+        Refusal::Plan(PlanError::Memory) | Refusal::Script(ScriptError::Memory) => FAILED,
+        Refusal::Plan(_) | Refusal::Script(_) | Refusal::Size => REFUSED,
+        Refusal::Fault(_) => FAILED,
     }
 }

@@ -1,27 +1,43 @@
 //! What no clause says: whole lines as bytes, the texts of faults, readers and writers that fail, and that runs
 //! succeed with ample memory.
 
+ghost use Rattle.std.specs.Prelude.{◌≡◌};
+
 mod faults;
 mod streams;
 
 use crate::input::read_all;
 use crate::input_fault::InputFault;
-use crate::run::{run_first, run_input, run_plan};
-use apply_plan::PlanError;
+use crate::run::{report, run_first, run_input};
+use crate::status::refusal_status;
+use apply_plan::{PlanError, ScriptError};
+use apply_run::{Refusal, StdSink};
 use std::alloc::{AllocError, Global};
 use std::io;
 use std::io::{ErrorKind, Read, Write};
 use std::process::Abort;
+use std::sync::Wait;
 use std::test::Fail;
+use std::thread::Threads;
 
 /// Runs the program on the bytes: the status, what it printed, and what it said of faults.
-fn run(alloc: Global, plan: &str) -> Result<(u8, String, String), AllocError> {
-    let mut output = Vec::new(alloc);
+fn run<T: Threads + Wait + Sync>(
+    rt: &T,
+    alloc: Global,
+    plan: &str,
+) -> Result<(u8, String, String), AllocError> {
     let mut faults = Vec::new(alloc);
-    let status = run_first(alloc, plan.as_bytes(), &mut output, &mut faults);
-    let output = String::from_utf8_lossy(alloc, &output)?;
+    let (output, status) = run_first(rt, alloc, plan.as_bytes(), empty(alloc), &mut faults);
+    let output = String::from_utf8_lossy(alloc, &output.into_inner())?;
     let faults = String::from_utf8_lossy(alloc, &faults)?;
     Ok((status, output, faults))
+}
+
+/// A sink over memory.
+fn empty(alloc: Global) -> StdSink<Vec<u8>>
+    ensures { result.failures ≡ 0 }
+{
+    StdSink::new(Vec::new(alloc))
 }
 
 /// Gives one byte a call, and a fault where `before` bytes were given.

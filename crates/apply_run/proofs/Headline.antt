@@ -1,14 +1,12 @@
 -- From what was told to how the run has ended.
-use Rattle.std.proofs.Common.{◌≡◌, ◌≤◌, ◌<◌, ◌+◌, ◌⊎◌, ℕ, true, List, [], Option, Result, Ok, Err, IfOk, IfErr, length, sym, ap, ◌∙◌, subst, refl, arith, add-zero, ⊎_elim}
+use Rattle.std.proofs.Common.{◌≡◌, ◌≤◌, ◌<◌, ◌+◌, ℕ, List, [], Result, Ok, Err, IfOk, IfErr, length, sym, ap, subst, refl, arith, add-zero, ⊎_elim}
 use Rattle.std.proofs.KnownBytes.{Appends-nil}
 use Rattle.std.proofs.lemmas.List.Elements.{All-nil}
-use mathlib.Core.List.{IsPrefix}
 use Rattle.apply_plan.specs.Plan.SavedPlan.{SavedPlan}
 use Rattle.apply_plan.specs.Script.Outcomes.{Outcomes}
 use Rattle.apply_events.specs.declared.event.Event.{Event}
 use Rattle.apply_events.specs.Step.{Work}
 use Rattle.apply_bus.specs.Partition.{IsPartition}
-use Rattle.apply_text.specs.Lines.{lines_of, stream_of}
 use Rattle.apply_run.specs.Applied.{IsApplied, IsAppliedInPart, reports_of}
 use Rattle.apply_run.specs.declared.fault.Fault.{Fault}
 use Rattle.apply_run.specs.declared.options.Options.{Options}
@@ -19,8 +17,7 @@ use Rattle.apply_run.specs.declared.why.Why.{Why}
 use Rattle.apply_run.specs.declared.why.Why.TheVariants.{Bus, Memory, Workers, Write}
 use Rattle.apply_run.specs.Ended.{IsCutOff, IsFaulted, IsWhole}
 use Rattle.apply_run.specs.Outlet.{failed_writes}
-use Rattle.apply_run.specs.Run.{DidNothing, HasFailed, HasStreamed, Sight, WasCutOff, lines_for, stream_for}
-use Rattle.apply_run.specs.Telling.{HasTold, Telling}
+use Rattle.apply_run.specs.Run.{HasFailed, HasStreamed, Sight, WasCutOff, lines_for, stream_for}
 
 pub if_ok : {A E : Type 0} → (r : Result A E) (P Q : A → Type 0) → ((x : A) → P x → Q x) → IfOk r P → IfOk r Q
 if_ok (Ok x) P Q f h = f x h

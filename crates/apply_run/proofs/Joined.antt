@@ -1,8 +1,8 @@
 -- What the joins of all workers tell.
-use Rattle.std.proofs.Common.{◌≡◌, ◌≢◌, ℕ, zero, suc, ◌+◌, ◌<◌, ◌==◌, Bool, true, false, List, [], ◌∷◌, ◌++◌, All, cond, length, get_or, map, refl, sym, ap, ◌∙◌, subst, ⊎_elim, add-zero, arith}
+use Rattle.std.proofs.Common.{◌≡◌, ◌≢◌, ℕ, zero, suc, ◌+◌, ◌<◌, true, false, List, [], ◌∷◌, All, cond, length, get_or, map, refl, sym, ap, ◌∙◌, subst, ⊎_elim, add-zero, arith}
 use Rattle.std.proofs.lemmas.Bool.{eq-eqb, ne_eqb}
 use Rattle.std.proofs.lemmas.Bool.Decides.{eqb_tells}
-use Rattle.std.proofs.lemmas.List.Elements.{All-cons, All-head, All-nil, All-tail}
+use Rattle.std.proofs.lemmas.List.Elements.{All-cons, All-nil}
 use Rattle.std.specs.List.{range_with_len}
 use mathlib.Core.List.{IsPrefix}
 use Rattle.apply_events.specs.declared.event.Event.{Event}
@@ -14,13 +14,12 @@ use Rattle.apply_bus.specs.Bus.{BusName, IsTakenInPart, IsTakenWhole, NamesWorke
 use Rattle.apply_bus.specs.Claims.{ClaimsName, Drawing, IsDealtOut, lists_drawn, workers_of}
 use Rattle.apply_bus.specs.Items.{events}
 use Rattle.apply_bus.specs.Partition.{IsPartition}
-use Rattle.apply_run.specs.Applied.{IsApplied, IsAppliedInPart, reports_of}
+use Rattle.apply_run.specs.Applied.{IsApplied, IsAppliedInPart}
 use Rattle.apply_run.specs.declared.worked.Worked.{Worked}
 use Rattle.apply_run.specs.Fitting.{IsOf}
 use Rattle.apply_run.specs.Settled.{IsSettled, IsSettledWhole}
 use Rattle.apply_run.specs.Threads.{EachAt}
 use Rattle.apply_run.specs.Worked.{end_of, is_closed, IsWorkOf}
-use Rattle.apply_run.proofs.Places.{each_tail}
 use Rattle.apply_run.proofs.Prefixes.{all_of_prefix, events_prefix, prefix_more}
 
 -- ---- one worker

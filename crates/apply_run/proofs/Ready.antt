@@ -1,5 +1,5 @@
 -- Drawers and senders before a run begins.
-use Rattle.std.proofs.Common.{◌≡◌, ℕ, zero, suc, ◌+◌, ◌<◌, false, List, [], ◌∷◌, ◌++◌, length, length-append, ap, sym, refl, subst, ◌∙◌, arith}
+use Rattle.std.proofs.Common.{◌≡◌, ℕ, zero, suc, false, [], ◌∷◌, length, length-append, sym, refl, subst, arith}
 use Rattle.apply_bus.specs.Bus.{BusName, new_senders, Sender}
 use Rattle.apply_bus.specs.Claims.{ClaimsName, Drawing, new_drawers}
 use Rattle.apply_run.specs.Threads.{EachAt, IsNewDrawer, IsNewSender}

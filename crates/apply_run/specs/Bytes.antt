@@ -1,9 +1,9 @@
 -- What is answered to the bytes of a plan and of a script.
-use Rattle.std.specs.Prelude.{◌≡◌, ◌⊎◌, ℕ, List, [], Option, Some, None, Result, Ok, Err}
-use Rattle.apply_plan.specs.declared.plan.plan_error.PlanError.{PlanError}
+use Rattle.std.specs.Prelude.{◌≡◌, ◌≤◌, ◌⊎◌, ℕ, List, [], length, Option, Some, None, Result, Ok, Err}
 use Rattle.apply_plan.specs.declared.plan.plan_error.PlanError.TheVariants as plan_error
 use Rattle.apply_plan.specs.declared.script.script_error.ScriptError.{ScriptError}
 use Rattle.apply_plan.specs.declared.script.script_error.ScriptError.TheVariants as script_error
+use Rattle.apply_plan.specs.Json.{max_bytes}
 use Rattle.apply_plan.specs.Plan.SavedPlan.{SavedPlan, plan_of}
 use Rattle.apply_plan.specs.Script.Outcomes.{Outcomes, script_of}
 use Rattle.apply_hooks.specs.declared.rule.Rule.{Rule}
@@ -38,9 +38,9 @@ pub record WasApplied (given : Given) (options : Options) (report : Report) (bef
   pub sizes : IsInRange options
   pub streamed : HasStreamed (record { plan = plan; script = script; hooks = given.hooks }) options report before after
 
--- the plan is refused as it is defined, else the script as it is defined, else the sizes where they are out of range, want of memory aside; the sink is as it was. Otherwise the run has ended in a fault
+-- the plan is refused as it is defined, else the script as it is defined, else the sizes where they are out of range; the sink is as it was. Memory may be wanted before, but for no plan that is too large. Otherwise the run has ended in a fault
 abbrev pub WasRefused : Given → Options → Refusal → (before after : Sight) → Type 0
-WasRefused given options (Plan refusal) before after = ((refusal ≡ plan_error.Memory) ⊎ (plan_of given.plan ≡ Err refusal)) × (after ≡ before)
+WasRefused given options (Plan refusal) before after = (((refusal ≡ plan_error.Memory) × (length given.plan ≤ max_bytes)) ⊎ (plan_of given.plan ≡ Err refusal)) × (after ≡ before)
 WasRefused given options (Script refusal) before after =
     (plan : SavedPlan) × (plan_of given.plan ≡ Ok plan) × ((refusal ≡ script_error.Memory) ⊎ (given_script plan given.script ≡ Err refusal)) × (after ≡ before)
 WasRefused given options Size before after = (plan : SavedPlan) × (script : Outcomes) × IsRead given plan script × ¬ IsInRange options × (after ≡ before)

@@ -1,5 +1,5 @@
 -- What workers and the collector hold before a run begins.
-use Rattle.std.specs.Prelude.{◌≡◌, ℕ, ◌<◌, ◌≤◌, [], length, vec_capacity}
+use Rattle.std.specs.Prelude.{◌≡◌, ◌<◌, ◌≤◌, [], length, vec_capacity}
 use Rattle.apply_bus.specs.Bus.{BusName}
 use Rattle.apply_bus.specs.Claims.{ClaimsName}
 use Rattle.apply_run.specs.declared.ends.Ends.{Ends}

@@ -1,7 +1,5 @@
 -- What the threads of a run leave behind.
 use Rattle.std.specs.Prelude.{◌≡◌, ℕ, List, Option, All, length, true}
-use Rattle.apply_plan.specs.Plan.SavedPlan.{SavedPlan}
-use Rattle.apply_plan.specs.Script.Outcomes.{Outcomes}
 use Rattle.apply_events.specs.declared.event.Event.{Event}
 use Rattle.apply_events.specs.Step.{Work}
 use Rattle.apply_bus.specs.Bus.{BusName}
@@ -13,7 +11,7 @@ use Rattle.apply_run.specs.declared.ended.Ended.{Ended}
 use Rattle.apply_run.specs.declared.stream.Stream.{Stream}
 use Rattle.apply_run.specs.Fitting.{IsOf}
 use Rattle.apply_run.specs.Room.{HasRoom}
-use Rattle.apply_run.specs.Telling.{HasTold, Telling, telling_of}
+use Rattle.apply_run.specs.Telling.{HasTold, telling_of}
 use Rattle.apply_run.specs.Threads.{EachAt}
 use Rattle.apply_run.specs.Worked.{IsWorkOf}
 

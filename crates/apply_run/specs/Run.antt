@@ -1,12 +1,9 @@
 -- How a run has ended: what it was about, what its workers reported, and what its sink took.
 use Rattle.std.specs.Prelude.{◌≡◌, ℕ, ◌+◌, ◌≤◌, List, Option}
-use Rattle.apply_plan.specs.Plan.SavedPlan.{SavedPlan}
-use Rattle.apply_plan.specs.Script.Outcomes.{Outcomes}
 use Rattle.apply_events.specs.declared.event.Event.{Event}
 use Rattle.apply_events.specs.Step.{Work}
 use Rattle.apply_text.specs.Lines.{lines_of, stream_of}
 use Rattle.apply_run.specs.Applied.{IsApplied, IsAppliedInPart}
-use Rattle.apply_run.specs.declared.fault.Fault.{Fault}
 use Rattle.apply_run.specs.declared.options.Options.{Options}
 use Rattle.apply_run.specs.declared.report.Report.{Report}
 use Rattle.apply_run.specs.declared.why.Why.{Why}

@@ -8,6 +8,6 @@ use apply_bus::Taken;
 pub(crate) struct Collected<'a, S: Drop> {
     pub stream: Stream<'a, S>,
     pub taken: Taken,
-    /// Whether an event is not of the plan, or a worker's close was not taken.
+    /// Whether a take was lost, an event is not of the plan, or a worker's close was not taken.
     pub lost: bool,
 }

@@ -37,7 +37,7 @@ pub(crate) fn collect<'a, S: Sink + Drop, R: Wait>(
         (S.bytes stream.entry.output.sink) (S.failed stream.entry.output.sink)
         (events result.taken.taken) (telling_of S.bytes S.failed result.stream) }
     ensures room { HasRoom (telling_of S.bytes S.failed result.stream) }
-    ensures lost { result.lost ≡ false ↔ All (IsOf stream.entry.plan.now) (events result.taken.taken)
+    ensures lost { result.lost ≡ false → All (IsOf stream.entry.plan.now) (events result.taken.taken)
         × (closes result.taken.taken ≡ rx.workers) }
 {
     stream.write_version();
@@ -59,7 +59,7 @@ pub(crate) fn collect<'a, S: Sink + Drop, R: Wait>(
     Collected {
         stream,
         taken: rx.give_up(),
-        lost: misfit || left > 0,
+        lost: misfit || lost_takes > 0 || left > 0,
     }
 }
 

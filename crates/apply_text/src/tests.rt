@@ -5,7 +5,6 @@ ghost use Rattle.apply_events.specs.Fits.{HasStep};
 mod escapes;
 mod moments;
 mod streams;
-mod terraform;
 
 use crate::{Operation, Start, elapsed_text, event_line, summary_line, version_line};
 use apply_events::{Counts, Event, LATEST, Runner, What};

@@ -31,7 +31,7 @@ fn refused_plans_print_nothing(rt: HostRuntime) -> Result<(), Fail> {
             "applystream: change 1 repeats an earlier change\n",
         ),
     ] {
-        let (status, output, faults) = run(alloc, plan)?;
+        let (status, output, faults) = run(&rt, alloc, plan)?;
         assert_eq!(rt; status, 2, "{plan}");
         assert_eq!(rt; output.as_str(), "", "{plan}");
         assert_eq!(rt; faults.as_str(), wanted, "{plan}");
@@ -43,11 +43,10 @@ fn refused_plans_print_nothing(rt: HostRuntime) -> Result<(), Fail> {
 fn a_plan_that_is_too_large_is_refused(rt: HostRuntime) -> Result<(), Fail> {
     let alloc = rt.alloc();
     let blanks = vec![in alloc; b' '; 67_108_866]?;
-    let mut output = Vec::new(alloc);
     let mut faults = Vec::new(alloc);
-    let status = run_first(alloc, blanks.as_slice(), &mut output, &mut faults);
+    let (output, status) = run_first(&rt, alloc, blanks.as_slice(), empty(alloc), &mut faults);
     assert_eq!(rt; status, 2);
-    assert_eq!(rt; output.len(), 0);
+    assert_eq!(rt; output.into_inner().len(), 0);
     assert!(rt;
         faults.as_slice() == b"applystream: the plan is larger than 67108864 bytes\n".as_slice()
     );
@@ -61,11 +60,10 @@ fn a_cut_plan_is_refused(rt: HostRuntime) -> Result<(), Fail> {
     let alloc = rt.alloc();
     let bytes = ONE_CREATE.as_bytes();
     for end in 0..bytes.len() {
-        let mut output = Vec::new(alloc);
         let mut faults = Vec::new(alloc);
-        let status = run_first(alloc, &bytes[..end], &mut output, &mut faults);
+        let (output, status) = run_first(&rt, alloc, &bytes[..end], empty(alloc), &mut faults);
         assert_eq!(rt; status, 2, "cut at {end}");
-        assert_eq!(rt; output.len(), 0, "cut at {end}");
+        assert_eq!(rt; output.into_inner().len(), 0, "cut at {end}");
         assert!(rt;
             faults.as_slice() == b"applystream: the plan is not JSON\n".as_slice(),
             "cut at {end}"
@@ -89,7 +87,7 @@ fn ten_thousand_updates_are_the_most(rt: HostRuntime) -> Result<(), Fail> {
             plan.push_str(element.as_str())?;
         }
         plan.push_str("]}")?;
-        let (status, output, faults) = run(alloc, plan.as_str())?;
+        let (status, output, faults) = run(&rt, alloc, plan.as_str())?;
         assert_eq!(rt; status, wanted);
         let lines = output
             .as_bytes()
@@ -148,11 +146,10 @@ fn a_reader_that_fails_is_said_so(rt: HostRuntime) -> Result<(), Fail> {
         before: 100,
         fault: ErrorKind::Other,
     };
-    let mut output = Vec::new(alloc);
     let mut faults = Vec::new(alloc);
-    let status = run_first(alloc, input, &mut output, &mut faults);
+    let (output, status) = run_first(&rt, alloc, input, empty(alloc), &mut faults);
     assert_eq!(rt; status, 2);
-    assert_eq!(rt; output.len(), 0);
+    assert_eq!(rt; output.into_inner().len(), 0);
     assert!(rt; faults.as_slice() == b"applystream: the plan could not be read\n".as_slice());
     Ok(())
 }
@@ -160,18 +157,25 @@ fn a_reader_that_fails_is_said_so(rt: HostRuntime) -> Result<(), Fail> {
 #[test]
 fn an_output_that_fails_is_said_so(rt: HostRuntime) -> Result<(), Fail> {
     let alloc = rt.alloc();
-    let (_, whole, _) = run(alloc, ONE_CREATE)?;
+    let (_, whole, _) = run(&rt, alloc, ONE_CREATE)?;
     let said = b"applystream: the output could not be written\n".as_slice();
     for room in 0..whole.len() {
         for per_write in [1, 7, 4096] {
-            let mut output = FailingWriter {
+            let output = FailingWriter {
                 taken: Vec::new(alloc),
                 per_write,
                 room,
                 fails_to_flush: false,
             };
             let mut faults = Vec::new(alloc);
-            let status = run_first(alloc, ONE_CREATE.as_bytes(), &mut output, &mut faults);
+            let (output, status) = run_first(
+                &rt,
+                alloc,
+                ONE_CREATE.as_bytes(),
+                StdSink::new(output),
+                &mut faults,
+            );
+            let output = output.into_inner();
             assert_eq!(rt; status, 3, "room for {room}");
             assert!(rt;
                 output.taken.as_slice() == whole.as_bytes().get(..room).unwrap_or(&[]),
@@ -181,14 +185,21 @@ fn an_output_that_fails_is_said_so(rt: HostRuntime) -> Result<(), Fail> {
         }
     }
     for (fails_to_flush, wanted) in [(false, 0), (true, 3)] {
-        let mut output = FailingWriter {
+        let output = FailingWriter {
             taken: Vec::new(alloc),
             per_write: 7,
             room: whole.len(),
             fails_to_flush,
         };
         let mut faults = Vec::new(alloc);
-        let status = run_first(alloc, ONE_CREATE.as_bytes(), &mut output, &mut faults);
+        let (output, status) = run_first(
+            &rt,
+            alloc,
+            ONE_CREATE.as_bytes(),
+            StdSink::new(output),
+            &mut faults,
+        );
+        let output = output.into_inner();
         assert_eq!(rt; status, wanted);
         assert!(rt; output.taken.as_slice() == whole.as_bytes());
         assert!(rt; (faults.as_slice() == said) == fails_to_flush);
@@ -199,16 +210,15 @@ fn an_output_that_fails_is_said_so(rt: HostRuntime) -> Result<(), Fail> {
 #[test]
 fn a_fault_that_cannot_be_said_is_dropped(rt: HostRuntime) -> Result<(), Fail> {
     let alloc = rt.alloc();
-    let mut output = Vec::new(alloc);
     let mut faults = FailingWriter {
         taken: Vec::new(alloc),
         per_write: 7,
         room: 0,
         fails_to_flush: true,
     };
-    let status = run_first(alloc, b"[]".as_slice(), &mut output, &mut faults);
+    let (output, status) = run_first(&rt, alloc, b"[]".as_slice(), empty(alloc), &mut faults);
     assert_eq!(rt; status, 2);
-    assert_eq!(rt; output.len(), 0);
+    assert_eq!(rt; output.into_inner().len(), 0);
     Ok(())
 }
 
@@ -223,26 +233,42 @@ fn each_answer_of_reading_has_its_status(rt: HostRuntime) -> Result<(), Fail> {
         ),
         (InputFault::Memory, 3, "applystream: out of memory\n"),
     ] {
-        let mut output = Vec::new(alloc);
         let mut faults = Vec::new(alloc);
-        let status = run_input(alloc, Err(fault), &mut output, &mut faults);
+        let (output, status) = run_input(&rt, alloc, Err(fault), empty(alloc), &mut faults);
         assert_eq!(rt; status, wanted);
-        assert_eq!(rt; output.len(), 0);
+        assert_eq!(rt; output.into_inner().len(), 0);
         assert!(rt; faults.as_slice() == said.as_bytes(), "at {said}");
     }
     for (refusal, wanted, said) in [
         (
-            PlanError::BadChange(7),
+            Refusal::Plan(PlanError::BadChange(7)),
             2,
             "applystream: change 7 is malformed\n",
         ),
-        (PlanError::Memory, 3, "applystream: out of memory\n"),
+        (
+            Refusal::Plan(PlanError::Memory),
+            3,
+            "applystream: out of memory\n",
+        ),
+        (
+            Refusal::Script(ScriptError::UnknownChange(1)),
+            2,
+            "applystream: script entry 1 names an unknown change\n",
+        ),
+        (
+            Refusal::Script(ScriptError::Memory),
+            3,
+            "applystream: out of memory\n",
+        ),
+        (
+            Refusal::Size,
+            2,
+            "applystream: the sizes are out of range\n",
+        ),
     ] {
-        let mut output = Vec::new(alloc);
         let mut faults = Vec::new(alloc);
-        let status = run_plan(alloc, Err(refusal), &mut output, &mut faults);
-        assert_eq!(rt; status, wanted);
-        assert_eq!(rt; output.len(), 0);
+        report(&mut faults, refusal);
+        assert_eq!(rt; refusal_status(refusal), wanted, "at {said}");
         assert!(rt; faults.as_slice() == said.as_bytes(), "at {said}");
     }
     Ok(())

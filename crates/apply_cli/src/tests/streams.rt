@@ -113,7 +113,7 @@ fn streams_are_printed_byte_for_byte(rt: HostRuntime) -> Result<(), Fail> {
     for case in STREAMS.split("\n\n") {
         let (name, rest) = parted(&rt, case);
         let (plan, wanted) = parted(&rt, rest);
-        let (status, output, faults) = run(alloc, plan)?;
+        let (status, output, faults) = run(&rt, alloc, plan)?;
         assert_eq!(rt; status, 0, "{name}");
         assert_eq!(rt; output.as_str().trim_end(), wanted.trim_end(), "{name}");
         assert!(rt; output.as_bytes().last() == Some(&b'\n'), "{name}");
@@ -124,7 +124,7 @@ fn streams_are_printed_byte_for_byte(rt: HostRuntime) -> Result<(), Fail> {
 
 #[test]
 fn texts_are_escaped(rt: HostRuntime) -> Result<(), Fail> {
-    let (status, output, faults) = run(rt.alloc(), ESCAPED_PLAN)?;
+    let (status, output, faults) = run(&rt, rt.alloc(), ESCAPED_PLAN)?;
     assert_eq!(rt; status, 0);
     assert_eq!(rt; output.as_str(), ESCAPED_STREAM);
     assert_eq!(rt; faults.as_str(), "");

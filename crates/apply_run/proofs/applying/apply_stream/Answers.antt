@@ -1,7 +1,5 @@
-use Rattle.std.proofs.Common.{◌≡◌, ◌+◌, ℕ, List, Option, length, sym, ap, ◌∙◌, subst, refl, arith, ⊎_elim}
+use Rattle.std.proofs.Common.{◌≡◌, ◌+◌, length, sym, ap, ◌∙◌, subst, refl, arith, ⊎_elim}
 use Rattle.apply_hooks.specs.Registry.{rules_of}
-use Rattle.apply_plan.specs.Plan.SavedPlan.{SavedPlan}
-use Rattle.apply_plan.specs.Script.Outcomes.{Outcomes}
 use Rattle.apply_events.specs.Step.{Work}
 use Rattle.apply_text.specs.Lines.{lines_of, stream_of}
 use Rattle.apply_run.specs.Applied.{IsApplied, IsAppliedInPart}
@@ -9,7 +7,7 @@ use Rattle.apply_run.specs.declared.stream.Stream.{Stream}
 use Rattle.apply_run.specs.declared.why.Why.TheVariants.{Memory, Workers}
 use Rattle.apply_run.specs.Ended.{IsCutOff, IsFaulted, IsWhole}
 use Rattle.apply_run.specs.Outlet.{failed_writes}
-use Rattle.apply_run.specs.Run.{HasFailed, HasStreamed, Sight}
+use Rattle.apply_run.specs.Run.{Sight}
 use Rattle.apply_run.specs.Telling.{HasTold, telling_of}
 use Rattle.apply_run.proofs.Headline.{faulted, if_err, if_ok, lost, not_started, refused, same_of, streamed}
 use Rattle.apply_run.proofs.applying.apply_stream.Goals as goal

@@ -1,4 +1,4 @@
-use Rattle.std.proofs.Common.{◌≡◌, ◌++◌, ◌∷◌, [], true, ap, length, length-append, ◌∙◌, arith}
+use Rattle.std.proofs.Common.{◌∷◌, [], ap, length, length-append, ◌∙◌, arith}
 use Rattle.apply_bus.specs.Claims.{Drawing}
 use Rattle.apply_run.proofs.Drawing.{drawn_on, room_left}
 use Rattle.apply_run.proofs.Prefixes.{prefix_push}

@@ -4,11 +4,10 @@ use Rattle.std.specs.Vec.Iter.{into_iter_items, into_iter_len}
 use Rattle.std.proofs.lemmas.Bool.Decides.{nat_tests}
 use Rattle.std.proofs.lemmas.Grind.{common_steps}
 use Rattle.apply_bus.specs.Bus.{Account, IsTakenInPart, IsTakenWhole, NamesWorkersBelow, stream_of}
-use Rattle.apply_bus.specs.Claims.{ClaimsName, Drawing, Gathered, IsDealtOut, lists_drawn, workers_of}
+use Rattle.apply_bus.specs.Claims.{ClaimsName, Drawing, Gathered, IsDealtOut, lists_drawn}
 use Rattle.apply_bus.specs.Items.{closes}
 use Rattle.apply_bus.specs.Partition.{NamesEachOnce}
 use Rattle.apply_bus.specs.declared.item.Item.{Item}
-use Rattle.apply_run.specs.declared.worked.Worked.{Worked}
 use Rattle.apply_run.specs.Settled.{IsSettled, IsSettledWhole}
 use Rattle.apply_run.specs.Threads.{EachAt}
 use Rattle.apply_run.specs.Worked.{end_of, IsWorkOf}

@@ -1,8 +1,7 @@
-use Rattle.std.proofs.Common.{◌≡◌, ◌++◌, ◌∷◌, ◌+◌, [], ℕ, true, suc, sym, ap, ◌∙◌, subst, length, length-append, arith, rules, add-zero, refl}
+use Rattle.std.proofs.Common.{◌≡◌, ◌++◌, ◌∷◌, ◌+◌, [], ℕ, suc, sym, ap, ◌∙◌, subst, length, length-append, arith, rules, add-zero, refl}
 use Rattle.std.specs.Vec.Iter.{into_iter_items}
 use Rattle.std.proofs.lemmas.Grind.{common_steps}
 use Rattle.apply_bus.specs.Bus.{Sender}
-use Rattle.apply_bus.specs.Claims.{Drawing}
 use Rattle.apply_run.specs.Threads.{EachAt, IsNewDrawer, IsNewSender, IsThreadOf}
 use Rattle.apply_run.specs.declared.work_of.WorkOf.{WorkOf}
 use Rattle.apply_run.proofs.Places.{each_at, each_head, each_snoc, each_tail}

@@ -1,10 +1,9 @@
-use Rattle.std.proofs.Common.{◌≡◌, ◌≤◌, ◌+◌, ◌*◌, ◌++◌, ◌∷◌, [], All, length, length-append, sum_by, sym, ap, ◌∙◌, subst, arith}
+use Rattle.std.proofs.Common.{◌+◌, ◌++◌, ◌∷◌, [], All, length, length-append, sum_by, sym, ap, ◌∙◌, subst, arith}
 use Rattle.std.proofs.lemmas.List.Elements.{All-append}
 use Rattle.std.proofs.lemmas.List.Sums.{sum_by_push}
 use Rattle.apply_events.specs.ChangeEvents.{change_events, span_of}
 use Rattle.apply_events.specs.WorkerEvents.{worker_events}
 use Rattle.apply_bus.specs.Claims.{Drawing}
-use Rattle.apply_run.specs.Drawn.{IsDrawn}
 use Rattle.apply_run.specs.Fitting.{IsOf}
 use Rattle.apply_run.specs.Job.{work_of}
 use Rattle.apply_run.proofs.Drawing.{drawn_on, room_left}

@@ -1,5 +1,4 @@
-use Rattle.std.proofs.Common.{◌∙◌, sym, ap, subst, refl, ◌≡◌}
-use Rattle.apply_events.specs.declared.event.Event.{Event}
+use Rattle.std.proofs.Common.{◌∙◌, sym, ap, subst, refl}
 use Rattle.apply_events.specs.ChangeEvents.{change_events}
 use Rattle.apply_events.specs.Course.{Course}
 use Rattle.apply_events.specs.Fits.{HasStep}

@@ -1,5 +1,4 @@
-use Rattle.std.proofs.Common.{◌≡◌, ◌++◌, List, length}
-use Rattle.apply_events.specs.declared.event.Event.{Event}
+use Rattle.std.proofs.Common.{◌≡◌, length}
 use Rattle.apply_events.specs.ChangeEvents.{change_events}
 use Rattle.apply_events.specs.Runner.{course_of, to_come}
 use Rattle.apply_run.specs.Job.{work_of}

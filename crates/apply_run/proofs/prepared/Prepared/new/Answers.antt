@@ -1,5 +1,4 @@
 use Rattle.std.proofs.Common.{refl, sym, ap, ◌∙◌, subst, length, arith}
-use Rattle.apply_bus.specs.Claims.{ClaimsName}
 use Rattle.apply_run.specs.Threads.{EachAt, IsNewDrawer, IsNewSender}
 use Rattle.apply_run.proofs.Ready.{drawers_count, drawers_new, senders_new}
 use Rattle.apply_run.proofs.prepared.Prepared.new.Goals as goal

@@ -1,0 +1,299 @@
+//! Workers in threads: that they run at once, that lines are written meanwhile, and that a free worker takes the next change.
+
+use super::*;
+
+/// A plan with two creates.
+const TWO_CREATES: &str =
+    r#"{"format_version":"1.2","terraform_version":"1.9.0","resource_changes":[{"address":"null_resource.a","mode":"managed","type":"null_resource","name":"a","change":{"actions":["create"]}},{"address":"null_resource.b","mode":"managed","type":"null_resource","name":"b","change":{"actions":["create"]}}]}"#;
+
+/// A plan with three creates.
+const THREE_CREATES: &str =
+    r#"{"format_version":"1.2","terraform_version":"1.9.0","resource_changes":[{"address":"null_resource.a","mode":"managed","type":"null_resource","name":"a","change":{"actions":["create"]}},{"address":"null_resource.b","mode":"managed","type":"null_resource","name":"b","change":{"actions":["create"]}},{"address":"null_resource.c","mode":"managed","type":"null_resource","name":"c","change":{"actions":["create"]}}]}"#;
+
+/// A plan with four creates.
+const FOUR_CREATES: &str =
+    r#"{"format_version":"1.2","terraform_version":"1.9.0","resource_changes":[{"address":"null_resource.a","mode":"managed","type":"null_resource","name":"a","change":{"actions":["create"]}},{"address":"null_resource.b","mode":"managed","type":"null_resource","name":"b","change":{"actions":["create"]}},{"address":"null_resource.c","mode":"managed","type":"null_resource","name":"c","change":{"actions":["create"]}},{"address":"null_resource.d","mode":"managed","type":"null_resource","name":"d","change":{"actions":["create"]}}]}"#;
+
+/// A plan with a replacement that destroys first.
+const REPLACEMENT: &str =
+    r#"{"format_version":"1.2","terraform_version":"1.9.0","resource_changes":[{"address":"null_resource.a","mode":"managed","type":"null_resource","name":"a","change":{"actions":["delete","create"]}}]}"#;
+
+/// How many turns a worker is held for at most.
+const MAX_TURNS: u32 = 10_000_000;
+
+/// Waits until the word is at least so much, and says whether it was so in time.
+fn comes_to(word: &AtomicU64, least: u64) -> bool {
+    for _ in 0..MAX_TURNS {
+        if word.load(Ordering::SeqCst) >= least {
+            return true;
+        }
+        yield_now();
+    }
+    false
+}
+
+/// Holds each of two changes until the other has come.
+#[derive(Drop)]
+struct Meeting {
+    first: AtomicU64,
+    second: AtomicU64,
+    missed: AtomicU64,
+}
+
+impl Gate for Meeting {
+    fn pass(&self, _worker: u8, change: u32, _step: u8) {
+        let (own, other) = if change == 0 {
+            (&self.first, &self.second)
+        } else {
+            (&self.second, &self.first)
+        };
+        own.store(1, Ordering::SeqCst);
+        if !comes_to(other, 1) {
+            self.missed.store(1, Ordering::SeqCst);
+        }
+    }
+}
+
+#[test]
+fn two_workers_at_once(rt: HostRuntime) {
+    let gate = Meeting {
+        first: AtomicU64::new(0),
+        second: AtomicU64::new(0),
+        missed: AtomicU64::new(0),
+    };
+    let sink = MemorySink::new(rt.alloc(), usize::MAX, None);
+    let (_sink, report) = apply_plan(
+        &rt,
+        rt.alloc(),
+        TWO_CREATES,
+        NO_SCRIPT,
+        options(2, 64),
+        sink,
+        &gate,
+    );
+    assert_eq!(rt; gate.missed.load(Ordering::SeqCst), 0);
+    assert_eq!(rt; report.counts, counts(2, 0, 0, 0));
+}
+
+/// Holds one of four changes until the other three have come.
+#[derive(Drop)]
+struct Held {
+    change: u32,
+    others: AtomicU64,
+    missed: AtomicU64,
+}
+
+impl Gate for Held {
+    fn pass(&self, _worker: u8, change: u32, _step: u8) {
+        if change != self.change {
+            self.others.fetch_add(1, Ordering::SeqCst);
+        } else if !comes_to(&self.others, 3) {
+            self.missed.store(1, Ordering::SeqCst);
+        }
+    }
+}
+
+/// No change is assigned to a worker beforehand: while one worker is held, the other applies the rest.
+#[test]
+fn fixed_assignment(rt: HostRuntime) {
+    for change in 0..2 {
+        let gate = Held {
+            change,
+            others: AtomicU64::new(0),
+            missed: AtomicU64::new(0),
+        };
+        let sink = MemorySink::new(rt.alloc(), usize::MAX, None);
+        let (_sink, report) = apply_plan(
+            &rt,
+            rt.alloc(),
+            FOUR_CREATES,
+            NO_SCRIPT,
+            options(2, 64),
+            sink,
+            &gate,
+        );
+        assert_eq!(rt; gate.missed.load(Ordering::SeqCst), 0, "change {change}");
+        assert_eq!(rt; report.counts, counts(4, 0, 0, 0));
+    }
+}
+
+/// Whether the bytes are of a line of that type.
+fn is_of_type(bytes: &[u8], wanted: &str) -> bool {
+    match str::from_utf8(bytes) {
+        Ok(line) => line.contains(wanted),
+        Err(_) => false,
+    }
+}
+
+/// A sink that tells when it has a completion.
+#[derive(Drop)]
+struct Telling<'a, S: Drop> {
+    inner: S,
+    completed: &'a AtomicU64,
+}
+
+impl<S: Sink + Drop> Sink for Telling<'_, S> {
+    ghost bytes = { λ sink. S.bytes sink.inner };
+
+    ghost failed = { λ sink. S.failed sink.inner };
+
+    fn write(&mut self, slice: &[u8]) -> Result<usize, SinkFault> {
+        let taken = self.inner.write(slice);
+        if is_of_type(slice, r#","type":"apply_complete"}"#) {
+            self.completed.store(1, Ordering::SeqCst);
+        }
+        taken
+    }
+
+    fn failures(&self) -> u64 {
+        self.inner.failures()
+    }
+}
+
+/// Holds the second step until the completion of the first is written.
+#[derive(Drop)]
+struct Behind<'a> {
+    completed: &'a AtomicU64,
+    missed: AtomicU64,
+}
+
+impl Gate for Behind<'_> {
+    fn pass(&self, _worker: u8, _change: u32, step: u8) {
+        if step == 1 && !comes_to(self.completed, 1) {
+            self.missed.store(1, Ordering::SeqCst);
+        }
+    }
+}
+
+#[test]
+fn lines_while_workers_run(rt: HostRuntime) {
+    let completed = AtomicU64::new(0);
+    let gate = Behind {
+        completed: &completed,
+        missed: AtomicU64::new(0),
+    };
+    let sink = Telling {
+        inner: MemorySink::new(rt.alloc(), usize::MAX, None),
+        completed: &completed,
+    };
+    let (_sink, report) = apply_plan(
+        &rt,
+        rt.alloc(),
+        REPLACEMENT,
+        NO_SCRIPT,
+        options(2, 1),
+        sink,
+        &gate,
+    );
+    assert_eq!(rt; gate.missed.load(Ordering::SeqCst), 0);
+    assert_eq!(rt; report.counts, counts(1, 0, 1, 0));
+}
+
+/// For how many turns the slow sink holds a line.
+const SLOW_TURNS: u32 = 1_000_000;
+
+/// A sink that is slow to take the first start, and then looks whether the third change was begun meanwhile.
+#[derive(Drop)]
+struct Slow<'a, S: Drop> {
+    inner: S,
+    begun: &'a AtomicU64,
+    held: bool,
+    begun_meanwhile: bool,
+}
+
+impl<S: Sink + Drop> Sink for Slow<'_, S> {
+    ghost bytes = { λ sink. S.bytes sink.inner };
+
+    ghost failed = { λ sink. S.failed sink.inner };
+
+    fn write(&mut self, slice: &[u8]) -> Result<usize, SinkFault> {
+        if !self.held && is_of_type(slice, r#","type":"apply_start"}"#) {
+            self.held = true;
+            for _ in 0..SLOW_TURNS {
+                yield_now();
+            }
+            self.begun_meanwhile = self.begun.load(Ordering::SeqCst) != 0;
+        }
+        self.inner.write(slice)
+    }
+
+    fn failures(&self) -> u64 {
+        self.inner.failures()
+    }
+}
+
+/// Notes when the third change is begun.
+#[derive(Drop)]
+struct Noting<'a> {
+    begun: &'a AtomicU64,
+}
+
+impl Gate for Noting<'_> {
+    fn pass(&self, _worker: u8, change: u32, _step: u8) {
+        if change == 2 {
+            self.begun.store(1, Ordering::SeqCst);
+        }
+    }
+}
+
+/// A worker waits where there is no room for what it has to tell.
+#[test]
+fn lines_while_workers_run_into_a_slow_sink(rt: HostRuntime) {
+    let begun = AtomicU64::new(0);
+    let gate = Noting { begun: &begun };
+    let sink = Slow {
+        inner: MemorySink::new(rt.alloc(), usize::MAX, None),
+        begun: &begun,
+        held: false,
+        begun_meanwhile: false,
+    };
+    let (sink, report) = apply_plan(
+        &rt,
+        rt.alloc(),
+        THREE_CREATES,
+        NO_SCRIPT,
+        options(1, 1),
+        sink,
+        &gate,
+    );
+    assert!(rt; sink.held);
+    assert!(rt; !sink.begun_meanwhile);
+    assert_eq!(rt; begun.load(Ordering::SeqCst), 1);
+    assert_eq!(rt; report.counts, counts(3, 0, 0, 0));
+}
+
+/// The second takes 20 seconds and the third 5.
+const THREE_SPANS: &str =
+    r#"{"changes":[{"address":"null_resource.b","steps":[{"seconds":20}]},{"address":"null_resource.c","steps":[{"seconds":5}]}]}"#;
+
+/// What is written of both, where one worker applies them.
+const THREE_STREAM: &str =
+    r#"{"@level":"info","@message":"Terraform 1.9.0","@module":"terraform.ui","@timestamp":"1970-01-01T00:00:00Z","terraform":"1.9.0","type":"version","ui":"1.0"}
+{"@level":"info","@message":"null_resource.a: Creating...","@module":"terraform.ui","@timestamp":"1970-01-01T00:00:00Z","hook":{"action":"create","resource":{"addr":"null_resource.a","implied_provider":"null","module":"","resource":"null_resource.a","resource_key":null,"resource_name":"a","resource_type":"null_resource"}},"type":"apply_start"}
+{"@level":"info","@message":"null_resource.a: Creation complete after 0s","@module":"terraform.ui","@timestamp":"1970-01-01T00:00:00Z","hook":{"action":"create","elapsed_seconds":0,"resource":{"addr":"null_resource.a","implied_provider":"null","module":"","resource":"null_resource.a","resource_key":null,"resource_name":"a","resource_type":"null_resource"}},"type":"apply_complete"}
+{"@level":"info","@message":"null_resource.b: Creating...","@module":"terraform.ui","@timestamp":"1970-01-01T00:00:00Z","hook":{"action":"create","resource":{"addr":"null_resource.b","implied_provider":"null","module":"","resource":"null_resource.b","resource_key":null,"resource_name":"b","resource_type":"null_resource"}},"type":"apply_start"}
+{"@level":"info","@message":"null_resource.b: Still creating... [10s elapsed]","@module":"terraform.ui","@timestamp":"1970-01-01T00:00:10Z","hook":{"action":"create","elapsed_seconds":10,"resource":{"addr":"null_resource.b","implied_provider":"null","module":"","resource":"null_resource.b","resource_key":null,"resource_name":"b","resource_type":"null_resource"}},"type":"apply_progress"}
+{"@level":"info","@message":"null_resource.b: Creation complete after 20s","@module":"terraform.ui","@timestamp":"1970-01-01T00:00:20Z","hook":{"action":"create","elapsed_seconds":20,"resource":{"addr":"null_resource.b","implied_provider":"null","module":"","resource":"null_resource.b","resource_key":null,"resource_name":"b","resource_type":"null_resource"}},"type":"apply_complete"}
+{"@level":"info","@message":"null_resource.c: Creating...","@module":"terraform.ui","@timestamp":"1970-01-01T00:00:20Z","hook":{"action":"create","resource":{"addr":"null_resource.c","implied_provider":"null","module":"","resource":"null_resource.c","resource_key":null,"resource_name":"c","resource_type":"null_resource"}},"type":"apply_start"}
+{"@level":"info","@message":"null_resource.c: Creation complete after 5s","@module":"terraform.ui","@timestamp":"1970-01-01T00:00:25Z","hook":{"action":"create","elapsed_seconds":5,"resource":{"addr":"null_resource.c","implied_provider":"null","module":"","resource":"null_resource.c","resource_key":null,"resource_name":"c","resource_type":"null_resource"}},"type":"apply_complete"}
+{"@level":"info","@message":"Apply complete! Resources: 3 added, 0 changed, 0 destroyed.","@module":"terraform.ui","@timestamp":"1970-01-01T00:00:25Z","changes":{"add":3,"change":0,"operation":"apply","remove":0},"type":"change_summary"}"#;
+
+#[test]
+fn eight_workers_capacity_one(rt: HostRuntime) {
+    let sink = MemorySink::new(rt.alloc(), usize::MAX, None);
+    let (sink, report) = apply_plan(
+        &rt,
+        rt.alloc(),
+        THREE_CREATES,
+        THREE_SPANS,
+        options(8, 1),
+        sink,
+        &NoGate,
+    );
+    let text = text_of(&rt, &sink);
+    lines_are_of_changes(&rt, text, THREE_STREAM);
+    moments_never_go_back(&rt, text);
+    let last = text.lines().last().unwrap_or("");
+    assert!(rt; moment_of(&rt, last) >= "1970-01-01T00:00:20Z", "{last}");
+    assert_eq!(rt; report.counts, counts(3, 0, 0, 0));
+}
