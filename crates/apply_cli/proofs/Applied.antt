@@ -1,13 +1,11 @@
 -- From how a run has ended to the output and the exit status.
-use Rattle.std.proofs.Common.{◌≡◌, ◌≤◌, ◌<◌, ◌⊎◌, ℕ, List, [], length, Option, None, Result, Ok, Err, IfOk, IfErr, sym, ap, ◌∙◌, subst, arith, ⊎_elim}
+use Rattle.std.proofs.Common.{◌≡◌, ◌≤◌, ◌<◌, ℕ, List, [], length, None, Result, Ok, Err, IfOk, IfErr, sym, ap, ◌∙◌, subst, arith, ⊎_elim}
 use Rattle.std.specs.Io.KnownBytes.{Appends}
 use Rattle.std.specs.List.{range_with_len}
 use Rattle.apply_plan.specs.declared.plan.plan_error.PlanError.{PlanError}
 use Rattle.apply_plan.specs.declared.plan.plan_error.PlanError.TheVariants as plan_error
-use Rattle.apply_plan.specs.declared.script.script_error.ScriptError.{ScriptError}
 use Rattle.apply_plan.specs.Json.{max_bytes}
 use Rattle.apply_plan.specs.Plan.SavedPlan.{SavedPlan, plan_of}
-use Rattle.apply_plan.specs.Script.Outcomes.{Outcomes}
 use Rattle.apply_hooks.specs.declared.rule.Rule.{Rule}
 use Rattle.apply_events.specs.declared.event.Event.{Event}
 use Rattle.apply_events.specs.Step.{Work}
@@ -22,7 +20,7 @@ use Rattle.apply_run.specs.declared.refusal.Refusal.TheVariants.{Plan, Script, S
 use Rattle.apply_run.specs.declared.report.Report.{Report}
 use Rattle.apply_run.specs.Run.{Sight}
 use Rattle.apply_cli.specs.Status.{refusal_status_of}
-use Rattle.apply_cli.specs.Stream.{at_once, events_of, stream_at_once}
+use Rattle.apply_cli.specs.Stream.{events_of, stream_at_once}
 use Rattle.apply_cli.proofs.Front.{too_large}
 
 abbrev pub OneInOrder : Type 0

@@ -1,11 +1,6 @@
-use Rattle.std.proofs.Common.{◌≡◌, ℕ, List, [], None, ◌∙◌}
+use Rattle.std.proofs.Common.{None, ◌∙◌}
 use Rattle.std.proofs.KnownBytes.{Appends-kept}
-use Rattle.apply_hooks.specs.declared.rule.Rule.{Rule}
 use Rattle.apply_hooks.specs.Registry.{rules_of}
-use Rattle.apply_text.specs.declared.operation.Operation.TheVariants.{Apply}
-use Rattle.apply_run.specs.Bytes.{Given, WasApplied, WasRefused}
-use Rattle.apply_run.specs.declared.options.Options.{Options}
-use Rattle.apply_run.specs.declared.report.Report.{Report}
 use Rattle.apply_run.specs.Run.{Sight}
 use Rattle.apply_cli.specs.Stream.{stream_at_once}
 use Rattle.apply_cli.proofs.Applied.{alone, applied_alone, at_err, at_ok, refused_large}
