@@ -1,6 +1,6 @@
 //! What a run takes memory for before its threads start.
 
-ghost use Rattle.std.specs.Prelude.{◌≡◌, IfOk};
+ghost use Rattle.std.specs.Prelude.{◌≡◌, IfErr, IfOk};
 ghost use Rattle.apply_run.specs.Ends.{AreReady};
 ghost use Rattle.apply_run.specs.Options.{IsInRange};
 
@@ -23,6 +23,7 @@ impl Prepared {
     pub fn new(alloc: Global, options: Options, changes: u32) -> Result<Prepared, BusError>
         requires { IsInRange options }
         ensures claims { IfOk result (λ ready. (ready.claims.limit ≡ changes) × (ready.claims.workers ≡ options.workers)) }
+        ensures memory { IfErr result (λ error. error ≡ BusError.Memory) }
         ensures ends { IfOk result (λ ready. AreReady ready.claims ready.ends.rx.bus ready.ends) }
     {
         let (claims, drawers) = Claims::open(alloc, options.workers, changes)?;
