@@ -1,3 +1,3 @@
-mod Applied
+mod Ending
 mod Front
 mod Statuses

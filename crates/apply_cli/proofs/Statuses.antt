@@ -1,24 +1,34 @@
--- From the answers of the readers to the exit status.
-use Rattle.std.proofs.Common.{◌≡◌, ℕ, ◌+◌, ◌<◌, ◌≤◌, List, length, take, Vec, Global, Option, IfSome, Result, Ok, Err, IfOk, IfErr, sym, ap, ◌∙◌, arith}
-use Rattle.std.specs.Prelude.{◌≢◌}
-use Rattle.apply_plan.specs.declared.plan.plan_error.PlanError.{PlanError}
-use Rattle.apply_plan.specs.declared.plan.plan_error.PlanError.TheVariants as plan
+-- From the bytes that were read to those of the input.
+use Rattle.std.proofs.Common.{◌≡◌, ℕ, ◌+◌, ◌≤◌, ◌⊎◌, inl, inr, ⊎_elim, List, take, Vec, Global, Option, IfSome, Result, Ok, Err, IfOk, IfErr, arith}
 use Rattle.apply_plan.specs.Json.{max_bytes}
 use Rattle.apply_plan.specs.Plan.SavedPlan.{SavedPlan, plan_of}
-use Rattle.apply_plan.specs.Results.{Gives}
+use Rattle.apply_cli.specs.Command.{OfInput}
 use Rattle.apply_cli.specs.declared.input_fault.InputFault.{InputFault}
 use Rattle.apply_cli.specs.declared.input_fault.InputFault.TheVariants as input
-use Rattle.apply_cli.specs.Status.{input_status_of, plan_status_of}
-use Rattle.apply_cli.proofs.Front.{too_large, whole}
+use Rattle.apply_cli.specs.Status.{input_status_of}
+use Rattle.apply_cli.proofs.Front.{whole}
 
--- what holds with 0 of the bytes that were read holds of the input
-pub of_input : (read : Result (Vec ℕ Global) InputFault) (known : Option (List ℕ)) (status : ℕ) (P : SavedPlan → Type 0)
+-- what holds with 0 or 1 of bytes that were read and are a plan holds of the input
+pub of_input : (read : Result (Vec ℕ Global) InputFault) (known : Option (List ℕ)) (status : ℕ) (P : List ℕ → Type 0) → ((bytes : List ℕ) → P bytes → (plan : SavedPlan) × (plan_of bytes ≡ Ok plan))
     → IfOk read (λ bytes. IfSome known (λ all. bytes.items ≡ take (max_bytes + 1) all))
-    → IfOk read (λ bytes. status ≡ 0 → (plan : SavedPlan) × (plan_of bytes.items ≡ Ok plan) × P plan)
+    → IfOk read (λ bytes. status ≤ 1 → P bytes.items)
     → IfErr read (λ fault. status ≡ input_status_of fault)
-    → status ≡ 0 → (bytes : List ℕ) × (plan : SavedPlan) × (plan_of bytes ≡ Ok plan) × P plan × IfSome known (λ all. all ≡ bytes)
-of_input (Ok bytes) known status P front said unread success =
-    let found = said success in
-    (bytes.items, found.0, found.1, found.2, whole known bytes.items found.0 front found.1)
-of_input (Err input.Read) known status P front said unread success = absurd cc
-of_input (Err input.Memory) known status P front said unread success = absurd cc
+    → status ≤ 1 → OfInput known P
+of_input (Ok bytes) known status P reads front said unread good =
+    let found = said good in let plan = reads bytes.items found in
+    (bytes.items, found, whole known bytes.items plan.0 front plan.1)
+of_input (Err input.Read) known status P reads front said unread good = absurd (omega arith)
+of_input (Err input.Memory) known status P reads front said unread good = absurd (omega arith)
+
+-- the same with 3, where the output may be as it was
+pub of_input_in_part : (read : Result (Vec ℕ Global) InputFault) (known : Option (List ℕ)) (status : ℕ) (Kept : Type 0) (P : List ℕ → Type 0) → ((bytes : List ℕ) → P bytes → (plan : SavedPlan) × (plan_of bytes ≡ Ok plan))
+    → IfOk read (λ bytes. IfSome known (λ all. bytes.items ≡ take (max_bytes + 1) all))
+    → IfOk read (λ bytes. status ≡ 3 → Kept ⊎ P bytes.items)
+    → IfErr read (λ fault. Kept)
+    → status ≡ 3 → Kept ⊎ OfInput known P
+of_input_in_part (Ok bytes) known status Kept P reads front said unread bad =
+    ⊎_elim
+    (λ (kept : Kept). inl kept)
+    (λ (found : P bytes.items). let plan = reads bytes.items found in inr (bytes.items, found, whole known bytes.items plan.0 front plan.1))
+    (said bad)
+of_input_in_part (Err fault) known status Kept P reads front said unread bad = inl unread

@@ -1,2 +1,3 @@
+pub mod Command
+pub mod Settings
 pub mod Status
-pub mod Stream

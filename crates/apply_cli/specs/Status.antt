@@ -1,5 +1,6 @@
--- The exit status that a fault has: 2 where the input is at fault, and 3 where memory ran out or the run did not end well.
-use Rattle.std.specs.Prelude.{ℕ}
+-- The exit status: 0 where all is well, 1 where a step failed or was halted, 2 where the words or the input are at fault, and 3 where memory ran out or the run did not end well.
+use Rattle.std.specs.Prelude.{ℕ, ◌+◌, nat_lt, if◌then◌else◌}
+use Rattle.apply_events.specs.declared.counts.Counts.{Counts}
 use Rattle.apply_plan.specs.declared.plan.plan_error.PlanError.{PlanError}
 use Rattle.apply_plan.specs.declared.plan.plan_error.PlanError.TheVariants as plan
 use Rattle.apply_plan.specs.declared.script.script_error.ScriptError.{ScriptError}
@@ -8,6 +9,8 @@ use Rattle.apply_run.specs.declared.refusal.Refusal.{Refusal}
 use Rattle.apply_run.specs.declared.refusal.Refusal.TheVariants.{Plan, Script, Size, Fault}
 use Rattle.apply_cli.specs.declared.input_fault.InputFault.{InputFault}
 use Rattle.apply_cli.specs.declared.input_fault.InputFault.TheVariants as input
+use Rattle.apply_cli.specs.declared.usage.Usage.{Usage}
+use Rattle.apply_cli.specs.declared.usage.Usage.TheVariants as usage
 
 abbrev pub input_status_of : InputFault → ℕ
 input_status_of input.Read = 2
@@ -39,3 +42,17 @@ refusal_status_of (Plan refusal) = plan_status_of refusal
 refusal_status_of (Script refusal) = script_status_of refusal
 refusal_status_of Size = 2
 refusal_status_of (Fault fault) = 3
+
+-- how many steps failed and how many were halted
+abbrev pub unfinished : Counts → ℕ
+unfinished counts = counts.failed + counts.halted
+
+abbrev pub counts_status_of : Counts → ℕ
+counts_status_of counts = if nat_lt 0 (unfinished counts) then 1 else 0
+
+abbrev pub usage_status_of : Usage → ℕ
+usage_status_of (usage.Help text) = 0
+usage_status_of (usage.Words text) = 2
+usage_status_of (usage.Moment error) = 2
+usage_status_of usage.Hooks = 2
+usage_status_of usage.Memory = 3

@@ -1,70 +1,92 @@
 //! The program, from its input to its exit status.
 
-ghost use Rattle.std.specs.Prelude.{◌≡◌, ◌<◌, ◌-◌, ◌^◌, ◌⊎◌, List, ℕ, length, IfOk, IfErr, IfSome, Ok, Err};
-ghost use Rattle.std.specs.Io.KnownBytes.{Appends, Keeps};
-ghost use Rattle.apply_plan.specs.declared.plan.plan_error.PlanError.{PlanError};
+ghost use Rattle.std.specs.Prelude.{◌≡◌, ◌<◌, ◌≤◌, ◌-◌, ◌^◌, ◌⊎◌, length, IfOk, IfErr, OnErr};
+ghost use Rattle.std.specs.Option.{option_copied};
+ghost use Rattle.std.specs.Io.KnownBytes.{Keeps};
 ghost use Rattle.apply_plan.specs.Json.{max_bytes};
-ghost use Rattle.apply_plan.specs.Plan.SavedPlan.{SavedPlan, plan_of};
-ghost use Rattle.apply_cli.specs.Status.{input_status_of};
-ghost use Rattle.apply_cli.specs.Stream.{stream_at_once};
+ghost use Rattle.apply_hooks.specs.Registry.{rules_of};
+ghost use Rattle.apply_run.specs.declared.refusal.Refusal.{Refusal};
+ghost use Rattle.apply_run.specs.Bytes.{WasRefused};
+ghost use Rattle.apply_cli.specs.Command.{HasApplied, HasBegun, OfInput, sight_of};
+ghost use Rattle.apply_cli.specs.Settings.{options_of};
+ghost use Rattle.apply_cli.specs.Status.{input_status_of, refusal_status_of};
 
 use crate::input::read_all;
 use crate::input_fault::InputFault;
-use crate::status::{FAILED, input_status, refusal_status};
+use crate::settings::Settings;
+use crate::status::{FAILED, counts_status, input_status, refusal_status};
 use apply_hooks::Registry;
-use apply_run::{
-    NoGate, Options, StdSink, Why, apply_bytes, one_worker_applies_all_changes_in_order,
-};
-use apply_text::{Operation, Start};
+use apply_run::{NoGate, Refusal, Sink, StdSink, Why, apply_bytes};
 use std::alloc::Global;
 use std::fmt::Display;
 use std::io::{Read, Write};
 use std::sync::Wait;
 use std::thread::Threads;
 
-/// Reads a plan, and writes the stream of messages for applying it. The output comes back.
+/// Reads a plan, and writes the stream of messages for applying it as the settings, the hooks and the script say. Without
+/// a script each step is done after 0 seconds. The output comes back.
 ///
-/// The exit status is 0 where all of the stream was written. It is 2 where the input could not be read or is
-/// no plan: nothing was written then. It is 3 where memory or a thread was refused or the output could not be written: a
-/// part of the stream may have been written then. What went wrong is said on `faults`, unless that fails too.
-pub fn run_first<R: Read + Drop, W: Write + Drop, E: Write, T: Threads + Wait + Sync>(
+/// The exit status is 0 where all of the stream was written and no step failed or was halted, and 1 where all of it was
+/// written and some step failed or was halted. It is 2 where the input could not be read or is no plan, where the script is
+/// none for it, or where the settings are out of range: nothing was written then. It is 3 where memory or a thread was
+/// refused or the output could not be written: a part of the stream may have been written then. What went wrong is said on
+/// `faults`, unless that fails too.
+pub fn run_command<R: Read + Drop, W: Write + Drop, E: Write, T: Threads + Wait + Sync>(
     rt: &T,
     alloc: Global,
+    settings: &Settings,
+    registry: &Registry,
+    script: Option<&[u8]>,
     input: R,
     output: StdSink<W>,
     faults: &mut E,
 ) -> (StdSink<W>, u8)
     requires { output.failures < 2 ^ 64 - 1 }
 
-    // The bytes are those of the input, all of them, where the reader tells its bytes.
-    ensures stream { result.1 ≡ 0 → (bytes : List ℕ) × (plan : SavedPlan) × (plan_of bytes ≡ Ok plan)
-        × Appends (W.contents output.writer) (W.contents result.0.writer) (stream_at_once plan)
-        × IfSome (R.remaining input) (λ all. all ≡ bytes) }
-    ensures quiet { result.1 ≡ 0 → Keeps (E.contents faults.old) (E.contents faults.new) }
+    // The plan's bytes are those of the input, all of them, where the reader tells its bytes.
+    ensures applied { result.1 ≤ 1 → OfInput (R.remaining input) (λ bytes.
+        HasApplied (record { plan = bytes; script = option_copied script.entry; hooks = rules_of registry.now })
+        (options_of settings.now) (sight_of W.contents output) (sight_of W.contents result.0) result.1) }
     ensures refused { result.1 ≡ 2 → Keeps (W.contents output.writer) (W.contents result.0.writer) }
-    ensures statuses { (result.1 ≡ 0) ⊎ ((result.1 ≡ 2) ⊎ (result.1 ≡ 3)) }
+    ensures cut_off { result.1 ≡ 3 → Keeps (W.contents output.writer) (W.contents result.0.writer)
+        ⊎ OfInput (R.remaining input) (λ bytes.
+        HasBegun (record { plan = bytes; script = option_copied script.entry; hooks = rules_of registry.now })
+        (options_of settings.now) (W.contents output.writer) (W.contents result.0.writer)) }
+    ensures quiet { result.1 ≤ 1 → Keeps (E.contents faults.old) (E.contents faults.new) }
+    ensures statuses { result.1 ≤ 3 }
 {
-    run_input(rt, alloc, read_all(alloc, input), output, faults)
+    let input = read_all(alloc, input);
+    run_input(rt, alloc, settings, registry, script, input, output, faults)
 }
 
 /// The same for an input that was read, or was not.
 pub fn run_input<W: Write + Drop, E: Write, T: Threads + Wait + Sync>(
     rt: &T,
     alloc: Global,
+    settings: &Settings,
+    registry: &Registry,
+    script: Option<&[u8]>,
     input: Result<Vec<u8>, InputFault>,
     output: StdSink<W>,
     faults: &mut E,
 ) -> (StdSink<W>, u8)
     requires { output.failures < 2 ^ 64 - 1 }
-    ensures stream { IfOk input (λ bytes. result.1 ≡ 0 → (plan : SavedPlan) × (plan_of bytes.items ≡ Ok plan)
-        × Appends (W.contents output.writer) (W.contents result.0.writer) (stream_at_once plan)) }
-    ensures unread { IfErr input (λ fault. result.1 ≡ input_status_of fault) }
-    ensures quiet { result.1 ≡ 0 → Keeps (E.contents faults.old) (E.contents faults.new) }
+    ensures applied { IfOk input (λ bytes. result.1 ≤ 1 →
+        HasApplied (record { plan = bytes.items; script = option_copied script.entry; hooks = rules_of registry.now })
+        (options_of settings.now) (sight_of W.contents output) (sight_of W.contents result.0) result.1) }
     ensures refused { result.1 ≡ 2 → Keeps (W.contents output.writer) (W.contents result.0.writer) }
-    ensures statuses { (result.1 ≡ 0) ⊎ ((result.1 ≡ 2) ⊎ (result.1 ≡ 3)) }
+    ensures cut_off { IfOk input (λ bytes. result.1 ≡ 3 → Keeps (W.contents output.writer) (W.contents result.0.writer)
+        ⊎ HasBegun (record { plan = bytes.items; script = option_copied script.entry; hooks = rules_of registry.now })
+        (options_of settings.now) (W.contents output.writer) (W.contents result.0.writer)) }
+    ensures unread { IfErr input (λ fault. result.1 ≡ input_status_of fault) }
+    ensures untouched { OnErr input (Keeps (W.contents output.writer) (W.contents result.0.writer)) }
+    ensures quiet { result.1 ≤ 1 → Keeps (E.contents faults.old) (E.contents faults.new) }
+    ensures statuses { result.1 ≤ 3 }
 {
     match input {
-        Ok(bytes) => run_bytes(rt, alloc, &bytes, output, faults),
+        Ok(bytes) => run_bytes(
+            rt, alloc, settings, registry, script, &bytes, output, faults,
+        ),
         Err(fault) => {
             report(faults, fault);
             (output, input_status(fault))
@@ -72,46 +94,71 @@ pub fn run_input<W: Write + Drop, E: Write, T: Threads + Wait + Sync>(
     }
 }
 
-/// The same for bytes. Status 2 is answered only where they are no plan, and always where there are too many.
+/// The same for bytes. Status 2 is answered only where they are no plan, the script is none for it, or the settings are
+/// out of range, and always where there are too many.
 pub fn run_bytes<W: Write + Drop, E: Write, T: Threads + Wait + Sync>(
     rt: &T,
     alloc: Global,
+    settings: &Settings,
+    registry: &Registry,
+    script: Option<&[u8]>,
     bytes: &[u8],
     output: StdSink<W>,
     faults: &mut E,
 ) -> (StdSink<W>, u8)
     requires { output.failures < 2 ^ 64 - 1 }
-    ensures stream { result.1 ≡ 0 → (plan : SavedPlan) × (plan_of bytes.now ≡ Ok plan)
-        × Appends (W.contents output.writer) (W.contents result.0.writer) (stream_at_once plan) }
-    ensures quiet { result.1 ≡ 0 → Keeps (E.contents faults.old) (E.contents faults.new) }
-    ensures refused { result.1 ≡ 2 → (refusal : PlanError) × (plan_of bytes.now ≡ Err refusal)
-        × Keeps (W.contents output.writer) (W.contents result.0.writer) }
+    ensures applied { result.1 ≤ 1 →
+        HasApplied (record { plan = bytes.now; script = option_copied script.entry; hooks = rules_of registry.now })
+        (options_of settings.now) (sight_of W.contents output) (sight_of W.contents result.0) result.1 }
+    ensures refused { result.1 ≡ 2 → (refusal : Refusal) × (refusal_status_of refusal ≡ 2)
+        × WasRefused (record { plan = bytes.now; script = option_copied script.entry; hooks = rules_of registry.now })
+        (options_of settings.now) refusal (sight_of W.contents output) (sight_of W.contents result.0) }
+    ensures kept { result.1 ≡ 2 → Keeps (W.contents output.writer) (W.contents result.0.writer) }
+    ensures cut_off { result.1 ≡ 3 → Keeps (W.contents output.writer) (W.contents result.0.writer)
+        ⊎ HasBegun (record { plan = bytes.now; script = option_copied script.entry; hooks = rules_of registry.now })
+        (options_of settings.now) (W.contents output.writer) (W.contents result.0.writer) }
     ensures large { max_bytes < length bytes.now → result.1 ≡ 2 }
-    ensures statuses { (result.1 ≡ 0) ⊎ ((result.1 ≡ 2) ⊎ (result.1 ≡ 3)) }
+    ensures quiet { result.1 ≤ 1 → Keeps (E.contents faults.old) (E.contents faults.new) }
+    ensures statuses { result.1 ≤ 3 }
 {
-    one_worker_applies_all_changes_in_order();
-    let registry = Registry::new(alloc);
-    let options = Options {
-        workers: 1,
-        capacity: 64,
-        start: Start::zero(),
-        operation: Operation::Apply,
-    };
+    let failures = output.failures();
     let (mut output, result) = apply_bytes(
-        rt, alloc, bytes, None, &registry, options, output, &NoGate,
+        rt,
+        alloc,
+        bytes,
+        script,
+        registry,
+        settings.options(),
+        output,
+        &NoGate,
     );
     match result {
-        Ok(_) => {
+        Ok(run) => {
             if output.flush().is_err() {
                 report(faults, Why::Write);
                 return (output, FAILED);
             }
-            (output, 0)
+            (output, counts_status(&run.counts))
+        }
+        Err(Refusal::Fault(fault)) => {
+            flush_unless_failed(&mut output, failures);
+            report(faults, fault);
+            (output, FAILED)
         }
         Err(refusal) => {
             report(faults, refusal);
             (output, refusal_status(refusal))
         }
+    }
+}
+
+/// Flushes the output where no write has failed since there were so many failures. A flush that fails is dropped.
+fn flush_unless_failed<W: Write + Drop>(output: &mut StdSink<W>, failures: u64)
+    requires { failures < 2 ^ 64 - 1 }
+    ensures { Keeps (W.contents output.old.writer) (W.contents output.new.writer) }
+{
+    if output.failures() == failures {
+        let _ = output.flush();
     }
 }
 

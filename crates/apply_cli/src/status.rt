@@ -1,13 +1,17 @@
-//! The exit statuses, beside 0.
+//! The exit statuses.
 
-ghost use Rattle.std.specs.Prelude.{◌≡◌};
-ghost use Rattle.apply_cli.specs.Status.{input_status_of, refusal_status_of};
+ghost use Rattle.std.specs.Prelude.{◌≡◌, ◌≤◌};
+ghost use Rattle.apply_cli.specs.Status.{counts_status_of, input_status_of, refusal_status_of};
 
 use crate::input_fault::InputFault;
+use apply_events::Counts;
 use apply_plan::{PlanError, ScriptError};
 use apply_run::Refusal;
 
-/// The input could not be read, or is no plan.
+/// A step failed, or was halted.
+const UNFINISHED: u8 = 1;
+
+/// The words, the input or the script could not be read, or are none.
 pub const REFUSED: u8 = 2;
 
 /// Memory was refused, or the output could not be written.
@@ -15,7 +19,8 @@ pub const FAILED: u8 = 3;
 
 /// The status for an input that was not read.
 pub fn input_status(fault: InputFault) -> u8
-    ensures { result ≡ input_status_of fault }
+    ensures status { result ≡ input_status_of fault }
+    ensures bad { (2 ≤ result) × (result ≤ 3) }
 {
     match fault {
         InputFault::Read => REFUSED,
@@ -25,11 +30,24 @@ pub fn input_status(fault: InputFault) -> u8
 
 /// The status for a plan that was not applied, or not to the end.
 pub fn refusal_status(refusal: Refusal) -> u8
-    ensures { result ≡ refusal_status_of refusal }
+    ensures status { result ≡ refusal_status_of refusal }
+    ensures bad { (2 ≤ result) × (result ≤ 3) }
 {
     match refusal {
         Refusal::Plan(PlanError::Memory) | Refusal::Script(ScriptError::Memory) => FAILED,
         Refusal::Plan(_) | Refusal::Script(_) | Refusal::Size => REFUSED,
         Refusal::Fault(_) => FAILED,
+    }
+}
+
+/// The status for a run that has ended well, by how many steps failed and how many were halted.
+pub fn counts_status(counts: &Counts) -> u8
+    ensures status { result ≡ counts_status_of counts.now }
+    ensures good { result ≤ 1 }
+{
+    if counts.failed == 0 && counts.halted == 0 {
+        0
+    } else {
+        UNFINISHED
     }
 }

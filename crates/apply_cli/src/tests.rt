@@ -1,17 +1,26 @@
 //! What no clause says: whole lines as bytes, the texts of faults, readers and writers that fail, and that runs
 //! succeed with ample memory.
 
-ghost use Rattle.std.specs.Prelude.{◌≡◌};
+ghost use Rattle.std.specs.Prelude.{◌≡◌, ◌<◌, ◌-◌, ◌^◌};
 
+mod answers;
 mod faults;
+mod settings;
 mod streams;
+mod words;
 
+use crate::answer::answer_usage;
 use crate::input::read_all;
 use crate::input_fault::InputFault;
-use crate::run::{report, run_first, run_input};
+use crate::run::{report, run_command, run_input};
+use crate::settings::Settings;
 use crate::status::refusal_status;
-use apply_plan::{PlanError, ScriptError};
+use crate::usage::Usage;
+use crate::words::read_words;
+use apply_hooks::{Answer, FnHook, HookCall, Phase, Registry, Verdict};
+use apply_plan::{PlanError, ScriptError, StepKind, Text};
 use apply_run::{Refusal, StdSink};
+use apply_text::{MomentError, Operation, Start};
 use std::alloc::{AllocError, Global};
 use std::io;
 use std::io::{ErrorKind, Read, Write};
@@ -20,17 +29,76 @@ use std::sync::Wait;
 use std::test::Fail;
 use std::thread::Threads;
 
-/// Runs the program on the bytes: the status, what it printed, and what it said of faults.
+/// What no words say.
+fn defaults(alloc: Global) -> Settings {
+    Settings {
+        at: Start::zero(),
+        script: None,
+        workers: 1,
+        queue: 64,
+        operation: Operation::Apply,
+        halts: Vec::new(alloc),
+    }
+}
+
+/// Runs the program as no words say.
+fn run_plain<R: Read + Drop, W: Write + Drop, E: Write, T: Threads + Wait + Sync>(
+    rt: &T,
+    alloc: Global,
+    input: R,
+    output: StdSink<W>,
+    faults: &mut E,
+) -> (StdSink<W>, u8)
+    requires { output.failures < 2 ^ 64 - 1 }
+{
+    let settings = defaults(alloc);
+    let registry = Registry::new(alloc);
+    run_command(rt, alloc, &settings, &registry, None, input, output, faults)
+}
+
+/// Runs the program on texts: the status, what it printed, and what it said of faults.
+fn run_texts<T: Threads + Wait + Sync>(
+    rt: &T,
+    alloc: Global,
+    settings: &Settings,
+    registry: &Registry,
+    script: Option<&[u8]>,
+    plan: &str,
+) -> Result<(u8, String, String), AllocError> {
+    let mut faults = Vec::new(alloc);
+    let (output, status) = run_command(
+        rt,
+        alloc,
+        settings,
+        registry,
+        script,
+        plan.as_bytes(),
+        empty(alloc),
+        &mut faults,
+    );
+    let output = String::from_utf8_lossy(alloc, &output.into_inner())?;
+    let faults = String::from_utf8_lossy(alloc, &faults)?;
+    Ok((status, output, faults))
+}
+
+/// The same as no words say.
 fn run<T: Threads + Wait + Sync>(
     rt: &T,
     alloc: Global,
     plan: &str,
 ) -> Result<(u8, String, String), AllocError> {
-    let mut faults = Vec::new(alloc);
-    let (output, status) = run_first(rt, alloc, plan.as_bytes(), empty(alloc), &mut faults);
-    let output = String::from_utf8_lossy(alloc, &output.into_inner())?;
-    let faults = String::from_utf8_lossy(alloc, &faults)?;
-    Ok((status, output, faults))
+    let settings = defaults(alloc);
+    let registry = Registry::new(alloc);
+    run_texts(rt, alloc, &settings, &registry, None, plan)
+}
+
+/// The words of a text.
+fn words_of(alloc: Global, text: &str) -> Result<Vec<String>, AllocError> {
+    let mut words = Vec::new(alloc);
+    for word in text.split_whitespace() {
+        words.push(String::from_str(alloc, word)?)?;
+    }
+    Ok(words)
 }
 
 /// A sink over memory.

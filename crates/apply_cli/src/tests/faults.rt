@@ -44,7 +44,7 @@ fn a_plan_that_is_too_large_is_refused(rt: HostRuntime) -> Result<(), Fail> {
     let alloc = rt.alloc();
     let blanks = vec![in alloc; b' '; 67_108_866]?;
     let mut faults = Vec::new(alloc);
-    let (output, status) = run_first(&rt, alloc, blanks.as_slice(), empty(alloc), &mut faults);
+    let (output, status) = run_plain(&rt, alloc, blanks.as_slice(), empty(alloc), &mut faults);
     assert_eq!(rt; status, 2);
     assert_eq!(rt; output.into_inner().len(), 0);
     assert!(rt;
@@ -61,7 +61,7 @@ fn a_cut_plan_is_refused(rt: HostRuntime) -> Result<(), Fail> {
     let bytes = ONE_CREATE.as_bytes();
     for end in 0..bytes.len() {
         let mut faults = Vec::new(alloc);
-        let (output, status) = run_first(&rt, alloc, &bytes[..end], empty(alloc), &mut faults);
+        let (output, status) = run_plain(&rt, alloc, &bytes[..end], empty(alloc), &mut faults);
         assert_eq!(rt; status, 2, "cut at {end}");
         assert_eq!(rt; output.into_inner().len(), 0, "cut at {end}");
         assert!(rt;
@@ -147,7 +147,7 @@ fn a_reader_that_fails_is_said_so(rt: HostRuntime) -> Result<(), Fail> {
         fault: ErrorKind::Other,
     };
     let mut faults = Vec::new(alloc);
-    let (output, status) = run_first(&rt, alloc, input, empty(alloc), &mut faults);
+    let (output, status) = run_plain(&rt, alloc, input, empty(alloc), &mut faults);
     assert_eq!(rt; status, 2);
     assert_eq!(rt; output.into_inner().len(), 0);
     assert!(rt; faults.as_slice() == b"applystream: the plan could not be read\n".as_slice());
@@ -168,7 +168,7 @@ fn an_output_that_fails_is_said_so(rt: HostRuntime) -> Result<(), Fail> {
                 fails_to_flush: false,
             };
             let mut faults = Vec::new(alloc);
-            let (output, status) = run_first(
+            let (output, status) = run_plain(
                 &rt,
                 alloc,
                 ONE_CREATE.as_bytes(),
@@ -192,7 +192,7 @@ fn an_output_that_fails_is_said_so(rt: HostRuntime) -> Result<(), Fail> {
             fails_to_flush,
         };
         let mut faults = Vec::new(alloc);
-        let (output, status) = run_first(
+        let (output, status) = run_plain(
             &rt,
             alloc,
             ONE_CREATE.as_bytes(),
@@ -216,7 +216,7 @@ fn a_fault_that_cannot_be_said_is_dropped(rt: HostRuntime) -> Result<(), Fail> {
         room: 0,
         fails_to_flush: true,
     };
-    let (output, status) = run_first(&rt, alloc, b"[]".as_slice(), empty(alloc), &mut faults);
+    let (output, status) = run_plain(&rt, alloc, b"[]".as_slice(), empty(alloc), &mut faults);
     assert_eq!(rt; status, 2);
     assert_eq!(rt; output.into_inner().len(), 0);
     Ok(())
@@ -225,6 +225,8 @@ fn a_fault_that_cannot_be_said_is_dropped(rt: HostRuntime) -> Result<(), Fail> {
 #[test]
 fn each_answer_of_reading_has_its_status(rt: HostRuntime) -> Result<(), Fail> {
     let alloc = rt.alloc();
+    let settings = defaults(alloc);
+    let registry = Registry::new(alloc);
     for (fault, wanted, said) in [
         (
             InputFault::Read,
@@ -234,7 +236,16 @@ fn each_answer_of_reading_has_its_status(rt: HostRuntime) -> Result<(), Fail> {
         (InputFault::Memory, 3, "applystream: out of memory\n"),
     ] {
         let mut faults = Vec::new(alloc);
-        let (output, status) = run_input(&rt, alloc, Err(fault), empty(alloc), &mut faults);
+        let (output, status) = run_input(
+            &rt,
+            alloc,
+            &settings,
+            &registry,
+            None,
+            Err(fault),
+            empty(alloc),
+            &mut faults,
+        );
         assert_eq!(rt; status, wanted);
         assert_eq!(rt; output.into_inner().len(), 0);
         assert!(rt; faults.as_slice() == said.as_bytes(), "at {said}");

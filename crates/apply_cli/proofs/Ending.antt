@@ -1,0 +1,156 @@
+-- From how a run has ended to how the program has.
+use Rattle.std.proofs.Common.{◌≡◌, ◌≤◌, ◌<◌, ◌⊎◌, ◌↔◌, inl, inr, ℕ, zero, suc, List, [], ◌++◌, length, append_assoc, nat_lt, if◌then◌else◌, Option, Result, Ok, Err, IfOk, IfErr, sym, ap, ◌∙◌, subst, arith, ⊎_elim}
+use Rattle.std.specs.Io.KnownBytes.{Keeps}
+use Rattle.std.proofs.KnownBytes.{Appends-kept, Keeps-refl}
+use Rattle.std.proofs.lemmas.List.{append-nil}
+use Rattle.std.proofs.lemmas.Bool.{lt-ltb}
+use mathlib.Core.List.{IsPrefix}
+use Rattle.apply_plan.specs.declared.plan.plan_error.PlanError.{PlanError}
+use Rattle.apply_plan.specs.declared.plan.plan_error.PlanError.TheVariants as plan_error
+use Rattle.apply_plan.specs.Json.{max_bytes}
+use Rattle.apply_plan.specs.Plan.SavedPlan.{SavedPlan, plan_of}
+use Rattle.apply_plan.specs.Script.Outcomes.{Outcomes}
+use Rattle.apply_events.specs.declared.event.Event.{Event}
+use Rattle.apply_events.specs.OfWorker.{of_worker}
+use Rattle.apply_events.specs.Step.{Work}
+use Rattle.apply_events.specs.Totals.{totals_of}
+use Rattle.apply_text.specs.Latest.{latest_of}
+use Rattle.apply_text.specs.Lines.{summary_text}
+use Rattle.apply_run.specs.Applied.{IsApplied, IsAppliedInPart}
+use Rattle.apply_run.specs.Bytes.{Given, IsRead, WasApplied, WasRefused}
+use Rattle.apply_run.specs.declared.options.Options.{Options}
+use Rattle.apply_run.specs.declared.refusal.Refusal.{Refusal}
+use Rattle.apply_run.specs.declared.refusal.Refusal.TheVariants as refusal
+use Rattle.apply_run.specs.declared.report.Report.{Report}
+use Rattle.apply_run.specs.declared.why.Why.{Why}
+use Rattle.apply_run.specs.declared.why.Why.TheVariants as why
+use Rattle.apply_run.specs.Run.{HasFailed, Sight, WasCutOff, stream_for}
+use Rattle.apply_cli.specs.Command.{HasApplied, HasBegun}
+use Rattle.apply_cli.specs.Status.{counts_status_of, refusal_status_of, unfinished}
+use Rattle.apply_cli.proofs.Front.{too_large}
+
+told_by : (n status : ℕ) → status ≡ (if nat_lt 0 n then 1 else 0) → (status ≡ 1) ↔ (0 < n)
+told_by zero status is = ((λ e. absurd (omega arith)), (λ l. absurd (omega arith)))
+told_by (suc n) status is = ((λ _. omega arith), (λ _. is ∙ ap (λ b. if b then 1 else 0) (lt-ltb 0 (suc n) (omega arith))))
+
+-- the whole stream was written, and a flush kept it
+pub applied_kept : (given : Given) (options : Options) (report : Report) (before after after' : Sight) (status : ℕ) → Keeps after.bytes after'.bytes → after'.failed ≡ after.failed → status ≡ counts_status_of report.counts
+    → WasApplied given options report before after → HasApplied given options before after' status
+applied_kept given options report before after after' status kept failed is h = record {
+  report = report;
+  applied = record {
+    plan = h.plan;
+    script = h.script;
+    read = h.read;
+    sizes = h.sizes;
+    streamed = record {
+      lists = h.streamed.lists;
+      events = h.streamed.events;
+      applied = h.streamed.applied;
+      whole = record {
+        delivered = record {
+          counts = h.streamed.whole.delivered.counts;
+          taken = h.streamed.whole.delivered.taken;
+          written = h.streamed.whole.delivered.written;
+          appended = Appends-kept before.bytes after.bytes after'.bytes (stream_for (record { plan = h.plan; script = h.script; hooks = given.hooks }) options h.streamed.events) h.streamed.whole.delivered.appended kept;
+        };
+        failed = failed ∙ h.streamed.whole.failed;
+      };
+    };
+  };
+  told = told_by (unfinished report.counts) status is;
+}
+
+prefix_same : {X : Type 0} → (xs : List X) → IsPrefix xs xs
+prefix_same xs = ([], append-nil xs)
+
+in_part : (work : Work) (workers : ℕ) (lists : List (List ℕ)) (events : List Event) → IsApplied work workers lists events → IsAppliedInPart work workers lists events
+in_part work workers lists events h = record {
+  dealt_out = h.dealt_out;
+  told = record { named = h.told.named; parts = λ w low. subst (IsPrefix (of_worker w events)) (h.told.parts w low) (prefix_same (of_worker w events)) };
+}
+
+pub begun_of_applied : (given : Given) (options : Options) (report : Report) (before after : Sight) (bytes : Option (List ℕ)) → Keeps after.bytes bytes → WasApplied given options report before after → HasBegun given options before.bytes bytes
+begun_of_applied given options report before after bytes kept h =
+    let work : Work = record { plan = h.plan; script = h.script; hooks = given.hooks } in
+    let all = stream_for work options h.streamed.events in
+    record {
+      plan = h.plan;
+      script = h.script;
+      read = h.read;
+      lists = h.streamed.lists;
+      events = h.streamed.events;
+      applied = in_part work options.workers h.streamed.lists h.streamed.events h.streamed.applied;
+      part = all;
+      is_prefix = prefix_same all;
+      appended = Appends-kept before.bytes after.bytes bytes all h.streamed.whole.delivered.appended kept;
+    }
+
+-- a prefix of the lines is one of the stream
+begun_of_cut_off : (failed : ℕ) (given : Given) (options : Options) (report : Report) (before after : Sight) (bytes : Option (List ℕ)) (plan : SavedPlan) (script : Outcomes) → Keeps after.bytes bytes → IsRead given plan script
+    → WasCutOff failed (record { plan = plan; script = script; hooks = given.hooks }) options report before after → HasBegun given options before.bytes bytes
+begun_of_cut_off failed given options report before after bytes plan script kept read h =
+    let work : Work = record { plan = plan; script = script; hooks = given.hooks } in
+    let events = h.events in
+    let last = summary_text options.start (latest_of events (length events)) options.operation (totals_of plan events) in
+    record {
+      plan = plan;
+      script = script;
+      read = read;
+      lists = h.lists;
+      events = events;
+      applied = h.applied;
+      part = h.part.part;
+      is_prefix = (h.part.is_prefix.0 ++ last, sym (append_assoc h.part.part h.part.is_prefix.0 last) ∙ ap (λ l. l ++ last) h.part.is_prefix.1);
+      appended = Appends-kept before.bytes after.bytes bytes h.part.part h.part.delivered.appended kept;
+    }
+
+begun_of_fault : (why : Why) (given : Given) (options : Options) (report : Report) (before after : Sight) (bytes : Option (List ℕ)) (plan : SavedPlan) (script : Outcomes) → Keeps after.bytes bytes → IsRead given plan script
+    → HasFailed why (record { plan = plan; script = script; hooks = given.hooks }) options report before after → Keeps before.bytes bytes ⊎ HasBegun given options before.bytes bytes
+begun_of_fault why.Write given options report before after bytes plan script kept read h = inr (record {
+  plan = plan;
+  script = script;
+  read = read;
+  lists = h.lists;
+  events = h.events;
+  applied = in_part (record { plan = plan; script = script; hooks = given.hooks }) options.workers h.lists h.events h.applied;
+  part = h.part.part;
+  is_prefix = h.part.is_prefix;
+  appended = Appends-kept before.bytes after.bytes bytes h.part.part h.part.delivered.appended kept;
+})
+begun_of_fault why.Workers given options report before after bytes plan script kept read h = inl (subst (λ s. Keeps s.bytes bytes) h.same kept)
+begun_of_fault why.Memory given options report before after bytes plan script kept read h = inr (begun_of_cut_off 0 given options report before after bytes plan script kept read h)
+begun_of_fault why.Bus given options report before after bytes plan script kept read h = inr (begun_of_cut_off h.failed given options report before after bytes plan script kept read h.cut_off)
+
+-- the output is as it was, or grew by a prefix of the stream
+pub begun_of_refused : (given : Given) (options : Options) (r : Refusal) (before after : Sight) (bytes : Option (List ℕ)) → Keeps after.bytes bytes → WasRefused given options r before after → Keeps before.bytes bytes ⊎ HasBegun given options before.bytes bytes
+begun_of_refused given options (refusal.Plan r) before after bytes kept h = inl (subst (λ s. Keeps s.bytes bytes) h.1 kept)
+begun_of_refused given options (refusal.Script r) before after bytes kept h = inl (subst (λ s. Keeps s.bytes bytes) h.3 kept)
+begun_of_refused given options refusal.Size before after bytes kept h = inl (subst (λ s. Keeps s.bytes bytes) h.4 kept)
+begun_of_refused given options (refusal.Fault fault) before after bytes kept h = begun_of_fault fault.why given options fault.report before after bytes h.0 h.1 kept h.2 h.4
+
+-- with 2 the output is as it was
+pub kept_of_refused : (given : Given) (options : Options) (r : Refusal) (before after : Sight) → refusal_status_of r ≡ 2 → WasRefused given options r before after → Keeps before.bytes after.bytes
+kept_of_refused given options (refusal.Plan r) before after is h = subst (λ s. Keeps s.bytes after.bytes) h.1 (Keeps-refl after.bytes)
+kept_of_refused given options (refusal.Script r) before after is h = subst (λ s. Keeps s.bytes after.bytes) h.3 (Keeps-refl after.bytes)
+kept_of_refused given options refusal.Size before after is h = subst (λ s. Keeps s.bytes after.bytes) h.4 (Keeps-refl after.bytes)
+kept_of_refused given options (refusal.Fault fault) before after is h = absurd (omega arith)
+
+-- too many bytes are refused with 2
+pub refused_large : (given : Given) (options : Options) (r : Refusal) (before after : Sight) → WasRefused given options r before after → max_bytes < length given.plan → refusal_status_of r ≡ 2
+refused_large given options (refusal.Plan r) before after h long =
+    let refused = too_large given.plan long in
+    ⊎_elim
+    (λ (m : (r ≡ plan_error.Memory) × (length given.plan ≤ max_bytes)). let short = m.1 in absurd (omega arith))
+    (λ (is : plan_of given.plan ≡ Err r). let same : r ≡ plan_error.TooLarge = let both = sym is ∙ refused in cc in ap (λ (e : PlanError). refusal_status_of (refusal.Plan e)) same)
+    h.0
+refused_large given options (refusal.Script r) before after h long = let refused = too_large given.plan long in let read = h.1 in absurd cc
+refused_large given options refusal.Size before after h long = let refused = too_large given.plan long in let read = h.2.plan_is in absurd cc
+refused_large given options (refusal.Fault fault) before after h long = let refused = too_large given.plan long in let read = h.2.plan_is in absurd cc
+
+-- what is so of an Ok or an Err is so of the value in it, also at an equal second argument
+pub at_ok : {A E X : Type 0} → (r : Result A E) (x : A) (o o' : X) (P : X → A → Type 0) → r ≡ Ok x → o ≡ o' → IfOk r (P o) → P o' x
+at_ok r x o o' P is same h = subst (λ s. P s x) same (subst (λ s. IfOk s (P o)) is h)
+
+pub at_err : {A E X : Type 0} → (r : Result A E) (e : E) (o o' : X) (P : X → E → Type 0) → r ≡ Err e → o ≡ o' → IfErr r (P o) → P o' e
+at_err r e o o' P is same h = subst (λ s. P s e) same (subst (λ s. IfErr s (P o)) is h)

@@ -1,0 +1,40 @@
+-- How the program has ended.
+use Rattle.std.specs.Prelude.{◌≡◌, ◌<◌, ◌↔◌, ℕ, List, Option, IfSome}
+use Rattle.std.specs.Io.KnownBytes.{Appends}
+use mathlib.Core.List.{IsPrefix}
+use Rattle.apply_plan.specs.Plan.SavedPlan.{SavedPlan}
+use Rattle.apply_plan.specs.Script.Outcomes.{Outcomes}
+use Rattle.apply_events.specs.declared.event.Event.{Event}
+use Rattle.apply_run.specs.Applied.{IsAppliedInPart}
+use Rattle.apply_run.specs.Bytes.{Given, IsRead, WasApplied}
+use Rattle.apply_run.specs.declared.options.Options.{Options}
+use Rattle.apply_run.specs.declared.report.Report.{Report}
+use Rattle.apply_run.specs.Run.{Sight, stream_for}
+use Rattle.apply_run.specs.Sinks.{OverWriter}
+use Rattle.apply_cli.specs.Status.{unfinished}
+
+-- the output, as the run sees it, where the writer tells these contents
+abbrev pub sight_of : {W : Type 0} → (contents : W → Option (List ℕ)) → OverWriter W → Sight
+sight_of contents output = record { bytes = contents output.writer; failed = output.failures }
+
+-- what was given was applied, the output has all of its stream behind the bytes that it had, and the status is 1 exactly where a step failed or was halted
+pub record HasApplied (given : Given) (options : Options) (before after : Sight) (status : ℕ) : Type 0 where
+  pub report : Report
+  pub applied : WasApplied given options report before after
+  pub told : (status ≡ 1) ↔ (0 < unfinished report.counts)
+
+-- what was given was applied, or a part of it, and the output has a prefix of the stream behind the bytes that it had
+pub record HasBegun (given : Given) (options : Options) (before after : Option (List ℕ)) : Type 0 where
+  pub plan : SavedPlan
+  pub script : Outcomes
+  pub read : IsRead given plan script
+  pub lists : List (List ℕ)
+  pub events : List Event
+  pub applied : IsAppliedInPart (record { plan = plan; script = script; hooks = given.hooks }) options.workers lists events
+  pub part : List ℕ
+  pub is_prefix : IsPrefix part (stream_for (record { plan = plan; script = script; hooks = given.hooks }) options events)
+  pub appended : Appends before after part
+
+-- it is so of some bytes, which are those of the input, where it tells them
+abbrev pub OfInput : (known : Option (List ℕ)) → (List ℕ → Type 0) → Type 0
+OfInput known P = (bytes : List ℕ) × P bytes × IfSome known (λ all. all ≡ bytes)

@@ -1,0 +1,45 @@
+//! What is answered to words that say no settings.
+
+ghost use Rattle.std.specs.Prelude.{◌≡◌, ◌≤◌};
+ghost use Rattle.std.specs.Io.KnownBytes.{Keeps};
+ghost use Rattle.apply_cli.specs.Status.{usage_status_of};
+
+use crate::run::report;
+use crate::status::{FAILED, REFUSED};
+use crate::usage::Usage;
+use apply_hooks::HookError;
+use std::io::Write;
+
+/// Says why the words are not followed, and answers the exit status: 0 for help, 3 where memory was refused, else 2.
+///
+/// Help is printed on `out`, everything else on `faults`; the other one is as it was. A text that cannot be written is
+/// dropped.
+pub fn answer_usage<W: Write, E: Write>(usage: &Usage, out: &mut W, faults: &mut E) -> u8
+    ensures status { result ≡ usage_status_of usage.now }
+    ensures quiet { result ≡ 0 → Keeps (E.contents faults.old) (E.contents faults.new) }
+    ensures refused { 2 ≤ result → Keeps (W.contents out.old) (W.contents out.new) }
+{
+    match usage {
+        Usage::Help(text) => {
+            let _ = out.write_all(text.as_str().as_bytes());
+            let _ = out.flush();
+            0
+        }
+        Usage::Words(text) => {
+            let _ = faults.write_all(text.as_str().as_bytes());
+            REFUSED
+        }
+        Usage::Moment(error) => {
+            report(faults, *error);
+            REFUSED
+        }
+        Usage::Hooks => {
+            report(faults, HookError::Full);
+            REFUSED
+        }
+        Usage::Memory => {
+            report(faults, HookError::Memory);
+            FAILED
+        }
+    }
+}

@@ -1,0 +1,157 @@
+//! Runs by settings: scripts, hooks, workers, moments and what the apply is for.
+
+ghost use Rattle.std.specs.Prelude.{◌≡◌};
+
+use super::*;
+use crate::halting;
+
+/// A plan without changes.
+const EMPTY: &str = r#"{"format_version":"1.0"}"#;
+
+/// A replacement that creates first.
+const REPLACED: &str =
+    r#"{"format_version":"1.2","terraform_version":"1.9.0","resource_changes":[{"address":"null_resource.a","mode":"managed","type":"null_resource","name":"a","change":{"actions":["create","delete"]}}]}"#;
+
+/// Its second step fails.
+const BOOM: &[u8] =
+    br#"{"changes":[{"address":"null_resource.a","steps":[{"seconds":0},{"seconds":4,"failed":{"summary":"boom"}}]}]}"#;
+
+/// How the stream of both ends.
+const BOOM_END: &str =
+    r#"{"@level":"error","@message":"Error: boom","@module":"terraform.ui","@timestamp":"1970-01-01T00:00:04Z","diagnostic":{"address":"null_resource.a","detail":"","severity":"error","summary":"boom"},"type":"diagnostic"}
+{"@level":"info","@message":"Apply complete! Resources: 1 added, 0 changed, 0 destroyed.","@module":"terraform.ui","@timestamp":"1970-01-01T00:00:04Z","changes":{"add":1,"change":0,"operation":"apply","remove":0},"type":"change_summary"}
+"#;
+
+/// A replacement that destroys first.
+const REPLACEMENT: &str =
+    r#"{"format_version":"1.2","terraform_version":"1.9.0","resource_changes":[{"address":"null_resource.a","mode":"managed","type":"null_resource","name":"a","change":{"actions":["delete","create"],"before":{"id":"41"}}}]}"#;
+
+/// Its stream where deletes are halted.
+const HALTED: &str =
+    r#"{"@level":"info","@message":"Terraform 1.9.0","@module":"terraform.ui","@timestamp":"1970-01-01T00:00:00Z","terraform":"1.9.0","type":"version","ui":"1.0"}
+{"@level":"error","@message":"Error: execution halted","@module":"terraform.ui","@timestamp":"1970-01-01T00:00:00Z","diagnostic":{"address":"null_resource.a","detail":"Hook 0 answered Halt before delete.","severity":"error","summary":"execution halted"},"type":"diagnostic"}
+{"@level":"info","@message":"Apply complete! Resources: 0 added, 0 changed, 0 destroyed.","@module":"terraform.ui","@timestamp":"1970-01-01T00:00:00Z","changes":{"add":0,"change":0,"operation":"apply","remove":0},"type":"change_summary"}
+"#;
+
+/// The stream of no changes, at a start.
+const STARTED: &str =
+    r#"{"@level":"info","@message":"Terraform 0.0.0","@module":"terraform.ui","@timestamp":"2021-05-25T17:32:41Z","terraform":"0.0.0","type":"version","ui":"1.0"}
+{"@level":"info","@message":"Apply complete! Resources: 0 added, 0 changed, 0 destroyed.","@module":"terraform.ui","@timestamp":"2021-05-25T17:32:41Z","changes":{"add":0,"change":0,"operation":"apply","remove":0},"type":"change_summary"}
+"#;
+
+/// Two deletes.
+const DELETES: &str =
+    r#"{"format_version":"1.2","terraform_version":"1.9.0","resource_changes":[{"address":"null_resource.a","mode":"managed","type":"null_resource","name":"a","change":{"actions":["delete"]}},{"address":"null_resource.b","mode":"managed","type":"null_resource","name":"b","change":{"actions":["delete"]}}]}"#;
+
+/// How their stream ends where the apply is a destroy.
+const DESTROYED: &str =
+    r#"{"@level":"info","@message":"Destroy complete! Resources: 2 destroyed.","@module":"terraform.ui","@timestamp":"1970-01-01T00:00:00Z","changes":{"add":0,"change":0,"operation":"destroy","remove":2},"type":"change_summary"}
+"#;
+
+/// The settings of words that say some.
+fn settings_of(rt: &impl Abort, alloc: Global, words: &str) -> Result<Settings, AllocError> {
+    let words = words_of(alloc, words)?;
+    match read_words(alloc, &words) {
+        Ok(settings) => Ok(settings),
+        Err(usage) => panic!(rt; "{usage:?}"),
+    }
+}
+
+#[test]
+fn a_step_that_fails_is_told_by_the_status(rt: HostRuntime) -> Result<(), Fail> {
+    let alloc = rt.alloc();
+    let settings = defaults(alloc);
+    let registry = Registry::new(alloc);
+    let (status, output, faults) = run_texts(
+        &rt,
+        alloc,
+        &settings,
+        &registry,
+        Some(BOOM),
+        REPLACED,
+    )?;
+    assert_eq!(rt; status, 1);
+    assert!(rt; output.ends_with(BOOM_END), "{output}");
+    assert_eq!(rt; faults.as_str(), "");
+    Ok(())
+}
+
+#[test]
+fn a_script_that_is_none_is_refused(rt: HostRuntime) -> Result<(), Fail> {
+    let alloc = rt.alloc();
+    let settings = defaults(alloc);
+    let registry = Registry::new(alloc);
+    let (status, output, faults) = run_texts(
+        &rt,
+        alloc,
+        &settings,
+        &registry,
+        Some(b"{"),
+        REPLACED,
+    )?;
+    assert_eq!(rt; status, 2);
+    assert_eq!(rt; output.as_str(), "");
+    assert_eq!(rt; faults.as_str(), "applystream: the script is not JSON\n");
+    Ok(())
+}
+
+#[test]
+fn sizes_out_of_range_are_refused(rt: HostRuntime) -> Result<(), Fail> {
+    let alloc = rt.alloc();
+    let mut settings = defaults(alloc);
+    settings.workers = 9;
+    let registry = Registry::new(alloc);
+    let (status, output, faults) = run_texts(&rt, alloc, &settings, &registry, None, REPLACED)?;
+    assert_eq!(rt; status, 2);
+    assert_eq!(rt; output.as_str(), "");
+    assert_eq!(rt;
+        faults.as_str(),
+        "applystream: the sizes are out of range\n"
+    );
+    Ok(())
+}
+
+#[test]
+fn a_hook_halts_beside_two_workers(rt: HostRuntime) -> Result<(), Fail> {
+    let alloc = rt.alloc();
+    let settings = settings_of(&rt, alloc, "--workers 2 --halt-before delete")?;
+    let mut registry = Registry::new(alloc);
+    let rules = halting(alloc, Some(StepKind::Delete), "")?;
+    let answer: Answer = Box::new(alloc, |call: &HookCall<'_>| {
+        if call.phase == Phase::Pre && call.kind == StepKind::Delete {
+            Verdict::Halt
+        } else {
+            Verdict::Continue
+        }
+    })?;
+    assert!(rt; registry.add(FnHook::new(rules, answer)).is_ok());
+    let (status, output, faults) = run_texts(&rt, alloc, &settings, &registry, None, REPLACEMENT)?;
+    assert_eq!(rt; status, 1);
+    assert_eq!(rt; output.as_str(), HALTED);
+    assert_eq!(rt; faults.as_str(), "");
+    Ok(())
+}
+
+#[test]
+fn moments_count_from_the_start(rt: HostRuntime) -> Result<(), Fail> {
+    let alloc = rt.alloc();
+    let settings = settings_of(&rt, alloc, "--at 2021-05-25T13:32:41.275359-04:00")?;
+    let registry = Registry::new(alloc);
+    let (status, output, faults) = run_texts(&rt, alloc, &settings, &registry, None, EMPTY)?;
+    assert_eq!(rt; status, 0);
+    assert_eq!(rt; output.as_str(), STARTED);
+    assert_eq!(rt; faults.as_str(), "");
+    Ok(())
+}
+
+#[test]
+fn a_destroy_is_said_at_the_end(rt: HostRuntime) -> Result<(), Fail> {
+    let alloc = rt.alloc();
+    let settings = settings_of(&rt, alloc, "--destroy")?;
+    let registry = Registry::new(alloc);
+    let (status, output, faults) = run_texts(&rt, alloc, &settings, &registry, None, DELETES)?;
+    assert_eq!(rt; status, 0);
+    assert!(rt; output.ends_with(DESTROYED), "{output}");
+    assert_eq!(rt; faults.as_str(), "");
+    Ok(())
+}

@@ -1,0 +1,156 @@
+//! Which words say which settings.
+
+use super::*;
+
+/// Words, and what they say.
+const TABLE: &str =
+    r#" => Settings { at: Start { seconds: 0 }, script: None, workers: 1, queue: 64, operation: Apply, halts: [] }
+--workers 1 => Settings { at: Start { seconds: 0 }, script: None, workers: 1, queue: 64, operation: Apply, halts: [] }
+--workers=8 => Settings { at: Start { seconds: 0 }, script: None, workers: 8, queue: 64, operation: Apply, halts: [] }
+--workers 0 => Words
+--workers 9 => Words
+--workers 264 => Words
+--workers two => Words
+--workers => Words
+--workers 2 --workers 2 => Words
+--queue 1 => Settings { at: Start { seconds: 0 }, script: None, workers: 1, queue: 1, operation: Apply, halts: [] }
+--queue 1024 => Settings { at: Start { seconds: 0 }, script: None, workers: 1, queue: 1024, operation: Apply, halts: [] }
+--queue 0 => Words
+--queue 1025 => Words
+--queue 65537 => Words
+--queue => Words
+--queue 2 --queue 2 => Words
+--at 1970-01-01T00:00:00Z => Settings { at: Start { seconds: 0 }, script: None, workers: 1, queue: 64, operation: Apply, halts: [] }
+--at 2021-05-25T13:32:41.275359-04:00 => Settings { at: Start { seconds: 1621963961 }, script: None, workers: 1, queue: 64, operation: Apply, halts: [] }
+--at 8999-12-31T23:59:59Z => Settings { at: Start { seconds: 221845391999 }, script: None, workers: 1, queue: 64, operation: Apply, halts: [] }
+--at 1969-12-31T23:59:59Z => OutOfRange
+--at 9000-01-01T00:00:00Z => OutOfRange
+--at x => NotAMoment
+--at => Words
+--at x --at x => Words
+--at x --workers 9 => Words
+--script outcomes.json => Settings { at: Start { seconds: 0 }, script: Some(Text { inner: "outcomes.json" }), workers: 1, queue: 64, operation: Apply, halts: [] }
+--script => Words
+--script a --script a => Words
+--destroy => Settings { at: Start { seconds: 0 }, script: None, workers: 1, queue: 64, operation: Destroy, halts: [] }
+--destroy=true => Words
+--destroy --destroy => Words
+--halt-in a --halt-before read => Settings { at: Start { seconds: 0 }, script: None, workers: 1, queue: 64, operation: Apply, halts: [Before(Read), Inside(Text { inner: "a" })] }
+--halt-before create --halt-before update --halt-before delete --halt-before create => Settings { at: Start { seconds: 0 }, script: None, workers: 1, queue: 64, operation: Apply, halts: [Before(Create), Before(Update), Before(Delete), Before(Create)] }
+--halt-in b --halt-in a --halt-in= => Settings { at: Start { seconds: 0 }, script: None, workers: 1, queue: 64, operation: Apply, halts: [Inside(Text { inner: "b" }), Inside(Text { inner: "a" }), Inside(Text { inner: "" })] }
+--halt-in -a => Words
+--halt-in=-a => Settings { at: Start { seconds: 0 }, script: None, workers: 1, queue: 64, operation: Apply, halts: [Inside(Text { inner: "-a" })] }
+--halt-before forget => Words
+--halt-before Read => Words
+--halt-before => Words
+--halt-in => Words
+plan.json => Words
+--plan => Words
+-w 2 => Words
+--version => Words
+--help => Help
+-h => Help
+--help --workers 9 => Help
+--workers 9 --help => Words"#;
+
+/// What the words are answered.
+fn said(alloc: Global, text: &str) -> Result<String, AllocError> {
+    let words = words_of(alloc, text)?;
+    match read_words(alloc, &words) {
+        Ok(settings) => format!(in alloc; "{settings:?}"),
+        Err(Usage::Help(_)) => String::from_str(alloc, "Help"),
+        Err(Usage::Words(_)) => String::from_str(alloc, "Words"),
+        Err(Usage::Moment(error)) => format!(in alloc; "{error:?}"),
+        Err(Usage::Hooks) => String::from_str(alloc, "Hooks"),
+        Err(Usage::Memory) => String::from_str(alloc, "Memory"),
+    }
+}
+
+#[test]
+fn words_say_settings(rt: HostRuntime) -> Result<(), Fail> {
+    let alloc = rt.alloc();
+    for line in TABLE.lines() {
+        let Some((words, wanted)) = line.split_once(" => ") else {
+            panic!(rt; "no mark in {line}");
+        };
+        let answer = said(alloc, words)?;
+        assert_eq!(rt; answer.as_str(), wanted, "{words}");
+    }
+    Ok(())
+}
+
+/// How many halts before deletes, how many inside `a`, and what is answered.
+const HALTS: &str = "32 0 Settings
+33 0 Hooks
+0 32 Settings
+0 33 Hooks
+31 1 Settings
+1 32 Hooks
+40 40 Hooks";
+
+#[test]
+fn there_are_32_halts_at_most(rt: HostRuntime) -> Result<(), Fail> {
+    let alloc = rt.alloc();
+    for line in HALTS.lines() {
+        let mut parts = line.split_whitespace();
+        let before = number(&rt, parts.next());
+        let inside = number(&rt, parts.next());
+        let mut words = String::new(alloc);
+        for _ in 0..inside {
+            words.push_str("--halt-in a ")?;
+        }
+        for _ in 0..before {
+            words.push_str("--halt-before delete ")?;
+        }
+        let answer = said(alloc, words.as_str())?;
+        assert!(rt;
+            answer.starts_with(parts.next().unwrap_or("none")),
+            "{line}: {answer}"
+        );
+    }
+    Ok(())
+}
+
+/// A number of a table.
+fn number(rt: &impl Abort, text: Option<&str>) -> u8 {
+    match text.unwrap_or("none").parse::<u8>() {
+        Ok(number) => number,
+        Err(_) => panic!(rt; "no number"),
+    }
+}
+
+/// What has to stand in the help.
+const IN_HELP: &str = "terraform show -json
+Standard input
+Standard output
+--at <MOMENT>
+[default: 1970-01-01T00:00:00Z]
+8999-12-31T23:59:59Z
+--script <FILE>
+--workers <N>
+1 to 8 [default: 1]
+--queue <N>
+1 to 1024 [default: 64]
+--destroy
+--halt-before <KIND>
+[possible values: create, update, delete, read]
+--halt-in <PREFIX>
+Example
+Exit status:
+  0
+  1
+  2
+  3";
+
+#[test]
+fn help_says_all(rt: HostRuntime) -> Result<(), Fail> {
+    let alloc = rt.alloc();
+    let words = words_of(alloc, "--help")?;
+    let Err(Usage::Help(help)) = read_words(alloc, &words) else {
+        panic!(rt; "no help");
+    };
+    for line in IN_HELP.lines() {
+        assert!(rt; help.as_str().contains(line), "{line}");
+    }
+    Ok(())
+}
