@@ -1,6 +1,7 @@
 -- From how a run has ended to how the program has.
 use Rattle.std.proofs.Common.{◌≡◌, ◌≤◌, ◌<◌, ◌⊎◌, ◌↔◌, inl, inr, ℕ, zero, suc, List, [], ◌++◌, length, append_assoc, nat_lt, if◌then◌else◌, Option, Result, Ok, Err, IfOk, IfErr, sym, ap, ◌∙◌, subst, arith, ⊎_elim}
 use Rattle.std.specs.Io.KnownBytes.{Keeps}
+use Rattle.std.specs.List.{range_with_len}
 use Rattle.std.proofs.KnownBytes.{Appends-kept, Keeps-refl}
 use Rattle.std.proofs.lemmas.List.{append-nil}
 use Rattle.std.proofs.lemmas.Bool.{lt-ltb}
@@ -14,6 +15,7 @@ use Rattle.apply_events.specs.declared.event.Event.{Event}
 use Rattle.apply_events.specs.OfWorker.{of_worker}
 use Rattle.apply_events.specs.Step.{Work}
 use Rattle.apply_events.specs.Totals.{totals_of}
+use Rattle.apply_events.specs.WorkerEvents.{worker_events}
 use Rattle.apply_text.specs.Latest.{latest_of}
 use Rattle.apply_text.specs.Lines.{summary_text}
 use Rattle.apply_run.specs.Applied.{IsApplied, IsAppliedInPart}
@@ -33,10 +35,14 @@ told_by : (n status : ℕ) → status ≡ (if nat_lt 0 n then 1 else 0) → (sta
 told_by zero status is = ((λ e. absurd (omega arith)), (λ l. absurd (omega arith)))
 told_by (suc n) status is = ((λ _. omega arith), (λ _. is ∙ ap (λ b. if b then 1 else 0) (lt-ltb 0 (suc n) (omega arith))))
 
+-- what one worker reports
+abbrev pub OneWorkerInOrder : Type 0
+OneWorkerInOrder = (work : Work) (lists : List (List ℕ)) (events : List Event) → IsApplied work 1 lists events → events ≡ worker_events work 0 (range_with_len 0 (length work.plan.changes))
+
 -- the whole stream was written, and a flush kept it
-pub applied_kept : (given : Given) (options : Options) (report : Report) (before after after' : Sight) (status : ℕ) → Keeps after.bytes after'.bytes → after'.failed ≡ after.failed → status ≡ counts_status_of report.counts
+pub applied_kept : OneWorkerInOrder → (given : Given) (options : Options) (report : Report) (before after after' : Sight) (status : ℕ) → Keeps after.bytes after'.bytes → after'.failed ≡ after.failed → status ≡ counts_status_of report.counts
     → WasApplied given options report before after → HasApplied given options before after' status
-applied_kept given options report before after after' status kept failed is h = record {
+applied_kept in_order given options report before after after' status kept failed is h = record {
   report = report;
   applied = record {
     plan = h.plan;
@@ -58,6 +64,7 @@ applied_kept given options report before after after' status kept failed is h = 
       };
     };
   };
+  alone = λ one. in_order (record { plan = h.plan; script = h.script; hooks = given.hooks }) h.streamed.lists h.streamed.events (subst (λ n. IsApplied (record { plan = h.plan; script = h.script; hooks = given.hooks }) n h.streamed.lists h.streamed.events) one h.streamed.applied);
   told = told_by (unfinished report.counts) status is;
 }
 

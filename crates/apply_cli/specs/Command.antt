@@ -1,10 +1,12 @@
 -- How the program has ended.
-use Rattle.std.specs.Prelude.{◌≡◌, ◌<◌, ◌↔◌, ℕ, List, Option, IfSome}
+use Rattle.std.specs.Prelude.{◌≡◌, ◌<◌, ◌↔◌, ℕ, List, Option, IfSome, length}
+use Rattle.std.specs.List.{range_with_len}
 use Rattle.std.specs.Io.KnownBytes.{Appends}
 use mathlib.Core.List.{IsPrefix}
 use Rattle.apply_plan.specs.Plan.SavedPlan.{SavedPlan}
 use Rattle.apply_plan.specs.Script.Outcomes.{Outcomes}
 use Rattle.apply_events.specs.declared.event.Event.{Event}
+use Rattle.apply_events.specs.WorkerEvents.{worker_events}
 use Rattle.apply_run.specs.Applied.{IsAppliedInPart}
 use Rattle.apply_run.specs.Bytes.{Given, IsRead, WasApplied}
 use Rattle.apply_run.specs.declared.options.Options.{Options}
@@ -17,10 +19,11 @@ use Rattle.apply_cli.specs.Status.{unfinished}
 abbrev pub sight_of : {W : Type 0} → (contents : W → Option (List ℕ)) → OverWriter W → Sight
 sight_of contents output = record { bytes = contents output.writer; failed = output.failures }
 
--- what was given was applied, the output has all of its stream behind the bytes that it had, and the status is 1 exactly where a step failed or was halted
+-- what was given was applied, the output has all of its stream behind the bytes that it had, and the status is 1 exactly where a step failed or was halted; one worker applies all changes in the plan's order, so that the bytes are known
 pub record HasApplied (given : Given) (options : Options) (before after : Sight) (status : ℕ) : Type 0 where
   pub report : Report
   pub applied : WasApplied given options report before after
+  pub alone : options.workers ≡ 1 → applied.streamed.events ≡ worker_events (record { plan = applied.plan; script = applied.script; hooks = given.hooks }) 0 (range_with_len 0 (length applied.plan.changes))
   pub told : (status ≡ 1) ↔ (0 < unfinished report.counts)
 
 -- what was given was applied, or a part of it, and the output has a prefix of the stream behind the bytes that it had

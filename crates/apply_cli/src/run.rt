@@ -16,7 +16,9 @@ use crate::input_fault::InputFault;
 use crate::settings::Settings;
 use crate::status::{FAILED, counts_status, input_status, refusal_status};
 use apply_hooks::Registry;
-use apply_run::{NoGate, Refusal, Sink, StdSink, Why, apply_bytes};
+use apply_run::{
+    NoGate, Refusal, Sink, StdSink, Why, apply_bytes, one_worker_applies_all_changes_in_order,
+};
 use std::alloc::Global;
 use std::fmt::Display;
 use std::io::{Read, Write};
@@ -43,7 +45,8 @@ pub fn run_command<R: Read + Drop, W: Write + Drop, E: Write, T: Threads + Wait 
 ) -> (StdSink<W>, u8)
     requires { output.failures < 2 ^ 64 - 1 }
 
-    // The plan's bytes are those of the input, all of them, where the reader tells its bytes.
+    // The plan's bytes are those of the input, all of them, where the reader tells its bytes; those of the output are known
+    // where one worker applies the changes.
     ensures applied { result.1 ≤ 1 → OfInput (R.remaining input) (λ bytes.
         HasApplied (record { plan = bytes; script = option_copied script.entry; hooks = rules_of registry.now })
         (options_of settings.now) (sight_of W.contents output) (sight_of W.contents result.0) result.1) }
@@ -138,6 +141,7 @@ pub fn run_bytes<W: Write + Drop, E: Write, T: Threads + Wait + Sync>(
                 report(faults, Why::Write);
                 return (output, FAILED);
             }
+            one_worker_applies_all_changes_in_order();
             (output, counts_status(&run.counts))
         }
         Err(Refusal::Fault(fault)) => {

@@ -76,22 +76,39 @@ fn a_step_that_fails_is_told_by_the_status(rt: HostRuntime) -> Result<(), Fail> 
     Ok(())
 }
 
+/// Scripts that are none for it, and what is said of them.
+const REFUSED: &str = r#"{ => the script is not JSON
+{} => the script is malformed
+{"changes":[{"address":"null_resource.a","steps":[{"seconds":0,"id":"7","failed":{"summary":"boom"}}]}]} => script entry 0 is malformed
+{"changes":[{"address":"null_resource.a","steps":[]},{"address":"x.y","steps":[]}]} => script entry 1 names an unknown change
+{"changes":[{"address":"null_resource.a","steps":[]},{"address":"null_resource.a","steps":[]}]} => script entry 1 repeats an earlier entry
+{"changes":[{"address":"null_resource.a","steps":[{"seconds":0},{"seconds":0},{"seconds":0}]}]} => script entry 0 has too many steps
+{"changes":[{"address":"null_resource.a","steps":[{"seconds":86401}]}]} => script entry 0 has a step over 86400 seconds"#;
+
 #[test]
 fn a_script_that_is_none_is_refused(rt: HostRuntime) -> Result<(), Fail> {
     let alloc = rt.alloc();
     let settings = defaults(alloc);
     let registry = Registry::new(alloc);
-    let (status, output, faults) = run_texts(
-        &rt,
-        alloc,
-        &settings,
-        &registry,
-        Some(b"{"),
-        REPLACED,
-    )?;
-    assert_eq!(rt; status, 2);
-    assert_eq!(rt; output.as_str(), "");
-    assert_eq!(rt; faults.as_str(), "applystream: the script is not JSON\n");
+    for line in REFUSED.lines() {
+        let Some((script, wanted)) = line.split_once(" => ") else {
+            panic!(rt; "no mark in {line}");
+        };
+        let (status, output, faults) = run_texts(
+            &rt,
+            alloc,
+            &settings,
+            &registry,
+            Some(script.as_bytes()),
+            REPLACED,
+        )?;
+        assert_eq!(rt; status, 2, "{script}");
+        assert_eq!(rt; output.as_str(), "", "{script}");
+        let said = faults
+            .strip_prefix("applystream: ")
+            .and_then(|text| text.strip_suffix("\n"));
+        assert_eq!(rt; said, Some(wanted), "{script}");
+    }
     Ok(())
 }
 

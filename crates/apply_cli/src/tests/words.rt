@@ -11,6 +11,8 @@ const TABLE: &str =
 --workers 9 => Words
 --workers 264 => Words
 --workers two => Words
+--workers -1 => Words
+--workers=-1 => Words
 --workers => Words
 --workers 2 --workers 2 => Words
 --queue 1 => Settings { at: Start { seconds: 0 }, script: None, workers: 1, queue: 1, operation: Apply, halts: [] }
@@ -18,6 +20,7 @@ const TABLE: &str =
 --queue 0 => Words
 --queue 1025 => Words
 --queue 65537 => Words
+--queue -1 => Words
 --queue => Words
 --queue 2 --queue 2 => Words
 --at 1970-01-01T00:00:00Z => Settings { at: Start { seconds: 0 }, script: None, workers: 1, queue: 64, operation: Apply, halts: [] }
@@ -27,10 +30,14 @@ const TABLE: &str =
 --at 9000-01-01T00:00:00Z => OutOfRange
 --at x => NotAMoment
 --at => Words
+--at -1 => Words
+--at=-1 => NotAMoment
 --at x --at x => Words
 --at x --workers 9 => Words
 --script outcomes.json => Settings { at: Start { seconds: 0 }, script: Some(Text { inner: "outcomes.json" }), workers: 1, queue: 64, operation: Apply, halts: [] }
 --script => Words
+--script -a => Words
+--script=-a => Settings { at: Start { seconds: 0 }, script: Some(Text { inner: "-a" }), workers: 1, queue: 64, operation: Apply, halts: [] }
 --script a --script a => Words
 --destroy => Settings { at: Start { seconds: 0 }, script: None, workers: 1, queue: 64, operation: Destroy, halts: [] }
 --destroy=true => Words
@@ -42,6 +49,7 @@ const TABLE: &str =
 --halt-in=-a => Settings { at: Start { seconds: 0 }, script: None, workers: 1, queue: 64, operation: Apply, halts: [Inside(Text { inner: "-a" })] }
 --halt-before forget => Words
 --halt-before Read => Words
+--halt-before -a => Words
 --halt-before => Words
 --halt-in => Words
 plan.json => Words

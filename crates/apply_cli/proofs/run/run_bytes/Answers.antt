@@ -45,7 +45,7 @@ returns-else-is_err-clause-applied g c = λ _.
     let before : Sight = sight_of g.W.Write.contents c.args.output in
     let after : Sight = sight_of g.W.Write.contents c.apply_bytes-output.result.0 in
     let applied = at_ok c.apply_bytes-output.result.1 c.in-Ok.run' c.options.result options (λ o r. WasApplied given o r before after) c.in-Ok.is c.options.ensures c.apply_bytes-output.ensures.ok in
-    applied_kept given options c.in-Ok.run' before after (sight_of g.W.Write.contents c.flush.new.self) c.counts_status.result c.flush.ensures.bytes (search rules) c.counts_status.ensures.status applied
+    applied_kept c.one_worker_applies_all_changes_in_order.ensures given options c.in-Ok.run' before after (sight_of g.W.Write.contents c.flush.new.self) c.counts_status.result c.flush.ensures.bytes (search rules) c.counts_status.ensures.status applied
 
 pub returns-in-Err-Fault-clause-cut_off : goal.returns-in-Err-Fault-clause-cut_off
 returns-in-Err-Fault-clause-cut_off g c = λ _.
