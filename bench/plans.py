@@ -53,7 +53,7 @@ def values(number):
         "price_limit": number / 7,
         "root_block_device": [{"device_name": "/dev/xvda", "encrypted": True, "volume_size": number % 500}],
         "tags": {"Name": f"item-{number}", "owner": "platform", "größe": "\u00fc\\\"\n"},
-        "user_data": "#!/bin/sh\nset -eu\nexec /opt/agent --path '/var/lib/agent'\n" * 3,
+        "user_data": "#!/bin/sh\nset -eu\nexec agent --path data\n" * 3,
         "vpc_security_group_ids": [f"sg-{number * 7:017x}", f"sg-{number * 11:017x}"],
     }
 

@@ -1,13 +1,13 @@
 //! The bytes of the input.
 
-ghost use Rattle.std.specs.Prelude.{◌≡◌, ◌<◌, ◌≤◌, ◌+◌, List, ℕ, ◌++◌, IfOk, IfSome, IsTrue, length, take};
+ghost use Rattle.std.specs.Prelude.{◌≡◌, ◌<◌, ◌≤◌, ◌+◌, List, ℕ, ◌++◌, IfOk, IfSome, length, take};
 ghost use Rattle.std.specs.Io.KnownBytes.{Consumes, IsAtEnd};
 ghost use Rattle.apply_plan.specs.Json.{max_bytes};
 
 use crate::input_fault::InputFault;
 use apply_plan::MAX_BYTES;
 use std::alloc::{AllocError, Global};
-use std::io::{ErrorKind, Read};
+use std::io::Read;
 
 /// One byte more than a plan may have, so that a longer one is seen to be too long.
 const MAX_READ: usize = MAX_BYTES + 1;
@@ -15,8 +15,7 @@ const MAX_READ: usize = MAX_BYTES + 1;
 /// How many bytes are asked for at once.
 const BUFFER_LEN: usize = 65_536;
 
-/// The bytes of the input up to its end, and no more than 67,108,865 of them. A read that was interrupted is
-/// tried again. `Err` where another read fails, or memory is refused.
+/// The bytes of the input up to its end, and no more than 67,108,865 of them. `Err` where a read fails, or memory is refused.
 pub fn read_all<R: Read + Drop>(alloc: Global, mut input: R) -> Result<Vec<u8>, InputFault>
     ensures bytes { IfOk result
         (λ bytes. IfSome (R.remaining input) (λ all. bytes.items ≡ take (max_bytes + 1) all)) }
@@ -46,37 +45,34 @@ fn read_front<R: Read>(
     ensures few { IfOk result (λ bytes. length bytes.items ≤ limit) }
 {
     let mut bytes = Vec::new(alloc);
-    for _ in 0..u64::MAX {
+    while bytes.len() < limit {
         let room = buffer.len().min(limit - bytes.len());
-        if room == 0 {
-            return Ok(bytes);
-        }
-        if read_some(input, &mut buffer[..room], &mut bytes)? {
-            return Ok(bytes);
+        if read_some(input, &mut buffer[..room], &mut bytes)? == 0 {
+            break;
         }
     }
-    Err(InputFault::Read)
+    Ok(bytes)
 }
 
-/// Appends what one read gives, and says whether that was the end.
+/// Appends what one read gives, and says how many bytes that were: none at the end.
 fn read_some<R: Read>(
     input: &mut R,
     buffer: &mut [u8],
     bytes: &mut Vec<u8>,
-) -> Result<bool, InputFault>
+) -> Result<usize, InputFault>
     requires { 0 < length buffer.old }
-    ensures { IfOk result (λ ended. (piece : List ℕ)
+    ensures { IfOk result (λ count. (piece : List ℕ)
         × (bytes.new.items ≡ bytes.old.items ++ piece)
-        × (length piece ≤ length buffer.old)
+        × (length piece ≡ count)
+        × (count ≤ length buffer.old)
         × Consumes (R.remaining input.old) (R.remaining input.new) piece
-        × (IsTrue ended → IsAtEnd (R.remaining input.new))) }
+        × (count ≡ 0 → IsAtEnd (R.remaining input.new))) }
 {
     match input.read(buffer) {
         Ok(count) => {
             bytes.extend_from_slice(&buffer[..count])?;
-            Ok(count == 0)
+            Ok(count)
         }
-        Err(error) if error.kind() == ErrorKind::Interrupted => Ok(false),
         Err(_) => Err(InputFault::Read),
     }
 }

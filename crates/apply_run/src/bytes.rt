@@ -1,11 +1,11 @@
 //! The run of a plan that is read from bytes.
 
-ghost use Rattle.std.specs.Prelude.{◌≡◌, ◌<◌, ◌-◌, ◌^◌, IfErr, IfOk};
+ghost use Rattle.std.specs.Prelude.{◌≡◌, ◌<◌, ◌-◌, ◌^◌, Err, IfErr, IfOk};
 ghost use Rattle.std.specs.Option.{option_copied};
 ghost use Rattle.apply_hooks.specs.Registry.{rules_of};
 ghost use Rattle.apply_plan.specs.declared.script.script_error.ScriptError.TheVariants as script_error;
 ghost use Rattle.apply_plan.specs.Results.{Gives};
-ghost use Rattle.apply_run.specs.Bytes.{given_script, WasApplied, WasRefused};
+ghost use Rattle.apply_run.specs.Bytes.{given_script, MayBeRead, WasApplied, WasRefused};
 
 use crate::applying::apply_stream;
 use crate::gate::Gate;
@@ -68,7 +68,8 @@ pub fn apply_bytes<S: Sink + Drop, G: Gate, R: Threads + Wait + Sync>(
 
 /// The script that the bytes are for the plan; the empty one where there are none.
 fn read_given(alloc: Global, bytes: Option<&[u8]>, plan: &Plan) -> Result<Script, ScriptError>
-    ensures { Gives script_error.Memory (λ script. script) result (given_script plan.now (option_copied bytes.entry)) }
+    ensures defined { Gives script_error.Memory (λ script. script) result (given_script plan.now (option_copied bytes.entry)) }
+    ensures memory { result ≡ Err script_error.Memory → MayBeRead (option_copied bytes.entry) }
 {
     match bytes {
         Some(bytes) => read_script(alloc, bytes, plan),

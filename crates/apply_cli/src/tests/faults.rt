@@ -114,26 +114,22 @@ fn all_of_the_input_is_read(rt: HostRuntime) -> Result<(), Fail> {
     let bytes = read_all(alloc, b"ab".as_slice())?;
     assert!(rt; bytes.as_slice() == b"ab".as_slice());
     for before in 0..3 {
-        let interrupted = FailingReader {
-            bytes: b"ab",
-            before,
-            fault: ErrorKind::Interrupted,
-        };
-        let bytes = read_all(alloc, interrupted)?;
-        assert!(rt;
-            bytes.as_slice() == b"ab".as_slice(),
-            "interrupted after {before}"
-        );
-        let failing = FailingReader {
-            bytes: b"ab",
-            before,
-            fault: ErrorKind::OutOfMemory,
-        };
-        assert_eq!(rt;
-            read_all(alloc, failing).err(),
-            Some(InputFault::Read),
-            "failing after {before}"
-        );
+        for fault in [
+            ErrorKind::Interrupted,
+            ErrorKind::OutOfMemory,
+            ErrorKind::Other,
+        ] {
+            let failing = FailingReader {
+                bytes: b"ab",
+                before,
+                fault,
+            };
+            assert_eq!(rt;
+                read_all(alloc, failing).err(),
+                Some(InputFault::Read),
+                "{fault:?} after {before}"
+            );
+        }
     }
     Ok(())
 }

@@ -113,6 +113,23 @@ fn a_script_that_is_none_is_refused(rt: HostRuntime) -> Result<(), Fail> {
 }
 
 #[test]
+fn a_script_that_is_too_large_is_refused(rt: HostRuntime) -> Result<(), Fail> {
+    let alloc = rt.alloc();
+    let settings = defaults(alloc);
+    let registry = Registry::new(alloc);
+    let blanks = vec![in alloc; b' '; 67_108_865]?;
+    let script = Some(blanks.as_slice());
+    let (status, output, faults) = run_texts(&rt, alloc, &settings, &registry, script, REPLACED)?;
+    assert_eq!(rt; status, 2);
+    assert_eq!(rt; output.as_str(), "");
+    assert_eq!(rt;
+        faults.as_str(),
+        "applystream: the script is larger than 67108864 bytes\n"
+    );
+    Ok(())
+}
+
+#[test]
 fn sizes_out_of_range_are_refused(rt: HostRuntime) -> Result<(), Fail> {
     let alloc = rt.alloc();
     let mut settings = defaults(alloc);

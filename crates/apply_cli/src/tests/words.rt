@@ -128,7 +128,7 @@ fn number(rt: &impl Abort, text: Option<&str>) -> u8 {
 }
 
 /// What has to stand in the help.
-const IN_HELP: &str = "terraform show -json
+const IN_HELP: &str = r#"terraform show -json
 Standard input
 Standard output
 --at <MOMENT>
@@ -144,11 +144,13 @@ Standard output
 [possible values: create, update, delete, read]
 --halt-in <PREFIX>
 Example
+{"changes":[{"address":"null_resource.a","steps":[{"seconds":12,"id":"7"}]},
+{"address":"null_resource.b","steps":[{"seconds":4,"failed":{"summary":"boom"}}]}]}
 Exit status:
   0
   1
   2
-  3";
+  3"#;
 
 #[test]
 fn help_says_all(rt: HostRuntime) -> Result<(), Fail> {

@@ -4,73 +4,30 @@ use super::*;
 
 const REPLACEMENT: &str = r#"["delete","create"]"#;
 
-const CREATED_FIRST: &str = r#"["create","delete"]"#;
+/// A change's actions, the steps of its script, and its events, for each row.
+const WORKED: &str =
+    r#"["delete","create"] => [{"seconds":1},{"seconds":2,"id":"42"}] => 0 step 0 Start; 1 step 0 Complete(1); 1 step 1 Start; 3 step 1 Complete(2);
+["create","delete"] => [{"seconds":0},{"seconds":4,"failed":{"summary":"boom"}}] => 0 step 0 Start; 0 step 0 Complete(0); 0 step 1 Start; 4 step 1 Errored(4); 4 step 1 ErrorNote;
+["delete","create"] => [{"seconds":4,"failed":{"summary":"boom"}}] => 0 step 0 Start; 4 step 0 Errored(4); 4 step 0 ErrorNote;
+["update"] => [{"seconds":25}] => 0 step 0 Start; 10 step 0 Progress(10); 20 step 0 Progress(20); 25 step 0 Complete(25);
+["update"] => [{"seconds":10}] => 0 step 0 Start; 10 step 0 Complete(10);
+["update"] => [{"seconds":11}] => 0 step 0 Start; 10 step 0 Progress(10); 11 step 0 Complete(11);
+["update"] => [{"seconds":0,"id":"i-1","warning":{"summary":"slow"}}] => 0 step 0 Start; 0 step 0 Complete(0); 0 step 0 WarnNote;
+["delete","create"] => [{"seconds":1,"warning":{"summary":"slow"}},{"seconds":2}] => 0 step 0 Start; 1 step 0 Complete(1); 1 step 0 WarnNote; 1 step 1 Start; 3 step 1 Complete(2);
+["read"] => [] => 0 step 0 Start; 0 step 0 Complete(0);
+["no-op"] => [] => "#;
 
 #[test]
 fn worked_changes(rt: HostRuntime) -> Result<(), Fail> {
     let alloc = rt.alloc();
     let registry = Registry::new(alloc);
-    for (name, actions, steps, wanted) in [
-        (
-            "replacement",
-            REPLACEMENT,
-            r#"[{"seconds":1},{"seconds":2,"id":"42"}]"#,
-            "0 step 0 Start; 1 step 0 Complete(1); 1 step 1 Start; 3 step 1 Complete(2); ",
-        ),
-        (
-            "failed_destroy_of_replacement",
-            CREATED_FIRST,
-            r#"[{"seconds":0},{"seconds":4,"failed":{"summary":"boom"}}]"#,
-            "0 step 0 Start; 0 step 0 Complete(0); 0 step 1 Start; 4 step 1 Errored(4); 4 step 1 ErrorNote; ",
-        ),
-        (
-            "failed first step of a replacement",
-            REPLACEMENT,
-            r#"[{"seconds":4,"failed":{"summary":"boom"}}]"#,
-            "0 step 0 Start; 4 step 0 Errored(4); 4 step 0 ErrorNote; ",
-        ),
-        (
-            "update_progress",
-            r#"["update"]"#,
-            r#"[{"seconds":25}]"#,
-            "0 step 0 Start; 10 step 0 Progress(10); 20 step 0 Progress(20); 25 step 0 Complete(25); ",
-        ),
-        (
-            "no progress at the end",
-            r#"["update"]"#,
-            r#"[{"seconds":10}]"#,
-            "0 step 0 Start; 10 step 0 Complete(10); ",
-        ),
-        (
-            "progress a second before the end",
-            r#"["update"]"#,
-            r#"[{"seconds":11}]"#,
-            "0 step 0 Start; 10 step 0 Progress(10); 11 step 0 Complete(11); ",
-        ),
-        (
-            "warning",
-            r#"["update"]"#,
-            r#"[{"seconds":0,"id":"i-1","warning":{"summary":"slow"}}]"#,
-            "0 step 0 Start; 0 step 0 Complete(0); 0 step 0 WarnNote; ",
-        ),
-        (
-            "warning between the steps",
-            REPLACEMENT,
-            r#"[{"seconds":1,"warning":{"summary":"slow"}},{"seconds":2}]"#,
-            "0 step 0 Start; 1 step 0 Complete(1); 1 step 0 WarnNote; 1 step 1 Start; 3 step 1 Complete(2); ",
-        ),
-        (
-            "read",
-            r#"["read"]"#,
-            "[]",
-            "0 step 0 Start; 0 step 0 Complete(0); ",
-        ),
-        ("no_op", r#"["no-op"]"#, "[]", ""),
-    ] {
+    for row in WORKED.lines() {
+        let (actions, rest) = row.split_once(" => ").expect(&rt, "actions");
+        let (steps, wanted) = rest.split_once(" => ").expect(&rt, "steps");
         let plan = plan_of(&rt, alloc, actions)?;
         let script = script_of(&rt, alloc, &plan, steps)?;
         let text = told(&rt, alloc, &plan, &script, &registry)?;
-        assert_eq!(rt; text.as_str(), wanted, "{name}");
+        assert_eq!(rt; text.as_str().trim_end(), wanted, "{row}");
     }
     Ok(())
 }

@@ -2,72 +2,81 @@
 
 use super::*;
 
+/// The steps of a script for a replacement that destroys first, and all that can happen to its steps, for each row: of
+/// each the step, and what happens.
+const FITTING: &str =
+    r#"[{"seconds":10}] => 0 Start; 0 Complete(10); 0 Halted { phase: Pre, hook: 31 }; 0 Halted { phase: PostDone, hook: 0 }; 1 Start; 1 Complete(0); 1 Halted { phase: Pre, hook: 31 }; 1 Halted { phase: PostDone, hook: 0 };
+[{"seconds":11,"warning":{"summary":"slow"}}] => 0 Start; 0 Progress(10); 0 Complete(11); 0 WarnNote; 0 Halted { phase: Pre, hook: 31 }; 0 Halted { phase: PostDone, hook: 0 }; 1 Start; 1 Complete(0); 1 Halted { phase: Pre, hook: 31 }; 1 Halted { phase: PostDone, hook: 0 };
+[{"seconds":25,"failed":{"summary":"boom"}}] => 0 Start; 0 Progress(10); 0 Progress(20); 0 Errored(25); 0 ErrorNote; 0 Halted { phase: Pre, hook: 31 }; 0 Halted { phase: PostFailed, hook: 0 }; 1 Start; 1 Complete(0); 1 Halted { phase: Pre, hook: 31 }; 1 Halted { phase: PostDone, hook: 0 };"#;
+
+fn halted(phase: Phase, hook: u8) -> What {
+    What::Halted { phase, hook }
+}
+
+fn event(change: u32, step: u8, what: What, at: u64) -> Event {
+    Event {
+        worker: 200,
+        change,
+        step,
+        what,
+        at,
+    }
+}
+
+/// What can happen, of these, to three steps.
+fn fitting(alloc: Global, plan: &Plan, script: &Script) -> Result<String, AllocError> {
+    let mut text = String::new(alloc);
+    for step in 0..3 {
+        for what in [
+            What::Start,
+            What::Progress(0),
+            What::Progress(5),
+            What::Progress(10),
+            What::Progress(20),
+            What::Progress(30),
+            What::Complete(0),
+            What::Complete(10),
+            What::Complete(11),
+            What::Complete(25),
+            What::Errored(10),
+            What::Errored(24),
+            What::Errored(25),
+            What::ErrorNote,
+            What::WarnNote,
+            halted(Phase::Pre, 31),
+            halted(Phase::Pre, 32),
+            halted(Phase::PostDone, 0),
+            halted(Phase::PostFailed, 0),
+        ] {
+            if fits(plan, script, &event(0, step, what, 0)) {
+                let piece = format!(in alloc; "{step} {what:?}; ")?;
+                text.push_str(piece.as_str())?;
+            }
+        }
+    }
+    Ok(text)
+}
+
 #[test]
 fn events_that_can_happen(rt: HostRuntime) -> Result<(), Fail> {
     let alloc = rt.alloc();
     let plan = plan_of(&rt, alloc, r#"["delete","create"]"#)?;
-    let pre = What::Halted {
-        phase: Phase::Pre,
-        hook: 31,
-    };
-    let done = What::Halted {
-        phase: Phase::PostDone,
-        hook: 0,
-    };
-    let failed = What::Halted {
-        phase: Phase::PostFailed,
-        hook: 0,
-    };
-    let many = What::Halted {
-        phase: Phase::Pre,
-        hook: 32,
-    };
-    let completes = r#"[{"seconds":10}]"#;
-    let warns = r#"[{"seconds":11,"warning":{"summary":"slow"}}]"#;
-    let fails = r#"[{"seconds":25,"failed":{"summary":"boom"}}]"#;
-    for (steps, change, step, what, at, wanted) in [
-        (completes, 0, 0, What::Start, 0, true),
-        (completes, 0, 1, What::Start, LATEST, true),
-        (completes, 0, 1, What::Start, 1_728_000_001, false),
-        (completes, 0, 2, What::Start, 0, false),
-        (completes, 1, 0, What::Start, 0, false),
-        (completes, 0, 0, What::Progress(10), 10, false),
-        (completes, 0, 0, What::Complete(10), 0, true),
-        (completes, 0, 0, What::Complete(11), 0, false),
-        (completes, 0, 1, What::Complete(0), 0, true),
-        (completes, 0, 0, What::WarnNote, 0, false),
-        (completes, 0, 0, What::Errored(10), 0, false),
-        (completes, 0, 0, What::ErrorNote, 0, false),
-        (completes, 0, 0, pre, 0, true),
-        (completes, 0, 0, many, 0, false),
-        (completes, 0, 0, done, 0, true),
-        (completes, 0, 0, failed, 0, false),
-        (warns, 0, 0, What::Progress(10), 10, true),
-        (warns, 0, 0, What::Progress(0), 0, false),
-        (warns, 0, 0, What::Progress(5), 5, false),
-        (warns, 0, 0, What::Progress(20), 20, false),
-        (warns, 0, 0, What::WarnNote, 11, true),
-        (warns, 0, 1, What::WarnNote, 11, false),
-        (fails, 0, 0, What::Progress(20), 20, true),
-        (fails, 0, 0, What::Progress(30), 30, false),
-        (fails, 0, 0, What::Errored(25), 25, true),
-        (fails, 0, 0, What::Errored(24), 25, false),
-        (fails, 0, 0, What::Complete(25), 25, false),
-        (fails, 0, 0, What::ErrorNote, 25, true),
-        (fails, 0, 0, What::WarnNote, 25, false),
-        (fails, 0, 0, pre, 0, true),
-        (fails, 0, 0, done, 25, false),
-        (fails, 0, 0, failed, 25, true),
-    ] {
+    for row in FITTING.lines() {
+        let (steps, wanted) = row.split_once(" => ").expect(&rt, "steps");
         let script = script_of(&rt, alloc, &plan, steps)?;
-        let event = Event {
-            worker: 200,
-            change,
-            step,
-            what,
-            at,
-        };
-        assert_eq!(rt; fits(&plan, &script, &event), wanted, "{steps} {event:?}");
+        let text = fitting(alloc, &plan, &script)?;
+        assert_eq!(rt; text.as_str().trim_end(), wanted, "{steps}");
     }
+    Ok(())
+}
+
+#[test]
+fn events_happen_in_time_to_changes_of_the_plan(rt: HostRuntime) -> Result<(), Fail> {
+    let alloc = rt.alloc();
+    let plan = plan_of(&rt, alloc, r#"["create"]"#)?;
+    let script = Script::empty(alloc);
+    assert!(rt; fits(&plan, &script, &event(0, 0, What::Start, LATEST)));
+    assert!(rt; !fits(&plan, &script, &event(0, 0, What::Start, 1_728_000_001)));
+    assert!(rt; !fits(&plan, &script, &event(1, 0, What::Start, 0)));
     Ok(())
 }
