@@ -34,6 +34,14 @@ const NO_SCRIPT: &str = r#"no script"#;
 const ONE_CREATE: &str =
     r#"{"format_version":"1.2","terraform_version":"1.9.0","resource_changes":[{"address":"random_pet.animal","mode":"managed","type":"random_pet","name":"animal","change":{"actions":["create"]}}]}"#;
 
+/// Its stream.
+const ONE_CREATE_STREAM: &str =
+    r#"{"@level":"info","@message":"Terraform 1.9.0","@module":"terraform.ui","@timestamp":"1970-01-01T00:00:00Z","terraform":"1.9.0","type":"version","ui":"1.0"}
+{"@level":"info","@message":"random_pet.animal: Creating...","@module":"terraform.ui","@timestamp":"1970-01-01T00:00:00Z","hook":{"action":"create","resource":{"addr":"random_pet.animal","implied_provider":"random","module":"","resource":"random_pet.animal","resource_key":null,"resource_name":"animal","resource_type":"random_pet"}},"type":"apply_start"}
+{"@level":"info","@message":"random_pet.animal: Creation complete after 0s","@module":"terraform.ui","@timestamp":"1970-01-01T00:00:00Z","hook":{"action":"create","elapsed_seconds":0,"resource":{"addr":"random_pet.animal","implied_provider":"random","module":"","resource":"random_pet.animal","resource_key":null,"resource_name":"animal","resource_type":"random_pet"}},"type":"apply_complete"}
+{"@level":"info","@message":"Apply complete! Resources: 1 added, 0 changed, 0 destroyed.","@module":"terraform.ui","@timestamp":"1970-01-01T00:00:00Z","changes":{"add":1,"change":0,"operation":"apply","remove":0},"type":"change_summary"}
+"#;
+
 /// A replacement that creates first.
 const FAILED_DESTROY: &str =
     r#"{"format_version":"1.2","terraform_version":"1.9.0","resource_changes":[{"address":"null_resource.a","mode":"managed","type":"null_resource","name":"a","change":{"actions":["create","delete"]}}]}"#;
@@ -52,6 +60,10 @@ const FAILED_DESTROY_STREAM: &str =
 {"@level":"error","@message":"Error: boom","@module":"terraform.ui","@timestamp":"1970-01-01T00:00:04Z","diagnostic":{"address":"null_resource.a","detail":"","severity":"error","summary":"boom"},"type":"diagnostic"}
 {"@level":"info","@message":"Apply complete! Resources: 1 added, 0 changed, 0 destroyed.","@module":"terraform.ui","@timestamp":"1970-01-01T00:00:04Z","changes":{"add":1,"change":0,"operation":"apply","remove":0},"type":"change_summary"}
 "#;
+
+/// A replacement that destroys first, and a create.
+const REPLACEMENT_AND_CREATE: &str =
+    r#"{"format_version":"1.2","terraform_version":"1.9.0","resource_changes":[{"address":"null_resource.a","mode":"managed","type":"null_resource","name":"a","change":{"actions":["delete","create"]}},{"address":"null_resource.b","mode":"managed","type":"null_resource","name":"b","change":{"actions":["create"]}}]}"#;
 
 /// An apply that starts with the year 1970.
 fn options(workers: u8, capacity: u16) -> Options {
@@ -179,6 +191,44 @@ fn apply_plan<S: Sink + Drop, G: Gate, R: Threads + Wait + Sync + Abort>(
         Ok(report) => (sink, report),
         Err(fault) => panic!(rt; "{fault}"),
     }
+}
+
+/// Keeps what has passed it in one number, for one worker: a hexadecimal digit for each, the last pass last.
+#[derive(Drop)]
+struct Passes {
+    passes: AtomicU64,
+}
+
+impl Gate for Passes {
+    fn pass(&self, _worker: u8, change: u32, step: u8) {
+        let digit = u64::from(change)
+            .wrapping_mul(2)
+            .wrapping_add(u64::from(step))
+            .wrapping_add(1);
+        let before = self.passes.load(Ordering::SeqCst);
+        let passes = before.wrapping_mul(16).wrapping_add(digit);
+        self.passes.store(passes, Ordering::SeqCst);
+    }
+}
+
+/// What passes the gate while one worker applies the replacement and the create: 1 and 2 stand for the steps of the
+/// replacement, and 3 for the create.
+fn passes_of<R: Threads + Wait + Sync + Abort>(rt: &R, alloc: Global, registry: &Registry) -> u64 {
+    let gate = Passes {
+        passes: AtomicU64::new(0),
+    };
+    let (_sink, result) = apply_bytes(
+        rt,
+        alloc,
+        REPLACEMENT_AND_CREATE.as_bytes(),
+        None,
+        registry,
+        options(1, 64),
+        MemorySink::new(alloc, usize::MAX, None),
+        &gate,
+    );
+    assert!(rt; result.is_ok());
+    gate.passes.load(Ordering::SeqCst)
 }
 
 /// Fails where the text is not these lines, each with its line feed.

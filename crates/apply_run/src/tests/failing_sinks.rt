@@ -6,15 +6,7 @@ use super::*;
 use std::io;
 use std::io::Write;
 
-/// The stream of one create.
-const ONE_CREATE_STREAM: &str =
-    r#"{"@level":"info","@message":"Terraform 1.9.0","@module":"terraform.ui","@timestamp":"1970-01-01T00:00:00Z","terraform":"1.9.0","type":"version","ui":"1.0"}
-{"@level":"info","@message":"random_pet.animal: Creating...","@module":"terraform.ui","@timestamp":"1970-01-01T00:00:00Z","hook":{"action":"create","resource":{"addr":"random_pet.animal","implied_provider":"random","module":"","resource":"random_pet.animal","resource_key":null,"resource_name":"animal","resource_type":"random_pet"}},"type":"apply_start"}
-{"@level":"info","@message":"random_pet.animal: Creation complete after 0s","@module":"terraform.ui","@timestamp":"1970-01-01T00:00:00Z","hook":{"action":"create","elapsed_seconds":0,"resource":{"addr":"random_pet.animal","implied_provider":"random","module":"","resource":"random_pet.animal","resource_key":null,"resource_name":"animal","resource_type":"random_pet"}},"type":"apply_complete"}
-{"@level":"info","@message":"Apply complete! Resources: 1 added, 0 changed, 0 destroyed.","@module":"terraform.ui","@timestamp":"1970-01-01T00:00:00Z","changes":{"add":1,"change":0,"operation":"apply","remove":0},"type":"change_summary"}
-"#;
-
-/// Its first 100 bytes.
+/// The first 100 bytes of the stream of one create.
 const A_HUNDRED_BYTES: &str =
     r#"{"@level":"info","@message":"Terraform 1.9.0","@module":"terraform.ui","@timestamp":"1970-01-01T00:0"#;
 
@@ -94,32 +86,42 @@ fn into_a_writer(rt: HostRuntime) {
 }
 
 /// Whatever byte is the first that the sink does not take: it has all before it and nothing more, and all events are taken.
-fn fails_at_each_byte<R: Threads + Wait + Sync + Abort>(rt: &R, alloc: Global, per_write: usize)
+fn fails_at_each_byte<R: Threads + Wait + Sync + Abort>(
+    rt: &R,
+    alloc: Global,
+    workers: u8,
+    per_write: usize,
+)
     requires { 1 ≤ per_write }
 {
     let plan = plan_of(rt, alloc, FAILED_DESTROY);
     let script = script_of(rt, alloc, FAILED_DESTROY_SCRIPT, &plan);
     for room in 0..=FAILED_DESTROY_STREAM.len() {
-        takes_so_many(rt, alloc, &plan, &script, 1, per_write, room);
+        takes_so_many(rt, alloc, &plan, &script, workers, per_write, room);
     }
 }
 
 #[test]
 fn fails_at_each_byte_of_single_bytes(rt: HostRuntime) {
-    fails_at_each_byte(&rt, rt.alloc(), 1);
+    fails_at_each_byte(&rt, rt.alloc(), 1, 1);
 }
 
 #[test]
 fn fails_at_each_byte_of_short_writes(rt: HostRuntime) {
-    fails_at_each_byte(&rt, rt.alloc(), 7);
+    fails_at_each_byte(&rt, rt.alloc(), 1, 7);
 }
 
 #[test]
 fn fails_at_each_byte_of_whole_lines(rt: HostRuntime) {
-    fails_at_each_byte(&rt, rt.alloc(), 4096);
+    fails_at_each_byte(&rt, rt.alloc(), 1, 4096);
 }
 
-/// The same with more workers, at fewer bytes, since each run starts all of them.
+#[test]
+fn fails_at_each_byte_under_eight_workers(rt: HostRuntime) {
+    fails_at_each_byte(&rt, rt.alloc(), 8, 4096);
+}
+
+/// The same with more workers and each length of a write, at fewer bytes, since each run starts all of them.
 #[test]
 fn fails_at_bytes_under_more_workers(rt: HostRuntime) {
     let alloc = rt.alloc();

@@ -85,6 +85,24 @@ fn hooks_halt(rt: HostRuntime) -> Result<(), Fail> {
     Ok(())
 }
 
+/// A step passes the gate before a hook halts it, and the next step of that change never does.
+#[test]
+fn halted_steps_pass_the_gate(rt: HostRuntime) -> Result<(), Fail> {
+    let alloc = rt.alloc();
+    let mut registry = Registry::new(alloc);
+    let rules = halting(alloc, Phase::Pre, Some(StepKind::Delete))?;
+    let answer: Answer = Box::new(alloc, |call: &HookCall<'_>| {
+        if call.phase == Phase::Pre && call.kind == StepKind::Delete {
+            Verdict::Halt
+        } else {
+            Verdict::Continue
+        }
+    })?;
+    assert!(rt; registry.add(FnHook::new(rules, answer)).is_ok());
+    assert_eq!(rt; passes_of(&rt, alloc, &registry), 0x13);
+    Ok(())
+}
+
 #[test]
 fn hooks_halt_what_has_failed(rt: HostRuntime) -> Result<(), Fail> {
     let alloc = rt.alloc();

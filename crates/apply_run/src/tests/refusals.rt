@@ -51,6 +51,57 @@ fn refused_scripts(rt: HostRuntime) {
     }
 }
 
+/// A script with three steps for one change.
+const THREE_STEPS: &str =
+    r#"{"changes":[{"address":"null_resource.a","steps":[{"seconds":0},{"seconds":0},{"seconds":0}]}]}"#;
+
+/// A replacement has no more than two steps.
+#[test]
+fn refused_third_step(rt: HostRuntime) {
+    let wanted = Refusal::Script(ScriptError::TooManySteps(0));
+    refuses(
+        &rt,
+        rt.alloc(),
+        FAILED_DESTROY,
+        THREE_STEPS,
+        options(1, 64),
+        wanted,
+    );
+}
+
+/// Fails where a script of so many blanks is not refused so, or anything was written.
+fn refuses_blanks<R: Threads + Wait + Sync + Abort>(
+    rt: &R,
+    alloc: Global,
+    count: usize,
+    wanted: ScriptError,
+) -> Result<(), AllocError> {
+    let blanks = vec![in alloc; b' '; count]?;
+    let registry = Registry::new(alloc);
+    let (sink, result) = apply_bytes(
+        rt,
+        alloc,
+        ONE_CREATE.as_bytes(),
+        Some(blanks.as_slice()),
+        &registry,
+        options(1, 64),
+        MemorySink::new(alloc, usize::MAX, None),
+        &NoGate,
+    );
+    assert_eq!(rt; result, Err(Refusal::Script(wanted)), "{count} blanks");
+    assert!(rt; sink.bytes().is_empty(), "{count} blanks");
+    assert_eq!(rt; sink.failures(), 0, "{count} blanks");
+    Ok(())
+}
+
+/// A script of more than 64 mebibytes is refused before it is read.
+#[test]
+fn sizes_and_limits_of_scripts(rt: HostRuntime) -> Result<(), Fail> {
+    refuses_blanks(&rt, rt.alloc(), 1, ScriptError::NotJson)?;
+    refuses_blanks(&rt, rt.alloc(), 67_108_865, ScriptError::TooLarge)?;
+    Ok(())
+}
+
 /// No script is read, and no size looked at, before the plan.
 #[test]
 fn refused_plans(rt: HostRuntime) {
@@ -96,7 +147,8 @@ fn sizes_and_limits(rt: HostRuntime) {
         if wanted == "in" {
             let alloc = rt.alloc();
             let registry = Registry::new(alloc);
-            let _sink = applied(&rt, alloc, ONE_CREATE, NO_SCRIPT, &registry, options);
+            let sink = applied(&rt, alloc, ONE_CREATE, NO_SCRIPT, &registry, options);
+            assert_eq!(rt; text_of(&rt, &sink), ONE_CREATE_STREAM, "{line}");
         } else {
             refuses(
                 &rt,

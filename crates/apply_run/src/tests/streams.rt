@@ -116,6 +116,15 @@ no script
 {"@level":"info","@message":"null_resource.b: Destruction complete after 0s","@module":"terraform.ui","@timestamp":"1970-01-01T00:00:00Z","hook":{"action":"delete","elapsed_seconds":0,"resource":{"addr":"null_resource.b","implied_provider":"null","module":"","resource":"null_resource.b","resource_key":null,"resource_name":"b","resource_type":"null_resource"}},"type":"apply_complete"}
 {"@level":"info","@message":"Destroy complete! Resources: 2 destroyed.","@module":"terraform.ui","@timestamp":"1970-01-01T00:00:00Z","changes":{"add":0,"change":0,"operation":"destroy","remove":2},"type":"change_summary"}
 
+an id of a delete is not written
+apply 1970-01-01T00:00:00Z
+{"format_version":"1.2","terraform_version":"1.9.0","resource_changes":[{"address":"null_resource.a","mode":"managed","type":"null_resource","name":"a","change":{"actions":["delete"]}}]}
+{"changes":[{"address":"null_resource.a","steps":[{"seconds":1,"id":"42"}]}]}
+{"@level":"info","@message":"Terraform 1.9.0","@module":"terraform.ui","@timestamp":"1970-01-01T00:00:00Z","terraform":"1.9.0","type":"version","ui":"1.0"}
+{"@level":"info","@message":"null_resource.a: Destroying...","@module":"terraform.ui","@timestamp":"1970-01-01T00:00:00Z","hook":{"action":"delete","resource":{"addr":"null_resource.a","implied_provider":"null","module":"","resource":"null_resource.a","resource_key":null,"resource_name":"a","resource_type":"null_resource"}},"type":"apply_start"}
+{"@level":"info","@message":"null_resource.a: Destruction complete after 1s","@module":"terraform.ui","@timestamp":"1970-01-01T00:00:01Z","hook":{"action":"delete","elapsed_seconds":1,"resource":{"addr":"null_resource.a","implied_provider":"null","module":"","resource":"null_resource.a","resource_key":null,"resource_name":"a","resource_type":"null_resource"}},"type":"apply_complete"}
+{"@level":"info","@message":"Apply complete! Resources: 0 added, 0 changed, 1 destroyed.","@module":"terraform.ui","@timestamp":"1970-01-01T00:00:01Z","changes":{"add":0,"change":0,"operation":"apply","remove":1},"type":"change_summary"}
+
 sensitive_id_and_warning
 apply 1970-01-01T00:00:00Z
 {"format_version":"1.2","terraform_version":"1.9.0","resource_changes":[{"address":"aws_instance.web","mode":"managed","type":"aws_instance","name":"web","change":{"actions":["update"],"before":{"id":"i-1"},"before_sensitive":{"id":true}}}]}

@@ -1,4 +1,5 @@
-//! Workers in threads: that they run at once, that lines are written meanwhile, and that a free worker takes the next change.
+//! Workers in threads: that they run at once, that lines are written meanwhile, that a free worker takes the next change,
+//! and that steps pass the gate in their order.
 
 use super::*;
 
@@ -72,6 +73,8 @@ fn two_workers_at_once(rt: HostRuntime) {
         &gate,
     );
     assert_eq!(rt; gate.missed.load(Ordering::SeqCst), 0);
+    assert_eq!(rt; gate.first.load(Ordering::SeqCst), 1);
+    assert_eq!(rt; gate.second.load(Ordering::SeqCst), 1);
     assert_eq!(rt; report.counts, counts(2, 0, 0, 0));
 }
 
@@ -79,6 +82,7 @@ fn two_workers_at_once(rt: HostRuntime) {
 #[derive(Drop)]
 struct Held {
     change: u32,
+    held: AtomicU64,
     others: AtomicU64,
     missed: AtomicU64,
 }
@@ -87,8 +91,11 @@ impl Gate for Held {
     fn pass(&self, _worker: u8, change: u32, _step: u8) {
         if change != self.change {
             self.others.fetch_add(1, Ordering::SeqCst);
-        } else if !comes_to(&self.others, 3) {
-            self.missed.store(1, Ordering::SeqCst);
+        } else {
+            self.held.fetch_add(1, Ordering::SeqCst);
+            if !comes_to(&self.others, 3) {
+                self.missed.store(1, Ordering::SeqCst);
+            }
         }
     }
 }
@@ -99,6 +106,7 @@ fn fixed_assignment(rt: HostRuntime) {
     for change in 0..2 {
         let gate = Held {
             change,
+            held: AtomicU64::new(0),
             others: AtomicU64::new(0),
             missed: AtomicU64::new(0),
         };
@@ -113,8 +121,17 @@ fn fixed_assignment(rt: HostRuntime) {
             &gate,
         );
         assert_eq!(rt; gate.missed.load(Ordering::SeqCst), 0, "change {change}");
+        assert_eq!(rt; gate.held.load(Ordering::SeqCst), 1, "change {change}");
+        assert_eq!(rt; gate.others.load(Ordering::SeqCst), 3, "change {change}");
         assert_eq!(rt; report.counts, counts(4, 0, 0, 0));
     }
+}
+
+/// Both steps of the first change, and then the only one of the second.
+#[test]
+fn a_gate_is_passed_before_each_step(rt: HostRuntime) {
+    let registry = Registry::new(rt.alloc());
+    assert_eq!(rt; passes_of(&rt, rt.alloc(), &registry), 0x123);
 }
 
 /// Whether the bytes are of a line of that type.
@@ -154,13 +171,17 @@ impl<S: Sink + Drop> Sink for Telling<'_, S> {
 #[derive(Drop)]
 struct Behind<'a> {
     completed: &'a AtomicU64,
+    passed: AtomicU64,
     missed: AtomicU64,
 }
 
 impl Gate for Behind<'_> {
     fn pass(&self, _worker: u8, _change: u32, step: u8) {
-        if step == 1 && !comes_to(self.completed, 1) {
-            self.missed.store(1, Ordering::SeqCst);
+        if step == 1 {
+            self.passed.fetch_add(1, Ordering::SeqCst);
+            if !comes_to(self.completed, 1) {
+                self.missed.store(1, Ordering::SeqCst);
+            }
         }
     }
 }
@@ -170,6 +191,7 @@ fn lines_while_workers_run(rt: HostRuntime) {
     let completed = AtomicU64::new(0);
     let gate = Behind {
         completed: &completed,
+        passed: AtomicU64::new(0),
         missed: AtomicU64::new(0),
     };
     let sink = Telling {
@@ -186,6 +208,7 @@ fn lines_while_workers_run(rt: HostRuntime) {
         &gate,
     );
     assert_eq!(rt; gate.missed.load(Ordering::SeqCst), 0);
+    assert_eq!(rt; gate.passed.load(Ordering::SeqCst), 1);
     assert_eq!(rt; report.counts, counts(1, 0, 1, 0));
 }
 
