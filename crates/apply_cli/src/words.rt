@@ -53,61 +53,80 @@ pub fn read_words(alloc: Global, words: &[String]) -> Result<Settings, Usage>
 
 /// The options, and their help.
 fn command<'a>(alloc: Global) -> Result<Command<'a>, AllocError> {
-    let at = Arg::new(alloc, "at")
+    Command::new(alloc, "applystream")
+        .no_binary_name(true)
+        .about(ABOUT)
+        .after_help(AFTER)
+        .arg(at(alloc))?
+        .arg(script(alloc))?
+        .arg(workers(alloc))?
+        .arg(queue(alloc))?
+        .arg(destroy(alloc))?
+        .arg(halt_before(alloc))?
+        .arg(halt_in(alloc))
+}
+
+fn at<'a>(alloc: Global) -> Arg<'a> {
+    Arg::new(alloc, "at")
         .long("at")
         .value_name("MOMENT")
         .default_value("1970-01-01T00:00:00Z")
         .help(
             "When the first steps begin, in whole seconds: 1970-01-01T00:00:00Z to 8999-12-31T23:59:59Z, with any offset",
-        );
-    let script = Arg::new(alloc, "script")
+        )
+}
+
+fn script<'a>(alloc: Global) -> Arg<'a> {
+    Arg::new(alloc, "script")
         .long("script")
         .value_name("FILE")
         .help(
             "A script in JSON, which says how many seconds each step takes and which fail, with at most 67108864 bytes. Without it each step is done at once",
-        );
-    let workers = Arg::new(alloc, "workers")
+        )
+}
+
+fn workers<'a>(alloc: Global) -> Arg<'a> {
+    Arg::new(alloc, "workers")
         .long("workers")
         .value_name("N")
         .value_parser(value_parser!(u8).range(1..=8))
         .default_value("1")
-        .help("How many workers apply the changes at once, 1 to 8");
-    let queue = Arg::new(alloc, "queue")
+        .help("How many workers apply the changes at once, 1 to 8")
+}
+
+fn queue<'a>(alloc: Global) -> Arg<'a> {
+    Arg::new(alloc, "queue")
         .long("queue")
         .value_name("N")
         .value_parser(value_parser!(u16).range(1..=1024))
         .default_value("64")
-        .help("How many messages may wait to be written, 1 to 1024");
-    let destroy = Arg::new(alloc, "destroy")
+        .help("How many messages may wait to be written, 1 to 1024")
+}
+
+fn destroy<'a>(alloc: Global) -> Arg<'a> {
+    Arg::new(alloc, "destroy")
         .long("destroy")
         .action(ArgAction::SetTrue)
-        .help("Says in the last message that the apply was a destroy");
-    let before = Arg::new(alloc, "halt-before")
+        .help("Says in the last message that the apply was a destroy")
+}
+
+fn halt_before<'a>(alloc: Global) -> Arg<'a> {
+    Arg::new(alloc, "halt-before")
         .long("halt-before")
         .value_name("KIND")
         .action(ArgAction::Append)
         .value_parser(KINDS.as_slice())
-        .help(
-            "Halts each step of this kind before it begins. May be given again: 32 halts at most",
-        );
-    let inside = Arg::new(alloc, "halt-in")
+        .help("Halts each step of this kind before it begins. May be given again: 32 halts at most")
+}
+
+fn halt_in<'a>(alloc: Global) -> Arg<'a> {
+    Arg::new(alloc, "halt-in")
         .long("halt-in")
         .value_name("PREFIX")
         .action(ArgAction::Append)
         .help(
             "Halts each step of a resource whose address begins so before it begins, as module.a. May be given again: 32 halts at most",
-        );
-    Command::new(alloc, "applystream")
-        .no_binary_name(true)
-        .about(ABOUT)
-        .after_help(AFTER)
-        .arg(at)?
-        .arg(script)?
-        .arg(workers)?
-        .arg(queue)?
-        .arg(destroy)?
-        .arg(before)?
-        .arg(inside)
+        )
 }
 
 /// What the matches say. The parser has tested the numbers, so that the bounds here change none.
