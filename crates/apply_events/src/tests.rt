@@ -17,38 +17,52 @@ use std::sync::Arc;
 use std::sync::atomic::{AtomicU64, Ordering};
 use std::test::Fail;
 
-/// A plan of one change, `null_resource.a`, with those actions.
-fn plan_of(rt: &impl Abort, alloc: Global, actions: &str) -> Result<Plan, AllocError> {
-    let text = format!(in alloc;
-        "{{\"format_version\":\"1.2\",\"resource_changes\":[{{\"address\":\"null_resource.a\",\"mode\":\"managed\",\"type\":\"null_resource\",\"name\":\"a\",\"change\":{{\"actions\":{actions}}}}}]}}"
-    )?;
-    Ok(read_plan(alloc, text.as_bytes()).ok().expect(rt, "a plan"))
+/// A plan of one change, `null_resource.a`, with the actions in the place of `CELL`.
+const PLAN: &str =
+    r#"{"format_version":"1.2","resource_changes":[{"address":"null_resource.a","mode":"managed","type":"null_resource","name":"a","change":{"actions":CELL}}]}"#;
+
+/// A script of that change, with the steps in the place of `CELL`.
+const SCRIPT: &str = r#"{"changes":[{"address":"null_resource.a","steps":CELL}]}"#;
+
+/// The actions of a replacement that destroys first.
+const REPLACEMENT: &str = r#"["delete","create"]"#;
+
+/// Its first step takes 11 seconds, and so tells one progress, and its second one has a warning.
+const ELEVEN_AND_TWO: &str = r#"[{"seconds":11},{"seconds":2,"warning":{"summary":"slow"}}]"#;
+
+/// The text with another one in the place of `CELL`.
+fn put(rt: &impl Abort, alloc: Global, text: &str, cell: &str) -> String {
+    text.replace(alloc, "CELL", cell).expect(rt, "memory")
 }
 
-/// A script of that change, with those steps.
-fn script_of(
-    rt: &impl Abort,
-    alloc: Global,
-    plan: &Plan,
-    steps: &str,
-) -> Result<Script, AllocError> {
-    let text = format!(in alloc;
-        "{{\"changes\":[{{\"address\":\"null_resource.a\",\"steps\":{steps}}}]}}"
-    )?;
-    Ok(
-        read_script(alloc, text.as_bytes(), plan)
-            .ok()
-            .expect(rt, "a script"),
-    )
+/// The plan with those actions.
+fn plan_of(rt: &impl Abort, alloc: Global, actions: &str) -> Plan {
+    let text = put(rt, alloc, PLAN, actions);
+    let plan = read_plan(alloc, text.as_bytes());
+    plan.ok().expect(rt, "a plan")
+}
+
+/// The script with those steps.
+fn script_of(rt: &impl Abort, alloc: Global, plan: &Plan, steps: &str) -> Script {
+    let text = put(rt, alloc, SCRIPT, steps);
+    let script = read_script(alloc, text.as_bytes(), plan);
+    script.ok().expect(rt, "a script")
 }
 
 /// All events that a runner gives.
-fn all_events(alloc: Global, mut runner: Runner<'_>) -> Result<Vec<Event>, AllocError> {
+fn all_events(rt: &impl Abort, alloc: Global, mut runner: Runner<'_>) -> Vec<Event> {
     let mut all = Vec::new(alloc);
     while let Some(event) = runner.next() {
-        all.push(event)?;
+        all.push(event).ok().expect(rt, "memory");
     }
-    Ok(all)
+    all
+}
+
+/// Adds when and in which step what happens.
+fn push_event(rt: &impl Abort, alloc: Global, text: &mut String, event: &Event) {
+    let piece = format!(in alloc; "{} step {} {:?}; ", event.at, event.step, event.what);
+    let piece = piece.expect(rt, "memory");
+    text.push_str(piece.as_str()).expect(rt, "memory");
 }
 
 /// All events of the first change, begun at 0: of each the moment, the step, and what happens.
@@ -58,16 +72,30 @@ fn told(
     plan: &Plan,
     script: &Script,
     registry: &Registry,
-) -> Result<String, AllocError> {
+) -> String {
     assert!(rt; plan.len() > 0);
     let mut text = String::new(alloc);
-    for event in &all_events(alloc, Runner::start(plan, script, registry, 3, 0, 0))? {
-        assert_eq!(rt; event.worker, 3);
-        assert_eq!(rt; event.change, 0);
-        let piece = format!(in alloc; "{} step {} {:?}; ", event.at, event.step, event.what)?;
-        text.push_str(piece.as_str())?;
+    for event in &all_events(rt, alloc, Runner::start(plan, script, registry, 3, 0, 0)) {
+        assert!(rt; event.worker == 3 && event.change == 0, "{event:?}");
+        push_event(rt, alloc, &mut text, event);
     }
-    Ok(text)
+    text
+}
+
+/// Fails where the change with those actions, whose steps the script tells so, has other events.
+fn tells(
+    rt: &impl Abort,
+    alloc: Global,
+    actions: &str,
+    steps: &str,
+    registry: &Registry,
+    wanted: &str,
+) {
+    let plan = plan_of(rt, alloc, actions);
+    let script = script_of(rt, alloc, &plan, steps);
+    let found = told(rt, alloc, &plan, &script, registry);
+    let found = found.as_str().trim_end();
+    assert!(rt; found == wanted, "{actions} {steps}: {found}");
 }
 
 /// A list of one rule that halts in a phase.

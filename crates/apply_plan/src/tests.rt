@@ -13,10 +13,10 @@ use crate::json::parsing::parse;
 use crate::plan::header::Header;
 use crate::plan::{plain, reading};
 use crate::{MAX_CHANGES, Plan, Script, Text, read_plan, read_script};
-use std::alloc::{AllocError, Global};
-use std::fmt::Display;
+use serde_json::Value;
+use std::alloc::Global;
+use std::fmt::{Debug, Display};
 use std::process::Abort;
-use std::test::Fail;
 
 /// A plan of one change, which creates `null_resource.a`.
 const ONE_CREATE: &str =
@@ -38,93 +38,76 @@ fn script_of(rt: &impl Abort, alloc: Global, plan: &str, text: &str) -> Script {
     }
 }
 
+/// What `Display` prints of it.
+fn shown(rt: &impl Abort, alloc: Global, value: &impl Display) -> String {
+    value.to_string(alloc).expect(rt, "memory")
+}
+
+/// What `Debug` prints of it.
+fn printed(rt: &impl Abort, alloc: Global, value: &impl Debug) -> String {
+    format!(in alloc; "{value:?}").expect(rt, "memory")
+}
+
 /// What is answered to bytes as a plan: `accepted`, or the text of the refusal.
-fn answer_to_plan(alloc: Global, bytes: &[u8]) -> Result<String, AllocError> {
+fn answer_to_plan(rt: &impl Abort, alloc: Global, bytes: &[u8]) -> String {
     match read_plan(alloc, bytes) {
-        Ok(_) => String::from_str(alloc, "accepted"),
-        Err(error) => error.to_string(alloc),
+        Ok(_) => shown(rt, alloc, &"accepted"),
+        Err(error) => shown(rt, alloc, &error),
     }
 }
 
 /// What is answered to bytes as a script for the plan: `accepted`, or the text of the refusal.
-fn answer_to_script(alloc: Global, plan: &Plan, bytes: &[u8]) -> Result<String, AllocError> {
+fn answer_to_script(rt: &impl Abort, alloc: Global, plan: &Plan, bytes: &[u8]) -> String {
     match read_script(alloc, bytes, plan) {
-        Ok(_) => String::from_str(alloc, "accepted"),
-        Err(error) => error.to_string(alloc),
+        Ok(_) => shown(rt, alloc, &"accepted"),
+        Err(error) => shown(rt, alloc, &error),
     }
 }
 
 /// The same, where the plan is a text too.
-fn answer_for(
-    rt: &impl Abort,
-    alloc: Global,
-    plan: &str,
-    bytes: &[u8],
-) -> Result<String, AllocError> {
-    answer_to_script(alloc, &plan_of(rt, alloc, plan), bytes)
+fn answer_for(rt: &impl Abort, alloc: Global, plan: &str, bytes: &[u8]) -> String {
+    answer_to_script(rt, alloc, &plan_of(rt, alloc, plan), bytes)
 }
 
 /// Fails where bytes as a plan are answered otherwise.
-fn plan_is_answered(
-    rt: &impl Abort,
-    alloc: Global,
-    bytes: &[u8],
-    wanted: &str,
-) -> Result<(), AllocError> {
-    let found = answer_to_plan(alloc, bytes)?;
+fn plan_is_answered(rt: &impl Abort, alloc: Global, bytes: &[u8], wanted: &str) {
+    let found = answer_to_plan(rt, alloc, bytes);
     assert_eq!(rt; found.as_str(), wanted);
-    Ok(())
 }
 
 /// Fails where bytes as a script for the plan are answered otherwise.
-fn script_is_answered(
-    rt: &impl Abort,
-    alloc: Global,
-    plan: &str,
-    bytes: &[u8],
-    wanted: &str,
-) -> Result<(), AllocError> {
-    let found = answer_for(rt, alloc, plan, bytes)?;
+fn script_is_answered(rt: &impl Abort, alloc: Global, plan: &str, bytes: &[u8], wanted: &str) {
+    let found = answer_for(rt, alloc, plan, bytes);
     assert_eq!(rt; found.as_str(), wanted);
-    Ok(())
 }
 
 /// Fails where the error has another text.
-fn is_told(
-    rt: &impl Abort,
-    alloc: Global,
-    error: &impl Display,
-    wanted: &str,
-) -> Result<(), AllocError> {
-    let text = error.to_string(alloc)?;
+fn is_told(rt: &impl Abort, alloc: Global, error: &impl Display, wanted: &str) {
+    let text = shown(rt, alloc, error);
     assert_eq!(rt; text.as_str(), wanted);
-    Ok(())
 }
 
-/// Whether the changes that the reader and the plain reader give are printed alike.
-fn reads_as_plainly(rt: &impl Abort, alloc: Global, text: &str) {
-    let Ok(tree) = parse(alloc, text.as_bytes()) else {
-        return;
-    };
-    let Some(header) = Header::of(&tree) else {
-        return;
-    };
-    if header.elements.len() > MAX_CHANGES {
-        return;
+/// Fails where the changes that the reader and the plain reader give for these elements are not printed alike. Neither is
+/// asked for more than a plan may have.
+fn elements_read_as_plainly(rt: &impl Abort, alloc: Global, elements: &[Value]) {
+    if elements.len() <= MAX_CHANGES {
+        let fast = printed(rt, alloc, &reading::changes_of(alloc, elements));
+        let plain = printed(rt, alloc, &plain::changes_of(alloc, elements));
+        assert!(rt; fast.as_str() == plain.as_str(), "{plain}");
     }
-    let fast = reading::changes_of(alloc, header.elements);
-    let plain = plain::changes_of(alloc, header.elements);
-    let fast_text = format!(in alloc; "{fast:?}");
-    let plain_text = format!(in alloc; "{plain:?}");
-    match (fast_text, plain_text) {
-        (Ok(one), Ok(other)) => assert!(rt; one.as_str() == other.as_str(), "at {text}"),
-        (_, _) => panic!(rt; "out of memory"),
+}
+
+/// The same for the elements of a plan, where the text has a plan's top level.
+fn reads_as_plainly(rt: &impl Abort, alloc: Global, text: &str) {
+    if let Ok(tree) = parse(alloc, text.as_bytes()) {
+        if let Some(header) = Header::of(&tree) {
+            elements_read_as_plainly(rt, alloc, header.elements);
+        }
     }
 }
 
 #[test]
-fn a_text_keeps_its_bytes(rt: HostRuntime) -> Result<(), Fail> {
-    let text = Text::new(rt.alloc(), "a")?;
-    assert_eq!(rt; text.as_str(), "a");
-    Ok(())
+fn a_text_keeps_its_bytes(rt: HostRuntime) {
+    let text = Text::new(rt.alloc(), "a").expect(&rt, "memory");
+    assert!(rt; text.as_str() == "a");
 }

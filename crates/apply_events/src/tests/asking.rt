@@ -2,6 +2,8 @@
 
 use super::*;
 
+const CREATE: &str = r#"["create"]"#;
+
 /// Three hooks, of which the second and the third halt deletes before they start: the second is told.
 #[test]
 fn hooks_halt_before_a_step(rt: HostRuntime) -> Result<(), Fail> {
@@ -20,20 +22,24 @@ fn hooks_halt_before_a_step(rt: HostRuntime) -> Result<(), Fail> {
         })?;
         assert!(rt; registry.add(FnHook::new(rules, answer)).is_ok());
     }
-    for (actions, wanted) in [
-        (
-            r#"["delete","create"]"#,
-            "0 step 0 Halted { phase: Pre, hook: 1 }; ",
-        ),
-        (
-            r#"["create","delete"]"#,
-            "0 step 0 Start; 0 step 0 Complete(0); 0 step 1 Halted { phase: Pre, hook: 1 }; ",
-        ),
-    ] {
-        let plan = plan_of(&rt, alloc, actions)?;
-        let text = told(&rt, alloc, &plan, &Script::empty(alloc), &registry)?;
-        assert_eq!(rt; text.as_str(), wanted, "{actions}");
-    }
+    let before = "0 step 0 Halted { phase: Pre, hook: 1 };";
+    tells(
+        &rt,
+        alloc,
+        r#"["delete","create"]"#,
+        "[]",
+        &registry,
+        before,
+    );
+    let between = "0 step 0 Start; 0 step 0 Complete(0); 0 step 1 Halted { phase: Pre, hook: 1 };";
+    tells(
+        &rt,
+        alloc,
+        r#"["create","delete"]"#,
+        "[]",
+        &registry,
+        between,
+    );
     Ok(())
 }
 
@@ -50,22 +56,35 @@ fn hooks_halt_after_a_failed_step(rt: HostRuntime) -> Result<(), Fail> {
         }
     })?;
     assert!(rt; registry.add(FnHook::new(rules, answer)).is_ok());
-    let plan = plan_of(&rt, alloc, r#"["create"]"#)?;
-    for (steps, wanted) in [
-        (
-            r#"[{"seconds":5,"failed":{"summary":"boom"}}]"#,
-            "0 step 0 Start; 5 step 0 Errored(5); 5 step 0 ErrorNote; 5 step 0 Halted { phase: PostFailed, hook: 0 }; ",
-        ),
-        (
-            r#"[{"seconds":5}]"#,
-            "0 step 0 Start; 5 step 0 Complete(5); ",
-        ),
-    ] {
-        let script = script_of(&rt, alloc, &plan, steps)?;
-        let text = told(&rt, alloc, &plan, &script, &registry)?;
-        assert_eq!(rt; text.as_str(), wanted, "{steps}");
-    }
+    let fails = r#"[{"seconds":5,"failed":{"summary":"boom"}}]"#;
+    let halted =
+        "0 step 0 Start; 5 step 0 Errored(5); 5 step 0 ErrorNote; 5 step 0 Halted { phase: PostFailed, hook: 0 };";
+    tells(&rt, alloc, CREATE, fails, &registry, halted);
+    let done = "0 step 0 Start; 5 step 0 Complete(5);";
+    tells(&rt, alloc, CREATE, r#"[{"seconds":5}]"#, &registry, done);
     Ok(())
+}
+
+/// Fails where another step begins next, or the change has ended at another time so far.
+fn stands(rt: &impl Abort, runner: &Runner<'_>, begins: Option<u8>, ended_at: u64) {
+    assert!(rt; runner.begins() == begins);
+    assert!(rt; runner.ended_at() == ended_at);
+}
+
+/// Fails where it stands otherwise between the events of a replacement whose first step takes a second, and is halted
+/// after it.
+fn stands_before_the_halt(rt: &impl Abort, plan: &Plan, script: &Script, registry: &Registry) {
+    assert!(rt; plan.len() == 1);
+    let mut runner = Runner::start(plan, script, registry, 0, 0, 0);
+    stands(rt, &runner, Some(0), 0);
+    let _start = runner.next();
+    stands(rt, &runner, None, 0);
+    let _complete = runner.next();
+    stands(rt, &runner, None, 0);
+    let _halted = runner.next();
+    stands(rt, &runner, None, 1);
+    let _none = runner.next();
+    stands(rt, &runner, None, 1);
 }
 
 #[test]
@@ -81,21 +100,54 @@ fn hooks_halt_between_the_steps_of_a_replacement(rt: HostRuntime) -> Result<(), 
         }
     })?;
     assert!(rt; registry.add(FnHook::new(rules, answer)).is_ok());
-    let plan = plan_of(&rt, alloc, r#"["delete","create"]"#)?;
-    let script = script_of(&rt, alloc, &plan, r#"[{"seconds":1},{"seconds":2}]"#)?;
-    let text = told(&rt, alloc, &plan, &script, &registry)?;
-    assert_eq!(rt;
-        text.as_str(),
-        "0 step 0 Start; 1 step 0 Complete(1); 1 step 0 Halted { phase: PostDone, hook: 0 }; "
-    );
-    assert_eq!(rt; plan.len(), 1);
-    let mut runner = Runner::start(&plan, &script, &registry, 0, 0, 0);
-    for (begins, ended_at) in [(Some(0), 0), (None, 0), (None, 0), (None, 1), (None, 1)] {
-        assert_eq!(rt; runner.begins(), begins);
-        assert_eq!(rt; runner.ended_at(), ended_at);
-        let _event = runner.next();
-    }
+    let halted =
+        "0 step 0 Start; 1 step 0 Complete(1); 1 step 0 Halted { phase: PostDone, hook: 0 };";
+    let steps = r#"[{"seconds":1},{"seconds":2}]"#;
+    tells(&rt, alloc, REPLACEMENT, steps, &registry, halted);
+    let plan = plan_of(&rt, alloc, REPLACEMENT);
+    let script = script_of(&rt, alloc, &plan, steps);
+    stands_before_the_halt(&rt, &plan, &script, &registry);
     Ok(())
+}
+
+/// Fails where the closure was asked another number of times before the next event, which is given then. Looking at the
+/// runner asks nothing.
+fn asked_before_next(rt: &impl Abort, calls: &AtomicU64, asked: u64, runner: &mut Runner<'_>) {
+    assert!(rt;
+        calls.load(Ordering::SeqCst) == asked,
+        "asked {asked} times"
+    );
+    let _begins = runner.begins();
+    let _ended_at = runner.ended_at();
+    assert!(rt;
+        calls.load(Ordering::SeqCst) == asked,
+        "asked {asked} times"
+    );
+    let _event = runner.next();
+}
+
+/// How often the closure was asked before and after each event of a replacement with one progress and one warning.
+fn asked_along(
+    rt: &impl Abort,
+    plan: &Plan,
+    script: &Script,
+    registry: &Registry,
+    calls: &AtomicU64,
+) {
+    assert!(rt; plan.len() == 1);
+    let mut runner = Runner::start(plan, script, registry, 0, 0, 0);
+    asked_before_next(rt, calls, 0, &mut runner);
+    // the start of the first step was given, then its progress and its completion
+    asked_before_next(rt, calls, 1, &mut runner);
+    asked_before_next(rt, calls, 1, &mut runner);
+    asked_before_next(rt, calls, 2, &mut runner);
+    // the start of the second step, its completion and its warning
+    asked_before_next(rt, calls, 3, &mut runner);
+    asked_before_next(rt, calls, 3, &mut runner);
+    asked_before_next(rt, calls, 4, &mut runner);
+    // nothing more
+    asked_before_next(rt, calls, 4, &mut runner);
+    asked_before_next(rt, calls, 4, &mut runner);
 }
 
 /// A stored closure is asked once for each phase of each step: before the step by the call that gives its first event,
@@ -111,31 +163,8 @@ fn hooks_are_asked_once_for_each_phase(rt: HostRuntime) -> Result<(), Fail> {
         Verdict::Continue
     })?;
     assert!(rt; registry.add(FnHook::new(Rules::new(alloc), answer)).is_ok());
-    let plan = plan_of(&rt, alloc, r#"["delete","create"]"#)?;
-    let script = script_of(
-        &rt,
-        alloc,
-        &plan,
-        r#"[{"seconds":11},{"seconds":2,"warning":{"summary":"slow"}}]"#,
-    )?;
-    assert_eq!(rt; plan.len(), 1);
-    let mut runner = Runner::start(&plan, &script, &registry, 0, 0, 0);
-    for (event, asked) in [
-        ("before", 0),
-        ("Start", 1),
-        ("Progress", 1),
-        ("Complete", 2),
-        ("Start", 3),
-        ("Complete", 3),
-        ("WarnNote", 4),
-        ("None", 4),
-        ("None", 4),
-    ] {
-        assert_eq!(rt; calls.load(Ordering::SeqCst), asked, "after {event}");
-        let _begins = runner.begins();
-        let _ended_at = runner.ended_at();
-        assert_eq!(rt; calls.load(Ordering::SeqCst), asked, "after {event}");
-        let _event = runner.next();
-    }
+    let plan = plan_of(&rt, alloc, REPLACEMENT);
+    let script = script_of(&rt, alloc, &plan, ELEVEN_AND_TWO);
+    asked_along(&rt, &plan, &script, &registry, &calls);
     Ok(())
 }

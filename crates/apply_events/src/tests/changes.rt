@@ -2,8 +2,6 @@
 
 use super::*;
 
-const REPLACEMENT: &str = r#"["delete","create"]"#;
-
 /// A change's actions, the steps of its script, and its events, for each row.
 const WORKED: &str =
     r#"["delete","create"] => [{"seconds":1},{"seconds":2,"id":"42"}] => 0 step 0 Start; 1 step 0 Complete(1); 1 step 1 Start; 3 step 1 Complete(2);
@@ -18,106 +16,111 @@ const WORKED: &str =
 ["no-op"] => [] => "#;
 
 #[test]
-fn worked_changes(rt: HostRuntime) -> Result<(), Fail> {
+fn worked_changes(rt: HostRuntime) {
     let alloc = rt.alloc();
     let registry = Registry::new(alloc);
     for row in WORKED.lines() {
         let (actions, rest) = row.split_once(" => ").expect(&rt, "actions");
         let (steps, wanted) = rest.split_once(" => ").expect(&rt, "steps");
-        let plan = plan_of(&rt, alloc, actions)?;
-        let script = script_of(&rt, alloc, &plan, steps)?;
-        let text = told(&rt, alloc, &plan, &script, &registry)?;
-        assert_eq!(rt; text.as_str().trim_end(), wanted, "{row}");
+        tells(&rt, alloc, actions, steps, &registry, wanted);
     }
-    Ok(())
 }
 
-#[test]
-fn hour_of_progress(rt: HostRuntime) -> Result<(), Fail> {
-    let alloc = rt.alloc();
-    let registry = Registry::new(alloc);
-    let plan = plan_of(&rt, alloc, r#"["update"]"#)?;
-    for (steps, events, progress) in [
-        (r#"[{"seconds":3605}]"#, 362, 360),
-        (r#"[{"seconds":86400}]"#, 8_641, 8_639),
-    ] {
-        let script = script_of(&rt, alloc, &plan, steps)?;
-        assert_eq!(rt; plan.len(), 1);
-        let all = all_events(alloc, Runner::start(&plan, &script, &registry, 0, 0, 0))?;
-        let mut reported: u32 = 0;
-        for event in &all {
-            if let What::Progress(seconds) = event.what {
-                reported = reported.wrapping_add(1);
-                assert_eq!(rt; seconds, reported.wrapping_mul(10));
-                assert_eq!(rt; event.at, seconds as u64);
-            }
+/// How much progress the events tell. Fails where it is not told each ten seconds, when it has come.
+fn progress_of(rt: &impl Abort, events: &[Event]) -> u32 {
+    let mut told: u32 = 0;
+    for event in events {
+        if let What::Progress(seconds) = event.what {
+            told = told.wrapping_add(1);
+            assert!(rt; seconds == told.wrapping_mul(10), "{event:?}");
+            assert!(rt; event.at == seconds as u64, "{event:?}");
         }
-        assert_eq!(rt; all.len(), events, "{steps}");
-        assert_eq!(rt; reported, progress, "{steps}");
     }
-    Ok(())
+    told
+}
+
+/// Fails where an update with these steps has another number of events, or of those that tell progress.
+fn progress_is(rt: &impl Abort, alloc: Global, steps: &str, events: usize, progress: u32) {
+    let registry = Registry::new(alloc);
+    let plan = plan_of(rt, alloc, r#"["update"]"#);
+    let script = script_of(rt, alloc, &plan, steps);
+    assert!(rt; plan.len() == 1);
+    let all = all_events(rt, alloc, Runner::start(&plan, &script, &registry, 0, 0, 0));
+    assert!(rt; all.len() == events, "{steps}");
+    assert!(rt; progress_of(rt, &all) == progress, "{steps}");
 }
 
 #[test]
-fn a_default_script_and_a_late_begin(rt: HostRuntime) -> Result<(), Fail> {
+fn hour_of_progress(rt: HostRuntime) {
+    progress_is(&rt, rt.alloc(), r#"[{"seconds":3605}]"#, 362, 360);
+    progress_is(&rt, rt.alloc(), r#"[{"seconds":86400}]"#, 8_641, 8_639);
+}
+
+/// The last moment at which a change may begin.
+const LAST_BEGIN: u64 = LATEST - 172_800;
+
+/// Fails where the next event of worker 7 is not this one, at the last begin.
+fn next_is(rt: &impl Abort, runner: &mut Runner<'_>, step: u8, what: What) {
+    let wanted = Event {
+        worker: 7,
+        change: 0,
+        step,
+        what,
+        at: LAST_BEGIN,
+    };
+    assert_eq!(rt; runner.next(), Some(wanted));
+}
+
+#[test]
+fn a_default_script_and_a_late_begin(rt: HostRuntime) {
     let alloc = rt.alloc();
     let registry = Registry::new(alloc);
-    let plan = plan_of(&rt, alloc, REPLACEMENT)?;
+    let plan = plan_of(&rt, alloc, REPLACEMENT);
     let script = Script::empty(alloc);
-    assert_eq!(rt; plan.len(), 1);
-    let begin = LATEST - 172_800;
-    let mut runner = Runner::start(&plan, &script, &registry, 7, 0, begin);
-    for (step, what) in [
-        (0, What::Start),
-        (0, What::Complete(0)),
-        (1, What::Start),
-        (1, What::Complete(0)),
-    ] {
-        let wanted = Event {
-            worker: 7,
-            change: 0,
-            step,
-            what,
-            at: begin,
-        };
-        assert_eq!(rt; runner.next(), Some(wanted));
-    }
-    assert_eq!(rt; runner.next(), None);
-    assert_eq!(rt; runner.ended_at(), begin);
-    Ok(())
+    assert!(rt; plan.len() == 1);
+    let mut runner = Runner::start(&plan, &script, &registry, 7, 0, LAST_BEGIN);
+    next_is(&rt, &mut runner, 0, What::Start);
+    next_is(&rt, &mut runner, 0, What::Complete(0));
+    next_is(&rt, &mut runner, 1, What::Start);
+    next_is(&rt, &mut runner, 1, What::Complete(0));
+    assert!(rt; runner.next().is_none());
+    assert!(rt; runner.ended_at() == LAST_BEGIN);
+}
+
+/// Fails where something else happens next, another step begins after it, or the change has ended at another time by
+/// then.
+fn next_leaves(
+    rt: &impl Abort,
+    runner: &mut Runner<'_>,
+    at: u64,
+    what: What,
+    begins: Option<u8>,
+    ended_at: u64,
+) {
+    let event = runner.next().expect(rt, "an event");
+    assert!(rt; event.at == at && event.what == what, "{event:?}");
+    assert!(rt; runner.begins() == begins, "after {what:?}");
+    assert!(rt; runner.ended_at() == ended_at, "after {what:?}");
 }
 
 /// Between all events: which step begins next, and when the change has ended so far.
 #[test]
-fn between_the_events_of_a_replacement(rt: HostRuntime) -> Result<(), Fail> {
+fn between_the_events_of_a_replacement(rt: HostRuntime) {
     let alloc = rt.alloc();
     let registry = Registry::new(alloc);
-    let plan = plan_of(&rt, alloc, REPLACEMENT)?;
-    let script = script_of(
-        &rt,
-        alloc,
-        &plan,
-        r#"[{"seconds":11},{"seconds":2,"warning":{"summary":"slow"}}]"#,
-    )?;
-    assert_eq!(rt; plan.len(), 1);
+    let plan = plan_of(&rt, alloc, REPLACEMENT);
+    let script = script_of(&rt, alloc, &plan, ELEVEN_AND_TWO);
+    assert!(rt; plan.len() == 1);
     let mut runner = Runner::start(&plan, &script, &registry, 0, 0, 5);
-    assert_eq!(rt; runner.begins(), Some(0));
-    assert_eq!(rt; runner.ended_at(), 5);
-    for (at, what, begins, ended_at) in [
-        (5, What::Start, None, 5),
-        (15, What::Progress(10), None, 5),
-        (16, What::Complete(11), Some(1), 16),
-        (16, What::Start, None, 16),
-        (18, What::Complete(2), None, 16),
-        (18, What::WarnNote, None, 18),
-    ] {
-        let event = runner.next().expect(&rt, "an event");
-        assert_eq!(rt; (event.at, event.what), (at, what));
-        assert_eq!(rt; runner.begins(), begins, "after {what:?}");
-        assert_eq!(rt; runner.ended_at(), ended_at, "after {what:?}");
-    }
-    assert_eq!(rt; runner.next(), None);
-    assert_eq!(rt; runner.begins(), None);
-    assert_eq!(rt; runner.ended_at(), 18);
-    Ok(())
+    assert!(rt; runner.begins() == Some(0));
+    assert!(rt; runner.ended_at() == 5);
+    next_leaves(&rt, &mut runner, 5, What::Start, None, 5);
+    next_leaves(&rt, &mut runner, 15, What::Progress(10), None, 5);
+    next_leaves(&rt, &mut runner, 16, What::Complete(11), Some(1), 16);
+    next_leaves(&rt, &mut runner, 16, What::Start, None, 16);
+    next_leaves(&rt, &mut runner, 18, What::Complete(2), None, 16);
+    next_leaves(&rt, &mut runner, 18, What::WarnNote, None, 18);
+    assert!(rt; runner.next().is_none());
+    assert!(rt; runner.begins().is_none());
+    assert!(rt; runner.ended_at() == 18);
 }

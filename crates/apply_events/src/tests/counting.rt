@@ -12,56 +12,68 @@ fn counts(added: u64, changed: u64, removed: u64, failed: u64, halted: u64) -> C
     }
 }
 
-#[test]
-fn counts_of_changes(rt: HostRuntime) -> Result<(), Fail> {
-    let alloc = rt.alloc();
+/// Nothing is counted.
+const NOTHING: Counts = Counts {
+    added: 0,
+    changed: 0,
+    removed: 0,
+    failed: 0,
+    halted: 0,
+};
+
+/// Counts one more event. The counts of a test are small.
+fn count(rt: &impl Abort, counted: &mut Counts, plan: &Plan, script: &Script, event: &Event) {
+    assert!(rt; fits(plan, script, event), "{event:?}");
+    assert!(rt; counted.added < 9 && counted.changed < 9 && counted.removed < 9);
+    assert!(rt; counted.failed < 9 && counted.halted < 9);
+    counted.count(plan, event);
+}
+
+/// Fails where the change with those actions and steps is counted otherwise, at the end or where its second step starts.
+fn counts_are(
+    rt: &impl Abort,
+    alloc: Global,
+    actions: &str,
+    steps: &str,
+    between: Counts,
+    wanted: Counts,
+) {
     let registry = Registry::new(alloc);
-    let nothing = counts(0, 0, 0, 0, 0);
-    for (actions, steps, after_the_first_step, wanted) in [
-        (
-            r#"["delete","create"]"#,
-            "[]",
-            counts(0, 0, 1, 0, 0),
-            counts(1, 0, 1, 0, 0),
-        ),
-        (
-            r#"["create","delete"]"#,
-            r#"[{"seconds":0},{"seconds":4,"failed":{"summary":"boom"}}]"#,
-            counts(1, 0, 0, 0, 0),
-            counts(1, 0, 0, 1, 0),
-        ),
-        (
-            r#"["update"]"#,
-            r#"[{"seconds":25}]"#,
-            nothing,
-            counts(0, 1, 0, 0, 0),
-        ),
-        (r#"["read"]"#, "[]", nothing, nothing),
-    ] {
-        let plan = plan_of(&rt, alloc, actions)?;
-        let script = script_of(&rt, alloc, &plan, steps)?;
-        assert_eq!(rt; plan.len(), 1);
-        let all = all_events(alloc, Runner::start(&plan, &script, &registry, 0, 0, 0))?;
-        let mut counted = Counts::new();
-        assert_eq!(rt; counted, nothing);
-        for event in &all {
-            assert!(rt; fits(&plan, &script, event), "{event:?}");
-            if event.step == 1 && event.what == What::Start {
-                assert_eq!(rt; counted, after_the_first_step, "{actions}");
-            }
-            assert!(rt; counted.added < 9 && counted.changed < 9 && counted.removed < 9);
-            assert!(rt; counted.failed < 9 && counted.halted < 9);
-            counted.count(&plan, event);
+    let plan = plan_of(rt, alloc, actions);
+    let script = script_of(rt, alloc, &plan, steps);
+    assert!(rt; plan.len() == 1);
+    let mut counted = Counts::new();
+    assert!(rt; counted == NOTHING);
+    for event in &all_events(rt, alloc, Runner::start(&plan, &script, &registry, 0, 0, 0)) {
+        if event.step == 1 && event.what == What::Start {
+            assert!(rt; counted == between, "{actions}: {counted:?}");
         }
-        assert_eq!(rt; counted, wanted, "{actions}");
+        count(rt, &mut counted, &plan, &script, event);
     }
-    Ok(())
+    assert!(rt; counted == wanted, "{actions}: {counted:?}");
 }
 
 #[test]
-fn a_halt_is_counted(rt: HostRuntime) -> Result<(), Fail> {
+fn counts_of_changes(rt: HostRuntime) {
     let alloc = rt.alloc();
-    let plan = plan_of(&rt, alloc, r#"["create"]"#)?;
+    let removed = counts(0, 0, 1, 0, 0);
+    let replaced = counts(1, 0, 1, 0, 0);
+    counts_are(&rt, alloc, REPLACEMENT, "[]", removed, replaced);
+    let created_first = r#"["create","delete"]"#;
+    let fails = r#"[{"seconds":0},{"seconds":4,"failed":{"summary":"boom"}}]"#;
+    let added = counts(1, 0, 0, 0, 0);
+    let failed = counts(1, 0, 0, 1, 0);
+    counts_are(&rt, alloc, created_first, fails, added, failed);
+    let long = r#"[{"seconds":25}]"#;
+    let changed = counts(0, 1, 0, 0, 0);
+    counts_are(&rt, alloc, r#"["update"]"#, long, NOTHING, changed);
+    counts_are(&rt, alloc, r#"["read"]"#, "[]", NOTHING, NOTHING);
+}
+
+#[test]
+fn a_halt_is_counted(rt: HostRuntime) {
+    let alloc = rt.alloc();
+    let plan = plan_of(&rt, alloc, r#"["create"]"#);
     let event = Event {
         worker: 0,
         change: 0,
@@ -75,6 +87,5 @@ fn a_halt_is_counted(rt: HostRuntime) -> Result<(), Fail> {
     assert!(rt; fits(&plan, &Script::empty(alloc), &event));
     let mut counted = Counts::new();
     counted.count(&plan, &event);
-    assert_eq!(rt; counted, counts(0, 0, 0, 0, 1));
-    Ok(())
+    assert!(rt; counted == counts(0, 0, 0, 0, 1), "{counted:?}");
 }

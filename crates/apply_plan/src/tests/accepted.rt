@@ -1,4 +1,4 @@
-use super::table::{compare, plans_are_answered, rows, spelled, spelled_rows};
+use super::table::{cells, compare, plans_are_answered, push, put, rows, spelled, spelled_rows};
 use super::*;
 use crate::Change;
 
@@ -13,70 +13,58 @@ fn only<'a>(rt: &impl Abort, plan: &'a Plan) -> &'a Change {
 }
 
 /// That part of a change, as `Debug` prints it.
-fn part_of_change(
-    rt: &impl Abort,
-    alloc: Global,
-    change: &Change,
-    part: &str,
-) -> Result<String, AllocError> {
+fn part_of_change(rt: &impl Abort, alloc: Global, change: &Change, part: &str) -> String {
     match part {
-        "address" => format!(in alloc; "{:?}", change.address()),
-        "module" => format!(in alloc; "{:?}", change.module()),
-        "resource" => format!(in alloc; "{:?}", change.resource()),
-        "kind_name" => format!(in alloc; "{:?}", change.kind_name()),
-        "provider" => format!(in alloc; "{:?}", change.provider()),
-        "name" => format!(in alloc; "{:?}", change.name()),
-        "mode" => format!(in alloc; "{:?}", change.mode()),
-        "key" => format!(in alloc; "{:?}", change.key()),
-        "deposed" => format!(in alloc; "{:?}", change.deposed()),
-        "prior_id" => format!(in alloc; "{:?}", change.prior_id()),
-        "steps" => format!(in alloc; "{:?}", change.steps()),
+        "address" => printed(rt, alloc, &change.address()),
+        "module" => printed(rt, alloc, &change.module()),
+        "resource" => printed(rt, alloc, &change.resource()),
+        "kind_name" => printed(rt, alloc, &change.kind_name()),
+        "provider" => printed(rt, alloc, &change.provider()),
+        "name" => printed(rt, alloc, &change.name()),
+        "mode" => printed(rt, alloc, &change.mode()),
+        "key" => printed(rt, alloc, &change.key()),
+        "deposed" => printed(rt, alloc, &change.deposed()),
+        "prior_id" => printed(rt, alloc, &change.prior_id()),
+        "steps" => printed(rt, alloc, &change.steps()),
         _ => panic!(rt; "no part is {part}"),
     }
 }
 
 /// That part of a plan or of its only change, as `Debug` prints it.
-fn part_of(rt: &impl Abort, alloc: Global, plan: &Plan, part: &str) -> Result<String, AllocError> {
+fn part_of(rt: &impl Abort, alloc: Global, plan: &Plan, part: &str) -> String {
     match part {
-        "len" => format!(in alloc; "{:?}", plan.len()),
-        "version" => format!(in alloc; "{:?}", plan.version()),
+        "len" => printed(rt, alloc, &plan.len()),
+        "version" => printed(rt, alloc, &plan.version()),
         _ => part_of_change(rt, alloc, only(rt, plan), part),
     }
 }
 
 /// These parts of a plan, with blanks between them.
-fn parts_of(
-    rt: &impl Abort,
-    alloc: Global,
-    plan: &Plan,
-    parts: &str,
-) -> Result<String, AllocError> {
+fn parts_of(rt: &impl Abort, alloc: Global, plan: &Plan, parts: &str) -> String {
     let mut told = String::new(alloc);
     for part in parts.split_whitespace() {
         if !told.is_empty() {
-            told.push_str(" ")?;
+            push(rt, &mut told, " ");
         }
-        let text = part_of(rt, alloc, plan, part)?;
-        told.push_str(text.as_str())?;
+        push(rt, &mut told, part_of(rt, alloc, plan, part).as_str());
     }
-    Ok(told)
+    told
 }
 
-/// Reads the plan that has the row's first cell in the place of `CELL`, for each row, and compares these parts of it.
-pub fn plans_tell(
-    rt: &impl Abort,
-    alloc: Global,
-    plan: &str,
-    parts: &str,
-    table: &str,
-) -> Result<(), AllocError> {
-    for (cell, wanted) in rows(rt, alloc, table)? {
-        let text = plan.replace(alloc, "CELL", cell)?;
-        reads_as_plainly(rt, alloc, text.as_str());
-        let found = parts_of(rt, alloc, &plan_of(rt, alloc, text.as_str()), parts)?;
-        compare(rt, cell, found.as_str(), wanted);
+/// Reads the plan, which the plain reader has to read alike, and compares these parts of it.
+fn plan_tells(rt: &impl Abort, alloc: Global, plan: &str, parts: &str, wanted: &str) {
+    reads_as_plainly(rt, alloc, plan);
+    let found = parts_of(rt, alloc, &plan_of(rt, alloc, plan), parts);
+    compare(rt, plan, found.as_str(), wanted);
+}
+
+/// The same for each row: a plan that has the first cell in the place of `CELL`.
+pub fn plans_tell(rt: &impl Abort, alloc: Global, plan: &str, parts: &str, table: &str) {
+    for row in rows(rt, table) {
+        let (cell, wanted) = cells(rt, row);
+        let text = put(rt, alloc, plan, "CELL", cell);
+        plan_tells(rt, alloc, text.as_str(), parts, wanted);
     }
-    Ok(())
 }
 
 /// The parts of `QUOTED_PLAN`.
@@ -96,29 +84,30 @@ steps => [Create]
 "#;
 
 #[test]
-fn quoted_module_address(rt: HostRuntime) -> Result<(), Fail> {
-    let alloc = rt.alloc();
-    reads_as_plainly(&rt, alloc, QUOTED_PLAN);
-    for (part, wanted) in rows(&rt, alloc, QUOTED_PARTS)? {
-        let found = part_of(&rt, alloc, &plan_of(&rt, alloc, QUOTED_PLAN), part)?;
-        compare(&rt, part, found.as_str(), wanted);
+fn quoted_module_address(rt: HostRuntime) {
+    for row in rows(&rt, QUOTED_PARTS) {
+        let (part, wanted) = cells(&rt, row);
+        plan_tells(&rt, rt.alloc(), QUOTED_PLAN, part, wanted);
     }
-    Ok(())
 }
 
+/// A module's address that does not begin the address, and one that leaves nothing of it.
 #[test]
-fn quoted_addresses_fit_their_module(rt: HostRuntime) -> Result<(), Fail> {
+fn quoted_addresses_fit_their_module(rt: HostRuntime) {
     let alloc = rt.alloc();
     let misplaced = "change 0 has an address that does not fit its module";
-    let other = QUOTED_PLAN.replace(
+    let own = r#""module_address":"module.a[\"x.y\"]""#;
+    let other = put(
+        &rt,
         alloc,
-        r#""module_address":"module.a[\"x.y\"]""#,
+        QUOTED_PLAN,
+        own,
         r#""module_address":"module.b""#,
-    )?;
-    plan_is_answered(&rt, alloc, other.as_bytes(), misplaced)?;
-    let bare = QUOTED_PLAN.replace(alloc, r#"aws_instance.web[\"k\\\"1\"]""#, r#"""#)?;
-    plan_is_answered(&rt, alloc, bare.as_bytes(), misplaced)?;
-    Ok(())
+    );
+    plan_is_answered(&rt, alloc, other.as_bytes(), misplaced);
+    let relative = r#"aws_instance.web[\"k\\\"1\"]""#;
+    let bare = put(&rt, alloc, QUOTED_PLAN, relative, r#"""#);
+    plan_is_answered(&rt, alloc, bare.as_bytes(), misplaced);
 }
 
 const STEPS: &str = r#"
@@ -132,11 +121,10 @@ const STEPS: &str = r#"
 "#;
 
 #[test]
-fn each_action_list_has_its_steps(rt: HostRuntime) -> Result<(), Fail> {
+fn each_action_list_has_its_steps(rt: HostRuntime) {
     let plan =
         r#"{"format_version":"1.2","resource_changes":[{"address":"null_resource.a","mode":"managed","type":"null_resource","name":"a","change":{"actions":CELL}}]}"#;
-    plans_tell(&rt, rt.alloc(), plan, "steps", STEPS)?;
-    Ok(())
+    plans_tell(&rt, rt.alloc(), plan, "steps", STEPS);
 }
 
 /// Elements for one address.
@@ -157,30 +145,30 @@ deposed current deposed => change 2 repeats an earlier change
 current deposed blank => change 2 repeats an earlier change
 "#;
 
+/// A plan of these elements.
+const PLAN: &str = r#"{"format_version":"1.2","resource_changes":[CELL]}"#;
+
 #[test]
-fn deposed_beside_current(rt: HostRuntime) -> Result<(), Fail> {
-    let alloc = rt.alloc();
-    let table = spelled_rows(&rt, alloc, OBJECTS, DEPOSED)?;
-    let plan = r#"{"format_version":"1.2","resource_changes":[CELL]}"#;
-    plans_are_answered(&rt, alloc, plan, table.as_str())?;
-    Ok(())
+fn deposed_beside_current(rt: HostRuntime) {
+    let table = spelled_rows(&rt, rt.alloc(), OBJECTS, DEPOSED);
+    plans_are_answered(&rt, rt.alloc(), PLAN, table.as_str());
+}
+
+/// Fails where the change is of an object with another deposed key.
+fn is_deposed_as(rt: &impl Abort, change: &Change, wanted: Option<&str>) {
+    assert_eq!(rt; change.deposed(), wanted);
 }
 
 #[test]
-fn deposed_keys_are_kept(rt: HostRuntime) -> Result<(), Fail> {
+fn deposed_keys_are_kept(rt: HostRuntime) {
     let alloc = rt.alloc();
-    let elements = spelled(&rt, alloc, OBJECTS, "current deposed")?;
-    let text = r#"{"format_version":"1.2","resource_changes":[CELL]}"#.replace(
-        alloc,
-        "CELL",
-        elements.as_str(),
-    )?;
+    let elements = spelled(&rt, alloc, OBJECTS, "current deposed");
+    let text = put(&rt, alloc, PLAN, "CELL", elements.as_str());
     reads_as_plainly(&rt, alloc, text.as_str());
     let plan = plan_of(&rt, alloc, text.as_str());
     assert!(rt; plan.len() == 2);
-    assert_eq!(rt; plan.change(0).deposed(), None);
-    assert_eq!(rt; plan.change(1).deposed(), Some("00000001"));
-    Ok(())
+    is_deposed_as(&rt, plan.change(0), None);
+    is_deposed_as(&rt, plan.change(1), Some("00000001"));
 }
 
 /// Members of the change, and the prior id.
@@ -201,11 +189,10 @@ const PRIOR_IDS: &str = r#"
 "#;
 
 #[test]
-fn sensitive_ids_are_hidden(rt: HostRuntime) -> Result<(), Fail> {
+fn sensitive_ids_are_hidden(rt: HostRuntime) {
     let plan =
         r#"{"format_version":"1.2","resource_changes":[{"address":"a.b","mode":"managed","type":"a","name":"b","change":{CELL,"actions":["update"]}}]}"#;
-    plans_tell(&rt, rt.alloc(), plan, "prior_id", PRIOR_IDS)?;
-    Ok(())
+    plans_tell(&rt, rt.alloc(), plan, "prior_id", PRIOR_IDS);
 }
 
 /// The type, and the provider that it implies, the mode and the key.
@@ -218,11 +205,10 @@ _x => "" DataSource Number(-1)
 "#;
 
 #[test]
-fn types_imply_providers(rt: HostRuntime) -> Result<(), Fail> {
+fn types_imply_providers(rt: HostRuntime) {
     let plan =
         r#"{"format_version":"1.2","resource_changes":[{"address":"a.b","mode":"data","type":"CELL","name":"b","index":-1,"change":{"actions":["read"]}}]}"#;
-    plans_tell(&rt, rt.alloc(), plan, "provider mode key", PROVIDERS)?;
-    Ok(())
+    plans_tell(&rt, rt.alloc(), plan, "provider mode key", PROVIDERS);
 }
 
 /// The index, and the key, the module and the address within it.
@@ -236,9 +222,8 @@ null => None "" "a.b"
 "#;
 
 #[test]
-fn indexes_are_kept(rt: HostRuntime) -> Result<(), Fail> {
+fn indexes_are_kept(rt: HostRuntime) {
     let plan =
         r#"{"format_version":"1.2","resource_changes":[{"address":"a.b","module_address":"","mode":"managed","type":"a","name":"b","index":CELL,"change":{"actions":["create"]}}]}"#;
-    plans_tell(&rt, rt.alloc(), plan, "key module resource", KEYS)?;
-    Ok(())
+    plans_tell(&rt, rt.alloc(), plan, "key module resource", KEYS);
 }

@@ -1,5 +1,5 @@
 use super::scripts::ONE_DELETE;
-use super::table::{cells, compare, rows};
+use super::table::{cells, compare, push, put, rows};
 use super::*;
 use crate::{Diag, Ending, Outcome};
 
@@ -8,73 +8,73 @@ use crate::{Diag, Ending, Outcome};
 const FIVE_CHANGES: &str =
     r#"{"format_version":"1.2","resource_changes":[{"address":"a.a","mode":"managed","type":"a","name":"a","change":{"actions":["update"]}},{"address":"a.b","mode":"managed","type":"a","name":"b","change":{"actions":["delete","create"]}},{"address":"a.a","deposed":"00000001","mode":"managed","type":"a","name":"a","change":{"actions":["delete"]}},{"address":"a.c","mode":"managed","type":"a","name":"c","change":{"actions":["no-op"]}},{"address":"a.d","mode":"managed","type":"a","name":"d","change":{"actions":["create"]}}]}"#;
 
-fn push_diag(alloc: Global, shown: &mut String, diag: &Diag) -> Result<(), AllocError> {
-    let summary = diag.summary.as_str();
-    let detail = diag.detail.as_str();
-    let text = format!(in alloc; " {summary:?} {detail:?}")?;
-    shown.push_str(text.as_str())
+/// Adds a blank, and what `Debug` prints of a text.
+fn push_printed(rt: &impl Abort, alloc: Global, shown: &mut String, text: &str) {
+    push(rt, shown, " ");
+    push(rt, shown, printed(rt, alloc, &text).as_str());
+}
+
+/// Adds what it is called, and both texts of a diagnostic.
+fn push_diag(rt: &impl Abort, alloc: Global, shown: &mut String, name: &str, diag: &Diag) {
+    push(rt, shown, name);
+    push_printed(rt, alloc, shown, diag.summary.as_str());
+    push_printed(rt, alloc, shown, diag.detail.as_str());
+}
+
+/// Adds what a step that is done tells.
+fn push_done(
+    rt: &impl Abort,
+    alloc: Global,
+    shown: &mut String,
+    id: Option<&Text>,
+    warning: Option<&Diag>,
+) {
+    push(rt, shown, " done");
+    if let Some(id) = id {
+        push(rt, shown, ", id");
+        push_printed(rt, alloc, shown, id.as_str());
+    }
+    if let Some(warning) = warning {
+        push_diag(rt, alloc, shown, ", warning", warning);
+    }
 }
 
 /// The outcome in one line: `SECONDS done, id "ID", warning "SUMMARY" "DETAIL"` or `SECONDS failed "SUMMARY" "DETAIL"`.
-fn shown(alloc: Global, outcome: &Outcome) -> Result<String, AllocError> {
-    let seconds = outcome.seconds;
-    let mut shown = format!(in alloc; "{seconds} ")?;
+fn line_of(rt: &impl Abort, alloc: Global, outcome: &Outcome) -> String {
+    let mut line = shown(rt, alloc, &outcome.seconds);
     match &outcome.result {
         Ending::Done { id, warning } => {
-            shown.push_str("done")?;
-            if let Some(id) = id {
-                let id = id.as_str();
-                let text = format!(in alloc; ", id {id:?}")?;
-                shown.push_str(text.as_str())?;
-            }
-            if let Some(warning) = warning {
-                shown.push_str(", warning")?;
-                push_diag(alloc, &mut shown, warning)?;
-            }
+            push_done(rt, alloc, &mut line, id.as_ref(), warning.as_ref());
         }
-        Ending::Failed { diag } => {
-            shown.push_str("failed")?;
-            push_diag(alloc, &mut shown, diag)?;
-        }
+        Ending::Failed { diag } => push_diag(rt, alloc, &mut line, " failed", diag),
     }
-    Ok(shown)
+    line
 }
 
 /// What the script says of the step in one line, and `default` where it says nothing.
-fn said(alloc: Global, script: &Script, change: u32, step: u8) -> Result<String, AllocError> {
+fn said(rt: &impl Abort, alloc: Global, script: &Script, change: u32, step: u8) -> String {
     match script.outcome(change, step) {
-        Some(outcome) => shown(alloc, outcome),
-        None => String::from_str(alloc, "default"),
+        Some(outcome) => line_of(rt, alloc, outcome),
+        None => shown(rt, alloc, &"default"),
     }
 }
 
 /// What the script says of the step, by the numbers of its change and of the step in it.
-fn said_at(
-    rt: &impl Abort,
-    alloc: Global,
-    script: &Script,
-    change: &str,
-    step: &str,
-) -> Result<String, AllocError> {
+fn said_at(rt: &impl Abort, alloc: Global, script: &Script, change: &str, step: &str) -> String {
     match (change.parse::<u32>(), step.parse::<u8>()) {
-        (Ok(change), Ok(step)) => said(alloc, script, change, step),
+        (Ok(change), Ok(step)) => said(rt, alloc, script, change, step),
         (_, _) => panic!(rt; "{change} and {step} are no numbers of a change and a step"),
     }
 }
 
 /// Compares what the script says of each row's change and step.
-fn steps_are_said(
-    rt: &impl Abort,
-    alloc: Global,
-    script: &Script,
-    table: &str,
-) -> Result<(), AllocError> {
-    for (change, rest) in rows(rt, alloc, table)? {
+fn steps_are_said(rt: &impl Abort, alloc: Global, script: &Script, table: &str) {
+    for row in rows(rt, table) {
+        let (change, rest) = cells(rt, row);
         let (step, wanted) = cells(rt, rest);
-        let found = said_at(rt, alloc, script, change, step)?;
-        compare(rt, change, found.as_str(), wanted);
+        let found = said_at(rt, alloc, script, change, step);
+        compare(rt, row, found.as_str(), wanted);
     }
-    Ok(())
 }
 
 /// A script in another order than the plan's, with nothing of the third change.
@@ -113,13 +113,12 @@ const SAID_OF_DEPOSED: &str = r#"
 "#;
 
 #[test]
-fn a_script_says_what_is_written(rt: HostRuntime) -> Result<(), Fail> {
+fn a_script_says_what_is_written(rt: HostRuntime) {
     let alloc = rt.alloc();
     let script = script_of(&rt, alloc, FIVE_CHANGES, SAYS);
-    steps_are_said(&rt, alloc, &script, SAID)?;
+    steps_are_said(&rt, alloc, &script, SAID);
     let deposed = script_of(&rt, alloc, FIVE_CHANGES, SAYS_OF_DEPOSED);
-    steps_are_said(&rt, alloc, &deposed, SAID_OF_DEPOSED)?;
-    Ok(())
+    steps_are_said(&rt, alloc, &deposed, SAID_OF_DEPOSED);
 }
 
 const STEPS: &str = r#"
@@ -153,21 +152,17 @@ const STEPS: &str = r#"
 "#;
 
 #[test]
-fn a_step_says_what_is_written(rt: HostRuntime) -> Result<(), Fail> {
+fn a_step_says_what_is_written(rt: HostRuntime) {
     let alloc = rt.alloc();
     let script =
         r#"{"changes":[{"address":"null_resource.a","steps":[{CELL}],"id":"9","seconds":9}]}"#;
-    for (members, wanted) in rows(&rt, alloc, STEPS)? {
-        let text = script.replace(alloc, "CELL", members)?;
-        let found = said(
-            alloc,
-            &script_of(&rt, alloc, ONE_DELETE, text.as_str()),
-            0,
-            0,
-        )?;
+    for row in rows(&rt, STEPS) {
+        let (members, wanted) = cells(&rt, row);
+        let text = put(&rt, alloc, script, "CELL", members);
+        let script = script_of(&rt, alloc, ONE_DELETE, text.as_str());
+        let found = said(&rt, alloc, &script, 0, 0);
         compare(&rt, members, found.as_str(), wanted);
     }
-    Ok(())
 }
 
 const NOTHING: &str = r#"
@@ -179,10 +174,9 @@ const NOTHING: &str = r#"
 "#;
 
 #[test]
-fn an_empty_script_says_nothing(rt: HostRuntime) -> Result<(), Fail> {
+fn an_empty_script_says_nothing(rt: HostRuntime) {
     let alloc = rt.alloc();
-    steps_are_said(&rt, alloc, &Script::empty(alloc), NOTHING)?;
+    steps_are_said(&rt, alloc, &Script::empty(alloc), NOTHING);
     let read = script_of(&rt, alloc, FIVE_CHANGES, r#"{"changes":[]}"#);
-    steps_are_said(&rt, alloc, &read, NOTHING)?;
-    Ok(())
+    steps_are_said(&rt, alloc, &read, NOTHING);
 }

@@ -1,5 +1,5 @@
 use super::accepted::{QUOTED_PLAN, plans_tell};
-use super::table::plans_are_answered;
+use super::table::{cells, plans_are_answered, rows, with_end};
 use super::*;
 use crate::PlanError;
 
@@ -30,9 +30,8 @@ null => the plan is not a plan of format 1.x
 "#;
 
 #[test]
-fn refused_plans(rt: HostRuntime) -> Result<(), Fail> {
-    plans_are_answered(&rt, rt.alloc(), "CELL", REFUSED)?;
-    Ok(())
+fn refused_plans(rt: HostRuntime) {
+    plans_are_answered(&rt, rt.alloc(), "CELL", REFUSED);
 }
 
 /// The number of changes, and the version.
@@ -46,76 +45,64 @@ const EMPTY: &str = r#"
 "#;
 
 #[test]
-fn an_empty_plan_has_a_version(rt: HostRuntime) -> Result<(), Fail> {
-    plans_tell(&rt, rt.alloc(), "CELL", "len version", EMPTY)?;
-    Ok(())
+fn an_empty_plan_has_a_version(rt: HostRuntime) {
+    plans_tell(&rt, rt.alloc(), "CELL", "len version", EMPTY);
 }
 
 #[test]
-fn bytes_that_are_no_json_are_refused(rt: HostRuntime) -> Result<(), Fail> {
-    let alloc = rt.alloc();
-    let refused = "the plan is not JSON";
+fn a_plan_that_is_cut_off_is_refused(rt: HostRuntime) {
     let quoted = QUOTED_PLAN.as_bytes();
     for end in 0..quoted.len() {
-        plan_is_answered(&rt, alloc, &quoted[..end], refused)?;
+        plan_is_answered(&rt, rt.alloc(), &quoted[..end], "the plan is not JSON");
     }
-    let more = format!(in alloc; "{QUOTED_PLAN}x")?;
-    plan_is_answered(&rt, alloc, more.as_bytes(), refused)?;
-    let line = format!(in alloc; "{QUOTED_PLAN}\n")?;
-    plan_is_answered(&rt, alloc, line.as_bytes(), "accepted")?;
-    let no_text = b"{\"format_version\":\"1.\xff\"}";
-    plan_is_answered(&rt, alloc, no_text, refused)?;
-    let no_number = br#"{"format_version":"1.0","other":1e400}"#;
-    plan_is_answered(&rt, alloc, no_number, refused)?;
-    Ok(())
 }
 
 #[test]
-fn refusals_have_their_texts(rt: HostRuntime) -> Result<(), Fail> {
+fn bytes_that_are_no_json_are_refused(rt: HostRuntime) {
     let alloc = rt.alloc();
-    is_told(
-        &rt,
-        alloc,
-        &PlanError::TooLarge,
-        "the plan is larger than 67108864 bytes",
-    )?;
-    is_told(&rt, alloc, &PlanError::NotJson, "the plan is not JSON")?;
-    is_told(
-        &rt,
-        alloc,
-        &PlanError::NotAPlan,
-        "the plan is not a plan of format 1.x",
-    )?;
-    is_told(
-        &rt,
-        alloc,
-        &PlanError::TooMany,
-        "the plan has more than 10000 changes",
-    )?;
-    is_told(
-        &rt,
-        alloc,
-        &PlanError::BadChange(3),
-        "change 3 is malformed",
-    )?;
-    is_told(
-        &rt,
-        alloc,
-        &PlanError::BadActions(4),
-        "change 4 has an action list that is out of scope",
-    )?;
-    is_told(
-        &rt,
-        alloc,
-        &PlanError::BadAddress(5),
-        "change 5 has an address that does not fit its module",
-    )?;
-    is_told(
-        &rt,
-        alloc,
-        &PlanError::Duplicate(6),
-        "change 6 repeats an earlier change",
-    )?;
-    is_told(&rt, alloc, &PlanError::Memory, "out of memory")?;
-    Ok(())
+    let refused = "the plan is not JSON";
+    let more = with_end(&rt, alloc, QUOTED_PLAN, "x");
+    plan_is_answered(&rt, alloc, more.as_bytes(), refused);
+    let line = with_end(&rt, alloc, QUOTED_PLAN, "\n");
+    plan_is_answered(&rt, alloc, line.as_bytes(), "accepted");
+    let no_text = b"{\"format_version\":\"1.\xff\"}";
+    plan_is_answered(&rt, alloc, no_text, refused);
+    let no_number = br#"{"format_version":"1.0","other":1e400}"#;
+    plan_is_answered(&rt, alloc, no_number, refused);
+}
+
+/// Each refusal, and its text.
+const TEXTS: &str = r#"
+TooLarge => the plan is larger than 67108864 bytes
+NotJson => the plan is not JSON
+NotAPlan => the plan is not a plan of format 1.x
+TooMany => the plan has more than 10000 changes
+BadChange(3) => change 3 is malformed
+BadActions(4) => change 4 has an action list that is out of scope
+BadAddress(5) => change 5 has an address that does not fit its module
+Duplicate(6) => change 6 repeats an earlier change
+Memory => out of memory
+"#;
+
+fn refusal_of(rt: &impl Abort, name: &str) -> PlanError {
+    match name {
+        "TooLarge" => PlanError::TooLarge,
+        "NotJson" => PlanError::NotJson,
+        "NotAPlan" => PlanError::NotAPlan,
+        "TooMany" => PlanError::TooMany,
+        "BadChange(3)" => PlanError::BadChange(3),
+        "BadActions(4)" => PlanError::BadActions(4),
+        "BadAddress(5)" => PlanError::BadAddress(5),
+        "Duplicate(6)" => PlanError::Duplicate(6),
+        "Memory" => PlanError::Memory,
+        _ => panic!(rt; "no refusal is {name}"),
+    }
+}
+
+#[test]
+fn refusals_have_their_texts(rt: HostRuntime) {
+    for row in rows(&rt, TEXTS) {
+        let (name, wanted) = cells(&rt, row);
+        is_told(&rt, rt.alloc(), &refusal_of(&rt, name), wanted);
+    }
 }

@@ -1,4 +1,4 @@
-use super::table::{rows, scripts_are_answered, spelled_rows};
+use super::table::{cells, put, rows, scripts_are_answered, spelled_rows, with_end};
 use super::*;
 use crate::ScriptError;
 
@@ -32,14 +32,13 @@ const TO_A_DELETE: &str = r#"
 "#;
 
 #[test]
-fn refused_scripts(rt: HostRuntime) -> Result<(), Fail> {
+fn refused_scripts(rt: HostRuntime) {
     let alloc = rt.alloc();
-    scripts_are_answered(&rt, alloc, ONE_CREATE, ENTRIES, TO_A_CREATE)?;
-    scripts_are_answered(&rt, alloc, ONE_REPLACEMENT, ENTRIES, TO_A_REPLACEMENT)?;
-    scripts_are_answered(&rt, alloc, ONE_DELETE, ENTRIES, TO_A_DELETE)?;
-    script_is_answered(&rt, alloc, ONE_CREATE, b"{}", "the script is malformed")?;
-    script_is_answered(&rt, alloc, ONE_CREATE, b"{", "the script is not JSON")?;
-    Ok(())
+    scripts_are_answered(&rt, alloc, ONE_CREATE, ENTRIES, TO_A_CREATE);
+    scripts_are_answered(&rt, alloc, ONE_REPLACEMENT, ENTRIES, TO_A_REPLACEMENT);
+    scripts_are_answered(&rt, alloc, ONE_DELETE, ENTRIES, TO_A_DELETE);
+    script_is_answered(&rt, alloc, ONE_CREATE, b"{}", "the script is malformed");
+    script_is_answered(&rt, alloc, ONE_CREATE, b"{", "the script is not JSON");
 }
 
 /// A plan of one create, whose provider tells an id in `ONE_ID`.
@@ -50,23 +49,27 @@ const ONE_ID: &str =
     r#"{"changes":[{"address":"random_pet.animal","steps":[{"seconds":0,"id":"smart-lizard"}]}]}"#;
 
 #[test]
-fn a_script_is_json(rt: HostRuntime) -> Result<(), Fail> {
-    let alloc = rt.alloc();
-    let refused = "the script is not JSON";
+fn a_script_that_is_cut_off_is_refused(rt: HostRuntime) {
     let bytes = ONE_ID.as_bytes();
     for end in 0..bytes.len() {
-        script_is_answered(&rt, alloc, ONE_PET, &bytes[..end], refused)?;
+        let refused = "the script is not JSON";
+        script_is_answered(&rt, rt.alloc(), ONE_PET, &bytes[..end], refused);
     }
-    script_is_answered(&rt, alloc, ONE_PET, bytes, "accepted")?;
-    let more = format!(in alloc; "{ONE_ID}x")?;
-    script_is_answered(&rt, alloc, ONE_PET, more.as_bytes(), refused)?;
-    let line = format!(in alloc; "{ONE_ID}\n")?;
-    script_is_answered(&rt, alloc, ONE_PET, line.as_bytes(), "accepted")?;
+}
+
+#[test]
+fn a_script_is_json(rt: HostRuntime) {
+    let alloc = rt.alloc();
+    let refused = "the script is not JSON";
+    script_is_answered(&rt, alloc, ONE_PET, ONE_ID.as_bytes(), "accepted");
+    let more = with_end(&rt, alloc, ONE_ID, "x");
+    script_is_answered(&rt, alloc, ONE_PET, more.as_bytes(), refused);
+    let line = with_end(&rt, alloc, ONE_ID, "\n");
+    script_is_answered(&rt, alloc, ONE_PET, line.as_bytes(), "accepted");
     let no_text = b"{\"changes\":[{\"address\":\"random_pet.animal\xff\",\"steps\":[]}]}";
-    script_is_answered(&rt, alloc, ONE_PET, no_text, refused)?;
+    script_is_answered(&rt, alloc, ONE_PET, no_text, refused);
     let no_number = br#"{"changes":[],"other":1e400}"#;
-    script_is_answered(&rt, alloc, ONE_PET, no_number, refused)?;
-    Ok(())
+    script_is_answered(&rt, alloc, ONE_PET, no_number, refused);
 }
 
 /// A create, a replacement, and a deposed object at the address of the create.
@@ -112,26 +115,25 @@ other_slow => the script is malformed
 
 /// The refusals go by kind over a whole entry, and the first faulty entry is reported.
 #[test]
-fn the_first_fault_of_the_first_faulty_entry_is_reported(rt: HostRuntime) -> Result<(), Fail> {
+fn the_first_fault_of_the_first_faulty_entry_is_reported(rt: HostRuntime) {
     let alloc = rt.alloc();
     let second =
         r#"{"changes":[{"address":"null_resource.a","steps":[{"seconds":1}]},CELL,THIRD]}"#;
-    let table = spelled_rows(&rt, alloc, FAULTS, FIRST_FAULTS)?;
-    for (_, third) in rows(&rt, alloc, FAULTS)? {
-        let script = second.replace(alloc, "THIRD", third)?;
-        scripts_are_answered(&rt, alloc, THREE_CHANGES, script.as_str(), table.as_str())?;
+    let table = spelled_rows(&rt, alloc, FAULTS, FIRST_FAULTS);
+    for row in rows(&rt, FAULTS) {
+        let (_, third) = cells(&rt, row);
+        let script = put(&rt, alloc, second, "THIRD", third);
+        scripts_are_answered(&rt, alloc, THREE_CHANGES, script.as_str(), table.as_str());
     }
-    Ok(())
 }
 
 #[test]
-fn a_fault_of_the_top_level_comes_first(rt: HostRuntime) -> Result<(), Fail> {
+fn a_fault_of_the_top_level_comes_first(rt: HostRuntime) {
     let alloc = rt.alloc();
     let script =
         r#"{"changes":[{"address":"null_resource.a","steps":[{"seconds":1}]},CELL],"changes":5}"#;
-    let table = spelled_rows(&rt, alloc, FAULTS, TOP_LEVEL_FIRST)?;
-    scripts_are_answered(&rt, alloc, THREE_CHANGES, script, table.as_str())?;
-    Ok(())
+    let table = spelled_rows(&rt, alloc, FAULTS, TOP_LEVEL_FIRST);
+    scripts_are_answered(&rt, alloc, THREE_CHANGES, script, table.as_str());
 }
 
 /// Entries by what they are about.
@@ -163,59 +165,44 @@ current other other_deposed => script entry 2 names an unknown change
 "#;
 
 #[test]
-fn each_change_has_one_entry(rt: HostRuntime) -> Result<(), Fail> {
+fn each_change_has_one_entry(rt: HostRuntime) {
     let alloc = rt.alloc();
-    let table = spelled_rows(&rt, alloc, OBJECTS, ONE_ENTRY_EACH)?;
-    scripts_are_answered(&rt, alloc, THREE_CHANGES, ENTRIES, table.as_str())?;
-    Ok(())
+    let table = spelled_rows(&rt, alloc, OBJECTS, ONE_ENTRY_EACH);
+    scripts_are_answered(&rt, alloc, THREE_CHANGES, ENTRIES, table.as_str());
+}
+
+/// Each refusal, and its text.
+const TEXTS: &str = r#"
+TooLarge => the script is larger than 67108864 bytes
+NotJson => the script is not JSON
+BadShape(None) => the script is malformed
+BadShape(Some(3)) => script entry 3 is malformed
+UnknownChange(4) => script entry 4 names an unknown change
+Duplicate(5) => script entry 5 repeats an earlier entry
+TooManySteps(6) => script entry 6 has too many steps
+SecondsRange(7) => script entry 7 has a step over 86400 seconds
+Memory => out of memory
+"#;
+
+fn refusal_of(rt: &impl Abort, name: &str) -> ScriptError {
+    match name {
+        "TooLarge" => ScriptError::TooLarge,
+        "NotJson" => ScriptError::NotJson,
+        "BadShape(None)" => ScriptError::BadShape(None),
+        "BadShape(Some(3))" => ScriptError::BadShape(Some(3)),
+        "UnknownChange(4)" => ScriptError::UnknownChange(4),
+        "Duplicate(5)" => ScriptError::Duplicate(5),
+        "TooManySteps(6)" => ScriptError::TooManySteps(6),
+        "SecondsRange(7)" => ScriptError::SecondsRange(7),
+        "Memory" => ScriptError::Memory,
+        _ => panic!(rt; "no refusal is {name}"),
+    }
 }
 
 #[test]
-fn script_refusals_have_their_texts(rt: HostRuntime) -> Result<(), Fail> {
-    let alloc = rt.alloc();
-    is_told(
-        &rt,
-        alloc,
-        &ScriptError::TooLarge,
-        "the script is larger than 67108864 bytes",
-    )?;
-    is_told(&rt, alloc, &ScriptError::NotJson, "the script is not JSON")?;
-    is_told(
-        &rt,
-        alloc,
-        &ScriptError::BadShape(None),
-        "the script is malformed",
-    )?;
-    is_told(
-        &rt,
-        alloc,
-        &ScriptError::BadShape(Some(3)),
-        "script entry 3 is malformed",
-    )?;
-    is_told(
-        &rt,
-        alloc,
-        &ScriptError::UnknownChange(4),
-        "script entry 4 names an unknown change",
-    )?;
-    is_told(
-        &rt,
-        alloc,
-        &ScriptError::Duplicate(5),
-        "script entry 5 repeats an earlier entry",
-    )?;
-    is_told(
-        &rt,
-        alloc,
-        &ScriptError::TooManySteps(6),
-        "script entry 6 has too many steps",
-    )?;
-    is_told(
-        &rt,
-        alloc,
-        &ScriptError::SecondsRange(7),
-        "script entry 7 has a step over 86400 seconds",
-    )?;
-    is_told(&rt, alloc, &ScriptError::Memory, "out of memory")?;
-    Ok(())
+fn script_refusals_have_their_texts(rt: HostRuntime) {
+    for row in rows(&rt, TEXTS) {
+        let (name, wanted) = cells(&rt, row);
+        is_told(&rt, rt.alloc(), &refusal_of(&rt, name), wanted);
+    }
 }
