@@ -98,6 +98,12 @@ fn tells(
     assert!(rt; found == wanted, "{actions} {steps}: {found}");
 }
 
+/// Fails where another step begins next, or the change has ended at another time so far.
+fn stands(rt: &impl Abort, runner: &Runner<'_>, begins: Option<u8>, ended_at: u64) {
+    assert!(rt; runner.begins() == begins, "not {begins:?}");
+    assert!(rt; runner.ended_at() == ended_at, "not {ended_at}");
+}
+
 /// A list of one rule that halts in a phase.
 fn halt_in(alloc: Global, phase: Phase, kind: Option<StepKind>) -> Result<Rules, AllocError>
     ensures { IfOk result (λ rules. rules ≡ record {

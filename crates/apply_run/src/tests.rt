@@ -1,7 +1,7 @@
 //! What no clause says: that calls succeed with ample memory, whole streams as bytes, that workers run at once and lines are
 //! written meanwhile, and how sinks answer in turn.
 
-ghost use Rattle.std.specs.Prelude.{◌<◌, ◌-◌, ◌^◌};
+ghost use Rattle.std.specs.Prelude.{◌≡◌, ◌<◌, ◌-◌, ◌^◌};
 
 mod failing_sinks;
 mod hooks;
@@ -102,6 +102,13 @@ fn script_of(rt: &impl Abort, alloc: Global, text: &str, plan: &Plan) -> Script 
     }
 }
 
+/// A sink with room for whatever comes.
+fn memory(alloc: Global) -> MemorySink
+    ensures { result.failures ≡ 0 }
+{
+    MemorySink::new(alloc, usize::MAX, None)
+}
+
 /// What the sink has, as text.
 fn text_of<'a>(rt: &impl Abort, sink: &'a MemorySink) -> &'a str {
     match str::from_utf8(sink.bytes()) {
@@ -110,31 +117,26 @@ fn text_of<'a>(rt: &impl Abort, sink: &'a MemorySink) -> &'a str {
     }
 }
 
-/// Applies what both texts say into memory, and holds nothing back.
-fn apply_texts<R: Threads + Wait + Sync>(
-    rt: &R,
-    alloc: Global,
-    plan: &str,
-    script: &str,
-    registry: &Registry,
-    options: Options,
-) -> (MemorySink, Result<Report, Refusal>) {
-    let script = if script == NO_SCRIPT {
+/// The bytes of a script, where there is one.
+fn script_bytes(script: &str) -> Option<&[u8]> {
+    if script == NO_SCRIPT {
         None
     } else {
         Some(script.as_bytes())
-    };
-    let sink = MemorySink::new(alloc, usize::MAX, None);
-    apply_bytes(
-        rt,
-        alloc,
-        plan.as_bytes(),
-        script,
-        registry,
-        options,
-        sink,
-        &NoGate,
-    )
+    }
+}
+
+/// Applies what both say into memory, and holds nothing back.
+fn apply_into_memory<R: Threads + Wait + Sync>(
+    rt: &R,
+    alloc: Global,
+    plan: &str,
+    script: Option<&[u8]>,
+    registry: &Registry,
+    options: Options,
+) -> (MemorySink, Result<Report, Refusal>) {
+    let (plan, sink) = (plan.as_bytes(), memory(alloc));
+    apply_bytes(rt, alloc, plan, script, registry, options, sink, &NoGate)
 }
 
 /// The same where it has to succeed. What was written.
@@ -146,13 +148,34 @@ fn applied<R: Threads + Wait + Sync + Abort>(
     registry: &Registry,
     options: Options,
 ) -> MemorySink {
-    let (sink, result) = apply_texts(rt, alloc, plan, script, registry, options);
+    let script = script_bytes(script);
+    let (sink, result) = apply_into_memory(rt, alloc, plan, script, registry, options);
     match result {
-        Ok(report) => assert_eq!(rt; report.written, sink.bytes().len() as u128),
+        Ok(report) => has_taken(rt, &sink, report.written),
         Err(refusal) => panic!(rt; "{plan}: {refusal}"),
     }
-    assert_eq!(rt; sink.failures(), 0);
+    number_is(rt, "failed writes", sink.failures(), 0);
     sink
+}
+
+/// Fails where the sink has not as many bytes as are told.
+fn has_taken(rt: &impl Abort, sink: &MemorySink, written: u128) {
+    assert_eq!(rt; written, sink.bytes().len() as u128);
+}
+
+/// Fails where the stream of both texts under the hooks is not these lines.
+fn stream_is<R: Threads + Wait + Sync + Abort>(
+    rt: &R,
+    alloc: Global,
+    name: &str,
+    plan: &str,
+    script: &str,
+    registry: &Registry,
+    options: Options,
+    wanted: &str,
+) {
+    let sink = applied(rt, alloc, plan, script, registry, options);
+    lines_are(rt, name, text_of(rt, &sink), wanted);
 }
 
 /// Applies what was read, without hooks.
@@ -172,7 +195,24 @@ fn apply_read<S: Sink + Drop, G: Gate, R: Threads + Wait + Sync + Abort>(
     apply_stream(rt, alloc, plan, script, &registry, options, sink, gate)
 }
 
-/// Reads both texts and applies them, without hooks. It has to succeed.
+/// Reads both texts and applies them, without hooks.
+fn apply_texts<S: Sink + Drop, G: Gate, R: Threads + Wait + Sync + Abort>(
+    rt: &R,
+    alloc: Global,
+    plan: &str,
+    script: &str,
+    options: Options,
+    sink: S,
+    gate: &G,
+) -> (S, Result<Report, Fault>)
+    requires { S.failed sink < 2 ^ 64 - 1 }
+{
+    let plan = plan_of(rt, alloc, plan);
+    let script = script_of(rt, alloc, script, &plan);
+    apply_read(rt, alloc, &plan, &script, options, sink, gate)
+}
+
+/// The same where it has to succeed.
 fn apply_plan<S: Sink + Drop, G: Gate, R: Threads + Wait + Sync + Abort>(
     rt: &R,
     alloc: Global,
@@ -184,11 +224,14 @@ fn apply_plan<S: Sink + Drop, G: Gate, R: Threads + Wait + Sync + Abort>(
 ) -> (S, Report)
     requires { S.failed sink < 2 ^ 64 - 1 }
 {
-    let plan = plan_of(rt, alloc, plan);
-    let script = script_of(rt, alloc, script, &plan);
-    let (sink, result) = apply_read(rt, alloc, &plan, &script, options, sink, gate);
-    match result {
-        Ok(report) => (sink, report),
+    let (sink, result) = apply_texts(rt, alloc, plan, script, options, sink, gate);
+    (sink, report_of(rt, result))
+}
+
+/// What a run has done that had to end well.
+fn report_of(rt: &impl Abort, end: Result<Report, Fault>) -> Report {
+    match end {
+        Ok(report) => report,
         Err(fault) => panic!(rt; "{fault}"),
     }
 }
@@ -224,16 +267,43 @@ fn passes_of<R: Threads + Wait + Sync + Abort>(rt: &R, alloc: Global, registry: 
         None,
         registry,
         options(1, 64),
-        MemorySink::new(alloc, usize::MAX, None),
+        memory(alloc),
         &gate,
     );
     assert!(rt; result.is_ok());
     gate.passes.load(Ordering::SeqCst)
 }
 
+/// Fails where the number is another.
+fn number_is(rt: &impl Abort, name: &str, found: u64, wanted: u64)
+    ensures { found ≡ wanted }
+{
+    assert_eq!(rt; found, wanted, "{name}");
+}
+
+/// Fails where the text is another.
+fn text_is(rt: &impl Abort, name: &str, found: &str, wanted: &str) {
+    assert_eq!(rt; found, wanted, "{name}");
+}
+
+/// Fails where the bytes are others.
+fn bytes_are(rt: &impl Abort, found: &[u8], wanted: &[u8]) {
+    assert_eq!(rt; found, wanted);
+}
+
+/// Fails where other steps were counted.
+fn counts_are(rt: &impl Abort, found: Counts, wanted: Counts) {
+    assert_eq!(rt; found, wanted);
+}
+
+/// Fails where a flush ended otherwise.
+fn flush_is(rt: &impl Abort, found: Result<(), SinkFault>, wanted: Result<(), SinkFault>) {
+    assert_eq!(rt; found, wanted);
+}
+
 /// Fails where the text is not these lines, each with its line feed.
 fn lines_are(rt: &impl Abort, name: &str, found: &str, wanted: &str) {
-    assert_eq!(rt; found.trim_end(), wanted.trim_end(), "{name}");
+    text_is(rt, name, found.trim_end(), wanted.trim_end());
     assert!(rt; found.ends_with("}\n"), "{name}");
 }
 
@@ -254,10 +324,15 @@ fn around_moment(line: &str) -> (&str, &str) {
     }
 }
 
+/// Fails where the line's moment is before that one.
+fn not_before(rt: &impl Abort, line: &str, moment: &str) {
+    assert!(rt; moment_of(rt, line) >= moment, "{line}");
+}
+
 /// Fails where the moment of a line is before that of the line above it.
 fn moments_never_go_back(rt: &impl Abort, text: &str) {
     for (above, line) in text.lines().zip(text.lines().skip(1)) {
-        assert!(rt; moment_of(rt, above) <= moment_of(rt, line), "{line}");
+        not_before(rt, line, moment_of(rt, above));
     }
 }
 
@@ -282,14 +357,18 @@ fn lines_of_address_are(rt: &impl Abort, address: &str, found: &str, wanted: &st
     let mut rest = found.lines();
     for line in wanted.lines() {
         if address_of(line) == address {
-            let next = next_of(&mut rest, address);
-            assert!(rt;
-                around_moment(next) == around_moment(line),
-                "{next} and not {line}"
-            );
+            line_is(rt, next_of(&mut rest, address), line);
         }
     }
-    assert_eq!(rt; next_of(&mut rest, address), "");
+    text_is(rt, address, next_of(&mut rest, address), "");
+}
+
+/// Fails where the line is another; its moment may be.
+fn line_is(rt: &impl Abort, found: &str, wanted: &str) {
+    assert!(rt;
+        around_moment(found) == around_moment(wanted),
+        "{found} and not {wanted}"
+    );
 }
 
 /// The next of the lines that tells the address; empty where none is left.
@@ -305,14 +384,24 @@ fn next_of<'a>(lines: &mut Lines<'a>, address: &str) -> &'a str {
 /// Fails where the lines of a change are others, or in another order, or where the first or the last line is another.
 /// Their moments may be others.
 fn lines_are_of_changes(rt: &impl Abort, found: &str, wanted: &str) {
-    assert_eq!(rt; found.lines().count(), wanted.lines().count());
+    number_is(rt, "lines", lines_of(found), lines_of(wanted));
     for line in wanted.lines() {
         lines_of_address_are(rt, address_of(line), found, wanted);
     }
     let first = found.lines().next().unwrap_or("");
-    assert!(rt; first.contains(r#""type":"version""#), "{first}");
+    contains(rt, first, r#""type":"version""#);
     let last = found.lines().last().unwrap_or("");
-    assert!(rt; last.contains(r#""type":"change_summary""#), "{last}");
+    contains(rt, last, r#""type":"change_summary""#);
+}
+
+/// How many lines the text has.
+fn lines_of(text: &str) -> u64 {
+    text.lines().count() as u64
+}
+
+/// Fails where the line has no such part.
+fn contains(rt: &impl Abort, line: &str, part: &str) {
+    assert!(rt; line.contains(part), "no {part} in {line}");
 }
 
 /// Counts of steps, none of them halted.

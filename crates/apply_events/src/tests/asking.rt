@@ -65,12 +65,6 @@ fn hooks_halt_after_a_failed_step(rt: HostRuntime) -> Result<(), Fail> {
     Ok(())
 }
 
-/// Fails where another step begins next, or the change has ended at another time so far.
-fn stands(rt: &impl Abort, runner: &Runner<'_>, begins: Option<u8>, ended_at: u64) {
-    assert!(rt; runner.begins() == begins);
-    assert!(rt; runner.ended_at() == ended_at);
-}
-
 /// Fails where it stands otherwise between the events of a replacement whose first step takes a second, and is halted
 /// after it.
 fn stands_before_the_halt(rt: &impl Abort, plan: &Plan, script: &Script, registry: &Registry) {

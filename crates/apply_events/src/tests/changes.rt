@@ -99,8 +99,7 @@ fn next_leaves(
 ) {
     let event = runner.next().expect(rt, "an event");
     assert!(rt; event.at == at && event.what == what, "{event:?}");
-    assert!(rt; runner.begins() == begins, "after {what:?}");
-    assert!(rt; runner.ended_at() == ended_at, "after {what:?}");
+    stands(rt, runner, begins, ended_at);
 }
 
 /// Between all events: which step begins next, and when the change has ended so far.
@@ -112,8 +111,7 @@ fn between_the_events_of_a_replacement(rt: HostRuntime) {
     let script = script_of(&rt, alloc, &plan, ELEVEN_AND_TWO);
     assert!(rt; plan.len() == 1);
     let mut runner = Runner::start(&plan, &script, &registry, 0, 0, 5);
-    assert!(rt; runner.begins() == Some(0));
-    assert!(rt; runner.ended_at() == 5);
+    stands(&rt, &runner, Some(0), 5);
     next_leaves(&rt, &mut runner, 5, What::Start, None, 5);
     next_leaves(&rt, &mut runner, 15, What::Progress(10), None, 5);
     next_leaves(&rt, &mut runner, 16, What::Complete(11), Some(1), 16);
@@ -121,6 +119,5 @@ fn between_the_events_of_a_replacement(rt: HostRuntime) {
     next_leaves(&rt, &mut runner, 18, What::Complete(2), None, 16);
     next_leaves(&rt, &mut runner, 18, What::WarnNote, None, 18);
     assert!(rt; runner.next().is_none());
-    assert!(rt; runner.begins().is_none());
-    assert!(rt; runner.ended_at() == 18);
+    stands(&rt, &runner, None, 18);
 }

@@ -1,6 +1,6 @@
 //! Streams into sinks that take little at a time, or fail.
 
-ghost use Rattle.std.specs.Prelude.{◌≤◌};
+ghost use Rattle.std.specs.Prelude.{◌<◌, ◌≤◌, ◌-◌, ◌^◌};
 
 use super::*;
 use std::io;
@@ -22,21 +22,49 @@ fn failed(counts: Counts, taken: u64, written: usize) -> Result<Report, Fault> {
     })
 }
 
+/// Fails where the run ended otherwise.
+fn end_is(rt: &impl Abort, found: Result<Report, Fault>, wanted: Result<Report, Fault>) {
+    assert_eq!(rt; found, wanted);
+}
+
+/// Applies one create into the sink.
+fn create_into<S: Sink + Drop, R: Threads + Wait + Sync + Abort>(
+    rt: &R,
+    alloc: Global,
+    workers: u8,
+    sink: S,
+) -> (S, Result<Report, Fault>)
+    requires { S.failed sink < 2 ^ 64 - 1 }
+{
+    let options = options(workers, 64);
+    apply_texts(rt, alloc, ONE_CREATE, NO_SCRIPT, options, sink, &NoGate)
+}
+
+/// Fails where the sink gets another text of one create, or other writes fail. How the run ended.
+fn create_into_memory<R: Threads + Wait + Sync + Abort>(
+    rt: &R,
+    alloc: Global,
+    sink: MemorySink,
+    wanted: &str,
+    failures: u64,
+) -> Result<Report, Fault>
+    requires { sink.failures < 2 ^ 64 - 1 }
+{
+    let (sink, result) = create_into(rt, alloc, 1, sink);
+    text_is(rt, "stream", text_of(rt, &sink), wanted);
+    number_is(rt, "failed writes", sink.failures(), failures);
+    result
+}
+
 #[test]
 fn short_and_full_sinks(rt: HostRuntime) {
     let alloc = rt.alloc();
-    let plan = plan_of(&rt, alloc, ONE_CREATE);
-    let script = Script::empty(alloc);
     let short = MemorySink::new(alloc, 7, None);
-    let (short, result) = apply_read(&rt, alloc, &plan, &script, options(1, 64), short, &NoGate);
+    let result = create_into_memory(&rt, alloc, short, ONE_CREATE_STREAM, 0);
     assert!(rt; result.is_ok());
-    assert_eq!(rt; text_of(&rt, &short), ONE_CREATE_STREAM);
-    assert_eq!(rt; short.failures(), 0);
     let full = MemorySink::new(alloc, 1000, Some(100));
-    let (full, result) = apply_read(&rt, alloc, &plan, &script, options(1, 64), full, &NoGate);
-    assert_eq!(rt; result, failed(counts(1, 0, 0, 0), 2, 100));
-    assert_eq!(rt; text_of(&rt, &full), A_HUNDRED_BYTES);
-    assert_eq!(rt; full.failures(), 1);
+    let result = create_into_memory(&rt, alloc, full, A_HUNDRED_BYTES, 1);
+    end_is(&rt, result, failed(counts(1, 0, 0, 0), 2, 100));
 }
 
 /// Says that it took nothing.
@@ -55,34 +83,20 @@ impl Write for Idle {
 
 #[test]
 fn ok_of_nothing(rt: HostRuntime) {
-    let alloc = rt.alloc();
-    let plan = plan_of(&rt, alloc, ONE_CREATE);
-    let script = Script::empty(alloc);
-    let (sink, result) = apply_read(
-        &rt,
-        alloc,
-        &plan,
-        &script,
-        options(1, 64),
-        StdSink::new(Idle),
-        &NoGate,
-    );
-    assert_eq!(rt; result, failed(counts(1, 0, 0, 0), 2, 0));
-    assert_eq!(rt; sink.failures(), 1);
+    let (sink, result) = create_into(&rt, rt.alloc(), 1, StdSink::new(Idle));
+    end_is(&rt, result, failed(counts(1, 0, 0, 0), 2, 0));
+    number_is(&rt, "failed writes", sink.failures(), 1);
 }
 
 #[test]
 fn into_a_writer(rt: HostRuntime) {
-    let alloc = rt.alloc();
-    let plan = plan_of(&rt, alloc, ONE_CREATE);
-    let script = Script::empty(alloc);
-    let sink = StdSink::new(Vec::new(alloc));
-    let (mut sink, result) = apply_read(&rt, alloc, &plan, &script, options(8, 64), sink, &NoGate);
+    let sink = StdSink::new(Vec::new(rt.alloc()));
+    let (mut sink, result) = create_into(&rt, rt.alloc(), 8, sink);
     assert!(rt; result.is_ok());
-    assert_eq!(rt; sink.failures(), 0);
-    assert_eq!(rt; sink.flush(), Ok(()));
+    number_is(&rt, "failed writes", sink.failures(), 0);
+    flush_is(&rt, sink.flush(), Ok(()));
     let bytes = sink.into_inner();
-    assert_eq!(rt; bytes.as_slice(), ONE_CREATE_STREAM.as_bytes());
+    bytes_are(&rt, bytes.as_slice(), ONE_CREATE_STREAM.as_bytes());
 }
 
 /// Whatever byte is the first that the sink does not take: it has all before it and nothing more, and all events are taken.
@@ -94,10 +108,8 @@ fn fails_at_each_byte<R: Threads + Wait + Sync + Abort>(
 )
     requires { 1 ≤ per_write }
 {
-    let plan = plan_of(rt, alloc, FAILED_DESTROY);
-    let script = script_of(rt, alloc, FAILED_DESTROY_SCRIPT, &plan);
     for room in 0..=FAILED_DESTROY_STREAM.len() {
-        takes_so_many(rt, alloc, &plan, &script, workers, per_write, room);
+        takes_so_many(rt, alloc, workers, per_write, room);
     }
 }
 
@@ -121,45 +133,63 @@ fn fails_at_each_byte_under_eight_workers(rt: HostRuntime) {
     fails_at_each_byte(&rt, rt.alloc(), 8, 4096);
 }
 
-/// The same with more workers and each length of a write, at fewer bytes, since each run starts all of them.
+/// The same at each 97th byte and with room for all: each run starts all of its workers, which takes time.
+fn fails_at_some_bytes<R: Threads + Wait + Sync + Abort>(
+    rt: &R,
+    alloc: Global,
+    workers: u8,
+    per_write: usize,
+)
+    requires { 1 ≤ per_write }
+{
+    let whole = FAILED_DESTROY_STREAM.len();
+    for room in (0..whole).step_by(97) {
+        takes_so_many(rt, alloc, workers, per_write, room);
+    }
+    takes_so_many(rt, alloc, workers, per_write, whole);
+}
+
 #[test]
 fn fails_at_bytes_under_more_workers(rt: HostRuntime) {
-    let alloc = rt.alloc();
-    let plan = plan_of(&rt, alloc, FAILED_DESTROY);
-    let script = script_of(&rt, alloc, FAILED_DESTROY_SCRIPT, &plan);
-    for workers in [2, 8] {
-        for per_write in [1, 7, 4096] {
-            let whole = FAILED_DESTROY_STREAM.len();
-            for room in 0..=whole {
-                if room % 97 == 0 || room == whole {
-                    takes_so_many(&rt, alloc, &plan, &script, workers, per_write, room);
-                }
-            }
-        }
-    }
+    fails_at_some_bytes(&rt, rt.alloc(), 2, 1);
+    fails_at_some_bytes(&rt, rt.alloc(), 2, 7);
+    fails_at_some_bytes(&rt, rt.alloc(), 2, 4096);
+    fails_at_some_bytes(&rt, rt.alloc(), 8, 1);
+    fails_at_some_bytes(&rt, rt.alloc(), 8, 7);
+    fails_at_some_bytes(&rt, rt.alloc(), 8, 4096);
 }
 
 /// Fails where a sink with room for so many bytes of the stream gets others, or the run does not end as it has to.
 fn takes_so_many<R: Threads + Wait + Sync + Abort>(
     rt: &R,
     alloc: Global,
-    plan: &Plan,
-    script: &Script,
     workers: u8,
     per_write: usize,
     room: usize,
 )
     requires { 1 ≤ per_write }
 {
-    let whole = FAILED_DESTROY_STREAM.as_bytes();
+    let (plan, script) = (FAILED_DESTROY, FAILED_DESTROY_SCRIPT);
     let sink = MemorySink::new(alloc, per_write, Some(room));
-    let (sink, result) = apply_read(rt, alloc, plan, script, options(workers, 64), sink, &NoGate);
-    assert!(rt; Some(sink.bytes()) == whole.get(..room), "{room} bytes");
-    if room < whole.len() {
-        assert_eq!(rt; result, failed(counts(1, 0, 0, 1), 5, room));
-        assert_eq!(rt; sink.failures(), 1, "{room} bytes");
+    let options = options(workers, 64);
+    let (sink, result) = apply_texts(rt, alloc, plan, script, options, sink, &NoGate);
+    is_cut_off(rt, sink.bytes(), room);
+    fails_once_cut_off(rt, result, sink.failures(), room);
+}
+
+/// Fails where the bytes are not the first ones of the stream, so many.
+fn is_cut_off(rt: &impl Abort, found: &[u8], room: usize) {
+    let whole = FAILED_DESTROY_STREAM.as_bytes();
+    assert!(rt; Some(found) == whole.get(..room), "{room} bytes");
+}
+
+/// Fails where a run with room for so many bytes ended otherwise than it has to, or other writes failed.
+fn fails_once_cut_off(rt: &impl Abort, end: Result<Report, Fault>, failures: u64, room: usize) {
+    if room < FAILED_DESTROY_STREAM.len() {
+        end_is(rt, end, failed(counts(1, 0, 0, 1), 5, room));
+        assert!(rt; failures == 1, "{room} bytes, {failures} failed writes");
     } else {
-        assert!(rt; result.is_ok());
-        assert_eq!(rt; sink.failures(), 0);
+        assert!(rt; end.is_ok());
+        number_is(rt, "failed writes", failures, 0);
     }
 }

@@ -78,8 +78,10 @@ fn hooks_halt(rt: HostRuntime) -> Result<(), Fail> {
         &rt,
         alloc,
         REPLACEMENT,
+        REPLACEMENT,
         NO_SCRIPT,
         &registry,
+        options(1, 64),
         HALTED_REPLACEMENT,
     );
     Ok(())
@@ -99,7 +101,7 @@ fn halted_steps_pass_the_gate(rt: HostRuntime) -> Result<(), Fail> {
         }
     })?;
     assert!(rt; registry.add(FnHook::new(rules, answer)).is_ok());
-    assert_eq!(rt; passes_of(&rt, alloc, &registry), 0x13);
+    number_is(&rt, "passes", passes_of(&rt, alloc, &registry), 0x13);
     Ok(())
 }
 
@@ -116,19 +118,15 @@ fn hooks_halt_what_has_failed(rt: HostRuntime) -> Result<(), Fail> {
         }
     })?;
     assert!(rt; registry.add(FnHook::new(rules, answer)).is_ok());
-    stream_is(&rt, alloc, CREATE, FAILS, &registry, HALTED_CREATE);
+    stream_is(
+        &rt,
+        alloc,
+        CREATE,
+        CREATE,
+        FAILS,
+        &registry,
+        options(1, 64),
+        HALTED_CREATE,
+    );
     Ok(())
-}
-
-/// Fails where the stream under the hooks is not these lines.
-fn stream_is<R: Threads + Wait + Sync + Abort>(
-    rt: &R,
-    alloc: Global,
-    plan: &str,
-    script: &str,
-    registry: &Registry,
-    wanted: &str,
-) {
-    let sink = applied(rt, alloc, plan, script, registry, options(1, 64));
-    lines_are(rt, plan, text_of(rt, &sink), wanted);
 }

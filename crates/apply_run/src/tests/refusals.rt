@@ -35,9 +35,39 @@ fn refuses<R: Threads + Wait + Sync + Abort>(
     options: Options,
     wanted: Refusal,
 ) {
+    let bytes = script_bytes(script);
+    refuses_bytes(rt, alloc, plan, script, bytes, options, wanted);
+}
+
+/// The same of the bytes of a script, which stands in messages under that name.
+fn refuses_bytes<R: Threads + Wait + Sync + Abort>(
+    rt: &R,
+    alloc: Global,
+    plan: &str,
+    script: &str,
+    bytes: Option<&[u8]>,
+    options: Options,
+    wanted: Refusal,
+) {
     let registry = Registry::new(alloc);
-    let (sink, result) = apply_texts(rt, alloc, plan, script, &registry, options);
-    assert_eq!(rt; result, Err(wanted), "{plan} {script}");
+    let (sink, result) = apply_into_memory(rt, alloc, plan, bytes, &registry, options);
+    refusal_is(rt, plan, script, result, wanted);
+    is_untouched(rt, plan, script, &sink);
+}
+
+/// Fails where the answer is not that refusal.
+fn refusal_is(
+    rt: &impl Abort,
+    plan: &str,
+    script: &str,
+    found: Result<Report, Refusal>,
+    wanted: Refusal,
+) {
+    assert_eq!(rt; found, Err(wanted), "{plan} {script}");
+}
+
+/// Fails where the sink took anything, or failed.
+fn is_untouched(rt: &impl Abort, plan: &str, script: &str, sink: &MemorySink) {
     assert!(rt; sink.bytes().is_empty(), "{plan} {script}");
     assert_eq!(rt; sink.failures(), 0, "{plan} {script}");
 }
@@ -73,32 +103,23 @@ fn refused_third_step(rt: HostRuntime) {
 fn refuses_blanks<R: Threads + Wait + Sync + Abort>(
     rt: &R,
     alloc: Global,
+    name: &str,
     count: usize,
     wanted: ScriptError,
 ) -> Result<(), AllocError> {
     let blanks = vec![in alloc; b' '; count]?;
-    let registry = Registry::new(alloc);
-    let (sink, result) = apply_bytes(
-        rt,
-        alloc,
-        ONE_CREATE.as_bytes(),
-        Some(blanks.as_slice()),
-        &registry,
-        options(1, 64),
-        MemorySink::new(alloc, usize::MAX, None),
-        &NoGate,
-    );
-    assert_eq!(rt; result, Err(Refusal::Script(wanted)), "{count} blanks");
-    assert!(rt; sink.bytes().is_empty(), "{count} blanks");
-    assert_eq!(rt; sink.failures(), 0, "{count} blanks");
+    let bytes = Some(blanks.as_slice());
+    let wanted = Refusal::Script(wanted);
+    refuses_bytes(rt, alloc, ONE_CREATE, name, bytes, options(1, 64), wanted);
     Ok(())
 }
 
 /// A script of more than 64 mebibytes is refused before it is read.
 #[test]
 fn sizes_and_limits_of_scripts(rt: HostRuntime) -> Result<(), Fail> {
-    refuses_blanks(&rt, rt.alloc(), 1, ScriptError::NotJson)?;
-    refuses_blanks(&rt, rt.alloc(), 67_108_865, ScriptError::TooLarge)?;
+    refuses_blanks(&rt, rt.alloc(), "1 blank", 1, ScriptError::NotJson)?;
+    let many = "67,108,865 blanks";
+    refuses_blanks(&rt, rt.alloc(), many, 67_108_865, ScriptError::TooLarge)?;
     Ok(())
 }
 
@@ -137,41 +158,53 @@ fn sizes_of(rt: &impl Abort, workers: &str, capacity: &str) -> Options {
     }
 }
 
+/// Fails where one create has another stream at those sizes.
+fn creates<R: Threads + Wait + Sync + Abort>(rt: &R, alloc: Global, name: &str, options: Options) {
+    let registry = Registry::new(alloc);
+    let sink = applied(rt, alloc, ONE_CREATE, NO_SCRIPT, &registry, options);
+    text_is(rt, name, text_of(rt, &sink), ONE_CREATE_STREAM);
+}
+
+/// Fails where the sizes of the line are in range and should not be, or the other way.
+fn range_is(rt: &impl Abort, line: &str, found: bool, wanted: bool) {
+    assert_eq!(rt; found, wanted, "{line}");
+}
+
+/// Fails where the sizes of the line are taken for others, or one create does not end so.
+fn sizes_are<R: Threads + Wait + Sync + Abort>(rt: &R, alloc: Global, line: &str) {
+    let (workers, rest) = parted(rt, line, " ");
+    let (capacity, wanted) = parted(rt, rest, " ");
+    let options = sizes_of(rt, workers, capacity);
+    range_is(rt, line, options.in_range(), wanted == "in");
+    if wanted == "in" {
+        creates(rt, alloc, line, options);
+    } else {
+        refuses(rt, alloc, ONE_CREATE, NO_SCRIPT, options, Refusal::Size);
+    }
+}
+
 #[test]
 fn sizes_and_limits(rt: HostRuntime) {
     for line in SIZES.lines() {
-        let (workers, rest) = parted(&rt, line, " ");
-        let (capacity, wanted) = parted(&rt, rest, " ");
-        let options = sizes_of(&rt, workers, capacity);
-        assert_eq!(rt; options.in_range(), wanted == "in", "{line}");
-        if wanted == "in" {
-            let alloc = rt.alloc();
-            let registry = Registry::new(alloc);
-            let sink = applied(&rt, alloc, ONE_CREATE, NO_SCRIPT, &registry, options);
-            assert_eq!(rt; text_of(&rt, &sink), ONE_CREATE_STREAM, "{line}");
-        } else {
-            refuses(
-                &rt,
-                rt.alloc(),
-                ONE_CREATE,
-                NO_SCRIPT,
-                options,
-                Refusal::Size,
-            );
-        }
+        sizes_are(&rt, rt.alloc(), line);
     }
+}
+
+/// Adds the change of that number, behind a comma where it is not the first.
+fn push_change(alloc: Global, text: &mut String, number: u32) -> Result<(), AllocError> {
+    if number > 0 {
+        text.push_str(",")?;
+    }
+    let digits = number.to_string(alloc)?;
+    let change = CHANGE.replace(alloc, "NUMBER", digits.as_str())?;
+    text.push_str(change.as_str())
 }
 
 /// A plan of so many changes.
 fn many_changes(alloc: Global, count: u32) -> Result<String, AllocError> {
     let mut text = String::from_str(alloc, r#"{"format_version":"1.2","resource_changes":["#)?;
     for number in 0..count {
-        if number > 0 {
-            text.push_str(",")?;
-        }
-        let digits = number.to_string(alloc)?;
-        let change = CHANGE.replace(alloc, "NUMBER", digits.as_str())?;
-        text.push_str(change.as_str())?;
+        push_change(alloc, &mut text, number)?;
     }
     text.push_str("]}")?;
     Ok(text)

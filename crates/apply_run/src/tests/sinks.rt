@@ -2,6 +2,7 @@
 
 ghost use Rattle.std.specs.Prelude.{◌≡◌, ◌<◌, ◌≤◌, ◌+◌, ◌-◌, ◌^◌};
 
+use super::{bytes_are, flush_is, number_is};
 use crate::sink::write_all;
 use crate::{MemorySink, Sink, SinkFault, StdSink};
 use std::alloc::Global;
@@ -74,19 +75,19 @@ fn memory_takes_so_many_with_each_write(rt: HostRuntime) {
     expect_write(&rt, &mut sink, b"", Ok(0));
     expect_write(&rt, &mut sink, b"hi", Ok(2));
     expect_all(&rt, &mut sink, b"jklmnopqrstuvwxyz", 17);
-    assert_eq!(rt; sink.bytes(), b"abcdefghijklmnopqrstuvwxyz".as_slice());
-    assert_eq!(rt; sink.failures(), 0);
+    bytes_are(&rt, sink.bytes(), b"abcdefghijklmnopqrstuvwxyz");
+    number_is(&rt, "failed writes", sink.failures(), 0);
 }
 
 #[test]
 fn memory_fails_when_it_is_full(rt: HostRuntime) {
     let mut sink = MemorySink::new(rt.alloc(), 7, Some(9));
     expect_all(&rt, &mut sink, b"abcdefghij", 9);
-    assert_eq!(rt; sink.failures(), 1);
+    number_is(&rt, "failed writes", sink.failures(), 1);
     expect_write(&rt, &mut sink, b"j", Err(SinkFault));
     expect_write(&rt, &mut sink, b"", Ok(0));
-    assert_eq!(rt; sink.bytes(), b"abcdefghi".as_slice());
-    assert_eq!(rt; sink.failures(), 2);
+    bytes_are(&rt, sink.bytes(), b"abcdefghi");
+    number_is(&rt, "failed writes", sink.failures(), 2);
 }
 
 #[test]
@@ -94,7 +95,7 @@ fn memory_without_room_takes_nothing(rt: HostRuntime) {
     let mut sink = MemorySink::new(rt.alloc(), 1, Some(0));
     expect_write(&rt, &mut sink, b"a", Err(SinkFault));
     assert!(rt; sink.bytes().is_empty());
-    assert_eq!(rt; sink.failures(), 1);
+    number_is(&rt, "failed writes", sink.failures(), 1);
 }
 
 #[test]
@@ -102,19 +103,19 @@ fn writers_may_take_less(rt: HostRuntime) {
     let mut sink = StdSink::new(writer(rt.alloc(), 3));
     expect_write(&rt, &mut sink, b"abcdefgh", Ok(3));
     expect_all(&rt, &mut sink, b"defgh", 5);
-    assert_eq!(rt; sink.flush(), Ok(()));
-    assert_eq!(rt; sink.failures(), 0);
-    assert_eq!(rt; sink.into_inner().taken.as_slice(), b"abcdefgh".as_slice());
+    flush_is(&rt, sink.flush(), Ok(()));
+    number_is(&rt, "failed writes", sink.failures(), 0);
+    bytes_are(&rt, sink.into_inner().taken.as_slice(), b"abcdefgh");
 }
 
 #[test]
 fn a_writer_that_takes_nothing_fails(rt: HostRuntime) {
     let mut sink = StdSink::new(writer(rt.alloc(), 0));
     expect_write(&rt, &mut sink, b"", Ok(0));
-    assert_eq!(rt; sink.failures(), 0);
+    number_is(&rt, "failed writes", sink.failures(), 0);
     expect_write(&rt, &mut sink, b"a", Err(SinkFault));
     expect_all(&rt, &mut sink, b"ab", 0);
-    assert_eq!(rt; sink.failures(), 2);
+    number_is(&rt, "failed writes", sink.failures(), 2);
 }
 
 #[test]
@@ -124,9 +125,9 @@ fn a_writer_may_fail(rt: HostRuntime) {
     writer.fails_to_flush = true;
     let mut sink = StdSink::new(writer);
     expect_write(&rt, &mut sink, b"a", Err(SinkFault));
-    assert_eq!(rt; sink.flush(), Err(SinkFault));
+    flush_is(&rt, sink.flush(), Err(SinkFault));
     expect_write(&rt, &mut sink, b"", Ok(0));
-    assert_eq!(rt; sink.failures(), 2);
+    number_is(&rt, "failed writes", sink.failures(), 2);
     assert!(rt; sink.into_inner().taken.is_empty());
 }
 

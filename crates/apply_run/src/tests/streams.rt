@@ -166,18 +166,21 @@ fn options_of(rt: &impl Abort, text: &str) -> Options {
     }
 }
 
+/// Fails where the case has another stream.
+fn has_its_stream<R: Threads + Wait + Sync + Abort>(rt: &R, alloc: Global, case: &str) {
+    let (name, rest) = parted(rt, case, "\n");
+    let (how, rest) = parted(rt, rest, "\n");
+    let (plan, rest) = parted(rt, rest, "\n");
+    let (script, wanted) = parted(rt, rest, "\n");
+    let options = options_of(rt, how);
+    let registry = Registry::new(alloc);
+    stream_is(rt, alloc, name, plan, script, &registry, options, wanted);
+}
+
 #[test]
 fn streams_byte_for_byte(rt: HostRuntime) {
-    let alloc = rt.alloc();
-    let registry = Registry::new(alloc);
     for case in STREAMS.split("\n\n") {
-        let (name, rest) = parted(&rt, case, "\n");
-        let (how, rest) = parted(&rt, rest, "\n");
-        let (plan, rest) = parted(&rt, rest, "\n");
-        let (script, wanted) = parted(&rt, rest, "\n");
-        let options = options_of(&rt, how);
-        let sink = applied(&rt, alloc, plan, script, &registry, options);
-        lines_are(&rt, name, text_of(&rt, &sink), wanted);
+        has_its_stream(&rt, rt.alloc(), case);
     }
 }
 
@@ -205,26 +208,30 @@ const LINES_OF_AN_HOUR: &str =
 {"@level":"info","@message":"null_resource.a: Modifications complete after 1h0m5s","@module":"terraform.ui","@timestamp":"1970-01-01T01:00:05Z","hook":{"action":"update","elapsed_seconds":3605,"resource":{"addr":"null_resource.a","implied_provider":"null","module":"","resource":"null_resource.a","resource_key":null,"resource_name":"a","resource_type":"null_resource"}},"type":"apply_complete"}
 {"@level":"info","@message":"Apply complete! Resources: 0 added, 1 changed, 0 destroyed.","@module":"terraform.ui","@timestamp":"1970-01-01T01:00:05Z","changes":{"add":0,"change":1,"operation":"apply","remove":0},"type":"change_summary"}"#;
 
+/// How many lines tell of progress.
+fn progress_of(text: &str) -> u64 {
+    text.lines()
+        .filter(|line| line.contains(r#","type":"apply_progress"}"#))
+        .count() as u64
+}
+
+/// Fails where one of the lines does not stand in the text.
+fn has_lines(rt: &impl Abort, text: &str, wanted: &str) {
+    for line in wanted.lines() {
+        has_line(rt, text, line);
+    }
+}
+
+/// An hour's lines of progress, and four others.
 #[test]
 fn hour_of_progress(rt: HostRuntime) {
     let alloc = rt.alloc();
     let registry = Registry::new(alloc);
     let sink = applied(&rt, alloc, ONE_UPDATE, AN_HOUR, &registry, options(1, 64));
     let text = text_of(&rt, &sink);
-    let mut progress = 0u32;
-    let mut others = 0u32;
-    for line in text.lines() {
-        if line.contains(r#","type":"apply_progress"}"#) {
-            progress = progress.wrapping_add(1);
-        } else {
-            others = others.wrapping_add(1);
-        }
-    }
-    assert_eq!(rt; progress, 360);
-    assert_eq!(rt; others, 4);
-    for line in LINES_OF_AN_HOUR.lines() {
-        has_line(&rt, text, line);
-    }
+    number_is(&rt, "lines of progress", progress_of(text), 360);
+    number_is(&rt, "lines", lines_of(text), 364);
+    has_lines(&rt, text, LINES_OF_AN_HOUR);
 }
 
 /// A plan with one create.

@@ -27,22 +27,39 @@ struct Case {
     stream: &'static str,
 }
 
+/// What so many workers write of the case, in their time, without the moments.
+fn bare_stream<R: Threads + Wait + Sync + Abort>(
+    rt: &R,
+    alloc: Global,
+    case: &Case,
+    workers: u8,
+) -> String {
+    let mut options = options(workers, 64);
+    options.operation = case.operation;
+    let (plan, script) = (case.plan, case.script);
+    let (sink, _report) = apply_plan(rt, alloc, plan, script, options, memory(alloc), &NoGate);
+    let text = text_of(rt, &sink);
+    moments_never_go_back(rt, text);
+    text.replace(alloc, MOMENT, "").expect(rt, "memory")
+}
+
+/// Fails where so many workers write other lines of a change.
+fn changes_are_as_of_terraform<R: Threads + Wait + Sync + Abort>(
+    rt: &R,
+    alloc: Global,
+    case: &Case,
+    workers: u8,
+) {
+    let bare = bare_stream(rt, alloc, case, workers);
+    lines_are_of_changes(rt, bare.as_str(), case.stream);
+}
+
 /// Fails where one worker writes other lines, or the lines of a change are others where there are more workers.
 fn is_as_of_terraform<R: Threads + Wait + Sync + Abort>(rt: &R, alloc: Global, case: &Case) {
-    for workers in [1, 2, 8] {
-        let mut options = options(workers, 64);
-        options.operation = case.operation;
-        let sink = MemorySink::new(alloc, usize::MAX, None);
-        let (sink, _report) = apply_plan(rt, alloc, case.plan, case.script, options, sink, &NoGate);
-        let text = text_of(rt, &sink);
-        moments_never_go_back(rt, text);
-        let bare = text.replace(alloc, MOMENT, "").expect(rt, "memory");
-        if workers == 1 {
-            assert_eq!(rt; bare.as_str(), case.stream);
-        } else {
-            lines_are_of_changes(rt, bare.as_str(), case.stream);
-        }
-    }
+    let bare = bare_stream(rt, alloc, case, 1);
+    text_is(rt, "one worker", bare.as_str(), case.stream);
+    changes_are_as_of_terraform(rt, alloc, case, 2);
+    changes_are_as_of_terraform(rt, alloc, case, 8);
 }
 
 #[test]

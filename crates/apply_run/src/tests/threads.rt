@@ -1,6 +1,8 @@
 //! Workers in threads: that they run at once, that lines are written meanwhile, that a free worker takes the next change,
 //! and that steps pass the gate in their order.
 
+ghost use Rattle.std.specs.Prelude.{◌<◌, ◌-◌, ◌^◌};
+
 use super::*;
 
 /// A plan with two creates.
@@ -33,6 +35,26 @@ fn comes_to(word: &AtomicU64, least: u64) -> bool {
     false
 }
 
+/// Fails where the word is another number.
+fn word_is(rt: &impl Abort, name: &str, word: &AtomicU64, wanted: u64) {
+    number_is(rt, name, word.load(Ordering::SeqCst), wanted);
+}
+
+/// Applies a plan without a script, and tells what was counted.
+fn counted<S: Sink + Drop, G: Gate, R: Threads + Wait + Sync + Abort>(
+    rt: &R,
+    alloc: Global,
+    plan: &str,
+    options: Options,
+    sink: S,
+    gate: &G,
+) -> Counts
+    requires { S.failed sink < 2 ^ 64 - 1 }
+{
+    let (_sink, report) = apply_plan(rt, alloc, plan, NO_SCRIPT, options, sink, gate);
+    report.counts
+}
+
 /// Holds each of two changes until the other has come.
 #[derive(Drop)]
 struct Meeting {
@@ -62,20 +84,13 @@ fn two_workers_at_once(rt: HostRuntime) {
         second: AtomicU64::new(0),
         missed: AtomicU64::new(0),
     };
-    let sink = MemorySink::new(rt.alloc(), usize::MAX, None);
-    let (_sink, report) = apply_plan(
-        &rt,
-        rt.alloc(),
-        TWO_CREATES,
-        NO_SCRIPT,
-        options(2, 64),
-        sink,
-        &gate,
-    );
-    assert_eq!(rt; gate.missed.load(Ordering::SeqCst), 0);
-    assert_eq!(rt; gate.first.load(Ordering::SeqCst), 1);
-    assert_eq!(rt; gate.second.load(Ordering::SeqCst), 1);
-    assert_eq!(rt; report.counts, counts(2, 0, 0, 0));
+    let alloc = rt.alloc();
+    let sink = memory(alloc);
+    let counted = counted(&rt, alloc, TWO_CREATES, options(2, 64), sink, &gate);
+    word_is(&rt, "missed", &gate.missed, 0);
+    word_is(&rt, "first", &gate.first, 1);
+    word_is(&rt, "second", &gate.second, 1);
+    counts_are(&rt, counted, counts(2, 0, 0, 0));
 }
 
 /// Holds one of four changes until the other three have come.
@@ -100,38 +115,35 @@ impl Gate for Held {
     }
 }
 
+/// Fails where the other three do not come while that change is held.
+fn others_come<R: Threads + Wait + Sync + Abort>(rt: &R, alloc: Global, name: &str, change: u32) {
+    let gate = Held {
+        change,
+        held: AtomicU64::new(0),
+        others: AtomicU64::new(0),
+        missed: AtomicU64::new(0),
+    };
+    let sink = memory(alloc);
+    let counted = counted(rt, alloc, FOUR_CREATES, options(2, 64), sink, &gate);
+    word_is(rt, name, &gate.missed, 0);
+    word_is(rt, name, &gate.held, 1);
+    word_is(rt, name, &gate.others, 3);
+    counts_are(rt, counted, counts(4, 0, 0, 0));
+}
+
 /// No change is assigned to a worker beforehand: while one worker is held, the other applies the rest.
 #[test]
 fn fixed_assignment(rt: HostRuntime) {
-    for change in 0..2 {
-        let gate = Held {
-            change,
-            held: AtomicU64::new(0),
-            others: AtomicU64::new(0),
-            missed: AtomicU64::new(0),
-        };
-        let sink = MemorySink::new(rt.alloc(), usize::MAX, None);
-        let (_sink, report) = apply_plan(
-            &rt,
-            rt.alloc(),
-            FOUR_CREATES,
-            NO_SCRIPT,
-            options(2, 64),
-            sink,
-            &gate,
-        );
-        assert_eq!(rt; gate.missed.load(Ordering::SeqCst), 0, "change {change}");
-        assert_eq!(rt; gate.held.load(Ordering::SeqCst), 1, "change {change}");
-        assert_eq!(rt; gate.others.load(Ordering::SeqCst), 3, "change {change}");
-        assert_eq!(rt; report.counts, counts(4, 0, 0, 0));
-    }
+    others_come(&rt, rt.alloc(), "change 0", 0);
+    others_come(&rt, rt.alloc(), "change 1", 1);
 }
 
 /// Both steps of the first change, and then the only one of the second.
 #[test]
 fn a_gate_is_passed_before_each_step(rt: HostRuntime) {
     let registry = Registry::new(rt.alloc());
-    assert_eq!(rt; passes_of(&rt, rt.alloc(), &registry), 0x123);
+    let passes = passes_of(&rt, rt.alloc(), &registry);
+    number_is(&rt, "passes", passes, 0x123);
 }
 
 /// Whether the bytes are of a line of that type.
@@ -195,21 +207,13 @@ fn lines_while_workers_run(rt: HostRuntime) {
         missed: AtomicU64::new(0),
     };
     let sink = Telling {
-        inner: MemorySink::new(rt.alloc(), usize::MAX, None),
+        inner: memory(rt.alloc()),
         completed: &completed,
     };
-    let (_sink, report) = apply_plan(
-        &rt,
-        rt.alloc(),
-        REPLACEMENT,
-        NO_SCRIPT,
-        options(2, 1),
-        sink,
-        &gate,
-    );
-    assert_eq!(rt; gate.missed.load(Ordering::SeqCst), 0);
-    assert_eq!(rt; gate.passed.load(Ordering::SeqCst), 1);
-    assert_eq!(rt; report.counts, counts(1, 0, 1, 0));
+    let counted = counted(&rt, rt.alloc(), REPLACEMENT, options(2, 1), sink, &gate);
+    word_is(&rt, "missed", &gate.missed, 0);
+    word_is(&rt, "passed", &gate.passed, 1);
+    counts_are(&rt, counted, counts(1, 0, 1, 0));
 }
 
 /// For how many turns the slow sink holds a line.
@@ -265,7 +269,7 @@ fn lines_while_workers_run_into_a_slow_sink(rt: HostRuntime) {
     let begun = AtomicU64::new(0);
     let gate = Noting { begun: &begun };
     let sink = Slow {
-        inner: MemorySink::new(rt.alloc(), usize::MAX, None),
+        inner: memory(rt.alloc()),
         begun: &begun,
         held: false,
         begun_meanwhile: false,
@@ -281,8 +285,8 @@ fn lines_while_workers_run_into_a_slow_sink(rt: HostRuntime) {
     );
     assert!(rt; sink.held);
     assert!(rt; !sink.begun_meanwhile);
-    assert_eq!(rt; begun.load(Ordering::SeqCst), 1);
-    assert_eq!(rt; report.counts, counts(3, 0, 0, 0));
+    word_is(&rt, "begun", &begun, 1);
+    counts_are(&rt, report.counts, counts(3, 0, 0, 0));
 }
 
 /// The second takes 20 seconds and the third 5.
@@ -303,20 +307,19 @@ const THREE_STREAM: &str =
 
 #[test]
 fn eight_workers_capacity_one(rt: HostRuntime) {
-    let sink = MemorySink::new(rt.alloc(), usize::MAX, None);
     let (sink, report) = apply_plan(
         &rt,
         rt.alloc(),
         THREE_CREATES,
         THREE_SPANS,
         options(8, 1),
-        sink,
+        memory(rt.alloc()),
         &NoGate,
     );
     let text = text_of(&rt, &sink);
     lines_are_of_changes(&rt, text, THREE_STREAM);
     moments_never_go_back(&rt, text);
     let last = text.lines().last().unwrap_or("");
-    assert!(rt; moment_of(&rt, last) >= "1970-01-01T00:00:20Z", "{last}");
-    assert_eq!(rt; report.counts, counts(3, 0, 0, 0));
+    not_before(&rt, last, "1970-01-01T00:00:20Z");
+    counts_are(&rt, report.counts, counts(3, 0, 0, 0));
 }
