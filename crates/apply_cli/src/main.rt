@@ -19,8 +19,10 @@ ghost use Rattle.std.specs.Prelude.{◌≡◌, ◌∷◌, [], IfOk, Some};
 
 use crate::answer::answer_usage;
 use crate::halt::Halt;
+use crate::input_fault::InputFault;
 use crate::run::run_command;
 use crate::script_file::{read_file, report_script};
+use crate::settings::Settings;
 use crate::usage::Usage;
 use crate::words::read_words;
 use apply_hooks::{Answer, FnHook, HookCall, HookError, Phase, Registry, Rule, Rules, Verdict};
@@ -42,9 +44,19 @@ fn main(rt: HostRuntime) -> ExitCode {
 
 /// Follows the words, and answers the exit status.
 fn follow<T: Threads + Wait + Sync>(rt: &HostRuntime, threads: &T) -> Result<u8, Usage> {
-    let alloc = rt.alloc();
     let words = given_words(rt)?;
-    let settings = read_words(alloc, words.get(1..).unwrap_or(&[]))?;
+    let settings = read_words(rt.alloc(), words.get(1..).unwrap_or(&[]))?;
+    follow_settings(rt, threads, &settings)
+}
+
+/// Makes a hook for each halt, and runs the command with them. The closures are boxed here, where the registry is owned: a
+/// function that handed them out would hide what they answer.
+fn follow_settings<T: Threads + Wait + Sync>(
+    rt: &HostRuntime,
+    threads: &T,
+    settings: &Settings,
+) -> Result<u8, Usage> {
+    let alloc = rt.alloc();
     let mut registry = Registry::new(alloc);
     for halt in &settings.halts {
         let added = match halt {
@@ -77,28 +89,54 @@ fn follow<T: Threads + Wait + Sync>(rt: &HostRuntime, threads: &T) -> Result<u8,
             return Err(usage_of_hook(refused));
         }
     }
-    let mut faults = rt.stderr();
-    let script = match &settings.script {
-        Some(file) => match read_file(rt, alloc, file.as_str()) {
-            Ok(bytes) => Some(bytes),
-            Err(fault) => return Ok(report_script(&mut faults, fault)),
+    run_with_hooks(rt, threads, settings, &registry)
+}
+
+/// Reads the script, and runs the command with the hooks.
+fn run_with_hooks<T: Threads + Wait + Sync>(
+    rt: &HostRuntime,
+    threads: &T,
+    settings: &Settings,
+    registry: &Registry,
+) -> Result<u8, Usage> {
+    match script_of(rt, settings) {
+        Ok(Some(script)) => run_on_streams(rt, threads, settings, registry, Some(&script)),
+        Ok(None) => run_on_streams(rt, threads, settings, registry, None),
+        Err(fault) => Ok(report_script(&mut rt.stderr(), fault)),
+    }
+}
+
+/// The bytes of the script's file, where the settings name one.
+fn script_of(rt: &HostRuntime, settings: &Settings) -> Result<Option<Vec<u8>>, InputFault> {
+    match &settings.script {
+        Some(file) => match read_file(rt, rt.alloc(), file.as_str()) {
+            Ok(bytes) => Ok(Some(bytes)),
+            Err(fault) => Err(fault),
         },
-        None => None,
-    };
-    let Ok(output) = BufWriter::new(alloc, rt.stdout()) else {
+        None => Ok(None),
+    }
+}
+
+/// Runs the command over the standard streams.
+fn run_on_streams<T: Threads + Wait + Sync>(
+    rt: &HostRuntime,
+    threads: &T,
+    settings: &Settings,
+    registry: &Registry,
+    script: Option<&[u8]>,
+) -> Result<u8, Usage> {
+    let Ok(output) = BufWriter::new(rt.alloc(), rt.stdout()) else {
         return Err(Usage::Memory);
     };
-    let output = StdSink::new(output);
-    let script = script.as_ref().map(|bytes| bytes.as_slice());
     let (_output, status) = run_command(
         threads,
-        alloc,
-        &settings,
-        &registry,
+        rt.alloc(),
+        settings,
+        registry,
         script,
         rt.reader(),
-        output,
-        &mut faults,
+        StdSink::new(output),
+        &mut rt.stderr(),
     );
     Ok(status)
 }

@@ -21,12 +21,11 @@ use apply_hooks::{Answer, FnHook, HookCall, Phase, Registry, Verdict};
 use apply_plan::{PlanError, ScriptError, StepKind, Text};
 use apply_run::{Refusal, StdSink};
 use apply_text::{MomentError, Operation, Start};
-use std::alloc::{AllocError, Global};
+use std::alloc::Global;
 use std::io;
 use std::io::{ErrorKind, Read, Write};
 use std::process::Abort;
 use std::sync::Wait;
-use std::test::Fail;
 use std::thread::Threads;
 
 /// What no words say.
@@ -41,64 +40,130 @@ fn defaults(alloc: Global) -> Settings {
     }
 }
 
-/// Runs the program as no words say.
-fn run_plain<R: Read + Drop, W: Write + Drop, E: Write, T: Threads + Wait + Sync>(
-    rt: &T,
-    alloc: Global,
-    input: R,
-    output: StdSink<W>,
-    faults: &mut E,
-) -> (StdSink<W>, u8)
-    requires { output.failures < 2 ^ 64 - 1 }
-{
-    let settings = defaults(alloc);
-    let registry = Registry::new(alloc);
-    run_command(rt, alloc, &settings, &registry, None, input, output, faults)
+/// What the program has done: its exit status, what it printed, and what it said of faults.
+#[derive(Drop)]
+struct Outcome {
+    status: u8,
+    printed: Vec<u8>,
+    said: Vec<u8>,
 }
 
-/// Runs the program on texts: the status, what it printed, and what it said of faults.
-fn run_texts<T: Threads + Wait + Sync>(
+/// Runs the program, with its output in memory.
+fn run_with<R: Read + Drop, T: Threads + Wait + Sync>(
     rt: &T,
     alloc: Global,
     settings: &Settings,
     registry: &Registry,
     script: Option<&[u8]>,
-    plan: &str,
-) -> Result<(u8, String, String), AllocError> {
-    let mut faults = Vec::new(alloc);
+    input: R,
+) -> Outcome {
+    let mut said = Vec::new(alloc);
     let (output, status) = run_command(
         rt,
         alloc,
         settings,
         registry,
         script,
-        plan.as_bytes(),
+        input,
         empty(alloc),
-        &mut faults,
+        &mut said,
     );
-    let output = String::from_utf8_lossy(alloc, &output.into_inner())?;
-    let faults = String::from_utf8_lossy(alloc, &faults)?;
-    Ok((status, output, faults))
+    Outcome {
+        status,
+        printed: output.into_inner(),
+        said,
+    }
 }
 
 /// The same as no words say.
-fn run<T: Threads + Wait + Sync>(
+fn run<R: Read + Drop, T: Threads + Wait + Sync>(rt: &T, alloc: Global, input: R) -> Outcome {
+    let settings = defaults(alloc);
+    let registry = Registry::new(alloc);
+    run_with(rt, alloc, &settings, &registry, None, input)
+}
+
+/// Runs the program as no words say, into any output and any faults: the output and the status.
+fn run_into<W: Write + Drop, E: Write, T: Threads + Wait + Sync>(
     rt: &T,
     alloc: Global,
     plan: &str,
-) -> Result<(u8, String, String), AllocError> {
+    output: StdSink<W>,
+    said: &mut E,
+) -> (StdSink<W>, u8)
+    requires { output.failures < 2 ^ 64 - 1 }
+{
     let settings = defaults(alloc);
     let registry = Registry::new(alloc);
-    run_texts(rt, alloc, &settings, &registry, None, plan)
+    let input = plan.as_bytes();
+    run_command(rt, alloc, &settings, &registry, None, input, output, said)
+}
+
+/// Bytes that have to be text.
+fn text_of<'a>(rt: &impl Abort, bytes: &'a [u8]) -> &'a str {
+    match str::from_utf8(bytes) {
+        Ok(text) => text,
+        Err(_) => panic!(rt; "the bytes are no text"),
+    }
+}
+
+/// Fails where the status is another, or other texts were printed or said.
+fn outcome_is(
+    rt: &impl Abort,
+    case: &str,
+    outcome: &Outcome,
+    status: u8,
+    printed: &str,
+    said: &str,
+) {
+    assert_eq!(rt; outcome.status, status, "{case}");
+    is_text(rt, case, &outcome.printed, printed);
+    is_text(rt, case, &outcome.said, said);
+}
+
+/// Fails where the status is another, anything was printed, or another fault was said.
+fn outcome_fails(rt: &impl Abort, case: &str, outcome: &Outcome, status: u8, fault: &str) {
+    assert_eq!(rt; outcome.status, status, "{case}");
+    is_text(rt, case, &outcome.printed, "");
+    says(rt, case, &outcome.said, fault);
+}
+
+/// Fails where the status is another, what was printed has another end, or any fault was said.
+fn outcome_ends(rt: &impl Abort, case: &str, outcome: &Outcome, status: u8, end: &str) {
+    assert_eq!(rt; outcome.status, status, "{case}");
+    let printed = text_of(rt, &outcome.printed);
+    assert!(rt; printed.ends_with(end), "{case}: {printed}");
+    is_text(rt, case, &outcome.said, "");
+}
+
+/// Fails where the bytes are not this text.
+fn is_text(rt: &impl Abort, case: &str, bytes: &[u8], wanted: &str) {
+    assert_eq!(rt; text_of(rt, bytes), wanted, "{case}");
+}
+
+/// Fails where the bytes are not the line of this fault.
+fn says(rt: &impl Abort, case: &str, said: &[u8], fault: &str) {
+    let found = text_of(rt, said)
+        .strip_prefix("applystream: ")
+        .and_then(|line| line.strip_suffix("\n"));
+    assert_eq!(rt; found, Some(fault), "{case}");
+}
+
+/// What stands before the first mark, and what behind it.
+fn parted<'a>(rt: &impl Abort, text: &'a str, mark: &str) -> (&'a str, &'a str) {
+    match text.split_once(mark) {
+        Some(parts) => parts,
+        None => panic!(rt; "no {mark:?} in {text}"),
+    }
 }
 
 /// The words of a text.
-fn words_of(alloc: Global, text: &str) -> Result<Vec<String>, AllocError> {
+fn words_of(rt: &impl Abort, alloc: Global, text: &str) -> Vec<String> {
     let mut words = Vec::new(alloc);
     for word in text.split_whitespace() {
-        words.push(String::from_str(alloc, word)?)?;
+        let word = String::from_str(alloc, word).expect(rt, "memory");
+        words.push(word).expect(rt, "memory");
     }
-    Ok(words)
+    words
 }
 
 /// A sink over memory.
@@ -158,4 +223,19 @@ impl Write for FailingWriter {
         }
         Ok(())
     }
+}
+
+/// A writer that has room for so many bytes, and fails to flush.
+fn unflushed(alloc: Global, room: usize) -> FailingWriter {
+    FailingWriter {
+        taken: Vec::new(alloc),
+        per_write: 7,
+        room,
+        fails_to_flush: true,
+    }
+}
+
+/// A writer that takes nothing, and fails to flush too.
+fn full(alloc: Global) -> FailingWriter {
+    unflushed(alloc, 0)
 }

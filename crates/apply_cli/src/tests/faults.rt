@@ -1,282 +1,263 @@
+//! Plans that are refused, and inputs and outputs that fail.
+
 use super::*;
 
+/// A plan with one create.
 const ONE_CREATE: &str =
     r#"{"format_version":"1.2","terraform_version":"1.9.0","resource_changes":[{"address":"random_pet.animal","mode":"managed","type":"random_pet","name":"animal","change":{"actions":["create"]}}]}"#;
 
+/// Plans that are refused, and what is said of them.
+const REFUSED_PLANS: &str = r#" => the plan is not JSON
+{ => the plan is not JSON
+[] => the plan is not a plan of format 1.x
+{"format_version":"2.0"} => the plan is not a plan of format 1.x
+{"format_version":"1.0","resource_changes":[5]} => change 0 is malformed
+{"format_version":"1.0","resource_changes":[{"address":"a.b","mode":"managed","type":"a","name":"b","change":{"actions":["forget"]}}]} => change 0 has an action list that is out of scope
+{"format_version":"1.0","resource_changes":[{"address":"","mode":"managed","type":"a","name":"b","change":{"actions":["create"]}}]} => change 0 has an address that does not fit its module
+{"format_version":"1.0","resource_changes":[{"address":"a.b","mode":"managed","type":"a","name":"b","change":{"actions":["create"]}},{"address":"a.b","mode":"managed","type":"a","name":"b","change":{"actions":["no-op"]}}]} => change 1 repeats an earlier change"#;
+
+/// Fails where the plan is not refused with this fault.
+fn is_refused<T: Threads + Wait + Sync + Abort>(rt: &T, alloc: Global, plan: &str, fault: &str) {
+    let outcome = run(rt, alloc, plan.as_bytes());
+    outcome_fails(rt, plan, &outcome, 2, fault);
+}
+
 #[test]
-fn refused_plans_print_nothing(rt: HostRuntime) -> Result<(), Fail> {
-    let alloc = rt.alloc();
-    for (plan, wanted) in [
-        ("", "applystream: the plan is not JSON\n"),
-        ("{", "applystream: the plan is not JSON\n"),
-        ("[]", "applystream: the plan is not a plan of format 1.x\n"),
-        (
-            r#"{"format_version":"2.0"}"#,
-            "applystream: the plan is not a plan of format 1.x\n",
-        ),
-        (
-            r#"{"format_version":"1.0","resource_changes":[5]}"#,
-            "applystream: change 0 is malformed\n",
-        ),
-        (
-            r#"{"format_version":"1.0","resource_changes":[{"address":"a.b","mode":"managed","type":"a","name":"b","change":{"actions":["forget"]}}]}"#,
-            "applystream: change 0 has an action list that is out of scope\n",
-        ),
-        (
-            r#"{"format_version":"1.0","resource_changes":[{"address":"","mode":"managed","type":"a","name":"b","change":{"actions":["create"]}}]}"#,
-            "applystream: change 0 has an address that does not fit its module\n",
-        ),
-        (
-            r#"{"format_version":"1.0","resource_changes":[{"address":"a.b","mode":"managed","type":"a","name":"b","change":{"actions":["create"]}},{"address":"a.b","mode":"managed","type":"a","name":"b","change":{"actions":["no-op"]}}]}"#,
-            "applystream: change 1 repeats an earlier change\n",
-        ),
-    ] {
-        let (status, output, faults) = run(&rt, alloc, plan)?;
-        assert_eq!(rt; status, 2, "{plan}");
-        assert_eq!(rt; output.as_str(), "", "{plan}");
-        assert_eq!(rt; faults.as_str(), wanted, "{plan}");
+fn refused_plans_print_nothing(rt: HostRuntime) {
+    for row in REFUSED_PLANS.lines() {
+        let (plan, fault) = parted(&rt, row, " => ");
+        is_refused(&rt, rt.alloc(), plan, fault);
     }
-    Ok(())
 }
 
 #[test]
-fn a_plan_that_is_too_large_is_refused(rt: HostRuntime) -> Result<(), Fail> {
+fn a_plan_that_is_too_large_is_refused(rt: HostRuntime) {
     let alloc = rt.alloc();
-    let blanks = vec![in alloc; b' '; 67_108_866]?;
-    let mut faults = Vec::new(alloc);
-    let (output, status) = run_plain(&rt, alloc, blanks.as_slice(), empty(alloc), &mut faults);
-    assert_eq!(rt; status, 2);
-    assert_eq!(rt; output.into_inner().len(), 0);
-    assert!(rt;
-        faults.as_slice() == b"applystream: the plan is larger than 67108864 bytes\n".as_slice()
-    );
-    let front = read_all(alloc, blanks.as_slice())?;
+    let blanks = vec![in alloc; b' '; 67_108_866].expect(&rt, "memory");
+    let outcome = run(&rt, alloc, blanks.as_slice());
+    let fault = "the plan is larger than 67108864 bytes";
+    outcome_fails(&rt, "blanks", &outcome, 2, fault);
+    let front = read_all(alloc, blanks.as_slice()).expect(&rt, "memory");
     assert_eq!(rt; front.len(), 67_108_865);
-    Ok(())
 }
 
 #[test]
-fn a_cut_plan_is_refused(rt: HostRuntime) -> Result<(), Fail> {
-    let alloc = rt.alloc();
+fn a_cut_plan_is_refused(rt: HostRuntime) {
     let bytes = ONE_CREATE.as_bytes();
     for end in 0..bytes.len() {
-        let mut faults = Vec::new(alloc);
-        let (output, status) = run_plain(&rt, alloc, &bytes[..end], empty(alloc), &mut faults);
-        assert_eq!(rt; status, 2, "cut at {end}");
-        assert_eq!(rt; output.into_inner().len(), 0, "cut at {end}");
-        assert!(rt;
-            faults.as_slice() == b"applystream: the plan is not JSON\n".as_slice(),
-            "cut at {end}"
-        );
+        let plan = text_of(&rt, &bytes[..end]);
+        is_refused(&rt, rt.alloc(), plan, "the plan is not JSON");
     }
-    Ok(())
+}
+
+/// The update of that number.
+const UPDATE: &str =
+    r#"{"address":"a.b[NUMBER]","mode":"managed","type":"a","name":"b","index":NUMBER,"change":{"actions":["update"]}}"#;
+
+/// A plan of so many updates.
+fn updates(rt: &impl Abort, alloc: Global, count: u32) -> String {
+    let start = r#"{"format_version":"1.0","resource_changes":["#;
+    let mut plan = String::from_str(alloc, start).expect(rt, "memory");
+    for number in 0..count {
+        if number > 0 {
+            push(rt, &mut plan, ",");
+        }
+        push(rt, &mut plan, update(rt, alloc, number).as_str());
+    }
+    push(rt, &mut plan, "]}");
+    plan
+}
+
+/// Appends a text.
+fn push(rt: &impl Abort, plan: &mut String, text: &str) {
+    plan.push_str(text).expect(rt, "memory");
+}
+
+/// The update of that number, as a text.
+fn update(rt: &impl Abort, alloc: Global, number: u32) -> String {
+    let digits = number.to_string(alloc).expect(rt, "memory");
+    UPDATE
+        .replace(alloc, "NUMBER", digits.as_str())
+        .expect(rt, "memory")
+}
+
+/// Fails where ten thousand updates were not applied.
+fn ten_thousand_are_applied(rt: &impl Abort, outcome: &Outcome) {
+    assert_eq!(rt; outcome.status, 0);
+    let lines = outcome
+        .printed
+        .iter()
+        .filter(|byte| **byte == b'\n')
+        .count();
+    assert_eq!(rt; lines, 20_002);
+    let printed = text_of(rt, &outcome.printed);
+    assert!(rt; printed.contains("Resources: 0 added, 10000 changed, 0 destroyed."));
 }
 
 #[test]
-fn ten_thousand_updates_are_the_most(rt: HostRuntime) -> Result<(), Fail> {
+fn ten_thousand_updates_are_the_most(rt: HostRuntime) {
     let alloc = rt.alloc();
-    for (count, wanted) in [(10_000, 0), (10_001, 2)] {
-        let mut plan = String::from_str(alloc, r#"{"format_version":"1.0","resource_changes":["#)?;
-        for number in 0..count {
-            if number > 0 {
-                plan.push_str(",")?;
-            }
-            let element = format!(in alloc;
-                r#"{{"address":"a.b[{number}]","mode":"managed","type":"a","name":"b","index":{number},"change":{{"actions":["update"]}}}}"#
-            )?;
-            plan.push_str(element.as_str())?;
-        }
-        plan.push_str("]}")?;
-        let (status, output, faults) = run(&rt, alloc, plan.as_str())?;
-        assert_eq!(rt; status, wanted);
-        let lines = output
-            .as_bytes()
-            .iter()
-            .filter(|byte| **byte == b'\n')
-            .count();
-        if count == 10_000 {
-            assert_eq!(rt; lines, 20_002);
-            assert!(rt; output.contains("Resources: 0 added, 10000 changed, 0 destroyed."));
-        } else {
-            assert_eq!(rt; lines, 0);
-            assert_eq!(rt;
-                faults.as_str(),
-                "applystream: the plan has more than 10000 changes\n"
-            );
-        }
-    }
-    Ok(())
+    let plan = updates(&rt, alloc, 10_000);
+    ten_thousand_are_applied(&rt, &run(&rt, alloc, plan.as_bytes()));
+    let plan = updates(&rt, alloc, 10_001);
+    let fault = "the plan has more than 10000 changes";
+    is_refused(&rt, alloc, plan.as_str(), fault);
+}
+
+/// Fails where a reader that fails so, after so many bytes, is read to an end.
+fn is_unread(rt: &impl Abort, alloc: Global, before: usize, fault: ErrorKind) {
+    let failing = FailingReader {
+        bytes: b"ab",
+        before,
+        fault,
+    };
+    assert_eq!(rt;
+        read_all(alloc, failing).err(),
+        Some(InputFault::Read),
+        "{fault:?} after {before}"
+    );
 }
 
 #[test]
-fn all_of_the_input_is_read(rt: HostRuntime) -> Result<(), Fail> {
+fn all_of_the_input_is_read(rt: HostRuntime) {
     let alloc = rt.alloc();
-    let bytes = read_all(alloc, b"ab".as_slice())?;
+    let bytes = read_all(alloc, b"ab".as_slice()).expect(&rt, "memory");
     assert!(rt; bytes.as_slice() == b"ab".as_slice());
     for before in 0..3 {
-        for fault in [
-            ErrorKind::Interrupted,
-            ErrorKind::OutOfMemory,
-            ErrorKind::Other,
-        ] {
-            let failing = FailingReader {
-                bytes: b"ab",
-                before,
-                fault,
-            };
-            assert_eq!(rt;
-                read_all(alloc, failing).err(),
-                Some(InputFault::Read),
-                "{fault:?} after {before}"
-            );
-        }
+        is_unread(&rt, alloc, before, ErrorKind::Interrupted);
+        is_unread(&rt, alloc, before, ErrorKind::OutOfMemory);
+        is_unread(&rt, alloc, before, ErrorKind::Other);
     }
-    Ok(())
 }
 
 #[test]
-fn a_reader_that_fails_is_said_so(rt: HostRuntime) -> Result<(), Fail> {
-    let alloc = rt.alloc();
+fn a_reader_that_fails_is_said_so(rt: HostRuntime) {
     let input = FailingReader {
         bytes: ONE_CREATE.as_bytes(),
         before: 100,
         fault: ErrorKind::Other,
     };
-    let mut faults = Vec::new(alloc);
-    let (output, status) = run_plain(&rt, alloc, input, empty(alloc), &mut faults);
-    assert_eq!(rt; status, 2);
-    assert_eq!(rt; output.into_inner().len(), 0);
-    assert!(rt; faults.as_slice() == b"applystream: the plan could not be read\n".as_slice());
-    Ok(())
+    let outcome = run(&rt, rt.alloc(), input);
+    let fault = "the plan could not be read";
+    outcome_fails(&rt, "a reader that fails", &outcome, 2, fault);
 }
 
-#[test]
-fn an_output_that_fails_is_said_so(rt: HostRuntime) -> Result<(), Fail> {
-    let alloc = rt.alloc();
-    let (_, whole, _) = run(&rt, alloc, ONE_CREATE)?;
-    let said = b"applystream: the output could not be written\n".as_slice();
-    for room in 0..whole.len() {
-        for per_write in [1, 7, 4096] {
-            let output = FailingWriter {
-                taken: Vec::new(alloc),
-                per_write,
-                room,
-                fails_to_flush: false,
-            };
-            let mut faults = Vec::new(alloc);
-            let (output, status) = run_plain(
-                &rt,
-                alloc,
-                ONE_CREATE.as_bytes(),
-                StdSink::new(output),
-                &mut faults,
-            );
-            let output = output.into_inner();
-            assert_eq!(rt; status, 3, "room for {room}");
-            assert!(rt;
-                output.taken.as_slice() == whole.as_bytes().get(..room).unwrap_or(&[]),
-                "room for {room}"
-            );
-            assert!(rt; faults.as_slice() == said, "room for {room}");
-        }
-    }
-    for (fails_to_flush, wanted) in [(false, 0), (true, 3)] {
-        let output = FailingWriter {
-            taken: Vec::new(alloc),
-            per_write: 7,
-            room: whole.len(),
-            fails_to_flush,
-        };
-        let mut faults = Vec::new(alloc);
-        let (output, status) = run_plain(
-            &rt,
-            alloc,
-            ONE_CREATE.as_bytes(),
-            StdSink::new(output),
-            &mut faults,
-        );
-        let output = output.into_inner();
-        assert_eq!(rt; status, wanted);
-        assert!(rt; output.taken.as_slice() == whole.as_bytes());
-        assert!(rt; (faults.as_slice() == said) == fails_to_flush);
-    }
-    Ok(())
-}
+/// What is said of an output that fails.
+const UNWRITTEN: &str = "applystream: the output could not be written\n";
 
-#[test]
-fn a_fault_that_cannot_be_said_is_dropped(rt: HostRuntime) -> Result<(), Fail> {
-    let alloc = rt.alloc();
-    let mut faults = FailingWriter {
-        taken: Vec::new(alloc),
-        per_write: 7,
-        room: 0,
-        fails_to_flush: true,
+/// Runs one create into the output. Fails where the status is another, or something else was written or said.
+fn is_written<T: Threads + Wait + Sync + Abort>(
+    rt: &T,
+    alloc: Global,
+    output: FailingWriter,
+    status: u8,
+    written: &str,
+    said: &str,
+) {
+    let room = output.room;
+    let case = format!(in alloc; "room for {room}").expect(rt, "memory");
+    let mut found = Vec::new(alloc);
+    let (output, ended) = run_into(rt, alloc, ONE_CREATE, StdSink::new(output), &mut found);
+    let outcome = Outcome {
+        status: ended,
+        printed: output.into_inner().taken,
+        said: found,
     };
-    let (output, status) = run_plain(&rt, alloc, b"[]".as_slice(), empty(alloc), &mut faults);
-    assert_eq!(rt; status, 2);
-    assert_eq!(rt; output.into_inner().len(), 0);
-    Ok(())
+    outcome_is(rt, case.as_str(), &outcome, status, written, said);
+}
+
+/// An output that takes so many bytes a call, and has room for so many in all.
+fn with_room(alloc: Global, per_write: usize, room: usize) -> FailingWriter {
+    FailingWriter {
+        taken: Vec::new(alloc),
+        per_write,
+        room,
+        fails_to_flush: false,
+    }
 }
 
 #[test]
-fn each_answer_of_reading_has_its_status(rt: HostRuntime) -> Result<(), Fail> {
+fn an_output_that_fails_is_said_so(rt: HostRuntime) {
     let alloc = rt.alloc();
-    let settings = defaults(alloc);
-    let registry = Registry::new(alloc);
-    for (fault, wanted, said) in [
-        (
-            InputFault::Read,
-            2,
-            "applystream: the plan could not be read\n",
-        ),
-        (InputFault::Memory, 3, "applystream: out of memory\n"),
-    ] {
-        let mut faults = Vec::new(alloc);
-        let (output, status) = run_input(
+    let outcome = run(&rt, alloc, ONE_CREATE.as_bytes());
+    let bytes = outcome.printed.as_slice();
+    for room in 0..bytes.len() {
+        let front = text_of(&rt, &bytes[..room]);
+        is_written(&rt, alloc, with_room(alloc, 1, room), 3, front, UNWRITTEN);
+        is_written(&rt, alloc, with_room(alloc, 7, room), 3, front, UNWRITTEN);
+        is_written(
             &rt,
             alloc,
-            &settings,
-            &registry,
-            None,
-            Err(fault),
-            empty(alloc),
-            &mut faults,
+            with_room(alloc, 4096, room),
+            3,
+            front,
+            UNWRITTEN,
         );
-        assert_eq!(rt; status, wanted);
-        assert_eq!(rt; output.into_inner().len(), 0);
-        assert!(rt; faults.as_slice() == said.as_bytes(), "at {said}");
     }
-    for (refusal, wanted, said) in [
-        (
-            Refusal::Plan(PlanError::BadChange(7)),
-            2,
-            "applystream: change 7 is malformed\n",
-        ),
-        (
-            Refusal::Plan(PlanError::Memory),
-            3,
-            "applystream: out of memory\n",
-        ),
-        (
-            Refusal::Script(ScriptError::UnknownChange(1)),
-            2,
-            "applystream: script entry 1 names an unknown change\n",
-        ),
-        (
-            Refusal::Script(ScriptError::Memory),
-            3,
-            "applystream: out of memory\n",
-        ),
-        (
-            Refusal::Size,
-            2,
-            "applystream: the sizes are out of range\n",
-        ),
-    ] {
-        let mut faults = Vec::new(alloc);
-        report(&mut faults, refusal);
-        assert_eq!(rt; refusal_status(refusal), wanted, "at {said}");
-        assert!(rt; faults.as_slice() == said.as_bytes(), "at {said}");
-    }
-    Ok(())
+    let whole = text_of(&rt, bytes);
+    let room = bytes.len();
+    is_written(&rt, alloc, with_room(alloc, 7, room), 0, whole, "");
+    is_written(&rt, alloc, unflushed(alloc, room), 3, whole, UNWRITTEN);
+}
+
+#[test]
+fn a_fault_that_cannot_be_said_is_dropped(rt: HostRuntime) {
+    let alloc = rt.alloc();
+    let (output, status) = run_into(&rt, alloc, "[]", empty(alloc), &mut full(alloc));
+    assert_eq!(rt; status, 2);
+    assert_eq!(rt; output.into_inner().len(), 0);
+}
+
+/// Fails where an input that was not read has another status, or another fault is said of it.
+fn input_fails<T: Threads + Wait + Sync + Abort>(
+    rt: &T,
+    alloc: Global,
+    input: InputFault,
+    status: u8,
+    fault: &str,
+) {
+    let mut said = Vec::new(alloc);
+    let (output, found) = run_input(
+        rt,
+        alloc,
+        &defaults(alloc),
+        &Registry::new(alloc),
+        None,
+        Err(input),
+        empty(alloc),
+        &mut said,
+    );
+    let outcome = Outcome {
+        status: found,
+        printed: output.into_inner(),
+        said,
+    };
+    outcome_fails(rt, fault, &outcome, status, fault);
+}
+
+/// Fails where the refusal has another status, or another text.
+fn refusal_fails(rt: &impl Abort, alloc: Global, refusal: Refusal, status: u8, fault: &str) {
+    let mut said = Vec::new(alloc);
+    report(&mut said, refusal);
+    assert_eq!(rt; refusal_status(refusal), status, "{fault}");
+    says(rt, fault, &said, fault);
+}
+
+#[test]
+fn each_answer_of_reading_has_its_status(rt: HostRuntime) {
+    let alloc = rt.alloc();
+    let unread = "the plan could not be read";
+    input_fails(&rt, alloc, InputFault::Read, 2, unread);
+    input_fails(&rt, alloc, InputFault::Memory, 3, "out of memory");
+    let change = Refusal::Plan(PlanError::BadChange(7));
+    refusal_fails(&rt, alloc, change, 2, "change 7 is malformed");
+    let memory = Refusal::Plan(PlanError::Memory);
+    refusal_fails(&rt, alloc, memory, 3, "out of memory");
+    let unknown = Refusal::Script(ScriptError::UnknownChange(1));
+    let fault = "script entry 1 names an unknown change";
+    refusal_fails(&rt, alloc, unknown, 2, fault);
+    let memory = Refusal::Script(ScriptError::Memory);
+    refusal_fails(&rt, alloc, memory, 3, "out of memory");
+    let fault = "the sizes are out of range";
+    refusal_fails(&rt, alloc, Refusal::Size, 2, fault);
 }

@@ -49,31 +49,36 @@ const DESTROYED: &str =
 "#;
 
 /// The settings of words that say some.
-fn settings_of(rt: &impl Abort, alloc: Global, words: &str) -> Result<Settings, AllocError> {
-    let words = words_of(alloc, words)?;
-    match read_words(alloc, &words) {
-        Ok(settings) => Ok(settings),
+fn settings_of(rt: &impl Abort, alloc: Global, words: &str) -> Settings {
+    match read_words(alloc, &words_of(rt, alloc, words)) {
+        Ok(settings) => settings,
         Err(usage) => panic!(rt; "{usage:?}"),
     }
 }
 
-#[test]
-fn a_step_that_fails_is_told_by_the_status(rt: HostRuntime) -> Result<(), Fail> {
-    let alloc = rt.alloc();
+/// Runs as the settings say, without hooks or a script.
+fn run_as<T: Threads + Wait + Sync>(
+    rt: &T,
+    alloc: Global,
+    settings: &Settings,
+    plan: &str,
+) -> Outcome {
+    let registry = Registry::new(alloc);
+    run_with(rt, alloc, settings, &registry, None, plan.as_bytes())
+}
+
+/// Runs the replacement that creates first with the script.
+fn run_script<T: Threads + Wait + Sync>(rt: &T, alloc: Global, script: &[u8]) -> Outcome {
     let settings = defaults(alloc);
     let registry = Registry::new(alloc);
-    let (status, output, faults) = run_texts(
-        &rt,
-        alloc,
-        &settings,
-        &registry,
-        Some(BOOM),
-        REPLACED,
-    )?;
-    assert_eq!(rt; status, 1);
-    assert!(rt; output.ends_with(BOOM_END), "{output}");
-    assert_eq!(rt; faults.as_str(), "");
-    Ok(())
+    let plan = REPLACED.as_bytes();
+    run_with(rt, alloc, &settings, &registry, Some(script), plan)
+}
+
+#[test]
+fn a_step_that_fails_is_told_by_the_status(rt: HostRuntime) {
+    let outcome = run_script(&rt, rt.alloc(), BOOM);
+    outcome_ends(&rt, "boom", &outcome, 1, BOOM_END);
 }
 
 /// Scripts that are none for it, and what is said of them.
@@ -86,106 +91,65 @@ const REFUSED: &str = r#"{ => the script is not JSON
 {"changes":[{"address":"null_resource.a","steps":[{"seconds":86401}]}]} => script entry 0 has a step over 86400 seconds"#;
 
 #[test]
-fn a_script_that_is_none_is_refused(rt: HostRuntime) -> Result<(), Fail> {
-    let alloc = rt.alloc();
-    let settings = defaults(alloc);
-    let registry = Registry::new(alloc);
-    for line in REFUSED.lines() {
-        let Some((script, wanted)) = line.split_once(" => ") else {
-            panic!(rt; "no mark in {line}");
-        };
-        let (status, output, faults) = run_texts(
-            &rt,
-            alloc,
-            &settings,
-            &registry,
-            Some(script.as_bytes()),
-            REPLACED,
-        )?;
-        assert_eq!(rt; status, 2, "{script}");
-        assert_eq!(rt; output.as_str(), "", "{script}");
-        let said = faults
-            .strip_prefix("applystream: ")
-            .and_then(|text| text.strip_suffix("\n"));
-        assert_eq!(rt; said, Some(wanted), "{script}");
+fn a_script_that_is_none_is_refused(rt: HostRuntime) {
+    for row in REFUSED.lines() {
+        let (script, fault) = parted(&rt, row, " => ");
+        let outcome = run_script(&rt, rt.alloc(), script.as_bytes());
+        outcome_fails(&rt, script, &outcome, 2, fault);
     }
-    Ok(())
 }
 
 #[test]
-fn a_script_that_is_too_large_is_refused(rt: HostRuntime) -> Result<(), Fail> {
+fn a_script_that_is_too_large_is_refused(rt: HostRuntime) {
     let alloc = rt.alloc();
-    let settings = defaults(alloc);
-    let registry = Registry::new(alloc);
-    let blanks = vec![in alloc; b' '; 67_108_865]?;
-    let script = Some(blanks.as_slice());
-    let (status, output, faults) = run_texts(&rt, alloc, &settings, &registry, script, REPLACED)?;
-    assert_eq!(rt; status, 2);
-    assert_eq!(rt; output.as_str(), "");
-    assert_eq!(rt;
-        faults.as_str(),
-        "applystream: the script is larger than 67108864 bytes\n"
-    );
-    Ok(())
+    let blanks = vec![in alloc; b' '; 67_108_865].expect(&rt, "memory");
+    let outcome = run_script(&rt, alloc, &blanks);
+    let fault = "the script is larger than 67108864 bytes";
+    outcome_fails(&rt, "blanks", &outcome, 2, fault);
 }
 
 #[test]
-fn sizes_out_of_range_are_refused(rt: HostRuntime) -> Result<(), Fail> {
-    let alloc = rt.alloc();
-    let mut settings = defaults(alloc);
+fn sizes_out_of_range_are_refused(rt: HostRuntime) {
+    let mut settings = defaults(rt.alloc());
     settings.workers = 9;
-    let registry = Registry::new(alloc);
-    let (status, output, faults) = run_texts(&rt, alloc, &settings, &registry, None, REPLACED)?;
-    assert_eq!(rt; status, 2);
-    assert_eq!(rt; output.as_str(), "");
-    assert_eq!(rt;
-        faults.as_str(),
-        "applystream: the sizes are out of range\n"
-    );
-    Ok(())
+    let outcome = run_as(&rt, rt.alloc(), &settings, REPLACED);
+    let fault = "the sizes are out of range";
+    outcome_fails(&rt, "nine workers", &outcome, 2, fault);
 }
 
 #[test]
-fn a_hook_halts_beside_two_workers(rt: HostRuntime) -> Result<(), Fail> {
+fn a_hook_halts_beside_two_workers(rt: HostRuntime) {
     let alloc = rt.alloc();
-    let settings = settings_of(&rt, alloc, "--workers 2 --halt-before delete")?;
     let mut registry = Registry::new(alloc);
-    let rules = halting(alloc, Some(StepKind::Delete), "")?;
+    let rules = halting(alloc, Some(StepKind::Delete), "").expect(&rt, "memory");
     let answer: Answer = Box::new(alloc, |call: &HookCall<'_>| {
         if call.phase == Phase::Pre && call.kind == StepKind::Delete {
             Verdict::Halt
         } else {
             Verdict::Continue
         }
-    })?;
+    })
+    .expect(&rt, "memory");
     assert!(rt; registry.add(FnHook::new(rules, answer)).is_ok());
-    let (status, output, faults) = run_texts(&rt, alloc, &settings, &registry, None, REPLACEMENT)?;
-    assert_eq!(rt; status, 1);
-    assert_eq!(rt; output.as_str(), HALTED);
-    assert_eq!(rt; faults.as_str(), "");
-    Ok(())
+    let settings = settings_of(&rt, alloc, "--workers 2 --halt-before delete");
+    let plan = REPLACEMENT.as_bytes();
+    let outcome = run_with(&rt, alloc, &settings, &registry, None, plan);
+    outcome_is(&rt, "a hook", &outcome, 1, HALTED, "");
+}
+
+/// A moment that is not of UTC.
+const AT: &str = "--at 2021-05-25T13:32:41.275359-04:00";
+
+#[test]
+fn moments_count_from_the_start(rt: HostRuntime) {
+    let settings = settings_of(&rt, rt.alloc(), AT);
+    let outcome = run_as(&rt, rt.alloc(), &settings, EMPTY);
+    outcome_is(&rt, AT, &outcome, 0, STARTED, "");
 }
 
 #[test]
-fn moments_count_from_the_start(rt: HostRuntime) -> Result<(), Fail> {
-    let alloc = rt.alloc();
-    let settings = settings_of(&rt, alloc, "--at 2021-05-25T13:32:41.275359-04:00")?;
-    let registry = Registry::new(alloc);
-    let (status, output, faults) = run_texts(&rt, alloc, &settings, &registry, None, EMPTY)?;
-    assert_eq!(rt; status, 0);
-    assert_eq!(rt; output.as_str(), STARTED);
-    assert_eq!(rt; faults.as_str(), "");
-    Ok(())
-}
-
-#[test]
-fn a_destroy_is_said_at_the_end(rt: HostRuntime) -> Result<(), Fail> {
-    let alloc = rt.alloc();
-    let settings = settings_of(&rt, alloc, "--destroy")?;
-    let registry = Registry::new(alloc);
-    let (status, output, faults) = run_texts(&rt, alloc, &settings, &registry, None, DELETES)?;
-    assert_eq!(rt; status, 0);
-    assert!(rt; output.ends_with(DESTROYED), "{output}");
-    assert_eq!(rt; faults.as_str(), "");
-    Ok(())
+fn a_destroy_is_said_at_the_end(rt: HostRuntime) {
+    let settings = settings_of(&rt, rt.alloc(), "--destroy");
+    let outcome = run_as(&rt, rt.alloc(), &settings, DELETES);
+    outcome_ends(&rt, "--destroy", &outcome, 0, DESTROYED);
 }

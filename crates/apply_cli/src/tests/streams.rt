@@ -107,34 +107,27 @@ const ESCAPED_PLAN: &str =
 const ESCAPED_STREAM: &str =
     "{\"@level\":\"info\",\"@message\":\"Terraform 1.9.0\",\"@module\":\"terraform.ui\",\"@timestamp\":\"1970-01-01T00:00:00Z\",\"terraform\":\"1.9.0\",\"type\":\"version\",\"ui\":\"1.0\"}\n{\"@level\":\"info\",\"@message\":\"a.b[\\\"\\u0001\\b\\t\\n\\f\\r\\u001f\u{7f}\u{2028}/é\\\"]: Creating...\",\"@module\":\"terraform.ui\",\"@timestamp\":\"1970-01-01T00:00:00Z\",\"hook\":{\"action\":\"create\",\"resource\":{\"addr\":\"a.b[\\\"\\u0001\\b\\t\\n\\f\\r\\u001f\u{7f}\u{2028}/é\\\"]\",\"implied_provider\":\"a\",\"module\":\"\",\"resource\":\"a.b[\\\"\\u0001\\b\\t\\n\\f\\r\\u001f\u{7f}\u{2028}/é\\\"]\",\"resource_key\":\"\\u0001\\b\\t\\n\\f\\r\\u001f\u{7f}\u{2028}/é\",\"resource_name\":\"b\",\"resource_type\":\"a\"}},\"type\":\"apply_start\"}\n{\"@level\":\"info\",\"@message\":\"a.b[\\\"\\u0001\\b\\t\\n\\f\\r\\u001f\u{7f}\u{2028}/é\\\"]: Creation complete after 0s\",\"@module\":\"terraform.ui\",\"@timestamp\":\"1970-01-01T00:00:00Z\",\"hook\":{\"action\":\"create\",\"elapsed_seconds\":0,\"resource\":{\"addr\":\"a.b[\\\"\\u0001\\b\\t\\n\\f\\r\\u001f\u{7f}\u{2028}/é\\\"]\",\"implied_provider\":\"a\",\"module\":\"\",\"resource\":\"a.b[\\\"\\u0001\\b\\t\\n\\f\\r\\u001f\u{7f}\u{2028}/é\\\"]\",\"resource_key\":\"\\u0001\\b\\t\\n\\f\\r\\u001f\u{7f}\u{2028}/é\",\"resource_name\":\"b\",\"resource_type\":\"a\"}},\"type\":\"apply_complete\"}\n{\"@level\":\"info\",\"@message\":\"Apply complete! Resources: 1 added, 0 changed, 0 destroyed.\",\"@module\":\"terraform.ui\",\"@timestamp\":\"1970-01-01T00:00:00Z\",\"changes\":{\"add\":1,\"change\":0,\"operation\":\"apply\",\"remove\":0},\"type\":\"change_summary\"}\n";
 
+/// Fails where a run has failed, a fault was said, or other lines were printed, each with its line feed.
+fn lines_are(rt: &impl Abort, name: &str, outcome: &Outcome, wanted: &str) {
+    assert_eq!(rt; outcome.status, 0, "{name}");
+    let printed = text_of(rt, &outcome.printed);
+    assert_eq!(rt; printed.trim_end(), wanted.trim_end(), "{name}");
+    assert!(rt; printed.ends_with("\n"), "{name}");
+    is_text(rt, name, &outcome.said, "");
+}
+
 #[test]
-fn streams_are_printed_byte_for_byte(rt: HostRuntime) -> Result<(), Fail> {
-    let alloc = rt.alloc();
+fn streams_are_printed_byte_for_byte(rt: HostRuntime) {
     for case in STREAMS.split("\n\n") {
-        let (name, rest) = parted(&rt, case);
-        let (plan, wanted) = parted(&rt, rest);
-        let (status, output, faults) = run(&rt, alloc, plan)?;
-        assert_eq!(rt; status, 0, "{name}");
-        assert_eq!(rt; output.as_str().trim_end(), wanted.trim_end(), "{name}");
-        assert!(rt; output.as_bytes().last() == Some(&b'\n'), "{name}");
-        assert_eq!(rt; faults.as_str(), "", "{name}");
+        let (name, rest) = parted(&rt, case, "\n");
+        let (plan, wanted) = parted(&rt, rest, "\n");
+        let outcome = run(&rt, rt.alloc(), plan.as_bytes());
+        lines_are(&rt, name, &outcome, wanted);
     }
-    Ok(())
 }
 
 #[test]
-fn texts_are_escaped(rt: HostRuntime) -> Result<(), Fail> {
-    let (status, output, faults) = run(&rt, rt.alloc(), ESCAPED_PLAN)?;
-    assert_eq!(rt; status, 0);
-    assert_eq!(rt; output.as_str(), ESCAPED_STREAM);
-    assert_eq!(rt; faults.as_str(), "");
-    Ok(())
-}
-
-/// The first line, and those behind it.
-fn parted<'a>(rt: &impl Abort, text: &'a str) -> (&'a str, &'a str) {
-    match text.split_once("\n") {
-        Some(parts) => parts,
-        None => panic!(rt; "one line alone: {text}"),
-    }
+fn texts_are_escaped(rt: HostRuntime) {
+    let outcome = run(&rt, rt.alloc(), ESCAPED_PLAN.as_bytes());
+    outcome_is(&rt, "escapes", &outcome, 0, ESCAPED_STREAM, "");
 }

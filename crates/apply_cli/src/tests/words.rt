@@ -1,6 +1,7 @@
 //! Which words say which settings.
 
 use super::*;
+use std::alloc::AllocError;
 
 /// Words, and what they say.
 const TABLE: &str =
@@ -62,9 +63,14 @@ plan.json => Words
 --workers 9 --help => Words"#;
 
 /// What the words are answered.
-fn said(alloc: Global, text: &str) -> Result<String, AllocError> {
-    let words = words_of(alloc, text)?;
-    match read_words(alloc, &words) {
+fn answer_to(rt: &impl Abort, alloc: Global, text: &str) -> String {
+    let words = words_of(rt, alloc, text);
+    shown(alloc, &read_words(alloc, &words)).expect(rt, "memory")
+}
+
+/// The settings, the fault of a moment, or the name of any other usage.
+fn shown(alloc: Global, read: &Result<Settings, Usage>) -> Result<String, AllocError> {
+    match read {
         Ok(settings) => format!(in alloc; "{settings:?}"),
         Err(Usage::Help(_)) => String::from_str(alloc, "Help"),
         Err(Usage::Words(_)) => String::from_str(alloc, "Words"),
@@ -75,16 +81,12 @@ fn said(alloc: Global, text: &str) -> Result<String, AllocError> {
 }
 
 #[test]
-fn words_say_settings(rt: HostRuntime) -> Result<(), Fail> {
-    let alloc = rt.alloc();
-    for line in TABLE.lines() {
-        let Some((words, wanted)) = line.split_once(" => ") else {
-            panic!(rt; "no mark in {line}");
-        };
-        let answer = said(alloc, words)?;
+fn words_say_settings(rt: HostRuntime) {
+    for row in TABLE.lines() {
+        let (words, wanted) = parted(&rt, row, " => ");
+        let answer = answer_to(&rt, rt.alloc(), words);
         assert_eq!(rt; answer.as_str(), wanted, "{words}");
     }
-    Ok(())
 }
 
 /// How many halts before deletes, how many inside `a`, and what is answered.
@@ -96,34 +98,36 @@ const HALTS: &str = "32 0 Settings
 1 32 Hooks
 40 40 Hooks";
 
-#[test]
-fn there_are_32_halts_at_most(rt: HostRuntime) -> Result<(), Fail> {
-    let alloc = rt.alloc();
-    for line in HALTS.lines() {
-        let mut parts = line.split_whitespace();
-        let before = number(&rt, parts.next());
-        let inside = number(&rt, parts.next());
-        let mut words = String::new(alloc);
-        for _ in 0..inside {
-            words.push_str("--halt-in a ")?;
-        }
-        for _ in 0..before {
-            words.push_str("--halt-before delete ")?;
-        }
-        let answer = said(alloc, words.as_str())?;
-        assert!(rt;
-            answer.starts_with(parts.next().unwrap_or("none")),
-            "{line}: {answer}"
-        );
+/// Appends the words so many times.
+fn repeat(rt: &impl Abort, words: &mut String, word: &str, count: u8) {
+    for _ in 0..count {
+        words.push_str(word).expect(rt, "memory");
     }
-    Ok(())
+}
+
+#[test]
+fn there_are_32_halts_at_most(rt: HostRuntime) {
+    for row in HALTS.lines() {
+        let (before, rest) = parted(&rt, row, " ");
+        let (inside, wanted) = parted(&rt, rest, " ");
+        let mut words = String::new(rt.alloc());
+        repeat(&rt, &mut words, "--halt-in a ", number(&rt, inside));
+        repeat(
+            &rt,
+            &mut words,
+            "--halt-before delete ",
+            number(&rt, before),
+        );
+        let answer = answer_to(&rt, rt.alloc(), words.as_str());
+        assert!(rt; answer.starts_with(wanted), "{row}: {answer}");
+    }
 }
 
 /// A number of a table.
-fn number(rt: &impl Abort, text: Option<&str>) -> u8 {
-    match text.unwrap_or("none").parse::<u8>() {
+fn number(rt: &impl Abort, text: &str) -> u8 {
+    match text.parse::<u8>() {
         Ok(number) => number,
-        Err(_) => panic!(rt; "no number"),
+        Err(_) => panic!(rt; "no number: {text}"),
     }
 }
 
@@ -152,15 +156,18 @@ Exit status:
   2
   3"#;
 
+/// The help.
+fn help(rt: &impl Abort, alloc: Global) -> Text {
+    match read_words(alloc, &words_of(rt, alloc, "--help")) {
+        Err(Usage::Help(help)) => help,
+        _ => panic!(rt; "no help"),
+    }
+}
+
 #[test]
-fn help_says_all(rt: HostRuntime) -> Result<(), Fail> {
-    let alloc = rt.alloc();
-    let words = words_of(alloc, "--help")?;
-    let Err(Usage::Help(help)) = read_words(alloc, &words) else {
-        panic!(rt; "no help");
-    };
+fn help_says_all(rt: HostRuntime) {
+    let help = help(&rt, rt.alloc());
     for line in IN_HELP.lines() {
         assert!(rt; help.as_str().contains(line), "{line}");
     }
-    Ok(())
 }
