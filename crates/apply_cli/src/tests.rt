@@ -106,6 +106,11 @@ fn text_of<'a>(rt: &impl Abort, bytes: &'a [u8]) -> &'a str {
     }
 }
 
+/// Fails where the status is another.
+fn status_is(rt: &impl Abort, case: &str, outcome: &Outcome, status: u8) {
+    assert_eq!(rt; outcome.status, status, "{case}");
+}
+
 /// Fails where the status is another, or other texts were printed or said.
 fn outcome_is(
     rt: &impl Abort,
@@ -115,21 +120,21 @@ fn outcome_is(
     printed: &str,
     said: &str,
 ) {
-    assert_eq!(rt; outcome.status, status, "{case}");
+    status_is(rt, case, outcome, status);
     is_text(rt, case, &outcome.printed, printed);
     is_text(rt, case, &outcome.said, said);
 }
 
 /// Fails where the status is another, anything was printed, or another fault was said.
 fn outcome_fails(rt: &impl Abort, case: &str, outcome: &Outcome, status: u8, fault: &str) {
-    assert_eq!(rt; outcome.status, status, "{case}");
+    status_is(rt, case, outcome, status);
     is_text(rt, case, &outcome.printed, "");
     says(rt, case, &outcome.said, fault);
 }
 
 /// Fails where the status is another, what was printed has another end, or any fault was said.
 fn outcome_ends(rt: &impl Abort, case: &str, outcome: &Outcome, status: u8, end: &str) {
-    assert_eq!(rt; outcome.status, status, "{case}");
+    status_is(rt, case, outcome, status);
     let printed = text_of(rt, &outcome.printed);
     assert!(rt; printed.ends_with(end), "{case}: {printed}");
     is_text(rt, case, &outcome.said, "");

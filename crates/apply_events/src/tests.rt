@@ -24,6 +24,12 @@ const PLAN: &str =
 /// A script of that change, with the steps in the place of `CELL`.
 const SCRIPT: &str = r#"{"changes":[{"address":"null_resource.a","steps":CELL}]}"#;
 
+/// The actions of a create.
+const CREATE: &str = r#"["create"]"#;
+
+/// The actions of a replacement that creates first.
+const CREATES_FIRST: &str = r#"["create","delete"]"#;
+
 /// The actions of a replacement that destroys first.
 const REPLACEMENT: &str = r#"["delete","create"]"#;
 
@@ -82,7 +88,22 @@ fn told(
     text
 }
 
-/// Fails where the change with those actions, whose steps the script tells so, has other events.
+/// Fails where the first change has other events.
+fn events_are(
+    rt: &impl Abort,
+    alloc: Global,
+    case: &str,
+    plan: &Plan,
+    script: &Script,
+    registry: &Registry,
+    wanted: &str,
+) {
+    let found = told(rt, alloc, plan, script, registry);
+    let found = found.as_str().trim_end();
+    assert!(rt; found == wanted, "{case}: {found}");
+}
+
+/// The same of the change with those actions, whose steps the script tells so.
 fn tells(
     rt: &impl Abort,
     alloc: Global,
@@ -93,15 +114,13 @@ fn tells(
 ) {
     let plan = plan_of(rt, alloc, actions);
     let script = script_of(rt, alloc, &plan, steps);
-    let found = told(rt, alloc, &plan, &script, registry);
-    let found = found.as_str().trim_end();
-    assert!(rt; found == wanted, "{actions} {steps}: {found}");
+    events_are(rt, alloc, steps, &plan, &script, registry, wanted);
 }
 
 /// Fails where another step begins next, or the change has ended at another time so far.
-fn stands(rt: &impl Abort, runner: &Runner<'_>, begins: Option<u8>, ended_at: u64) {
-    assert!(rt; runner.begins() == begins, "not {begins:?}");
-    assert!(rt; runner.ended_at() == ended_at, "not {ended_at}");
+fn stands(rt: &impl Abort, after: &str, runner: &Runner<'_>, begins: Option<u8>, ended_at: u64) {
+    let found = (runner.begins(), runner.ended_at());
+    assert!(rt; found == (begins, ended_at), "after {after}: {found:?}");
 }
 
 /// A list of one rule that halts in a phase.

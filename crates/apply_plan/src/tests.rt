@@ -89,11 +89,14 @@ fn is_told(rt: &impl Abort, alloc: Global, error: &impl Display, wanted: &str) {
 
 /// Fails where the changes that the reader and the plain reader give for these elements are not printed alike. Neither is
 /// asked for more than a plan may have.
-fn elements_read_as_plainly(rt: &impl Abort, alloc: Global, elements: &[Value]) {
+fn elements_read_as_plainly(rt: &impl Abort, alloc: Global, case: &str, elements: &[Value]) {
     if elements.len() <= MAX_CHANGES {
         let fast = printed(rt, alloc, &reading::changes_of(alloc, elements));
         let plain = printed(rt, alloc, &plain::changes_of(alloc, elements));
-        assert!(rt; fast.as_str() == plain.as_str(), "{plain}");
+        assert!(rt;
+            fast.as_str() == plain.as_str(),
+            "at {case}: {fast} and not {plain}"
+        );
     }
 }
 
@@ -101,7 +104,7 @@ fn elements_read_as_plainly(rt: &impl Abort, alloc: Global, elements: &[Value]) 
 fn reads_as_plainly(rt: &impl Abort, alloc: Global, text: &str) {
     if let Ok(tree) = parse(alloc, text.as_bytes()) {
         if let Some(header) = Header::of(&tree) {
-            elements_read_as_plainly(rt, alloc, header.elements);
+            elements_read_as_plainly(rt, alloc, text, header.elements);
         }
     }
 }

@@ -109,7 +109,7 @@ const ESCAPED_STREAM: &str =
 
 /// Fails where a run has failed, a fault was said, or other lines were printed, each with its line feed.
 fn lines_are(rt: &impl Abort, name: &str, outcome: &Outcome, wanted: &str) {
-    assert_eq!(rt; outcome.status, 0, "{name}");
+    status_is(rt, name, outcome, 0);
     let printed = text_of(rt, &outcome.printed);
     assert_eq!(rt; printed.trim_end(), wanted.trim_end(), "{name}");
     assert!(rt; printed.ends_with("\n"), "{name}");

@@ -2,7 +2,18 @@
 
 use super::*;
 
-const CREATE: &str = r#"["create"]"#;
+/// Fails where the change with those actions has other events under an empty script.
+fn tells_by_default(
+    rt: &impl Abort,
+    alloc: Global,
+    actions: &str,
+    registry: &Registry,
+    wanted: &str,
+) {
+    let plan = plan_of(rt, alloc, actions);
+    let script = Script::empty(alloc);
+    events_are(rt, alloc, actions, &plan, &script, registry, wanted);
+}
 
 /// Three hooks, of which the second and the third halt deletes before they start: the second is told.
 #[test]
@@ -23,23 +34,9 @@ fn hooks_halt_before_a_step(rt: HostRuntime) -> Result<(), Fail> {
         assert!(rt; registry.add(FnHook::new(rules, answer)).is_ok());
     }
     let before = "0 step 0 Halted { phase: Pre, hook: 1 };";
-    tells(
-        &rt,
-        alloc,
-        r#"["delete","create"]"#,
-        "[]",
-        &registry,
-        before,
-    );
+    tells_by_default(&rt, alloc, REPLACEMENT, &registry, before);
     let between = "0 step 0 Start; 0 step 0 Complete(0); 0 step 1 Halted { phase: Pre, hook: 1 };";
-    tells(
-        &rt,
-        alloc,
-        r#"["create","delete"]"#,
-        "[]",
-        &registry,
-        between,
-    );
+    tells_by_default(&rt, alloc, CREATES_FIRST, &registry, between);
     Ok(())
 }
 
@@ -70,15 +67,15 @@ fn hooks_halt_after_a_failed_step(rt: HostRuntime) -> Result<(), Fail> {
 fn stands_before_the_halt(rt: &impl Abort, plan: &Plan, script: &Script, registry: &Registry) {
     assert!(rt; plan.len() == 1);
     let mut runner = Runner::start(plan, script, registry, 0, 0, 0);
-    stands(rt, &runner, Some(0), 0);
+    stands(rt, "nothing", &runner, Some(0), 0);
     let _start = runner.next();
-    stands(rt, &runner, None, 0);
+    stands(rt, "the start", &runner, None, 0);
     let _complete = runner.next();
-    stands(rt, &runner, None, 0);
+    stands(rt, "the completion", &runner, None, 0);
     let _halted = runner.next();
-    stands(rt, &runner, None, 1);
+    stands(rt, "the halt", &runner, None, 1);
     let _none = runner.next();
-    stands(rt, &runner, None, 1);
+    stands(rt, "the end", &runner, None, 1);
 }
 
 #[test]
@@ -104,23 +101,29 @@ fn hooks_halt_between_the_steps_of_a_replacement(rt: HostRuntime) -> Result<(), 
     Ok(())
 }
 
-/// Fails where the closure was asked another number of times before the next event, which is given then. Looking at the
-/// runner asks nothing.
-fn asked_before_next(rt: &impl Abort, calls: &AtomicU64, asked: u64, runner: &mut Runner<'_>) {
-    assert!(rt;
-        calls.load(Ordering::SeqCst) == asked,
-        "asked {asked} times"
-    );
+/// Fails where the closure was asked another number of times so far.
+fn asked_are(rt: &impl Abort, after: &str, calls: &AtomicU64, asked: u64) {
+    let found = calls.load(Ordering::SeqCst);
+    assert!(rt; found == asked, "after {after}: asked {found} times");
+}
+
+/// The same before and after looking at the runner. Then the next event is given.
+fn asked_after(
+    rt: &impl Abort,
+    after: &str,
+    calls: &AtomicU64,
+    asked: u64,
+    runner: &mut Runner<'_>,
+) {
+    asked_are(rt, after, calls, asked);
     let _begins = runner.begins();
     let _ended_at = runner.ended_at();
-    assert!(rt;
-        calls.load(Ordering::SeqCst) == asked,
-        "asked {asked} times"
-    );
+    asked_are(rt, after, calls, asked);
     let _event = runner.next();
 }
 
-/// How often the closure was asked before and after each event of a replacement with one progress and one warning.
+/// Fails where the closure was asked another number of times after some event of a replacement with one progress and one
+/// warning.
 fn asked_along(
     rt: &impl Abort,
     plan: &Plan,
@@ -130,18 +133,15 @@ fn asked_along(
 ) {
     assert!(rt; plan.len() == 1);
     let mut runner = Runner::start(plan, script, registry, 0, 0, 0);
-    asked_before_next(rt, calls, 0, &mut runner);
-    // the start of the first step was given, then its progress and its completion
-    asked_before_next(rt, calls, 1, &mut runner);
-    asked_before_next(rt, calls, 1, &mut runner);
-    asked_before_next(rt, calls, 2, &mut runner);
-    // the start of the second step, its completion and its warning
-    asked_before_next(rt, calls, 3, &mut runner);
-    asked_before_next(rt, calls, 3, &mut runner);
-    asked_before_next(rt, calls, 4, &mut runner);
-    // nothing more
-    asked_before_next(rt, calls, 4, &mut runner);
-    asked_before_next(rt, calls, 4, &mut runner);
+    asked_after(rt, "nothing", calls, 0, &mut runner);
+    asked_after(rt, "the first start", calls, 1, &mut runner);
+    asked_after(rt, "the progress", calls, 1, &mut runner);
+    asked_after(rt, "the first completion", calls, 2, &mut runner);
+    asked_after(rt, "the second start", calls, 3, &mut runner);
+    asked_after(rt, "the second completion", calls, 3, &mut runner);
+    asked_after(rt, "the warning", calls, 4, &mut runner);
+    asked_after(rt, "the end", calls, 4, &mut runner);
+    asked_after(rt, "the end again", calls, 4, &mut runner);
 }
 
 /// A stored closure is asked once for each phase of each step: before the step by the call that gives its first event,

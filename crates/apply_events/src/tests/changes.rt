@@ -46,8 +46,10 @@ fn progress_is(rt: &impl Abort, alloc: Global, steps: &str, events: usize, progr
     let script = script_of(rt, alloc, &plan, steps);
     assert!(rt; plan.len() == 1);
     let all = all_events(rt, alloc, Runner::start(&plan, &script, &registry, 0, 0, 0));
-    assert!(rt; all.len() == events, "{steps}");
-    assert!(rt; progress_of(rt, &all) == progress, "{steps}");
+    let found = all.len();
+    assert!(rt; found == events, "{steps}: {found} events");
+    let found = progress_of(rt, &all);
+    assert!(rt; found == progress, "{steps}: {found} times");
 }
 
 #[test]
@@ -91,6 +93,7 @@ fn a_default_script_and_a_late_begin(rt: HostRuntime) {
 /// then.
 fn next_leaves(
     rt: &impl Abort,
+    name: &str,
     runner: &mut Runner<'_>,
     at: u64,
     what: What,
@@ -98,8 +101,8 @@ fn next_leaves(
     ended_at: u64,
 ) {
     let event = runner.next().expect(rt, "an event");
-    assert!(rt; event.at == at && event.what == what, "{event:?}");
-    stands(rt, runner, begins, ended_at);
+    assert!(rt; event.at == at && event.what == what, "{name}: {event:?}");
+    stands(rt, name, runner, begins, ended_at);
 }
 
 /// Between all events: which step begins next, and when the change has ended so far.
@@ -111,13 +114,30 @@ fn between_the_events_of_a_replacement(rt: HostRuntime) {
     let script = script_of(&rt, alloc, &plan, ELEVEN_AND_TWO);
     assert!(rt; plan.len() == 1);
     let mut runner = Runner::start(&plan, &script, &registry, 0, 0, 5);
-    stands(&rt, &runner, Some(0), 5);
-    next_leaves(&rt, &mut runner, 5, What::Start, None, 5);
-    next_leaves(&rt, &mut runner, 15, What::Progress(10), None, 5);
-    next_leaves(&rt, &mut runner, 16, What::Complete(11), Some(1), 16);
-    next_leaves(&rt, &mut runner, 16, What::Start, None, 16);
-    next_leaves(&rt, &mut runner, 18, What::Complete(2), None, 16);
-    next_leaves(&rt, &mut runner, 18, What::WarnNote, None, 18);
+    stands(&rt, "nothing", &runner, Some(0), 5);
+    let first_end = What::Complete(11);
+    next_leaves(&rt, "start", &mut runner, 5, What::Start, None, 5);
+    next_leaves(
+        &rt,
+        "progress",
+        &mut runner,
+        15,
+        What::Progress(10),
+        None,
+        5,
+    );
+    next_leaves(&rt, "end", &mut runner, 16, first_end, Some(1), 16);
+    next_leaves(&rt, "next start", &mut runner, 16, What::Start, None, 16);
+    next_leaves(
+        &rt,
+        "next end",
+        &mut runner,
+        18,
+        What::Complete(2),
+        None,
+        16,
+    );
+    next_leaves(&rt, "warning", &mut runner, 18, What::WarnNote, None, 18);
     assert!(rt; runner.next().is_none());
-    stands(&rt, &runner, None, 18);
+    stands(&rt, "all", &runner, None, 18);
 }

@@ -59,11 +59,10 @@ fn counts_of_changes(rt: HostRuntime) {
     let removed = counts(0, 0, 1, 0, 0);
     let replaced = counts(1, 0, 1, 0, 0);
     counts_are(&rt, alloc, REPLACEMENT, "[]", removed, replaced);
-    let created_first = r#"["create","delete"]"#;
     let fails = r#"[{"seconds":0},{"seconds":4,"failed":{"summary":"boom"}}]"#;
     let added = counts(1, 0, 0, 0, 0);
     let failed = counts(1, 0, 0, 1, 0);
-    counts_are(&rt, alloc, created_first, fails, added, failed);
+    counts_are(&rt, alloc, CREATES_FIRST, fails, added, failed);
     let long = r#"[{"seconds":25}]"#;
     let changed = counts(0, 1, 0, 0, 0);
     counts_are(&rt, alloc, r#"["update"]"#, long, NOTHING, changed);
@@ -73,7 +72,7 @@ fn counts_of_changes(rt: HostRuntime) {
 #[test]
 fn a_halt_is_counted(rt: HostRuntime) {
     let alloc = rt.alloc();
-    let plan = plan_of(&rt, alloc, r#"["create"]"#);
+    let plan = plan_of(&rt, alloc, CREATE);
     let event = Event {
         worker: 0,
         change: 0,

@@ -39,7 +39,7 @@ fn push_fitting(
     }
 }
 
-/// Adds what can happen, of these, to a step.
+/// Tries all kinds of events of a step, and adds those that can happen.
 fn push_step(
     rt: &impl Abort,
     alloc: Global,
@@ -85,7 +85,7 @@ fn push_step(
     );
 }
 
-/// What can happen, of these, to three steps.
+/// What can happen to three steps, of what is tried of each.
 fn fitting(rt: &impl Abort, alloc: Global, plan: &Plan, script: &Script) -> String {
     let mut text = String::new(alloc);
     for step in 0..3 {
@@ -109,7 +109,7 @@ fn events_that_can_happen(rt: HostRuntime) {
 #[test]
 fn events_happen_in_time_to_changes_of_the_plan(rt: HostRuntime) {
     let alloc = rt.alloc();
-    let plan = plan_of(&rt, alloc, r#"["create"]"#);
+    let plan = plan_of(&rt, alloc, CREATE);
     let script = Script::empty(alloc);
     assert!(rt; fits(&plan, &script, &event(0, 0, What::Start, LATEST)));
     assert!(rt; !fits(&plan, &script, &event(0, 0, What::Start, 1_728_000_001)));

@@ -52,10 +52,10 @@ fn parts_of(rt: &impl Abort, alloc: Global, plan: &Plan, parts: &str) -> String 
 }
 
 /// Reads the plan, which the plain reader has to read alike, and compares these parts of it.
-fn plan_tells(rt: &impl Abort, alloc: Global, plan: &str, parts: &str, wanted: &str) {
+fn plan_tells(rt: &impl Abort, alloc: Global, case: &str, plan: &str, parts: &str, wanted: &str) {
     reads_as_plainly(rt, alloc, plan);
     let found = parts_of(rt, alloc, &plan_of(rt, alloc, plan), parts);
-    compare(rt, plan, found.as_str(), wanted);
+    compare(rt, case, found.as_str(), wanted);
 }
 
 /// The same for each row: a plan that has the first cell in the place of `CELL`.
@@ -63,7 +63,7 @@ pub fn plans_tell(rt: &impl Abort, alloc: Global, plan: &str, parts: &str, table
     for row in rows(rt, table) {
         let (cell, wanted) = cells(rt, row);
         let text = put(rt, alloc, plan, "CELL", cell);
-        plan_tells(rt, alloc, text.as_str(), parts, wanted);
+        plan_tells(rt, alloc, cell, text.as_str(), parts, wanted);
     }
 }
 
@@ -87,7 +87,7 @@ steps => [Create]
 fn quoted_module_address(rt: HostRuntime) {
     for row in rows(&rt, QUOTED_PARTS) {
         let (part, wanted) = cells(&rt, row);
-        plan_tells(&rt, rt.alloc(), QUOTED_PLAN, part, wanted);
+        plan_tells(&rt, rt.alloc(), part, QUOTED_PLAN, part, wanted);
     }
 }
 
