@@ -178,23 +178,6 @@ fn stream_is<R: Threads + Wait + Sync + Abort>(
     lines_are(rt, name, text_of(rt, &sink), wanted);
 }
 
-/// Applies what was read, without hooks.
-fn apply_read<S: Sink + Drop, G: Gate, R: Threads + Wait + Sync + Abort>(
-    rt: &R,
-    alloc: Global,
-    plan: &Plan,
-    script: &Script,
-    options: Options,
-    sink: S,
-    gate: &G,
-) -> (S, Result<Report, Fault>)
-    requires { S.failed sink < 2 ^ 64 - 1 }
-{
-    let registry = Registry::new(alloc);
-    assert!(rt; options.in_range());
-    apply_stream(rt, alloc, plan, script, &registry, options, sink, gate)
-}
-
 /// Reads both texts and applies them, without hooks.
 fn apply_texts<S: Sink + Drop, G: Gate, R: Threads + Wait + Sync + Abort>(
     rt: &R,
@@ -209,7 +192,9 @@ fn apply_texts<S: Sink + Drop, G: Gate, R: Threads + Wait + Sync + Abort>(
 {
     let plan = plan_of(rt, alloc, plan);
     let script = script_of(rt, alloc, script, &plan);
-    apply_read(rt, alloc, &plan, &script, options, sink, gate)
+    let registry = Registry::new(alloc);
+    assert!(rt; options.in_range());
+    apply_stream(rt, alloc, &plan, &script, &registry, options, sink, gate)
 }
 
 /// The same where it has to succeed.
