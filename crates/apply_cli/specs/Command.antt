@@ -1,5 +1,5 @@
 -- How the program has ended.
-use Rattle.std.specs.Prelude.{◌≡◌, ◌<◌, ◌↔◌, ℕ, List, Option, IfSome, length}
+use Rattle.std.specs.Prelude.{◌≡◌, ◌<◌, ◌↔◌, ℕ, List, Option, IfSome, is_some, length}
 use Rattle.std.specs.List.{range_with_len}
 use Rattle.std.specs.Io.KnownBytes.{Appends}
 use mathlib.Core.List.{IsPrefix}
@@ -41,3 +41,7 @@ pub record HasBegun (given : Given) (options : Options) (before after : Option (
 -- it is so of some bytes, which are those of the input, where it tells them
 abbrev pub OfInput : (known : Option (List ℕ)) → (List ℕ → Type 0) → Type 0
 OfInput known P = (bytes : List ℕ) × P bytes × IfSome known (λ all. all ≡ bytes)
+
+-- it is so of some bytes of a script, where there is a file of that name, and of none where there is none
+abbrev pub OfFile : (name : Option (List ℕ)) → (Option (List ℕ) → Type 0) → Type 0
+OfFile name P = (bytes : Option (List ℕ)) × P bytes × (is_some bytes ≡ is_some name)

@@ -1,3 +1,4 @@
 pub mod Command
+pub mod Halt
 pub mod Settings
 pub mod Status

@@ -1,6 +1,8 @@
 -- The exit status: 0 where all is well, 1 where a step failed or was halted, 2 where the words or the input are at fault, and 3 where memory ran out or the run did not end well.
 use Rattle.std.specs.Prelude.{ℕ, ◌+◌, nat_lt, if◌then◌else◌}
 use Rattle.apply_events.specs.declared.counts.Counts.{Counts}
+use Rattle.apply_hooks.specs.declared.hook_error.HookError.{HookError}
+use Rattle.apply_hooks.specs.declared.hook_error.HookError.TheVariants as hook
 use Rattle.apply_plan.specs.declared.plan.plan_error.PlanError.{PlanError}
 use Rattle.apply_plan.specs.declared.plan.plan_error.PlanError.TheVariants as plan
 use Rattle.apply_plan.specs.declared.script.script_error.ScriptError.{ScriptError}
@@ -56,3 +58,7 @@ usage_status_of (usage.Words text) = 2
 usage_status_of (usage.Moment error) = 2
 usage_status_of usage.Hooks = 2
 usage_status_of usage.Memory = 3
+
+abbrev pub hook_status_of : HookError → ℕ
+hook_status_of hook.Full = 2
+hook_status_of hook.Memory = 3

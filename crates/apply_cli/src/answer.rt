@@ -2,7 +2,7 @@
 
 ghost use Rattle.std.specs.Prelude.{◌≡◌, ◌≤◌};
 ghost use Rattle.std.specs.Io.KnownBytes.{Keeps};
-ghost use Rattle.apply_cli.specs.Status.{usage_status_of};
+ghost use Rattle.apply_cli.specs.Status.{hook_status_of, usage_status_of};
 
 use crate::run::report;
 use crate::status::{FAILED, REFUSED};
@@ -33,13 +33,18 @@ pub fn answer_usage<W: Write, E: Write>(usage: &Usage, out: &mut W, faults: &mut
             report(faults, *error);
             REFUSED
         }
-        Usage::Hooks => {
-            report(faults, HookError::Full);
-            REFUSED
-        }
-        Usage::Memory => {
-            report(faults, HookError::Memory);
-            FAILED
-        }
+        Usage::Hooks => report_hook(faults, HookError::Full),
+        Usage::Memory => report_hook(faults, HookError::Memory),
+    }
+}
+
+/// Says why a hook was not added, and answers the exit status.
+pub fn report_hook<E: Write>(faults: &mut E, refused: HookError) -> u8
+    ensures { result ≡ hook_status_of refused }
+{
+    report(faults, refused);
+    match refused {
+        HookError::Full => REFUSED,
+        HookError::Memory => FAILED,
     }
 }

@@ -5,19 +5,17 @@ ghost use Rattle.std.specs.Prelude.{◌≡◌, ◌<◌, ◌-◌, ◌^◌};
 
 mod answers;
 mod faults;
+mod following;
 mod settings;
 mod streams;
 mod words;
 
-use crate::answer::answer_usage;
-use crate::input::read_all;
-use crate::input_fault::InputFault;
-use crate::run::{report, run_command, run_input};
-use crate::settings::Settings;
-use crate::status::refusal_status;
-use crate::usage::Usage;
-use crate::words::read_words;
-use apply_hooks::{Answer, FnHook, HookCall, Phase, Registry, Verdict};
+use crate::run::report;
+use crate::{
+    Halt, InputFault, Settings, Usage, answer_usage, follow, follow_settings, read_all, read_words,
+    refusal_status, run_command, run_input,
+};
+use apply_hooks::Registry;
 use apply_plan::{PlanError, ScriptError, StepKind, Text};
 use apply_run::{Refusal, StdSink};
 use apply_text::{MomentError, Operation, Start};
@@ -25,6 +23,7 @@ use std::alloc::Global;
 use std::io;
 use std::io::{ErrorKind, Read, Write};
 use std::process::Abort;
+use std::rt::Files;
 use std::sync::Wait;
 use std::thread::Threads;
 

@@ -1,15 +1,17 @@
 //! Lists of rules.
 
-ghost use Rattle.std.specs.Prelude.{◌≡◌, ◌++◌, ◌∷◌, [], find, IfErr, OnErr, OnOk};
+ghost use Rattle.std.specs.Prelude.{◌≡◌, ◌++◌, ◌∷◌, [], find, IfErr, IfOk, OnErr, OnOk};
 ghost use Rattle.std.specs.Option.{option_copied};
 ghost use Rattle.apply_hooks.specs.HookCall.{call_of};
 ghost use Rattle.apply_hooks.specs.Rule.{matches};
 
 use crate::hook::Hook;
 use crate::hook_call::HookCall;
+use crate::phase::Phase;
 use crate::rule::Rule;
 use crate::verdict::Verdict;
-use std::alloc::Global;
+use apply_plan::{StepKind, Text};
+use std::alloc::{AllocError, Global};
 use std::marker::Model;
 
 /// A list of rules. The first that matches a call answers it.
@@ -34,6 +36,34 @@ impl Rules {
     {
         Rules {
             rules: Vec::new(alloc),
+        }
+    }
+
+    /// One rule, which halts each call that it matches: of that phase and that kind, where they are given, and of an address
+    /// that begins with the text. `Err` where memory is refused.
+    pub fn halting(
+        alloc: Global,
+        phase: Option<Phase>,
+        kind: Option<StepKind>,
+        address_begins: &str,
+    ) -> Result<Rules, AllocError>
+        ensures { IfOk result (λ rules. rules ≡ record {
+          phase = phase;
+          kind = kind;
+          address_begins = address_begins.now;
+          verdict = Verdict.Halt;
+        } ∷ []) }
+    {
+        let rule = Rule {
+            phase,
+            kind,
+            address_begins: Text::new(alloc, address_begins)?,
+            verdict: Verdict::Halt,
+        };
+        let mut rules = Rules::new(alloc);
+        match rules.push(rule) {
+            Ok(()) => Ok(rules),
+            Err(_) => Err(AllocError),
         }
     }
 

@@ -1,9 +1,6 @@
 //! Runs by settings: scripts, hooks, workers, moments and what the apply is for.
 
-ghost use Rattle.std.specs.Prelude.{◌≡◌};
-
 use super::*;
-use crate::halting;
 
 /// A plan without changes.
 const EMPTY: &str = r#"{"format_version":"1.0"}"#;
@@ -20,17 +17,6 @@ const BOOM: &[u8] =
 const BOOM_END: &str =
     r#"{"@level":"error","@message":"Error: boom","@module":"terraform.ui","@timestamp":"1970-01-01T00:00:04Z","diagnostic":{"address":"null_resource.a","detail":"","severity":"error","summary":"boom"},"type":"diagnostic"}
 {"@level":"info","@message":"Apply complete! Resources: 1 added, 0 changed, 0 destroyed.","@module":"terraform.ui","@timestamp":"1970-01-01T00:00:04Z","changes":{"add":1,"change":0,"operation":"apply","remove":0},"type":"change_summary"}
-"#;
-
-/// A replacement that destroys first.
-const REPLACEMENT: &str =
-    r#"{"format_version":"1.2","terraform_version":"1.9.0","resource_changes":[{"address":"null_resource.a","mode":"managed","type":"null_resource","name":"a","change":{"actions":["delete","create"],"before":{"id":"41"}}}]}"#;
-
-/// Its stream where deletes are halted.
-const HALTED: &str =
-    r#"{"@level":"info","@message":"Terraform 1.9.0","@module":"terraform.ui","@timestamp":"1970-01-01T00:00:00Z","terraform":"1.9.0","type":"version","ui":"1.0"}
-{"@level":"error","@message":"Error: execution halted","@module":"terraform.ui","@timestamp":"1970-01-01T00:00:00Z","diagnostic":{"address":"null_resource.a","detail":"Hook 0 answered Halt before delete.","severity":"error","summary":"execution halted"},"type":"diagnostic"}
-{"@level":"info","@message":"Apply complete! Resources: 0 added, 0 changed, 0 destroyed.","@module":"terraform.ui","@timestamp":"1970-01-01T00:00:00Z","changes":{"add":0,"change":0,"operation":"apply","remove":0},"type":"change_summary"}
 "#;
 
 /// The stream of no changes, at a start.
@@ -115,26 +101,6 @@ fn sizes_out_of_range_are_refused(rt: HostRuntime) {
     let outcome = run_as(&rt, rt.alloc(), &settings, REPLACED);
     let fault = "the sizes are out of range";
     outcome_fails(&rt, "nine workers", &outcome, 2, fault);
-}
-
-#[test]
-fn a_hook_halts_beside_two_workers(rt: HostRuntime) {
-    let alloc = rt.alloc();
-    let mut registry = Registry::new(alloc);
-    let rules = halting(alloc, Some(StepKind::Delete), "").expect(&rt, "memory");
-    let answer: Answer = Box::new(alloc, |call: &HookCall<'_>| {
-        if call.phase == Phase::Pre && call.kind == StepKind::Delete {
-            Verdict::Halt
-        } else {
-            Verdict::Continue
-        }
-    })
-    .expect(&rt, "memory");
-    assert!(rt; registry.add(FnHook::new(rules, answer)).is_ok());
-    let settings = settings_of(&rt, alloc, "--workers 2 --halt-before delete");
-    let plan = REPLACEMENT.as_bytes();
-    let outcome = run_with(&rt, alloc, &settings, &registry, None, plan);
-    outcome_is(&rt, "a hook", &outcome, 1, HALTED, "");
 }
 
 /// A moment that is not of UTC.

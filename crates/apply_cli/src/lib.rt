@@ -1,0 +1,29 @@
+//! The program `applystream`, from the words behind its name to its exit status, over any files and streams.
+#![tactic(auto)]
+
+mod answer;
+mod following;
+mod halt;
+mod input;
+mod input_fault;
+mod run;
+mod script_file;
+mod settings;
+mod status;
+mod usage;
+mod words;
+
+pub use answer::answer_usage;
+pub use following::{follow, follow_settings, given_words};
+pub use halt::Halt;
+pub use input::read_all;
+pub use input_fault::InputFault;
+pub use run::{run_bytes, run_command, run_input};
+pub use script_file::{read_file, report_script};
+pub use settings::Settings;
+pub use status::{counts_status, input_status, refusal_status};
+pub use usage::Usage;
+pub use words::read_words;
+
+#[cfg(test)]
+mod tests;

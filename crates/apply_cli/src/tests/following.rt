@@ -1,0 +1,149 @@
+//! What is done with the words, from the first to the exit status.
+
+use super::*;
+
+/// A replacement that destroys first.
+const REPLACEMENT: &str =
+    r#"{"format_version":"1.2","terraform_version":"1.9.0","resource_changes":[{"address":"null_resource.a","mode":"managed","type":"null_resource","name":"a","change":{"actions":["delete","create"],"before":{"id":"41"}}}]}"#;
+
+/// Its stream where deletes are halted.
+const HALTED: &str =
+    r#"{"@level":"info","@message":"Terraform 1.9.0","@module":"terraform.ui","@timestamp":"1970-01-01T00:00:00Z","terraform":"1.9.0","type":"version","ui":"1.0"}
+{"@level":"error","@message":"Error: execution halted","@module":"terraform.ui","@timestamp":"1970-01-01T00:00:00Z","diagnostic":{"address":"null_resource.a","detail":"Hook 0 answered Halt before delete.","severity":"error","summary":"execution halted"},"type":"diagnostic"}
+{"@level":"info","@message":"Apply complete! Resources: 0 added, 0 changed, 0 destroyed.","@module":"terraform.ui","@timestamp":"1970-01-01T00:00:00Z","changes":{"add":0,"change":0,"operation":"apply","remove":0},"type":"change_summary"}
+"#;
+
+/// A word that only a shell could have made: a blank stands in it.
+const BLANK: &str = "~";
+
+/// Words, the status, and what is said of faults. A `~` stands for a blank within a word.
+const TABLE: &str = "--workers 2 --halt-before delete => 1 =>
+--halt-in null_resource. --workers 8 --queue 1 => 1 =>
+--halt-in= => 1 =>
+--halt-in=~null_resource. => 0 =>
+--halt-in=null_resource.~ => 0 =>
+--halt-before create --halt-in null_resource.b => 1 =>
+--halt-before read => 0 =>
+--script no_such_file.json => 2 => applystream: the script file could not be read
+--script . => 2 => applystream: the script file could not be read
+--at x => 2 => applystream: the moment is not a moment
+--at 1969-12-31T23:59:59Z --script no_such_file.json => 2 => applystream: the moment is out of range";
+
+/// Follows the words, with the plan as the input.
+fn followed<T: Threads + Wait + Sync, F: Files>(
+    rt: &T,
+    files: &F,
+    alloc: Global,
+    words: &[String],
+    plan: &str,
+) -> Outcome {
+    let mut said = Vec::new(alloc);
+    let output = Vec::new(alloc);
+    let (printed, status) = follow(rt, files, alloc, words, plan.as_bytes(), output, &mut said);
+    Outcome {
+        status,
+        printed,
+        said,
+    }
+}
+
+/// The words of a row, with blanks.
+fn words_with_blanks(rt: &impl Abort, alloc: Global, text: &str) -> Vec<String> {
+    let mut words = Vec::new(alloc);
+    for word in text.split_whitespace() {
+        let word = word.replace(alloc, BLANK, " ").expect(rt, "memory");
+        words.push(word).expect(rt, "memory");
+    }
+    words
+}
+
+/// Fails where the words of the row have another status, or another fault is said.
+fn row_is<T: Threads + Wait + Sync + Abort, F: Files>(rt: &T, files: &F, alloc: Global, row: &str) {
+    let (words, rest) = parted(rt, row, " => ");
+    let (status, said) = parted(rt, rest, " =>");
+    let words = words_with_blanks(rt, alloc, words);
+    let outcome = followed(rt, files, alloc, &words, REPLACEMENT);
+    let found = format!(in alloc; "{}", outcome.status).expect(rt, "memory");
+    assert_eq!(rt; found.as_str(), status, "{row}");
+    assert_eq!(rt; text_of(rt, &outcome.said).trim(), said.trim(), "{row}");
+}
+
+#[test]
+fn words_have_their_statuses(rt: HostRuntime) {
+    for row in TABLE.lines() {
+        row_is(&rt, &rt, rt.alloc(), row);
+    }
+}
+
+/// Fails where the replacement has another stream by these words.
+fn stream_is<T: Threads + Wait + Sync + Abort, F: Files>(
+    rt: &T,
+    files: &F,
+    alloc: Global,
+    words: &str,
+    status: u8,
+    stream: &str,
+) {
+    let given = words_with_blanks(rt, alloc, words);
+    let outcome = followed(rt, files, alloc, &given, REPLACEMENT);
+    outcome_is(rt, words, &outcome, status, stream, "");
+}
+
+#[test]
+fn a_hook_halts_beside_two_workers(rt: HostRuntime) {
+    let words = "--workers 2 --halt-before delete";
+    stream_is(&rt, &rt, rt.alloc(), words, 1, HALTED);
+    let words = "--workers 2 --halt-in null_resource.a";
+    stream_is(&rt, &rt, rt.alloc(), words, 1, HALTED);
+}
+
+/// The hooks of `--halt-before` are asked first, each kind in its order: the third one halts the delete.
+#[test]
+fn hooks_are_asked_in_their_order(rt: HostRuntime) {
+    let words = "--halt-in null --halt-before read --halt-before create --halt-before delete";
+    let given = words_with_blanks(&rt, rt.alloc(), words);
+    let outcome = followed(&rt, &rt, rt.alloc(), &given, REPLACEMENT);
+    status_is(&rt, words, &outcome, 1);
+    let printed = text_of(&rt, &outcome.printed);
+    assert!(rt;
+        printed.contains("Hook 2 answered Halt before delete."),
+        "{printed}"
+    );
+}
+
+#[test]
+fn help_is_printed(rt: HostRuntime) {
+    let given = words_with_blanks(&rt, rt.alloc(), "--help");
+    let outcome = followed(&rt, &rt, rt.alloc(), &given, "");
+    status_is(&rt, "help", &outcome, 0);
+    is_text(&rt, "help", &outcome.said, "");
+    assert!(rt; text_of(&rt, &outcome.printed).contains("Exit status:"));
+}
+
+/// Settings that no words say, with a halt more than there may be hooks.
+#[test]
+fn more_halts_than_hooks_are_refused(rt: HostRuntime) {
+    let alloc = rt.alloc();
+    let mut settings = defaults(alloc);
+    for _ in 0..33 {
+        let halt = Halt::Before(StepKind::Read);
+        settings.halts.push(halt).expect(&rt, "memory");
+    }
+    let mut said = Vec::new(alloc);
+    let input = REPLACEMENT.as_bytes();
+    let (output, status) = follow_settings(
+        &rt,
+        &rt,
+        alloc,
+        &settings,
+        input,
+        empty(alloc),
+        &mut said,
+    );
+    let outcome = Outcome {
+        status,
+        printed: output.into_inner(),
+        said,
+    };
+    outcome_fails(&rt, "33 halts", &outcome, 2, "more than 32 hooks");
+}

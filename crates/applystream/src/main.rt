@@ -1,0 +1,35 @@
+//! Prints the stream of messages for applying a saved plan, which is read from standard input, as the words of the command
+//! line say.
+#![tactic(auto)]
+
+use apply_cli::{Usage, answer_usage, follow, given_words};
+use std::io::BufWriter;
+use std::process::ExitCode;
+use std::sync::Wait;
+use std::thread::Threads;
+
+fn main(rt: HostRuntime) -> ExitCode {
+    let status = match run(&rt, &rt) {
+        Ok(status) => status,
+        Err(usage) => answer_usage(&usage, &mut rt.stdout(), &mut rt.stderr()),
+    };
+    ExitCode::from(status)
+}
+
+/// Follows the words over the standard streams, and answers the exit status.
+fn run<T: Threads + Wait + Sync>(rt: &HostRuntime, threads: &T) -> Result<u8, Usage> {
+    let words = given_words(rt)?;
+    let Ok(output) = BufWriter::new(rt.alloc(), rt.stdout()) else {
+        return Err(Usage::Memory);
+    };
+    let (_output, status) = follow(
+        threads,
+        rt,
+        rt.alloc(),
+        words.get(1..).unwrap_or(&[]),
+        rt.reader(),
+        output,
+        &mut rt.stderr(),
+    );
+    Ok(status)
+}
