@@ -1,7 +1,7 @@
 //! What no clause says: that closures which callers really write can be stored, that each is called and how often, and
 //! that the definitions are the ones that were meant.
 
-ghost use Rattle.std.specs.Prelude.{◌≡◌, ◌∷◌, [], IfOk};
+ghost use Rattle.std.specs.Prelude.{◌≡◌, ◌∷◌, []};
 
 mod asking;
 mod closures;
@@ -12,56 +12,128 @@ use crate::{
     Verdict,
 };
 use apply_plan::{StepKind, Text};
-use std::alloc::{AllocError, Global};
+use std::alloc::Global;
+use std::fmt::Debug;
 use std::process::Abort;
 use std::sync::Arc;
 use std::sync::atomic::{AtomicU64, Ordering};
-use std::test::Fail;
 use std::thread;
 
-/// A list of one rule, which halts.
-fn halting(
-    alloc: Global,
-    phase: Option<Phase>,
-    kind: Option<StepKind>,
-    beginning: &str,
-) -> Result<Rules, AllocError>
-    ensures { IfOk result (λ rules. rules ≡ record {
-      phase = phase;
-      kind = kind;
-      address_begins = beginning.now;
-      verdict = Verdict.Halt;
-    } ∷ []) }
-{
-    let rule = Rule {
-        phase,
-        kind,
-        address_begins: Text::new(alloc, beginning)?,
-        verdict: Verdict::Halt,
-    };
-    let mut rules = Rules::new(alloc);
-    match rules.push(rule) {
-        Ok(()) => Ok(rules),
-        Err(_) => Err(AllocError),
+/// What stands before the first mark of a row, and behind it.
+fn parted<'a>(rt: &impl Abort, row: &'a str, mark: &str) -> (&'a str, &'a str) {
+    match row.split_once(mark) {
+        Some(parts) => parts,
+        None => panic!(rt; "no {mark:?} in the row {row}"),
     }
 }
 
-fn call<'a>(phase: Phase, kind: StepKind, address: &'a str) -> HookCall<'a> {
+/// The phase of that name; none for `any`.
+fn phase_of(rt: &impl Abort, name: &str) -> Option<Phase> {
+    match name {
+        "any" => None,
+        "Pre" => Some(Phase::Pre),
+        "PostDone" => Some(Phase::PostDone),
+        "PostFailed" => Some(Phase::PostFailed),
+        _ => panic!(rt; "no phase is {name}"),
+    }
+}
+
+/// The kind of that name; none for `any`.
+fn kind_of(rt: &impl Abort, name: &str) -> Option<StepKind> {
+    match name {
+        "any" => None,
+        "Create" => Some(StepKind::Create),
+        "Update" => Some(StepKind::Update),
+        "Delete" => Some(StepKind::Delete),
+        "Read" => Some(StepKind::Read),
+        _ => panic!(rt; "no kind is {name}"),
+    }
+}
+
+/// The call that a row tells by its phase, its kind and its address.
+fn call_of<'a>(rt: &impl Abort, row: &'a str) -> HookCall<'a> {
+    let (phase, rest) = parted(rt, row, " ");
+    let (kind, address) = parted(rt, rest, " ");
     HookCall {
-        phase,
-        kind,
+        phase: phase_of(rt, phase).expect(rt, "a phase"),
+        kind: kind_of(rt, kind).expect(rt, "a kind"),
         address,
     }
 }
 
+/// What `Debug` prints of it.
+fn printed(rt: &impl Abort, alloc: Global, value: &impl Debug) -> String {
+    format!(in alloc; "{value:?}").expect(rt, "memory")
+}
+
+/// Fails where another text was found.
+fn text_is(rt: &impl Abort, case: &str, found: &str, wanted: &str) {
+    assert!(rt; found == wanted, "{case}: {found}");
+}
+
+/// Fails where the registry answers the call of the row otherwise.
+fn is_asked(rt: &impl Abort, alloc: Global, registry: &Registry, row: &str) {
+    let (call, wanted) = parted(rt, row, " => ");
+    let asked = registry.ask(&call_of(rt, call));
+    text_is(rt, row, printed(rt, alloc, &asked).as_str(), wanted);
+}
+
+/// Fails where the hook answers the call of the row otherwise.
+fn is_decided(rt: &impl Abort, alloc: Global, hook: &impl Hook, row: &str) {
+    let (call, wanted) = parted(rt, row, " => ");
+    let verdict = hook.decide(&call_of(rt, call));
+    text_is(rt, row, printed(rt, alloc, &verdict).as_str(), wanted);
+}
+
+/// Fails where a number is another.
+fn number_is(rt: &impl Abort, case: &str, found: u64, wanted: u64) {
+    assert!(rt; found == wanted, "{case}: {found}");
+}
+
+/// Fails where the registry has another number of hooks.
+fn len_is(rt: &impl Abort, registry: &Registry, wanted: usize) {
+    assert!(rt; registry.len() == wanted, "{wanted} hooks");
+}
+
+/// Fails where the hook was not added.
+fn is_added(rt: &impl Abort, added: Result<(), (HookError, FnHook)>) {
+    assert!(rt; added.is_ok(), "a hook was not added");
+}
+
+/// A list of one rule, which halts.
+fn halting(
+    rt: &impl Abort,
+    alloc: Global,
+    phase: Option<Phase>,
+    kind: Option<StepKind>,
+    beginning: &str,
+) -> Rules
+    ensures { result ≡ record {
+      phase = phase;
+      kind = kind;
+      address_begins = beginning.now;
+      verdict = Verdict.Halt;
+    } ∷ [] }
+{
+    Rules::halting(alloc, phase, kind, beginning).expect(rt, "memory")
+}
+
+/// A count that a closure may share.
+fn count(rt: &impl Abort, alloc: Global) -> Arc<AtomicU64> {
+    Arc::new(alloc, AtomicU64::new(0)).expect(rt, "memory")
+}
+
+/// The same count.
+fn shared(rt: &impl Abort, count: &Arc<AtomicU64>) -> Arc<AtomicU64> {
+    Arc::try_clone(count).expect(rt, "memory")
+}
+
+/// Errors, and their texts.
 #[test]
-fn refusals_have_their_texts(rt: HostRuntime) -> Result<(), Fail> {
-    for (error, wanted) in [
-        (HookError::Full, "more than 32 hooks"),
-        (HookError::Memory, "out of memory"),
-    ] {
-        let text = error.to_string(rt.alloc())?;
-        assert_eq!(rt; text.as_str(), wanted);
-    }
-    Ok(())
+fn refusals_have_their_texts(rt: HostRuntime) {
+    let full = HookError::Full.to_string(rt.alloc()).expect(&rt, "memory");
+    text_is(&rt, "full", full.as_str(), "more than 32 hooks");
+    let memory = HookError::Memory.to_string(rt.alloc());
+    let memory = memory.expect(&rt, "memory");
+    text_is(&rt, "memory", memory.as_str(), "out of memory");
 }

@@ -45,10 +45,7 @@ pub use no_gate::NoGate;
 pub use options::Options;
 pub use refusal::Refusal;
 pub use report::Report;
-pub use sink::Sink;
+pub use sink::{Sink, write_all};
 pub use sink_fault::SinkFault;
 pub use std_sink::StdSink;
 pub use why::Why;
-
-#[cfg(test)]
-mod tests;

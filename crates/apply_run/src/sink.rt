@@ -30,7 +30,7 @@ pub trait Sink {
 }
 
 /// Writes all of the bytes, by as many writes as it takes, and says how many were taken: fewer where a write failed.
-pub(crate) fn write_all<S: Sink>(sink: &mut S, bytes: &[u8]) -> usize
+pub fn write_all<S: Sink>(sink: &mut S, bytes: &[u8]) -> usize
     requires { S.failed sink.old < 2 ^ 64 - 1 }
     ensures few { result ≤ length bytes.now }
     ensures appends { Appends (S.bytes sink.old) (S.bytes sink.new) (take result bytes.now) }

@@ -97,8 +97,7 @@ every_kind_of_step
 {"@level":"info","@message":"null_resource.f: Destruction complete after 0s","@module":"terraform.ui","@timestamp":"1970-01-01T00:00:00Z","hook":{"action":"delete","elapsed_seconds":0,"resource":{"addr":"null_resource.f","implied_provider":"null","module":"","resource":"null_resource.f","resource_key":null,"resource_name":"f","resource_type":"null_resource"}},"type":"apply_complete"}
 {"@level":"info","@message":"null_resource.f: Creating...","@module":"terraform.ui","@timestamp":"1970-01-01T00:00:00Z","hook":{"action":"create","resource":{"addr":"null_resource.f","implied_provider":"null","module":"","resource":"null_resource.f","resource_key":null,"resource_name":"f","resource_type":"null_resource"}},"type":"apply_start"}
 {"@level":"info","@message":"null_resource.f: Creation complete after 0s","@module":"terraform.ui","@timestamp":"1970-01-01T00:00:00Z","hook":{"action":"create","elapsed_seconds":0,"resource":{"addr":"null_resource.f","implied_provider":"null","module":"","resource":"null_resource.f","resource_key":null,"resource_name":"f","resource_type":"null_resource"}},"type":"apply_complete"}
-{"@level":"info","@message":"Apply complete! Resources: 2 added, 1 changed, 2 destroyed.","@module":"terraform.ui","@timestamp":"1970-01-01T00:00:00Z","changes":{"add":2,"change":1,"operation":"apply","remove":2},"type":"change_summary"}
-"#;
+{"@level":"info","@message":"Apply complete! Resources: 2 added, 1 changed, 2 destroyed.","@module":"terraform.ui","@timestamp":"1970-01-01T00:00:00Z","changes":{"add":2,"change":1,"operation":"apply","remove":2},"type":"change_summary"}"#;
 
 /// A plan with texts that have to be escaped.
 const ESCAPED_PLAN: &str =
@@ -107,12 +106,12 @@ const ESCAPED_PLAN: &str =
 const ESCAPED_STREAM: &str =
     "{\"@level\":\"info\",\"@message\":\"Terraform 1.9.0\",\"@module\":\"terraform.ui\",\"@timestamp\":\"1970-01-01T00:00:00Z\",\"terraform\":\"1.9.0\",\"type\":\"version\",\"ui\":\"1.0\"}\n{\"@level\":\"info\",\"@message\":\"a.b[\\\"\\u0001\\b\\t\\n\\f\\r\\u001f\u{7f}\u{2028}/é\\\"]: Creating...\",\"@module\":\"terraform.ui\",\"@timestamp\":\"1970-01-01T00:00:00Z\",\"hook\":{\"action\":\"create\",\"resource\":{\"addr\":\"a.b[\\\"\\u0001\\b\\t\\n\\f\\r\\u001f\u{7f}\u{2028}/é\\\"]\",\"implied_provider\":\"a\",\"module\":\"\",\"resource\":\"a.b[\\\"\\u0001\\b\\t\\n\\f\\r\\u001f\u{7f}\u{2028}/é\\\"]\",\"resource_key\":\"\\u0001\\b\\t\\n\\f\\r\\u001f\u{7f}\u{2028}/é\",\"resource_name\":\"b\",\"resource_type\":\"a\"}},\"type\":\"apply_start\"}\n{\"@level\":\"info\",\"@message\":\"a.b[\\\"\\u0001\\b\\t\\n\\f\\r\\u001f\u{7f}\u{2028}/é\\\"]: Creation complete after 0s\",\"@module\":\"terraform.ui\",\"@timestamp\":\"1970-01-01T00:00:00Z\",\"hook\":{\"action\":\"create\",\"elapsed_seconds\":0,\"resource\":{\"addr\":\"a.b[\\\"\\u0001\\b\\t\\n\\f\\r\\u001f\u{7f}\u{2028}/é\\\"]\",\"implied_provider\":\"a\",\"module\":\"\",\"resource\":\"a.b[\\\"\\u0001\\b\\t\\n\\f\\r\\u001f\u{7f}\u{2028}/é\\\"]\",\"resource_key\":\"\\u0001\\b\\t\\n\\f\\r\\u001f\u{7f}\u{2028}/é\",\"resource_name\":\"b\",\"resource_type\":\"a\"}},\"type\":\"apply_complete\"}\n{\"@level\":\"info\",\"@message\":\"Apply complete! Resources: 1 added, 0 changed, 0 destroyed.\",\"@module\":\"terraform.ui\",\"@timestamp\":\"1970-01-01T00:00:00Z\",\"changes\":{\"add\":1,\"change\":0,\"operation\":\"apply\",\"remove\":0},\"type\":\"change_summary\"}\n";
 
-/// Fails where a run has failed, a fault was said, or other lines were printed, each with its line feed.
+/// Fails where a run has failed, a fault was said, or other lines were printed, each with its line feed. The last of those
+/// that are wanted has none.
 fn lines_are(rt: &impl Abort, name: &str, outcome: &Outcome, wanted: &str) {
     status_is(rt, name, outcome, 0);
     let printed = text_of(rt, &outcome.printed);
-    assert_eq!(rt; printed.trim_end(), wanted.trim_end(), "{name}");
-    assert!(rt; printed.ends_with("\n"), "{name}");
+    assert_eq!(rt; printed.strip_suffix("\n"), Some(wanted), "{name}");
     is_text(rt, name, &outcome.said, "");
 }
 

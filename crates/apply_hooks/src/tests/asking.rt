@@ -2,124 +2,130 @@
 
 use super::*;
 
+/// Calls on a registry whose second and third hook halt deletes before they start.
+const HALTS: &str = "Pre Delete null_resource.a => HaltedBy(1)
+Pre Create null_resource.a => Go";
+
 #[test]
-fn hooks_halt(rt: HostRuntime) -> Result<(), Fail> {
+fn hooks_halt(rt: HostRuntime) {
     let alloc = rt.alloc();
     let mut registry = Registry::new(alloc);
-    let answer: Answer = Box::new(alloc, |_call: &HookCall<'_>| Verdict::Continue)?;
-    assert!(rt; registry.add(FnHook::new(Rules::new(alloc), answer)).is_ok());
+    let answer: Answer = Box::new(alloc, |_call: &HookCall<'_>| Verdict::Continue).expect(
+        &rt, "memory",
+    );
+    is_added(&rt, registry.add(FnHook::new(Rules::new(alloc), answer)));
     for number in 1..3 {
-        let rules = halting(alloc, Some(Phase::Pre), Some(StepKind::Delete), "")?;
-        let answer: Answer = Box::new(alloc, |call: &HookCall<'_>| {
-            if call.phase == Phase::Pre && call.kind == StepKind::Delete {
-                Verdict::Halt
-            } else {
-                Verdict::Continue
-            }
-        })?;
-        assert!(rt; registry.add(FnHook::new(rules, answer)).is_ok());
-        assert_eq!(rt; registry.len(), number + 1);
+        let rules = halting(&rt, alloc, Some(Phase::Pre), Some(StepKind::Delete), "");
+        let own = halting(&rt, alloc, Some(Phase::Pre), Some(StepKind::Delete), "");
+        let answer: Answer = Box::new(alloc, move |call: &HookCall<'_>| own.decide(call)).expect(
+            &rt, "memory",
+        );
+        is_added(&rt, registry.add(FnHook::new(rules, answer)));
+        len_is(&rt, &registry, number + 1);
     }
-    let before_delete = registry.ask(&call(Phase::Pre, StepKind::Delete, "null_resource.a"));
-    assert_eq!(rt; before_delete, Asked::HaltedBy(1));
-    let before_create = registry.ask(&call(Phase::Pre, StepKind::Create, "null_resource.a"));
-    assert_eq!(rt; before_create, Asked::Go);
-    Ok(())
+    for row in HALTS.lines() {
+        is_asked(&rt, alloc, &registry, row);
+    }
 }
 
-/// A registry that worked out the verdicts from the rules alone would call nothing.
+/// A registry that worked out the verdicts from the rules alone would call nothing. The first hook counts its calls by one,
+/// the second, which halts, by 16 and the third by 256: the first two are called once, the third is not.
 #[test]
-fn verdict_without_call(rt: HostRuntime) -> Result<(), Fail> {
+fn verdict_without_call(rt: HostRuntime) {
     let alloc = rt.alloc();
+    let calls = count(&rt, alloc);
     let mut registry = Registry::new(alloc);
-    let calls = [
-        Arc::new(alloc, AtomicU64::new(0))?,
-        Arc::new(alloc, AtomicU64::new(0))?,
-        Arc::new(alloc, AtomicU64::new(0))?,
-    ];
-    let counted = Arc::try_clone(&calls[0])?;
+    let counted = shared(&rt, &calls);
     let answer: Answer = Box::new(alloc, move |_call: &HookCall<'_>| {
         counted.fetch_add(1, Ordering::SeqCst);
         Verdict::Continue
-    })?;
-    assert!(rt; registry.add(FnHook::new(Rules::new(alloc), answer)).is_ok());
-    for number in 1..3 {
-        let rules = halting(alloc, Some(Phase::Pre), Some(StepKind::Delete), "")?;
-        let counted = Arc::try_clone(&calls[number])?;
+    })
+    .expect(&rt, "memory");
+    is_added(&rt, registry.add(FnHook::new(Rules::new(alloc), answer)));
+    for weight in [16, 256] {
+        let counted = shared(&rt, &calls);
+        let rules = halting(&rt, alloc, Some(Phase::Pre), Some(StepKind::Delete), "");
+        let own = halting(&rt, alloc, Some(Phase::Pre), Some(StepKind::Delete), "");
         let answer: Answer = Box::new(alloc, move |call: &HookCall<'_>| {
-            counted.fetch_add(1, Ordering::SeqCst);
-            if call.phase == Phase::Pre && call.kind == StepKind::Delete {
-                Verdict::Halt
-            } else {
-                Verdict::Continue
-            }
-        })?;
-        assert!(rt; registry.add(FnHook::new(rules, answer)).is_ok());
+            counted.fetch_add(weight, Ordering::SeqCst);
+            own.decide(call)
+        })
+        .expect(&rt, "memory");
+        is_added(&rt, registry.add(FnHook::new(rules, answer)));
     }
-    let asked = registry.ask(&call(Phase::Pre, StepKind::Delete, "null_resource.a"));
-    assert_eq!(rt; asked, Asked::HaltedBy(1));
-    for (number, wanted) in [(0, 1), (1, 1), (2, 0)] {
-        assert_eq!(rt;
-            calls[number].load(Ordering::SeqCst),
-            wanted,
-            "hook {number}"
-        );
+    is_asked(
+        &rt,
+        alloc,
+        &registry,
+        "Pre Delete null_resource.a => HaltedBy(1)",
+    );
+    number_is(&rt, "calls", calls.load(Ordering::SeqCst), 0x11);
+}
+
+/// Fails where the hook was added, or another error or another hook came back than the one that halts.
+fn comes_back(rt: &impl Abort, alloc: Global, added: Result<(), (HookError, FnHook)>) {
+    match added {
+        Ok(()) => panic!(rt; "a 33rd hook was added"),
+        Err((error, hook)) => {
+            assert!(rt; error == HookError::Full);
+            is_decided(rt, alloc, &hook, "Pre Create null_resource.a => Halt");
+        }
     }
-    Ok(())
 }
 
 #[test]
-fn the_33rd_hook_comes_back(rt: HostRuntime) -> Result<(), Fail> {
+fn the_33rd_hook_comes_back(rt: HostRuntime) {
     let alloc = rt.alloc();
     let mut registry = Registry::new(alloc);
     for number in 0..MAX_HOOKS {
-        assert_eq!(rt; registry.len(), number);
-        let answer: Answer = Box::new(alloc, |_call: &HookCall<'_>| Verdict::Continue)?;
-        assert!(rt; registry.add(FnHook::new(Rules::new(alloc), answer)).is_ok());
+        len_is(&rt, &registry, number);
+        let answer: Answer = Box::new(alloc, |_call: &HookCall<'_>| Verdict::Continue).expect(
+            &rt, "memory",
+        );
+        is_added(&rt, registry.add(FnHook::new(Rules::new(alloc), answer)));
     }
-    let rules = halting(alloc, None, None, "")?;
-    let answer: Answer = Box::new(alloc, |_call: &HookCall<'_>| Verdict::Halt)?;
-    let a_call = call(Phase::Pre, StepKind::Create, "null_resource.a");
-    match registry.add(FnHook::new(rules, answer)) {
-        Ok(()) => panic!(rt; "a 33rd hook was added"),
-        Err((error, hook)) => {
-            assert_eq!(rt; error, HookError::Full);
-            // It is the one that halts.
-            assert_eq!(rt; hook.decide(&a_call), Verdict::Halt);
-        }
+    let rules = halting(&rt, alloc, None, None, "");
+    let answer: Answer = Box::new(alloc, |_call: &HookCall<'_>| Verdict::Halt).expect(
+        &rt, "memory",
+    );
+    comes_back(&rt, alloc, registry.add(FnHook::new(rules, answer)));
+    len_is(&rt, &registry, 32);
+    is_asked(&rt, alloc, &registry, "Pre Create null_resource.a => Go");
+}
+
+/// The call that the threads ask about.
+fn create<'a>() -> HookCall<'a> {
+    HookCall {
+        phase: Phase::Pre,
+        kind: StepKind::Create,
+        address: "null_resource.a",
     }
-    assert_eq!(rt; registry.len(), 32);
-    assert_eq!(rt; registry.ask(&a_call), Asked::Go);
-    Ok(())
+}
+
+/// Fails where one of eight threads was answered otherwise than that the first hook halts.
+fn all_are_halted(rt: &impl Abort, all: &[Asked]) {
+    assert!(rt; all.len() == 8);
+    for asked in all {
+        assert!(rt; *asked == Asked::HaltedBy(0), "{asked:?}");
+    }
 }
 
 #[test]
-fn threads_ask_one_registry(rt: HostRuntime) -> Result<(), Fail> {
+fn threads_ask_one_registry(rt: HostRuntime) {
     let alloc = rt.alloc();
-    let calls = Arc::new(alloc, AtomicU64::new(0))?;
-    let counted = Arc::try_clone(&calls)?;
-    let rules = halting(alloc, None, Some(StepKind::Create), "")?;
+    let calls = count(&rt, alloc);
+    let counted = shared(&rt, &calls);
+    let rules = halting(&rt, alloc, None, Some(StepKind::Create), "");
+    let own = halting(&rt, alloc, None, Some(StepKind::Create), "");
     let answer: Answer = Box::new(alloc, move |call: &HookCall<'_>| {
         counted.fetch_add(1, Ordering::SeqCst);
-        if call.kind == StepKind::Create {
-            Verdict::Halt
-        } else {
-            Verdict::Continue
-        }
-    })?;
+        own.decide(call)
+    })
+    .expect(&rt, "memory");
     let mut registry = Registry::new(alloc);
-    assert!(rt; registry.add(FnHook::new(rules, answer)).is_ok());
+    is_added(&rt, registry.add(FnHook::new(rules, answer)));
     let registry = &registry;
-    let all = thread::map_indices(
-        &rt,
-        alloc,
-        8,
-        &|_number: usize| { registry.ask(&call(Phase::Pre, StepKind::Create, "null_resource.a")) },
-    )?;
-    assert_eq!(rt; all.len(), 8);
-    for asked in &all {
-        assert_eq!(rt; *asked, Asked::HaltedBy(0));
-    }
-    assert_eq!(rt; calls.load(Ordering::SeqCst), 8);
-    Ok(())
+    let all = thread::map_indices(&rt, alloc, 8, &|_number: usize| { registry.ask(&create()) });
+    all_are_halted(&rt, &all.expect(&rt, "memory"));
+    number_is(&rt, "calls", calls.load(Ordering::SeqCst), 8);
 }

@@ -2,105 +2,113 @@
 
 use super::*;
 
+/// Calls on a hook that halts deletes in `a` before they start.
+const ONE_RULE: &str = "Pre Delete ab => Halt
+PostDone Delete ab => Continue
+Pre Delete b => Continue";
+
 #[test]
-fn one_rule(rt: HostRuntime) -> Result<(), Fail> {
+fn one_rule(rt: HostRuntime) {
     let alloc = rt.alloc();
-    let rules = halting(alloc, Some(Phase::Pre), Some(StepKind::Delete), "a")?;
+    let rules = halting(&rt, alloc, Some(Phase::Pre), Some(StepKind::Delete), "a");
     let answer: Answer = Box::new(alloc, |call: &HookCall<'_>| {
         if call.phase == Phase::Pre && call.kind == StepKind::Delete && call.address_begins("a") {
             Verdict::Halt
         } else {
             Verdict::Continue
         }
-    })?;
+    })
+    .expect(&rt, "memory");
     let hook = FnHook::new(rules, answer);
-    for (phase, address, wanted) in [
-        (Phase::Pre, "ab", Verdict::Halt),
-        (Phase::PostDone, "ab", Verdict::Continue),
-        (Phase::Pre, "b", Verdict::Continue),
-    ] {
-        let verdict = hook.decide(&call(phase, StepKind::Delete, address));
-        assert_eq!(rt; verdict, wanted, "{phase:?} {address}");
+    for row in ONE_RULE.lines() {
+        is_decided(&rt, alloc, &hook, row);
     }
     let mut registry = Registry::new(alloc);
-    assert!(rt; registry.add(hook).is_ok());
-    assert_eq!(rt; registry.len(), 1);
-    let asked = registry.ask(&call(Phase::Pre, StepKind::Delete, "ab"));
-    assert_eq!(rt; asked, Asked::HaltedBy(0));
-    Ok(())
+    is_added(&rt, registry.add(hook));
+    len_is(&rt, &registry, 1);
+    is_asked(&rt, alloc, &registry, "Pre Delete ab => HaltedBy(0)");
 }
 
-/// What halts, as the words of a command line would say it.
-#[derive(Drop)]
-enum Halt {
-    Before(StepKind),
-    Inside(Text),
+/// What halts before it starts, as the options of a command line would say it: steps of a kind, or of any in a module.
+const HALTS: &str = "Read
+any module.a
+Create";
+
+/// Calls on a registry with a hook for each of them.
+const CALLS: &str = "Pre Read module.a.b.c => HaltedBy(0)
+Pre Create module.a.b.c => HaltedBy(1)
+Pre Create b.c => HaltedBy(2)
+Pre Delete b.c => Go
+PostDone Read module.a.b.c => Go";
+
+/// The module's address, in memory of its own.
+fn prefix_of(rt: &impl Abort, alloc: Global, halt: &str) -> Text {
+    let (_, prefix) = parted(rt, halt, " ");
+    Text::new(alloc, prefix).expect(rt, "memory")
+}
+
+/// The kind of steps, where it is one that halts.
+fn halted_kind(rt: &impl Abort, halt: &str) -> Option<StepKind> {
+    match halt.split_once(" ") {
+        Some(_) => None,
+        None => kind_of(rt, halt),
+    }
 }
 
 #[test]
-fn rules_of_values_that_are_known_when_the_program_runs(rt: HostRuntime) -> Result<(), Fail> {
+fn rules_of_values_that_are_known_when_the_program_runs(rt: HostRuntime) {
     let alloc = rt.alloc();
-    let mut halts = Vec::new(alloc);
-    halts.push(Halt::Before(StepKind::Read))?;
-    halts.push(Halt::Inside(Text::new(alloc, "module.a")?))?;
-    halts.push(Halt::Before(StepKind::Create))?;
     let mut registry = Registry::new(alloc);
-    for halt in halts {
-        let added = match halt {
-            Halt::Before(kind) => {
-                let rules = halting(alloc, Some(Phase::Pre), Some(kind), "")?;
-                let answer: Answer = Box::new(alloc, move |call: &HookCall<'_>| {
-                    if call.phase == Phase::Pre && call.kind == kind {
-                        Verdict::Halt
-                    } else {
-                        Verdict::Continue
-                    }
-                })?;
-                registry.add(FnHook::new(rules, answer))
-            }
-            Halt::Inside(prefix) => {
-                let rules = halting(alloc, Some(Phase::Pre), None, prefix.as_str())?;
-                let answer: Answer = Box::new(alloc, move |call: &HookCall<'_>| {
-                    if call.phase == Phase::Pre && call.address_begins(prefix.as_str()) {
-                        Verdict::Halt
-                    } else {
-                        Verdict::Continue
-                    }
-                })?;
-                registry.add(FnHook::new(rules, answer))
-            }
-        };
-        assert!(rt; added.is_ok());
+    for halt in HALTS.lines() {
+        if let Some(kind) = halted_kind(&rt, halt) {
+            let rules = halting(&rt, alloc, Some(Phase::Pre), Some(kind), "");
+            let answer: Answer = Box::new(alloc, move |call: &HookCall<'_>| {
+                if call.phase == Phase::Pre && call.kind == kind {
+                    Verdict::Halt
+                } else {
+                    Verdict::Continue
+                }
+            })
+            .expect(&rt, "memory");
+            is_added(&rt, registry.add(FnHook::new(rules, answer)));
+        } else {
+            let prefix = prefix_of(&rt, alloc, halt);
+            let rules = halting(&rt, alloc, Some(Phase::Pre), None, prefix.as_str());
+            let answer: Answer = Box::new(alloc, move |call: &HookCall<'_>| {
+                if call.phase == Phase::Pre && call.address_begins(prefix.as_str()) {
+                    Verdict::Halt
+                } else {
+                    Verdict::Continue
+                }
+            })
+            .expect(&rt, "memory");
+            is_added(&rt, registry.add(FnHook::new(rules, answer)));
+        }
     }
-    for (phase, kind, address, wanted) in [
-        (
-            Phase::Pre,
-            StepKind::Read,
-            "module.a.b.c",
-            Asked::HaltedBy(0),
-        ),
-        (
-            Phase::Pre,
-            StepKind::Create,
-            "module.a.b.c",
-            Asked::HaltedBy(1),
-        ),
-        (Phase::Pre, StepKind::Create, "b.c", Asked::HaltedBy(2)),
-        (Phase::Pre, StepKind::Delete, "b.c", Asked::Go),
-        (Phase::PostDone, StepKind::Read, "module.a.b.c", Asked::Go),
-    ] {
-        let asked = registry.ask(&call(phase, kind, address));
-        assert_eq!(rt; asked, wanted, "{phase:?} {kind:?} {address}");
+    for row in CALLS.lines() {
+        is_asked(&rt, alloc, &registry, row);
     }
-    Ok(())
 }
 
+/// Fails where the hook answers the call of the row otherwise, or its closure was called another number of times by then.
+fn is_counted(rt: &impl Abort, alloc: Global, hook: &impl Hook, calls: &AtomicU64, row: &str) {
+    let (row, so_far) = parted(rt, row, "; ");
+    is_decided(rt, alloc, hook, row);
+    let found = calls.load(Ordering::SeqCst);
+    text_is(rt, row, printed(rt, alloc, &found).as_str(), so_far);
+}
+
+/// Calls on a hook that halts what has failed, what it answers, and how often its closure was called by then.
+const COUNTED: &str = "Pre Update a.b => Continue; 1
+PostFailed Update a.b => Halt; 2
+PostDone Update a.b => Continue; 3";
+
 #[test]
-fn a_closure_that_counts_its_calls(rt: HostRuntime) -> Result<(), Fail> {
+fn a_closure_that_counts_its_calls(rt: HostRuntime) {
     let alloc = rt.alloc();
-    let calls = Arc::new(alloc, AtomicU64::new(0))?;
-    let counted = Arc::try_clone(&calls)?;
-    let rules = halting(alloc, Some(Phase::PostFailed), None, "")?;
+    let calls = count(&rt, alloc);
+    let counted = shared(&rt, &calls);
+    let rules = halting(&rt, alloc, Some(Phase::PostFailed), None, "");
     let answer: Answer = Box::new(alloc, move |call: &HookCall<'_>| {
         counted.fetch_add(1, Ordering::SeqCst);
         if call.phase == Phase::PostFailed {
@@ -108,16 +116,10 @@ fn a_closure_that_counts_its_calls(rt: HostRuntime) -> Result<(), Fail> {
         } else {
             Verdict::Continue
         }
-    })?;
+    })
+    .expect(&rt, "memory");
     let hook = FnHook::new(rules, answer);
-    for (phase, wanted, so_far) in [
-        (Phase::Pre, Verdict::Continue, 1),
-        (Phase::PostFailed, Verdict::Halt, 2),
-        (Phase::PostDone, Verdict::Continue, 3),
-    ] {
-        let verdict = hook.decide(&call(phase, StepKind::Update, "a.b"));
-        assert_eq!(rt; verdict, wanted, "{phase:?}");
-        assert_eq!(rt; calls.load(Ordering::SeqCst), so_far, "{phase:?}");
+    for row in COUNTED.lines() {
+        is_counted(&rt, alloc, &hook, &calls, row);
     }
-    Ok(())
 }

@@ -2,81 +2,120 @@
 
 use super::*;
 
-#[test]
-fn rules_against_calls(rt: HostRuntime) -> Result<(), Fail> {
-    let alloc = rt.alloc();
-    let calls = [
-        call(Phase::Pre, StepKind::Delete, "ab"),
-        call(Phase::Pre, StepKind::Create, "ab"),
-        call(Phase::PostDone, StepKind::Delete, "ab"),
-        call(Phase::PostFailed, StepKind::Update, "a"),
-        call(Phase::Pre, StepKind::Delete, "ba"),
-        call(Phase::PostDone, StepKind::Read, ""),
-    ];
-    // Each row names the calls that its rule matches by an x.
-    for (phase, kind, beginning, wanted) in [
-        (None, None, "", "xxxxxx"),
-        (Some(Phase::Pre), None, "", "xx..x."),
-        (Some(Phase::PostDone), None, "", "..x..x"),
-        (Some(Phase::PostFailed), None, "", "...x.."),
-        (None, Some(StepKind::Create), "", ".x...."),
-        (None, Some(StepKind::Update), "", "...x.."),
-        (None, Some(StepKind::Delete), "", "x.x.x."),
-        (None, Some(StepKind::Read), "", ".....x"),
-        (None, None, "a", "xxxx.."),
-        (None, None, "ab", "xxx..."),
-        (None, None, "abc", "......"),
-        (Some(Phase::Pre), Some(StepKind::Delete), "a", "x....."),
-        (Some(Phase::Pre), Some(StepKind::Delete), "", "x...x."),
-        (Some(Phase::Pre), None, "a", "xx...."),
-        (None, Some(StepKind::Delete), "a", "x.x..."),
-    ] {
-        let rule = Rule {
-            phase,
-            kind,
-            address_begins: Text::new(alloc, beginning)?,
-            verdict: Verdict::Halt,
-        };
-        let rules = halting(alloc, phase, kind, beginning)?;
-        for (a_call, mark) in calls.iter().zip(wanted.as_bytes()) {
-            let is_wanted = *mark == b'x';
-            assert_eq!(rt; rule.matches(a_call), is_wanted, "{rule:?} {a_call:?}");
-            let halts = rules.decide(a_call) == Verdict::Halt;
-            assert_eq!(rt; halts, is_wanted, "{rules:?} {a_call:?}");
-        }
+/// Calls, by their phase, their kind and their address.
+const CALLS: &str = "Pre Delete ab
+Pre Create ab
+PostDone Delete ab
+PostFailed Update a
+Pre Delete ba
+PostDone Read ";
+
+/// Rules, by their phase, their kind and how the address begins. Each names the calls that it matches by an x.
+const RULES: &str = "any any  => xxxxxx
+Pre any  => xx..x.
+PostDone any  => ..x..x
+PostFailed any  => ...x..
+any Create  => .x....
+any Update  => ...x..
+any Delete  => x.x.x.
+any Read  => .....x
+any any a => xxxx..
+any any ab => xxx...
+any any abc => ......
+Pre Delete a => x.....
+Pre Delete  => x...x.
+Pre any a => xx....
+any Delete a => x.x...";
+
+/// The rule that the text tells by its phase, its kind and how the address begins.
+fn rule_of(rt: &impl Abort, alloc: Global, text: &str, verdict: Verdict) -> Rule {
+    let (phase, rest) = parted(rt, text, " ");
+    let (kind, beginning) = parted(rt, rest, " ");
+    Rule {
+        phase: phase_of(rt, phase),
+        kind: kind_of(rt, kind),
+        address_begins: Text::new(alloc, beginning).expect(rt, "memory"),
+        verdict,
     }
-    Ok(())
+}
+
+/// Adds an x or a dot.
+fn push_mark(rt: &impl Abort, marks: &mut String, is_x: bool) {
+    let mark = if is_x { "x" } else { "." };
+    marks.push_str(mark).expect(rt, "memory");
+}
+
+/// An x for each call that the rule matches.
+fn matched(rt: &impl Abort, alloc: Global, rule: &Rule) -> String {
+    let mut marks = String::new(alloc);
+    for call in CALLS.lines() {
+        push_mark(rt, &mut marks, rule.matches(&call_of(rt, call)));
+    }
+    marks
+}
+
+/// An x for each call that the hook halts.
+fn halted(rt: &impl Abort, alloc: Global, hook: &impl Hook) -> String {
+    let mut marks = String::new(alloc);
+    for call in CALLS.lines() {
+        push_mark(
+            rt,
+            &mut marks,
+            hook.decide(&call_of(rt, call)) == Verdict::Halt,
+        );
+    }
+    marks
+}
+
+/// Adds a rule.
+fn push_rule(rt: &impl Abort, rules: &mut Rules, rule: Rule) {
+    assert!(rt; rules.push(rule).is_ok(), "a rule was not added");
+}
+
+/// Fails where the rule of the row, or a list of it alone, takes other calls.
+fn takes(rt: &impl Abort, alloc: Global, row: &str) {
+    let (rule, wanted) = parted(rt, row, " => ");
+    let found = matched(rt, alloc, &rule_of(rt, alloc, rule, Verdict::Halt));
+    text_is(rt, row, found.as_str(), wanted);
+    let mut rules = Rules::new(alloc);
+    push_rule(rt, &mut rules, rule_of(rt, alloc, rule, Verdict::Halt));
+    text_is(rt, row, halted(rt, alloc, &rules).as_str(), wanted);
 }
 
 #[test]
-fn the_first_rule_that_matches_decides(rt: HostRuntime) -> Result<(), Fail> {
-    let alloc = rt.alloc();
-    for (first, second, wanted) in [
-        (
-            ("ab", Verdict::Continue),
-            ("a", Verdict::Halt),
-            [Verdict::Continue, Verdict::Halt, Verdict::Continue],
-        ),
-        (
-            ("a", Verdict::Halt),
-            ("ab", Verdict::Continue),
-            [Verdict::Halt, Verdict::Halt, Verdict::Continue],
-        ),
-    ] {
-        let mut rules = Rules::new(alloc);
-        for (beginning, verdict) in [first, second] {
-            let rule = Rule {
-                phase: None,
-                kind: None,
-                address_begins: Text::new(alloc, beginning)?,
-                verdict,
-            };
-            assert!(rt; rules.push(rule).is_ok());
-        }
-        for (number, address) in ["abc", "ac", "b"].iter().enumerate() {
-            let verdict = rules.decide(&call(Phase::Pre, StepKind::Create, address));
-            assert_eq!(rt; verdict, wanted[number], "{rules:?} {address}");
-        }
+fn rules_against_calls(rt: HostRuntime) {
+    for row in RULES.lines() {
+        takes(&rt, rt.alloc(), row);
     }
-    Ok(())
+}
+
+/// Calls on a list that goes on in `ab` and then halts in `a`.
+const GOES_ON_FIRST: &str = "Pre Create abc => Continue
+Pre Create ac => Halt
+Pre Create b => Continue";
+
+/// Calls on a list that halts in `a` and then goes on in `ab`.
+const HALTS_FIRST: &str = "Pre Create abc => Halt
+Pre Create ac => Halt
+Pre Create b => Continue";
+
+/// Fails where a list of both rules answers otherwise.
+fn decide(rt: &impl Abort, alloc: Global, first: Rule, second: Rule, table: &str) {
+    let mut rules = Rules::new(alloc);
+    push_rule(rt, &mut rules, first);
+    push_rule(rt, &mut rules, second);
+    for row in table.lines() {
+        is_decided(rt, alloc, &rules, row);
+    }
+}
+
+#[test]
+fn the_first_rule_that_matches_decides(rt: HostRuntime) {
+    let alloc = rt.alloc();
+    let goes_on = rule_of(&rt, alloc, "any any ab", Verdict::Continue);
+    let halts = rule_of(&rt, alloc, "any any a", Verdict::Halt);
+    decide(&rt, alloc, goes_on, halts, GOES_ON_FIRST);
+    let halts = rule_of(&rt, alloc, "any any a", Verdict::Halt);
+    let goes_on = rule_of(&rt, alloc, "any any ab", Verdict::Continue);
+    decide(&rt, alloc, halts, goes_on, HALTS_FIRST);
 }

@@ -1,0 +1,400 @@
+//! What no clause says: that calls succeed with ample memory, whole streams as bytes, that workers run at once and lines are
+//! written meanwhile, and how sinks answer in turn.
+
+ghost use Rattle.std.specs.Prelude.{◌≡◌, ◌<◌, ◌-◌, ◌^◌};
+
+mod failing_sinks;
+mod hooks;
+mod refusals;
+mod sinks;
+mod streams;
+mod terraform;
+mod threads;
+
+use apply_events::Counts;
+use apply_hooks::Registry;
+use apply_plan::{Plan, PlanError, Script, ScriptError, read_plan, read_script};
+use apply_run::{
+    Fault, Gate, MemorySink, NoGate, Options, Refusal, Report, Sink, SinkFault, StdSink, Why,
+    apply_bytes, apply_stream,
+};
+use apply_text::{Operation, Start};
+use std::alloc::Global;
+use std::process::Abort;
+use std::str::Lines;
+use std::sync::Wait;
+use std::sync::atomic::{AtomicU64, Ordering};
+use std::test::Fail;
+use std::thread::{Threads, yield_now};
+
+/// Stands in a table where there is no script.
+const NO_SCRIPT: &str = r#"no script"#;
+
+/// A plan with one change.
+const ONE_CREATE: &str =
+    r#"{"format_version":"1.2","terraform_version":"1.9.0","resource_changes":[{"address":"random_pet.animal","mode":"managed","type":"random_pet","name":"animal","change":{"actions":["create"]}}]}"#;
+
+/// Its stream.
+const ONE_CREATE_STREAM: &str =
+    r#"{"@level":"info","@message":"Terraform 1.9.0","@module":"terraform.ui","@timestamp":"1970-01-01T00:00:00Z","terraform":"1.9.0","type":"version","ui":"1.0"}
+{"@level":"info","@message":"random_pet.animal: Creating...","@module":"terraform.ui","@timestamp":"1970-01-01T00:00:00Z","hook":{"action":"create","resource":{"addr":"random_pet.animal","implied_provider":"random","module":"","resource":"random_pet.animal","resource_key":null,"resource_name":"animal","resource_type":"random_pet"}},"type":"apply_start"}
+{"@level":"info","@message":"random_pet.animal: Creation complete after 0s","@module":"terraform.ui","@timestamp":"1970-01-01T00:00:00Z","hook":{"action":"create","elapsed_seconds":0,"resource":{"addr":"random_pet.animal","implied_provider":"random","module":"","resource":"random_pet.animal","resource_key":null,"resource_name":"animal","resource_type":"random_pet"}},"type":"apply_complete"}
+{"@level":"info","@message":"Apply complete! Resources: 1 added, 0 changed, 0 destroyed.","@module":"terraform.ui","@timestamp":"1970-01-01T00:00:00Z","changes":{"add":1,"change":0,"operation":"apply","remove":0},"type":"change_summary"}
+"#;
+
+/// A replacement that creates first.
+const FAILED_DESTROY: &str =
+    r#"{"format_version":"1.2","terraform_version":"1.9.0","resource_changes":[{"address":"null_resource.a","mode":"managed","type":"null_resource","name":"a","change":{"actions":["create","delete"]}}]}"#;
+
+/// Its second step fails.
+const FAILED_DESTROY_SCRIPT: &str =
+    r#"{"changes":[{"address":"null_resource.a","steps":[{"seconds":0},{"seconds":4,"failed":{"summary":"boom"}}]}]}"#;
+
+/// What is written of both.
+const FAILED_DESTROY_STREAM: &str =
+    r#"{"@level":"info","@message":"Terraform 1.9.0","@module":"terraform.ui","@timestamp":"1970-01-01T00:00:00Z","terraform":"1.9.0","type":"version","ui":"1.0"}
+{"@level":"info","@message":"null_resource.a: Creating...","@module":"terraform.ui","@timestamp":"1970-01-01T00:00:00Z","hook":{"action":"create","resource":{"addr":"null_resource.a","implied_provider":"null","module":"","resource":"null_resource.a","resource_key":null,"resource_name":"a","resource_type":"null_resource"}},"type":"apply_start"}
+{"@level":"info","@message":"null_resource.a: Creation complete after 0s","@module":"terraform.ui","@timestamp":"1970-01-01T00:00:00Z","hook":{"action":"create","elapsed_seconds":0,"resource":{"addr":"null_resource.a","implied_provider":"null","module":"","resource":"null_resource.a","resource_key":null,"resource_name":"a","resource_type":"null_resource"}},"type":"apply_complete"}
+{"@level":"info","@message":"null_resource.a: Destroying...","@module":"terraform.ui","@timestamp":"1970-01-01T00:00:00Z","hook":{"action":"delete","resource":{"addr":"null_resource.a","implied_provider":"null","module":"","resource":"null_resource.a","resource_key":null,"resource_name":"a","resource_type":"null_resource"}},"type":"apply_start"}
+{"@level":"info","@message":"null_resource.a: Destruction errored after 4s","@module":"terraform.ui","@timestamp":"1970-01-01T00:00:04Z","hook":{"action":"delete","elapsed_seconds":4,"resource":{"addr":"null_resource.a","implied_provider":"null","module":"","resource":"null_resource.a","resource_key":null,"resource_name":"a","resource_type":"null_resource"}},"type":"apply_errored"}
+{"@level":"error","@message":"Error: boom","@module":"terraform.ui","@timestamp":"1970-01-01T00:00:04Z","diagnostic":{"address":"null_resource.a","detail":"","severity":"error","summary":"boom"},"type":"diagnostic"}
+{"@level":"info","@message":"Apply complete! Resources: 1 added, 0 changed, 0 destroyed.","@module":"terraform.ui","@timestamp":"1970-01-01T00:00:04Z","changes":{"add":1,"change":0,"operation":"apply","remove":0},"type":"change_summary"}
+"#;
+
+/// A replacement that destroys first, and a create.
+const REPLACEMENT_AND_CREATE: &str =
+    r#"{"format_version":"1.2","terraform_version":"1.9.0","resource_changes":[{"address":"null_resource.a","mode":"managed","type":"null_resource","name":"a","change":{"actions":["delete","create"]}},{"address":"null_resource.b","mode":"managed","type":"null_resource","name":"b","change":{"actions":["create"]}}]}"#;
+
+/// An apply that starts with the year 1970.
+fn options(workers: u8, capacity: u16) -> Options {
+    Options {
+        workers,
+        capacity,
+        start: Start::zero(),
+        operation: Operation::Apply,
+    }
+}
+
+/// What stands before the first mark, and what behind it.
+fn parted<'a>(rt: &impl Abort, text: &'a str, mark: &str) -> (&'a str, &'a str) {
+    match text.split_once(mark) {
+        Some(parts) => parts,
+        None => panic!(rt; "no {mark:?} in {text}"),
+    }
+}
+
+/// A plan that has to be accepted.
+fn plan_of(rt: &impl Abort, alloc: Global, text: &str) -> Plan {
+    match read_plan(alloc, text.as_bytes()) {
+        Ok(plan) => plan,
+        Err(error) => panic!(rt; "{text}: {error}"),
+    }
+}
+
+/// A script that has to be accepted, or the empty one.
+fn script_of(rt: &impl Abort, alloc: Global, text: &str, plan: &Plan) -> Script {
+    if text == NO_SCRIPT {
+        return Script::empty(alloc);
+    }
+    match read_script(alloc, text.as_bytes(), plan) {
+        Ok(script) => script,
+        Err(error) => panic!(rt; "{text}: {error}"),
+    }
+}
+
+/// A sink with room for whatever comes.
+fn memory(alloc: Global) -> MemorySink
+    ensures { result.failures ≡ 0 }
+{
+    MemorySink::new(alloc, usize::MAX, None)
+}
+
+/// What the sink has, as text.
+fn text_of<'a>(rt: &impl Abort, sink: &'a MemorySink) -> &'a str {
+    match str::from_utf8(sink.bytes()) {
+        Ok(text) => text,
+        Err(_) => panic!(rt; "the stream is no text"),
+    }
+}
+
+/// The bytes of a script, where there is one.
+fn script_bytes(script: &str) -> Option<&[u8]> {
+    if script == NO_SCRIPT {
+        None
+    } else {
+        Some(script.as_bytes())
+    }
+}
+
+/// Applies what both say into memory, and holds nothing back.
+fn apply_into_memory<R: Threads + Wait + Sync>(
+    rt: &R,
+    alloc: Global,
+    plan: &str,
+    script: Option<&[u8]>,
+    registry: &Registry,
+    options: Options,
+) -> (MemorySink, Result<Report, Refusal>) {
+    let (plan, sink) = (plan.as_bytes(), memory(alloc));
+    apply_bytes(rt, alloc, plan, script, registry, options, sink, &NoGate)
+}
+
+/// The same where it has to succeed. What was written.
+fn applied<R: Threads + Wait + Sync + Abort>(
+    rt: &R,
+    alloc: Global,
+    plan: &str,
+    script: &str,
+    registry: &Registry,
+    options: Options,
+) -> MemorySink {
+    let script = script_bytes(script);
+    let (sink, result) = apply_into_memory(rt, alloc, plan, script, registry, options);
+    match result {
+        Ok(report) => has_taken(rt, &sink, report.written),
+        Err(refusal) => panic!(rt; "{plan}: {refusal}"),
+    }
+    number_is(rt, "failed writes", sink.failures(), 0);
+    sink
+}
+
+/// Fails where the sink has not as many bytes as are told.
+fn has_taken(rt: &impl Abort, sink: &MemorySink, written: u128) {
+    assert_eq!(rt; written, sink.bytes().len() as u128);
+}
+
+/// Fails where the stream of both texts under the hooks is not these lines.
+fn stream_is<R: Threads + Wait + Sync + Abort>(
+    rt: &R,
+    alloc: Global,
+    name: &str,
+    plan: &str,
+    script: &str,
+    registry: &Registry,
+    options: Options,
+    wanted: &str,
+) {
+    let sink = applied(rt, alloc, plan, script, registry, options);
+    lines_are(rt, name, text_of(rt, &sink), wanted);
+}
+
+/// Reads both texts and applies them, without hooks.
+fn apply_texts<S: Sink + Drop, G: Gate, R: Threads + Wait + Sync + Abort>(
+    rt: &R,
+    alloc: Global,
+    plan: &str,
+    script: &str,
+    options: Options,
+    sink: S,
+    gate: &G,
+) -> (S, Result<Report, Fault>)
+    requires { S.failed sink < 2 ^ 64 - 1 }
+{
+    let plan = plan_of(rt, alloc, plan);
+    let script = script_of(rt, alloc, script, &plan);
+    let registry = Registry::new(alloc);
+    assert!(rt; options.in_range());
+    apply_stream(rt, alloc, &plan, &script, &registry, options, sink, gate)
+}
+
+/// The same where it has to succeed.
+fn apply_plan<S: Sink + Drop, G: Gate, R: Threads + Wait + Sync + Abort>(
+    rt: &R,
+    alloc: Global,
+    plan: &str,
+    script: &str,
+    options: Options,
+    sink: S,
+    gate: &G,
+) -> (S, Report)
+    requires { S.failed sink < 2 ^ 64 - 1 }
+{
+    let (sink, result) = apply_texts(rt, alloc, plan, script, options, sink, gate);
+    (sink, report_of(rt, result))
+}
+
+/// What a run has done that had to end well.
+fn report_of(rt: &impl Abort, end: Result<Report, Fault>) -> Report {
+    match end {
+        Ok(report) => report,
+        Err(fault) => panic!(rt; "{fault}"),
+    }
+}
+
+/// Keeps what has passed it in one number, for one worker: a hexadecimal digit for each, the last pass last.
+#[derive(Drop)]
+struct Passes {
+    passes: AtomicU64,
+}
+
+impl Gate for Passes {
+    fn pass(&self, _worker: u8, change: u32, step: u8) {
+        let digit = u64::from(change)
+            .wrapping_mul(2)
+            .wrapping_add(u64::from(step))
+            .wrapping_add(1);
+        let before = self.passes.load(Ordering::SeqCst);
+        let passes = before.wrapping_mul(16).wrapping_add(digit);
+        self.passes.store(passes, Ordering::SeqCst);
+    }
+}
+
+/// What passes the gate while one worker applies the replacement and the create: 1 and 2 stand for the steps of the
+/// replacement, and 3 for the create.
+fn passes_of<R: Threads + Wait + Sync + Abort>(rt: &R, alloc: Global, registry: &Registry) -> u64 {
+    let gate = Passes {
+        passes: AtomicU64::new(0),
+    };
+    let (_sink, result) = apply_bytes(
+        rt,
+        alloc,
+        REPLACEMENT_AND_CREATE.as_bytes(),
+        None,
+        registry,
+        options(1, 64),
+        memory(alloc),
+        &gate,
+    );
+    assert!(rt; result.is_ok());
+    gate.passes.load(Ordering::SeqCst)
+}
+
+/// Fails where the number is another.
+fn number_is(rt: &impl Abort, name: &str, found: u64, wanted: u64)
+    ensures { found ≡ wanted }
+{
+    assert_eq!(rt; found, wanted, "{name}");
+}
+
+/// Fails where the text is another.
+fn text_is(rt: &impl Abort, name: &str, found: &str, wanted: &str) {
+    assert_eq!(rt; found, wanted, "{name}");
+}
+
+/// Fails where the bytes are others.
+fn bytes_are(rt: &impl Abort, found: &[u8], wanted: &[u8]) {
+    assert_eq!(rt; found, wanted);
+}
+
+/// Fails where other steps were counted.
+fn counts_are(rt: &impl Abort, found: Counts, wanted: Counts) {
+    assert_eq!(rt; found, wanted);
+}
+
+/// Fails where a flush ended otherwise.
+fn flush_is(rt: &impl Abort, found: Result<(), SinkFault>, wanted: Result<(), SinkFault>) {
+    assert_eq!(rt; found, wanted);
+}
+
+/// Fails where the text is not these lines, each with its line feed. The last of those that are wanted has none.
+fn lines_are(rt: &impl Abort, name: &str, found: &str, wanted: &str) {
+    assert_eq!(rt; found.strip_suffix("\n"), Some(wanted), "{name}");
+}
+
+/// The line's moment.
+fn moment_of<'a>(rt: &impl Abort, line: &'a str) -> &'a str {
+    let (_, rest) = parted(rt, line, r#""@timestamp":""#);
+    parted(rt, rest, r#"",""#).0
+}
+
+/// What stands before the line's moment, and what behind it; all of it before, where it has none.
+fn around_moment(line: &str) -> (&str, &str) {
+    let Some((before, rest)) = line.split_once(r#""@timestamp":""#) else {
+        return (line, "");
+    };
+    match rest.split_once(r#"",""#) {
+        Some((_, behind)) => (before, behind),
+        None => (before, rest),
+    }
+}
+
+/// Fails where the line's moment is before that one.
+fn not_before(rt: &impl Abort, line: &str, moment: &str) {
+    assert!(rt; moment_of(rt, line) >= moment, "{line}");
+}
+
+/// Fails where the moment of a line is before that of the line above it.
+fn moments_never_go_back(rt: &impl Abort, text: &str) {
+    for (above, line) in text.lines().zip(text.lines().skip(1)) {
+        not_before(rt, line, moment_of(rt, above));
+    }
+}
+
+/// The address that the line tells, quoted as JSON; none in the version line and the summary.
+fn address_of(line: &str) -> &str {
+    let rest = match line.split_once(r#""addr":""#) {
+        Some((_, rest)) => rest,
+        None => match line.split_once(r#""address":""#) {
+            Some((_, rest)) => rest,
+            None => return "",
+        },
+    };
+    match rest.split_once(r#"",""#) {
+        Some((address, _)) => address,
+        None => "",
+    }
+}
+
+/// Fails where the lines of an address are not those of that address in the other text, in their order; their moments may
+/// be others.
+fn lines_of_address_are(rt: &impl Abort, address: &str, found: &str, wanted: &str) {
+    let mut rest = found.lines();
+    for line in wanted.lines() {
+        if address_of(line) == address {
+            line_is(rt, next_of(&mut rest, address), line);
+        }
+    }
+    text_is(rt, address, next_of(&mut rest, address), "");
+}
+
+/// Fails where the line is another; its moment may be.
+fn line_is(rt: &impl Abort, found: &str, wanted: &str) {
+    assert!(rt;
+        around_moment(found) == around_moment(wanted),
+        "{found} and not {wanted}"
+    );
+}
+
+/// The next of the lines that tells the address; empty where none is left.
+fn next_of<'a>(lines: &mut Lines<'a>, address: &str) -> &'a str {
+    for line in lines {
+        if address_of(line) == address {
+            return line;
+        }
+    }
+    ""
+}
+
+/// Fails where the lines of a change are others, or in another order, or where the first or the last line is another.
+/// Their moments may be others.
+fn lines_are_of_changes(rt: &impl Abort, found: &str, wanted: &str) {
+    number_is(rt, "lines", lines_of(found), lines_of(wanted));
+    for line in wanted.lines() {
+        lines_of_address_are(rt, address_of(line), found, wanted);
+    }
+    let first = found.lines().next().unwrap_or("");
+    contains(rt, first, r#""type":"version""#);
+    let last = found.lines().last().unwrap_or("");
+    contains(rt, last, r#""type":"change_summary""#);
+}
+
+/// How many lines the text has.
+fn lines_of(text: &str) -> u64 {
+    text.lines().count() as u64
+}
+
+/// Fails where the line has no such part.
+fn contains(rt: &impl Abort, line: &str, part: &str) {
+    assert!(rt; line.contains(part), "no {part} in {line}");
+}
+
+/// Counts of steps, none of them halted.
+fn counts(added: u64, changed: u64, removed: u64, failed: u64) -> Counts {
+    Counts {
+        added,
+        changed,
+        removed,
+        failed,
+        halted: 0,
+    }
+}
