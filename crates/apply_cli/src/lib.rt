@@ -18,12 +18,9 @@ pub use following::{follow, follow_settings, given_words};
 pub use halt::Halt;
 pub use input::read_all;
 pub use input_fault::InputFault;
-pub use run::{run_bytes, run_command, run_input};
+pub use run::{report, run_bytes, run_command, run_input};
 pub use script_file::{read_file, report_script};
 pub use settings::Settings;
 pub use status::{counts_status, input_status, refusal_status};
 pub use usage::Usage;
 pub use words::read_words;
-
-#[cfg(test)]
-mod tests;

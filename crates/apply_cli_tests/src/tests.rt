@@ -10,10 +10,9 @@ mod settings;
 mod streams;
 mod words;
 
-use crate::run::report;
-use crate::{
+use apply_cli::{
     Halt, InputFault, Settings, Usage, answer_usage, follow, follow_settings, read_all, read_words,
-    refusal_status, run_command, run_input,
+    refusal_status, report, run_command, run_input,
 };
 use apply_hooks::Registry;
 use apply_plan::{PlanError, ScriptError, StepKind, Text};
