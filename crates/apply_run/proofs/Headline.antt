@@ -1,13 +1,10 @@
 -- From what was told to how the run has ended.
-use Rattle.std.proofs.Common.{◌≡◌, ◌≤◌, ◌<◌, ◌+◌, ℕ, List, [], Result, Ok, Err, IfOk, IfErr, length, sym, ap, subst, refl, arith, add-zero, ⊎_elim}
-use Rattle.std.proofs.KnownBytes.{Appends-nil}
-use Rattle.std.proofs.lemmas.List.Elements.{All-nil}
+use Rattle.std.proofs.Common.{◌≡◌, ◌≤◌, ◌+◌, ℕ, List, Result, Ok, Err, IfOk, IfErr, sym, subst, arith, inl, inr, ⊎_elim}
 use Rattle.apply_plan.specs.Plan.SavedPlan.{SavedPlan}
 use Rattle.apply_plan.specs.Script.Outcomes.{Outcomes}
 use Rattle.apply_events.specs.declared.event.Event.{Event}
 use Rattle.apply_events.specs.Step.{Work}
-use Rattle.apply_bus.specs.Partition.{IsPartition}
-use Rattle.apply_run.specs.Applied.{IsApplied, IsAppliedInPart, reports_of}
+use Rattle.apply_run.specs.Applied.{IsApplied, IsAppliedInPart}
 use Rattle.apply_run.specs.declared.fault.Fault.{Fault}
 use Rattle.apply_run.specs.declared.options.Options.{Options}
 use Rattle.apply_run.specs.declared.report.Report.{Report}
@@ -17,7 +14,7 @@ use Rattle.apply_run.specs.declared.why.Why.{Why}
 use Rattle.apply_run.specs.declared.why.Why.TheVariants.{Bus, Memory, Workers, Write}
 use Rattle.apply_run.specs.Ended.{IsCutOff, IsFaulted, IsWhole}
 use Rattle.apply_run.specs.Outlet.{failed_writes}
-use Rattle.apply_run.specs.Run.{HasFailed, HasStreamed, Sight, WasCutOff, lines_for, stream_for}
+use Rattle.apply_run.specs.Run.{HasFailed, HasStreamed, Sight, lines_for, stream_for}
 
 pub if_ok : {A E : Type 0} → (r : Result A E) (P Q : A → Type 0) → ((x : A) → P x → Q x) → IfOk r P → IfOk r Q
 if_ok (Ok x) P Q f h = f x h
@@ -41,23 +38,14 @@ pub streamed : (work : Work) (options : Options) (report : Report) (before after
     → IsWhole work.plan events (stream_for work options events) report before.bytes after.bytes before.failed after.failed → HasStreamed work options report before after
 streamed work options report before after lists events applied whole = record { lists = lists; events = events; applied = applied; whole = whole }
 
-cut_off : (work : Work) (options : Options) (report : Report) (before after : Sight) (lists : List (List ℕ)) (events : List Event) → IsAppliedInPart work options.workers lists events
-    → IsCutOff work.plan events (lines_for work options events) report before.bytes after.bytes before.failed after.failed → WasCutOff 0 work options report before after
-cut_off work options report before after lists events applied part = record {
-  lists = lists;
-  events = events;
-  applied = applied;
-  part = subst (λ n. IsCutOff work.plan events (lines_for work options events) report before.bytes after.bytes n after.failed) (sym (add-zero before.failed)) part;
-}
-
 -- a write failed, or memory was refused for a line
-pub faulted : (work : Work) (options : Options) (fault : Fault) (before after : Sight) (lists : List (List ℕ)) (events : List Event) → IsApplied work options.workers lists events → IsAppliedInPart work options.workers lists events
+pub faulted : (work : Work) (options : Options) (fault : Fault) (before after : Sight) (lists : List (List ℕ)) (events : List Event) → IsApplied work options.workers lists events
     → IsFaulted work.plan work.script options.start options.operation events fault before.bytes after.bytes before.failed after.failed → HasFailed fault.why work options fault.report before after
-faulted work options fault before after lists events applied in_part h = ⊎_elim
+faulted work options fault before after lists events applied h = ⊎_elim
     (λ (w : (fault.why ≡ Write) × IsCutOff work.plan events (stream_for work options events) fault.report before.bytes after.bytes (before.failed + 1) after.failed).
     subst (λ why. HasFailed why work options fault.report before after) (sym w.0) (record { lists = lists; events = events; applied = applied; part = w.1 }))
     (λ (m : (fault.why ≡ Memory) × IsCutOff work.plan events (lines_for work options events) fault.report before.bytes after.bytes before.failed after.failed).
-    subst (λ why. HasFailed why work options fault.report before after) (sym m.0) (cut_off work options fault.report before after lists events in_part m.1))
+    subst (λ why. HasFailed why work options fault.report before after) (sym m.0) (inr (record { lists = lists; events = events; applied = applied; part = m.1 })))
     h
 
 -- the bus failed
@@ -69,22 +57,9 @@ lost work options why report before after lists events stop is in_part part = su
 abbrev IsEmpty : Report → Type 0
 IsEmpty report = report ≡ record { counts = record { added = 0; changed = 0; removed = 0; failed = 0; halted = 0 }; taken = 0; written = 0 }
 
-nothing : (work : Work) (options : Options) (report : Report) (sight : Sight) (lists : List (List ℕ)) → IsPartition options.workers (length work.plan.changes) lists → IsEmpty report → WasCutOff 0 work options report sight sight
-nothing work options report sight lists dealt empty =
-    cut_off work options report sight sight lists []
-    (record { dealt_out = dealt; told = record { named = All-nil (λ (event : Event). event.worker < options.workers); parts = λ w low. (reports_of work lists w, refl) } })
-    (record {
-      part = [];
-      is_prefix = (lines_for work options [], refl);
-      delivered = record { counts = ap (λ (r : Report). r.counts) empty; taken = ap (λ (r : Report). r.taken) empty; written = ap (λ (r : Report). r.written) empty; appended = Appends-nil sight.bytes };
-      failed = refl;
-    })
-
 -- memory was refused before the run began
-pub refused : (work : Work) (options : Options) (why : Why) (report : Report) (before after : Sight) (lists : List (List ℕ)) → IsPartition options.workers (length work.plan.changes) lists → why ≡ Memory → IsEmpty report → after ≡ before
-    → HasFailed why work options report before after
-refused work options why report before after lists dealt is empty same =
-    subst (λ w. HasFailed w work options report before after) (sym is) (subst (λ s. WasCutOff 0 work options report before s) (sym same) (nothing work options report before lists dealt empty))
+pub refused : (work : Work) (options : Options) (why : Why) (report : Report) (before after : Sight) → why ≡ Memory → IsEmpty report → after ≡ before → HasFailed why work options report before after
+refused work options why report before after is empty same = subst (λ w. HasFailed w work options report before after) (sym is) (inl (record { report_is = empty; same = same }))
 
 -- a thread was refused
 pub not_started : (work : Work) (options : Options) (why : Why) (report : Report) (before after : Sight) → why ≡ Workers → IsEmpty report → after ≡ before → HasFailed why work options report before after

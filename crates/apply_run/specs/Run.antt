@@ -1,5 +1,5 @@
 -- How a run has ended: what it was about, what its workers reported, and what its sink took.
-use Rattle.std.specs.Prelude.{◌≡◌, ℕ, ◌+◌, ◌≤◌, List, Option}
+use Rattle.std.specs.Prelude.{◌≡◌, ℕ, ◌+◌, ◌≤◌, ◌⊎◌, List, Option}
 use Rattle.apply_events.specs.declared.event.Event.{Event}
 use Rattle.apply_events.specs.Step.{Work}
 use Rattle.apply_text.specs.Lines.{lines_of, stream_of}
@@ -37,6 +37,13 @@ pub record WasNotWritten (work : Work) (options : Options) (report : Report) (be
   pub applied : IsApplied work options.workers lists events
   pub part : IsCutOff work.plan events (stream_for work options events) report before.bytes after.bytes (before.failed + 1) after.failed
 
+-- the same, but memory was refused for a line, and the sink took a prefix of the lines, and no summary; no write failed
+pub record RanOutOfMemory (work : Work) (options : Options) (report : Report) (before after : Sight) : Type 0 where
+  pub lists : List (List ℕ)
+  pub events : List Event
+  pub applied : IsApplied work options.workers lists events
+  pub part : IsCutOff work.plan events (lines_for work options events) report before.bytes after.bytes before.failed after.failed
+
 -- a prefix of the events of each worker was taken, and the sink took a prefix of their lines, and no summary; as many writes failed
 pub record WasCutOff (failed : ℕ) (work : Work) (options : Options) (report : Report) (before after : Sight) : Type 0 where
   pub lists : List (List ℕ)
@@ -55,9 +62,9 @@ pub record DidNothing (report : Report) (before after : Sight) : Type 0 where
   pub report_is : report ≡ record { counts = record { added = 0; changed = 0; removed = 0; failed = 0; halted = 0 }; taken = 0; written = 0 }
   pub same : after ≡ before
 
--- what is so after a fault of each cause
+-- what is so after a fault of each cause; memory was refused before the threads, or for a line
 abbrev pub HasFailed : Why → Work → Options → Report → (before after : Sight) → Type 0
 HasFailed Write work options report before after = WasNotWritten work options report before after
 HasFailed Workers work options report before after = DidNothing report before after
-HasFailed Memory work options report before after = WasCutOff 0 work options report before after
+HasFailed Memory work options report before after = DidNothing report before after ⊎ RanOutOfMemory work options report before after
 HasFailed Bus work options report before after = WasCutOffLate work options report before after

@@ -17,7 +17,6 @@ use crate::signal::Signal;
 use crate::sink::Sink;
 use crate::stream::Stream;
 use crate::why::Why;
-use apply_bus::numbers_can_be_dealt_out;
 use apply_hooks::Registry;
 use apply_plan::{Plan, Script};
 use std::alloc::Global;
@@ -33,8 +32,8 @@ use std::thread::Threads;
 ///
 /// - `Why::Bus` where an event or a close was lost between a worker and this thread. No run meets it.
 /// - `Why::Workers` where a thread was refused: no worker has begun, and nothing was written.
-/// - `Why::Memory` where memory was refused, before the threads or for a line: that line and all later ones, with the
-///   summary, were not written.
+/// - `Why::Memory` where memory was refused. Before the threads: nothing was taken or written. For a line: all events
+///   were taken all the same, and that line and all later ones, with the summary, were not written.
 /// - `Why::Write` where the sink failed: it was written to no more. All events were taken all the same.
 pub fn apply_stream<'a, S: Sink + Drop, G: Gate, R: Threads + Wait + Sync>(
     rt: &R,
@@ -59,7 +58,6 @@ pub fn apply_stream<'a, S: Sink + Drop, G: Gate, R: Threads + Wait + Sync>(
         (record { bytes = S.bytes sink; failed = S.failed sink })
         (record { bytes = S.bytes result.0; failed = S.failed result.0 })) }
 {
-    numbers_can_be_dealt_out();
     let Options {
         start,
         operation,

@@ -1,4 +1,4 @@
-use Rattle.std.proofs.Common.{◌≡◌, ◌+◌, length, sym, ap, ◌∙◌, subst, refl, arith, ⊎_elim}
+use Rattle.std.proofs.Common.{◌≡◌, ◌+◌, sym, ap, ◌∙◌, subst, refl, ⊎_elim}
 use Rattle.apply_hooks.specs.Registry.{rules_of}
 use Rattle.apply_events.specs.Step.{Work}
 use Rattle.apply_text.specs.Lines.{lines_of, stream_of}
@@ -16,8 +16,7 @@ pub returns-in_default-clause-err : goal.returns-in_default-clause-err
 returns-in_default-clause-err g c =
     let work : Work = record { plan = c.args.plan.now; script = c.args.script.now; hooks = rules_of c.args.registry.now } in
     let sight : Sight = record { bytes = g.S.Sink.bytes c.args.sink; failed = g.S.Sink.failed c.args.sink } in
-    let dealt = c.numbers_can_be_dealt_out.ensures c.args.options.workers (length work.plan.changes) (omega (arith, c.requires.sizes.some_worker)) in
-    refused work c.args.options c.at_once.result.why c.at_once.result.report sight sight dealt.0 dealt.1 c.at_once.ensures.why c.at_once.ensures.nothing refl
+    refused work c.args.options c.at_once.result.why c.at_once.result.report sight sight c.at_once.ensures.why c.at_once.ensures.nothing refl
 
 pub returns-then-whole-clause-ok : goal.returns-then-whole-clause-ok
 returns-then-whole-clause-ok g c =
@@ -55,9 +54,8 @@ returns-then-whole-clause-err g c =
     same_of (λ p s t. HasTold p s t before.bytes before.failed ended.events telling) first.plan.now stream.plan.now first.script.now stream.script.now first.start stream.start (sym ended.same.plan) (sym ended.same.script) (sym ended.same.start)
     (subst (λ (s : g.row.S.Denot). HasTold first.plan.now first.script.now first.start (g.S.Sink.bytes s) (g.S.Sink.failed s) ended.events telling) from.sink ended.told) in
     let applied : IsApplied work options.workers ended.lists ended.events = subst (λ n. IsApplied work n ended.lists ended.events) c.in-Ok.ensures.claims.1 (ended.whole c.if-whole.true) in
-    let in_part : IsAppliedInPart work options.workers ended.lists ended.events = subst (λ n. IsAppliedInPart work n ended.lists ended.events) c.in-Ok.ensures.claims.1 ended.part in
     if_err c.end.result.1 _ _
-    (λ fault h. faulted work options fault before after ended.lists ended.events applied in_part
+    (λ fault h. faulted work options fault before after ended.lists ended.events applied
     (same_of (λ p s t. IsFaulted p s t operation ended.events fault before.bytes after.bytes before.failed after.failed) stream.plan.now work.plan stream.script.now work.script stream.start start
     plan script begin (h before.bytes before.failed ended.events told)))
     c.end.ensures.err
@@ -88,10 +86,9 @@ returns-clause-err g c =
     let options = c.args.options in
     let before : Sight = record { bytes = g.S.Sink.bytes c.args.sink; failed = g.S.Sink.failed c.args.sink } in
     let after : Sight = record { bytes = g.S.Sink.bytes c.into_sink.result; failed = g.S.Sink.failed c.into_sink.result } in
-    let dealt = c.numbers_can_be_dealt_out.ensures options.workers (length work.plan.changes) (omega (arith, c.requires.sizes.some_worker)) in
     let sink = c.into_sink.ensures ∙ ap (λ (s : Stream g.row.S.Denot). s.output.sink) c.in-Err.ensures.not_begun ∙ c.new-stream.ensures.sink in
     let same : after ≡ before = ap (λ (s : g.row.S.Denot). record { bytes = g.S.Sink.bytes s; failed = g.S.Sink.failed s }) sink in
     ⊎_elim
     (λ (w : c.in-Err.field-0.why ≡ Workers). not_started work options c.at_once-in-Err.result.why c.at_once-in-Err.result.report before after (c.at_once-in-Err.ensures.why ∙ w) c.at_once-in-Err.ensures.nothing same)
-    (λ (m : c.in-Err.field-0.why ≡ Memory). refused work options c.at_once-in-Err.result.why c.at_once-in-Err.result.report before after dealt.0 dealt.1 (c.at_once-in-Err.ensures.why ∙ m) c.at_once-in-Err.ensures.nothing same)
+    (λ (m : c.in-Err.field-0.why ≡ Memory). refused work options c.at_once-in-Err.result.why c.at_once-in-Err.result.report before after (c.at_once-in-Err.ensures.why ∙ m) c.at_once-in-Err.ensures.nothing same)
     c.in-Err.ensures.why
