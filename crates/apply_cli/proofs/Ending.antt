@@ -12,13 +12,12 @@ use Rattle.apply_plan.specs.Json.{max_bytes}
 use Rattle.apply_plan.specs.Plan.SavedPlan.{SavedPlan, plan_of}
 use Rattle.apply_plan.specs.Script.Outcomes.{Outcomes}
 use Rattle.apply_events.specs.declared.event.Event.{Event}
-use Rattle.apply_events.specs.OfWorker.{of_worker}
 use Rattle.apply_events.specs.Step.{Work}
 use Rattle.apply_events.specs.Totals.{totals_of}
 use Rattle.apply_events.specs.WorkerEvents.{worker_events}
 use Rattle.apply_text.specs.Latest.{latest_of}
 use Rattle.apply_text.specs.Lines.{summary_text}
-use Rattle.apply_run.specs.Applied.{IsApplied, IsAppliedInPart}
+use Rattle.apply_run.specs.Applied.{IsApplied}
 use Rattle.apply_run.specs.Bytes.{Given, IsRead, WasApplied, WasRefused}
 use Rattle.apply_run.specs.declared.options.Options.{Options}
 use Rattle.apply_run.specs.declared.refusal.Refusal.{Refusal}
@@ -26,7 +25,7 @@ use Rattle.apply_run.specs.declared.refusal.Refusal.TheVariants as refusal
 use Rattle.apply_run.specs.declared.report.Report.{Report}
 use Rattle.apply_run.specs.declared.why.Why.{Why}
 use Rattle.apply_run.specs.declared.why.Why.TheVariants as why
-use Rattle.apply_run.specs.Run.{HasFailed, Sight, WasCutOff, stream_for}
+use Rattle.apply_run.specs.Run.{DidNothing, HasFailed, RanOutOfMemory, Sight, WasCutOff, WasNotWritten, stream_for}
 use Rattle.apply_cli.specs.Command.{HasApplied, HasBegun}
 use Rattle.apply_cli.specs.Status.{counts_status_of, refusal_status_of, unfinished}
 use Rattle.apply_cli.proofs.Front.{too_large}
@@ -71,12 +70,6 @@ applied_kept in_order given options report before after after' status kept faile
 prefix_same : {X : Type 0} → (xs : List X) → IsPrefix xs xs
 prefix_same xs = ([], append-nil xs)
 
-in_part : (work : Work) (workers : ℕ) (lists : List (List ℕ)) (events : List Event) → IsApplied work workers lists events → IsAppliedInPart work workers lists events
-in_part work workers lists events h = record {
-  dealt_out = h.dealt_out;
-  told = record { named = h.told.named; parts = λ w low. subst (IsPrefix (of_worker w events)) (h.told.parts w low) (prefix_same (of_worker w events)) };
-}
-
 pub begun_of_applied : (given : Given) (options : Options) (report : Report) (before after : Sight) (bytes : Option (List ℕ)) → Keeps after.bytes bytes → WasApplied given options report before after → HasBegun given options before.bytes bytes
 begun_of_applied given options report before after bytes kept h =
     let work : Work = record { plan = h.plan; script = h.script; hooks = given.hooks } in
@@ -87,17 +80,29 @@ begun_of_applied given options report before after bytes kept h =
       read = h.read;
       lists = h.streamed.lists;
       events = h.streamed.events;
-      applied = in_part work options.workers h.streamed.lists h.streamed.events h.streamed.applied;
       part = all;
-      is_prefix = prefix_same all;
+      front = inl (record { applied = h.streamed.applied; is_prefix = prefix_same all });
       appended = Appends-kept before.bytes after.bytes bytes all h.streamed.whole.delivered.appended kept;
     }
 
--- a prefix of the lines is one of the stream
-begun_of_cut_off : (failed : ℕ) (given : Given) (options : Options) (report : Report) (before after : Sight) (bytes : Option (List ℕ)) (plan : SavedPlan) (script : Outcomes) → Keeps after.bytes bytes → IsRead given plan script
-    → WasCutOff failed (record { plan = plan; script = script; hooks = given.hooks }) options report before after → HasBegun given options before.bytes bytes
-begun_of_cut_off failed given options report before after bytes plan script kept read h =
-    let work : Work = record { plan = plan; script = script; hooks = given.hooks } in
+-- a write has failed
+begun_of_not_written : (given : Given) (options : Options) (report : Report) (before after : Sight) (bytes : Option (List ℕ)) (plan : SavedPlan) (script : Outcomes) → Keeps after.bytes bytes → IsRead given plan script
+    → WasNotWritten (record { plan = plan; script = script; hooks = given.hooks }) options report before after → HasBegun given options before.bytes bytes
+begun_of_not_written given options report before after bytes plan script kept read h = record {
+  plan = plan;
+  script = script;
+  read = read;
+  lists = h.lists;
+  events = h.events;
+  part = h.part.part;
+  front = inl (record { applied = h.applied; is_prefix = h.part.is_prefix });
+  appended = Appends-kept before.bytes after.bytes bytes h.part.part h.part.delivered.appended kept;
+}
+
+-- memory was refused for a line: a prefix of the lines is one of the stream
+begun_of_no_memory : (given : Given) (options : Options) (report : Report) (before after : Sight) (bytes : Option (List ℕ)) (plan : SavedPlan) (script : Outcomes) → Keeps after.bytes bytes → IsRead given plan script
+    → RanOutOfMemory (record { plan = plan; script = script; hooks = given.hooks }) options report before after → HasBegun given options before.bytes bytes
+begun_of_no_memory given options report before after bytes plan script kept read h =
     let events = h.events in
     let last = summary_text options.start (latest_of events (length events)) options.operation (totals_of plan events) in
     record {
@@ -106,30 +111,38 @@ begun_of_cut_off failed given options report before after bytes plan script kept
       read = read;
       lists = h.lists;
       events = events;
-      applied = h.applied;
       part = h.part.part;
-      is_prefix = (h.part.is_prefix.0 ++ last, sym (append_assoc h.part.part h.part.is_prefix.0 last) ∙ ap (λ l. l ++ last) h.part.is_prefix.1);
+      front = inl (record { applied = h.applied; is_prefix = (h.part.is_prefix.0 ++ last, sym (append_assoc h.part.part h.part.is_prefix.0 last) ∙ ap (λ l. l ++ last) h.part.is_prefix.1) });
       appended = Appends-kept before.bytes after.bytes bytes h.part.part h.part.delivered.appended kept;
     }
 
-begun_of_fault : (why : Why) (given : Given) (options : Options) (report : Report) (before after : Sight) (bytes : Option (List ℕ)) (plan : SavedPlan) (script : Outcomes) → Keeps after.bytes bytes → IsRead given plan script
-    → HasFailed why (record { plan = plan; script = script; hooks = given.hooks }) options report before after → Keeps before.bytes bytes ⊎ HasBegun given options before.bytes bytes
-begun_of_fault why.Write given options report before after bytes plan script kept read h = inr (record {
+-- the bus failed
+begun_of_cut_off : (failed : ℕ) (given : Given) (options : Options) (report : Report) (before after : Sight) (bytes : Option (List ℕ)) (plan : SavedPlan) (script : Outcomes) → Keeps after.bytes bytes → IsRead given plan script
+    → WasCutOff failed (record { plan = plan; script = script; hooks = given.hooks }) options report before after → HasBegun given options before.bytes bytes
+begun_of_cut_off failed given options report before after bytes plan script kept read h = record {
   plan = plan;
   script = script;
   read = read;
   lists = h.lists;
   events = h.events;
-  applied = in_part (record { plan = plan; script = script; hooks = given.hooks }) options.workers h.lists h.events h.applied;
   part = h.part.part;
-  is_prefix = h.part.is_prefix;
+  front = inr (record { applied = h.applied; is_prefix = h.part.is_prefix });
   appended = Appends-kept before.bytes after.bytes bytes h.part.part h.part.delivered.appended kept;
-})
+}
+
+begun_of_fault : (why : Why) (given : Given) (options : Options) (report : Report) (before after : Sight) (bytes : Option (List ℕ)) (plan : SavedPlan) (script : Outcomes) → Keeps after.bytes bytes → IsRead given plan script
+    → HasFailed why (record { plan = plan; script = script; hooks = given.hooks }) options report before after → Keeps before.bytes bytes ⊎ HasBegun given options before.bytes bytes
+begun_of_fault why.Write given options report before after bytes plan script kept read h = inr (begun_of_not_written given options report before after bytes plan script kept read h)
 begun_of_fault why.Workers given options report before after bytes plan script kept read h = inl (subst (λ s. Keeps s.bytes bytes) h.same kept)
-begun_of_fault why.Memory given options report before after bytes plan script kept read h = inr (begun_of_cut_off 0 given options report before after bytes plan script kept read h)
+begun_of_fault why.Memory given options report before after bytes plan script kept read h =
+    let work : Work = record { plan = plan; script = script; hooks = given.hooks } in
+    ⊎_elim
+    (λ (none : DidNothing report before after). inl (subst (λ s. Keeps s.bytes bytes) none.same kept))
+    (λ (ran : RanOutOfMemory work options report before after). inr (begun_of_no_memory given options report before after bytes plan script kept read ran))
+    h
 begun_of_fault why.Bus given options report before after bytes plan script kept read h = inr (begun_of_cut_off h.failed given options report before after bytes plan script kept read h.cut_off)
 
--- the output is as it was, or grew by a prefix of the stream
+-- the output is as it was, or grew by a front of the stream
 pub begun_of_refused : (given : Given) (options : Options) (r : Refusal) (before after : Sight) (bytes : Option (List ℕ)) → Keeps after.bytes bytes → WasRefused given options r before after → Keeps before.bytes bytes ⊎ HasBegun given options before.bytes bytes
 begun_of_refused given options (refusal.Plan r) before after bytes kept h = inl (subst (λ s. Keeps s.bytes bytes) h.1 kept)
 begun_of_refused given options (refusal.Script r) before after bytes kept h = inl (subst (λ s. Keeps s.bytes bytes) h.3 kept)

@@ -1,17 +1,18 @@
 -- How the program has ended.
-use Rattle.std.specs.Prelude.{◌≡◌, ◌<◌, ◌↔◌, ℕ, List, Option, IfSome, is_some, length}
+use Rattle.std.specs.Prelude.{◌≡◌, ◌<◌, ◌↔◌, ◌⊎◌, ℕ, List, Option, IfSome, is_some, length}
 use Rattle.std.specs.List.{range_with_len}
 use Rattle.std.specs.Io.KnownBytes.{Appends}
 use mathlib.Core.List.{IsPrefix}
 use Rattle.apply_plan.specs.Plan.SavedPlan.{SavedPlan}
 use Rattle.apply_plan.specs.Script.Outcomes.{Outcomes}
 use Rattle.apply_events.specs.declared.event.Event.{Event}
+use Rattle.apply_events.specs.Step.{Work}
 use Rattle.apply_events.specs.WorkerEvents.{worker_events}
-use Rattle.apply_run.specs.Applied.{IsAppliedInPart}
+use Rattle.apply_run.specs.Applied.{IsApplied, IsAppliedInPart}
 use Rattle.apply_run.specs.Bytes.{Given, IsRead, WasApplied}
 use Rattle.apply_run.specs.declared.options.Options.{Options}
 use Rattle.apply_run.specs.declared.report.Report.{Report}
-use Rattle.apply_run.specs.Run.{Sight, stream_for}
+use Rattle.apply_run.specs.Run.{Sight, lines_for, stream_for}
 use Rattle.apply_run.specs.Sinks.{OverWriter}
 use Rattle.apply_cli.specs.Status.{unfinished}
 
@@ -26,16 +27,26 @@ pub record HasApplied (given : Given) (options : Options) (before after : Sight)
   pub alone : options.workers ≡ 1 → applied.streamed.events ≡ worker_events (record { plan = applied.plan; script = applied.script; hooks = given.hooks }) 0 (range_with_len 0 (length applied.plan.changes))
   pub told : (status ≡ 1) ↔ (0 < unfinished report.counts)
 
--- what was given was applied, or a part of it, and the output has a prefix of the stream behind the bytes that it had
+-- all of the events, and a prefix of their stream
+pub record IsFrontOfStream (work : Work) (options : Options) (lists : List (List ℕ)) (events : List Event) (part : List ℕ) : Type 0 where
+  pub applied : IsApplied work options.workers lists events
+  pub is_prefix : IsPrefix part (stream_for work options events)
+
+-- a part of the events, and a prefix of their lines, without a summary
+pub record IsFrontOfLines (work : Work) (options : Options) (lists : List (List ℕ)) (events : List Event) (part : List ℕ) : Type 0 where
+  pub applied : IsAppliedInPart work options.workers lists events
+  pub is_prefix : IsPrefix part (lines_for work options events)
+
+-- what was given was applied, or a part of it, and the output has a front of the stream behind the bytes that it had: with a summary only where all was applied, and then with that of all
 pub record HasBegun (given : Given) (options : Options) (before after : Option (List ℕ)) : Type 0 where
   pub plan : SavedPlan
   pub script : Outcomes
   pub read : IsRead given plan script
   pub lists : List (List ℕ)
   pub events : List Event
-  pub applied : IsAppliedInPart (record { plan = plan; script = script; hooks = given.hooks }) options.workers lists events
   pub part : List ℕ
-  pub is_prefix : IsPrefix part (stream_for (record { plan = plan; script = script; hooks = given.hooks }) options events)
+  pub front : IsFrontOfStream (record { plan = plan; script = script; hooks = given.hooks }) options lists events part
+      ⊎ IsFrontOfLines (record { plan = plan; script = script; hooks = given.hooks }) options lists events part
   pub appended : Appends before after part
 
 -- it is so of some bytes, which are those of the input, where it tells them

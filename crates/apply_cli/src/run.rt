@@ -31,8 +31,8 @@ use std::thread::Threads;
 /// The exit status is 0 where all of the stream was written and no step failed or was halted, and 1 where all of it was
 /// written and some step failed or was halted. It is 2 where the input could not be read or is no plan, where the script is
 /// none for it, or where the settings are out of range: nothing was written then. It is 3 where memory or a thread was
-/// refused or the output could not be written: a part of the stream may have been written then. What went wrong is said on
-/// `faults`, unless that fails too.
+/// refused or the output could not be written: a front of the stream may have been written then, with a summary only where
+/// all of the plan was applied. What went wrong is said on `faults`, unless that fails too.
 pub fn run_command<R: Read + Drop, W: Write + Drop, E: Write, T: Threads + Wait + Sync>(
     rt: &T,
     alloc: Global,
