@@ -58,7 +58,8 @@ impl Rx {
 
     /// Takes the next item, and waits while there is none.
     ///
-    /// `Err` where the senders are gone, or 2^29 items were taken before: then the receiver is as before.
+    /// `Err` where 2^29 items were taken before, or the channel says that the senders are gone: then the receiver is as
+    /// before. No clause says when the channel says so.
     pub fn take<R: Wait>(&mut self, rt: &R) -> Result<Item, Lost>
         requires { closes self.old.taken < self.old.workers }
         ensures ok { IfOk result (λ item. self.new ≡ record self.old { taken = self.old.taken ++ item ∷ [] }) }

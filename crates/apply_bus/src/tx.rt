@@ -48,8 +48,8 @@ impl Tx {
         self.worker
     }
 
-    /// Sends an event of this worker, and waits while the bus is full. `Err` with the event where the receiving has
-    /// ended: then the sender is as before.
+    /// Sends an event of this worker, and waits while the bus is full. `Err` with the event where the channel says that the
+    /// receiving has ended: then the sender is as before. No clause says when the channel says so.
     pub fn send<R: Wait>(&mut self, rt: &R, event: Event) -> Result<(), Undelivered>
         requires { event.worker ≡ self.old.worker }
         ensures ok { OnOk result (self.new ≡ record self.old { sent = self.old.sent ++ event ∷ [] }) }
@@ -64,7 +64,7 @@ impl Tx {
     }
 
     /// Tells the receiver that this worker sends nothing more, and waits while the bus is full. `Err` with the sender as
-    /// it was where the receiving has ended.
+    /// it was where the channel says that the receiving has ended. No clause says when the channel says so.
     pub fn close<R: Wait>(self, rt: &R) -> Result<Closed, Tx>
         ensures ok { IfOk result (λ closed. closed ≡ self) }
         ensures err { IfErr result (λ tx. tx ≡ self) }

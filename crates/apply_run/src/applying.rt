@@ -30,7 +30,9 @@ use std::thread::Threads;
 ///
 /// `Ok` where all of the stream was written. Otherwise `Err`, with why, and with what was done:
 ///
-/// - `Why::Bus` where an event or a close was lost between a worker and this thread. No run meets it.
+/// - `Why::Bus` where an event or a close was lost between a worker and this thread: a take failed, or a send came back. No
+///   clause rules that out. Each event taken is one of the plan, so that no run ends so because of an event that does not
+///   fit.
 /// - `Why::Workers` where a thread was refused: no worker has begun, and nothing was written.
 /// - `Why::Memory` where memory was refused. Before the threads: nothing was taken or written. For a line: all events
 ///   were taken all the same, and that line and all later ones, with the summary, were not written.
