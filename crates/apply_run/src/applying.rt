@@ -12,7 +12,7 @@ use crate::not_begun::NotBegun;
 use crate::options::Options;
 use crate::prepared::Prepared;
 use crate::report::Report;
-use crate::run::run;
+use crate::run::run_with_list;
 use crate::signal::Signal;
 use crate::sink::Sink;
 use crate::stream::Stream;
@@ -75,7 +75,7 @@ pub fn apply_stream<'a, S: Sink + Drop, G: Gate, R: Threads + Wait + Sync>(
     } = prepared;
     let signal = Signal::new();
     let stream = Stream::new(plan, script, start, buffer, sink);
-    let ended = run::<Brand, S, G, R>(
+    let ended = run_with_list::<Brand, S, G, R>(
         rt, alloc, plan, script, registry, gate, &claims, &signal, ends, stream,
     );
     match ended {

@@ -32,9 +32,9 @@ use std::thread::{Scope, Threads};
 
 /// Lets workers apply the plan in threads while this thread collects what they send, and tells what all of them have done.
 ///
-/// `Err` where no worker has begun: with `Why::Memory` where memory was refused before the threads, and with `Why::Workers`
-/// where a thread was refused. Then the stream is as before.
-pub(crate) fn run<
+/// `Err` where no worker has begun: with `Why::Workers` as `run` has it, and with `Why::Memory` where memory was refused for
+/// the list of the threads. Then the stream is as before.
+pub(crate) fn run_with_list<
     'a,
     K: RunName + Send + Sync + 'static,
     S: Sink + Drop,
@@ -66,6 +66,35 @@ pub(crate) fn run<
             why: Why::Memory,
         });
     };
+    run::<K, S, G, R>(
+        rt, plan, script, registry, gate, claims, signal, ends, started, stream,
+    )
+}
+
+/// The same with a list for the threads. `Err` only where a thread was refused: then no worker has begun, and the stream is
+/// as before.
+fn run<'a, K: RunName + Send + Sync + 'static, S: Sink + Drop, G: Gate, R: Threads + Wait + Sync>(
+    rt: &R,
+    plan: &Plan,
+    script: &Script,
+    registry: &Registry,
+    gate: &G,
+    claims: &Claims,
+    signal: &Signal,
+    ends: Ends,
+    started: Vec<Worker<K>>,
+    stream: Stream<'a, S>,
+) -> Result<Ended<'a, S>, NotBegun<'a, S>>
+    requires run { IsRun K.work K.claims plan.now script.now (rules_of registry.now) claims.now }
+    requires ends { AreReady K.claims K.bus ends }
+    requires stream { IsNew (telling_of S.bytes S.failed stream) }
+    requires plan { stream.plan.now ≡ plan.now }
+    requires none { started.items ≡ [] }
+    requires room { length ends.drawers.items ≤ vec_capacity started }
+    ensures ended { IfOk result (λ ended. HasEnded S.bytes S.failed K.work K.claims.workers stream.entry ended) }
+    ensures not_begun { IfErr result (λ not_begun. not_begun.stream ≡ stream.entry) }
+    ensures why { IfErr result (λ not_begun. not_begun.why ≡ Why.Workers) }
+{
     let ran = thread::scope(
         thread::scope_env(),
         rt,
