@@ -1,6 +1,7 @@
 pub mod Begun
 pub mod Ended
 pub mod Ends
+pub mod EventsFit
 pub mod Joined
 pub mod Moments
 pub mod PlannedSteps

@@ -67,7 +67,7 @@ all-steps P w [] at h = All-nil P
 all-steps P w (s ∷ steps) at h =
     All-append P (step_events w s at) (in_turn (step_events w) step_time steps (at + step_time s)) (all-step P w s at h.0) (all-steps P w steps (at + step_time s) h.1)
 
-abbrev IsPlanned : Work → Event → Type 0
+abbrev pub IsPlanned : Work → Event → Type 0
 IsPlanned work e = HasStep work.plan e.change e.step
 
 planned : (work : Work) (w c n : ℕ) (kinds : List StepKind) → n + length kinds ≡ length (kinds_of work.plan c)
@@ -75,7 +75,7 @@ planned : (work : Work) (w c n : ℕ) (kinds : List StepKind) → n + length kin
 planned work w c n [] whole = tt
 planned work w c n (kind ∷ kinds) whole = (λ at what. omega arith, planned work w c (n + 1) kinds (omega arith))
 
-change_planned : (work : Work) (w c at : ℕ) → All (IsPlanned work) (change_events work w c at)
+pub change_planned : (work : Work) (w c at : ℕ) → All (IsPlanned work) (change_events work w c at)
 change_planned work w c at =
     all-steps (IsPlanned work) w (begun (steps_of work c)) at
     (AllSuit-begun (IsPlanned work) w (steps_of work c) (planned work w c 0 (kinds_of work.plan c) (omega arith)))

@@ -4,6 +4,7 @@ use Rattle.std.specs.List.{IsDistinct}
 use Rattle.apply_plan.specs.Plan.SavedPlan.{max_changes}
 use Rattle.apply_plan.specs.Script.Outcomes.{IsInRange}
 use Rattle.apply_events.specs.declared.event.Event.{Event}
+use Rattle.apply_events.specs.Fits.{Fits}
 use Rattle.apply_events.specs.Step.{Work, kinds_of}
 use Rattle.apply_events.specs.Totals.{is_complete, is_errored}
 
@@ -21,3 +22,7 @@ pub record IsRead (work : Work) : Type 0 where
 pub record NamesEachOnce (work : Work) (changes : List ℕ) : Type 0 where
   pub known : All (λ c. c < length work.plan.changes) changes
   pub once : IsDistinct nat_eq changes
+
+-- each of the events can happen, with the plan and the script of the work
+abbrev pub AllFit : Work → List Event → Type 0
+AllFit work events = All (Fits work.plan work.script) events

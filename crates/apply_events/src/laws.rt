@@ -1,12 +1,13 @@
 //! Laws of lists of events. Each function does nothing; its contract is the law.
 
-ghost use Rattle.std.specs.Prelude.{◌≡◌, ◌≤◌, ◌+◌, ◌++◌, ◌∷◌, [], ℕ, All, IfSome, List, count_by, slice_get, sum_by};
+ghost use Rattle.std.specs.Prelude.{◌≡◌, ◌≤◌, ◌+◌, ◌++◌, ◌∷◌, [], ℕ, All, IfSome, List, count_by, length, slice_get, sum_by};
 ghost use Rattle.std.specs.List.Sorted.{IsNonDecreasingBy};
 ghost use Rattle.apply_plan.specs.Plan.SavedPlan.{SavedPlan};
+ghost use Rattle.apply_hooks.specs.Hooks.{max_hooks};
 ghost use Rattle.apply_events.specs.declared.event.Event.{Event};
 ghost use Rattle.apply_events.specs.ChangeEvents.{change_events, span_of};
 ghost use Rattle.apply_events.specs.Fits.{HasStep, latest};
-ghost use Rattle.apply_events.specs.Laws.{IsRead, NamesEachOnce, ends_step};
+ghost use Rattle.apply_events.specs.Laws.{AllFit, IsRead, NamesEachOnce, ends_step};
 ghost use Rattle.apply_events.specs.OfWorker.{of_worker};
 ghost use Rattle.apply_events.specs.Step.{Work};
 ghost use Rattle.apply_events.specs.Totals.{plus, totals_of};
@@ -69,6 +70,15 @@ pub fn no_event_comes_after_latest()
 pub fn every_event_has_its_step()
     ensures { (work : Work) (worker : ℕ) (changes : List ℕ)
         → All (λ (event : Event). HasStep work.plan event.change event.step) (worker_events work worker changes) }
+{}
+
+/// With a plan and a script that were read, and 32 hooks at most, each event can happen: those of a change that begins
+/// two days before `LATEST` at the latest, and those of a worker with changes each of which stands once.
+pub fn every_event_fits()
+    ensures of_change { (work : Work) (worker c at : ℕ) → IsRead work → length work.hooks ≤ max_hooks
+        → at + 172800 ≤ latest → AllFit work (change_events work worker c at) }
+    ensures of_worker { (work : Work) (worker : ℕ) (changes : List ℕ) → IsRead work → length work.hooks ≤ max_hooks
+        → NamesEachOnce work changes → AllFit work (worker_events work worker changes) }
 {}
 
 /// The events of one change more come behind those of the others, from the end of their spans on.
