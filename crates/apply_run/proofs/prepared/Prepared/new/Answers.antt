@@ -10,7 +10,7 @@ returns-clause-ends c =
     record {
       some = omega (arith, c.requires.some_worker, c.in_ok-claims.ensures.claims.1);
       drawers = subst (EachAt (IsNewDrawer claims)) (sym drawers) (drawers_new claims n);
-      senders = subst (EachAt (IsNewSender bus)) (sym c.in_ok-senders.ensures.senders) (senders_new bus c.args.options.capacity n);
+      senders = subst (EachAt (IsNewSender bus)) (sym c.in_ok-senders.ensures.senders) (senders_new bus _ n);
       count = ap length drawers ∙ drawers_count claims n ∙ sym c.in_ok-claims.ensures.claims.1;
       rx_bus = refl;
       rx_workers = c.in_ok-senders.ensures.receiver.0 ∙ sym c.in_ok-claims.ensures.claims.1;
