@@ -105,78 +105,53 @@ const DURATIONS: &str = r#"0 => 0s
 90061 => 25h1m1s
 4294967295 => 1193046h28m15s"#;
 
-#[test]
-fn starts_are_read(rt: HostRuntime) -> Result<(), Fail> {
-    let alloc = rt.alloc();
-    for line in STARTS.lines() {
-        let (text, wanted) = parted(&rt, line, " => ");
-        let found = match Start::read(text) {
-            Ok(start) => start.seconds().to_string(alloc)?,
-            Err(error) => error.to_string(alloc)?,
-        };
-        assert_eq!(rt; found.as_str(), wanted, "{text}");
+/// What the text is read as: the seconds of a start, or why it is none.
+fn start_read(rt: &impl Abort, alloc: Global, text: &str) -> String {
+    match Start::read(text) {
+        Ok(start) => shown(rt, alloc, &start.seconds()),
+        Err(error) => shown(rt, alloc, &error),
     }
-    assert_eq!(rt; Start::zero().seconds(), 0);
-    Ok(())
 }
 
 #[test]
-fn moments_are_printed(rt: HostRuntime) -> Result<(), Fail> {
-    let alloc = rt.alloc();
-    for line in MOMENTS.lines() {
-        let (numbers, wanted) = parted(&rt, line, " => ");
-        let (start, latest) = parted(&rt, numbers, " ");
-        let latest = number_of(&rt, latest);
-        assert!(rt; latest <= LATEST, "{line}");
-        let Ok(start) = Start::read(start) else {
-            panic!(rt; "no start: {line}");
-        };
-        let moment = Moment::new(start, latest);
-        assert_eq!(rt; moment.to_string(alloc)?.as_str(), wanted, "{line}");
+fn starts_are_read(rt: HostRuntime) {
+    for row in STARTS.lines() {
+        let (text, wanted) = parted(&rt, row, " => ");
+        let found = start_read(&rt, rt.alloc(), text);
+        compare(&rt, text, found.as_str(), wanted);
     }
-    Ok(())
+}
+
+/// The moment so many seconds after a start, as it is printed.
+fn moment_after(rt: &impl Abort, alloc: Global, start: Start, seconds: u64) -> String {
+    assert!(rt; seconds <= LATEST);
+    shown(rt, alloc, &Moment::new(start, seconds))
 }
 
 #[test]
-fn durations_are_printed(rt: HostRuntime) -> Result<(), Fail> {
-    let alloc = rt.alloc();
-    for line in DURATIONS.lines() {
-        let (seconds, wanted) = parted(&rt, line, " => ");
-        let Ok(seconds) = u32::try_from(number_of(&rt, seconds)) else {
-            panic!(rt; "no duration: {line}");
-        };
-        assert_eq!(rt; elapsed_text(alloc, seconds)?.as_str(), wanted);
+fn moments_are_printed(rt: HostRuntime) {
+    for row in MOMENTS.lines() {
+        let (numbers, wanted) = parted(&rt, row, " => ");
+        let (start, seconds) = parted(&rt, numbers, " ");
+        let start = start_of(&rt, start);
+        let found = moment_after(&rt, rt.alloc(), start, number_of(&rt, seconds));
+        compare(&rt, numbers, found.as_str(), wanted);
     }
-    Ok(())
 }
 
-/// The last second that a stream can tell of a step that began at the last start.
+/// The duration of so many seconds.
+fn duration_of(rt: &impl Abort, alloc: Global, seconds: &str) -> String {
+    match seconds.parse::<u32>() {
+        Ok(seconds) => elapsed_text(alloc, seconds).expect(rt, "memory"),
+        Err(_) => panic!(rt; "no duration: {seconds}"),
+    }
+}
+
 #[test]
-fn the_last_moment_is_a_day_after_the_last_start(rt: HostRuntime) -> Result<(), Fail> {
-    let alloc = rt.alloc();
-    let plan = plan_of(&rt, alloc, ONE_CREATE);
-    let script = script_of(&rt, alloc, A_DAY, &plan);
-    let Ok(start) = Start::read("8999-12-31T23:59:59Z") else {
-        panic!(rt; "no start");
-    };
-    let event = Event {
-        worker: 0,
-        change: 0,
-        step: 0,
-        what: What::Complete(86_400),
-        at: 86_400,
-    };
-    check_step(&rt, &plan, &event);
-    let written = event_line(alloc, &plan, &script, start, 86_400, &event)?;
-    assert_eq!(rt; written.as_str().trim_end(), LAST_LINE);
-    Ok(())
+fn durations_are_printed(rt: HostRuntime) {
+    for row in DURATIONS.lines() {
+        let (seconds, wanted) = parted(&rt, row, " => ");
+        let found = duration_of(&rt, rt.alloc(), seconds);
+        compare(&rt, seconds, found.as_str(), wanted);
+    }
 }
-
-const ONE_CREATE: &str =
-    r#"{"format_version":"1.2","terraform_version":"1.9.0","resource_changes":[{"address":"null_resource.a","mode":"managed","type":"null_resource","name":"a","change":{"actions":["create"]}}]}"#;
-
-/// The create takes a day.
-const A_DAY: &str = r#"{"changes":[{"address":"null_resource.a","steps":[{"seconds":86400}]}]}"#;
-
-const LAST_LINE: &str =
-    r#"{"@level":"info","@message":"null_resource.a: Creation complete after 24h0m0s","@module":"terraform.ui","@timestamp":"9000-01-01T23:59:59Z","hook":{"action":"create","elapsed_seconds":86400,"resource":{"addr":"null_resource.a","implied_provider":"null","module":"","resource":"null_resource.a","resource_key":null,"resource_name":"a","resource_type":"null_resource"}},"type":"apply_complete"}"#;
