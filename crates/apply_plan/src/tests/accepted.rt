@@ -6,21 +6,22 @@ use crate::Change;
 pub const QUOTED_PLAN: &str =
     r#"{"format_version":"1.2","terraform_version":"1.9.0","resource_changes":[{"address":"module.a[\"x.y\"].aws_instance.web[\"k\\\"1\"]","module_address":"module.a[\"x.y\"]","mode":"managed","type":"aws_instance","name":"web","index":"k\"1","change":{"actions":["create"]}}]}"#;
 
-/// The only change of a plan.
-fn only<'a>(rt: &impl Abort, plan: &'a Plan) -> &'a Change {
-    assert!(rt; plan.len() == 1);
-    plan.change(0)
+/// That part of a change, where it is a text.
+fn text_of_change<'a>(change: &'a Change, part: &str) -> Option<&'a str> {
+    match part {
+        "address" => Some(change.address()),
+        "module" => Some(change.module()),
+        "resource" => Some(change.resource()),
+        "kind_name" => Some(change.kind_name()),
+        "provider" => Some(change.provider()),
+        "name" => Some(change.name()),
+        _ => None,
+    }
 }
 
-/// That part of a change, as `Debug` prints it.
-fn part_of_change(rt: &impl Abort, alloc: Global, change: &Change, part: &str) -> String {
+/// Any other part of a change, as `Debug` prints it.
+fn value_of_change(rt: &impl Abort, alloc: Global, change: &Change, part: &str) -> String {
     match part {
-        "address" => printed(rt, alloc, &change.address()),
-        "module" => printed(rt, alloc, &change.module()),
-        "resource" => printed(rt, alloc, &change.resource()),
-        "kind_name" => printed(rt, alloc, &change.kind_name()),
-        "provider" => printed(rt, alloc, &change.provider()),
-        "name" => printed(rt, alloc, &change.name()),
         "mode" => printed(rt, alloc, &change.mode()),
         "key" => printed(rt, alloc, &change.key()),
         "deposed" => printed(rt, alloc, &change.deposed()),
@@ -30,12 +31,26 @@ fn part_of_change(rt: &impl Abort, alloc: Global, change: &Change, part: &str) -
     }
 }
 
+/// That part of a change, as `Debug` prints it.
+fn part_of_change(rt: &impl Abort, alloc: Global, change: &Change, part: &str) -> String {
+    match text_of_change(change, part) {
+        Some(text) => printed(rt, alloc, &text),
+        None => value_of_change(rt, alloc, change, part),
+    }
+}
+
+/// That part of the only change of a plan, as `Debug` prints it.
+fn part_of_only(rt: &impl Abort, alloc: Global, plan: &Plan, part: &str) -> String {
+    assert!(rt; plan.len() == 1);
+    part_of_change(rt, alloc, plan.change(0), part)
+}
+
 /// That part of a plan or of its only change, as `Debug` prints it.
 fn part_of(rt: &impl Abort, alloc: Global, plan: &Plan, part: &str) -> String {
     match part {
         "len" => printed(rt, alloc, &plan.len()),
         "version" => printed(rt, alloc, &plan.version()),
-        _ => part_of_change(rt, alloc, only(rt, plan), part),
+        _ => part_of_only(rt, alloc, plan, part),
     }
 }
 

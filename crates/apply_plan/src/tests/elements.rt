@@ -34,10 +34,15 @@ fn element_with(rt: &impl Abort, alloc: Global, name: &str, value: &str) -> Stri
     text
 }
 
-fn push_member(rt: &impl Abort, text: &mut String, name: &str, value: &str) {
+/// Adds a name in quotation marks, and a colon.
+fn push_name(rt: &impl Abort, text: &mut String, name: &str) {
     push(rt, text, "\"");
     push(rt, text, name);
     push(rt, text, "\":");
+}
+
+fn push_member(rt: &impl Abort, text: &mut String, name: &str, value: &str) {
+    push_name(rt, text, name);
     push(rt, text, value);
 }
 

@@ -10,8 +10,9 @@ const FIVE_CHANGES: &str =
 
 /// Adds a blank, and what `Debug` prints of a text.
 fn push_printed(rt: &impl Abort, alloc: Global, shown: &mut String, text: &str) {
+    let more = printed(rt, alloc, &text);
     push(rt, shown, " ");
-    push(rt, shown, printed(rt, alloc, &text).as_str());
+    push(rt, shown, more.as_str());
 }
 
 /// Adds what it is called, and both texts of a diagnostic.
