@@ -10,7 +10,6 @@ use Rattle.std.proofs.lemmas.List.Quantifiers.{position-Some}
 use Rattle.apply_plan.specs.declared.plan.step_kind.StepKind.{StepKind}
 use Rattle.apply_plan.specs.declared.script.ending.Ending.{Ending}
 use Rattle.apply_plan.specs.declared.script.ending.Ending.TheVariants.{Done, Failed}
-use Rattle.apply_plan.specs.declared.script.outcome.Outcome.{Outcome}
 use Rattle.apply_plan.specs.Script.Outcomes.{outcome_of}
 use Rattle.apply_hooks.specs.HookCall.{Call}
 use Rattle.apply_hooks.specs.Hooks.{first_halting, max_hooks}
@@ -23,7 +22,7 @@ use Rattle.apply_events.specs.declared.event.Event.{Event}
 use Rattle.apply_events.specs.declared.what.What.{What}
 use Rattle.apply_events.specs.declared.what.What.TheVariants.{Start, Progress, Complete, Errored, ErrorNote, WarnNote, Halted}
 use Rattle.apply_events.specs.ChangeEvents.{begun, change_events, in_turn, span_of}
-use Rattle.apply_events.specs.Fits.{Fits, can_happen, latest, may_be_asked}
+use Rattle.apply_events.specs.Fits.{can_happen, latest, may_be_asked}
 use Rattle.apply_events.specs.Laws.{AllFit, IsRead, NamesEachOnce}
 use Rattle.apply_events.specs.ProgressTimes.{progress_times}
 use Rattle.apply_events.specs.Step.{Work, address_of, has_warning, is_failed, kinds_of, step_of}
