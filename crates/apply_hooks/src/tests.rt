@@ -2,6 +2,7 @@
 //! that the definitions are the ones that were meant.
 
 ghost use Rattle.std.specs.Prelude.{◌≡◌, ◌∷◌, []};
+ghost use Rattle.apply_hooks.specs.Answer.{AnswersAs};
 
 mod asking;
 mod closures;
@@ -98,6 +99,13 @@ fn len_is(rt: &impl Abort, registry: &Registry, wanted: usize) {
 /// Fails where the hook was not added.
 fn is_added(rt: &impl Abort, added: Result<(), (HookError, FnHook)>) {
     assert!(rt; added.is_ok(), "a hook was not added");
+}
+
+/// Adds a hook of that closure, which answers as the rules do.
+fn add(rt: &impl Abort, registry: &mut Registry, rules: Rules, answer: Answer)
+    requires { AnswersAs (pre answer) (post answer) rules }
+{
+    is_added(rt, registry.add(FnHook::new(rules, answer)));
 }
 
 /// A list of one rule, which halts.

@@ -13,14 +13,14 @@ fn hooks_halt(rt: HostRuntime) {
     let answer: Answer = Box::new(alloc, |_call: &HookCall<'_>| Verdict::Continue).expect(
         &rt, "memory",
     );
-    is_added(&rt, registry.add(FnHook::new(Rules::new(alloc), answer)));
+    add(&rt, &mut registry, Rules::new(alloc), answer);
     for number in 1..3 {
         let rules = halting(&rt, alloc, Some(Phase::Pre), Some(StepKind::Delete), "");
         let own = halting(&rt, alloc, Some(Phase::Pre), Some(StepKind::Delete), "");
         let answer: Answer = Box::new(alloc, move |call: &HookCall<'_>| own.decide(call)).expect(
             &rt, "memory",
         );
-        is_added(&rt, registry.add(FnHook::new(rules, answer)));
+        add(&rt, &mut registry, rules, answer);
         len_is(&rt, &registry, number + 1);
     }
     for row in HALTS.lines() {
@@ -28,8 +28,17 @@ fn hooks_halt(rt: HostRuntime) {
     }
 }
 
-/// A registry that worked out the verdicts from the rules alone would call nothing. The first hook counts its calls by one,
-/// the second, which halts, by 16 and the third by 256: the first two are called once, the third is not.
+/// Fails where one of three hooks was called another number of times. The first counts its calls by one, the second by a
+/// thousand and the third by a million.
+fn calls_are(rt: &impl Abort, calls: &AtomicU64, first: u64, second: u64, third: u64) {
+    let found = calls.load(Ordering::SeqCst);
+    number_is(rt, "calls of the first hook", found % 1000, first);
+    number_is(rt, "calls of the second hook", found / 1000 % 1000, second);
+    number_is(rt, "calls of the third hook", found / 1_000_000, third);
+}
+
+/// A registry that worked out the verdicts from the rules alone would call nothing. The second hook halts, so the third is
+/// not called.
 #[test]
 fn verdict_without_call(rt: HostRuntime) {
     let alloc = rt.alloc();
@@ -41,8 +50,8 @@ fn verdict_without_call(rt: HostRuntime) {
         Verdict::Continue
     })
     .expect(&rt, "memory");
-    is_added(&rt, registry.add(FnHook::new(Rules::new(alloc), answer)));
-    for weight in [16, 256] {
+    add(&rt, &mut registry, Rules::new(alloc), answer);
+    for weight in [1000, 1_000_000] {
         let counted = shared(&rt, &calls);
         let rules = halting(&rt, alloc, Some(Phase::Pre), Some(StepKind::Delete), "");
         let own = halting(&rt, alloc, Some(Phase::Pre), Some(StepKind::Delete), "");
@@ -51,7 +60,7 @@ fn verdict_without_call(rt: HostRuntime) {
             own.decide(call)
         })
         .expect(&rt, "memory");
-        is_added(&rt, registry.add(FnHook::new(rules, answer)));
+        add(&rt, &mut registry, rules, answer);
     }
     is_asked(
         &rt,
@@ -59,7 +68,7 @@ fn verdict_without_call(rt: HostRuntime) {
         &registry,
         "Pre Delete null_resource.a => HaltedBy(1)",
     );
-    number_is(&rt, "calls", calls.load(Ordering::SeqCst), 0x11);
+    calls_are(&rt, &calls, 1, 1, 0);
 }
 
 /// Fails where the hook was added, or another error or another hook came back than the one that halts.
@@ -82,7 +91,7 @@ fn the_33rd_hook_comes_back(rt: HostRuntime) {
         let answer: Answer = Box::new(alloc, |_call: &HookCall<'_>| Verdict::Continue).expect(
             &rt, "memory",
         );
-        is_added(&rt, registry.add(FnHook::new(Rules::new(alloc), answer)));
+        add(&rt, &mut registry, Rules::new(alloc), answer);
     }
     let rules = halting(&rt, alloc, None, None, "");
     let answer: Answer = Box::new(alloc, |_call: &HookCall<'_>| Verdict::Halt).expect(
@@ -123,7 +132,7 @@ fn threads_ask_one_registry(rt: HostRuntime) {
     })
     .expect(&rt, "memory");
     let mut registry = Registry::new(alloc);
-    is_added(&rt, registry.add(FnHook::new(rules, answer)));
+    add(&rt, &mut registry, rules, answer);
     let registry = &registry;
     let all = thread::map_indices(&rt, alloc, 8, &|_number: usize| { registry.ask(&create()) });
     all_are_halted(&rt, &all.expect(&rt, "memory"));

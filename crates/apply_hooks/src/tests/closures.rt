@@ -29,62 +29,56 @@ fn one_rule(rt: HostRuntime) {
     is_asked(&rt, alloc, &registry, "Pre Delete ab => HaltedBy(0)");
 }
 
-/// What halts before it starts, as the options of a command line would say it: steps of a kind, or of any in a module.
-const HALTS: &str = "Read
-any module.a
-Create";
-
-/// Calls on a registry with a hook for each of them.
+/// Calls on a registry with a hook that halts reads before they start, one that halts all in a module, and one that halts
+/// creates.
 const CALLS: &str = "Pre Read module.a.b.c => HaltedBy(0)
 Pre Create module.a.b.c => HaltedBy(1)
 Pre Create b.c => HaltedBy(2)
 Pre Delete b.c => Go
 PostDone Read module.a.b.c => Go";
 
-/// The module's address, in memory of its own.
-fn prefix_of(rt: &impl Abort, alloc: Global, halt: &str) -> Text {
-    let (_, prefix) = parted(rt, halt, " ");
-    Text::new(alloc, prefix).expect(rt, "memory")
-}
-
-/// The kind of steps, where it is one that halts.
-fn halted_kind(rt: &impl Abort, halt: &str) -> Option<StepKind> {
-    match halt.split_once(" ") {
-        Some(_) => None,
-        None => kind_of(rt, halt),
-    }
+/// A kind, as an option of a command line would say it.
+fn halted_kind(rt: &impl Abort, name: &str) -> StepKind {
+    kind_of(rt, name).expect(rt, "a kind")
 }
 
 #[test]
 fn rules_of_values_that_are_known_when_the_program_runs(rt: HostRuntime) {
     let alloc = rt.alloc();
     let mut registry = Registry::new(alloc);
-    for halt in HALTS.lines() {
-        if let Some(kind) = halted_kind(&rt, halt) {
-            let rules = halting(&rt, alloc, Some(Phase::Pre), Some(kind), "");
-            let answer: Answer = Box::new(alloc, move |call: &HookCall<'_>| {
-                if call.phase == Phase::Pre && call.kind == kind {
-                    Verdict::Halt
-                } else {
-                    Verdict::Continue
-                }
-            })
-            .expect(&rt, "memory");
-            is_added(&rt, registry.add(FnHook::new(rules, answer)));
+    let read = halted_kind(&rt, "Read");
+    let rules = halting(&rt, alloc, Some(Phase::Pre), Some(read), "");
+    let answer: Answer = Box::new(alloc, move |call: &HookCall<'_>| {
+        if call.phase == Phase::Pre && call.kind == read {
+            Verdict::Halt
         } else {
-            let prefix = prefix_of(&rt, alloc, halt);
-            let rules = halting(&rt, alloc, Some(Phase::Pre), None, prefix.as_str());
-            let answer: Answer = Box::new(alloc, move |call: &HookCall<'_>| {
-                if call.phase == Phase::Pre && call.address_begins(prefix.as_str()) {
-                    Verdict::Halt
-                } else {
-                    Verdict::Continue
-                }
-            })
-            .expect(&rt, "memory");
-            is_added(&rt, registry.add(FnHook::new(rules, answer)));
+            Verdict::Continue
         }
-    }
+    })
+    .expect(&rt, "memory");
+    add(&rt, &mut registry, rules, answer);
+    let prefix = Text::new(alloc, "module.a").expect(&rt, "memory");
+    let rules = halting(&rt, alloc, Some(Phase::Pre), None, prefix.as_str());
+    let answer: Answer = Box::new(alloc, move |call: &HookCall<'_>| {
+        if call.phase == Phase::Pre && call.address_begins(prefix.as_str()) {
+            Verdict::Halt
+        } else {
+            Verdict::Continue
+        }
+    })
+    .expect(&rt, "memory");
+    add(&rt, &mut registry, rules, answer);
+    let create = halted_kind(&rt, "Create");
+    let rules = halting(&rt, alloc, Some(Phase::Pre), Some(create), "");
+    let answer: Answer = Box::new(alloc, move |call: &HookCall<'_>| {
+        if call.phase == Phase::Pre && call.kind == create {
+            Verdict::Halt
+        } else {
+            Verdict::Continue
+        }
+    })
+    .expect(&rt, "memory");
+    add(&rt, &mut registry, rules, answer);
     for row in CALLS.lines() {
         is_asked(&rt, alloc, &registry, row);
     }
