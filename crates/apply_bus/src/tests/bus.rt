@@ -1,28 +1,28 @@
 //! Buses by hand, and with a thread for each sender.
 
-ghost use Rattle.std.specs.Prelude.{◌≡◌, IfSome};
+ghost use Rattle.std.specs.Prelude.{◌≡◌, ◌+◌};
 ghost use Rattle.apply_bus.specs.Items.{closes};
 
 use super::*;
 
 /// A bus with one worker.
-fn bus_of_one(alloc: Global, capacity: u16) -> Option<(Tx, Rx)>
-    ensures { IfSome result (λ bus. (bus.0.bus ≡ bus.1.bus) × (bus.0.worker ≡ 0)) }
+fn bus_of_one(rt: &impl Abort, alloc: Global, capacity: u16) -> (Tx, Rx)
+    ensures { (result.0.bus ≡ result.1.bus) × (result.0.worker ≡ 0) }
 {
-    let (mut senders, rx) = open(alloc, 1, capacity).ok()?;
-    let tx = senders.pop()?;
-    Some((tx, rx))
+    let (mut senders, rx) = open(alloc, 1, capacity).ok().expect(rt, "a bus");
+    let tx = senders.pop().expect(rt, "a sender");
+    (tx, rx)
 }
 
 /// A bus with two workers.
-fn bus_of_two(alloc: Global, capacity: u16) -> Option<(Tx, Tx, Rx)>
-    ensures first { IfSome result (λ bus. (bus.0.bus ≡ bus.2.bus) × (bus.0.worker ≡ 0)) }
-    ensures second { IfSome result (λ bus. (bus.1.bus ≡ bus.2.bus) × (bus.1.worker ≡ 1)) }
+fn bus_of_two(rt: &impl Abort, alloc: Global, capacity: u16) -> (Tx, Tx, Rx)
+    ensures first { (result.0.bus ≡ result.2.bus) × (result.0.worker ≡ 0) }
+    ensures second { (result.1.bus ≡ result.2.bus) × (result.1.worker ≡ 1) }
 {
-    let (mut senders, rx) = open(alloc, 2, capacity).ok()?;
-    let second = senders.pop()?;
-    let first = senders.pop()?;
-    Some((first, second, rx))
+    let (mut senders, rx) = open(alloc, 2, capacity).ok().expect(rt, "a bus");
+    let second = senders.pop().expect(rt, "a sender");
+    let first = senders.pop().expect(rt, "a sender");
+    (first, second, rx)
 }
 
 /// Takes an item, which has to be that one.
@@ -51,49 +51,66 @@ fn salvage_two(alloc: Global, taken: Taken, first: Tx, second: Tx) -> Result<(),
     Ok(())
 }
 
+/// Fails where the closes of another number of workers are still to come.
+fn left_is(rt: &impl Abort, after: &str, rx: &Rx, wanted: u8)
+    ensures { wanted + closes rx.now.taken ≡ rx.now.workers }
+{
+    let left = rx.open_left();
+    assert!(rt; left == wanted, "after {after}: {left} left");
+}
+
 #[test]
-fn bus_by_hand(rt: HostRuntime) -> Result<(), Fail> {
+fn bus_by_hand(rt: HostRuntime) {
     let alloc = rt.alloc();
-    let (mut tx, mut rx) = bus_of_one(alloc, 4).expect(&rt, "a bus");
+    let (mut tx, mut rx) = bus_of_one(&rt, alloc, 4);
     assert_eq!(rt; tx.worker(), 0);
     assert_eq!(rt; tx.send(&rt, event(0, 0)), Ok(()));
     assert_eq!(rt; tx.send(&rt, event(0, 1)), Ok(()));
     let closed = tx.close(&rt).ok().expect(&rt, "a closed sender");
+    left_is(&rt, "nothing", &rx, 1);
     expect_item(&rt, &mut rx, Item::Event(event(0, 0)));
+    left_is(&rt, "the first event", &rx, 1);
     expect_item(&rt, &mut rx, Item::Event(event(0, 1)));
-    assert_eq!(rt; rx.open_left(), 1);
+    left_is(&rt, "the second event", &rx, 1);
     expect_item(&rt, &mut rx, Item::Close(0));
-    assert_eq!(rt; rx.open_left(), 0);
-    settle_one(alloc, rx, closed)?;
-    Ok(())
+    left_is(&rt, "the close", &rx, 0);
+    settle_one(alloc, rx, closed).ok().expect(&rt, "memory");
+}
+
+/// Fails where the event was delivered, or another one came back.
+fn is_refused(rt: &impl Abort, sent: Result<(), Undelivered>, event: Event) {
+    assert!(rt; sent == Err(Undelivered(event)), "{sent:?}");
 }
 
 #[test]
-fn receiving_ends_early(rt: HostRuntime) -> Result<(), Fail> {
+fn receiving_ends_early(rt: HostRuntime) {
     let alloc = rt.alloc();
-    let (mut first, second, mut rx) = bus_of_two(alloc, 4).expect(&rt, "a bus");
+    let (mut first, second, mut rx) = bus_of_two(&rt, alloc, 4);
     assert_eq!(rt; first.send(&rt, event(0, 0)), Ok(()));
     assert_eq!(rt; first.send(&rt, event(0, 1)), Ok(()));
     expect_item(&rt, &mut rx, Item::Event(event(0, 0)));
     let taken = rx.give_up();
     assert_eq!(rt; taken.open_left(), 2);
-    let refused = first.send(&rt, event(0, 2));
-    assert_eq!(rt; refused, Err(Undelivered(event(0, 2))));
+    is_refused(&rt, first.send(&rt, event(0, 2)), event(0, 2));
     let second = second.close(&rt).err().expect(&rt, "the sender");
     assert_eq!(rt; second.worker(), 1);
-    salvage_two(alloc, taken, first, second)?;
-    Ok(())
+    let salvaged = salvage_two(alloc, taken, first, second);
+    salvaged.ok().expect(&rt, "memory");
+}
+
+/// Fails where something could be taken.
+fn nothing_is_taken<R: Wait + Abort>(rt: &R, rx: &mut Rx) {
+    assert!(rt; rx.open_left() == 1);
+    assert!(rt; rx.take(rt) == Err(Lost));
 }
 
 #[test]
-fn nothing_comes_from_senders_that_are_gone(rt: HostRuntime) -> Result<(), Fail> {
-    let (mut tx, mut rx) = bus_of_one(rt.alloc(), 1).expect(&rt, "a bus");
+fn nothing_comes_from_senders_that_are_gone(rt: HostRuntime) {
+    let (mut tx, mut rx) = bus_of_one(&rt, rt.alloc(), 1);
     assert_eq!(rt; tx.send(&rt, event(0, 0)), Ok(()));
     drop(tx);
     expect_item(&rt, &mut rx, Item::Event(event(0, 0)));
-    assert_eq!(rt; rx.open_left(), 1);
-    assert_eq!(rt; rx.take(&rt), Err(Lost));
-    Ok(())
+    nothing_is_taken(&rt, &mut rx);
 }
 
 /// Sends that many events and closes. Whether all of it was delivered.
@@ -107,6 +124,22 @@ fn send_all<R: Wait>(rt: &R, mut tx: Tx, events: u32) -> bool {
     tx.close(rt).is_ok()
 }
 
+/// Fails where the event is not the next of its worker, or the close comes before or after that many of them.
+fn note_item(rt: &impl Abort, next: &mut [u32; 8], item: Item, events: u32) {
+    match item {
+        Item::Event(event) => {
+            assert!(rt; event.worker < 8);
+            let place = usize::from(event.worker);
+            assert!(rt; event.change == next[place], "{event:?}");
+            next[place] = event.change.wrapping_add(1);
+        }
+        Item::Close(worker) => {
+            assert!(rt; worker < 8);
+            assert!(rt; next[usize::from(worker)] == events, "{worker} closes");
+        }
+    }
+}
+
 /// Takes all items, and sees that each worker's events come in order, that many, and then its close. The number of takes.
 fn take_all<R: Wait + Abort>(rt: &R, rx: &mut Rx, events: u32) -> u32 {
     let mut next = [0u32; 8];
@@ -116,35 +149,33 @@ fn take_all<R: Wait + Abort>(rt: &R, rx: &mut Rx, events: u32) -> u32 {
             break;
         }
         let item = rx.take(rt).ok().expect(rt, "an item");
+        note_item(rt, &mut next, item, events);
         takes = takes.wrapping_add(1);
-        match item {
-            Item::Event(event) => {
-                let place = next
-                    .get_mut(usize::from(event.worker))
-                    .expect(rt, "a worker");
-                assert_eq!(rt; event.change, *place);
-                *place = place.wrapping_add(1);
-            }
-            Item::Close(worker) => assert_eq!(rt; next.get(usize::from(worker)), Some(&events)),
-        }
     }
     takes
 }
 
+/// The number of takes of a bus with a thread for each of its workers, which sends that many events.
+fn takes_from_threads<R: Threads + Wait + Abort + Sync>(
+    rt: &R,
+    alloc: Global,
+    workers: u8,
+    capacity: u16,
+    events: u32,
+) -> u32 {
+    let (senders, mut rx) = open(alloc, workers, capacity).ok().expect(rt, "a bus");
+    thread::scope(thread::scope_env(), rt, |scope| {
+        for tx in senders {
+            assert!(rt; scope.spawn(move || send_all(rt, tx, events)).is_ok());
+        }
+        take_all(rt, &mut rx, events)
+    })
+}
+
 #[test]
-fn senders_in_threads(rt: HostRuntime) -> Result<(), Fail> {
-    let handle = &rt;
-    for (workers, capacity, events, takes) in [(2, 2, 3, 8), (8, 1, 10, 88)] {
-        let (senders, mut rx) = open(rt.alloc(), workers, capacity)
-            .ok()
-            .expect(&rt, "a bus");
-        let taken = thread::scope(thread::scope_env(), handle, |scope| {
-            for tx in senders {
-                assert!(rt; scope.spawn(move || send_all(handle, tx, events)).is_ok());
-            }
-            take_all(handle, &mut rx, events)
-        });
-        assert_eq!(rt; taken, takes);
-    }
-    Ok(())
+fn senders_in_threads(rt: HostRuntime) {
+    let takes = takes_from_threads(&rt, rt.alloc(), 2, 2, 3);
+    assert!(rt; takes == 8, "from 2 workers: {takes}");
+    let takes = takes_from_threads(&rt, rt.alloc(), 8, 1, 10);
+    assert!(rt; takes == 88, "from 8 workers: {takes}");
 }
