@@ -4,8 +4,12 @@
 ghost use Rattle.std.specs.Prelude.{◌≡◌, ◌<◌, ◌-◌, ◌^◌};
 
 mod failing_sinks;
+mod gates;
 mod hooks;
+mod lines;
+mod progress;
 mod refusals;
+mod reports;
 mod sinks;
 mod streams;
 mod terraform;
@@ -19,9 +23,11 @@ use apply_run::{
     apply_bytes, apply_stream,
 };
 use apply_text::{Operation, Start};
+use lines::{
+    lines_are, lines_are_of_changes, lines_of, moment_of, moments_never_go_back, not_before,
+};
 use std::alloc::Global;
 use std::process::Abort;
-use std::str::Lines;
 use std::sync::Wait;
 use std::sync::atomic::{AtomicU64, Ordering};
 use std::test::Fail;
@@ -284,108 +290,6 @@ fn counts_are(rt: &impl Abort, found: Counts, wanted: Counts) {
 /// Fails where a flush ended otherwise.
 fn flush_is(rt: &impl Abort, found: Result<(), SinkFault>, wanted: Result<(), SinkFault>) {
     assert_eq!(rt; found, wanted);
-}
-
-/// Fails where the text is not these lines, each with its line feed. The last of those that are wanted has none.
-fn lines_are(rt: &impl Abort, name: &str, found: &str, wanted: &str) {
-    assert_eq!(rt; found.strip_suffix("\n"), Some(wanted), "{name}");
-}
-
-/// The line's moment.
-fn moment_of<'a>(rt: &impl Abort, line: &'a str) -> &'a str {
-    let (_, rest) = parted(rt, line, r#""@timestamp":""#);
-    parted(rt, rest, r#"",""#).0
-}
-
-/// What stands before the line's moment, and what behind it; all of it before, where it has none.
-fn around_moment(line: &str) -> (&str, &str) {
-    let Some((before, rest)) = line.split_once(r#""@timestamp":""#) else {
-        return (line, "");
-    };
-    match rest.split_once(r#"",""#) {
-        Some((_, behind)) => (before, behind),
-        None => (before, rest),
-    }
-}
-
-/// Fails where the line's moment is before that one.
-fn not_before(rt: &impl Abort, line: &str, moment: &str) {
-    assert!(rt; moment_of(rt, line) >= moment, "{line}");
-}
-
-/// Fails where the moment of a line is before that of the line above it.
-fn moments_never_go_back(rt: &impl Abort, text: &str) {
-    for (above, line) in text.lines().zip(text.lines().skip(1)) {
-        not_before(rt, line, moment_of(rt, above));
-    }
-}
-
-/// The address that the line tells, quoted as JSON; none in the version line and the summary.
-fn address_of(line: &str) -> &str {
-    let rest = match line.split_once(r#""addr":""#) {
-        Some((_, rest)) => rest,
-        None => match line.split_once(r#""address":""#) {
-            Some((_, rest)) => rest,
-            None => return "",
-        },
-    };
-    match rest.split_once(r#"",""#) {
-        Some((address, _)) => address,
-        None => "",
-    }
-}
-
-/// Fails where the lines of an address are not those of that address in the other text, in their order; their moments may
-/// be others.
-fn lines_of_address_are(rt: &impl Abort, address: &str, found: &str, wanted: &str) {
-    let mut rest = found.lines();
-    for line in wanted.lines() {
-        if address_of(line) == address {
-            line_is(rt, next_of(&mut rest, address), line);
-        }
-    }
-    text_is(rt, address, next_of(&mut rest, address), "");
-}
-
-/// Fails where the line is another; its moment may be.
-fn line_is(rt: &impl Abort, found: &str, wanted: &str) {
-    assert!(rt;
-        around_moment(found) == around_moment(wanted),
-        "{found} and not {wanted}"
-    );
-}
-
-/// The next of the lines that tells the address; empty where none is left.
-fn next_of<'a>(lines: &mut Lines<'a>, address: &str) -> &'a str {
-    for line in lines {
-        if address_of(line) == address {
-            return line;
-        }
-    }
-    ""
-}
-
-/// Fails where the lines of a change are others, or in another order, or where the first or the last line is another.
-/// Their moments may be others.
-fn lines_are_of_changes(rt: &impl Abort, found: &str, wanted: &str) {
-    number_is(rt, "lines", lines_of(found), lines_of(wanted));
-    for line in wanted.lines() {
-        lines_of_address_are(rt, address_of(line), found, wanted);
-    }
-    let first = found.lines().next().unwrap_or("");
-    contains(rt, first, r#""type":"version""#);
-    let last = found.lines().last().unwrap_or("");
-    contains(rt, last, r#""type":"change_summary""#);
-}
-
-/// How many lines the text has.
-fn lines_of(text: &str) -> u64 {
-    text.lines().count() as u64
-}
-
-/// Fails where the line has no such part.
-fn contains(rt: &impl Abort, line: &str, part: &str) {
-    assert!(rt; line.contains(part), "no {part} in {line}");
 }
 
 /// Counts of steps, none of them halted.

@@ -5,25 +5,25 @@ use apply_hooks::{Answer, FnHook, HookCall, Phase, Rules, Verdict};
 use apply_plan::StepKind;
 
 /// A replacement that destroys first.
-const REPLACEMENT: &str =
+pub(super) const REPLACEMENT: &str =
     r#"{"format_version":"1.2","terraform_version":"1.9.0","resource_changes":[{"address":"null_resource.a","mode":"managed","type":"null_resource","name":"a","change":{"actions":["delete","create"]}}]}"#;
 
 /// Its stream where the second of three hooks is the first to halt it.
-const HALTED_REPLACEMENT: &str =
+pub(super) const HALTED_REPLACEMENT: &str =
     r#"{"@level":"info","@message":"Terraform 1.9.0","@module":"terraform.ui","@timestamp":"1970-01-01T00:00:00Z","terraform":"1.9.0","type":"version","ui":"1.0"}
 {"@level":"error","@message":"Error: execution halted","@module":"terraform.ui","@timestamp":"1970-01-01T00:00:00Z","diagnostic":{"address":"null_resource.a","detail":"Hook 1 answered Halt before delete.","severity":"error","summary":"execution halted"},"type":"diagnostic"}
 {"@level":"info","@message":"Apply complete! Resources: 0 added, 0 changed, 0 destroyed.","@module":"terraform.ui","@timestamp":"1970-01-01T00:00:00Z","changes":{"add":0,"change":0,"operation":"apply","remove":0},"type":"change_summary"}"#;
 
 /// A create.
-const CREATE: &str =
+pub(super) const CREATE: &str =
     r#"{"format_version":"1.2","terraform_version":"1.9.0","resource_changes":[{"address":"null_resource.a","mode":"managed","type":"null_resource","name":"a","change":{"actions":["create"]}}]}"#;
 
 /// It fails after 5 seconds.
-const FAILS: &str =
+pub(super) const FAILS: &str =
     r#"{"changes":[{"address":"null_resource.a","steps":[{"seconds":5,"failed":{"summary":"boom"}}]}]}"#;
 
 /// Its stream where a hook halts what has failed.
-const HALTED_CREATE: &str =
+pub(super) const HALTED_CREATE: &str =
     r#"{"@level":"info","@message":"Terraform 1.9.0","@module":"terraform.ui","@timestamp":"1970-01-01T00:00:00Z","terraform":"1.9.0","type":"version","ui":"1.0"}
 {"@level":"info","@message":"null_resource.a: Creating...","@module":"terraform.ui","@timestamp":"1970-01-01T00:00:00Z","hook":{"action":"create","resource":{"addr":"null_resource.a","implied_provider":"null","module":"","resource":"null_resource.a","resource_key":null,"resource_name":"a","resource_type":"null_resource"}},"type":"apply_start"}
 {"@level":"info","@message":"null_resource.a: Creation errored after 5s","@module":"terraform.ui","@timestamp":"1970-01-01T00:00:05Z","hook":{"action":"create","elapsed_seconds":5,"resource":{"addr":"null_resource.a","implied_provider":"null","module":"","resource":"null_resource.a","resource_key":null,"resource_name":"a","resource_type":"null_resource"}},"type":"apply_errored"}

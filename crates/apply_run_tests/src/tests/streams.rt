@@ -57,9 +57,10 @@ apply 1970-01-01T00:00:00Z
 {"@level":"info","@message":"null_resource.a: Destroying...","@module":"terraform.ui","@timestamp":"1970-01-01T00:00:00Z","hook":{"action":"delete","resource":{"addr":"null_resource.a","implied_provider":"null","module":"","resource":"null_resource.a","resource_key":null,"resource_name":"a","resource_type":"null_resource"}},"type":"apply_start"}
 {"@level":"info","@message":"null_resource.a: Destruction errored after 4s","@module":"terraform.ui","@timestamp":"1970-01-01T00:00:04Z","hook":{"action":"delete","elapsed_seconds":4,"resource":{"addr":"null_resource.a","implied_provider":"null","module":"","resource":"null_resource.a","resource_key":null,"resource_name":"a","resource_type":"null_resource"}},"type":"apply_errored"}
 {"@level":"error","@message":"Error: boom","@module":"terraform.ui","@timestamp":"1970-01-01T00:00:04Z","diagnostic":{"address":"null_resource.a","detail":"","severity":"error","summary":"boom"},"type":"diagnostic"}
-{"@level":"info","@message":"Apply complete! Resources: 1 added, 0 changed, 0 destroyed.","@module":"terraform.ui","@timestamp":"1970-01-01T00:00:04Z","changes":{"add":1,"change":0,"operation":"apply","remove":0},"type":"change_summary"}
+{"@level":"info","@message":"Apply complete! Resources: 1 added, 0 changed, 0 destroyed.","@module":"terraform.ui","@timestamp":"1970-01-01T00:00:04Z","changes":{"add":1,"change":0,"operation":"apply","remove":0},"type":"change_summary"}"#;
 
-update_progress: 25 seconds
+/// More of them: progress, reads, another start, destroys and warnings.
+const MORE_STREAMS: &str = r#"update_progress: 25 seconds
 apply 1970-01-01T00:00:00Z
 {"format_version":"1.2","terraform_version":"1.9.0","resource_changes":[{"address":"null_resource.a","mode":"managed","type":"null_resource","name":"a","change":{"actions":["update"]}}]}
 {"changes":[{"address":"null_resource.a","steps":[{"seconds":25}]}]}
@@ -145,23 +146,31 @@ apply 1970-01-01T00:00:00Z
 {"@level":"warn","@message":"Warning: slow","@module":"terraform.ui","@timestamp":"1970-01-01T00:00:00Z","diagnostic":{"address":"aws_instance.web","detail":"","severity":"warning","summary":"slow"},"type":"diagnostic"}
 {"@level":"info","@message":"Apply complete! Resources: 0 added, 1 changed, 0 destroyed.","@module":"terraform.ui","@timestamp":"1970-01-01T00:00:00Z","changes":{"add":0,"change":1,"operation":"apply","remove":0},"type":"change_summary"}"#;
 
-/// The options of a case, for one worker.
-fn options_of(rt: &impl Abort, text: &str) -> Options {
-    let (operation, start) = parted(rt, text, " ");
-    let operation = match operation {
+/// The operation of that name.
+fn operation_of(rt: &impl Abort, name: &str) -> Operation {
+    match name {
         "apply" => Operation::Apply,
         "destroy" => Operation::Destroy,
-        _ => panic!(rt; "no operation: {operation}"),
-    };
-    let start = match Start::read(start) {
+        _ => panic!(rt; "no operation: {name}"),
+    }
+}
+
+/// The start that the text is.
+fn start_of(rt: &impl Abort, text: &str) -> Start {
+    match Start::read(text) {
         Ok(start) => start,
-        Err(error) => panic!(rt; "{start}: {error}"),
-    };
+        Err(error) => panic!(rt; "{text}: {error}"),
+    }
+}
+
+/// The options of a case, for one worker.
+pub(super) fn options_of(rt: &impl Abort, text: &str) -> Options {
+    let (operation, start) = parted(rt, text, " ");
     Options {
         workers: 1,
         capacity: 64,
-        start,
-        operation,
+        start: start_of(rt, start),
+        operation: operation_of(rt, operation),
     }
 }
 
@@ -176,82 +185,19 @@ fn has_its_stream<R: Threads + Wait + Sync + Abort>(rt: &R, alloc: Global, case:
     stream_is(rt, alloc, name, plan, script, &registry, options, wanted);
 }
 
+/// Fails where one of the cases has another stream.
+fn have_their_streams<R: Threads + Wait + Sync + Abort>(rt: &R, alloc: Global, cases: &str) {
+    for case in cases.split("\n\n") {
+        has_its_stream(rt, alloc, case);
+    }
+}
+
 #[test]
 fn streams_byte_for_byte(rt: HostRuntime) {
-    for case in STREAMS.split("\n\n") {
-        has_its_stream(&rt, rt.alloc(), case);
-    }
+    have_their_streams(&rt, rt.alloc(), STREAMS);
 }
-
-/// Fails where the line does not stand in the text.
-fn has_line(rt: &impl Abort, text: &str, wanted: &str) {
-    for line in text.lines() {
-        if line == wanted {
-            return;
-        }
-    }
-    panic!(rt; "no such line: {wanted}");
-}
-
-/// A plan with one update.
-const ONE_UPDATE: &str =
-    r#"{"format_version":"1.2","terraform_version":"1.9.0","resource_changes":[{"address":"null_resource.a","mode":"managed","type":"null_resource","name":"a","change":{"actions":["update"]}}]}"#;
-
-/// It takes an hour and 5 seconds.
-const AN_HOUR: &str = r#"{"changes":[{"address":"null_resource.a","steps":[{"seconds":3605}]}]}"#;
-
-/// The last two lines of its progress, and those behind them.
-const LINES_OF_AN_HOUR: &str =
-    r#"{"@level":"info","@message":"null_resource.a: Still modifying... [59m50s elapsed]","@module":"terraform.ui","@timestamp":"1970-01-01T00:59:50Z","hook":{"action":"update","elapsed_seconds":3590,"resource":{"addr":"null_resource.a","implied_provider":"null","module":"","resource":"null_resource.a","resource_key":null,"resource_name":"a","resource_type":"null_resource"}},"type":"apply_progress"}
-{"@level":"info","@message":"null_resource.a: Still modifying... [1h0m0s elapsed]","@module":"terraform.ui","@timestamp":"1970-01-01T01:00:00Z","hook":{"action":"update","elapsed_seconds":3600,"resource":{"addr":"null_resource.a","implied_provider":"null","module":"","resource":"null_resource.a","resource_key":null,"resource_name":"a","resource_type":"null_resource"}},"type":"apply_progress"}
-{"@level":"info","@message":"null_resource.a: Modifications complete after 1h0m5s","@module":"terraform.ui","@timestamp":"1970-01-01T01:00:05Z","hook":{"action":"update","elapsed_seconds":3605,"resource":{"addr":"null_resource.a","implied_provider":"null","module":"","resource":"null_resource.a","resource_key":null,"resource_name":"a","resource_type":"null_resource"}},"type":"apply_complete"}
-{"@level":"info","@message":"Apply complete! Resources: 0 added, 1 changed, 0 destroyed.","@module":"terraform.ui","@timestamp":"1970-01-01T01:00:05Z","changes":{"add":0,"change":1,"operation":"apply","remove":0},"type":"change_summary"}"#;
-
-/// How many lines tell of progress.
-fn progress_of(text: &str) -> u64 {
-    text.lines()
-        .filter(|line| line.contains(r#","type":"apply_progress"}"#))
-        .count() as u64
-}
-
-/// Fails where one of the lines does not stand in the text.
-fn has_lines(rt: &impl Abort, text: &str, wanted: &str) {
-    for line in wanted.lines() {
-        has_line(rt, text, line);
-    }
-}
-
-/// An hour's lines of progress, and four others.
-#[test]
-fn hour_of_progress(rt: HostRuntime) {
-    let alloc = rt.alloc();
-    let registry = Registry::new(alloc);
-    let sink = applied(&rt, alloc, ONE_UPDATE, AN_HOUR, &registry, options(1, 64));
-    let text = text_of(&rt, &sink);
-    number_is(&rt, "lines of progress", progress_of(text), 360);
-    number_is(&rt, "lines", lines_of(text), 364);
-    has_lines(&rt, text, LINES_OF_AN_HOUR);
-}
-
-/// A plan with one create.
-const NULL_CREATE: &str =
-    r#"{"format_version":"1.2","terraform_version":"1.9.0","resource_changes":[{"address":"null_resource.a","mode":"managed","type":"null_resource","name":"a","change":{"actions":["create"]}}]}"#;
-
-/// It takes a day.
-const A_DAY: &str = r#"{"changes":[{"address":"null_resource.a","steps":[{"seconds":86400}]}]}"#;
-
-/// The last two lines where it begins with the last second of 8999.
-const LINES_OF_A_DAY: &str = r#"
-{"@level":"info","@message":"null_resource.a: Creation complete after 24h0m0s","@module":"terraform.ui","@timestamp":"9000-01-01T23:59:59Z","hook":{"action":"create","elapsed_seconds":86400,"resource":{"addr":"null_resource.a","implied_provider":"null","module":"","resource":"null_resource.a","resource_key":null,"resource_name":"a","resource_type":"null_resource"}},"type":"apply_complete"}
-{"@level":"info","@message":"Apply complete! Resources: 1 added, 0 changed, 0 destroyed.","@module":"terraform.ui","@timestamp":"9000-01-01T23:59:59Z","changes":{"add":1,"change":0,"operation":"apply","remove":0},"type":"change_summary"}
-"#;
 
 #[test]
-fn moments(rt: HostRuntime) {
-    let alloc = rt.alloc();
-    let registry = Registry::new(alloc);
-    let options = options_of(&rt, "apply 8999-12-31T23:59:59Z");
-    let sink = applied(&rt, alloc, NULL_CREATE, A_DAY, &registry, options);
-    let text = text_of(&rt, &sink);
-    assert!(rt; text.ends_with(LINES_OF_A_DAY));
+fn more_streams_byte_for_byte(rt: HostRuntime) {
+    have_their_streams(&rt, rt.alloc(), MORE_STREAMS);
 }

@@ -14,7 +14,7 @@ const THREE_CREATES: &str =
     r#"{"format_version":"1.2","terraform_version":"1.9.0","resource_changes":[{"address":"null_resource.a","mode":"managed","type":"null_resource","name":"a","change":{"actions":["create"]}},{"address":"null_resource.b","mode":"managed","type":"null_resource","name":"b","change":{"actions":["create"]}},{"address":"null_resource.c","mode":"managed","type":"null_resource","name":"c","change":{"actions":["create"]}}]}"#;
 
 /// A plan with four creates.
-const FOUR_CREATES: &str =
+pub(super) const FOUR_CREATES: &str =
     r#"{"format_version":"1.2","terraform_version":"1.9.0","resource_changes":[{"address":"null_resource.a","mode":"managed","type":"null_resource","name":"a","change":{"actions":["create"]}},{"address":"null_resource.b","mode":"managed","type":"null_resource","name":"b","change":{"actions":["create"]}},{"address":"null_resource.c","mode":"managed","type":"null_resource","name":"c","change":{"actions":["create"]}},{"address":"null_resource.d","mode":"managed","type":"null_resource","name":"d","change":{"actions":["create"]}}]}"#;
 
 /// A plan with a replacement that destroys first.
@@ -25,7 +25,7 @@ const REPLACEMENT: &str =
 const MAX_TURNS: u32 = 10_000_000;
 
 /// Waits until the word is at least so much, and says whether it was so in time.
-fn comes_to(word: &AtomicU64, least: u64) -> bool {
+pub(super) fn comes_to(word: &AtomicU64, least: u64) -> bool {
     for _ in 0..MAX_TURNS {
         if word.load(Ordering::SeqCst) >= least {
             return true;
@@ -36,7 +36,7 @@ fn comes_to(word: &AtomicU64, least: u64) -> bool {
 }
 
 /// Fails where the word is another number.
-fn word_is(rt: &impl Abort, name: &str, word: &AtomicU64, wanted: u64) {
+pub(super) fn word_is(rt: &impl Abort, name: &str, word: &AtomicU64, wanted: u64) {
     number_is(rt, name, word.load(Ordering::SeqCst), wanted);
 }
 
@@ -147,7 +147,7 @@ fn a_gate_is_passed_before_each_step(rt: HostRuntime) {
 }
 
 /// Whether the bytes are of a line of that type.
-fn is_of_type(bytes: &[u8], wanted: &str) -> bool {
+pub(super) fn is_of_type(bytes: &[u8], wanted: &str) -> bool {
     match str::from_utf8(bytes) {
         Ok(line) => line.contains(wanted),
         Err(_) => false,
