@@ -106,7 +106,7 @@ fn was_begun_by_its_worker(
     let worker = worker_of(passed, change);
     assert!(rt; 1 <= worker && worker <= workers, "{message} {passed:x}");
     let own = DIGITS
-        .split(" ")
+        .split_whitespace()
         .nth(begin_of(passed, change))
         .unwrap_or("");
     let (above, found) = moments_at(rt, text, message);
