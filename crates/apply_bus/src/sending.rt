@@ -15,10 +15,10 @@ use std::sync::atomic::AtomicU64;
 use std::time::Duration;
 use std::{hint, thread};
 
-/// The pauses in which a sender spins.
+/// The last pause, counted from 0, in which a sender spins.
 const SPINS: u32 = 6;
 
-/// The pauses before a sender goes to sleep.
+/// The last pause, counted from 0, before a sender goes to sleep.
 const PAUSES_AWAKE: u32 = 200;
 
 /// Sends an item, and waits while the channel is full. `false` where the receiving has ended: then nothing was sent.

@@ -62,7 +62,7 @@ pub fn run_command<R: Read + Drop, W: Write + Drop, E: Write, T: Threads + Wait 
     run_input(rt, alloc, settings, registry, script, input, output, faults)
 }
 
-/// The same for an input that was read, or was not.
+/// Does what `run_command` does, with an input that was read or was not.
 pub fn run_input<W: Write + Drop, E: Write, T: Threads + Wait + Sync>(
     rt: &T,
     alloc: Global,
@@ -97,7 +97,7 @@ pub fn run_input<W: Write + Drop, E: Write, T: Threads + Wait + Sync>(
     }
 }
 
-/// The same for bytes. Status 2 is answered only where they are no plan, the script is none for it, or the settings are
+/// Does what `run_command` does, with the bytes of the input. Status 2 is answered only where they are no plan, the script is none for it, or the settings are
 /// out of range, and always where there are too many.
 pub fn run_bytes<W: Write + Drop, E: Write, T: Threads + Wait + Sync>(
     rt: &T,

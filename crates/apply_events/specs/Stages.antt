@@ -1,4 +1,4 @@
--- What is still to come at each stage of a step, for private clauses.
+-- What is still to come at each stage of a step: what contracts see of a runner.
 use Rattle.std.specs.Prelude.{◌≡◌, ℕ, ◌+◌, ◌-◌, None, List, [], ◌∷◌, ◌++◌, drop, filter, map, sum_by, take, Bool, true, not, ◌&&◌, is_none, if◌then◌else◌}
 use Rattle.std.specs.List.{list_all, range_with_len}
 use Rattle.apply_hooks.specs.declared.phase.Phase.TheVariants.{Pre, PostDone}

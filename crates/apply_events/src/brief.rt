@@ -23,7 +23,7 @@ pub struct Brief {
 }
 
 impl Brief {
-    /// That of a step of a change, also where the script says nothing of it.
+    /// What the script says of a step of a change; done after 0 seconds where it says nothing.
     pub fn new(script: &Script, change: u32, step: u8) -> Brief
         ensures seconds { result.seconds ≡ (outcome_of script.now change step).seconds }
         ensures fails { result.fails ≡ is_failed (outcome_of script.now change step).result }

@@ -9,6 +9,6 @@ pub enum Stage {
     Noting,
     /// All was told but the halt by that hook.
     Halting(u8),
-    /// There is no step at hand: the change is over.
+    /// Nothing more comes: all steps were passed, one failed, or a hook halted one.
     Over,
 }

@@ -1,8 +1,8 @@
 /// What a hook answers.
 #[derive(Clone, Copy, Debug, PartialEq, Eq)]
 pub enum Verdict {
-    /// The change goes on.
+    /// This hook does not halt the step.
     Continue,
-    /// The change is halted.
+    /// The change is halted: nothing more of it is applied.
     Halt,
 }

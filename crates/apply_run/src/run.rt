@@ -71,7 +71,7 @@ pub(crate) fn run_with_list<
     )
 }
 
-/// The same with a list for the threads. `Err` only where a thread was refused: then no worker has begun, and the stream is
+/// Runs the workers, with a list for their threads. `Err` only where a thread was refused: then no worker has begun, and the stream is
 /// as before.
 fn run<'a, K: RunName + Send + Sync + 'static, S: Sink + Drop, G: Gate, R: Threads + Wait + Sync>(
     rt: &R,
@@ -132,7 +132,7 @@ fn run<'a, K: RunName + Send + Sync + 'static, S: Sink + Drop, G: Gate, R: Threa
     }
 }
 
-/// The same within a scope, up to the join of the workers.
+/// Runs the workers within a scope, up to their join.
 fn run_in<
     's,
     'a,

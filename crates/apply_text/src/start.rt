@@ -45,7 +45,7 @@ impl Start {
         }
     }
 
-    /// The same for an instant in nanoseconds since the start of 1970.
+    /// The start at an instant, in nanoseconds since the start of 1970. `Err` where it is out of range.
     fn at(nanoseconds: i128) -> Result<Start, MomentError>
         ensures { result ≡ start_at nanoseconds }
     {

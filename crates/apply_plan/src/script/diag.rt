@@ -27,7 +27,7 @@ impl Diag {
         })
     }
 
-    /// The same, where there is one.
+    /// Copies of the texts of the diagnostic, where there is one.
     pub(crate) fn of_option(
         alloc: Global,
         diag: Option<TreeDiag<'_>>,
