@@ -2,10 +2,10 @@
 use Rattle.std.proofs.Common.{◌≡◌, ℕ, ◌-◌, ◌<◌, ◌≤◌, min, Bool, [], ◌∷◌, ◌++◌, slice_index, slice_set}
 use Rattle.atomic_table.specs.Table.{State, Me, stepped, Allows, Splits, Joins, Enters}
 use Rattle.std.specs.List.{range_with_len}
+use Rattle.apply_events.proofs.Dealing.{all_named, dealt_out}
 use Rattle.apply_bus.specs.declared.claims_rule.Hand.{Hand}
 use Rattle.apply_bus.specs.ClaimsRule.{Fits, IsLawful}
 use Rattle.apply_bus.specs.ClaimsState.{marks}
-use Rattle.apply_bus.proofs.Dealing.{all_named, dealt_out}
 use Rattle.apply_bus.proofs.Views.{AtEach}
 
 -- each number below x and the limit falls to a worker, and the workers with the mark number x less the limit

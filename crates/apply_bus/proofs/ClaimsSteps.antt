@@ -6,14 +6,16 @@ use mathlib.Core.Option.{some, some-ne-none}
 use lib.ListN.{get_elem?}
 use Rattle.atomic_table.specs.Table.{State, Me, Allows, Splits, Joins, Enters, keeps, opening}
 use Rattle.atomic_table.proofs.Lists.{at_set, set_again}
+use Rattle.apply_events.specs.Partition.{numbers_of}
+use Rattle.apply_events.proofs.Numbers.{numbers_else, numbers_here, numbers_same, numbers_up}
 use Rattle.apply_bus.specs.declared.claims_rule.Hand.{Hand}
 use Rattle.apply_bus.specs.declared.claims_rule.Share.{Share}
-use Rattle.apply_bus.specs.ClaimsRule.{numbers_of, share, hand, drawer, new_shares, without_first, first_alone, spent, with_shares_of, IsDrawn, Knows, Fits, IsLawful, IsDealt, Told}
+use Rattle.apply_bus.specs.ClaimsRule.{share, hand, drawer, new_shares, without_first, first_alone, spent, with_shares_of, IsDrawn, Knows, Fits, IsLawful, IsDealt, Told}
 use Rattle.apply_bus.specs.ClaimsState.{marks}
 use Rattle.apply_bus.specs.Each.{Each}
 use Rattle.apply_bus.proofs.ClaimsStates.{Counted, Plain, from_plain, allows_from, splits_from, joins_from, enters_from}
 use Rattle.apply_bus.proofs.Each.{each_map, each_append}
-use Rattle.apply_bus.proofs.Numbers.{numbers_up, numbers_same, numbers_here, numbers_else, marks_le, marks_more, marks_some, none_marked}
+use Rattle.apply_bus.proofs.Marks.{marks_le, marks_more, marks_some, none_marked}
 use Rattle.apply_bus.proofs.Views.{AtEach, each_set, at_end, pick, picked, left_out}
 
 abbrev at : List ℕ → List Hand → State ℕ Hand

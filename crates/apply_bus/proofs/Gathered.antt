@@ -1,13 +1,13 @@
 -- What the rule of claims tells of one drawer for each worker.
 use Rattle.std.proofs.Common.{◌≡◌, ℕ, ◌<◌, ◌≤◌, true, List, [], ◌∷◌, All, map, sym, refl, ap, ◌∙◌, subst, subst₂, arith}
 use Rattle.std.proofs.lemmas.List.Elements.{All-cons, All-nil}
+use Rattle.apply_events.specs.Partition.{IsPartition, NamesEachWorkerOnce}
+use Rattle.apply_events.proofs.Dealing.{dealt_out, lists}
 use Rattle.apply_bus.specs.declared.claims_rule.Share.{Share}
 use Rattle.apply_bus.specs.Claims.{ClaimsName, Drawing, lists_drawn, workers_of, IsDealtOut}
 use Rattle.apply_bus.specs.ClaimsRule.{hand, IsDealt, Told}
 use Rattle.apply_bus.specs.Each.{Each}
-use Rattle.apply_bus.specs.Partition.{IsPartition, NamesEachOnce}
 use Rattle.apply_bus.specs.Seats.{drawing_of}
-use Rattle.apply_bus.proofs.Dealing.{dealt_out, lists}
 
 -- the shares, as contracts see them
 abbrev drawings : ClaimsName → List Share → List Drawing
@@ -28,7 +28,7 @@ complete claims who m (s ∷ shares) h same = All-cons (λ (d : Drawing). d.met_
     (λ met. h.0.3 met ∙ same.0.0) (complete claims who m shares h.1 same.1)
 
 pub gathered : (claims : ClaimsName) (shares : List Share) → Each (λ (s : Share). (s.limit ≡ claims.limit) × (s.workers ≡ claims.workers)) shares → Told (hand shares) → 0 < claims.workers
-    → NamesEachOnce claims.workers (workers_of (drawings claims shares)) → (m : ℕ) × IsDealtOut claims (drawings claims shares) m
+    → NamesEachWorkerOnce claims.workers (workers_of (drawings claims shares)) → (m : ℕ) × IsDealtOut claims (drawings claims shares) m
 gathered claims [] same told some each = absurd (let none : 0 ≡ claims.workers = each.count in omega arith)
 gathered claims (s ∷ shares) same told some each =
     let m = told.1 in

@@ -2,14 +2,11 @@ pub mod BusStates
 pub mod BusSteps
 pub mod ClaimsStates
 pub mod ClaimsSteps
-pub mod Dealing
 pub mod Each
 pub mod Gathered
-pub mod Interleaved
 pub mod Items
+pub mod Marks
 pub mod NewDrawers
-pub mod Numbers
-pub mod Parts
 pub mod Seen
 pub mod Sent
 pub mod Settling

@@ -1,7 +1,7 @@
 -- What contracts see of claims and drawers.
 use Rattle.std.specs.Prelude.{◌≡◌, ℕ, ◌≤◌, zero, suc, Bool, true, false, List, [], ◌∷◌, ◌++◌, All, map}
 use Rattle.atomic_table.specs.Seated.{TableId}
-use Rattle.apply_bus.specs.Partition.{IsPartition, NamesEachOnce}
+use Rattle.apply_events.specs.Partition.{IsPartition, NamesEachWorkerOnce}
 
 -- which claims they are, among all; the numbers are those below the limit, and each of the workers has a drawer
 pub record ClaimsName : Type 0 where
@@ -36,7 +36,7 @@ workers_of drawings = map (λ drawing. drawing.worker) drawings
 -- one drawer of these claims for each worker
 pub record IsOneForEach (claims : ClaimsName) (drawings : List Drawing) : Type 0 where
   pub of_claims : All (λ drawing. drawing.claims ≡ claims) drawings
-  pub each : NamesEachOnce claims.workers (workers_of drawings)
+  pub each : NamesEachWorkerOnce claims.workers (workers_of drawings)
 
 -- the lists share out the numbers below m, which is the limit where a drawer has met none
 pub record IsDealtOut (claims : ClaimsName) (drawings : List Drawing) (m : ℕ) : Type 0 where

@@ -1,17 +1,13 @@
 -- The rule of claims: the word and the drawers' views are consistent. A drawer's view lies in its seat, and once it was joined, in the seat that took it in.
-use Rattle.std.specs.Prelude.{◌≡◌, ℕ, zero, suc, ◌^◌, ◌<◌, ◌≤◌, ◌==◌, min, nat_lt, Bool, true, false, List, [], ◌∷◌, ◌++◌, All, if◌then◌else◌}
+use Rattle.std.specs.Prelude.{◌≡◌, ℕ, zero, suc, ◌^◌, ◌<◌, ◌≤◌, min, nat_lt, Bool, true, false, List, [], ◌∷◌, ◌++◌, All, if◌then◌else◌}
 use mathlib.Core.Option.{some}
 use lib.ListN.{get_elem?}
 use Rattle.atomic_table.specs.Table.{State, Me}
+use Rattle.apply_events.specs.Partition.{numbers_of}
 use Rattle.apply_bus.specs.declared.claims_rule.Hand.{Hand}
 use Rattle.apply_bus.specs.declared.claims_rule.Share.{Share}
 use Rattle.apply_bus.specs.ClaimsState.{IsConsistent}
 use Rattle.apply_bus.specs.Each.{Each}
-
--- the numbers below m that fall to a worker, in order
-abbrev pub numbers_of : (falls_to : ℕ → ℕ) → (worker m : ℕ) → List ℕ
-numbers_of falls_to worker zero = []
-numbers_of falls_to worker (suc m) = if falls_to m == worker then numbers_of falls_to worker m ++ m ∷ [] else numbers_of falls_to worker m
 
 abbrev pub share : (worker limit workers : ℕ) → (drawn : List ℕ) → (met_none : Bool) → Share
 share worker limit workers drawn met_none = record { worker = worker; limit = limit; workers = workers; drawn = drawn; met_none = met_none }

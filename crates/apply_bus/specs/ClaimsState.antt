@@ -1,7 +1,7 @@
 -- The word of claims agrees with what was drawn.
 use Rattle.std.specs.Prelude.{◌≡◌, ℕ, zero, suc, ◌+◌, ◌-◌, min, Bool, List, map, if◌then◌else◌}
 use Rattle.std.specs.List.{range_with_len}
-use Rattle.apply_bus.specs.Partition.{IsPartition}
+use Rattle.apply_events.specs.Partition.{IsPartition}
 
 -- how many of the first workers have the mark
 abbrev pub marks : (marked : ℕ → Bool) → (workers : ℕ) → ℕ

@@ -6,8 +6,6 @@ pub mod Claims
 pub mod ClaimsRule
 pub mod ClaimsState
 pub mod Each
-pub mod Interleaving
 pub mod Items
 pub mod Names
-pub mod Partition
 pub mod Seats

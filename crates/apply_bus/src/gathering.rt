@@ -1,8 +1,8 @@
 //! The drawers of claims, joined one by one.
 
 ghost use Rattle.std.specs.Prelude.{◌≡◌, ℕ, ◌++◌, ◌∷◌, []};
+ghost use Rattle.apply_events.specs.Partition.{NamesEachWorkerOnce};
 ghost use Rattle.apply_bus.specs.Claims.{lists_drawn, workers_of, IsDealtOut};
-ghost use Rattle.apply_bus.specs.Partition.{NamesEachOnce};
 
 use crate::claims::Claims;
 use crate::claims_rule::{EntersEmpty, Hand, JoinsShares, LooksAtShares};
@@ -68,7 +68,7 @@ impl Gathering {
     /// drawer has met the end.
     pub fn finish(self, claims: &Claims) -> Shared
         requires claims { self.claims ≡ claims.now }
-        requires each { NamesEachOnce self.claims.workers (workers_of self.drawings) }
+        requires each { NamesEachWorkerOnce self.claims.workers (workers_of self.drawings) }
         ensures lists { result ≡ lists_drawn self.drawings }
         ensures dealt_out { (m : ℕ) × IsDealtOut self.claims self.drawings m }
     {

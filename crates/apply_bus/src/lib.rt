@@ -9,7 +9,6 @@ mod closed;
 mod drawer;
 mod gathering;
 mod item;
-mod laws;
 mod lost;
 mod opening;
 mod rx;
@@ -27,13 +26,6 @@ pub use closed::Closed;
 pub use drawer::Drawer;
 pub use gathering::Gathering;
 pub use item::Item;
-pub use laws::{
-    a_list_of_a_partition_names_each_number_once,
-    a_partition_for_one_worker_is_all_numbers_in_order, a_rising_list_fits_below_its_limit,
-    a_rising_list_rises_on, an_interleaving_has_the_summed_length,
-    an_interleaving_of_one_worker_is_its_list, numbers_can_be_dealt_out,
-    totals_of_an_interleaving_add_up, workers_in_order_stand_once,
-};
 pub use lost::Lost;
 pub use opening::{MAX_CAPACITY, MAX_WORKERS, open};
 pub use rx::{MAX_TAKEN, Rx};

@@ -1,9 +1,11 @@
 pub mod ChangeEvents
 pub mod Course
 pub mod Fits
+pub mod Interleaving
 pub mod Laws
 pub mod Notes
 pub mod OfWorker
+pub mod Partition
 pub mod ProgressTimes
 pub mod Runner
 pub mod RunnerStep

@@ -1,11 +1,14 @@
-//! The events of an apply, one by one: what happens to each step of a plan's changes, and when.
+//! The events of an apply, one by one: what happens to each step of a plan's changes, and when. Beside them the laws of
+//! changes that are dealt out to workers, and of events that several workers report.
 #![tactic(auto)]
 
 mod brief;
 mod counts;
 mod event;
 mod fitting;
+mod interleaving;
 mod laws;
+mod partition;
 mod runner;
 mod stage;
 mod what;
@@ -13,11 +16,20 @@ mod what;
 pub use counts::Counts;
 pub use event::{Event, LATEST};
 pub use fitting::fits;
+pub use interleaving::{
+    an_interleaving_has_the_summed_length, an_interleaving_of_one_worker_is_its_list,
+    totals_of_an_interleaving_add_up,
+};
 pub use laws::{
     a_change_ends_with_its_span, a_further_change_comes_behind, a_span_is_short, a_step_ends_once,
     a_worker_names_itself, every_event_fits, every_event_has_its_step, moments_never_fall,
     no_event_comes_after_latest, parts_of_joined_lists_join, steps_never_go_back,
     the_first_event_is_at_the_begin, totals_of_joined_lists_add_up,
+};
+pub use partition::{
+    a_list_of_a_partition_names_each_number_once,
+    a_partition_for_one_worker_is_all_numbers_in_order, a_rising_list_fits_below_its_limit,
+    a_rising_list_rises_on, numbers_can_be_dealt_out, workers_in_order_stand_once,
 };
 pub use runner::Runner;
 pub use what::What;

@@ -7,13 +7,13 @@ use Rattle.std.specs.List.{range_with_len}
 use mathlib.Core.List.{IsPrefix}
 use Rattle.apply_events.specs.declared.event.Event.{Event}
 use Rattle.apply_events.specs.OfWorker.{of_worker}
+use Rattle.apply_events.specs.Partition.{IsPartition}
 use Rattle.apply_events.specs.Step.{Work}
 use Rattle.apply_events.specs.WorkerEvents.{worker_events}
 use Rattle.apply_bus.specs.declared.item.Item.{Item}
 use Rattle.apply_bus.specs.Bus.{BusName, IsTakenInPart, IsTakenWhole, NamesWorkersBelow, stream_of}
 use Rattle.apply_bus.specs.Claims.{ClaimsName, Drawing, IsDealtOut, lists_drawn, workers_of}
 use Rattle.apply_bus.specs.Items.{events}
-use Rattle.apply_bus.specs.Partition.{IsPartition}
 use Rattle.apply_run.specs.Applied.{IsApplied, IsAppliedInPart}
 use Rattle.apply_run.specs.declared.worked.Worked.{Worked}
 use Rattle.apply_run.specs.Fitting.{IsOf}

@@ -1,10 +1,10 @@
 -- A plan that was applied by workers.
 use Rattle.std.specs.Prelude.{ℕ, List, [], length, slice_index_or}
 use Rattle.apply_events.specs.declared.event.Event.{Event}
+use Rattle.apply_events.specs.Interleaving.{IsInterleaving, IsInterleavingOfPrefixes}
+use Rattle.apply_events.specs.Partition.{IsPartition}
 use Rattle.apply_events.specs.Step.{Work}
 use Rattle.apply_events.specs.WorkerEvents.{worker_events}
-use Rattle.apply_bus.specs.Interleaving.{IsInterleaving, IsInterleavingOfPrefixes}
-use Rattle.apply_bus.specs.Partition.{IsPartition}
 
 -- what each worker reports of its list of changes
 abbrev pub reports_of : Work → List (List ℕ) → (worker : ℕ) → List Event

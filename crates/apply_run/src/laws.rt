@@ -7,7 +7,7 @@ ghost use Rattle.apply_events.specs.Step.{Work};
 ghost use Rattle.apply_events.specs.WorkerEvents.{worker_events};
 ghost use Rattle.apply_run.specs.Applied.{IsApplied};
 
-use apply_bus::{
+use apply_events::{
     a_partition_for_one_worker_is_all_numbers_in_order, an_interleaving_of_one_worker_is_its_list,
 };
 

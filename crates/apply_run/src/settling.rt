@@ -13,9 +13,9 @@ ghost use Rattle.apply_run.specs.Worked.{end_of, is_closed, IsWorkOf};
 
 use crate::run_name::RunName;
 use crate::worked::{Sender, Worked};
-use apply_bus::{
-    Claims, Drawer, Gathering, Taken, a_rising_list_fits_below_its_limit, a_rising_list_rises_on,
-    workers_in_order_stand_once,
+use apply_bus::{Claims, Drawer, Gathering, Taken};
+use apply_events::{
+    a_rising_list_fits_below_its_limit, a_rising_list_rises_on, workers_in_order_stand_once,
 };
 
 /// Joins the drawers and senders of workers whose threads have ended, and says whether all that they had to send was taken.

@@ -18,8 +18,11 @@ use crate::gate::Gate;
 use crate::job::Job;
 use crate::run_name::RunName;
 use crate::worked::{Sender, Worked};
-use apply_bus::{Drawer, Tx, a_rising_list_fits_below_its_limit, a_rising_list_rises_on};
-use apply_events::{Runner, a_further_change_comes_behind};
+use apply_bus::{Drawer, Tx};
+use apply_events::{
+    Runner, a_further_change_comes_behind, a_rising_list_fits_below_its_limit,
+    a_rising_list_rises_on,
+};
 use std::sync::Wait;
 
 /// Waits until the workers may begin, draws changes until none is left, and sends their events. Nothing grows.

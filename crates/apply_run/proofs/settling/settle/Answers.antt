@@ -3,10 +3,10 @@ use Rattle.std.specs.List.{range_with_len}
 use Rattle.std.specs.Vec.Iter.{into_iter_items, into_iter_len}
 use Rattle.std.proofs.lemmas.Bool.Decides.{nat_tests}
 use Rattle.std.proofs.lemmas.Grind.{common_steps}
+use Rattle.apply_events.specs.Partition.{NamesEachWorkerOnce}
 use Rattle.apply_bus.specs.Bus.{Account, IsTakenInPart, IsTakenWhole, NamesWorkersBelow, stream_of}
 use Rattle.apply_bus.specs.Claims.{ClaimsName, Drawing, Gathered, IsDealtOut, lists_drawn}
 use Rattle.apply_bus.specs.Items.{closes}
-use Rattle.apply_bus.specs.Partition.{NamesEachOnce}
 use Rattle.apply_bus.specs.declared.item.Item.{Item}
 use Rattle.apply_run.specs.Settled.{IsSettled, IsSettledWhole}
 use Rattle.apply_run.specs.Threads.{EachAt}
@@ -58,7 +58,7 @@ finish-requires-clause-each g c =
     let i = c.loop-worker.invariant in let drawings = c.loop-worker.gathering.drawings in
     let seen = all_seen c.loop-worker.yielded (into_iter_items c.loop-worker.worker-iterator) c.args.worked.items (into_iter_len c.loop-worker.worker-iterator) i.left i.count c.in-None.ensures.steps.0 in
     let count : length drawings ≡ c.args.claims.now.workers = i.here ∙ ap length seen ∙ c.requires.workers.1 ∙ ap (λ (n : ClaimsName). n.workers) (sym c.requires.claims) in
-    subst (NamesEachOnce c.loop-worker.gathering.claims.workers) (ap (range_with_len 0) (ap (λ (n : ClaimsName). n.workers) i.claims ∙ sym count) ∙ sym (joined_in_order g.K.RunName.work c.args.taken.taken drawings i.part))
+    subst (NamesEachWorkerOnce c.loop-worker.gathering.claims.workers) (ap (range_with_len 0) (ap (λ (n : ClaimsName). n.workers) i.claims ∙ sym count) ∙ sym (joined_in_order g.K.RunName.work c.args.taken.taken drawings i.part))
     (c.workers_in_order_stand_once.ensures c.loop-worker.gathering.claims.workers)
 
 pub returns-clause-applied : goal.returns-clause-applied

@@ -1,9 +1,9 @@
 use Rattle.std.proofs.Common.{ℕ, ◌<◌, map, sym, ap, ◌∙◌, subst, arith}
 use Rattle.atomic_table.specs.Table.{Me}
+use Rattle.apply_events.specs.Partition.{NamesEachWorkerOnce}
 use Rattle.apply_bus.specs.declared.claims_rule.Hand.{Hand}
 use Rattle.apply_bus.specs.declared.claims_rule.Share.{Share}
 use Rattle.apply_bus.specs.Claims.{ClaimsName, Gathered, lists_drawn, workers_of, IsDealtOut}
-use Rattle.apply_bus.specs.Partition.{NamesEachOnce}
 use Rattle.apply_bus.proofs.ClaimsSteps.{looks}
 use Rattle.apply_bus.proofs.Gathered.{gathered, lists_of_shares}
 use Rattle.apply_bus.proofs.gathering.Gathering.finish.Goals as goal
@@ -24,4 +24,4 @@ pub returns-clause-dealt_out : goal.returns-clause-dealt_out
 returns-clause-dealt_out c =
     let some : 0 < c.self.inside.workers = subst (λ k. 0 < k) (sym (ap (λ (t : Gathered). t.claims.workers) c.self.view_is ∙ ap (λ (i : ClaimsName). i.workers) (c.requires.claims ∙ sym c.claims.view_is))) c.claims.invariant.2 in
     subst (λ (t : Gathered). (m : ℕ) × IsDealtOut t.claims t.drawings m) c.self.view_is
-    (gathered _ _ c.self.invariant.same c.load.ensures.2.1 some (subst (λ (t : Gathered). NamesEachOnce t.claims.workers (workers_of t.drawings)) (sym c.self.view_is) c.requires.each))
+    (gathered _ _ c.self.invariant.same c.load.ensures.2.1 some (subst (λ (t : Gathered). NamesEachWorkerOnce t.claims.workers (workers_of t.drawings)) (sym c.self.view_is) c.requires.each))

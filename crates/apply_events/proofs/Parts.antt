@@ -5,8 +5,8 @@ use Rattle.std.specs.List.Sorted.{IsStrictlyIncreasing}
 use Rattle.std.proofs.lemmas.Bool.{cases_lt}
 use Rattle.std.proofs.lemmas.Bool.Decides.{eqb_tells}
 use Rattle.std.proofs.lemmas.List.Sums.{get_or-le-sum_by, sum_by-cons}
-use Rattle.apply_bus.specs.Partition.{count_of, places, IsPartition}
-use Rattle.apply_bus.proofs.Dealing.{count_first, count_later}
+use Rattle.apply_events.specs.Partition.{count_of, places, IsPartition}
+use Rattle.apply_events.proofs.Dealing.{count_first, count_later}
 
 -- ---- a list that rises from a number on
 

@@ -1,30 +1,9 @@
-//! Laws of interleavings, and of numbers that are dealt out. Each function does nothing; its contract is the law.
+//! Laws of numbers that are dealt out. Each function does nothing; its contract is the law.
 
-ghost use Rattle.std.specs.Prelude.{◌≡◌, ◌<◌, ◌≤◌, ◌++◌, ◌∷◌, [], ℕ, All, List, length, nat_eq, slice_index_or, sum_by};
+ghost use Rattle.std.specs.Prelude.{◌≡◌, ◌<◌, ◌≤◌, ◌++◌, ◌∷◌, [], ℕ, All, List, length, nat_eq, slice_index_or};
 ghost use Rattle.std.specs.List.{IsDistinct, range_with_len};
 ghost use Rattle.std.specs.List.Sorted.{IsStrictlyIncreasing};
-ghost use Rattle.apply_plan.specs.Plan.SavedPlan.{SavedPlan};
-ghost use Rattle.apply_events.specs.declared.event.Event.{Event};
-ghost use Rattle.apply_events.specs.Totals.{totals_of};
-ghost use Rattle.apply_bus.specs.Interleaving.{lists_of, sum_of_totals, IsInterleaving};
-ghost use Rattle.apply_bus.specs.Partition.{IsPartition, NamesEachOnce};
-
-/// An interleaving is as long as the workers' lists together.
-pub fn an_interleaving_has_the_summed_length()
-    ensures { (workers : ℕ) (list : ℕ → List Event) (events : List Event) → IsInterleaving workers list events
-        → length events ≡ sum_by length (lists_of workers list) }
-{}
-
-/// With one worker it is that worker's list.
-pub fn an_interleaving_of_one_worker_is_its_list()
-    ensures { (list : ℕ → List Event) (events : List Event) → IsInterleaving 1 list events → events ≡ list 0 }
-{}
-
-/// Its totals are those of the workers' lists, added up.
-pub fn totals_of_an_interleaving_add_up()
-    ensures { (plan : SavedPlan) (workers : ℕ) (list : ℕ → List Event) (events : List Event)
-        → IsInterleaving workers list events → totals_of plan events ≡ sum_of_totals plan (lists_of workers list) }
-{}
+ghost use Rattle.apply_events.specs.Partition.{IsPartition, NamesEachWorkerOnce};
 
 /// A partition for one worker is one list: all numbers below the limit, in order.
 pub fn a_partition_for_one_worker_is_all_numbers_in_order()
@@ -41,7 +20,7 @@ pub fn a_list_of_a_partition_names_each_number_once()
 
 /// The workers in their order name each worker once.
 pub fn workers_in_order_stand_once()
-    ensures { (workers : ℕ) → NamesEachOnce workers (range_with_len 0 workers) }
+    ensures { (workers : ℕ) → NamesEachWorkerOnce workers (range_with_len 0 workers) }
 {}
 
 /// Rising numbers below a limit are no more than the limit.

@@ -1,5 +1,5 @@
 -- Numbers that are dealt out to lists, each once.
-use Rattle.std.specs.Prelude.{◌≡◌, ℕ, ◌<◌, ◌==◌, List, All, count_by, length, nat_lt, sum_by, if◌then◌else◌}
+use Rattle.std.specs.Prelude.{◌≡◌, ℕ, zero, suc, ◌<◌, ◌==◌, List, [], ◌∷◌, ◌++◌, All, count_by, length, nat_lt, sum_by, if◌then◌else◌}
 use Rattle.std.specs.List.Sorted.{IsStrictlyIncreasing}
 
 -- in how many places of a list the number stands
@@ -17,6 +17,11 @@ pub record IsPartition (workers limit : ℕ) (lists : List (List ℕ)) : Type 0 
   pub once : (number : ℕ) → places number lists ≡ (if nat_lt number limit then 1 else 0)
 
 -- each worker stands once among those that are named, and nobody else does
-pub record NamesEachOnce (workers : ℕ) (named : List ℕ) : Type 0 where
+pub record NamesEachWorkerOnce (workers : ℕ) (named : List ℕ) : Type 0 where
   pub count : length named ≡ workers
   pub once : (worker : ℕ) → worker < workers → count_of worker named ≡ 1
+
+-- the numbers below m that fall to a worker, in order
+abbrev pub numbers_of : (falls_to : ℕ → ℕ) → (worker m : ℕ) → List ℕ
+numbers_of falls_to worker zero = []
+numbers_of falls_to worker (suc m) = if falls_to m == worker then numbers_of falls_to worker m ++ m ∷ [] else numbers_of falls_to worker m

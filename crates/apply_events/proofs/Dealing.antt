@@ -7,9 +7,8 @@ use Rattle.std.proofs.lemmas.List.FromFn.{length-range_with_len}
 use Rattle.std.proofs.lemmas.List.Sums.{sum_by-cons}
 use Rattle.std.specs.List.{range_with_len}
 use Rattle.std.specs.List.Sorted.{IsStrictlyIncreasing}
-use Rattle.apply_bus.specs.ClaimsRule.{numbers_of}
-use Rattle.apply_bus.specs.Partition.{count_of, places, IsPartition, NamesEachOnce}
-use Rattle.apply_bus.proofs.Numbers.{none_of, numbers_rise, one_of}
+use Rattle.apply_events.specs.Partition.{count_of, numbers_of, places, IsPartition, NamesEachWorkerOnce}
+use Rattle.apply_events.proofs.Numbers.{none_of, numbers_rise, one_of}
 
 -- what falls to each of those that are named
 abbrev pub lists : (ℕ → ℕ) → ℕ → List ℕ → List (List ℕ)
@@ -49,7 +48,7 @@ no_places who m x (w ∷ named) le =
     let both : places x (lists who m (w ∷ named)) ≡ count_of x (numbers_of who w m) + places x (lists who m named) = sum_by-cons (count_of x) (numbers_of who w m) (lists who m named) in
     let here = none_of who w x m (λ lt. absurd (omega arith)) in omega arith
 
-pub dealt_out : (who : ℕ → ℕ) (workers m : ℕ) (named : List ℕ) → ((k : ℕ) → k < m → who k < workers) → NamesEachOnce workers named → IsPartition workers m (lists who m named)
+pub dealt_out : (who : ℕ → ℕ) (workers m : ℕ) (named : List ℕ) → ((k : ℕ) → k < m → who k < workers) → NamesEachWorkerOnce workers named → IsPartition workers m (lists who m named)
 dealt_out who workers m named falls each = record {
   count = length_lists who m named ∙ each.count;
   rising = lists_rise who m named;
@@ -75,5 +74,5 @@ once_in a (suc n) w low high = ⊎_elim
     (eqb_tells a w)
 
 -- the workers in their order
-pub all_named : (workers : ℕ) → NamesEachOnce workers (range_with_len 0 workers)
+pub all_named : (workers : ℕ) → NamesEachWorkerOnce workers (range_with_len 0 workers)
 all_named workers = record { count = length-range_with_len 0 workers; once = λ w lt. once_in 0 workers w (omega arith) (omega arith) }

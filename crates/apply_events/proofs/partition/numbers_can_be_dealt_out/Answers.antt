@@ -1,6 +1,6 @@
 use Rattle.std.specs.List.{range_with_len}
-use Rattle.apply_bus.proofs.Dealing.{all_named, dealt_out, lists}
-use Rattle.apply_bus.proofs.laws.numbers_can_be_dealt_out.Goals as goal
+use Rattle.apply_events.proofs.Dealing.{all_named, dealt_out, lists}
+use Rattle.apply_events.proofs.partition.numbers_can_be_dealt_out.Goals as goal
 
 -- all of them to the first
 pub returns : goal.returns

@@ -10,7 +10,7 @@ use Rattle.apply_events.specs.declared.counts.Counts.{Counts}
 use Rattle.apply_events.specs.declared.event.Event.{Event}
 use Rattle.apply_events.specs.OfWorker.{of_worker}
 use Rattle.apply_events.specs.Totals.{completes, is_errored, is_halted, plus, totals_of}
-use Rattle.apply_bus.specs.Interleaving.{lists_of, sum_of_totals, IsInterleaving}
+use Rattle.apply_events.specs.Interleaving.{lists_of, sum_of_totals, IsInterleaving}
 
 -- the parts of n workers, the first of that number
 abbrev parts : List Event → ℕ → ℕ → List (List Event)
