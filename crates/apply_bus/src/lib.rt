@@ -11,6 +11,8 @@ mod gathering;
 mod item;
 mod lost;
 mod opening;
+mod pausing;
+mod receiving;
 mod rx;
 mod salvaged;
 mod sending;

@@ -4,9 +4,10 @@ ghost use Rattle.std.specs.Prelude.{◌≡◌, ◌<◌, ◌≤◌, ◌+◌, ◌+
 ghost use Rattle.apply_bus.specs.Bus.{account_of, NamesWorkersBelow};
 ghost use Rattle.apply_bus.specs.Items.{closes, items_of, max_taken, worker_of};
 
-use crate::bus_rule::{BusRule, Knowledge, Takes};
+use crate::bus_rule::{BusRule, Knowledge};
 use crate::item::{Item, close_count};
 use crate::lost::Lost;
+use crate::receiving::take_item;
 use crate::taken::Taken;
 use crossbeam_channel::{Pass, RuledReceiver};
 use std::marker::Model;
@@ -75,13 +76,13 @@ impl Rx {
         if self.count >= MAX_TAKEN {
             return Err(Lost);
         }
-        match self.end.recv_as::<Takes, R>(rt, &mut self.pass) {
+        match take_item(rt, &self.end, &mut self.pass) {
             Ok(item) => {
                 self.left -= close_count(&item);
                 self.count += 1;
                 Ok(item)
             }
-            Err(_) => Err(Lost),
+            Err(lost) => Err(lost),
         }
     }
 

@@ -9,14 +9,11 @@ ghost use Rattle.apply_bus.specs.Items.{worker_of};
 
 use crate::bus_rule::{BusRule, Knowledge, Sends};
 use crate::item::Item;
+use crate::pausing::pause_awake;
 use crossbeam_channel::{Pass, RuledSender};
 use std::sync::Wait;
 use std::sync::atomic::AtomicU64;
 use std::time::Duration;
-use std::{hint, thread};
-
-/// The last pause, counted from 0, in which a sender spins.
-const SPINS: u32 = 6;
 
 /// The last pause, counted from 0, before a sender goes to sleep.
 const PAUSES_AWAKE: u32 = 200;
@@ -53,12 +50,8 @@ pub(crate) fn send_item<R: Wait>(
 /// Waits a little, longer each time: spins, then yields, then sleeps. It never sleeps on the channel, so that the
 /// receiver has nobody to wake. The answer is one more than the pauses so far.
 fn pause<R: Wait>(rt: &R, pauses: u32) -> u32 {
-    if pauses <= SPINS {
-        for _ in 0..1u32 << pauses.min(SPINS) {
-            hint::spin_loop();
-        }
-    } else if pauses <= PAUSES_AWAKE {
-        thread::yield_now();
+    if pauses <= PAUSES_AWAKE {
+        pause_awake(pauses);
     } else {
         let word = AtomicU64::new(0);
         let micros = 50u64 << (pauses - PAUSES_AWAKE).min(4);

@@ -8,6 +8,9 @@ use std::process::ExitCode;
 use std::sync::Wait;
 use std::thread::Threads;
 
+/// How many bytes of output are gathered before they are written.
+const OUTPUT_ROOM: usize = 65_536;
+
 fn main(rt: HostRuntime) -> ExitCode {
     let status = match run(&rt, &rt) {
         Ok(status) => status,
@@ -19,7 +22,7 @@ fn main(rt: HostRuntime) -> ExitCode {
 /// Follows the words over the standard streams, and answers the exit status.
 fn run<T: Threads + Wait + Sync>(rt: &HostRuntime, threads: &T) -> Result<u8, Usage> {
     let words = given_words(rt)?;
-    let Ok(output) = BufWriter::new(rt.alloc(), rt.stdout()) else {
+    let Ok(output) = BufWriter::with_capacity(rt.alloc(), OUTPUT_ROOM, rt.stdout()) else {
         return Err(Usage::Memory);
     };
     let (_output, status) = follow(
