@@ -21,9 +21,12 @@ use apply_run::{
 };
 use std::alloc::Global;
 use std::fmt::Display;
-use std::io::{Read, Write};
+use std::io::{Cursor, Read, Write};
 use std::sync::Wait;
 use std::thread::Threads;
+
+/// How many bytes of a fault's line go out in one write.
+const LINE_ROOM: usize = 256;
 
 /// Reads a plan, and writes the stream of messages for applying it as the settings, the hooks and the script say. Without
 /// a script each step is done after 0 seconds. The output comes back.
@@ -166,7 +169,17 @@ fn flush_unless_failed<W: Write + Drop>(output: &mut StdSink<W>, failures: u64)
     }
 }
 
-/// Says what went wrong. A text that cannot be written is dropped, since there is nowhere left to say so.
+/// Says what went wrong, on a line of its own. A text that cannot be written is dropped, since there is nowhere left to say so.
+///
+/// The line goes out in one write, so that it stays whole beside other writers, and takes no memory of the heap. One longer than
+/// 256 bytes, which no fault of this program has, goes out in pieces.
 pub fn report<E: Write, D: Display + Drop>(faults: &mut E, fault: D) {
-    let _ = writeln!(faults, "applystream: {fault}");
+    let mut line = Cursor::new([0u8; LINE_ROOM]);
+    let _ = match writeln!(line, "applystream: {fault}") {
+        Ok(()) => {
+            let end = (line.position() as usize).min(LINE_ROOM);
+            faults.write_all(&line.get_ref()[..end])
+        }
+        Err(_) => writeln!(faults, "applystream: {fault}"),
+    };
 }

@@ -25,7 +25,7 @@ fn run<T: Threads + Wait + Sync>(rt: &HostRuntime, threads: &T) -> Result<u8, Us
     let Ok(output) = BufWriter::with_capacity(rt.alloc(), OUTPUT_ROOM, rt.stdout()) else {
         return Err(Usage::Memory);
     };
-    let (_output, status) = follow(
+    let (output, status) = follow(
         threads,
         rt,
         rt.alloc(),
@@ -34,5 +34,7 @@ fn run<T: Threads + Wait + Sync>(rt: &HostRuntime, threads: &T) -> Result<u8, Us
         output,
         &mut rt.stderr(),
     );
+    // What a failed write left behind is given up: a drop would write it once more, behind the fault.
+    let (_stdout, _unwritten) = output.into_parts();
     Ok(status)
 }
