@@ -1,12 +1,4 @@
-pub mod Drawing
-pub mod Ending
-pub mod Headline
-pub mod Joined
-pub mod Lines
-pub mod Places
-pub mod Prefixes
-pub mod Ready
-pub mod Sent
+pub mod Runs
+pub mod Streams
 pub mod Taken
-pub mod Telling
-pub mod Writing
+pub mod Workers

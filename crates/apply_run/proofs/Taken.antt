@@ -7,8 +7,8 @@ use Rattle.apply_plan.specs.Script.Outcomes.{Outcomes}
 use Rattle.apply_events.specs.declared.event.Event.{Event}
 use Rattle.apply_bus.specs.declared.item.Item.{Item}
 use Rattle.apply_bus.specs.Items.{event_of, events}
-use Rattle.apply_run.specs.Fitting.{IsOf}
-use Rattle.apply_run.specs.Telling.{HasTold, Telling}
+use Rattle.apply_run.specs.Stream.Fitting.{CanBeTold}
+use Rattle.apply_run.specs.Stream.Telling.{HasTold, Telling}
 
 events_more : (taken new : List Item) (item : Item) → new ≡ taken ++ item ∷ [] → events new ≡ events taken ++ events (item ∷ [])
 events_more taken new item is = ap events is ∙ filter_map-append event_of taken (item ∷ [])
@@ -26,14 +26,14 @@ back P xs ys all = subst (All P) (drop-append_seam xs ys) (All-drop P (length xs
 -- the items were told, and so is one item more
 pub told_more_items : (plan : SavedPlan) (script : Outcomes) (start : ℕ) (before : Option (List ℕ)) (failures : ℕ) (taken new : List Item) (item : Item) (old now : Telling)
     → new ≡ taken ++ item ∷ []
-    → (All (IsOf plan) (events taken) → HasTold plan script start before failures (events taken) old)
-    → (All (IsOf plan) (events (item ∷ [])) → HasTold plan script start before failures (events taken) old → HasTold plan script start before failures (events taken ++ events (item ∷ [])) now)
-    → All (IsOf plan) (events new) → HasTold plan script start before failures (events new) now
+    → (All (CanBeTold plan) (events taken) → HasTold plan script start before failures (events taken) old)
+    → (All (CanBeTold plan) (events (item ∷ [])) → HasTold plan script start before failures (events taken) old → HasTold plan script start before failures (events taken ++ events (item ∷ [])) now)
+    → All (CanBeTold plan) (events new) → HasTold plan script start before failures (events new) now
 told_more_items plan script start before failures taken new item old now is so_far step all =
     let joined = events_more taken new item is in
-    let both : All (IsOf plan) (events taken ++ events (item ∷ [])) = subst (All (IsOf plan)) joined all in
+    let both : All (CanBeTold plan) (events taken ++ events (item ∷ [])) = subst (All (CanBeTold plan)) joined all in
     subst (λ es. HasTold plan script start before failures es now) (sym joined)
-    (step (back (IsOf plan) (events taken) (events (item ∷ [])) both) (so_far (front (IsOf plan) (events taken) (events (item ∷ [])) both)))
+    (step (back (CanBeTold plan) (events taken) (events (item ∷ [])) both) (so_far (front (CanBeTold plan) (events taken) (events (item ∷ [])) both)))
 
 pub all_before : (P : Event → Type 0) (taken new : List Item) (item : Item) → new ≡ taken ++ item ∷ [] → All P (events new) → All P (events taken)
 all_before P taken new item is all = front P (events taken) (events (item ∷ [])) (subst (All P) (events_more taken new item is) all)

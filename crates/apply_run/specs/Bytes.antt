@@ -42,12 +42,19 @@ pub record WasApplied (given : Given) (options : Options) (report : Report) (bef
   pub sizes : IsInRange options
   pub streamed : HasStreamed (record { plan = plan; script = script; hooks = given.hooks }) options report before after
 
--- the plan is refused as it is defined, else the script as it is defined, else the sizes where they are out of range; the sink is as it was. Memory may be wanted before, but for no plan and no script that is too large, and for no script where there is none. Otherwise the run has ended in a fault
+-- the plan is refused as it is defined, else the script as it is defined, else the sizes where they are out of range; the
+-- sink is as it was. Memory may be wanted before, but for no plan and no script that is too large, and for no script where
+-- there is none. Otherwise the run has ended in a fault
 abbrev pub WasRefused : Given → Options → Refusal → (before after : Sight) → Type 0
-WasRefused given options (Plan refusal) before after = (((refusal ≡ plan_error.Memory) × (length given.plan ≤ max_bytes)) ⊎ (plan_of given.plan ≡ Err refusal)) × (after ≡ before)
+WasRefused given options (Plan refusal) before after =
+    (((refusal ≡ plan_error.Memory) × (length given.plan ≤ max_bytes)) ⊎ (plan_of given.plan ≡ Err refusal))
+    × (after ≡ before)
 WasRefused given options (Script refusal) before after =
-    (plan : SavedPlan) × (plan_of given.plan ≡ Ok plan) × (((refusal ≡ script_error.Memory) × MayBeRead given.script) ⊎ (given_script plan given.script ≡ Err refusal)) × (after ≡ before)
-WasRefused given options Size before after = (plan : SavedPlan) × (script : Outcomes) × IsRead given plan script × ¬ IsInRange options × (after ≡ before)
+    (plan : SavedPlan) × (plan_of given.plan ≡ Ok plan)
+    × (((refusal ≡ script_error.Memory) × MayBeRead given.script) ⊎ (given_script plan given.script ≡ Err refusal))
+    × (after ≡ before)
+WasRefused given options Size before after =
+    (plan : SavedPlan) × (script : Outcomes) × IsRead given plan script × ¬ IsInRange options × (after ≡ before)
 WasRefused given options (Fault fault) before after =
     (plan : SavedPlan) × (script : Outcomes) × IsRead given plan script × IsInRange options
     × HasFailed fault.why (record { plan = plan; script = script; hooks = given.hooks }) options fault.report before after

@@ -3,20 +3,18 @@
 ghost use Rattle.std.specs.Prelude.{◌≡◌, ◌<◌, ◌-◌, ◌^◌, IfErr, IfOk};
 ghost use Rattle.apply_hooks.specs.Registry.{rules_of};
 ghost use Rattle.apply_run.specs.Options.{IsInRange};
-ghost use Rattle.apply_run.specs.Run.{HasFailed, HasStreamed};
+ghost use Rattle.apply_run.specs.Run.{HasFailed, HasStreamed, sight_of};
 
-use crate::ended::Ended;
 use crate::fault::Fault;
-use crate::gate::Gate;
-use crate::not_begun::NotBegun;
 use crate::options::Options;
-use crate::prepared::Prepared;
 use crate::report::Report;
-use crate::run::run_with_list;
-use crate::signal::Signal;
-use crate::sink::Sink;
-use crate::stream::Stream;
+use crate::run::prepared::Prepared;
+use crate::run::{FinishedRun, NotBegun, run_workers};
+use crate::sinks::sink::Sink;
+use crate::stream::StreamWriter;
 use crate::why::Why;
+use crate::worker::gate::Gate;
+use crate::worker::signal::Signal;
 use apply_hooks::Registry;
 use apply_plan::{Plan, Script};
 use std::alloc::Global;
@@ -52,13 +50,11 @@ pub fn apply_stream<'a, S: Sink + Drop, G: Gate, R: Threads + Wait + Sync>(
 
     ensures ok { IfOk result.1 (λ report. HasStreamed
         (record { plan = plan.now; script = script.now; hooks = rules_of registry.now }) options report
-        (record { bytes = S.bytes sink; failed = S.failed sink })
-        (record { bytes = S.bytes result.0; failed = S.failed result.0 })) }
+        (sight_of S.bytes S.failed sink) (sight_of S.bytes S.failed result.0)) }
 
     ensures err { IfErr result.1 (λ fault. HasFailed fault.why
         (record { plan = plan.now; script = script.now; hooks = rules_of registry.now }) options fault.report
-        (record { bytes = S.bytes sink; failed = S.failed sink })
-        (record { bytes = S.bytes result.0; failed = S.failed result.0 })) }
+        (sight_of S.bytes S.failed sink) (sight_of S.bytes S.failed result.0)) }
 {
     let Options {
         start,
@@ -70,16 +66,16 @@ pub fn apply_stream<'a, S: Sink + Drop, G: Gate, R: Threads + Wait + Sync>(
     };
     let Prepared {
         claims,
-        ends,
+        endpoints,
         buffer,
     } = prepared;
     let signal = Signal::new();
-    let stream = Stream::new(plan, script, start, buffer, sink);
-    let ended = run_with_list::<Brand, S, G, R>(
-        rt, alloc, plan, script, registry, gate, &claims, &signal, ends, stream,
+    let stream = StreamWriter::new(plan, script, start, buffer, sink);
+    let finished = run_workers::<Brand, S, G, R>(
+        rt, alloc, plan, script, registry, gate, &claims, &signal, endpoints, stream,
     );
-    match ended {
-        Ok(Ended { stream, whole }) => {
+    match finished {
+        Ok(FinishedRun { stream, whole }) => {
             if whole {
                 stream.end(operation)
             } else {

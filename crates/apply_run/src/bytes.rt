@@ -6,13 +6,14 @@ ghost use Rattle.apply_hooks.specs.Registry.{rules_of};
 ghost use Rattle.apply_plan.specs.declared.script.script_error.ScriptError.TheVariants as script_error;
 ghost use Rattle.apply_plan.specs.Results.{Gives};
 ghost use Rattle.apply_run.specs.Bytes.{given_script, MayBeRead, WasApplied, WasRefused};
+ghost use Rattle.apply_run.specs.Run.{sight_of};
 
 use crate::applying::apply_stream;
-use crate::gate::Gate;
 use crate::options::Options;
 use crate::refusal::Refusal;
 use crate::report::Report;
-use crate::sink::Sink;
+use crate::sinks::sink::Sink;
+use crate::worker::gate::Gate;
 use apply_hooks::Registry;
 use apply_plan::{Plan, Script, ScriptError, read_plan, read_script};
 use std::alloc::Global;
@@ -40,13 +41,11 @@ pub fn apply_bytes<S: Sink + Drop, G: Gate, R: Threads + Wait + Sync>(
 
     ensures ok { IfOk result.1 (λ report. WasApplied
         (record { plan = plan.now; script = option_copied script.entry; hooks = rules_of registry.now }) options report
-        (record { bytes = S.bytes sink; failed = S.failed sink })
-        (record { bytes = S.bytes result.0; failed = S.failed result.0 })) }
+        (sight_of S.bytes S.failed sink) (sight_of S.bytes S.failed result.0)) }
 
     ensures err { IfErr result.1 (λ refusal. WasRefused
         (record { plan = plan.now; script = option_copied script.entry; hooks = rules_of registry.now }) options refusal
-        (record { bytes = S.bytes sink; failed = S.failed sink })
-        (record { bytes = S.bytes result.0; failed = S.failed result.0 })) }
+        (sight_of S.bytes S.failed sink) (sight_of S.bytes S.failed result.0)) }
 {
     let plan = match read_plan(alloc, plan) {
         Ok(plan) => plan,

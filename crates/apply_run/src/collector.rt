@@ -4,17 +4,25 @@ ghost use Rattle.std.specs.Prelude.{◌≡◌, ◌<◌, ◌≤◌, ◌+◌, ◌�
 ghost use Rattle.apply_events.specs.declared.event.Event.{Event};
 ghost use Rattle.apply_bus.specs.Bus.{NamesWorkersBelow};
 ghost use Rattle.apply_bus.specs.Items.{closes, events};
-ghost use Rattle.apply_run.specs.Room.{HasRoom, IsNew, max_told};
-ghost use Rattle.apply_run.specs.Fitting.{IsOf};
-ghost use Rattle.apply_run.specs.Telling.{HasTold, telling_of};
+ghost use Rattle.apply_run.specs.Stream.Room.{HasRoom, IsNew, max_told};
+ghost use Rattle.apply_run.specs.Stream.Fitting.{CanBeTold};
+ghost use Rattle.apply_run.specs.Stream.Telling.{HasTold, IsSameStream, IsToldSince, telling_of};
 
-use crate::collected::Collected;
-use crate::sink::Sink;
-use crate::stream::Stream;
-use apply_bus::{Item, Rx};
+use crate::sinks::sink::Sink;
+use crate::stream::StreamWriter;
+use apply_bus::{Item, Rx, Taken};
 use apply_events::{Event, LATEST};
 use apply_plan::Plan;
 use std::sync::Wait;
+
+/// What a collector gives back: the stream as far as it was told, what was taken, and whether the bus failed.
+#[derive(Drop)]
+pub(crate) struct Collected<'a, S: Drop> {
+    pub stream: StreamWriter<'a, S>,
+    pub taken: Taken,
+    /// Whether a take was lost, an event is not of the plan, or a worker's close was not taken.
+    pub lost: bool,
+}
 
 /// After how many failed takes no other is tried.
 const MAX_LOST: u32 = 1_000;
@@ -24,20 +32,17 @@ const MAX_LOST: u32 = 1_000;
 pub(crate) fn collect<'a, S: Sink + Drop, R: Wait>(
     rt: &R,
     mut rx: Rx,
-    mut stream: Stream<'a, S>,
+    mut stream: StreamWriter<'a, S>,
 ) -> Collected<'a, S>
     requires none { rx.taken ≡ [] }
     requires is_new { IsNew (telling_of S.bytes S.failed stream) }
     ensures bus { (result.taken.bus ≡ rx.bus) × (result.taken.workers ≡ rx.workers) × (result.taken.streams ≡ []) }
     ensures named { NamesWorkersBelow rx.workers result.taken.taken }
-    ensures same { (result.stream.plan.now ≡ stream.entry.plan.now)
-        × (result.stream.script.now ≡ stream.entry.script.now) × (result.stream.start ≡ stream.entry.start) }
-    ensures told { All (IsOf stream.entry.plan.now) (events result.taken.taken)
-        → HasTold stream.entry.plan.now stream.entry.script.now stream.entry.start
-        (S.bytes stream.entry.output.sink) (S.failed stream.entry.output.sink)
-        (events result.taken.taken) (telling_of S.bytes S.failed result.stream) }
+    ensures same { IsSameStream stream.entry result.stream }
+    ensures told { All (CanBeTold stream.entry.plan.now) (events result.taken.taken)
+        → IsToldSince S.bytes S.failed stream.entry (events result.taken.taken) result.stream }
     ensures room { HasRoom (telling_of S.bytes S.failed result.stream) }
-    ensures lost { result.lost ≡ false → All (IsOf stream.entry.plan.now) (events result.taken.taken)
+    ensures lost { result.lost ≡ false → All (CanBeTold stream.entry.plan.now) (events result.taken.taken)
         × (closes result.taken.taken ≡ rx.workers) }
 {
     stream.write_version();
@@ -64,24 +69,23 @@ pub(crate) fn collect<'a, S: Sink + Drop, R: Wait>(
 }
 
 /// Tells the item where it is an event of the plan, and says whether it is that or a close.
-fn note<S: Sink + Drop>(stream: &mut Stream<'_, S>, item: &Item) -> bool
+fn note<S: Sink + Drop>(stream: &mut StreamWriter<'_, S>, item: &Item) -> bool
     requires room { HasRoom (telling_of S.bytes S.failed stream.old) }
     requires few { stream.old.taken < max_told }
-    ensures fits { IsTrue result ↔ All (IsOf stream.old.plan.now) (events (item.now ∷ [])) }
+    ensures fits { IsTrue result ↔ All (CanBeTold stream.old.plan.now) (events (item.now ∷ [])) }
     ensures told { (before : Option (List ℕ)) (failures : ℕ) (so_far : List Event)
-        → All (IsOf stream.old.plan.now) (events (item.now ∷ []))
+        → All (CanBeTold stream.old.plan.now) (events (item.now ∷ []))
         → HasTold stream.old.plan.now stream.old.script.now stream.old.start before failures so_far
         (telling_of S.bytes S.failed stream.old)
         → HasTold stream.old.plan.now stream.old.script.now stream.old.start before failures
         (so_far ++ events (item.now ∷ [])) (telling_of S.bytes S.failed stream.new) }
     ensures room { HasRoom (telling_of S.bytes S.failed stream.new) }
     ensures one_more { stream.new.taken ≤ stream.old.taken + 1 }
-    ensures same { (stream.new.plan.now ≡ stream.old.plan.now) × (stream.new.script.now ≡ stream.old.script.now)
-        × (stream.new.start ≡ stream.old.start) }
+    ensures same { IsSameStream stream.old stream.new }
 {
     match item {
         Item::Event(event) => {
-            let fits = is_of(stream.plan, event);
+            let fits = can_be_told(stream.plan, event);
             if fits {
                 stream.tell(event);
             }
@@ -92,8 +96,8 @@ fn note<S: Sink + Drop>(stream: &mut Stream<'_, S>, item: &Item) -> bool
 }
 
 /// Whether the plan has the event's step, and it comes in time.
-fn is_of(plan: &Plan, event: &Event) -> bool
-    ensures { IsTrue result ↔ IsOf plan.now event.now }
+fn can_be_told(plan: &Plan, event: &Event) -> bool
+    ensures { IsTrue result ↔ CanBeTold plan.now event.now }
 {
     event.change < plan.len()
         && (event.step as usize) < plan.change(event.change).steps().len()

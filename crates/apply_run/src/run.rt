@@ -1,28 +1,30 @@
-//! A run over threads, from its begin to the end of its workers.
+//! The run over threads: what is made ready, and the start, the join and the reconciling of its workers.
 
 ghost use Rattle.std.specs.Prelude.{◌≡◌, ◌≤◌, ◌⊎◌, [], length, vec_capacity, IfErr, IfOk};
 ghost use Rattle.apply_hooks.specs.Registry.{rules_of};
-ghost use Rattle.apply_run.specs.Ends.{AreReady};
-ghost use Rattle.apply_run.specs.Ran.{HasEnded, HasRun};
-ghost use Rattle.apply_run.specs.Room.{IsNew};
-ghost use Rattle.apply_run.specs.Telling.{telling_of};
-ghost use Rattle.apply_run.specs.Threads.{IsRun};
+ghost use Rattle.apply_run.specs.Run.Endpoints.{AreReady};
+ghost use Rattle.apply_run.specs.Run.Finished.{IsFinishedRun, IsJoinedRun};
+ghost use Rattle.apply_run.specs.Stream.Room.{IsNew};
+ghost use Rattle.apply_run.specs.Stream.Telling.{telling_of};
+ghost use Rattle.apply_run.specs.Run.Threads.{IsRun};
 
-use crate::collected::Collected;
-use crate::collector::collect;
-use crate::ended::Ended;
-use crate::ends::Ends;
-use crate::gate::Gate;
-use crate::not_begun::NotBegun;
-use crate::ran::Ran;
-use crate::run_name::RunName;
-use crate::settling::settle;
-use crate::signal::Signal;
-use crate::sink::Sink;
-use crate::stream::Stream;
-use crate::threads::{Worker, join_all, start_all};
+pub mod prepared;
+pub mod reconciling;
+pub mod run_name;
+pub mod threads;
+
+use crate::collector::{Collected, collect};
+use crate::run::prepared::Endpoints;
+use crate::run::reconciling::reconcile;
+use crate::run::run_name::RunName;
+use crate::run::threads::{WorkerThread, join_all, start_all};
+use crate::sinks::sink::Sink;
+use crate::stream::StreamWriter;
 use crate::why::Why;
-use apply_bus::Claims;
+use crate::worker::StoppedWorker;
+use crate::worker::gate::Gate;
+use crate::worker::signal::Signal;
+use apply_bus::{Claims, Taken};
 use apply_hooks::Registry;
 use apply_plan::{Plan, Script};
 use std::alloc::Global;
@@ -30,11 +32,40 @@ use std::sync::Wait;
 use std::thread;
 use std::thread::{Scope, Threads};
 
+/// A run that did not begin: no worker has begun, and nothing was told or written.
+#[derive(Drop)]
+pub(crate) struct NotBegun<'a, S: Drop> {
+    pub stream: StreamWriter<'a, S>,
+    pub why: Why,
+}
+
+/// A run whose threads were joined.
+#[derive(Drop)]
+pub(crate) struct JoinedRun<'a, S: Drop> {
+    /// The stream, as far as it was told.
+    pub stream: StreamWriter<'a, S>,
+    /// What was taken from the bus.
+    pub taken: Taken,
+    /// What each worker leaves behind, in their order.
+    pub stopped: Vec<StoppedWorker>,
+    /// Whether the bus failed.
+    pub lost: bool,
+}
+
+/// A joined run whose workers were reconciled with what was taken.
+#[derive(Drop)]
+pub(crate) struct FinishedRun<'a, S: Drop> {
+    /// The stream, without its summary.
+    pub stream: StreamWriter<'a, S>,
+    /// Whether all that the workers had to tell was told.
+    pub whole: bool,
+}
+
 /// Lets workers apply the plan in threads while this thread collects what they send, and tells what all of them have done.
 ///
-/// `Err` where no worker has begun: with `Why::Workers` as `run` has it, and with `Why::Memory` where memory was refused for
-/// the list of the threads. Then the stream is as before.
-pub(crate) fn run_with_list<
+/// `Err` where no worker has begun: with `Why::Workers` where a thread was refused, and with `Why::Memory` where memory
+/// was refused for the list of the threads. Then the stream is as before.
+pub(crate) fn run_workers<
     'a,
     K: RunName + Send + Sync + 'static,
     S: Sink + Drop,
@@ -49,31 +80,38 @@ pub(crate) fn run_with_list<
     gate: &G,
     claims: &Claims,
     signal: &Signal,
-    ends: Ends,
-    stream: Stream<'a, S>,
-) -> Result<Ended<'a, S>, NotBegun<'a, S>>
+    endpoints: Endpoints,
+    stream: StreamWriter<'a, S>,
+) -> Result<FinishedRun<'a, S>, NotBegun<'a, S>>
     requires run { IsRun K.work K.claims plan.now script.now (rules_of registry.now) claims.now }
-    requires ends { AreReady K.claims K.bus ends }
+    requires endpoints { AreReady K.claims K.bus endpoints }
     requires stream { IsNew (telling_of S.bytes S.failed stream) }
     requires plan { stream.plan.now ≡ plan.now }
-    ensures ended { IfOk result (λ ended. HasEnded S.bytes S.failed K.work K.claims.workers stream.entry ended) }
+    ensures finished { IfOk result (λ finished.
+        IsFinishedRun S.bytes S.failed K.work K.claims.workers stream.entry finished) }
     ensures not_begun { IfErr result (λ not_begun. not_begun.stream ≡ stream.entry) }
     ensures why { IfErr result (λ not_begun. (not_begun.why ≡ Why.Workers) ⊎ (not_begun.why ≡ Why.Memory)) }
 {
-    let Ok(started) = Vec::with_capacity(alloc, ends.drawers.len()) else {
+    let Ok(started) = Vec::with_capacity(alloc, endpoints.drawers.len()) else {
         return Err(NotBegun {
             stream,
             why: Why::Memory,
         });
     };
-    run::<K, S, G, R>(
-        rt, plan, script, registry, gate, claims, signal, ends, started, stream,
+    run_threads::<K, S, G, R>(
+        rt, plan, script, registry, gate, claims, signal, endpoints, started, stream,
     )
 }
 
-/// Runs the workers, with a list for their threads. `Err` only where a thread was refused: then no worker has begun, and the stream is
-/// as before.
-fn run<'a, K: RunName + Send + Sync + 'static, S: Sink + Drop, G: Gate, R: Threads + Wait + Sync>(
+/// Runs the workers, with a list for their threads, and reconciles them with what was taken. `Err` only where a thread was
+/// refused: then no worker has begun, and the stream is as before.
+fn run_threads<
+    'a,
+    K: RunName + Send + Sync + 'static,
+    S: Sink + Drop,
+    G: Gate,
+    R: Threads + Wait + Sync,
+>(
     rt: &R,
     plan: &Plan,
     script: &Script,
@@ -81,49 +119,51 @@ fn run<'a, K: RunName + Send + Sync + 'static, S: Sink + Drop, G: Gate, R: Threa
     gate: &G,
     claims: &Claims,
     signal: &Signal,
-    ends: Ends,
-    started: Vec<Worker<K>>,
-    stream: Stream<'a, S>,
-) -> Result<Ended<'a, S>, NotBegun<'a, S>>
+    endpoints: Endpoints,
+    started: Vec<WorkerThread<K>>,
+    stream: StreamWriter<'a, S>,
+) -> Result<FinishedRun<'a, S>, NotBegun<'a, S>>
     requires run { IsRun K.work K.claims plan.now script.now (rules_of registry.now) claims.now }
-    requires ends { AreReady K.claims K.bus ends }
+    requires endpoints { AreReady K.claims K.bus endpoints }
     requires stream { IsNew (telling_of S.bytes S.failed stream) }
     requires plan { stream.plan.now ≡ plan.now }
     requires none { started.items ≡ [] }
-    requires room { length ends.drawers.items ≤ vec_capacity started }
-    ensures ended { IfOk result (λ ended. HasEnded S.bytes S.failed K.work K.claims.workers stream.entry ended) }
+    requires room { length endpoints.drawers.items ≤ vec_capacity started }
+    ensures finished { IfOk result (λ finished.
+        IsFinishedRun S.bytes S.failed K.work K.claims.workers stream.entry finished) }
     ensures not_begun { IfErr result (λ not_begun. not_begun.stream ≡ stream.entry) }
     ensures why { IfErr result (λ not_begun. not_begun.why ≡ Why.Workers) }
 {
-    let ran = thread::scope(
+    let joined = thread::scope(
         thread::scope_env(),
         rt,
-        move |scope| -> Result<Ran<'_, S>, NotBegun<'_, S>>
+        move |scope| -> Result<JoinedRun<'_, S>, NotBegun<'_, S>>
             requires run { IsRun K.work K.claims plan.now script.now (rules_of registry.now) claims.now }
-            requires ends { AreReady K.claims K.bus ends }
+            requires endpoints { AreReady K.claims K.bus endpoints }
             requires stream { IsNew (telling_of S.bytes S.failed stream) }
             requires none { started.items ≡ [] }
-            requires room { length ends.drawers.items ≤ vec_capacity started }
-            ensures ran { IfOk result (λ ran. HasRun S.bytes S.failed K.work K.claims K.bus stream.entry ran) }
+            requires room { length endpoints.drawers.items ≤ vec_capacity started }
+            ensures joined { IfOk result (λ joined.
+                IsJoinedRun S.bytes S.failed K.work K.claims K.bus stream.entry joined) }
             ensures not_begun { IfErr result (λ not_begun. not_begun.stream ≡ stream.entry) }
             ensures why { IfErr result (λ not_begun. not_begun.why ≡ Why.Workers) }
         {
-            run_in::<_, K, S, G, R>(
-                scope, rt, plan, script, registry, gate, claims, signal, ends, started, stream,
+            run_in_scope::<_, K, S, G, R>(
+                scope, rt, plan, script, registry, gate, claims, signal, endpoints, started, stream,
             )
         },
     );
-    match ran {
+    match joined {
         Ok(
-            Ran {
+            JoinedRun {
                 stream,
                 taken,
-                worked,
+                stopped,
                 lost,
             },
         ) => {
-            let whole = settle::<K>(claims, taken, worked);
-            Ok(Ended {
+            let whole = reconcile::<K>(claims, taken, stopped);
+            Ok(FinishedRun {
                 stream,
                 whole: whole && !lost,
             })
@@ -133,7 +173,7 @@ fn run<'a, K: RunName + Send + Sync + 'static, S: Sink + Drop, G: Gate, R: Threa
 }
 
 /// Runs the workers within a scope, up to their join.
-fn run_in<
+fn run_in_scope<
     's,
     'a,
     E: 's,
@@ -150,25 +190,26 @@ fn run_in<
     gate: &'s G,
     claims: &'s Claims,
     signal: &'s Signal,
-    ends: Ends,
-    mut started: Vec<Worker<K>>,
-    stream: Stream<'a, S>,
-) -> Result<Ran<'a, S>, NotBegun<'a, S>>
+    endpoints: Endpoints,
+    mut started: Vec<WorkerThread<K>>,
+    stream: StreamWriter<'a, S>,
+) -> Result<JoinedRun<'a, S>, NotBegun<'a, S>>
     requires run { IsRun K.work K.claims plan.now script.now (rules_of registry.now) claims.now }
-    requires ends { AreReady K.claims K.bus ends }
+    requires endpoints { AreReady K.claims K.bus endpoints }
     requires stream { IsNew (telling_of S.bytes S.failed stream) }
     requires none { started.items ≡ [] }
-    requires room { length ends.drawers.items ≤ vec_capacity started }
-    ensures ran { IfOk result (λ ran. HasRun S.bytes S.failed K.work K.claims K.bus stream.entry ran) }
+    requires room { length endpoints.drawers.items ≤ vec_capacity started }
+    ensures joined { IfOk result (λ joined.
+        IsJoinedRun S.bytes S.failed K.work K.claims K.bus stream.entry joined) }
     ensures not_begun { IfErr result (λ not_begun. not_begun.stream ≡ stream.entry) }
     ensures why { IfErr result (λ not_begun. not_begun.why ≡ Why.Workers) }
 {
-    let Ends {
+    let Endpoints {
         drawers,
         senders,
         rx,
-        mut worked,
-    } = ends;
+        mut stopped,
+    } = endpoints;
     let all = start_all(
         scope,
         rt,
@@ -182,9 +223,9 @@ fn run_in<
         senders,
         &mut started,
     );
-    signal.tell(all);
+    signal.announce(all);
     if !all {
-        join_all(rt, started, &mut worked);
+        join_all(rt, started, &mut stopped);
         return Err(NotBegun {
             stream,
             why: Why::Workers,
@@ -195,11 +236,11 @@ fn run_in<
         taken,
         lost,
     } = collect(rt, rx, stream);
-    join_all(rt, started, &mut worked);
-    Ok(Ran {
+    join_all(rt, started, &mut stopped);
+    Ok(JoinedRun {
         stream,
         taken,
-        worked,
+        stopped,
         lost,
     })
 }

@@ -1,28 +1,30 @@
-//! A stream that is being written.
+//! The stream that is written: its lines, and what their events add up to.
 
 ghost use Rattle.std.specs.Prelude.{◌≡◌, ◌<◌, ◌≤◌, ◌+◌, ◌-◌, ◌^◌, ◌∷◌, ◌++◌, ℕ, List, [], Option, IfErr, IfOk, OnOk, length};
 ghost use Rattle.apply_events.specs.declared.event.Event.{Event};
 ghost use Rattle.apply_text.specs.Lines.{lines_of, stream_of, summary_text};
-ghost use Rattle.apply_run.specs.Ended.{IsCutOff, IsFaulted, IsWhole};
-ghost use Rattle.apply_run.specs.Outlet.{IsRefused, Writes, failed_writes, outlet_of};
-ghost use Rattle.apply_run.specs.Room.{HasRoom, IsNew, max_told};
-ghost use Rattle.apply_run.specs.Fitting.{IsOf};
-ghost use Rattle.apply_run.specs.Telling.{HasTold, telling_of};
+ghost use Rattle.apply_run.specs.Stream.Ended.{IsCutOff, IsFaulted, IsWhole};
+ghost use Rattle.apply_run.specs.Stream.Outlet.{IsRefused, Writes, failed_writes, outlet_of};
+ghost use Rattle.apply_run.specs.Stream.Room.{HasRoom, IsNew, max_told};
+ghost use Rattle.apply_run.specs.Stream.Fitting.{CanBeTold};
+ghost use Rattle.apply_run.specs.Stream.Telling.{HasTold, IsSameStream, IsToldSince, telling_of};
+
+pub mod output;
 
 use crate::fault::Fault;
-use crate::output::Output;
 use crate::report::Report;
-use crate::sink::Sink;
-use crate::stop::Stop;
+use crate::sinks::sink::Sink;
+use crate::stream::output::{Output, Stop};
 use crate::why::Why;
 use apply_events::{Counts, Event, totals_of_joined_lists_add_up};
 use apply_plan::{Plan, Script};
 use apply_text::{LineBuffer, Operation, Start};
 use std::alloc::AllocError;
 
-/// A stream that is being written: what its lines are made of, where they go, and what was told so far.
+/// Writes a stream: what its lines are made of, where they go, and what was told so far. An event is told by counting it
+/// and writing its line.
 #[derive(Drop)]
-pub(crate) struct Stream<'a, S: Drop> {
+pub(crate) struct StreamWriter<'a, S: Drop> {
     pub plan: &'a Plan,
     pub script: &'a Script,
     pub start: Start,
@@ -37,7 +39,7 @@ pub(crate) struct Stream<'a, S: Drop> {
     pub latest: u64,
 }
 
-impl<'a, S: Sink + Drop> Stream<'a, S> {
+impl<'a, S: Sink + Drop> StreamWriter<'a, S> {
     /// Nothing was told or written yet. The lines are built in the buffer.
     pub fn new(
         plan: &'a Plan,
@@ -45,13 +47,13 @@ impl<'a, S: Sink + Drop> Stream<'a, S> {
         start: Start,
         buffer: LineBuffer,
         sink: S,
-    ) -> Stream<'a, S>
+    ) -> StreamWriter<'a, S>
         requires { S.failed sink < 2 ^ 64 - 1 }
         ensures is_new { IsNew (telling_of S.bytes S.failed result) }
         ensures same { (result.plan.now ≡ plan.now) × (result.script.now ≡ script.now) × (result.start ≡ start) }
         ensures sink { result.output.sink ≡ sink }
     {
-        Stream {
+        StreamWriter {
             plan,
             script,
             start,
@@ -66,12 +68,10 @@ impl<'a, S: Sink + Drop> Stream<'a, S> {
     /// Writes the version line. Nothing was told or written before.
     pub fn write_version(&mut self)
         requires { IsNew (telling_of S.bytes S.failed self.old) }
-        ensures told { HasTold self.old.plan.now self.old.script.now self.old.start
-            (S.bytes self.old.output.sink) (S.failed self.old.output.sink) [] (telling_of S.bytes S.failed self.new) }
+        ensures told { IsToldSince S.bytes S.failed self.old [] self.new }
         ensures room { HasRoom (telling_of S.bytes S.failed self.new) }
         ensures none { self.new.taken ≡ 0 }
-        ensures same { (self.new.plan.now ≡ self.old.plan.now) × (self.new.script.now ≡ self.old.script.now)
-            × (self.new.start ≡ self.old.start) }
+        ensures same { IsSameStream self.old self.new }
     {
         self.buffer.clear();
         let built = self.buffer.push_version(self.plan, self.start);
@@ -80,7 +80,7 @@ impl<'a, S: Sink + Drop> Stream<'a, S> {
 
     /// Counts an event of the plan, and writes its line unless the writing has stopped.
     pub fn tell(&mut self, event: &Event)
-        requires event { IsOf self.old.plan.now event.now }
+        requires event { CanBeTold self.old.plan.now event.now }
         requires room { HasRoom (telling_of S.bytes S.failed self.old) }
         requires few { self.old.taken < max_told }
         ensures told { (before : Option (List ℕ)) (failures : ℕ) (events : List Event)
@@ -90,8 +90,7 @@ impl<'a, S: Sink + Drop> Stream<'a, S> {
             (telling_of S.bytes S.failed self.new) }
         ensures room { HasRoom (telling_of S.bytes S.failed self.new) }
         ensures one_more { self.new.taken ≡ self.old.taken + 1 }
-        ensures same { (self.new.plan.now ≡ self.old.plan.now) × (self.new.script.now ≡ self.old.script.now)
-            × (self.new.start ≡ self.old.start) }
+        ensures same { IsSameStream self.old self.new }
     {
         totals_of_joined_lists_add_up();
         self.counts.count(self.plan, event);
@@ -204,8 +203,7 @@ impl<'a, S: Sink + Drop> Stream<'a, S> {
             → IsRefused (outlet_of S.bytes S.failed self.old.output) (outlet_of S.bytes S.failed self.new.output) }
         ensures told { (self.new.counts ≡ self.old.counts) × (self.new.taken ≡ self.old.taken)
             × (self.new.latest ≡ self.old.latest) }
-        ensures same { (self.new.plan.now ≡ self.old.plan.now) × (self.new.script.now ≡ self.old.script.now)
-            × (self.new.start ≡ self.old.start) }
+        ensures same { IsSameStream self.old self.new }
     {
         match built {
             Ok(()) => self.output.write(self.buffer.as_bytes()),

@@ -8,22 +8,41 @@ ghost use Rattle.apply_events.specs.Fits.{latest};
 ghost use Rattle.apply_events.specs.WorkerEvents.{worker_events};
 ghost use Rattle.apply_plan.specs.Plan.SavedPlan.{max_changes};
 ghost use Rattle.apply_hooks.specs.Registry.{rules_of};
-ghost use Rattle.apply_run.specs.Drawn.{IsDrawn};
-ghost use Rattle.apply_run.specs.Fitting.{IsOf};
-ghost use Rattle.apply_run.specs.Job.{work_of};
-ghost use Rattle.apply_run.specs.Threads.{IsNewDrawer, IsNewSender, IsRun};
-ghost use Rattle.apply_run.specs.Worked.{IsWorkOf};
+ghost use Rattle.apply_run.specs.Worker.Drawn.{IsDrawn};
+ghost use Rattle.apply_run.specs.Stream.Fitting.{CanBeTold};
+ghost use Rattle.apply_run.specs.Worker.Job.{work_of};
+ghost use Rattle.apply_run.specs.Run.Threads.{IsNewDrawer, IsNewSender, IsRun};
+ghost use Rattle.apply_run.specs.Worker.Stopped.{IsStoppedWorker};
 
-use crate::gate::Gate;
-use crate::job::Job;
-use crate::run_name::RunName;
-use crate::worked::{Sender, Worked};
-use apply_bus::{Drawer, Tx};
+pub mod gate;
+pub mod job;
+pub mod signal;
+
+use crate::run::run_name::RunName;
+use crate::worker::gate::Gate;
+use crate::worker::job::Job;
+use apply_bus::{Closed, Drawer, Tx};
 use apply_events::{
     Runner, a_further_change_comes_behind, a_rising_list_fits_below_its_limit,
     a_rising_list_rises_on,
 };
 use std::sync::Wait;
+
+/// What a worker leaves behind when it stops: its drawer, and its sender.
+#[derive(Drop)]
+pub(crate) struct StoppedWorker {
+    pub drawer: Drawer,
+    pub sender: SenderEnd,
+}
+
+/// A worker's sender when the worker stops.
+#[derive(Drop)]
+pub(crate) enum SenderEnd {
+    /// It was closed: the worker has sent all that it had to.
+    Closed(Closed),
+    /// It was not.
+    Open(Tx),
+}
 
 /// Waits until the workers may begin, draws changes until none is left, and sends their events. Nothing grows.
 pub(crate) fn work<K: RunName, G: Gate, R: Wait>(
@@ -31,21 +50,22 @@ pub(crate) fn work<K: RunName, G: Gate, R: Wait>(
     job: &Job<'_, G>,
     mut drawer: Drawer,
     mut tx: Tx,
-) -> Worked
-    requires run { IsRun K.work K.claims job.now.plan.now job.now.script.now (rules_of job.now.registry.now) job.now.claims.now }
+) -> StoppedWorker
+    requires run { IsRun K.work K.claims job.now.plan.now job.now.script.now (rules_of job.now.registry.now)
+        job.now.claims.now }
     requires drawer { IsNewDrawer K.claims tx.worker drawer }
     requires sender { IsNewSender K.bus tx.worker tx }
-    ensures { IsWorkOf K.work K.claims K.bus tx.worker result }
+    ensures { IsStoppedWorker K.work K.claims K.bus tx.worker result }
 {
     let sender = if job.signal.wait(rt) && apply_all(rt, job, &mut drawer, &mut tx) {
         match tx.close(rt) {
-            Ok(closed) => Sender::Closed(closed),
-            Err(tx) => Sender::Open(tx),
+            Ok(closed) => SenderEnd::Closed(closed),
+            Err(tx) => SenderEnd::Open(tx),
         }
     } else {
-        Sender::Open(tx)
+        SenderEnd::Open(tx)
     };
-    Worked { drawer, sender }
+    StoppedWorker { drawer, sender }
 }
 
 /// Draws changes until none is left, and sends their events. `false` where one came back: nothing more was sent then.
@@ -60,7 +80,7 @@ fn apply_all<G: Gate, R: Wait>(rt: &R, job: &Job<'_, G>, drawer: &mut Drawer, tx
         × (tx.new.sent ≡ worker_events (work_of job.now) tx.old.worker drawer.new.drawn) }
     ensures part { IsPrefix tx.new.sent (worker_events (work_of job.now) tx.old.worker drawer.new.drawn) }
     ensures drawn { IsDrawn job.now.claims.now.limit drawer.new.drawn }
-    ensures fits { All (IsOf job.now.plan.now) tx.new.sent }
+    ensures fits { All (CanBeTold job.now.plan.now) tx.new.sent }
 {
     // The numbers rise below the limit, so they end, and each change begins early enough.
     a_rising_list_rises_on();
@@ -92,7 +112,7 @@ fn apply_change<G: Gate, R: Wait>(
         × (tx.new.sent ≡ tx.old.sent ++ change_events (work_of job.now) tx.old.worker change at)) }
     ensures part { (part : List Event) × (tx.new.sent ≡ tx.old.sent ++ part)
         × IsPrefix part (change_events (work_of job.now) tx.old.worker change at)
-        × All (IsOf job.now.plan.now) part }
+        × All (CanBeTold job.now.plan.now) part }
 {
     let worker = tx.worker();
     let mut runner = Runner::start(job.plan, job.script, job.registry, worker, change, at);

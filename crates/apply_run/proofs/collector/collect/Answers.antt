@@ -1,6 +1,6 @@
 use Rattle.std.proofs.Common.{◌∙◌, ◌∷◌, [], length, length-append, ap, arith}
-use Rattle.apply_run.specs.Fitting.{IsOf}
-use Rattle.apply_run.specs.Telling.{telling_of}
+use Rattle.apply_run.specs.Stream.Fitting.{CanBeTold}
+use Rattle.apply_run.specs.Stream.Telling.{telling_of}
 use Rattle.apply_run.proofs.Taken.{all_before, all_here, all_more, told_more_items}
 use Rattle.apply_run.proofs.collector.collect.Goals as goal
 
@@ -14,13 +14,13 @@ loop-rx-preserved-then-not-note g c =
     record {
       bus = ap (λ rx. rx.bus) c.in-Ok.ensures.ok ∙ i.bus;
       workers = ap (λ rx. rx.workers) c.in-Ok.ensures.ok ∙ i.workers;
-      plan = n.same.0 ∙ i.plan;
-      script = n.same.1 ∙ i.script;
-      start = n.same.2 ∙ i.start;
+      plan = n.same.plan ∙ i.plan;
+      script = n.same.script ∙ i.script;
+      start = n.same.start ∙ i.start;
       room = n.room;
       few = let longer = ap length is in omega (arith, longer, length-append c.loop-rx.rx.taken (c.in-Ok.item ∷ []));
       told = told_more_items _ _ _ _ _ c.loop-rx.rx.taken c.take.new.self.taken c.in-Ok.item (telling_of g.S.Sink.bytes g.S.Sink.failed c.loop-rx.stream) _ is i.told (told _ _ _);
-      fits = (λ e. absurd cc, λ all. let noted = fits.1 (all_here (IsOf c.args.stream.plan.now) c.loop-rx.rx.taken c.take.new.self.taken c.in-Ok.item is all) in absurd cc);
+      fits = (λ e. absurd cc, λ all. let noted = fits.1 (all_here (CanBeTold c.args.stream.plan.now) c.loop-rx.rx.taken c.take.new.self.taken c.in-Ok.item is all) in absurd cc);
       lost = i.lost;
     }
 
@@ -35,15 +35,15 @@ loop-rx-preserved-else-not-note g c =
     record {
       bus = ap (λ rx. rx.bus) c.in-Ok.ensures.ok ∙ i.bus;
       workers = ap (λ rx. rx.workers) c.in-Ok.ensures.ok ∙ i.workers;
-      plan = n.same.0 ∙ i.plan;
-      script = n.same.1 ∙ i.script;
-      start = n.same.2 ∙ i.start;
+      plan = n.same.plan ∙ i.plan;
+      script = n.same.script ∙ i.script;
+      start = n.same.start ∙ i.start;
       room = n.room;
       few = let longer = ap length is in omega (arith, longer, length-append c.loop-rx.rx.taken (c.in-Ok.item ∷ []));
       told = told_more_items _ _ _ _ _ c.loop-rx.rx.taken c.take.new.self.taken c.in-Ok.item (telling_of g.S.Sink.bytes g.S.Sink.failed c.loop-rx.stream) _ is i.told (told _ _ _);
       fits = (
-        λ e. all_more (IsOf c.args.stream.plan.now) c.loop-rx.rx.taken c.take.new.self.taken c.in-Ok.item is (i.fits.0 e) (fits.0 noted),
-        λ all. i.fits.1 (all_before (IsOf c.args.stream.plan.now) c.loop-rx.rx.taken c.take.new.self.taken c.in-Ok.item is all),
+        λ e. all_more (CanBeTold c.args.stream.plan.now) c.loop-rx.rx.taken c.take.new.self.taken c.in-Ok.item is (i.fits.0 e) (fits.0 noted),
+        λ all. i.fits.1 (all_before (CanBeTold c.args.stream.plan.now) c.loop-rx.rx.taken c.take.new.self.taken c.in-Ok.item is all),
       );
       lost = i.lost;
     }

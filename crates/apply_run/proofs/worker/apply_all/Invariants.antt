@@ -1,9 +1,9 @@
 use Rattle.std.proofs.Common.{◌≡◌, ◌*◌, ◌-◌, ◌≤◌, All, length, sum_by}
 use Rattle.apply_events.specs.ChangeEvents.{span_of}
 use Rattle.apply_events.specs.WorkerEvents.{worker_events}
-use Rattle.apply_run.specs.Drawn.{IsDrawn}
-use Rattle.apply_run.specs.Fitting.{IsOf}
-use Rattle.apply_run.specs.Job.{work_of}
+use Rattle.apply_run.specs.Worker.Drawn.{IsDrawn}
+use Rattle.apply_run.specs.Stream.Fitting.{CanBeTold}
+use Rattle.apply_run.specs.Worker.Job.{work_of}
 use Rattle.apply_run.proofs.worker.apply_all.Given as goal
 
 -- the events of all changes that were drawn were sent, and each of the changes took two days at most
@@ -15,7 +15,7 @@ invariant-loop-change g l = record {
   drawer : l.drawer.worker ≡ l.fn.drawer.worker;
   drawn : IsDrawn l.job.claims.now.limit l.drawer.drawn;
   sent : l.tx.sent ≡ worker_events (work_of l.job) l.fn.tx.worker l.drawer.drawn;
-  fits : All (IsOf l.job.plan.now) l.tx.sent;
+  fits : All (CanBeTold l.job.plan.now) l.tx.sent;
   time : l.at ≡ sum_by (span_of (work_of l.job)) l.drawer.drawn;
   soon : l.at ≤ 172800 * length l.drawer.drawn;
 }

@@ -1,0 +1,5 @@
+-- Streams: what was written, told, and how they end.
+pub mod Ending
+pub mod Lines
+pub mod Telling
+pub mod Writing

@@ -1,0 +1,4 @@
+-- Workers: what they draw and send.
+pub mod Drawing
+pub mod Prefixes
+pub mod Sent

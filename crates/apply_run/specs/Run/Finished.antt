@@ -1,0 +1,39 @@
+-- What the threads of a run leave behind.
+use Rattle.std.specs.Prelude.{◌≡◌, ℕ, List, Option, All, length, true}
+use Rattle.apply_events.specs.declared.event.Event.{Event}
+use Rattle.apply_events.specs.Step.{Work}
+use Rattle.apply_bus.specs.Bus.{BusName}
+use Rattle.apply_bus.specs.Claims.{ClaimsName}
+use Rattle.apply_bus.specs.Items.{events}
+use Rattle.apply_run.specs.Applied.{IsApplied, IsAppliedInPart}
+use Rattle.apply_run.specs.declared.run.JoinedRun.{JoinedRun}
+use Rattle.apply_run.specs.declared.run.FinishedRun.{FinishedRun}
+use Rattle.apply_run.specs.declared.stream.StreamWriter.{StreamWriter}
+use Rattle.apply_run.specs.Stream.Fitting.{CanBeTold}
+use Rattle.apply_run.specs.Stream.Room.{HasRoom}
+use Rattle.apply_run.specs.Stream.Telling.{IsSameStream, IsToldSince, telling_of}
+use Rattle.apply_run.specs.Run.Threads.{EachAt}
+use Rattle.apply_run.specs.Worker.Stopped.{IsStoppedWorker}
+
+-- each worker has done its part of the work, and what was taken of them was told, if it is of the plan
+pub record IsJoinedRun {S : Type 0} (bytes : S → Option (List ℕ)) (failed : S → ℕ) (work : Work)
+    (claims : ClaimsName) (bus : BusName) (stream : StreamWriter S) (joined : JoinedRun S) : Type 0 where
+  pub bus_is : joined.taken.bus ≡ bus
+  pub workers : joined.taken.workers ≡ claims.workers
+  pub count : length joined.stopped.items ≡ claims.workers
+  pub stopped : EachAt (IsStoppedWorker work claims bus) joined.stopped.items
+  pub same : IsSameStream stream joined.stream
+  pub room : HasRoom (telling_of bytes failed joined.stream)
+  pub told : All (CanBeTold stream.plan.now) (events joined.taken.taken)
+      → IsToldSince bytes failed stream (events joined.taken.taken) joined.stream
+
+-- what the workers reported of their changes was told, all of it or a prefix for each
+pub record IsFinishedRun {S : Type 0} (bytes : S → Option (List ℕ)) (failed : S → ℕ) (work : Work) (workers : ℕ)
+    (stream : StreamWriter S) (finished : FinishedRun S) : Type 0 where
+  pub lists : List (List ℕ)
+  pub events : List Event
+  pub part : IsAppliedInPart work workers lists events
+  pub whole : finished.whole ≡ true → IsApplied work workers lists events
+  pub same : IsSameStream stream finished.stream
+  pub room : HasRoom (telling_of bytes failed finished.stream)
+  pub told : IsToldSince bytes failed stream events finished.stream

@@ -1,0 +1,35 @@
+-- How a stream has ended.
+use Rattle.std.specs.Prelude.{◌≡◌, ℕ, ◌+◌, ◌⊎◌, List, Option}
+use mathlib.Core.List.{IsPrefix}
+use Rattle.apply_plan.specs.Plan.SavedPlan.{SavedPlan}
+use Rattle.apply_plan.specs.Script.Outcomes.{Outcomes}
+use Rattle.apply_events.specs.declared.event.Event.{Event}
+use Rattle.apply_text.specs.declared.operation.Operation.{Operation}
+use Rattle.apply_text.specs.Lines.{lines_of, stream_of}
+use Rattle.apply_run.specs.declared.fault.Fault.{Fault}
+use Rattle.apply_run.specs.declared.report.Report.{Report}
+use Rattle.apply_run.specs.declared.why.Why.TheVariants.{Memory, Write}
+use Rattle.apply_run.specs.Stream.Delivered.{IsDelivered}
+
+-- all of the bytes were delivered, and no write has failed
+pub record IsWhole (plan : SavedPlan) (events : List Event) (all : List ℕ) (report : Report)
+    (before after : Option (List ℕ)) (failures failures' : ℕ) : Type 0 where
+  pub delivered : IsDelivered plan events all report before after
+  pub failed : failures' ≡ failures
+
+-- a prefix of the bytes was delivered, and there are so many failures now
+pub record IsCutOff (plan : SavedPlan) (events : List Event) (all : List ℕ) (report : Report)
+    (before after : Option (List ℕ)) (failures failures' : ℕ) : Type 0 where
+  pub part : List ℕ
+  pub is_prefix : IsPrefix part all
+  pub delivered : IsDelivered plan events part report before after
+  pub failed : failures' ≡ failures
+
+-- a write has failed, or memory was refused for a line, and then no summary was written
+abbrev pub IsFaulted : (plan : SavedPlan) (script : Outcomes) (start : ℕ) (operation : Operation) (events : List Event)
+    → Fault → (before after : Option (List ℕ)) (failures failed : ℕ) → Type 0
+IsFaulted plan script start operation events fault before after failures failed =
+    ((fault.why ≡ Write) × IsCutOff plan events (stream_of plan script start operation events) fault.report
+    before after (failures + 1) failed)
+    ⊎ ((fault.why ≡ Memory) × IsCutOff plan events (lines_of plan script start events) fault.report
+    before after failures failed)

@@ -1,0 +1,49 @@
+-- What was told of the events of a run.
+use Rattle.std.specs.Prelude.{◌≡◌, ℕ, List, length, Option}
+use Rattle.apply_plan.specs.Plan.SavedPlan.{SavedPlan}
+use Rattle.apply_plan.specs.Script.Outcomes.{Outcomes}
+use Rattle.apply_events.specs.declared.counts.Counts.{Counts}
+use Rattle.apply_events.specs.declared.event.Event.{Event}
+use Rattle.apply_events.specs.Totals.{totals_of}
+use Rattle.apply_text.specs.Latest.{latest_of}
+use Rattle.apply_text.specs.Lines.{lines_of}
+use Rattle.apply_run.specs.declared.stream.StreamWriter.{StreamWriter}
+use Rattle.apply_run.specs.Stream.Outlet.{HasWritten, Outlet, outlet_of}
+
+-- what was told: on which output, how many events, what they add up to, and the greatest of their moments
+pub record Telling : Type 0 where
+  pub outlet : Outlet
+  pub counts : Counts
+  pub taken : ℕ
+  pub latest : ℕ
+
+-- what a stream has told, by what its sink tells
+abbrev pub telling_of : {S : Type 0} → (bytes : S → Option (List ℕ)) → (failed : S → ℕ) → StreamWriter S → Telling
+telling_of bytes failed stream = record {
+  outlet = outlet_of bytes failed stream.output;
+  counts = stream.counts;
+  taken = stream.taken;
+  latest = stream.latest;
+}
+
+-- since the sink had these bytes and so many failures, the events were counted, and the lines of them were written, up to
+-- where the writing stopped
+pub record HasTold (plan : SavedPlan) (script : Outcomes) (start : ℕ) (before : Option (List ℕ)) (failures : ℕ)
+    (events : List Event) (telling : Telling) : Type 0 where
+  pub lines : HasWritten before failures (lines_of plan script start events) telling.outlet
+  pub counts : telling.counts ≡ totals_of plan events
+  pub taken : telling.taken ≡ length events
+  pub latest : telling.latest ≡ latest_of events (length events)
+
+-- the streams are made of the same plan and script, from the same start on
+pub record IsSameStream {S : Type 0} (old new : StreamWriter S) : Type 0 where
+  pub plan : new.plan.now ≡ old.plan.now
+  pub script : new.script.now ≡ old.script.now
+  pub start : new.start ≡ old.start
+
+-- since the stream was as it was, the events were told
+abbrev pub IsToldSince : {S : Type 0} → (bytes : S → Option (List ℕ)) → (failed : S → ℕ)
+    → StreamWriter S → List Event → StreamWriter S → Type 0
+IsToldSince bytes failed old events new =
+    HasTold old.plan.now old.script.now old.start (bytes old.output.sink) (failed old.output.sink) events
+    (telling_of bytes failed new)

@@ -1,0 +1,35 @@
+-- What a worker has done when it stops.
+use Rattle.std.specs.Prelude.{◌≡◌, ℕ, All, Bool, true, false}
+use mathlib.Core.List.{IsPrefix}
+use Rattle.apply_events.specs.Step.{Work}
+use Rattle.apply_events.specs.WorkerEvents.{worker_events}
+use Rattle.apply_bus.specs.Bus as bus
+use Rattle.apply_bus.specs.Claims.{ClaimsName}
+use Rattle.apply_run.specs.Worker.Drawn.{IsDrawn}
+use Rattle.apply_run.specs.Stream.Fitting.{CanBeTold}
+use Rattle.apply_run.specs.declared.worker.SenderEnd.{SenderEnd}
+use Rattle.apply_run.specs.declared.worker.SenderEnd.TheVariants.{Closed, Open}
+use Rattle.apply_run.specs.declared.worker.StoppedWorker.{StoppedWorker}
+
+-- a sender at its end, as the bus sees it
+abbrev pub sender_of : SenderEnd → bus.Sender
+sender_of (Closed closed) = closed
+sender_of (Open tx) = tx
+
+abbrev pub is_closed : SenderEnd → Bool
+is_closed (Closed closed) = true
+is_closed (Open tx) = false
+
+-- the worker of these claims and of this bus has sent a prefix of the events of the changes that it drew, each an event of
+-- the plan; where it closed its sender, it has met the end of the changes and sent all of their events
+pub record IsStoppedWorker (work : Work) (claims : ClaimsName) (bus : bus.BusName) (worker : ℕ)
+    (stopped : StoppedWorker) : Type 0 where
+  pub drawer_claims : stopped.drawer.claims ≡ claims
+  pub drawer_worker : stopped.drawer.worker ≡ worker
+  pub sender_bus : (sender_of stopped.sender).bus ≡ bus
+  pub sender_worker : (sender_of stopped.sender).worker ≡ worker
+  pub drawn : IsDrawn claims.limit stopped.drawer.drawn
+  pub fits : All (CanBeTold work.plan) (sender_of stopped.sender).sent
+  pub part : IsPrefix (sender_of stopped.sender).sent (worker_events work worker stopped.drawer.drawn)
+  pub whole : is_closed stopped.sender ≡ true → (stopped.drawer.met_none ≡ true)
+      × ((sender_of stopped.sender).sent ≡ worker_events work worker stopped.drawer.drawn)

@@ -1,0 +1,123 @@
+//! The threads of workers.
+
+ghost use Rattle.std.specs.Prelude.{◌≡◌, ◌<◌, ◌≤◌, [], true, length, vec_capacity};
+ghost use Rattle.apply_hooks.specs.Registry.{rules_of};
+ghost use Rattle.apply_run.specs.Run.Threads.{EachAt, IsNewDrawer, IsNewSender, IsRun, IsThreadOf};
+ghost use Rattle.apply_run.specs.Worker.Stopped.{IsStoppedWorker};
+
+use crate::run::run_name::RunName;
+use crate::worker::gate::Gate;
+use crate::worker::job::Job;
+use crate::worker::signal::Signal;
+use crate::worker::{StoppedWorker, work};
+use apply_bus::{Claims, Drawer, Tx};
+use apply_hooks::Registry;
+use apply_plan::{Plan, Script};
+use std::marker::PhantomData;
+use std::sync::Wait;
+use std::thread::{Promise, PromisedHandle, Scope, Threads};
+
+/// What the thread of a worker promises: that the worker stops as one of the run of that name.
+#[derive(Drop)]
+pub(crate) struct WorkerPromise<K> {
+    pub worker: u8,
+    pub run: PhantomData<K>,
+}
+
+impl<K: RunName> Promise<StoppedWorker> for WorkerPromise<K> {
+    ghost use Rattle.apply_run.specs.Worker.Stopped.{IsStoppedWorker};
+
+    ghost kept_by = { λ p stopped. IsStoppedWorker K.work K.claims K.bus p.worker stopped };
+}
+
+/// The thread of a started worker.
+pub(crate) type WorkerThread<K> = PromisedHandle<StoppedWorker, WorkerPromise<K>>;
+
+/// Starts a thread for each drawer with the sender of its worker, and says whether all were started. A worker that was
+/// refused a thread is gone, and so are those behind it.
+pub(crate) fn start_all<
+    's,
+    E: 's,
+    K: RunName + Send + Sync + 's,
+    G: Gate,
+    R: Threads + Wait + Sync,
+>(
+    scope: &'s Scope<'s, E>,
+    rt: &'s R,
+    plan: &'s Plan,
+    script: &'s Script,
+    registry: &'s Registry,
+    gate: &'s G,
+    claims: &'s Claims,
+    signal: &'s Signal,
+    drawers: Vec<Drawer>,
+    senders: Vec<Tx>,
+    started: &mut Vec<WorkerThread<K>>,
+) -> bool
+    requires run { IsRun K.work K.claims plan.now script.now (rules_of registry.now) claims.now }
+    requires drawers { EachAt (IsNewDrawer K.claims) drawers.items }
+    requires senders { EachAt (IsNewSender K.bus) senders.items }
+    requires none { started.old.items ≡ [] }
+    requires room { length drawers.items ≤ vec_capacity started.old }
+    ensures started { EachAt IsThreadOf started.new.items }
+    ensures few { length started.new.items ≤ length drawers.items }
+    ensures all { result ≡ true → length started.new.items ≡ length drawers.items }
+{
+    let mut senders = senders.into_iter();
+    for drawer in drawers {
+        let Some(tx) = senders.next() else {
+            return false;
+        };
+        let promise = WorkerPromise {
+            worker: tx.worker(),
+            run: PhantomData,
+        };
+        let thread = scope.spawn_with(
+            promise,
+            move ||
+                requires run { IsRun K.work K.claims plan.now script.now (rules_of registry.now) claims.now }
+                requires drawer { IsNewDrawer K.claims tx.worker drawer }
+                requires sender { IsNewSender K.bus tx.worker tx }
+                ensures { IsStoppedWorker K.work K.claims K.bus tx.worker result }
+            {
+                let job = Job {
+                    plan: &*plan,
+                    script: &*script,
+                    registry: &*registry,
+                    gate: &*gate,
+                    claims: &*claims,
+                    signal: &*signal,
+                };
+                work::<K, G, R>(rt, &job, drawer, tx)
+            },
+        );
+        match thread {
+            Ok(worker) => {
+                let Ok(()) = started.push(worker) else {
+                    unreachable!()
+                };
+            }
+            Err(_) => return false,
+        }
+    }
+    true
+}
+
+/// Joins the threads of workers, in their order.
+pub(crate) fn join_all<K: RunName, R: Threads>(
+    rt: &R,
+    threads: Vec<WorkerThread<K>>,
+    stopped: &mut Vec<StoppedWorker>,
+)
+    requires started { EachAt IsThreadOf threads.items }
+    requires none { stopped.old.items ≡ [] }
+    requires room { length threads.items ≤ vec_capacity stopped.old }
+    ensures stopped { EachAt (IsStoppedWorker K.work K.claims K.bus) stopped.new.items }
+    ensures all { length stopped.new.items ≡ length threads.items }
+{
+    for thread in threads {
+        let Ok(()) = stopped.push(thread.join(rt)) else {
+            unreachable!()
+        };
+    }
+}
