@@ -1,3 +1,5 @@
 mod Ending
 mod Front
+mod Options
+mod Parsed
 mod Statuses

@@ -1,4 +1,5 @@
 pub mod Command
+pub mod CommandLine
 pub mod Halt
 pub mod Settings
 pub mod Status

@@ -1,6 +1,15 @@
 //! The words of the command line.
 
-ghost use Rattle.std.specs.Prelude.{IfOk};
+ghost use Rattle.std.specs.Prelude.{◌≡◌, ◌≤◌, ◌∷◌, [], Some, false, Ok, IfOk, IfErr, IfSome, codes, map, string_bytes};
+ghost use Rattle.std.specs.Option.{option_map_or};
+ghost use Rattle.clap.specs.Matches.{found_of};
+ghost use Rattle.clap.specs.Simple.{app_of};
+ghost use Rattle.clap.specs.Values.{kind_of};
+ghost use Rattle.clap.specs.Walk.{first_of, one_of, rows_of, rule_of};
+ghost use Rattle.apply_cli.specs.CommandLine as said;
+ghost use Rattle.apply_cli.specs.CommandLine.{Answers, AreSaid, HaveSaid, IsNumber, IsOneOf, IsSaidWrong, WereRefused};
+ghost use Rattle.apply_cli.specs.CommandLine.{halts_said, kind_of_word};
+ghost use Rattle.apply_text.specs.Start.{start_of as start_said};
 ghost use Rattle.apply_cli.specs.Settings.{AreInRange};
 
 use crate::halt::Halt;
@@ -8,7 +17,7 @@ use crate::settings::Settings;
 use crate::usage::Usage;
 use apply_hooks::MAX_HOOKS;
 use apply_plan::{StepKind, Text};
-use apply_text::{Operation, Start};
+use apply_text::{MomentError, Operation, Start};
 use clap::error::ErrorKind;
 use clap::{Arg, ArgAction, ArgMatches, Command, value_parser};
 use std::alloc::{AllocError, Global};
@@ -42,7 +51,9 @@ Exit status:
 /// with `Usage::Moment` where the start is no moment, else with `Usage::Hooks` where there are more than 32 halts. `Err`
 /// with `Usage::Memory` where memory is refused.
 pub fn read_words(alloc: Global, words: &[String]) -> Result<Settings, Usage>
-    ensures { IfOk result AreInRange }
+    ensures in_range { IfOk result AreInRange }
+    ensures said { IfOk result (HaveSaid (map string_bytes words.now)) }
+    ensures refused { IfErr result (WereRefused (map string_bytes words.now)) }
 {
     let command = command(alloc)?;
     match command.try_get_matches_from(words) {
@@ -52,7 +63,10 @@ pub fn read_words(alloc: Global, words: &[String]) -> Result<Settings, Usage>
 }
 
 /// The options, and their help.
-fn command<'a>(alloc: Global) -> Result<Command<'a>, AllocError> {
+fn command<'a>(alloc: Global) -> Result<Command<'a>, AllocError>
+    ensures { IfOk result (λ command. (kinds : _) × IsOneOf said.kind_words kinds
+        × (app_of command ≡ said.command_line kinds)) }
+{
     Command::new(alloc, "applystream")
         .no_binary_name(true)
         .about(ABOUT)
@@ -66,7 +80,9 @@ fn command<'a>(alloc: Global) -> Result<Command<'a>, AllocError> {
         .arg(halt_in(alloc))
 }
 
-fn at<'a>(alloc: Global) -> Arg<'a> {
+fn at<'a>(alloc: Global) -> Arg<'a>
+    ensures { (rule_of result ≡ record (said.option_named (codes "at")) { defaults = codes "1970-01-01T00:00:00Z" ∷ [] }) × (result.global ≡ false) }
+{
     Arg::new(alloc, "at")
         .long("at")
         .value_name("MOMENT")
@@ -76,7 +92,9 @@ fn at<'a>(alloc: Global) -> Arg<'a> {
         )
 }
 
-fn script<'a>(alloc: Global) -> Arg<'a> {
+fn script<'a>(alloc: Global) -> Arg<'a>
+    ensures { (rule_of result ≡ said.option_named (codes "script")) × (result.global ≡ false) }
+{
     Arg::new(alloc, "script")
         .long("script")
         .value_name("FILE")
@@ -85,7 +103,9 @@ fn script<'a>(alloc: Global) -> Arg<'a> {
         )
 }
 
-fn workers<'a>(alloc: Global) -> Arg<'a> {
+fn workers<'a>(alloc: Global) -> Arg<'a>
+    ensures { (rule_of result ≡ said.number_named (codes "workers") 8 (codes "1")) × (result.global ≡ false) }
+{
     Arg::new(alloc, "workers")
         .long("workers")
         .value_name("N")
@@ -94,7 +114,9 @@ fn workers<'a>(alloc: Global) -> Arg<'a> {
         .help("How many workers apply the changes at once, 1 to 8")
 }
 
-fn queue<'a>(alloc: Global) -> Arg<'a> {
+fn queue<'a>(alloc: Global) -> Arg<'a>
+    ensures { (rule_of result ≡ said.number_named (codes "queue") 1024 (codes "64")) × (result.global ≡ false) }
+{
     Arg::new(alloc, "queue")
         .long("queue")
         .value_name("N")
@@ -103,14 +125,20 @@ fn queue<'a>(alloc: Global) -> Arg<'a> {
         .help("How many messages may wait to be written, 1 to 1024")
 }
 
-fn destroy<'a>(alloc: Global) -> Arg<'a> {
+fn destroy<'a>(alloc: Global) -> Arg<'a>
+    ensures { (rule_of result ≡ said.flag_named (codes "destroy")) × (result.global ≡ false) }
+{
     Arg::new(alloc, "destroy")
         .long("destroy")
         .action(ArgAction::SetTrue)
         .help("Says in the last message that the apply was a destroy")
 }
 
-fn halt_before<'a>(alloc: Global) -> Arg<'a> {
+fn halt_before<'a>(alloc: Global) -> Arg<'a>
+    ensures { (kinds : _) × IsOneOf said.kind_words kinds
+        × (rule_of result ≡ record (said.list_named (codes "halt-before")) { parser = Some kinds })
+        × (result.global ≡ false) }
+{
     Arg::new(alloc, "halt-before")
         .long("halt-before")
         .value_name("KIND")
@@ -119,7 +147,9 @@ fn halt_before<'a>(alloc: Global) -> Arg<'a> {
         .help("Halts each step of this kind before it begins. May be given again: 32 halts at most")
 }
 
-fn halt_in<'a>(alloc: Global) -> Arg<'a> {
+fn halt_in<'a>(alloc: Global) -> Arg<'a>
+    ensures { (rule_of result ≡ said.list_named (codes "halt-in")) × (result.global ≡ false) }
+{
     Arg::new(alloc, "halt-in")
         .long("halt-in")
         .value_name("PREFIX")
@@ -129,42 +159,75 @@ fn halt_in<'a>(alloc: Global) -> Arg<'a> {
         )
 }
 
-/// What the matches say. The parser has tested the numbers, so that the bounds here change none.
+/// What the matches say.
 fn settings_of(alloc: Global, matches: &ArgMatches<'_>) -> Result<Settings, Usage>
-    ensures { IfOk result AreInRange }
+    ensures in_range { IfOk result AreInRange }
+    ensures said { IfOk result (AreSaid (rows_of (found_of matches.now))) }
+    ensures refused { IfErr result (IsSaidWrong (rows_of (found_of matches.now))) }
 {
-    let at = start_of(matches)?;
+    let at = match start_of(matches) {
+        Ok(start) => start,
+        Err(error) => return Err(Usage::Moment(error)),
+    };
     let halts = halts_of(alloc, matches)?;
     if halts.len() > MAX_HOOKS {
         return Err(Usage::Hooks);
     }
-    let script = match matches.get_str("script") {
-        Some(file) => Some(Text::new(alloc, file)?),
-        None => None,
-    };
     Ok(Settings {
         at,
-        script,
-        workers: matches.get_one::<u8>("workers").unwrap_or(1).clamp(1, 8),
-        queue: matches.get_one::<u16>("queue").unwrap_or(64).clamp(1, 1024),
+        script: script_of(alloc, matches)?,
+        workers: workers_of(matches),
+        queue: queue_of(matches),
         operation: operation_of(matches),
         halts,
     })
 }
 
 /// The start that is said, and else the start of 1970.
-fn start_of(matches: &ArgMatches<'_>) -> Result<Start, Usage> {
+fn start_of(matches: &ArgMatches<'_>) -> Result<Start, MomentError>
+    ensures { result ≡ option_map_or start_said (first_of (codes "at") (rows_of (found_of matches.now))) (Ok 0) }
+{
     match matches.get_str("at") {
-        Some(moment) => match Start::read(moment) {
-            Ok(start) => Ok(start),
-            Err(error) => Err(Usage::Moment(error)),
-        },
+        Some(moment) => Start::read(moment),
         None => Ok(Start::zero()),
     }
 }
 
+/// The file of the script, where one is named.
+fn script_of(alloc: Global, matches: &ArgMatches<'_>) -> Result<Option<Text>, AllocError>
+    ensures { IfOk result (λ script. script ≡ first_of (codes "script") (rows_of (found_of matches.now))) }
+{
+    match matches.get_str("script") {
+        Some(file) => Ok(Some(Text::new(alloc, file)?)),
+        None => Ok(None),
+    }
+}
+
+/// How many workers there are. The parser has tested the number, so that the bounds here do not change it.
+fn workers_of(matches: &ArgMatches<'_>) -> u8
+    ensures in_range { (1 ≤ result) × (result ≤ 8) }
+    ensures said { IfSome (one_of (codes "workers") (rows_of (found_of matches.now)))
+        (λ text. IsNumber 8 text result) }
+{
+    matches.get_one::<u8>("workers").unwrap_or(1).clamp(1, 8)
+}
+
+/// How many events may wait. The parser has tested the number, so that the bounds here do not change it.
+fn queue_of(matches: &ArgMatches<'_>) -> u16
+    ensures in_range { (1 ≤ result) × (result ≤ 1024) }
+    ensures said { IfSome (one_of (codes "queue") (rows_of (found_of matches.now)))
+        (λ text. IsNumber 1024 text result) }
+{
+    matches.get_one::<u16>("queue").unwrap_or(64).clamp(1, 1024)
+}
+
 /// What the apply is for.
-fn operation_of(matches: &ArgMatches<'_>) -> Operation {
+fn operation_of(matches: &ArgMatches<'_>) -> Operation
+    ensures destroy { one_of (codes "destroy") (rows_of (found_of matches.now)) ≡ Some (codes "true")
+        → result ≡ Operation.Destroy }
+    ensures apply { one_of (codes "destroy") (rows_of (found_of matches.now)) ≡ Some (codes "false")
+        → result ≡ Operation.Apply }
+{
     if matches.get_flag("destroy") {
         Operation::Destroy
     } else {
@@ -173,10 +236,12 @@ fn operation_of(matches: &ArgMatches<'_>) -> Operation {
 }
 
 /// The halts before a kind of steps, and then those inside a prefix, both in the order of the words.
-fn halts_of(alloc: Global, matches: &ArgMatches<'_>) -> Result<Vec<Halt>, AllocError> {
+fn halts_of(alloc: Global, matches: &ArgMatches<'_>) -> Result<Vec<Halt>, AllocError>
+    ensures { IfOk result (λ halts. halts.items ≡ halts_said (rows_of (found_of matches.now))) }
+{
     let mut halts = Vec::new(alloc);
     for kind in matches.get_strs("halt-before").unwrap_or(&[]) {
-        halts.push(Halt::Before(kind_of(kind)))?;
+        halts.push(Halt::Before(step_kind(kind)))?;
     }
     for prefix in matches.get_strs("halt-in").unwrap_or(&[]) {
         halts.push(Halt::Inside(Text::new(alloc, prefix)?))?;
@@ -185,7 +250,9 @@ fn halts_of(alloc: Global, matches: &ArgMatches<'_>) -> Result<Vec<Halt>, AllocE
 }
 
 /// The kind that the word says. The parser takes four words.
-fn kind_of(word: &str) -> StepKind {
+fn step_kind(word: &str) -> StepKind
+    ensures { result ≡ kind_of_word word.now }
+{
     match word {
         "create" => StepKind::Create,
         "update" => StepKind::Update,
@@ -195,7 +262,9 @@ fn kind_of(word: &str) -> StepKind {
 }
 
 /// What is answered where the parser gives no matches.
-fn usage_of(alloc: Global, error: &clap::Error) -> Result<Usage, AllocError> {
+fn usage_of(alloc: Global, error: &clap::Error) -> Result<Usage, AllocError>
+    ensures { IfOk result (Answers (kind_of error.now)) }
+{
     if error.kind() == ErrorKind::OutOfMemory {
         return Ok(Usage::Memory);
     }

@@ -1,0 +1,137 @@
+-- What the words of the command line say: the options that there are, as `clap` takes them, and which of them gives which
+-- setting.
+use Rattle.std.specs.Prelude.{◌≡◌, ◌≤◌, ◌<◌, ◌++◌, ◌⊎◌, ⊤, ℕ, List, [], ◌∷◌, Some, IfSome, Ok, Err, true, codes, length, map, pos, unwrap_or, if◌then◌else◌}
+use Rattle.std.specs.Borrow.{Bor}
+use Rattle.std.specs.Option.{option_map_or}
+use Rattle.std.specs.Str.{bytes_eq}
+use Rattle.std.specs.Str.Parse.{IsNumeral, digits_value, without_leading_plus}
+use Rattle.clap.specs.Faults.{fault_of}
+use Rattle.clap.specs.Kinds.{IsAmong}
+use Rattle.clap.specs.Simple.{App, matches_of, new_rule, new_shape}
+use Rattle.clap.specs.Walk.{Row, Rule, Text, all_of, first_of, one_of, texts}
+use Rattle.clap.specs.declared.builder.action.ArgAction.TheVariants.{Append, SetTrue}
+use Rattle.clap.specs.declared.builder.value_parser.ValueParser.{ValueParser}
+use Rattle.clap.specs.declared.builder.value_parser.ValueParser.TheVariants as values
+use Rattle.clap.specs.declared.error.kind.ErrorKind.{ErrorKind}
+use Rattle.clap.specs.declared.error.kind.ErrorKind.TheVariants.{DisplayHelp, OutOfMemory}
+use Rattle.apply_plan.specs.declared.plan.step_kind.StepKind.{StepKind}
+use Rattle.apply_plan.specs.declared.plan.step_kind.StepKind.TheVariants.{Create, Update, Delete, Read}
+use Rattle.apply_hooks.specs.Hooks.{max_hooks}
+use Rattle.apply_text.specs.Start.{start_of}
+use Rattle.apply_text.specs.declared.operation.Operation.TheVariants.{Apply, Destroy}
+use Rattle.apply_cli.specs.declared.halt.Halt.{Halt}
+use Rattle.apply_cli.specs.declared.halt.Halt.TheVariants.{Before, Inside}
+use Rattle.apply_cli.specs.declared.settings.Settings.{Settings}
+use Rattle.apply_cli.specs.declared.usage.Usage.{Usage}
+use Rattle.apply_cli.specs.declared.usage.Usage.TheVariants as usage
+
+-- ---- the options
+
+-- `--NAME VALUE`
+abbrev pub option_named : Text → Rule
+option_named name = record (new_rule name) { long = Some name; value_names = 1 }
+
+-- `--NAME NUMBER`, with the number from 1 to `most`, and one that stands for none
+abbrev pub number_named : Text → (most : ℕ) → (otherwise : Text) → Rule
+number_named name most otherwise =
+    record (option_named name) { parser = Some (values.Signed (pos 1) (pos most)); defaults = otherwise ∷ [] }
+
+-- `--NAME VALUE`, as often as one likes
+abbrev pub list_named : Text → Rule
+list_named name = record (option_named name) { action = Some Append }
+
+-- `--NAME`
+abbrev pub flag_named : Text → Rule
+flag_named name = record (new_rule name) { long = Some name; action = Some SetTrue }
+
+-- the words for kinds of steps
+abbrev pub kind_words : List Text
+kind_words = codes "create" ∷ codes "update" ∷ codes "delete" ∷ codes "read" ∷ []
+
+-- the value has to be one of the words
+abbrev pub IsOneOf : List Text → ValueParser → Type 0
+IsOneOf words parser = (names : Bor (List (Bor Text))) × (texts names.now ≡ words) × (parser ≡ values.Names names)
+
+abbrev pub options : (kinds : ValueParser) → List Rule
+options kinds =
+    record (option_named (codes "at")) { defaults = codes "1970-01-01T00:00:00Z" ∷ [] }
+    ∷ option_named (codes "script")
+    ∷ number_named (codes "workers") 8 (codes "1")
+    ∷ number_named (codes "queue") 1024 (codes "64")
+    ∷ flag_named (codes "destroy")
+    ∷ record (list_named (codes "halt-before")) { parser = Some kinds }
+    ∷ list_named (codes "halt-in")
+    ∷ []
+
+-- the command, whose words are those behind the program's name
+abbrev pub command_line : (kinds : ValueParser) → App
+command_line kinds = record {
+  top = record (new_shape (codes "applystream")) { no_binary_name = true; rules = options kinds };
+  subs = [];
+}
+
+-- ---- what they say
+
+-- where the text is a number from 1 to `most`, it is that number
+abbrev pub IsNumber : (most : ℕ) → (text : Text) → ℕ → Type 0
+IsNumber most text n = IsNumeral 10 (without_leading_plus text) → 1 ≤ digits_value 10 (without_leading_plus text)
+    → digits_value 10 (without_leading_plus text) ≤ most → n ≡ digits_value 10 (without_leading_plus text)
+
+abbrev pub kind_of_word : Text → StepKind
+kind_of_word word =
+    if bytes_eq word (codes "create") then Create
+    else if bytes_eq word (codes "update") then Update
+    else if bytes_eq word (codes "delete") then Delete
+    else Read
+
+-- the halts before kinds of steps, and then those inside prefixes, both in the order of the words
+abbrev pub halts_said : List Row → List Halt
+halts_said rows =
+    map (λ word. Before (kind_of_word word)) (unwrap_or (all_of (codes "halt-before") rows) [])
+    ++ map Inside (unwrap_or (all_of (codes "halt-in") rows) [])
+
+-- each setting is what its own option says
+pub record AreSaid (rows : List Row) (settings : Settings) : Type 0 where
+  pub at : option_map_or start_of (first_of (codes "at") rows) (Ok 0) ≡ Ok settings.at
+  pub script : settings.script ≡ first_of (codes "script") rows
+  pub workers : IfSome (one_of (codes "workers") rows) (λ text. IsNumber 8 text settings.workers)
+  pub queue : IfSome (one_of (codes "queue") rows) (λ text. IsNumber 1024 text settings.queue)
+  pub destroy : one_of (codes "destroy") rows ≡ Some (codes "true") → settings.operation ≡ Destroy
+  pub apply : one_of (codes "destroy") rows ≡ Some (codes "false") → settings.operation ≡ Apply
+  pub halts : settings.halts.items ≡ halts_said rows
+
+-- the words were taken, and the settings are what they say
+pub record HaveSaid (words : List Text) (settings : Settings) : Type 0 where
+  pub kinds : ValueParser
+  pub are_kinds : IsOneOf kind_words kinds
+  pub taken : fault_of (command_line kinds) words ≡ []
+  pub said : AreSaid (matches_of (command_line kinds) words) settings
+
+-- ---- why they are refused
+
+-- the options that were taken say no settings
+abbrev pub IsSaidWrong : List Row → Usage → Type 0
+IsSaidWrong rows (usage.Help text) = ⊥
+IsSaidWrong rows (usage.Words text) = ⊥
+IsSaidWrong rows (usage.Moment error) = option_map_or start_of (first_of (codes "at") rows) (Ok 0) ≡ Err error
+IsSaidWrong rows usage.Hooks = max_hooks < length (halts_said rows)
+IsSaidWrong rows usage.Memory = ⊤
+
+-- what is answered to an error of that kind: help where help was asked for
+abbrev pub Answers : ErrorKind → Usage → Type 0
+Answers kind (usage.Help text) = kind ≡ DisplayHelp
+Answers kind (usage.Words text) = kind ≡ OutOfMemory → ⊥
+Answers kind (usage.Moment error) = ⊥
+Answers kind usage.Hooks = ⊥
+Answers kind usage.Memory = ⊤
+
+-- the words are a call for help; or they are none of these options; or they were taken, and say no settings
+abbrev pub IsCause : App → List Text → Usage → Type 0
+IsCause app words (usage.Help text) = IsAmong DisplayHelp (fault_of app words)
+IsCause app words (usage.Words text) = 0 < length (fault_of app words)
+IsCause app words why = (fault_of app words ≡ []) × IsSaidWrong (matches_of app words) why
+
+-- memory was refused, or there is a cause for it
+abbrev pub WereRefused : List Text → Usage → Type 0
+WereRefused words why =
+    (why ≡ usage.Memory) ⊎ ((kinds : ValueParser) × IsOneOf kind_words kinds × IsCause (command_line kinds) words why)
