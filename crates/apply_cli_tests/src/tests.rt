@@ -4,6 +4,7 @@
 ghost use Rattle.std.specs.Prelude.{◌≡◌, ◌<◌, ◌-◌, ◌^◌};
 
 mod answers;
+mod failing_outputs;
 mod faults;
 mod following;
 mod settings;

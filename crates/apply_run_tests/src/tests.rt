@@ -6,6 +6,7 @@ ghost use Rattle.std.specs.Prelude.{◌≡◌, ◌<◌, ◌-◌, ◌^◌};
 mod failing_sinks;
 mod gates;
 mod hooks;
+mod hostile;
 mod lines;
 mod progress;
 mod refusals;

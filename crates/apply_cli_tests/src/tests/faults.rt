@@ -144,7 +144,7 @@ fn a_reader_that_fails_is_said_so(rt: HostRuntime) {
 }
 
 /// What is said of an output that fails.
-const UNWRITTEN: &str = "applystream: the output could not be written\n";
+pub(super) const UNWRITTEN: &str = "applystream: the output could not be written\n";
 
 /// Runs one create into the output. Fails where the status is another, or something else was written or said.
 fn is_written<T: Threads + Wait + Sync + Abort>(
@@ -168,7 +168,7 @@ fn is_written<T: Threads + Wait + Sync + Abort>(
 }
 
 /// An output that takes so many bytes a call, and has room for so many in all.
-fn with_room(alloc: Global, per_write: usize, room: usize) -> FailingWriter {
+pub(super) fn with_room(alloc: Global, per_write: usize, room: usize) -> FailingWriter {
     FailingWriter {
         taken: Vec::new(alloc),
         per_write,

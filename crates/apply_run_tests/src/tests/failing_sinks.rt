@@ -129,34 +129,33 @@ fn fails_at_each_byte_of_whole_lines(rt: HostRuntime) {
 }
 
 #[test]
-fn fails_at_each_byte_under_eight_workers(rt: HostRuntime) {
-    fails_at_each_byte(&rt, rt.alloc(), 8, 4096);
-}
-
-/// The same at each 97th byte and with room for all: each run starts all of its workers, which takes time.
-fn fails_at_some_bytes<R: Threads + Wait + Sync + Abort>(
-    rt: &R,
-    alloc: Global,
-    workers: u8,
-    per_write: usize,
-)
-    requires { 1 ≤ per_write }
-{
-    let whole = FAILED_DESTROY_STREAM.len();
-    for room in (0..whole).step_by(97) {
-        takes_so_many(rt, alloc, workers, per_write, room);
-    }
-    takes_so_many(rt, alloc, workers, per_write, whole);
+fn fails_at_each_byte_of_single_bytes_under_two_workers(rt: HostRuntime) {
+    fails_at_each_byte(&rt, rt.alloc(), 2, 1);
 }
 
 #[test]
-fn fails_at_bytes_under_more_workers(rt: HostRuntime) {
-    fails_at_some_bytes(&rt, rt.alloc(), 2, 1);
-    fails_at_some_bytes(&rt, rt.alloc(), 2, 7);
-    fails_at_some_bytes(&rt, rt.alloc(), 2, 4096);
-    fails_at_some_bytes(&rt, rt.alloc(), 8, 1);
-    fails_at_some_bytes(&rt, rt.alloc(), 8, 7);
-    fails_at_some_bytes(&rt, rt.alloc(), 8, 4096);
+fn fails_at_each_byte_of_short_writes_under_two_workers(rt: HostRuntime) {
+    fails_at_each_byte(&rt, rt.alloc(), 2, 7);
+}
+
+#[test]
+fn fails_at_each_byte_of_whole_lines_under_two_workers(rt: HostRuntime) {
+    fails_at_each_byte(&rt, rt.alloc(), 2, 4096);
+}
+
+#[test]
+fn fails_at_each_byte_of_single_bytes_under_eight_workers(rt: HostRuntime) {
+    fails_at_each_byte(&rt, rt.alloc(), 8, 1);
+}
+
+#[test]
+fn fails_at_each_byte_of_short_writes_under_eight_workers(rt: HostRuntime) {
+    fails_at_each_byte(&rt, rt.alloc(), 8, 7);
+}
+
+#[test]
+fn fails_at_each_byte_under_eight_workers(rt: HostRuntime) {
+    fails_at_each_byte(&rt, rt.alloc(), 8, 4096);
 }
 
 /// Fails where a sink with room for so many bytes of the stream gets others, or the run does not end as it has to.

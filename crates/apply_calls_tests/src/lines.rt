@@ -1,0 +1,114 @@
+//! Lines, each in a text of its own and behind another.
+
+use crate::readers::ONE_CREATE;
+use apply_events::{Counts, Event, What};
+use apply_plan::{Plan, Script, read_plan};
+use apply_text::{LineBuffer, Operation, Start, event_line, summary_line, version_line};
+use std::alloc::{AllocError, Global};
+use std::io;
+use std::io::ErrorKind;
+
+/// The plan that lines are of.
+fn plan(alloc: Global) -> io::Result<Plan> {
+    match read_plan(alloc, ONE_CREATE.as_bytes()) {
+        Ok(plan) => Ok(plan),
+        Err(_) => Err(io::Error::from(ErrorKind::OutOfMemory)),
+    }
+}
+
+/// The completion of the plan's create.
+fn completion() -> Event {
+    Event {
+        worker: 0,
+        change: 0,
+        step: 0,
+        what: What::Complete(12),
+        at: 12,
+    }
+}
+
+/// Makes the version line.
+pub fn version(rt: &impl Print, alloc: Global) -> io::Result<()> {
+    let plan = plan(alloc)?;
+    println!(rt; "call")?;
+    println!(rt; "{:?}", version_line(alloc, &plan, Start::zero()))
+}
+
+/// Makes the summary line.
+pub fn summary(rt: &impl Print, alloc: Global) -> io::Result<()> {
+    println!(rt; "call")?;
+    println!(rt;
+        "{:?}",
+        summary_line(alloc, Start::zero(), 0, Operation::Apply, &Counts::new())
+    )
+}
+
+/// Makes the line of an event.
+pub fn event(rt: &impl Print, alloc: Global) -> io::Result<()> {
+    let plan = plan(alloc)?;
+    let script = Script::empty(alloc);
+    if plan.len() == 0 || plan.change(0).steps().is_empty() {
+        return Err(io::Error::from(ErrorKind::InvalidData));
+    }
+    println!(rt; "call")?;
+    println!(rt;
+        "{:?}",
+        event_line(alloc, &plan, &script, Start::zero(), 12, &completion())
+    )
+}
+
+/// A buffer with one line.
+fn begun(alloc: Global, plan: &Plan) -> io::Result<LineBuffer> {
+    let mut buffer = LineBuffer::new(alloc);
+    buffer.push_version(plan, Start::zero())?;
+    Ok(buffer)
+}
+
+/// Tells what is in the buffer, behind a word.
+fn tell(rt: &impl Print, word: &str, buffer: &LineBuffer) -> io::Result<()> {
+    match str::from_utf8(buffer.as_bytes()) {
+        Ok(lines) => println!(rt; "{word} {lines:?}"),
+        Err(_) => println!(rt; "no text"),
+    }
+}
+
+/// Tells how adding a line ended, and what is in the buffer then.
+fn tell_pushed(
+    rt: &impl Print,
+    pushed: Result<(), AllocError>,
+    buffer: &LineBuffer,
+) -> io::Result<()> {
+    let word = if pushed.is_ok() { "Ok" } else { "Err" };
+    tell(rt, word, buffer)
+}
+
+/// Adds the version line to a buffer.
+pub fn pushed_version(rt: &impl Print, alloc: Global) -> io::Result<()> {
+    let plan = plan(alloc)?;
+    let mut buffer = begun(alloc, &plan)?;
+    tell(rt, "call", &buffer)?;
+    let pushed = buffer.push_version(&plan, Start::zero());
+    tell_pushed(rt, pushed, &buffer)
+}
+
+/// Adds the summary to a buffer.
+pub fn pushed_summary(rt: &impl Print, alloc: Global) -> io::Result<()> {
+    let plan = plan(alloc)?;
+    let mut buffer = begun(alloc, &plan)?;
+    tell(rt, "call", &buffer)?;
+    let pushed = buffer.push_summary(Start::zero(), 0, Operation::Apply, &Counts::new());
+    tell_pushed(rt, pushed, &buffer)
+}
+
+/// Adds the line of an event to a buffer.
+pub fn pushed_event(rt: &impl Print, alloc: Global) -> io::Result<()> {
+    let plan = plan(alloc)?;
+    let script = Script::empty(alloc);
+    let mut buffer = begun(alloc, &plan)?;
+    if plan.len() == 0 || plan.change(0).steps().is_empty() {
+        return Err(io::Error::from(ErrorKind::InvalidData));
+    }
+    tell(rt, "call", &buffer)?;
+    let pushed = buffer.push_event(&plan, &script, Start::zero(), 12, &completion());
+    tell_pushed(rt, pushed, &buffer)
+}

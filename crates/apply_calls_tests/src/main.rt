@@ -1,0 +1,67 @@
+//! Makes one public call and prints what it answered, so that a check can refuse memory to that call alone, one allocation
+//! after the other. The first word names the call.
+//!
+//! The line before the answer begins with `call`, and tells what was there before. A call that could not be prepared has neither.
+#![tactic(auto)]
+
+mod command;
+mod lines;
+mod lists;
+mod opening;
+mod readers;
+mod runs;
+
+use std::alloc::Global;
+use std::io;
+use std::io::ErrorKind;
+use std::process::ExitCode;
+use std::sync::Wait;
+use std::thread::Threads;
+
+/// What `main` answers where a call could not be prepared.
+const UNPREPARED: u8 = 4;
+
+fn main(rt: HostRuntime) -> ExitCode {
+    match answer(&rt, &rt) {
+        Ok(()) => ExitCode::from(0),
+        Err(_) => ExitCode::from(UNPREPARED),
+    }
+}
+
+/// Makes the call that the first word names. `Err` where there is none, and where it could not be prepared or told.
+fn answer<R: Print + Threads + Wait + Sync>(host: &HostRuntime, rt: &R) -> io::Result<()> {
+    let words: Vec<String> = std::env::args(host)?.collect(host.alloc())?;
+    let Some(word) = words.get(1) else {
+        return Err(io::Error::from(ErrorKind::InvalidInput));
+    };
+    answer_of(rt, host.alloc(), word.as_str())
+}
+
+/// Makes the call of that name.
+fn answer_of<R: Print + Threads + Wait + Sync>(
+    rt: &R,
+    alloc: Global,
+    name: &str,
+) -> io::Result<()> {
+    match name {
+        "read_plan" => readers::quoted_plan(rt, alloc),
+        "repeated_change" => readers::repeated_change(rt, alloc),
+        "read_script" => readers::script(rt, alloc),
+        "rules_push" => lists::rules_push(rt, alloc),
+        "registry_add" => lists::registry_add(rt, alloc),
+        "version_line" => lines::version(rt, alloc),
+        "summary_line" => lines::summary(rt, alloc),
+        "event_line" => lines::event(rt, alloc),
+        "push_version" => lines::pushed_version(rt, alloc),
+        "push_summary" => lines::pushed_summary(rt, alloc),
+        "push_event" => lines::pushed_event(rt, alloc),
+        "open" => opening::bus(rt, alloc),
+        "claims_open" => opening::claims(rt, alloc),
+        "read_all" => command::all_bytes(rt, alloc),
+        "read_words" => command::words(rt, alloc),
+        "run_command" => command::whole(rt, alloc),
+        "apply_bytes" => runs::by_one(rt, alloc),
+        "apply_bytes_by_eight" => runs::by_eight(rt, alloc),
+        _ => Err(io::Error::from(ErrorKind::InvalidInput)),
+    }
+}

@@ -1,0 +1,43 @@
+//! The readers of plans and scripts.
+
+use apply_plan::{read_plan, read_script};
+use std::alloc::Global;
+use std::io;
+use std::io::ErrorKind;
+
+/// A plan with one create.
+pub const ONE_CREATE: &str =
+    r#"{"format_version":"1.2","terraform_version":"1.9.0","resource_changes":[{"address":"random_pet.animal","mode":"managed","type":"random_pet","name":"animal","change":{"actions":["create"]}}]}"#;
+
+/// Its script.
+pub const ONE_SCRIPT: &str =
+    r#"{"changes":[{"address":"random_pet.animal","steps":[{"seconds":12,"id":"brave-otter","warning":{"summary":"slow","detail":"The provider is slow."}}]}]}"#;
+
+/// A plan with a module whose key is quoted.
+const QUOTED: &str =
+    r#"{"format_version":"1.2","terraform_version":"1.9.0","resource_changes":[{"address":"module.a[\"x.y\"].aws_instance.web[\"k\\\"1\"]","module_address":"module.a[\"x.y\"]","mode":"managed","type":"aws_instance","name":"web","index":"k\"1","change":{"actions":["create"]}}]}"#;
+
+/// A plan that names one object twice.
+const REPEATED: &str =
+    r#"{"format_version":"1.2","resource_changes":[{"address":"a_b.c","mode":"managed","type":"a_b","name":"c","change":{"actions":["create"]}},{"address":"a_b.c","mode":"managed","type":"a_b","name":"c","change":{"actions":["no-op"]}}]}"#;
+
+/// Reads a plan.
+pub fn quoted_plan(rt: &impl Print, alloc: Global) -> io::Result<()> {
+    println!(rt; "call")?;
+    println!(rt; "{:?}", read_plan(alloc, QUOTED.as_bytes()))
+}
+
+/// Reads a plan that repeats a change.
+pub fn repeated_change(rt: &impl Print, alloc: Global) -> io::Result<()> {
+    println!(rt; "call")?;
+    println!(rt; "{:?}", read_plan(alloc, REPEATED.as_bytes()))
+}
+
+/// Reads a script.
+pub fn script(rt: &impl Print, alloc: Global) -> io::Result<()> {
+    let Ok(plan) = read_plan(alloc, ONE_CREATE.as_bytes()) else {
+        return Err(io::Error::from(ErrorKind::OutOfMemory));
+    };
+    println!(rt; "call")?;
+    println!(rt; "{:?}", read_script(alloc, ONE_SCRIPT.as_bytes(), &plan))
+}

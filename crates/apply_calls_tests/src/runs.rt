@@ -1,0 +1,82 @@
+//! Runs from bytes.
+
+use crate::readers::{ONE_CREATE, ONE_SCRIPT};
+use apply_hooks::Registry;
+use apply_run::{Gate, MemorySink, Options, Sink, apply_bytes};
+use apply_text::{Operation, Start};
+use std::alloc::Global;
+use std::io;
+use std::sync::Wait;
+use std::sync::atomic::{AtomicU64, Ordering};
+use std::thread::Threads;
+
+/// A plan with three creates.
+const THREE_CREATES: &str =
+    r#"{"format_version":"1.2","terraform_version":"1.9.0","resource_changes":[{"address":"null_resource.a","mode":"managed","type":"null_resource","name":"a","change":{"actions":["create"]}},{"address":"null_resource.b","mode":"managed","type":"null_resource","name":"b","change":{"actions":["create"]}},{"address":"null_resource.c","mode":"managed","type":"null_resource","name":"c","change":{"actions":["create"]}}]}"#;
+
+/// Its script.
+const THREE_SPANS: &str =
+    r#"{"changes":[{"address":"null_resource.b","steps":[{"seconds":20}]},{"address":"null_resource.c","steps":[{"seconds":5}]}]}"#;
+
+/// Counts how often it was asked.
+#[derive(Drop)]
+struct Counting {
+    asked: AtomicU64,
+}
+
+impl Gate for Counting {
+    fn pass(&self, _worker: u8, _change: u32, _step: u8) {
+        self.asked.fetch_add(1, Ordering::SeqCst);
+    }
+}
+
+/// One create with a script, by one worker.
+pub fn by_one<R: Print + Threads + Wait + Sync>(rt: &R, alloc: Global) -> io::Result<()> {
+    apply(rt, alloc, ONE_CREATE, ONE_SCRIPT, 1, 64)
+}
+
+/// Three creates with a script, by eight workers over a bus of one message.
+pub fn by_eight<R: Print + Threads + Wait + Sync>(rt: &R, alloc: Global) -> io::Result<()> {
+    apply(rt, alloc, THREE_CREATES, THREE_SPANS, 8, 1)
+}
+
+/// Applies the plan. Tells how it ended, how many writes failed, how often the gate was asked, and what was written.
+fn apply<R: Print + Threads + Wait + Sync>(
+    rt: &R,
+    alloc: Global,
+    plan: &str,
+    script: &str,
+    workers: u8,
+    capacity: u16,
+) -> io::Result<()> {
+    let gate = Counting {
+        asked: AtomicU64::new(0),
+    };
+    let options = Options {
+        workers,
+        capacity,
+        start: Start::zero(),
+        operation: Operation::Apply,
+    };
+    println!(rt; "call")?;
+    let (sink, result) = apply_bytes(
+        rt,
+        alloc,
+        plan.as_bytes(),
+        Some(script.as_bytes()),
+        &Registry::new(alloc),
+        options,
+        MemorySink::new(alloc, usize::MAX, None),
+        &gate,
+    );
+    println!(rt; "{result:?}")?;
+    println!(rt;
+        "failed {} asked {}",
+        sink.failures(),
+        gate.asked.load(Ordering::SeqCst)
+    )?;
+    match str::from_utf8(sink.bytes()) {
+        Ok(lines) => print!(rt; "{lines}"),
+        Err(_) => println!(rt; "no text"),
+    }
+}

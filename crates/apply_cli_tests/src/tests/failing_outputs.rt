@@ -1,0 +1,216 @@
+//! Outputs that fail at each byte, and faults that go out in one write.
+
+use super::faults::{UNWRITTEN, with_room};
+use super::*;
+use apply_hooks::HookError;
+use std::fmt::Display;
+
+/// A replacement that creates first.
+const FAILED_DESTROY: &str =
+    r#"{"format_version":"1.2","terraform_version":"1.9.0","resource_changes":[{"address":"null_resource.a","mode":"managed","type":"null_resource","name":"a","change":{"actions":["create","delete"]}}]}"#;
+
+/// Its second step fails.
+const FAILED_DESTROY_SCRIPT: &str =
+    r#"{"changes":[{"address":"null_resource.a","steps":[{"seconds":0},{"seconds":4,"failed":{"summary":"boom"}}]}]}"#;
+
+/// What is written of both.
+const FAILED_DESTROY_STREAM: &str =
+    r#"{"@level":"info","@message":"Terraform 1.9.0","@module":"terraform.ui","@timestamp":"1970-01-01T00:00:00Z","terraform":"1.9.0","type":"version","ui":"1.0"}
+{"@level":"info","@message":"null_resource.a: Creating...","@module":"terraform.ui","@timestamp":"1970-01-01T00:00:00Z","hook":{"action":"create","resource":{"addr":"null_resource.a","implied_provider":"null","module":"","resource":"null_resource.a","resource_key":null,"resource_name":"a","resource_type":"null_resource"}},"type":"apply_start"}
+{"@level":"info","@message":"null_resource.a: Creation complete after 0s","@module":"terraform.ui","@timestamp":"1970-01-01T00:00:00Z","hook":{"action":"create","elapsed_seconds":0,"resource":{"addr":"null_resource.a","implied_provider":"null","module":"","resource":"null_resource.a","resource_key":null,"resource_name":"a","resource_type":"null_resource"}},"type":"apply_complete"}
+{"@level":"info","@message":"null_resource.a: Destroying...","@module":"terraform.ui","@timestamp":"1970-01-01T00:00:00Z","hook":{"action":"delete","resource":{"addr":"null_resource.a","implied_provider":"null","module":"","resource":"null_resource.a","resource_key":null,"resource_name":"a","resource_type":"null_resource"}},"type":"apply_start"}
+{"@level":"info","@message":"null_resource.a: Destruction errored after 4s","@module":"terraform.ui","@timestamp":"1970-01-01T00:00:04Z","hook":{"action":"delete","elapsed_seconds":4,"resource":{"addr":"null_resource.a","implied_provider":"null","module":"","resource":"null_resource.a","resource_key":null,"resource_name":"a","resource_type":"null_resource"}},"type":"apply_errored"}
+{"@level":"error","@message":"Error: boom","@module":"terraform.ui","@timestamp":"1970-01-01T00:00:04Z","diagnostic":{"address":"null_resource.a","detail":"","severity":"error","summary":"boom"},"type":"diagnostic"}
+{"@level":"info","@message":"Apply complete! Resources: 1 added, 0 changed, 0 destroyed.","@module":"terraform.ui","@timestamp":"1970-01-01T00:00:04Z","changes":{"add":1,"change":0,"operation":"apply","remove":0},"type":"change_summary"}
+"#;
+
+/// Runs both by so many workers into an output that fails, with a place for faults.
+fn run_to_failure<E: Write, T: Threads + Wait + Sync>(
+    rt: &T,
+    alloc: Global,
+    workers: u8,
+    output: FailingWriter,
+    said: &mut E,
+) -> (FailingWriter, u8) {
+    let mut settings = defaults(alloc);
+    settings.workers = workers;
+    let registry = Registry::new(alloc);
+    let script = Some(FAILED_DESTROY_SCRIPT.as_bytes());
+    let (plan, output) = (FAILED_DESTROY.as_bytes(), StdSink::new(output));
+    let (output, status) = run_command(rt, alloc, &settings, &registry, script, plan, output, said);
+    (output.into_inner(), status)
+}
+
+/// Fails where an output with room for so many bytes gets others, or the status or what is said is another.
+fn takes_so_many<T: Threads + Wait + Sync + Abort>(
+    rt: &T,
+    alloc: Global,
+    workers: u8,
+    per_write: usize,
+    room: usize,
+) {
+    let mut said = Vec::new(alloc);
+    let output = with_room(alloc, per_write, room);
+    let (output, status) = run_to_failure(rt, alloc, workers, output, &mut said);
+    is_cut_off(rt, output.taken.as_slice(), room);
+    if room < FAILED_DESTROY_STREAM.len() {
+        fails_so(rt, room, status, 3, &said, UNWRITTEN);
+    } else {
+        fails_so(rt, room, status, 1, &said, "");
+    }
+}
+
+/// Fails where the bytes are not the first ones of the stream, so many.
+fn is_cut_off(rt: &impl Abort, found: &[u8], room: usize) {
+    let whole = FAILED_DESTROY_STREAM.as_bytes();
+    assert!(rt; Some(found) == whole.get(..room), "{room} bytes");
+}
+
+/// Fails where the status or what is said is another.
+fn fails_so(rt: &impl Abort, room: usize, found: u8, wanted: u8, said: &[u8], text: &str) {
+    assert_eq!(rt; found, wanted, "{room} bytes");
+    assert_eq!(rt; text_of(rt, said), text, "{room} bytes");
+}
+
+/// Whatever byte is the first that the output does not take: it has all before it and nothing more.
+fn fails_at_each_byte<T: Threads + Wait + Sync + Abort>(
+    rt: &T,
+    alloc: Global,
+    workers: u8,
+    per_write: usize,
+) {
+    for room in 0..=FAILED_DESTROY_STREAM.len() {
+        takes_so_many(rt, alloc, workers, per_write, room);
+    }
+}
+
+#[test]
+fn an_output_of_single_bytes_fails_under_one_worker(rt: HostRuntime) {
+    fails_at_each_byte(&rt, rt.alloc(), 1, 1);
+}
+
+#[test]
+fn an_output_of_short_writes_fails_under_one_worker(rt: HostRuntime) {
+    fails_at_each_byte(&rt, rt.alloc(), 1, 7);
+}
+
+#[test]
+fn an_output_of_whole_lines_fails_under_one_worker(rt: HostRuntime) {
+    fails_at_each_byte(&rt, rt.alloc(), 1, 4096);
+}
+
+#[test]
+fn an_output_of_single_bytes_fails_under_two_workers(rt: HostRuntime) {
+    fails_at_each_byte(&rt, rt.alloc(), 2, 1);
+}
+
+#[test]
+fn an_output_of_short_writes_fails_under_two_workers(rt: HostRuntime) {
+    fails_at_each_byte(&rt, rt.alloc(), 2, 7);
+}
+
+#[test]
+fn an_output_of_whole_lines_fails_under_two_workers(rt: HostRuntime) {
+    fails_at_each_byte(&rt, rt.alloc(), 2, 4096);
+}
+
+#[test]
+fn an_output_of_single_bytes_fails_under_eight_workers(rt: HostRuntime) {
+    fails_at_each_byte(&rt, rt.alloc(), 8, 1);
+}
+
+#[test]
+fn an_output_of_short_writes_fails_under_eight_workers(rt: HostRuntime) {
+    fails_at_each_byte(&rt, rt.alloc(), 8, 7);
+}
+
+#[test]
+fn an_output_of_whole_lines_fails_under_eight_workers(rt: HostRuntime) {
+    fails_at_each_byte(&rt, rt.alloc(), 8, 4096);
+}
+
+/// Fails where so many workers do not end so over an output that takes all and fails to flush.
+fn fails_to_flush<T: Threads + Wait + Sync + Abort>(rt: &T, alloc: Global, workers: u8) {
+    let mut said = Vec::new(alloc);
+    let room = FAILED_DESTROY_STREAM.len();
+    let (output, status) = run_to_failure(rt, alloc, workers, unflushed(alloc, room), &mut said);
+    is_cut_off(rt, output.taken.as_slice(), room);
+    fails_so(rt, room, status, 3, &said, UNWRITTEN);
+}
+
+#[test]
+fn a_flush_that_fails_is_said_so(rt: HostRuntime) {
+    fails_to_flush(&rt, rt.alloc(), 1);
+    fails_to_flush(&rt, rt.alloc(), 2);
+    fails_to_flush(&rt, rt.alloc(), 8);
+}
+
+/// Where the place for faults takes nothing either, the status is the same.
+#[test]
+fn an_output_and_the_place_for_faults_fail(rt: HostRuntime) {
+    let alloc = rt.alloc();
+    let output = with_room(alloc, 7, 100);
+    let (output, status) = run_to_failure(&rt, alloc, 1, output, &mut full(alloc));
+    is_cut_off(&rt, output.taken.as_slice(), 100);
+    assert_eq!(rt; status, 3);
+}
+
+/// Keeps what it is given, and counts the writes.
+#[derive(Drop)]
+struct Counting {
+    taken: Vec<u8>,
+    writes: u64,
+}
+
+impl Write for Counting {
+    fn write(&mut self, bytes: &[u8]) -> io::Result<usize> {
+        self.taken.extend_from_slice(bytes)?;
+        self.writes = self.writes.saturating_add(1);
+        Ok(bytes.len())
+    }
+
+    fn flush(&mut self) -> io::Result<()> {
+        Ok(())
+    }
+}
+
+/// What is said of a fault, and by how many writes.
+fn said_of<D: Display + Drop>(alloc: Global, fault: D) -> Counting {
+    let mut said = Counting {
+        taken: Vec::new(alloc),
+        writes: 0,
+    };
+    report(&mut said, fault);
+    said
+}
+
+/// Fails where the fault has another text, or goes out in another number of writes.
+fn goes_out_at_once<D: Display + Drop>(rt: &impl Abort, alloc: Global, fault: D, wanted: &str) {
+    let said = said_of(alloc, fault);
+    says(rt, wanted, &said.taken, wanted);
+    assert_eq!(rt; said.writes, 1, "{wanted}");
+}
+
+#[test]
+fn a_fault_goes_out_in_one_write(rt: HostRuntime) {
+    let alloc = rt.alloc();
+    let unknown = Refusal::Script(ScriptError::TooManySteps(9999));
+    let text = "script entry 9999 has too many steps";
+    goes_out_at_once(&rt, alloc, unknown, text);
+    let address = Refusal::Plan(PlanError::BadAddress(9999));
+    let text = "change 9999 has an address that does not fit its module";
+    goes_out_at_once(&rt, alloc, address, text);
+    goes_out_at_once(&rt, alloc, HookError::Memory, "out of memory");
+    goes_out_at_once(&rt, alloc, "", "");
+}
+
+/// A text that is longer than any fault's goes out whole all the same.
+#[test]
+fn a_long_fault_goes_out_whole(rt: HostRuntime) {
+    let alloc = rt.alloc();
+    for length in 240..260 {
+        let text = "a".repeat(alloc, length).expect(&rt, "memory");
+        let said = said_of(alloc, text.as_str());
+        says(&rt, "a long text", &said.taken, text.as_str());
+    }
+}

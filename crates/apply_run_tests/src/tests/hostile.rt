@@ -1,0 +1,164 @@
+//! Plans and scripts that are made to hurt, from bytes: each is refused with the text that its reader has for it, and nothing is
+//! written, or it is applied.
+
+use super::*;
+
+/// A plan with this at its top.
+const TOP: &str = r#"{"format_version":"1.2",CELL}"#;
+
+/// What stands at the top, and what is answered.
+const TOPS: &str = r#""format_version":"1" => the plan is not a plan of format 1.x
+"format_version":null => the plan is not a plan of format 1.x
+"format_version":"1." => applied
+"terraform_version":5 => the plan is not a plan of format 1.x
+"resource_changes":{} => the plan is not a plan of format 1.x
+"resource_changes":null => applied
+"other":1e400 => the plan is not JSON
+"other":[[[[[[[[[[]]]]]]]]]] => applied"#;
+
+/// A plan of one create with this in the place of its name.
+const NAMED: &str =
+    r#"{"format_version":"1.2","resource_changes":[{"address":"terraform.c","mode":"managed","type":"terraform","change":{"actions":["create"]},CELL}]}"#;
+
+/// What stands in the place of the name, and what is answered. Of a member that stands twice the last counts.
+const NAMES: &str = r#""name":"c" => applied
+"name":"" => change 0 is malformed
+"name":"c","index":9223372036854775807 => applied
+"name":"c","index":-1 => applied
+"name":"c","index":9223372036854775808 => change 0 is malformed
+"name":"c","index":1.5 => change 0 is malformed
+"name":"c","type":1 => change 0 is malformed
+"name":"c","mode":null => change 0 is malformed
+"name":"c","change":null => change 0 is malformed
+"name":"c","change":{"actions":"create"} => change 0 is malformed
+"name":"c","address":"" => change 0 has an address that does not fit its module"#;
+
+/// A script of one step that is this.
+const STEP: &str = r#"{"changes":[{"address":"random_pet.animal","steps":[CELL]}]}"#;
+
+/// What the step is, and what is answered.
+const STEPS: &str = r#"{"seconds":-1} => script entry 0 is malformed
+{"seconds":1.5} => script entry 0 is malformed
+{"seconds":"1"} => script entry 0 is malformed
+{"seconds":18446744073709551616} => script entry 0 is malformed
+{} => script entry 0 is malformed
+{"seconds":18446744073709551615} => script entry 0 has a step over 86400 seconds
+{"seconds":1,"failed":{"summary":"boom"},"warning":{"summary":"slow"}} => script entry 0 is malformed
+{"seconds":1,"warning":{"summary":"slow"}} => applied"#;
+
+/// The text with the cell in its place.
+fn with_cell(rt: &impl Abort, alloc: Global, text: &str, cell: &str) -> String {
+    text.replace(alloc, "CELL", cell).expect(rt, "memory")
+}
+
+/// Fails where the bytes are answered otherwise, or something was written and they were refused.
+fn is_answered<R: Threads + Wait + Sync + Abort>(
+    rt: &R,
+    alloc: Global,
+    plan: &[u8],
+    script: Option<&[u8]>,
+    wanted: &str,
+) {
+    let registry = Registry::new(alloc);
+    let sink = memory(alloc);
+    let options = options(2, 1);
+    let (sink, result) = apply_bytes(rt, alloc, plan, script, &registry, options, sink, &NoGate);
+    match result {
+        Ok(_) => assert_eq!(rt; "applied", wanted),
+        Err(refusal) => is_refused(rt, alloc, refusal, sink.bytes(), wanted),
+    }
+}
+
+/// Fails where the refusal has another text, or something was written.
+fn is_refused(rt: &impl Abort, alloc: Global, refusal: Refusal, written: &[u8], wanted: &str) {
+    let text = refusal.to_string(alloc).expect(rt, "memory");
+    assert_eq!(rt; text.as_str(), wanted);
+    assert!(rt; written.is_empty(), "{wanted}");
+}
+
+/// Fails where a row's plan is answered otherwise.
+fn plans_are_answered<R: Threads + Wait + Sync + Abort>(
+    rt: &R,
+    alloc: Global,
+    plan: &str,
+    table: &str,
+) {
+    for row in table.lines() {
+        let (cell, wanted) = parted(rt, row, " => ");
+        let text = with_cell(rt, alloc, plan, cell);
+        is_answered(rt, alloc, text.as_bytes(), None, wanted);
+    }
+}
+
+#[test]
+fn hostile_plans_are_answered(rt: HostRuntime) {
+    plans_are_answered(&rt, rt.alloc(), TOP, TOPS);
+    plans_are_answered(&rt, rt.alloc(), NAMED, NAMES);
+}
+
+#[test]
+fn hostile_scripts_are_answered(rt: HostRuntime) {
+    let alloc = rt.alloc();
+    for row in STEPS.lines() {
+        let (cell, wanted) = parted(&rt, row, " => ");
+        let script = with_cell(&rt, alloc, STEP, cell);
+        let script = Some(script.as_bytes());
+        is_answered(&rt, alloc, ONE_CREATE.as_bytes(), script, wanted);
+    }
+}
+
+#[test]
+fn plans_and_scripts_that_are_cut_off(rt: HostRuntime) {
+    let alloc = rt.alloc();
+    let (plan, script) = (FAILED_DESTROY.as_bytes(), FAILED_DESTROY_SCRIPT.as_bytes());
+    for end in 0..plan.len() {
+        is_answered(
+            &rt,
+            alloc,
+            &plan[..end],
+            Some(script),
+            "the plan is not JSON",
+        );
+    }
+    for end in 0..script.len() {
+        is_answered(
+            &rt,
+            alloc,
+            plan,
+            Some(&script[..end]),
+            "the script is not JSON",
+        );
+    }
+    is_answered(&rt, alloc, plan, Some(script), "applied");
+}
+
+#[test]
+fn bytes_that_are_no_text(rt: HostRuntime) {
+    let alloc = rt.alloc();
+    let plan = b"{\"format_version\":\"1.\xff\"}";
+    is_answered(&rt, alloc, plan, None, "the plan is not JSON");
+    let script = b"{\"changes\":[],\"other\":\"\xff\"}";
+    is_answered(
+        &rt,
+        alloc,
+        ONE_CREATE.as_bytes(),
+        Some(script),
+        "the script is not JSON",
+    );
+}
+
+/// Arrays in one another, so many, in a member that is ignored.
+fn nested(rt: &impl Abort, alloc: Global, count: usize) -> String {
+    let starts = "[".repeat(alloc, count).expect(rt, "memory");
+    let ends = "]".repeat(alloc, count).expect(rt, "memory");
+    format!(in alloc; "\"other\":{starts}{ends}").expect(rt, "memory")
+}
+
+#[test]
+fn values_that_nest_deep(rt: HostRuntime) {
+    let alloc = rt.alloc();
+    let plan = with_cell(&rt, alloc, TOP, nested(&rt, alloc, 100).as_str());
+    is_answered(&rt, alloc, plan.as_bytes(), None, "applied");
+    let plan = with_cell(&rt, alloc, TOP, nested(&rt, alloc, 200).as_str());
+    is_answered(&rt, alloc, plan.as_bytes(), None, "the plan is not JSON");
+}
