@@ -1,7 +1,8 @@
 //! Lines, each in a text of its own and behind another.
 
 use crate::readers::ONE_CREATE;
-use apply_events::{Counts, Event, What};
+use apply_events::{Counts, Runner};
+use apply_hooks::Registry;
 use apply_plan::{Plan, Script, read_plan};
 use apply_text::{LineBuffer, Operation, Start, event_line, summary_line, version_line};
 use std::alloc::{AllocError, Global};
@@ -13,17 +14,6 @@ fn plan(alloc: Global) -> io::Result<Plan> {
     match read_plan(alloc, ONE_CREATE.as_bytes()) {
         Ok(plan) => Ok(plan),
         Err(_) => Err(io::Error::from(ErrorKind::OutOfMemory)),
-    }
-}
-
-/// The completion of the plan's create.
-fn completion() -> Event {
-    Event {
-        worker: 0,
-        change: 0,
-        step: 0,
-        what: What::Complete(12),
-        at: 12,
     }
 }
 
@@ -43,17 +33,22 @@ pub fn summary(rt: &impl Print, alloc: Global) -> io::Result<()> {
     )
 }
 
-/// Makes the line of an event.
+/// Makes the line of the plan's first event.
 pub fn event(rt: &impl Print, alloc: Global) -> io::Result<()> {
     let plan = plan(alloc)?;
     let script = Script::empty(alloc);
-    if plan.len() == 0 || plan.change(0).steps().is_empty() {
+    let registry = Registry::new(alloc);
+    if plan.len() == 0 {
         return Err(io::Error::from(ErrorKind::InvalidData));
     }
+    let mut runner = Runner::start(&plan, &script, &registry, 0, 0, 0);
+    let Some(event) = runner.next() else {
+        return Err(io::Error::from(ErrorKind::InvalidData));
+    };
     println!(rt; "call")?;
     println!(rt;
         "{:?}",
-        event_line(alloc, &plan, &script, Start::zero(), 12, &completion())
+        event_line(alloc, &plan, &script, Start::zero(), event.at, &event)
     )
 }
 
@@ -100,15 +95,20 @@ pub fn pushed_summary(rt: &impl Print, alloc: Global) -> io::Result<()> {
     tell_pushed(rt, pushed, &buffer)
 }
 
-/// Adds the line of an event to a buffer.
+/// Adds the line of the plan's first event to a buffer.
 pub fn pushed_event(rt: &impl Print, alloc: Global) -> io::Result<()> {
     let plan = plan(alloc)?;
     let script = Script::empty(alloc);
+    let registry = Registry::new(alloc);
     let mut buffer = begun(alloc, &plan)?;
-    if plan.len() == 0 || plan.change(0).steps().is_empty() {
+    if plan.len() == 0 {
         return Err(io::Error::from(ErrorKind::InvalidData));
     }
+    let mut runner = Runner::start(&plan, &script, &registry, 0, 0, 0);
+    let Some(event) = runner.next() else {
+        return Err(io::Error::from(ErrorKind::InvalidData));
+    };
     tell(rt, "call", &buffer)?;
-    let pushed = buffer.push_event(&plan, &script, Start::zero(), 12, &completion());
+    let pushed = buffer.push_event(&plan, &script, Start::zero(), event.at, &event);
     tell_pushed(rt, pushed, &buffer)
 }
