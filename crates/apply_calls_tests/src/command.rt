@@ -33,7 +33,7 @@ pub fn words(rt: &impl Print, alloc: Global) -> io::Result<()> {
     println!(rt; "{:?}", read_words(alloc, &words))
 }
 
-/// Runs the command on one create, and writes what it says of faults behind the answer.
+/// Runs the command on one create. What it says of faults stands before the answer.
 pub fn whole<R: Print + Threads + Wait + Sync>(rt: &R, alloc: Global) -> io::Result<()> {
     let settings = Settings {
         at: Start::zero(),
