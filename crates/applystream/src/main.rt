@@ -1,5 +1,5 @@
 //! Prints the stream of messages for applying a saved plan, which is read from standard input, as the words of the command
-//! line say.
+//! line say; or checks such a stream, where the first of them is `check`.
 #![tactic(auto)]
 
 use apply_cli::{Usage, answer_usage, follow, given_words};
@@ -22,6 +22,9 @@ fn main(rt: HostRuntime) -> ExitCode {
 /// Follows the words over the standard streams, and answers the exit status.
 fn run<T: Threads + Wait + Sync>(rt: &HostRuntime, threads: &T) -> Result<u8, Usage> {
     let words = given_words(rt)?;
+    if let Some(status) = check_stream(rt, &words) {
+        return Ok(status);
+    }
     let Ok(output) = BufWriter::with_capacity(rt.alloc(), OUTPUT_ROOM, rt.stdout()) else {
         return Err(Usage::Memory);
     };
@@ -37,4 +40,20 @@ fn run<T: Threads + Wait + Sync>(rt: &HostRuntime, threads: &T) -> Result<u8, Us
     // What a failed write left behind is given up: a drop would write it once more, behind the fault.
     let (_stdout, _unwritten) = output.into_parts();
     Ok(status)
+}
+
+/// Checks a stream, where the first word behind the program's name is `check`, and answers the exit status.
+fn check_stream(rt: &HostRuntime, words: &[String]) -> Option<u8> {
+    if words.get(1)?.as_str() != "check" {
+        return None;
+    }
+    let words = words.get(2..).unwrap_or(&[]);
+    Some(apply_check::follow(
+        rt,
+        rt.alloc(),
+        words,
+        rt.reader(),
+        &mut rt.stdout(),
+        &mut rt.stderr(),
+    ))
 }

@@ -1,0 +1,14 @@
+pub mod Accepted
+pub mod Balance
+pub mod Continuing
+pub mod Cut
+pub mod Doubling
+pub mod Firsts
+pub mod FromReader
+pub mod Least
+pub mod OneLine
+pub mod OpenSteps
+pub mod Held
+pub mod Summing
+pub mod Trees
+pub mod WholeStream

@@ -1,0 +1,58 @@
+-- The next of what the reader gives, by what it is.
+use Rattle.std.proofs.Common.{◌≡◌, ◌<◌, length, Ok, sym, ap, ◌∙◌, arith, subst}
+use Rattle.std.specs.Prelude.{IfSome}
+use Rattle.apply_check.specs.declared.next.Next.{Next}
+use Rattle.apply_check.specs.Lines.{at_line, end_of, read_line}
+use Rattle.apply_check.specs.Reading.{Gives}
+use Rattle.apply_check.proofs.FromReader.{as_answer, leads_on, leads_out, leads_too_far, leads_too_long, leads_wrong, says_nothing}
+use Rattle.apply_check.proofs.WholeStream.{one_more}
+use Rattle.apply_check.proofs.reading.check_with.Goals as goal
+
+pub returns-in-Err : goal.returns-in-Err
+returns-in-Err g c = says_nothing (g.R.Read.remaining c.args.reader.now) _ c.in-Err.ensures.refused
+
+pub returns-in-End : goal.returns-in-End
+returns-in-End g c =
+    let k = c.lines.invariant.known in
+    let gives = subst (λ (w : Next). IfSome (g.R.Read.remaining c.lines.reader) (Gives w c.next_line.new.line.items (g.R.Read.remaining c.next_line.new.reader))) c.in-End.is c.in-Ok.ensures.next in
+    as_answer (g.R.Read.remaining c.args.reader.now) (at_line (length k.0) (end_of k.0)) _
+    (leads_out (g.R.Read.remaining c.args.reader.now) (g.R.Read.remaining c.lines.reader) (g.R.Read.remaining c.next_line.new.reader) k.0 c.next_line.new.line.items k.2 gives)
+    (λ texts verdict. c.ended.ensures k.0 texts k.1 verdict)
+
+pub returns-in-TooLong : goal.returns-in-TooLong
+returns-in-TooLong g c =
+    let k = c.lines.invariant.known in
+    let gives = subst (λ (w : Next). IfSome (g.R.Read.remaining c.lines.reader) (Gives w c.next_line.new.line.items (g.R.Read.remaining c.next_line.new.reader))) c.in-TooLong.is c.in-Ok.ensures.next in
+    leads_too_long (g.R.Read.remaining c.args.reader.now) (g.R.Read.remaining c.lines.reader) (g.R.Read.remaining c.next_line.new.reader) k.0 c.next_line.new.line.items c.count.result _ k.2 gives (c.count.ensures ∙ k.1.lines) c.found.ensures
+
+pub returns-then-is_full : goal.returns-then-is_full
+returns-then-is_full g c =
+    let k = c.lines.invariant.known in
+    let gives = subst (λ (w : Next). IfSome (g.R.Read.remaining c.lines.reader) (Gives w c.next_line.new.line.items (g.R.Read.remaining c.next_line.new.reader))) c.in-Line.is c.in-Ok.ensures.next in
+    leads_too_far (g.R.Read.remaining c.args.reader.now) (g.R.Read.remaining c.lines.reader) (g.R.Read.remaining c.next_line.new.reader) k.0 c.next_line.new.line.items k.2 gives
+    (λ few. let lines = k.1.lines in let not_full = c.is_full.ensures.1 (omega (arith, few)) in let full = c.if-is_full.true in cc)
+
+pub lines-smaller : goal.lines-smaller
+lines-smaller g c =
+    let k = c.lines.invariant.known in
+    let new = c.in-Ok-line.ensures k.0 k.1 in
+    let longer = one_more k.0 c.deref.result.now new.0 new.1 in
+    let before = k.1.lines in
+    let after = new.2.lines in
+    let room : c.lines.checker.lines < 4294967296 = c.is_full.ensures.0 c.if-is_full.false in
+    omega arith
+
+pub lines-preserved : goal.lines-preserved
+lines-preserved g c =
+    let k = c.lines.invariant.known in
+    let gives = subst (λ (w : Next). IfSome (g.R.Read.remaining c.lines.reader) (Gives w c.next_line.new.line.items (g.R.Read.remaining c.next_line.new.reader))) c.in-Line.is c.in-Ok.ensures.next in
+    let new = c.in-Ok-line.ensures k.0 k.1 in
+    let read : read_line k.0 c.next_line.new.line.items ≡ Ok new.0 = ap (read_line k.0) (sym c.deref.ensures.value) ∙ new.1 in
+    record { known = (new.0, new.2, leads_on (g.R.Read.remaining c.args.reader.now) (g.R.Read.remaining c.lines.reader) (g.R.Read.remaining c.next_line.new.reader) k.0 new.0 c.next_line.new.line.items k.2 gives read) }
+
+pub returns-in-Err-line : goal.returns-in-Err-line
+returns-in-Err-line g c =
+    let k = c.lines.invariant.known in
+    let gives = subst (λ (w : Next). IfSome (g.R.Read.remaining c.lines.reader) (Gives w c.next_line.new.line.items (g.R.Read.remaining c.next_line.new.reader))) c.in-Line.is c.in-Ok.ensures.next in
+    leads_wrong (g.R.Read.remaining c.args.reader.now) (g.R.Read.remaining c.lines.reader) (g.R.Read.remaining c.next_line.new.reader) k.0 c.next_line.new.line.items c.in-Err-line.fault c.count-number.result _ k.2 gives
+    (λ memory. ap (read_line k.0) (sym c.deref.ensures.value) ∙ (c.in-Err-line.ensures k.0 k.1).1 memory) (c.count-number.ensures ∙ k.1.lines) c.found-in-Err-line.ensures

@@ -1,0 +1,15 @@
+pub mod Checking
+pub mod Counted
+pub mod Course
+pub mod Cut
+pub mod Intents
+pub mod Json
+pub mod Laws
+pub mod Lines
+pub mod Message
+pub mod MessageView
+pub mod Reading
+pub mod Results
+pub mod Standing
+pub mod Telling
+pub mod Words

@@ -1,0 +1,226 @@
+//! The command `check`, from its words to its exit status, over any files and streams.
+
+ghost use Rattle.std.specs.Prelude.{◌≡◌, ◌≤◌, ◌++◌, ◌∷◌, [], true, IfSome, Ok, Err, Result};
+ghost use Rattle.std.specs.Io.KnownBytes.{Appends, Keeps};
+ghost use Rattle.apply_check.specs.Cut.{lines_of};
+ghost use Rattle.apply_check.specs.Reading.{IsAnswer};
+ghost use Rattle.apply_check.specs.Telling.{IsTold, fault_status_of, usage_status_of};
+ghost use Rattle.apply_check.specs.declared.read_fault.ReadFault.{ReadFault as fault_type};
+ghost use Rattle.apply_check.specs.declared.whole.Whole.{Whole as whole_type};
+
+use crate::checker::Checker;
+use crate::fault::Fault;
+use crate::finding::Finding;
+use crate::form::Form;
+use crate::place::Place;
+use crate::read_fault::ReadFault;
+use crate::reading::check_with;
+use crate::telling::{finding_object, whole_line};
+use crate::usage::Usage;
+use crate::whole::Whole;
+use crate::words::read_words;
+use std::alloc::Global;
+use std::fmt::Display;
+use std::fs;
+use std::io::{BufRead, BufReader, Read, Write};
+use std::rt::Files;
+
+/// The stream is whole, and tells of an error.
+const ERRORS: u8 = 1;
+
+/// The stream is not whole or could not be read, or the words are none of the command.
+const REFUSED: u8 = 2;
+
+/// Memory was refused, or the output could not be written.
+const FAILED: u8 = 3;
+
+/// How many bytes are asked for at once.
+const BUFFER_LEN: usize = 65_536;
+
+/// Does what the words behind `check` say, and answers the exit status, as `check_command` does. It is 0 where help was asked
+/// for, and 2 where the words are none of the command or the file could not be opened.
+pub fn follow<F: Files, R: Read + Drop, W: Write, E: Write>(
+    files: &F,
+    alloc: Global,
+    words: &[String],
+    input: R,
+    out: &mut W,
+    faults: &mut E,
+) -> u8
+    ensures { result ≤ 3 }
+{
+    let settings = match read_words(alloc, words) {
+        Ok(settings) => settings,
+        Err(usage) => return answer_usage(&usage, out, faults),
+    };
+    match &settings.file {
+        Some(name) => match fs::open(files, name.as_str()) {
+            Ok(file) => check_input(alloc, settings.form, file, out, faults),
+            Err(_) => {
+                report(faults, "the file could not be opened");
+                REFUSED
+            }
+        },
+        None => check_input(alloc, settings.form, input, out, faults),
+    }
+}
+
+/// Does what `check_command` does, with a reader that has no buffer.
+pub fn check_input<R: Read + Drop, W: Write, E: Write>(
+    alloc: Global,
+    form: Form,
+    input: R,
+    out: &mut W,
+    faults: &mut E,
+) -> u8
+    ensures { result ≤ 3 }
+{
+    match BufReader::with_capacity(alloc, BUFFER_LEN, input) {
+        Ok(mut reader) => check_command(alloc, form, &mut reader, out, faults),
+        Err(_) => refuse(faults, ReadFault::Memory),
+    }
+}
+
+/// Checks the stream that the reader gives, says the verdict, and answers the exit status. A stream that is not whole is read
+/// no further than the first line that shows it.
+///
+/// The status is 0 where the stream is whole and tells of no error, and 1 where it is whole and tells of an error: what was
+/// done is said on `out` then. It is 2 where the stream is not whole, which is said on `out` as an object or on `faults` as a
+/// text, and where it has too many lines or could not be read, which is said on `faults`. It is 3 where memory was refused or
+/// `out` could not be written. A text for `faults` that cannot be written is dropped.
+pub fn check_command<R: BufRead, W: Write, E: Write>(
+    alloc: Global,
+    form: Form,
+    reader: &mut R,
+    out: &mut W,
+    faults: &mut E,
+) -> u8
+    ensures told { (answer : Result whole_type fault_type)
+        × IfSome (R.remaining reader.old) (λ bytes. IsAnswer (lines_of bytes) answer)
+        × IsTold form answer result (W.contents out.old) (W.contents out.new) }
+    ensures quiet { result ≤ 1 → Keeps (E.contents faults.old) (E.contents faults.new) }
+    ensures statuses { result ≤ 3 }
+{
+    let mut checker = Checker::new(alloc);
+    match check_with(alloc, &mut checker, reader) {
+        Ok(whole) => tell_whole(alloc, form, &whole, out, faults),
+        Err(ReadFault::Found(finding)) => {
+            tell_finding(alloc, form, &checker, &finding, out, faults)
+        }
+        Err(fault) => refuse(faults, fault),
+    }
+}
+
+/// Says that the stream is whole, and answers the exit status.
+fn tell_whole<W: Write, E: Write>(
+    alloc: Global,
+    form: Form,
+    whole: &Whole,
+    out: &mut W,
+    faults: &mut E,
+) -> u8
+    ensures told { IsTold form (Ok whole.now) result (W.contents out.old) (W.contents out.new) }
+    ensures quiet { result ≤ 1 → Keeps (E.contents faults.old) (E.contents faults.new) }
+    ensures statuses { result ≤ 3 }
+{
+    let Ok(text) = whole_line(alloc, form, whole) else {
+        return refuse(faults, ReadFault::Memory);
+    };
+    if !write_line(out, text.as_str()) {
+        report(faults, "the output could not be written");
+        return FAILED;
+    }
+    if whole.has_errors { ERRORS } else { 0 }
+}
+
+/// Says what is wrong with the stream, with what stands open where that is the fault, and answers the exit status.
+fn tell_finding<W: Write, E: Write>(
+    alloc: Global,
+    form: Form,
+    checker: &Checker,
+    finding: &Finding,
+    out: &mut W,
+    faults: &mut E,
+) -> u8
+    ensures told { IsTold form (Err (fault_type.Found finding.now)) result (W.contents out.old) (W.contents out.new) }
+    ensures bad { (2 ≤ result) × (result ≤ 3) }
+{
+    let place = place_of(checker, finding.fault);
+    match form {
+        Form::Text => {
+            match place {
+                Some(place) => {
+                    let _ = writeln!(faults, "applystream: {finding}: {place}");
+                }
+                None => report(faults, *finding),
+            }
+            REFUSED
+        }
+        Form::Json => {
+            let Ok(text) = finding_object(alloc, finding, place) else {
+                return refuse(faults, ReadFault::Memory);
+            };
+            if write_line(out, text.as_str()) {
+                REFUSED
+            } else {
+                report(faults, "the output could not be written");
+                FAILED
+            }
+        }
+    }
+}
+
+/// What stands open, where that is the fault.
+fn place_of<'a>(checker: &'a Checker, fault: Fault) -> Option<Place<'a>> {
+    match fault {
+        Fault::Unended => {
+            let (address, standing) = checker.unended()?;
+            Place::of(address, standing)
+        }
+        _ => None,
+    }
+}
+
+/// Writes the text and a line feed, all of it, and says whether that went well.
+fn write_line<W: Write>(out: &mut W, text: &str) -> bool
+    ensures { result ≡ true → Appends (W.contents out.old) (W.contents out.new) (text.now ++ 10 ∷ []) }
+{
+    writeln!(out, "{text}").is_ok() && out.flush().is_ok()
+}
+
+/// Says why there is no verdict, and answers the exit status.
+fn refuse<E: Write>(faults: &mut E, fault: ReadFault) -> u8
+    ensures { result ≡ fault_status_of fault }
+{
+    report(faults, fault);
+    match fault {
+        ReadFault::Found(_) | ReadFault::TooMany | ReadFault::Unread => REFUSED,
+        ReadFault::Memory => FAILED,
+    }
+}
+
+/// Says why the words are not followed, and answers the exit status: 0 for help, which is printed on `out`, 3 where memory was
+/// refused, else 2.
+pub fn answer_usage<W: Write, E: Write>(usage: &Usage, out: &mut W, faults: &mut E) -> u8
+    ensures status { result ≡ usage_status_of usage.now }
+    ensures quiet { result ≡ 0 → Keeps (E.contents faults.old) (E.contents faults.new) }
+    ensures refused { 2 ≤ result → Keeps (W.contents out.old) (W.contents out.new) }
+{
+    match usage {
+        Usage::Help(text) => {
+            let _ = out.write_all(text.as_str().as_bytes());
+            let _ = out.flush();
+            0
+        }
+        Usage::Words(text) => {
+            let _ = faults.write_all(text.as_str().as_bytes());
+            REFUSED
+        }
+        Usage::Memory => refuse(faults, ReadFault::Memory),
+    }
+}
+
+/// Says what went wrong. A text that cannot be written is dropped, since there is nowhere left to say so.
+fn report<E: Write, D: Display + Drop>(faults: &mut E, fault: D) {
+    let _ = writeln!(faults, "applystream: {fault}");
+}

@@ -1,0 +1,120 @@
+//! What is wrong with a line, or with the end of a stream.
+
+ghost use Rattle.std.specs.Prelude.{◌≡◌};
+ghost use Rattle.apply_check.specs.declared.fault.Fault.TheVariants.{Memory};
+
+use std::alloc::{AllocError, AllocFailed};
+use thiserror::Error;
+
+/// Why a line does not fit behind the lines before it. The variants are tested in this order.
+#[derive(Clone, Copy, Debug, Drop, Error, PartialEq, Eq)]
+pub enum Fault {
+    /// The line has more than 67,108,864 bytes.
+    #[error("is longer than 67108864 bytes")]
+    TooLong,
+    /// The line is no JSON object with a text `type`.
+    #[error("is not a message")]
+    NotAMessage,
+    /// A member that its type has is missing, or is not what it has to be.
+    #[error("is malformed")]
+    Malformed,
+    /// The first message is not `version`.
+    #[error("comes before the version")]
+    NoVersion,
+    /// `version` stands a second time.
+    #[error("repeats the version")]
+    VersionAgain,
+    /// A message about a step, or a summary, behind the summary.
+    #[error("comes after the summary")]
+    AfterSummary,
+    /// A step starts that began on that line and has not ended.
+    #[error("starts again what line {0} started")]
+    StartsAgain(u64),
+    /// Too many steps of one address overlap; the first of them began on that line.
+    #[error("is one of more than 10000 that overlap since line {0}")]
+    TooMany(u64),
+    /// A message about a step that does not stand open.
+    #[error("tells of a step that is not open")]
+    NotOpen,
+    /// The seconds of a step that began on that line do not rise.
+    #[error("tells of seconds that do not rise since line {0}")]
+    NotLater(u64),
+    /// An end leaves a provisioner that began on that line behind.
+    #[error("ends what the provisioner of line {0} runs in")]
+    LeavesProvisioner(u64),
+    /// A message about a provisioner where no create or delete of its address stands open.
+    #[error("tells of a provisioner outside of a create or a delete")]
+    NoStep,
+    /// A provisioner starts where one that began on that line runs.
+    #[error("starts a provisioner while that of line {0} runs")]
+    ProvisionerRuns(u64),
+    /// A message about a provisioner that does not run.
+    #[error("tells of a provisioner that does not run")]
+    NoProvisioner,
+    /// A step or a provisioner has not ended where it has to, or no error explained a failure.
+    #[error("comes before all has ended and each failure is explained")]
+    Unended,
+    /// The summary's totals are not those of the lines.
+    #[error("has totals that do not agree")]
+    WrongTotals,
+    /// The stream ends without a summary and without an error.
+    #[error("is the last, and no summary came")]
+    NoEnd,
+    /// Memory was refused.
+    #[error("out of memory")]
+    Memory,
+}
+
+impl Fault {
+    /// The fault in a word, for programs.
+    pub fn word(self) -> &'static str {
+        match self {
+            Fault::TooLong => "too_long",
+            Fault::NotAMessage => "not_a_message",
+            Fault::Malformed => "malformed",
+            Fault::NoVersion => "no_version",
+            Fault::VersionAgain => "version_again",
+            Fault::AfterSummary => "after_summary",
+            Fault::StartsAgain(_) => "starts_again",
+            Fault::TooMany(_) => "too_many",
+            Fault::NotOpen => "not_open",
+            Fault::NotLater(_) => "not_later",
+            Fault::LeavesProvisioner(_) => "leaves_provisioner",
+            Fault::NoStep => "no_step",
+            Fault::ProvisionerRuns(_) => "provisioner_runs",
+            Fault::NoProvisioner => "no_provisioner",
+            Fault::Unended => "unended",
+            Fault::WrongTotals => "wrong_totals",
+            Fault::NoEnd => "no_end",
+            Fault::Memory => "memory",
+        }
+    }
+
+    /// The line that the faulty one contradicts, counted from 1, where the fault names one.
+    pub fn other(self) -> Option<u64> {
+        match self {
+            Fault::StartsAgain(line)
+            | Fault::TooMany(line)
+            | Fault::NotLater(line)
+            | Fault::LeavesProvisioner(line)
+            | Fault::ProvisionerRuns(line) => Some(line),
+            _ => None,
+        }
+    }
+}
+
+impl From<AllocError> for Fault {
+    ghost from_gives = { λ _ fault. fault ≡ Memory };
+
+    fn from(_refused: AllocError) -> Fault {
+        Fault::Memory
+    }
+}
+
+impl<T: Drop> From<AllocFailed<T>> for Fault {
+    ghost from_gives = { λ _ fault. fault ≡ Memory };
+
+    fn from(_refused: AllocFailed<T>) -> Fault {
+        Fault::Memory
+    }
+}

@@ -1,0 +1,52 @@
+//! Whether a stream of the Machine-Readable UI is whole: each event of a step once, in its order, and totals that agree.
+#![tactic(auto)]
+
+mod action;
+mod checker;
+mod command;
+mod fault;
+mod finding;
+mod form;
+mod intent;
+mod json;
+mod laws;
+mod line_reader;
+mod message;
+mod next;
+mod open_steps;
+mod part;
+mod pending;
+mod place;
+mod read_fault;
+mod reading;
+mod settings;
+mod shown;
+mod standing;
+mod stream;
+mod telling;
+mod totals;
+mod usage;
+mod what;
+mod whole;
+mod words;
+
+pub use action::Action;
+pub use checker::Checker;
+pub use command::{answer_usage, check_command, check_input, follow};
+pub use fault::Fault;
+pub use finding::Finding;
+pub use form::Form;
+pub use json::parsing::MAX_BYTES;
+pub use laws::{
+    a_stream_without_errors_is_summed_up, each_step_ends_once, no_start_or_end_is_one_too_many,
+};
+pub use pending::Pending;
+pub use read_fault::ReadFault;
+pub use reading::{check, check_with};
+pub use settings::Settings;
+pub use standing::Standing;
+pub use stream::check_lines;
+pub use totals::Totals;
+pub use usage::Usage;
+pub use whole::Whole;
+pub use words::read_words;

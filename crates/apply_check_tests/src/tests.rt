@@ -1,0 +1,179 @@
+//! What no clause says: that the definition is the one that was meant, the texts of faults, readers and writers that fail, and
+//! that calls succeed with ample memory.
+
+mod commands;
+mod limits;
+mod reading;
+
+use apply_check::{
+    Checker, Fault, Finding, Form, ReadFault, Whole, check, check_command, check_lines, follow,
+};
+use std::alloc::Global;
+use std::io;
+use std::io::{BufRead, BufReader, ErrorKind, Read, Write};
+use std::process::Abort;
+use std::rt::Files;
+
+/// A line for each name.
+const LINES: &str = r#"
+V => {"type":"version"}
+Sc => {"type":"apply_start","hook":{"action":"create","resource":{"addr":"a"}}}
+Su => {"type":"apply_start","hook":{"action":"update","resource":{"addr":"a"}}}
+Sd => {"type":"apply_start","hook":{"action":"delete","resource":{"addr":"a"}}}
+Sr => {"type":"apply_start","hook":{"action":"read","resource":{"addr":"a"}}}
+Sb => {"type":"apply_start","hook":{"action":"create","resource":{"addr":"b"}}}
+Sx => {"type":"apply_start","hook":{"action":"forget","resource":{"addr":"a"}}}
+Pc10 => {"type":"apply_progress","hook":{"action":"create","elapsed_seconds":10,"resource":{"addr":"a"}}}
+Pc20 => {"type":"apply_progress","hook":{"action":"create","elapsed_seconds":20,"resource":{"addr":"a"}}}
+Pd10 => {"type":"apply_progress","hook":{"action":"delete","elapsed_seconds":10,"resource":{"addr":"a"}}}
+Cc => {"type":"apply_complete","hook":{"action":"create","elapsed_seconds":10,"resource":{"addr":"a"}}}
+Cu => {"type":"apply_complete","hook":{"action":"update","elapsed_seconds":0,"resource":{"addr":"a"}}}
+Cd => {"type":"apply_complete","hook":{"action":"delete","elapsed_seconds":0,"resource":{"addr":"a"}}}
+Cr => {"type":"apply_complete","hook":{"action":"read","elapsed_seconds":0,"resource":{"addr":"a"}}}
+Cb => {"type":"apply_complete","hook":{"action":"create","elapsed_seconds":0,"resource":{"addr":"b"}}}
+Ec => {"type":"apply_errored","hook":{"action":"create","elapsed_seconds":10,"resource":{"addr":"a"}}}
+s => {"type":"provision_start","hook":{"provisioner":"x","resource":{"addr":"a"}}}
+p => {"type":"provision_progress","hook":{"provisioner":"x","output":"y","resource":{"addr":"a"}}}
+c => {"type":"provision_complete","hook":{"provisioner":"x","resource":{"addr":"a"}}}
+e => {"type":"provision_errored","hook":{"provisioner":"x","resource":{"addr":"a"}}}
+Da => {"type":"diagnostic","diagnostic":{"severity":"error","address":"a"}}
+D => {"type":"diagnostic","diagnostic":{"severity":"error"}}
+Wa => {"type":"diagnostic","diagnostic":{"severity":"warning","address":"a"}}
+Z000 => {"type":"change_summary","changes":{"operation":"apply","add":0,"change":0,"remove":0,"import":0}}
+Z100 => {"type":"change_summary","changes":{"operation":"apply","add":1,"change":0,"remove":0}}
+Z010 => {"type":"change_summary","changes":{"operation":"apply","add":0,"change":1,"remove":0}}
+Z001 => {"type":"change_summary","changes":{"operation":"destroy","add":0,"change":0,"remove":1}}
+Z002 => {"type":"change_summary","changes":{"operation":"apply","add":0,"change":0,"remove":2}}
+Z101 => {"type":"change_summary","changes":{"operation":"apply","add":1,"change":0,"remove":1}}
+Qc => {"type":"planned_change","change":{"action":"create"}}
+Qu => {"type":"planned_change","change":{"action":"update"}}
+Qd => {"type":"planned_change","change":{"action":"delete"}}
+Qx => {"type":"planned_change","change":{"action":"replace"}}
+Qr => {"type":"planned_change","change":{"action":"read"}}
+Y000 => {"type":"change_summary","changes":{"operation":"plan","add":0,"change":0,"remove":0}}
+Y212 => {"type":"change_summary","changes":{"operation":"plan","add":2,"change":1,"remove":2}}
+O => {"type":"outputs","outputs":{}}
+L => {"type":"log"}
+? => {"type":7}
+! => {"type":"apply_start","hook":{"action":"create","resource":{}}}
+"#;
+
+/// Names of lines, and what is found.
+const VERDICTS: &str = r#"
+V Z000 O => ok 0 0 0
+V Qc Qu Qd Qx Qr Y212 O L Sc Cc Z100 O => ok 1 0 0
+V Qc Y212 => 3 has totals that do not agree
+V Z000 Qc => 3 comes after the summary
+V Z000 Y000 => 3 comes after the summary
+V Y000 L Sc Pc10 Pc20 => 6 comes before all has ended and each failure is explained
+V Sc Pc10 Cc Z100 O => ok 1 0 0
+V Su Cu Z010 => ok 0 1 0
+V Sd Cd Z001 => ok 0 0 1
+V Sr Cr Z000 => ok 0 0 0
+V Sc Sb Cb Cc D => ok 2 0 0 with errors
+V Sx Z000 => ok 0 0 0
+V Sd Cd Sc Cc Z101 => ok 1 0 1
+V Sc Cc Sd Cd Z101 => ok 1 0 1
+V Sd Sd Pd10 Pd10 Cd Cd Z002 => ok 0 0 2
+V Sd Sd Cd Z001 => 5 comes before all has ended and each failure is explained
+V Sd Sd Cd Cd Cd Z002 => 6 tells of a step that is not open
+V Sc s p c s e Cc Z100 => ok 1 0 0
+V Sc s e Ec Da => ok 0 0 0 with errors
+V Sc Ec Wa Z000 => 5 comes before all has ended and each failure is explained
+V Sc Ec Da Z000 => ok 0 0 0 with errors
+V Sr Wa Z000 => ok 0 0 0
+V Sr Da => ok 0 0 0 with errors
+V D => ok 0 0 0 with errors
+V => 1 is the last, and no summary came
+Z000 => 1 comes before the version
+L => 1 comes before the version
+V V => 2 repeats the version
+V Z000 Z000 => 3 comes after the summary
+V Z000 Sc => 3 comes after the summary
+V Z000 s => 3 comes after the summary
+V Sc Sb Sc => 4 starts again what line 2 started
+V Pc10 => 2 tells of a step that is not open
+V Sd Cc => 3 tells of a step that is not open
+V Sc Pc10 Pc10 => 4 tells of seconds that do not rise since line 2
+V Sc Pc20 Cc => 4 tells of seconds that do not rise since line 2
+V Sc s Cc => 4 ends what the provisioner of line 3 runs in
+V Sc Sd s Cd c Cc Z101 => ok 1 0 1
+V s => 2 tells of a provisioner outside of a create or a delete
+V Sr s => 3 tells of a provisioner outside of a create or a delete
+V Sc s s => 4 starts a provisioner while that of line 3 runs
+V Sc p => 3 tells of a provisioner that does not run
+V Sc Cc Z000 => 4 has totals that do not agree
+V Sc Cc Z101 => 4 has totals that do not agree
+V ? => 2 is not a message
+V ! => 2 is malformed
+"#;
+
+/// What stands before the mark of a row, and behind it.
+fn cells<'a>(rt: &impl Abort, row: &'a str) -> (&'a str, &'a str) {
+    match row.split_once(" => ") {
+        Some(cells) => cells,
+        None => panic!(rt; "no mark in the row {row}"),
+    }
+}
+
+/// The line of that name.
+fn line_named<'a>(rt: &impl Abort, lines: &'a str, name: &str) -> &'a str {
+    for row in lines.trim().lines() {
+        let (known, line) = cells(rt, row);
+        if known == name {
+            return line;
+        }
+    }
+    panic!(rt; "no line has the name {name}")
+}
+
+/// What is found in the lines of those names.
+fn verdict(rt: &impl Abort, alloc: Global, names: &str) -> String {
+    let mut checker = Checker::new(alloc);
+    let mut count = 0u64;
+    for name in names.split(' ') {
+        assert!(rt; !checker.is_full());
+        count = count.wrapping_add(1);
+        match checker.line(alloc, line_named(rt, LINES, name).as_bytes()) {
+            Ok(()) => {}
+            Err(fault) => return format!(in alloc; "{count} {fault}").expect(rt, "memory"),
+        }
+    }
+    match checker.end() {
+        Ok(whole) => {
+            let added = whole.totals.added;
+            let changed = whole.totals.changed;
+            let removed = whole.totals.removed;
+            let errors = if checker.has_failed() {
+                " with errors"
+            } else {
+                ""
+            };
+            assert_eq!(rt; whole.has_errors, checker.has_failed());
+            assert_eq!(rt; whole.lines, count);
+            format!(in alloc; "ok {added} {changed} {removed}{errors}").expect(rt, "memory")
+        }
+        Err(fault) => format!(in alloc; "{count} {fault}").expect(rt, "memory"),
+    }
+}
+
+#[test]
+fn verdicts(rt: HostRuntime) {
+    for row in VERDICTS.trim().lines() {
+        let (names, wanted) = cells(&rt, row);
+        let found = verdict(&rt, rt.alloc(), names);
+        assert_eq!(rt; found.as_str(), wanted, "{names}");
+    }
+}
+
+#[test]
+fn nothing_is_no_stream(rt: HostRuntime) {
+    let none: [Vec<u8>; 0] = [];
+    assert_eq!(rt;
+        check_lines(rt.alloc(), &none),
+        Err(Finding {
+            line: 0,
+            fault: Fault::NoEnd
+        })
+    );
+}

@@ -1,0 +1,195 @@
+//! The command, from its words to its exit status.
+
+use super::*;
+
+/// A stream in which a step failed.
+const FAILED: &str = r#"{"type":"version"}
+{"type":"apply_start","hook":{"action":"create","resource":{"addr":"a"}}}
+{"type":"apply_errored","hook":{"action":"create","elapsed_seconds":0,"resource":{"addr":"a"}}}
+{"type":"diagnostic","diagnostic":{"severity":"error","address":"a"}}
+"#;
+
+/// A stream that is cut off while two steps run.
+const CUT_OFF: &str = r#"{"type":"version"}
+{"type":"apply_start","hook":{"action":"create","resource":{"addr":"b[\"x\"]"}}}
+{"type":"apply_start","hook":{"action":"update","resource":{"addr":"c"}}}
+"#;
+
+/// What the command has done.
+#[derive(Drop)]
+struct Outcome {
+    status: u8,
+    printed: Vec<u8>,
+    said: Vec<u8>,
+}
+
+/// Checks the stream.
+fn checked(alloc: Global, form: Form, stream: &str) -> Outcome {
+    let mut printed = Vec::new(alloc);
+    let mut said = Vec::new(alloc);
+    let mut reader = stream.as_bytes();
+    let status = check_command(alloc, form, &mut reader, &mut printed, &mut said);
+    Outcome {
+        status,
+        printed,
+        said,
+    }
+}
+
+/// Fails where something else was done.
+fn outcome_is(rt: &impl Abort, outcome: &Outcome, status: u8, printed: &str, said: &str) {
+    assert_eq!(rt; outcome.printed.as_slice(), printed.as_bytes());
+    assert_eq!(rt; outcome.said.as_slice(), said.as_bytes());
+    assert_eq!(rt; outcome.status, status);
+}
+
+#[test]
+fn texts(rt: HostRuntime) {
+    let alloc = rt.alloc();
+    outcome_is(
+        &rt,
+        &checked(alloc, Form::Text, FAILED),
+        1,
+        "the stream is whole: 0 added, 0 changed, 0 destroyed, with errors\n",
+        "",
+    );
+    outcome_is(
+        &rt,
+        &checked(alloc, Form::Text, CUT_OFF),
+        2,
+        "",
+        "applystream: line 3 comes before all has ended and each failure is explained: create of b[\"x\"] since line 2\n",
+    );
+    outcome_is(
+        &rt,
+        &checked(alloc, Form::Text, "x"),
+        2,
+        "",
+        "applystream: line 1 is not a message\n",
+    );
+}
+
+#[test]
+fn objects(rt: HostRuntime) {
+    let alloc = rt.alloc();
+    outcome_is(
+        &rt,
+        &checked(alloc, Form::Json, FAILED),
+        1,
+        "{\"add\":0,\"change\":0,\"errors\":true,\"lines\":4,\"remove\":0,\"whole\":true}\n",
+        "",
+    );
+    outcome_is(
+        &rt,
+        &checked(alloc, Form::Json, CUT_OFF),
+        2,
+        "{\"address\":\"b[\\\"x\\\"]\",\"fault\":\"unended\",\"line\":3,\"open\":\"create\",\"other\":2,\"whole\":false}\n",
+        "",
+    );
+    outcome_is(
+        &rt,
+        &checked(alloc, Form::Json, "x"),
+        2,
+        "{\"fault\":\"not_a_message\",\"line\":1,\"whole\":false}\n",
+        "",
+    );
+}
+
+/// Follows the words, with that stream as the input.
+fn followed<F: Files>(
+    rt: &impl Abort,
+    files: &F,
+    alloc: Global,
+    words: &str,
+    stream: &str,
+) -> Outcome {
+    let mut list = Vec::new(alloc);
+    for word in words.split_whitespace() {
+        let word = String::from_str(alloc, word).expect(rt, "memory");
+        list.push(word).expect(rt, "memory");
+    }
+    let mut printed = Vec::new(alloc);
+    let mut said = Vec::new(alloc);
+    let status = follow(
+        files,
+        alloc,
+        &list,
+        stream.as_bytes(),
+        &mut printed,
+        &mut said,
+    );
+    Outcome {
+        status,
+        printed,
+        said,
+    }
+}
+
+#[test]
+fn words(rt: HostRuntime) {
+    let alloc = rt.alloc();
+    outcome_is(
+        &rt,
+        &followed(&rt, &rt, alloc, "", FAILED),
+        1,
+        "the stream is whole: 0 added, 0 changed, 0 destroyed, with errors\n",
+        "",
+    );
+    outcome_is(
+        &rt,
+        &followed(&rt, &rt, alloc, "--json", FAILED),
+        1,
+        "{\"add\":0,\"change\":0,\"errors\":true,\"lines\":4,\"remove\":0,\"whole\":true}\n",
+        "",
+    );
+    outcome_is(
+        &rt,
+        &followed(&rt, &rt, alloc, "no_such_file.jsonl", FAILED),
+        2,
+        "",
+        "applystream: the file could not be opened\n",
+    );
+    let help = followed(&rt, &rt, alloc, "--help", "");
+    assert_eq!(rt; help.status, 0);
+    assert!(rt; help.said.is_empty());
+    let wrong = followed(&rt, &rt, alloc, "--jsonl", "");
+    assert_eq!(rt; wrong.status, 2);
+    assert!(rt; wrong.printed.is_empty());
+}
+
+/// A writer that fails.
+#[derive(Drop)]
+struct Full;
+
+impl Write for Full {
+    fn write(&mut self, _buf: &[u8]) -> io::Result<usize> {
+        Err(io::Error::from(ErrorKind::StorageFull))
+    }
+
+    fn flush(&mut self) -> io::Result<()> {
+        Ok(())
+    }
+}
+
+#[test]
+fn output_fails(rt: HostRuntime) {
+    let alloc = rt.alloc();
+    let mut said = Vec::new(alloc);
+    let mut reader = FAILED.as_bytes();
+    let status = check_command(alloc, Form::Text, &mut reader, &mut Full, &mut said);
+    assert_eq!(rt; status, 3);
+    assert_eq!(rt;
+        said.as_slice(),
+        b"applystream: the output could not be written\n".as_slice()
+    );
+    let mut reader = CUT_OFF.as_bytes();
+    assert_eq!(rt;
+        check_command(alloc, Form::Text, &mut reader, &mut Full, &mut Full),
+        2
+    );
+    let mut reader = CUT_OFF.as_bytes();
+    assert_eq!(rt;
+        check_command(alloc, Form::Json, &mut reader, &mut Full, &mut Full),
+        3
+    );
+}

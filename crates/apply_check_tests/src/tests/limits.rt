@@ -1,0 +1,60 @@
+//! What is just inside a limit, and just beyond it.
+
+use super::*;
+
+/// The first line.
+const VERSION: &[u8] = br#"{"type":"version"}"#;
+
+/// The start of a delete, and its end.
+const START: &[u8] =
+    br#"{"type":"apply_start","hook":{"action":"delete","resource":{"addr":"a"}}}"#;
+
+/// How many deletes of one address may overlap.
+const MAX_OVERLAP: u64 = 10_000;
+
+#[test]
+fn overlaps(rt: HostRuntime) {
+    let alloc = rt.alloc();
+    let mut checker = Checker::new(alloc);
+    assert_eq!(rt; checker.line(alloc, VERSION), Ok(()));
+    for _ in 0..MAX_OVERLAP {
+        if checker.is_full() {
+            return;
+        }
+        assert_eq!(rt; checker.line(alloc, START), Ok(()));
+    }
+    if !checker.is_full() {
+        assert_eq!(rt; checker.line(alloc, START), Err(Fault::TooMany(2)));
+    }
+    assert_eq!(rt; checker.count(), 10_001);
+}
+
+/// A line that nests so deep: a text `type` and a member of arrays.
+fn nested(rt: &impl Abort, alloc: Global, depth: usize) -> String {
+    let mut line = String::new(alloc);
+    line.push_str(r#"{"type":"version","x":"#)
+        .expect(rt, "memory");
+    for _ in 0..depth {
+        line.push_str("[").expect(rt, "memory");
+    }
+    for _ in 0..depth {
+        line.push_str("]").expect(rt, "memory");
+    }
+    line.push_str("}").expect(rt, "memory");
+    line
+}
+
+#[test]
+fn nesting(rt: HostRuntime) {
+    let alloc = rt.alloc();
+    let mut checker = Checker::new(alloc);
+    let deep = nested(&rt, alloc, 127);
+    assert_eq!(rt;
+        checker.line(alloc, deep.as_bytes()),
+        Err(Fault::NotAMessage)
+    );
+    let shallow = nested(&rt, alloc, 126);
+    if !checker.is_full() {
+        assert_eq!(rt; checker.line(alloc, shallow.as_bytes()), Ok(()));
+    }
+}

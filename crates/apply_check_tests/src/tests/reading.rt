@@ -1,0 +1,131 @@
+//! Streams that a reader gives.
+
+use super::*;
+
+/// A whole stream.
+const WHOLE: &str = r#"{"type":"version"}
+{"type":"apply_start","hook":{"action":"create","resource":{"addr":"a"}}}
+{"type":"apply_complete","hook":{"action":"create","elapsed_seconds":0,"resource":{"addr":"a"}}}
+{"type":"change_summary","changes":{"operation":"apply","add":1,"change":0,"remove":0}}
+"#;
+
+/// Streams, with `|` for a line feed and `~` for a carriage return, and what is found.
+const TABLE: &str =
+    r#"{"type":"version"}|{"type":"diagnostic","diagnostic":{"severity":"error"}} => 0 0 0 in 2 lines with errors
+{"type":"version"}|{"type":"diagnostic","diagnostic":{"severity":"error"}}| => 0 0 0 in 2 lines with errors
+{"type":"version"}~|{"type":"diagnostic","diagnostic":{"severity":"error"}}~| => 0 0 0 in 2 lines with errors
+{"type":"version"}|{"type":"diagnostic","diagnostic":{"severity":"error"}}|| => line 3 is not a message
+|{"type":"version"}| => line 1 is not a message
+{"type":"version"}|module.a: Creating...|{"type":"log"}| => line 2 is not a message
+{"type":"version"}|{"type":"log"} => line 2 is the last, and no summary came
+{"type":"version"}|{"type":"apply_start" => line 2 is not a message
+{"type":"version"}|[] => line 2 is not a message
+{"type":"version"}|{"type":null} => line 2 is not a message
+| => line 1 is not a message
+"#;
+
+/// What is found in what the reader gives.
+fn found<R: BufRead>(rt: &impl Abort, alloc: Global, reader: &mut R) -> String {
+    match check(alloc, reader) {
+        Ok(whole) => {
+            let added = whole.totals.added;
+            let changed = whole.totals.changed;
+            let removed = whole.totals.removed;
+            let lines = whole.lines;
+            let errors = if whole.has_errors { " with errors" } else { "" };
+            format!(in alloc; "{added} {changed} {removed} in {lines} lines{errors}").expect(
+                rt, "memory",
+            )
+        }
+        Err(fault) => fault.to_string(alloc).expect(rt, "memory"),
+    }
+}
+
+#[test]
+fn streams(rt: HostRuntime) {
+    let alloc = rt.alloc();
+    for row in TABLE.trim().lines() {
+        let (stream, wanted) = cells(&rt, row);
+        let stream = stream.replace(alloc, "|", "\n").expect(&rt, "memory");
+        let stream = stream.replace(alloc, "~", "\r").expect(&rt, "memory");
+        let answer = found(&rt, alloc, &mut stream.as_bytes());
+        assert_eq!(rt; answer.as_str(), wanted, "{row}");
+    }
+}
+
+#[test]
+fn no_bytes(rt: HostRuntime) {
+    let none: &[u8] = b"";
+    let mut reader = none;
+    let answer = found(&rt, rt.alloc(), &mut reader);
+    assert_eq!(rt; answer.as_str(), "line 0 is the last, and no summary came");
+}
+
+#[test]
+fn byte_order_mark(rt: HostRuntime) {
+    let mut reader: &[u8] = b"\xef\xbb\xbf{\"type\":\"version\"}\n";
+    let answer = found(&rt, rt.alloc(), &mut reader);
+    assert_eq!(rt; answer.as_str(), "line 1 is not a message");
+}
+
+/// Through a buffer of any size the answer is the same, so that lines are put together well.
+#[test]
+fn buffers(rt: HostRuntime) {
+    let alloc = rt.alloc();
+    for capacity in 1..40 {
+        let mut reader = BufReader::with_capacity(alloc, capacity, WHOLE.as_bytes()).expect(
+            &rt, "memory",
+        );
+        let answer = found(&rt, alloc, &mut reader);
+        assert_eq!(rt; answer.as_str(), "1 0 0 in 4 lines");
+    }
+}
+
+/// A reader that is interrupted at each second read, gives one byte at a time, and fails behind its bytes.
+#[derive(Drop)]
+struct Broken<'a> {
+    bytes: &'a [u8],
+    is_interrupted: bool,
+}
+
+impl Read for Broken<'_> {
+    fn read(&mut self, buf: &mut [u8]) -> io::Result<usize> {
+        self.is_interrupted = !self.is_interrupted;
+        if self.is_interrupted {
+            return Err(io::Error::from(ErrorKind::Interrupted));
+        }
+        match self.bytes.split_first() {
+            Some((byte, rest)) if !buf.is_empty() => {
+                buf[0] = *byte;
+                self.bytes = rest;
+                Ok(1)
+            }
+            _ => Err(io::Error::from(ErrorKind::BrokenPipe)),
+        }
+    }
+}
+
+#[test]
+fn reader_fails(rt: HostRuntime) {
+    let alloc = rt.alloc();
+    let broken = Broken {
+        bytes: WHOLE.as_bytes(),
+        is_interrupted: false,
+    };
+    let mut reader = BufReader::new(alloc, broken).expect(&rt, "memory");
+    let answer = found(&rt, alloc, &mut reader);
+    assert_eq!(rt; answer.as_str(), "the stream could not be read");
+}
+
+/// What is wrong is told before the reader fails behind it.
+#[test]
+fn finding_comes_first(rt: HostRuntime) {
+    let alloc = rt.alloc();
+    let broken = Broken {
+        bytes: b"{\"type\":\"log\"}\n",
+        is_interrupted: false,
+    };
+    let mut reader = BufReader::new(alloc, broken).expect(&rt, "memory");
+    let answer = found(&rt, alloc, &mut reader);
+    assert_eq!(rt; answer.as_str(), "line 1 comes before the version");
+}
