@@ -5,4 +5,6 @@ pub mod Results
 pub mod Scripts
 pub mod Texts
 pub mod Trees
+pub mod Trimmed
+pub mod Turns
 pub mod WholeList

@@ -1,6 +1,7 @@
 -- Looking into the tree that a JSON text is (RFC 8259).
 pub mod Parsed
 pub mod Reading
+pub mod Trimmed
 use Rattle.std.specs.Prelude.{ℕ, List, [], ◌∷◌, Bool, true, false, if◌then◌else◌, Option, Some, None}
 use Rattle.std.specs.Option.{option_map_or}
 use Rattle.std.specs.Str.{bytes_eq, is_utf8}

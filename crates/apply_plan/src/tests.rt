@@ -8,10 +8,11 @@ mod plans;
 mod script_members;
 mod scripts;
 mod table;
+mod trimming;
 
-use crate::json::parsing::parse;
 use crate::plan::header::Header;
 use crate::plan::{plain, reading};
+use crate::tree::parsing::parse;
 use crate::{MAX_CHANGES, Plan, Script, Text, read_plan, read_script};
 use serde_json::Value;
 use std::alloc::Global;
@@ -100,8 +101,19 @@ fn elements_read_as_plainly(rt: &impl Abort, alloc: Global, case: &str, elements
     }
 }
 
-/// The same for the elements of a plan, where the text has a plan's top level.
+/// Fails where the reader and the plain reader answer these bytes as a plan otherwise.
+fn plan_reads_as_plainly(rt: &impl Abort, alloc: Global, text: &str) {
+    let fast = printed(rt, alloc, &read_plan(alloc, text.as_bytes()));
+    let plain = printed(rt, alloc, &plain::read_plan(alloc, text.as_bytes()));
+    assert!(rt;
+        fast.as_str() == plain.as_str(),
+        "at {text}: {fast} and not {plain}"
+    );
+}
+
+/// The same, and for the elements of the plan, where the text has a plan's top level.
 fn reads_as_plainly(rt: &impl Abort, alloc: Global, text: &str) {
+    plan_reads_as_plainly(rt, alloc, text);
     if let Ok(tree) = parse(alloc, text.as_bytes()) {
         if let Some(header) = Header::of(&tree) {
             elements_read_as_plainly(rt, alloc, text, header.elements);

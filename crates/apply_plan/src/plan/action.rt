@@ -5,8 +5,8 @@ ghost use Rattle.serde_json.specs.View.{view, items_view};
 ghost use Rattle.apply_plan.specs.Plan.Action.{steps_of_action};
 ghost use Rattle.apply_plan.specs.Plan.Steps.{steps_alone, steps_of, steps_together};
 
-use crate::json::members::is_text;
 use crate::plan::step_kind::StepKind;
+use crate::tree::members::is_text;
 use serde_json::Value;
 
 /// What is to be done to an object (JSON Output Format, "Change Representation", `actions`).

@@ -7,8 +7,8 @@ ghost use Rattle.apply_plan.specs.Plan.Element.{element_of, hides_id, is_true, k
 ghost use Rattle.apply_plan.specs.Plan.ElementView.{element_view, key_view, planned_view};
 ghost use Rattle.apply_plan.specs.Json.{member_of};
 
-use crate::json::members::{member, non_empty, non_empty_text_member, text_member, text_member_or};
 use crate::plan::mode::Mode;
+use crate::tree::members::{member, non_empty, non_empty_text_member, text_member, text_member_or};
 use serde_json::Value;
 
 /// An instance key that the tree holds.

@@ -7,7 +7,7 @@ ghost use Rattle.apply_plan.specs.Plan.Header.{header_of};
 ghost use Rattle.apply_plan.specs.Plan.HeaderView.{header_view};
 ghost use Rattle.apply_plan.specs.Json.{items_or_empty, member_of};
 
-use crate::json::members::{member, text_member, text_member_or};
+use crate::tree::members::{member, text_member, text_member_or};
 use serde_json::Value;
 
 /// The version that stands for one that a plan does not give.

@@ -1,18 +1,21 @@
-//! Reading the elements as the definition says it: each is compared with every one before it, slow and plain. Tests
-//! compare the reader with it.
+//! Reading a plan as the definition says it: from the whole tree, and with each element compared with every one before
+//! it, slow and plain. Tests compare the reader with it.
 
 ghost use Rattle.std.specs.Prelude.{◌≡◌, ◌≤◌, length, vec_len, IfOk};
 ghost use Rattle.std.specs.List.{list_any};
 ghost use Rattle.serde_json.specs.View.{items_view};
 ghost use Rattle.apply_plan.specs.Json.{list_of};
-ghost use Rattle.apply_plan.specs.Plan.SavedPlan.{changes_of, max_changes};
+ghost use Rattle.apply_plan.specs.Plan.SavedPlan.{changes_of, max_changes, plan_of};
 ghost use Rattle.apply_plan.specs.Plan.PlannedView.{planned_view};
 ghost use Rattle.apply_plan.specs.Plan.ResourceChange.{is_same_object};
 ghost use Rattle.apply_plan.specs.Results.{Gives};
 
+use crate::plan::Plan;
 use crate::plan::change::Change;
 use crate::plan::plan_error::PlanError;
 use crate::plan::planned::Planned;
+use crate::plan::reading::plan_of_value;
+use crate::tree::parsing::{JsonFault, parse};
 use serde_json::Value;
 use std::alloc::Global;
 
@@ -45,4 +48,17 @@ pub fn changes_of(alloc: Global, elements: &[Value]) -> Result<Vec<Change>, Plan
         changes.push(Change::new(alloc, planned)?)?;
     }
     Ok(changes)
+}
+
+/// The plan that the bytes are, from a tree that holds all of them.
+#[tactic(auto, unfolding(crate::specs::Plan::SavedPlan::plan_of))]
+pub fn read_plan(alloc: Global, bytes: &[u8]) -> Result<Plan, PlanError>
+    ensures { Gives PlanError.Memory (λ plan. plan) result (plan_of bytes.now) }
+{
+    match parse(alloc, bytes) {
+        Ok(tree) => plan_of_value(alloc, &tree),
+        Err(JsonFault::TooLarge) => Err(PlanError::TooLarge),
+        Err(JsonFault::NotJson) => Err(PlanError::NotJson),
+        Err(JsonFault::Memory) => Err(PlanError::Memory),
+    }
 }

@@ -8,7 +8,6 @@ ghost use Rattle.apply_plan.specs.Plan.Header.{Header as TopLevel, header_of};
 ghost use Rattle.apply_plan.specs.Plan.SavedPlan.{changes_of, max_changes, plan_of, plan_of_tree};
 ghost use Rattle.apply_plan.specs.Results.{Gives};
 
-use crate::json::parsing::{JsonFault, parse};
 use crate::plan::Plan;
 use crate::plan::change::Change;
 use crate::plan::header::Header;
@@ -17,6 +16,8 @@ use crate::plan::plan_error::PlanError;
 use crate::plan::planned::Planned;
 use crate::plan::seen_objects::SeenObjects;
 use crate::text::Text;
+use crate::tree::parsing::{JsonFault, parse_trimmed};
+use crate::tree::shape::Shape;
 use serde_json::Value;
 use std::alloc::Global;
 
@@ -45,7 +46,7 @@ pub(crate) fn changes_of(alloc: Global, elements: &[Value]) -> Result<Vec<Change
 
 /// The plan that the tree is.
 #[tactic(auto, unfolding(crate::specs::Plan::SavedPlan::plan_of_tree))]
-fn plan_of_value(alloc: Global, tree: &Value) -> Result<Plan, PlanError>
+pub(crate) fn plan_of_value(alloc: Global, tree: &Value) -> Result<Plan, PlanError>
     ensures defined { Gives PlanError.Memory (λ plan. plan) result (plan_of_tree (view tree.now)) }
     // Memory is not asked for before the top level was found to be in order.
     ensures memory { result ≡ Err PlanError.Memory → (top : TopLevel)
@@ -72,7 +73,7 @@ pub fn read_plan(alloc: Global, bytes: &[u8]) -> Result<Plan, PlanError>
     ensures defined { Gives PlanError.Memory (λ plan. plan) result (plan_of bytes.now) }
     ensures memory { result ≡ Err PlanError.Memory → length bytes.now ≤ max_bytes }
 {
-    match parse(alloc, bytes) {
+    match parse_trimmed(alloc, bytes, Shape::Plan) {
         Ok(tree) => plan_of_value(alloc, &tree),
         Err(JsonFault::TooLarge) => Err(PlanError::TooLarge),
         Err(JsonFault::NotJson) => Err(PlanError::NotJson),

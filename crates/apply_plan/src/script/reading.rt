@@ -12,8 +12,6 @@ ghost use Rattle.apply_plan.specs.Script.Outcome.{is_too_long};
 ghost use Rattle.apply_plan.specs.Script.Outcomes.{by_number, elements_of, script_of, script_of_entries, script_of_tree};
 ghost use Rattle.apply_plan.specs.Script.TreeView.{step_view};
 
-use crate::json::members::member;
-use crate::json::parsing::{JsonFault, parse};
 use crate::plan::Plan;
 use crate::plan::object_id::ObjectId;
 use crate::script::Script;
@@ -22,6 +20,8 @@ use crate::script::script_error::ScriptError;
 use crate::script::step_outcomes::StepOutcomes;
 use crate::script::tree_entry::TreeEntry;
 use crate::script::tree_step::TreeStep;
+use crate::tree::members::member;
+use crate::tree::parsing::{JsonFault, parse};
 use serde_json::Value;
 use std::alloc::{AllocError, Global};
 

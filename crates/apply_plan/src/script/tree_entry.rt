@@ -6,8 +6,8 @@ ghost use Rattle.apply_plan.specs.Json.{list_of};
 ghost use Rattle.apply_plan.specs.Script.Entry.{all_some, entry_of, step_of};
 ghost use Rattle.apply_plan.specs.Script.TreeView.{entry_view, members_of, members_view, step_view};
 
-use crate::json::members::{member, non_empty, text_member, text_member_or};
 use crate::script::tree_step::TreeStep;
+use crate::tree::members::{member, non_empty, text_member, text_member_or};
 use serde_json::Value;
 use std::alloc::{AllocError, Global};
 

@@ -6,10 +6,10 @@ ghost use Rattle.apply_plan.specs.Script.Entry.{seconds_of, step_of};
 ghost use Rattle.apply_plan.specs.Script.Outcome.{is_too_long};
 ghost use Rattle.apply_plan.specs.Script.TreeView.{step_view};
 
-use crate::json::members::{member, non_empty, text_member_or};
 use crate::script::outcome::MAX_SECONDS;
 use crate::script::tree_diag::TreeDiag;
 use crate::script::tree_ending::TreeEnding;
+use crate::tree::members::{member, non_empty, text_member_or};
 use serde_json::Value;
 
 /// A step that the tree holds, each of whose members obeys its rule.
