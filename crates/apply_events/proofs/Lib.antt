@@ -13,5 +13,6 @@ pub mod ProgressTimes
 pub mod Rising
 pub mod Stages
 pub mod StepNumbers
+pub mod TimeLines
 pub mod UnderWay
 pub mod WorkerLists

@@ -2,6 +2,7 @@ pub mod ChangeEvents
 pub mod Course
 pub mod Fits
 pub mod Interleaving
+pub mod Lanes
 pub mod Laws
 pub mod Notes
 pub mod OfWorker

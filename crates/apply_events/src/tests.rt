@@ -7,6 +7,7 @@ mod asking;
 mod changes;
 mod counting;
 mod fitting;
+mod lanes;
 
 use crate::{Counts, Event, LATEST, Runner, What, fits};
 use apply_hooks::{Answer, FnHook, HookCall, Phase, Registry, Rule, Rules, Verdict};

@@ -1,0 +1,12 @@
+-- Lanes and their time line.
+pub mod Along
+pub mod Changes
+pub mod Dealt
+pub mod Ends
+pub mod Few
+pub mod Merge
+pub mod Order
+pub mod Partition
+pub mod Sharing
+pub mod States
+pub mod Steps

@@ -1,0 +1,135 @@
+-- How many events a change has at most, and the lanes of some changes.
+use Rattle.std.proofs.Common.{◌≡◌, ℕ, zero, suc, ◌+◌, ◌*◌, ◌%◌, ◌<◌, ◌≤◌, true, false, List, [], ◌∷◌, ◌++◌, cond, get_or, length, length-append, map, replicate, set, sum_by, Option, Some, None, sym, ap, subst, ◌∙◌, arith, ⊎_elim}
+use Rattle.std.specs.Prelude.{is_some, option_map, option_to_list, slice_get, IfSome}
+use Rattle.std.specs.List.{enumerate_from}
+use Rattle.std.specs.Option.{option_map_or}
+use Rattle.apply_plan.specs.Plan.ResourceChange.{ResourceChange}
+use Rattle.apply_plan.specs.Plan.SavedPlan.{SavedPlan}
+use Rattle.std.proofs.lemmas.Bool.{cases_lt}
+use Rattle.std.proofs.lemmas.List.{length-map, map-set}
+use Rattle.std.proofs.lemmas.List.Folds.{sum_by-replicate}
+use Rattle.std.proofs.lemmas.List.Sums.{sum_by-set}
+use Rattle.apply_plan.specs.declared.plan.step_kind.StepKind.{StepKind}
+use Rattle.apply_plan.specs.Script.Outcomes.{outcome_of}
+use Rattle.apply_hooks.specs.declared.phase.Phase.{Phase}
+use Rattle.apply_hooks.specs.declared.phase.Phase.TheVariants.{Pre}
+use Rattle.apply_events.specs.declared.event.Event.{Event}
+use Rattle.apply_events.specs.declared.what.What.{What}
+use Rattle.apply_events.specs.declared.what.What.TheVariants.{Halted, Progress, Start}
+use Rattle.apply_events.specs.ChangeEvents.{begun, change_events, in_turn}
+use Rattle.apply_events.specs.ProgressTimes.{progress_times}
+use Rattle.apply_events.specs.Stages.{tens_between}
+use Rattle.apply_events.specs.Step.{Step, Work, kinds_of, step_of}
+use Rattle.apply_events.specs.StepEvents.{endings, event, goes_on, halts, notes, phase_after, started, step_events, step_time}
+use Rattle.apply_events.specs.Lanes.LaneState.{LaneState, count_left, free_in, unused}
+use Rattle.apply_events.specs.Lanes.Lane.{TellsNext, state_of}
+use Rattle.apply_events.specs.declared.lanes.lane.Lane.{Lane}
+use Rattle.apply_events.proofs.TimeLines.Steps.{busy_parts, idle_parts}
+use Rattle.apply_events.proofs.ProgressTimes.{tens_last, tens_next}
+
+-- ---- a step
+
+few_tens : (n low high : ℕ) → low % 10 ≡ 0 → high ≤ low + 10 * (n + 1) → length (tens_between low high) ≤ n
+few_tens zero low high z h = let none = ap length (tens_last low high z (omega arith)) in omega arith
+few_tens (suc n) low high z h = ⊎_elim
+    (λ (more : low + 10 < high).
+    let rest = few_tens n (low + 10) high (omega arith) (omega arith) in let one = ap length (tens_next low high z more) in omega arith)
+    (λ (last : high ≤ low + 10). let none = ap length (tens_last low high z last) in omega arith)
+    (cases_lt (low + 10) high)
+
+few_notes : (fails warns : _) → length (notes fails warns) ≤ 1
+few_notes true warns = omega arith
+few_notes false true = omega arith
+few_notes false false = omega arith
+
+few_found : (w : ℕ) (s : Step) (phase : Phase) (at : ℕ) (found : Option ℕ) → length (option_to_list (option_map (λ hook. event w s at (Halted phase hook)) found)) ≤ 1
+few_found w s phase at None = omega arith
+few_found w s phase at (Some hook) = omega arith
+
+-- a start, what lies between, and what comes at the end
+few_joined : (e : Event) (progress ends halt : List Event) → length progress ≤ 8640 → length ends ≤ 2 → length halt ≤ 1 → length (e ∷ (progress ++ ends ++ halt)) ≤ 10000
+few_joined e progress ends halt p q r =
+    let front : length (progress ++ ends) ≡ length progress + length ends = length-append progress ends in
+    let all : length (progress ++ ends ++ halt) ≡ length (progress ++ ends) + length halt = length-append (progress ++ ends) halt in
+    omega arith
+
+few_started : (w : ℕ) (s : Step) (at : ℕ) → s.seconds ≤ 86400 → length (started w s at) ≤ 10000
+few_started w s at short =
+    let beat : ℕ → Event = (λ p. event w s (at + p) (Progress p)) in
+    let tell : What → Event = (λ what. event w s (at + s.seconds) what) in
+    let tens : length (progress_times s.seconds) ≤ 8640 = few_tens 8640 0 s.seconds (omega arith) (omega arith) in
+    let same : length (map beat (progress_times s.seconds)) ≡ length (progress_times s.seconds) = length-map (progress_times s.seconds) beat in
+    let last : length (map tell (endings s)) ≡ length (endings s) = length-map (endings s) tell in
+    let note : length (notes s.fails s.warns) ≤ 1 = few_notes s.fails s.warns in
+    few_joined (event w s at Start) (map beat (progress_times s.seconds)) (map tell (endings s)) (halts w s (phase_after s.fails) (at + s.seconds))
+    (omega arith) (omega arith) (few_found w s (phase_after s.fails) (at + s.seconds) (s.halts (phase_after s.fails)))
+
+few_step : (w : ℕ) (s : Step) (at : ℕ) (found : Option ℕ) → s.seconds ≤ 86400 → length (cond (is_some found) (option_to_list (option_map (λ hook. event w s at (Halted Pre hook)) found)) (started w s at)) ≤ 10000
+few_step w s at None short = few_started w s at short
+few_step w s at (Some hook) short = let one = few_found w s Pre at (Some hook) in omega arith
+
+-- ---- a change
+
+few_steps : (work : Work) (w c n : ℕ) (kinds : List StepKind) (at : ℕ) → n + length kinds ≤ 2 → ((k : ℕ) → k < 2 → (outcome_of work.script c k).seconds ≤ 86400)
+    → length (in_turn (step_events w) step_time (begun (map (λ p. step_of work c p.0 p.1) (enumerate_from n kinds))) at) ≤ 10000 * length kinds
+few_steps work w c n [] at few short = omega arith
+few_steps work w c n (kind ∷ kinds) at few short =
+    let s = step_of work c n kind in
+    let steps = begun (map (λ p. step_of work c p.0 p.1) (enumerate_from (n + 1) kinds)) in
+    let here : length (step_events w s at) ≤ 10000 = few_step w s at (s.halts Pre) (short n (omega arith)) in
+    let rest = few_steps work w c (n + 1) kinds (at + step_time s) (omega arith) short in
+    elim (goes_on s) as (λ b. length (in_turn (step_events w) step_time (s ∷ cond b steps []) at) ≤ 10000 * suc (length kinds)) [
+      | true ↦ (let both = length-append (step_events w s at) (in_turn (step_events w) step_time steps (at + step_time s)) in omega arith)
+      | false ↦ (let both = length-append (step_events w s at) [] in omega arith)
+    ]
+
+-- the steps of a change that the plan has
+pub few_kinds : (plan : SavedPlan) (c : ℕ) (change : ResourceChange) → Some change ≡ slice_get plan.changes c → length change.steps ≤ 2 → length (kinds_of plan c) ≤ 2
+few_kinds plan c change is few = subst (λ found. length (option_map_or (λ (change : ResourceChange). change.steps) found []) ≤ 2) is few
+
+pub few_events : (work : Work) (w c at : ℕ) → length (kinds_of work.plan c) ≤ 2 → (outcome_of work.script c 0).seconds ≤ 86400 → (outcome_of work.script c 1).seconds ≤ 86400 → length (change_events work w c at) ≤ 20000
+few_events work w c at few first second =
+    let all = few_steps work w c 0 (kinds_of work.plan c) at (omega arith) (λ k lt. short_at k lt) in omega arith
+  where
+    short_at : (k : ℕ) → k < 2 → (outcome_of work.script c k).seconds ≤ 86400
+    short_at zero lt = first
+    short_at (suc zero) lt = second
+    short_at (suc (suc k)) lt = absurd (omega arith)
+
+-- ---- the lanes
+
+pub few_unused : (n : ℕ) → sum_by count_left (replicate n unused) ≡ 0
+few_unused n = sum_by-replicate count_left n unused ∙ omega arith
+
+-- a lane with no event left gets a change
+few_taken : (told begun : ℕ) (states : List LaneState) (w : ℕ) (s : LaneState) → w < length states → (get_or states w unused).events ≡ [] → length s.events ≤ 20000
+    → told + sum_by count_left states ≤ 20000 * begun → told + sum_by count_left (set states w s) ≤ 20000 * (begun + 1)
+few_taken told begun states w s lt none few h =
+    let sum = sum_by-set count_left states w s unused lt in let gone = ap length none in omega arith
+
+-- a lane tells an event
+few_told : (told begun : ℕ) (states : List LaneState) (w : ℕ) (s : LaneState) (e : Event) → w < length states → (get_or states w unused).events ≡ e ∷ s.events
+    → told + sum_by count_left states ≤ 20000 * begun → told + 1 + sum_by count_left (set states w s) ≤ 20000 * begun
+few_told told begun states w s e lt one h =
+    let sum = sum_by-set count_left states w s unused lt in let more = ap length one in omega arith
+
+-- a lane that is not free tells one
+pub few_tells : (told begun : ℕ) (before after : List LaneState) (w : ℕ) (result : Option Event) → w < length before → None ≡ free_in (get_or before w unused).events (get_or before w unused).free
+    → TellsNext before w result after → told + sum_by count_left before ≤ 20000 * begun → told + 1 + sum_by count_left after ≤ 20000 * begun
+few_tells told begun before after w None lt busy tells h = absurd (busy_parts (get_or before w unused).events (get_or before w unused).free busy tells.2.0)
+few_tells told begun before after w (Some e) lt busy tells h =
+    subst (λ l. told + 1 + sum_by count_left l ≤ 20000 * begun) (sym tells.1) (few_told told begun before w tells.0 e lt tells.2 h)
+
+-- a free lane begins a change
+pub begin_counted : {a b : _} {g : _} (told begun : ℕ) (items : List (Lane a b g)) (w at : ℕ) (new : Lane a b g) → w < length items
+    → Some at ≡ free_in (get_or (map state_of items) w unused).events (get_or (map state_of items) w unused).free → length (state_of new).events ≤ 20000
+    → told + sum_by count_left (map state_of items) ≤ 20000 * begun → told + sum_by count_left (map state_of (set items w new)) ≤ 20000 * (begun + 1)
+begin_counted told begun items w at new lt free few h =
+    let states = map state_of items in
+    let count = length-map items state_of in
+    subst (λ l. told + sum_by count_left l ≤ 20000 * (begun + 1)) (sym (map-set state_of items w new))
+    (few_taken told begun states w (state_of new) (omega arith) (idle_parts (get_or states w unused).events (get_or states w unused).free at free).0 few h)
+
+pub if_some_any : {X P : Type 0} (found : Option X) → P → IfSome found (λ _. P)
+if_some_any None h = tt
+if_some_any (Some x) h = h
