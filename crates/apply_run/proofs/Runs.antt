@@ -1,5 +1,6 @@
 -- Runs: their workers, and how they end.
 pub mod Headline
+pub mod InLanes
 pub mod Joined
 pub mod Places
 pub mod Ready

@@ -66,7 +66,11 @@ pub fn apply_bytes<S: Sink + Drop, G: Gate, R: Threads + Wait + Sync>(
 }
 
 /// The script that the bytes are for the plan; the empty one where there are none.
-fn read_given(alloc: Global, bytes: Option<&[u8]>, plan: &Plan) -> Result<Script, ScriptError>
+pub(crate) fn read_given(
+    alloc: Global,
+    bytes: Option<&[u8]>,
+    plan: &Plan,
+) -> Result<Script, ScriptError>
     ensures defined { Gives script_error.Memory (λ script. script) result (given_script plan.now (option_copied bytes.entry)) }
     ensures memory { result ≡ Err script_error.Memory → MayBeRead (option_copied bytes.entry) }
 {

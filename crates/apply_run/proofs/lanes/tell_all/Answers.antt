@@ -1,0 +1,24 @@
+use Rattle.std.proofs.Common.{◌∙◌, ◌+◌, ◌++◌, ◌∷◌, [], ap, append_assoc, sym}
+use Rattle.apply_events.specs.Lanes.ToCome.{to_come}
+use Rattle.apply_run.proofs.lanes.tell_all.Goals as goal
+
+pub loop-event-preserved : goal.loop-event-preserved
+loop-event-preserved g c =
+    let i = c.loop-event.invariant in
+    let n = c.in-Some.ensures in
+    let t = c.tell.ensures in
+    let told = rw (i.plan, i.script, i.start) at t.told in
+    let events = i.told.0 in
+    record {
+      work = n.work ∙ i.work;
+      plan = t.same.plan ∙ i.plan;
+      script = t.same.script ∙ i.script;
+      start = t.same.start ∙ i.start;
+      count = t.one_more ∙ ap (λ k. k + 1) i.count ∙ sym n.one_more;
+      room = t.room;
+      told = (
+        events ++ c.in-Some.event ∷ [],
+        append_assoc events (c.in-Some.event ∷ []) (to_come c.next.new.self) ∙ ap (λ rest. events ++ rest) (sym n.next) ∙ i.told.1,
+        told _ _ _ i.told.2,
+      );
+    }

@@ -1,0 +1,76 @@
+-- A plan that was applied in lanes: what is under way at once, the stream's own time says, and no thread.
+use Rattle.std.specs.Prelude.{◌≡◌, ◌+◌, ◌≤◌, ◌⊎◌, ℕ, List}
+use Rattle.apply_plan.specs.Plan.SavedPlan.{SavedPlan}
+use Rattle.apply_plan.specs.Script.Outcomes.{Outcomes}
+use Rattle.apply_events.specs.declared.event.Event.{Event}
+use Rattle.apply_events.specs.Lanes.TimeLine.{IsTimeLine}
+use Rattle.apply_events.specs.Step.{Work}
+use Rattle.apply_text.specs.declared.operation.Operation.{Operation}
+use Rattle.apply_text.specs.Lines.{lines_of, stream_of}
+use Rattle.apply_run.specs.Bytes.{Given, IsRead, WasRefused}
+use Rattle.apply_run.specs.declared.options.Options.{Options}
+use Rattle.apply_run.specs.declared.refusal.Refusal.{Refusal}
+use Rattle.apply_run.specs.declared.refusal.Refusal.TheVariants.{Plan, Script, Size, Fault}
+use Rattle.apply_run.specs.declared.report.Report.{Report}
+use Rattle.apply_run.specs.declared.why.Why.{Why}
+use Rattle.apply_run.specs.declared.why.Why.TheVariants.{Bus, Workers, Memory, Write}
+use Rattle.apply_run.specs.Stream.Ended.{IsCutOff, IsWhole}
+use Rattle.apply_run.specs.Run.{DidNothing, Sight}
+
+-- so many lanes may be asked for
+pub record AreLanes (lanes : ℕ) : Type 0 where
+  pub some : 1 ≤ lanes
+  pub few : lanes ≤ 64
+
+-- the sink took the stream of the work's time line in so many lanes, all of it
+pub record HasStreamedInLanes (work : Work) (lanes start : ℕ) (operation : Operation) (report : Report)
+    (before after : Sight) : Type 0 where
+  pub events : List Event
+  pub time_line : IsTimeLine work lanes events
+  pub whole : IsWhole work.plan events (stream_of work.plan work.script start operation events) report
+      before.bytes after.bytes before.failed after.failed
+
+-- all events of the time line were counted, and the sink took a prefix of these bytes of them; so many writes failed
+pub record IsCutOffInLanes (work : Work) (lanes : ℕ) (bytes_of : List Event → List ℕ) (failed : ℕ) (report : Report)
+    (before after : Sight) : Type 0 where
+  pub events : List Event
+  pub time_line : IsTimeLine work lanes events
+  pub part : IsCutOff work.plan events (bytes_of events) report before.bytes after.bytes failed after.failed
+
+-- what is so after a fault of each cause: a write failed, or memory was refused, before anything was done or for a line.
+-- Nothing is lost between threads, and no thread is refused
+abbrev pub HasFailedInLanes : Why → (work : Work) (lanes start : ℕ) (operation : Operation) → Report
+    → (before after : Sight) → Type 0
+HasFailedInLanes Write work lanes start operation report before after =
+    IsCutOffInLanes work lanes (stream_of work.plan work.script start operation) (before.failed + 1) report before after
+HasFailedInLanes Memory work lanes start operation report before after =
+    DidNothing report before after
+    ⊎ IsCutOffInLanes work lanes (lines_of work.plan work.script start) before.failed report before after
+HasFailedInLanes Bus work lanes start operation report before after = ⊥
+HasFailedInLanes Workers work lanes start operation report before after = ⊥
+
+-- ---- from bytes
+
+-- the plan was read and applied, and all of its stream was written
+pub record WasAppliedInLanes (given : Given) (lanes start : ℕ) (operation : Operation) (report : Report)
+    (before after : Sight) : Type 0 where
+  pub plan : SavedPlan
+  pub script : Outcomes
+  pub read : IsRead given plan script
+  pub sizes : AreLanes lanes
+  pub streamed : HasStreamedInLanes (record { plan = plan; script = script; hooks = given.hooks }) lanes start operation
+      report before after
+
+-- the plan and the script are refused as they are with any options, else the number of lanes where it is out of range; the
+-- sink is as it was. Otherwise the run has ended in a fault
+abbrev pub WasRefusedInLanes : Given → (lanes start : ℕ) (operation : Operation) → Refusal → (before after : Sight) → Type 0
+WasRefusedInLanes given lanes start operation (Plan refusal) before after =
+    (options : Options) → WasRefused given options (Plan refusal) before after
+WasRefusedInLanes given lanes start operation (Script refusal) before after =
+    (options : Options) → WasRefused given options (Script refusal) before after
+WasRefusedInLanes given lanes start operation Size before after =
+    (plan : SavedPlan) × (script : Outcomes) × IsRead given plan script × ¬ AreLanes lanes × (after ≡ before)
+WasRefusedInLanes given lanes start operation (Fault fault) before after =
+    (plan : SavedPlan) × (script : Outcomes) × IsRead given plan script × AreLanes lanes
+    × HasFailedInLanes fault.why (record { plan = plan; script = script; hooks = given.hooks }) lanes start operation
+    fault.report before after

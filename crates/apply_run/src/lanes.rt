@@ -1,0 +1,143 @@
+//! The run of a plan in lanes: changes are under way at once in the stream's own time, and no thread is started.
+
+ghost use Rattle.std.specs.Prelude.{◌≡◌, ◌<◌, ◌-◌, ◌^◌, ◌↔◌, Err, IfErr, IfOk, IsTrue};
+ghost use Rattle.std.specs.Option.{option_copied};
+ghost use Rattle.apply_hooks.specs.Registry.{rules_of};
+ghost use Rattle.apply_events.specs.Lanes.ToCome.{to_come, told_of, work_of};
+ghost use Rattle.apply_run.specs.Lanes.{AreLanes, HasFailedInLanes, HasStreamedInLanes, WasAppliedInLanes, WasRefusedInLanes};
+ghost use Rattle.apply_run.specs.Run.{sight_of};
+ghost use Rattle.apply_run.specs.Stream.Room.{HasRoom, IsNew};
+ghost use Rattle.apply_run.specs.Stream.Telling.{IsSameStream, IsToldSince, telling_of};
+
+use crate::bytes::read_given;
+use crate::fault::Fault;
+use crate::refusal::Refusal;
+use crate::report::Report;
+use crate::sinks::sink::Sink;
+use crate::stream::StreamWriter;
+use crate::why::Why;
+use apply_events::{Lanes, there_is_a_time_line};
+use apply_hooks::Registry;
+use apply_plan::{Plan, Script, read_plan};
+use apply_text::{LineBuffer, Operation, Start};
+use std::alloc::Global;
+
+/// The most lanes that a plan is applied in.
+pub const MAX_LANES: u8 = 64;
+
+/// Applies a plan in 1 to 64 lanes, as `terraform apply -parallelism` has it: each change goes, in the plan's order, to the
+/// lane that is free first, at one moment to the lowest, and of what the lanes report the stream is written in the order of
+/// time, at one moment the lower lane first: the version, a line for each event, and the summary (Machine-Readable UI). A
+/// step without an entry in the script is done after 0 seconds. The sink comes back beside every answer.
+///
+/// The same plan, script, hooks and number of lanes give the same bytes. No thread is started, and nothing is waited for.
+///
+/// `Ok` where all of the stream was written. Otherwise `Err`, with why, and with what was done:
+///
+/// - `Why::Memory` where memory was refused. Before the first line: nothing was told or written. For a line: all events
+///   were counted all the same, and that line and all later ones, with the summary, were not written.
+/// - `Why::Write` where the sink failed: it was written to no more. All events were counted all the same.
+pub fn apply_in_lanes<'a, S: Sink + Drop>(
+    alloc: Global,
+    plan: &'a Plan,
+    script: &'a Script,
+    registry: &'a Registry,
+    lanes: u8,
+    start: Start,
+    operation: Operation,
+    sink: S,
+) -> (S, Result<Report, Fault>)
+    requires lanes { AreLanes lanes }
+    requires failures { S.failed sink < 2 ^ 64 - 1 }
+
+    ensures ok { IfOk result.1 (λ report. HasStreamedInLanes
+        (record { plan = plan.now; script = script.now; hooks = rules_of registry.now }) lanes start operation report
+        (sight_of S.bytes S.failed sink) (sight_of S.bytes S.failed result.0)) }
+
+    ensures err { IfErr result.1 (λ fault. HasFailedInLanes fault.why
+        (record { plan = plan.now; script = script.now; hooks = rules_of registry.now }) lanes start operation fault.report
+        (sight_of S.bytes S.failed sink) (sight_of S.bytes S.failed result.0)) }
+{
+    there_is_a_time_line();
+    let Ok(buffer) = LineBuffer::with_room(alloc) else {
+        return (sink, Err(Fault::at_once(Why::Memory)));
+    };
+    let Ok(lanes) = Lanes::start(alloc, plan, script, registry, lanes) else {
+        return (sink, Err(Fault::at_once(Why::Memory)));
+    };
+    let stream = StreamWriter::new(plan, script, start, buffer, sink);
+    tell_all(lanes, stream).end(operation)
+}
+
+/// Writes the version line, and tells all that the lanes report.
+fn tell_all<'a, S: Sink + Drop>(
+    mut lanes: Lanes<'_>,
+    mut stream: StreamWriter<'a, S>,
+) -> StreamWriter<'a, S>
+    requires none_told { told_of lanes ≡ 0 }
+    requires is_new { IsNew (telling_of S.bytes S.failed stream) }
+    requires plan { stream.plan.now ≡ (work_of lanes).plan }
+    ensures same { IsSameStream stream.entry result }
+    ensures told { IsToldSince S.bytes S.failed stream.entry (to_come lanes.entry) result }
+    ensures room { HasRoom (telling_of S.bytes S.failed result) }
+{
+    stream.write_version();
+    while let Some(event) = lanes.next() {
+        stream.tell(&event);
+    }
+    stream
+}
+
+/// Whether there are 1 to 64 lanes.
+fn are_lanes(lanes: u8) -> bool
+    ensures { IsTrue result ↔ AreLanes lanes }
+{
+    1 <= lanes && lanes <= MAX_LANES
+}
+
+/// Reads a plan (JSON Output Format, "Plan Representation") and a script of outcomes for it, and applies it as
+/// [`apply_in_lanes`](crate::apply_in_lanes) does. Without a script each step is done after 0 seconds. The sink comes back
+/// beside every answer.
+///
+/// `Err` with `Refusal::Plan` where the bytes are no plan, else with `Refusal::Script` where there is a script and it is none
+/// for the plan, else with `Refusal::Size` where the lanes are not 1 to 64: then nothing was written, and the sink is as it
+/// was. `Err` with `Refusal::Fault` where the run did not end well.
+pub fn apply_bytes_in_lanes<S: Sink + Drop>(
+    alloc: Global,
+    plan: &[u8],
+    script: Option<&[u8]>,
+    registry: &Registry,
+    lanes: u8,
+    start: Start,
+    operation: Operation,
+    sink: S,
+) -> (S, Result<Report, Refusal>)
+    requires { S.failed sink < 2 ^ 64 - 1 }
+
+    ensures ok { IfOk result.1 (λ report. WasAppliedInLanes
+        (record { plan = plan.now; script = option_copied script.entry; hooks = rules_of registry.now }) lanes start operation report
+        (sight_of S.bytes S.failed sink) (sight_of S.bytes S.failed result.0)) }
+
+    ensures err { IfErr result.1 (λ refusal. WasRefusedInLanes
+        (record { plan = plan.now; script = option_copied script.entry; hooks = rules_of registry.now }) lanes start operation refusal
+        (sight_of S.bytes S.failed sink) (sight_of S.bytes S.failed result.0)) }
+{
+    let plan = match read_plan(alloc, plan) {
+        Ok(plan) => plan,
+        Err(refusal) => return (sink, Err(Refusal::Plan(refusal))),
+    };
+    let script = match read_given(alloc, script, &plan) {
+        Ok(script) => script,
+        Err(refusal) => return (sink, Err(Refusal::Script(refusal))),
+    };
+    if !are_lanes(lanes) {
+        return (sink, Err(Refusal::Size));
+    }
+    let (sink, result) = apply_in_lanes(
+        alloc, &plan, &script, registry, lanes, start, operation, sink,
+    );
+    match result {
+        Ok(report) => (sink, Ok(report)),
+        Err(fault) => (sink, Err(Refusal::Fault(fault))),
+    }
+}
