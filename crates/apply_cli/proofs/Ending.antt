@@ -30,7 +30,7 @@ use Rattle.apply_cli.specs.Command.{HasApplied, HasBegun}
 use Rattle.apply_cli.specs.Status.{counts_status_of, refusal_status_of, unfinished}
 use Rattle.apply_cli.proofs.Front.{too_large}
 
-told_by : (n status : ℕ) → status ≡ (if nat_lt 0 n then 1 else 0) → (status ≡ 1) ↔ (0 < n)
+pub told_by : (n status : ℕ) → status ≡ (if nat_lt 0 n then 1 else 0) → (status ≡ 1) ↔ (0 < n)
 told_by zero status is = ((λ e. absurd (omega arith)), (λ l. absurd (omega arith)))
 told_by (suc n) status is = ((λ _. omega arith), (λ _. is ∙ ap (λ b. if b then 1 else 0) (lt-ltb 0 (suc n) (omega arith))))
 
@@ -67,7 +67,7 @@ applied_kept in_order given options report before after after' status kept faile
   told = told_by (unfinished report.counts) status is;
 }
 
-prefix_same : {X : Type 0} → (xs : List X) → IsPrefix xs xs
+pub prefix_same : {X : Type 0} → (xs : List X) → IsPrefix xs xs
 prefix_same xs = ([], append-nil xs)
 
 pub begun_of_applied : (given : Given) (options : Options) (report : Report) (before after : Sight) (bytes : Option (List ℕ)) → Keeps after.bytes bytes → WasApplied given options report before after → HasBegun given options before.bytes bytes

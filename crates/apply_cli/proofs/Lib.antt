@@ -1,5 +1,6 @@
 mod Ending
 mod Front
+mod InLanes
 mod Options
 mod Parsed
 mod Statuses

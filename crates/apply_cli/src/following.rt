@@ -5,16 +5,18 @@ ghost use Rattle.std.specs.Io.KnownBytes.{Keeps};
 ghost use Rattle.apply_hooks.specs.Registry.{rules_of};
 ghost use Rattle.apply_cli.specs.Command.{HasApplied, HasBegun, OfFile, OfInput, sight_of};
 ghost use Rattle.apply_cli.specs.Halt.{hooks_of_halts, rules_of_halt};
+ghost use Rattle.apply_cli.specs.Invocation.{WasApplied, WasBegun};
 ghost use Rattle.apply_cli.specs.Settings.{options_of};
 
 use crate::answer::{answer_usage, report_hook};
 use crate::halt::Halt;
+use crate::in_lanes::run_in_lanes;
 use crate::input_fault::InputFault;
+use crate::invocation::{Invocation, read_invocation};
 use crate::run::run_command;
 use crate::script_file::{read_file, report_script};
 use crate::settings::Settings;
 use crate::usage::Usage;
-use crate::words::read_words;
 use apply_hooks::{Answer, FnHook, Hook, HookCall, HookError, Registry, Rules};
 use apply_plan::Text;
 use apply_run::StdSink;
@@ -38,7 +40,7 @@ pub fn given_words<R: Env + AllocGlobal>(rt: &R) -> Result<Vec<String>, Usage> {
 
 /// Does what the words behind the program's name say, and answers the exit status. The output comes back.
 ///
-/// Words that say no settings are answered as `answer_usage` does, all others as `follow_settings` does.
+/// Words that say nothing that is done are answered as `answer_usage` does, all others as `follow_invocation` does.
 pub fn follow<F: Files, R: Read + Drop, W: Write + Drop, E: Write, T: Threads + Wait + Sync>(
     rt: &T,
     files: &F,
@@ -51,11 +53,23 @@ pub fn follow<F: Files, R: Read + Drop, W: Write + Drop, E: Write, T: Threads + 
     ensures refused { result.1 ≡ 2 → Keeps (W.contents output) (W.contents result.0) }
     ensures statuses { result.1 ≤ 3 }
 {
-    match read_words(alloc, words) {
-        Ok(settings) => {
+    match read_invocation(alloc, words) {
+        Ok(
+            Invocation {
+                settings,
+                parallelism,
+            },
+        ) => {
             let output = StdSink::new(output);
-            let (output, status) = follow_settings(
-                rt, files, alloc, &settings, input, output, faults,
+            let (output, status) = follow_invocation(
+                rt,
+                files,
+                alloc,
+                &settings,
+                parallelism,
+                input,
+                output,
+                faults,
             );
             (output.into_inner(), status)
         }
@@ -98,6 +112,39 @@ pub fn follow_settings<
     ensures quiet { result.1 ≤ 1 → Keeps (E.contents faults.old) (E.contents faults.new) }
     ensures statuses { result.1 ≤ 3 }
 {
+    follow_invocation(rt, files, alloc, settings, None, input, output, faults)
+}
+
+/// Does what `follow_settings` does, with so many changes under way at once in the stream's own time, where a parallelism is
+/// asked for: then the run is that of `run_in_lanes`.
+pub fn follow_invocation<
+    F: Files,
+    R: Read + Drop,
+    W: Write + Drop,
+    E: Write,
+    T: Threads + Wait + Sync,
+>(
+    rt: &T,
+    files: &F,
+    alloc: Global,
+    settings: &Settings,
+    parallelism: Option<u8>,
+    input: R,
+    output: StdSink<W>,
+    faults: &mut E,
+) -> (StdSink<W>, u8)
+    requires { output.failures < 2 ^ 64 - 1 }
+    ensures applied { result.1 ≤ 1 → OfInput (R.remaining input) (λ plan. OfFile settings.now.script (λ script.
+        WasApplied (record { plan = plan; script = script; hooks = hooks_of_halts settings.now.halts.items })
+        settings.now parallelism (sight_of W.contents output) (sight_of W.contents result.0) result.1)) }
+    ensures refused { result.1 ≡ 2 → Keeps (W.contents output.writer) (W.contents result.0.writer) }
+    ensures cut_off { result.1 ≡ 3 → Keeps (W.contents output.writer) (W.contents result.0.writer)
+        ⊎ OfInput (R.remaining input) (λ plan. OfFile settings.now.script (λ script.
+        WasBegun (record { plan = plan; script = script; hooks = hooks_of_halts settings.now.halts.items })
+        settings.now parallelism (W.contents output.writer) (W.contents result.0.writer))) }
+    ensures quiet { result.1 ≤ 1 → Keeps (E.contents faults.old) (E.contents faults.new) }
+    ensures statuses { result.1 ≤ 3 }
+{
     // The closures are boxed here, where the registry is owned: a function that handed them out would hide what they answer.
     let mut registry = Registry::new(alloc);
     for halt in &settings.halts {
@@ -112,7 +159,17 @@ pub fn follow_settings<
             return (output, report_hook(faults, refused));
         }
     }
-    run_with_hooks(rt, files, alloc, settings, &registry, input, output, faults)
+    run_with_hooks(
+        rt,
+        files,
+        alloc,
+        settings,
+        parallelism,
+        &registry,
+        input,
+        output,
+        faults,
+    )
 }
 
 /// The rules of the halt's hook: for the hook, and for its closure.
@@ -130,6 +187,7 @@ fn run_with_hooks<F: Files, R: Read + Drop, W: Write + Drop, E: Write, T: Thread
     files: &F,
     alloc: Global,
     settings: &Settings,
+    parallelism: Option<u8>,
     registry: &Registry,
     input: R,
     output: StdSink<W>,
@@ -138,18 +196,35 @@ fn run_with_hooks<F: Files, R: Read + Drop, W: Write + Drop, E: Write, T: Thread
     requires failures { output.failures < 2 ^ 64 - 1 }
     requires hooks { rules_of registry.now ≡ hooks_of_halts settings.now.halts.items }
     ensures applied { result.1 ≤ 1 → OfInput (R.remaining input) (λ plan. OfFile settings.now.script (λ script.
-        HasApplied (record { plan = plan; script = script; hooks = hooks_of_halts settings.now.halts.items })
-        (options_of settings.now) (sight_of W.contents output) (sight_of W.contents result.0) result.1)) }
+        WasApplied (record { plan = plan; script = script; hooks = hooks_of_halts settings.now.halts.items })
+        settings.now parallelism (sight_of W.contents output) (sight_of W.contents result.0) result.1)) }
     ensures refused { result.1 ≡ 2 → Keeps (W.contents output.writer) (W.contents result.0.writer) }
     ensures cut_off { result.1 ≡ 3 → Keeps (W.contents output.writer) (W.contents result.0.writer)
         ⊎ OfInput (R.remaining input) (λ plan. OfFile settings.now.script (λ script.
-        HasBegun (record { plan = plan; script = script; hooks = hooks_of_halts settings.now.halts.items })
-        (options_of settings.now) (W.contents output.writer) (W.contents result.0.writer))) }
+        WasBegun (record { plan = plan; script = script; hooks = hooks_of_halts settings.now.halts.items })
+        settings.now parallelism (W.contents output.writer) (W.contents result.0.writer))) }
     ensures quiet { result.1 ≤ 1 → Keeps (E.contents faults.old) (E.contents faults.new) }
     ensures statuses { result.1 ≤ 3 }
 {
-    match script_of(files, alloc, settings) {
-        Ok(script) => run_command(
+    let script = match script_of(files, alloc, settings) {
+        Ok(script) => script,
+        Err(fault) => {
+            let status = report_script(faults, fault);
+            return (output, status);
+        }
+    };
+    match parallelism {
+        Some(lanes) => run_in_lanes(
+            alloc,
+            settings,
+            lanes,
+            registry,
+            script.as_deref(),
+            input,
+            output,
+            faults,
+        ),
+        None => run_command(
             rt,
             alloc,
             settings,
@@ -159,10 +234,6 @@ fn run_with_hooks<F: Files, R: Read + Drop, W: Write + Drop, E: Write, T: Thread
             output,
             faults,
         ),
-        Err(fault) => {
-            let status = report_script(faults, fault);
-            (output, status)
-        }
     }
 }
 

@@ -4,8 +4,10 @@
 mod answer;
 mod following;
 mod halt;
+mod in_lanes;
 mod input;
 mod input_fault;
+mod invocation;
 mod run;
 mod script_file;
 mod settings;
@@ -14,10 +16,12 @@ mod usage;
 mod words;
 
 pub use answer::answer_usage;
-pub use following::{follow, follow_settings, given_words};
+pub use following::{follow, follow_invocation, follow_settings, given_words};
 pub use halt::Halt;
+pub use in_lanes::run_in_lanes;
 pub use input::read_all;
 pub use input_fault::InputFault;
+pub use invocation::{Invocation, read_invocation};
 pub use run::{report, run_bytes, run_command, run_input};
 pub use script_file::{read_file, report_script};
 pub use settings::Settings;

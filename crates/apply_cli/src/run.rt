@@ -160,7 +160,7 @@ pub fn run_bytes<W: Write + Drop, E: Write, T: Threads + Wait + Sync>(
 }
 
 /// Flushes the output where no write has failed since there were so many failures. A flush that fails is dropped.
-fn flush_unless_failed<W: Write + Drop>(output: &mut StdSink<W>, failures: u64)
+pub(crate) fn flush_unless_failed<W: Write + Drop>(output: &mut StdSink<W>, failures: u64)
     requires { failures < 2 ^ 64 - 1 }
     ensures { Keeps (W.contents output.old.writer) (W.contents output.new.writer) }
 {

@@ -65,7 +65,7 @@ pub fn read_words(alloc: Global, words: &[String]) -> Result<Settings, Usage>
 }
 
 /// The options, and their help.
-fn command<'a>(alloc: Global) -> Result<Command<'a>, AllocError>
+pub(crate) fn command<'a>(alloc: Global) -> Result<Command<'a>, AllocError>
     ensures { IfOk result (λ command. (kinds : _) × IsOneOf said.kind_words kinds
         × (app_of command ≡ said.command_line kinds)) }
 {
@@ -162,7 +162,7 @@ fn halt_in<'a>(alloc: Global) -> Arg<'a>
 }
 
 /// What the matches say.
-fn settings_of(alloc: Global, matches: &ArgMatches<'_>) -> Result<Settings, Usage>
+pub(crate) fn settings_of(alloc: Global, matches: &ArgMatches<'_>) -> Result<Settings, Usage>
     ensures in_range { IfOk result AreInRange }
     ensures said { IfOk result (AreSaid (rows_of (found_of matches.now))) }
     ensures refused { IfErr result (IsSaidWrong (rows_of (found_of matches.now))) }
@@ -264,7 +264,7 @@ fn step_kind(word: &str) -> StepKind
 }
 
 /// What is answered where the parser gives no matches.
-fn usage_of(alloc: Global, error: &clap::Error) -> Result<Usage, AllocError>
+pub(crate) fn usage_of(alloc: Global, error: &clap::Error) -> Result<Usage, AllocError>
     ensures { IfOk result (Answers (kind_of error.now)) }
 {
     if error.kind() == ErrorKind::OutOfMemory {

@@ -7,13 +7,14 @@ mod answers;
 mod failing_outputs;
 mod faults;
 mod following;
+mod invocations;
 mod settings;
 mod streams;
 mod words;
 
 use apply_cli::{
-    Halt, InputFault, Settings, Usage, answer_usage, follow, follow_settings, read_all, read_words,
-    refusal_status, report, run_command, run_input,
+    Halt, InputFault, Invocation, Settings, Usage, answer_usage, follow, follow_settings, read_all,
+    read_invocation, read_words, refusal_status, report, run_command, run_input,
 };
 use apply_hooks::Registry;
 use apply_plan::{PlanError, ScriptError, StepKind, Text};

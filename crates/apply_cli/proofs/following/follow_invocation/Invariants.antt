@@ -1,7 +1,7 @@
 use Rattle.std.proofs.Common.{◌≡◌, take}
 use Rattle.apply_hooks.specs.Registry.{rules_of}
 use Rattle.apply_cli.specs.Halt.{hooks_of_halts}
-use Rattle.apply_cli.proofs.following.follow_settings.Given as goal
+use Rattle.apply_cli.proofs.following.follow_invocation.Given as goal
 
 -- the hooks are those of the halts so far, and nothing was said of faults
 abbrev pub invariant-loop-halt : goal.invariant-loop-halt

@@ -1,0 +1,32 @@
+-- How the program has ended, where the changes are under way in lanes.
+use Rattle.std.specs.Prelude.{◌≡◌, ◌<◌, ◌↔◌, ℕ, List, Option}
+use Rattle.std.specs.Io.KnownBytes.{Appends}
+use mathlib.Core.List.{IsPrefix}
+use Rattle.apply_plan.specs.Plan.SavedPlan.{SavedPlan}
+use Rattle.apply_plan.specs.Script.Outcomes.{Outcomes}
+use Rattle.apply_events.specs.declared.event.Event.{Event}
+use Rattle.apply_events.specs.Lanes.TimeLine.{IsTimeLine}
+use Rattle.apply_text.specs.declared.operation.Operation.{Operation}
+use Rattle.apply_text.specs.Lines.{stream_of}
+use Rattle.apply_run.specs.Bytes.{Given, IsRead}
+use Rattle.apply_run.specs.declared.report.Report.{Report}
+use Rattle.apply_run.specs.Lanes.{WasAppliedInLanes}
+use Rattle.apply_run.specs.Run.{Sight}
+use Rattle.apply_cli.specs.Status.{unfinished}
+
+-- what was given was applied in so many lanes, the output has all of the stream of its time line behind the bytes that it had, and the status is 1 exactly where a step failed or was halted
+pub record HasAppliedInLanes (given : Given) (lanes start : ℕ) (operation : Operation) (before after : Sight) (status : ℕ) : Type 0 where
+  pub report : Report
+  pub applied : WasAppliedInLanes given lanes start operation report before after
+  pub told : (status ≡ 1) ↔ (0 < unfinished report.counts)
+
+-- what was given was applied, and the output has a front of the stream of its time line behind the bytes that it had
+pub record HasBegunInLanes (given : Given) (lanes start : ℕ) (operation : Operation) (before after : Option (List ℕ)) : Type 0 where
+  pub plan : SavedPlan
+  pub script : Outcomes
+  pub read : IsRead given plan script
+  pub events : List Event
+  pub time_line : IsTimeLine (record { plan = plan; script = script; hooks = given.hooks }) lanes events
+  pub part : List ℕ
+  pub is_prefix : IsPrefix part (stream_of plan script start operation events)
+  pub appended : Appends before after part

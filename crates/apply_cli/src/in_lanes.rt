@@ -1,0 +1,143 @@
+//! The program with changes under way in lanes, from its input to its exit status.
+
+ghost use Rattle.std.specs.Prelude.{◌≡◌, ◌<◌, ◌≤◌, ◌-◌, ◌^◌, ◌⊎◌, length, IfOk, IfErr, OnErr};
+ghost use Rattle.std.specs.Option.{option_copied};
+ghost use Rattle.std.specs.Io.KnownBytes.{Keeps};
+ghost use Rattle.apply_plan.specs.Json.{max_bytes};
+ghost use Rattle.apply_hooks.specs.Registry.{rules_of};
+ghost use Rattle.apply_run.specs.declared.refusal.Refusal.{Refusal};
+ghost use Rattle.apply_run.specs.Lanes.{WasRefusedInLanes};
+ghost use Rattle.apply_cli.specs.Command.{OfInput, sight_of};
+ghost use Rattle.apply_cli.specs.CommandInLanes.{HasAppliedInLanes, HasBegunInLanes};
+ghost use Rattle.apply_cli.specs.Status.{input_status_of, refusal_status_of};
+
+use crate::input::read_all;
+use crate::input_fault::InputFault;
+use crate::run::{flush_unless_failed, report};
+use crate::settings::Settings;
+use crate::status::{FAILED, counts_status, input_status, refusal_status};
+use apply_hooks::Registry;
+use apply_run::{Refusal, Sink, StdSink, Why, apply_bytes_in_lanes};
+use std::alloc::Global;
+use std::io::{Read, Write};
+
+/// Does what `run_command` does, with so many changes under way at once in the stream's own time; the settings' workers and
+/// queue are not looked at. The same input, script, hooks, settings and lanes give the same bytes.
+///
+/// The exit status is that of `run_command`; it is 2 also where the lanes are not 1 to 64. With status 3 a front of the one
+/// stream may have been written.
+pub fn run_in_lanes<R: Read + Drop, W: Write + Drop, E: Write>(
+    alloc: Global,
+    settings: &Settings,
+    lanes: u8,
+    registry: &Registry,
+    script: Option<&[u8]>,
+    input: R,
+    output: StdSink<W>,
+    faults: &mut E,
+) -> (StdSink<W>, u8)
+    requires { output.failures < 2 ^ 64 - 1 }
+    ensures applied { result.1 ≤ 1 → OfInput (R.remaining input) (λ bytes.
+        HasAppliedInLanes (record { plan = bytes; script = option_copied script.entry; hooks = rules_of registry.now })
+        lanes settings.now.at settings.now.operation (sight_of W.contents output) (sight_of W.contents result.0) result.1) }
+    ensures refused { result.1 ≡ 2 → Keeps (W.contents output.writer) (W.contents result.0.writer) }
+    ensures cut_off { result.1 ≡ 3 → Keeps (W.contents output.writer) (W.contents result.0.writer)
+        ⊎ OfInput (R.remaining input) (λ bytes.
+        HasBegunInLanes (record { plan = bytes; script = option_copied script.entry; hooks = rules_of registry.now })
+        lanes settings.now.at settings.now.operation (W.contents output.writer) (W.contents result.0.writer)) }
+    ensures quiet { result.1 ≤ 1 → Keeps (E.contents faults.old) (E.contents faults.new) }
+    ensures statuses { result.1 ≤ 3 }
+{
+    let input = read_all(alloc, input);
+    run_input_in_lanes(
+        alloc, settings, lanes, registry, script, input, output, faults,
+    )
+}
+
+/// Does what `run_in_lanes` does, with an input that was read or was not.
+fn run_input_in_lanes<W: Write + Drop, E: Write>(
+    alloc: Global,
+    settings: &Settings,
+    lanes: u8,
+    registry: &Registry,
+    script: Option<&[u8]>,
+    input: Result<Vec<u8>, InputFault>,
+    output: StdSink<W>,
+    faults: &mut E,
+) -> (StdSink<W>, u8)
+    requires { output.failures < 2 ^ 64 - 1 }
+    ensures applied { IfOk input (λ bytes. result.1 ≤ 1 →
+        HasAppliedInLanes (record { plan = bytes.items; script = option_copied script.entry; hooks = rules_of registry.now })
+        lanes settings.now.at settings.now.operation (sight_of W.contents output) (sight_of W.contents result.0) result.1) }
+    ensures refused { result.1 ≡ 2 → Keeps (W.contents output.writer) (W.contents result.0.writer) }
+    ensures cut_off { IfOk input (λ bytes. result.1 ≡ 3 → Keeps (W.contents output.writer) (W.contents result.0.writer)
+        ⊎ HasBegunInLanes (record { plan = bytes.items; script = option_copied script.entry; hooks = rules_of registry.now })
+        lanes settings.now.at settings.now.operation (W.contents output.writer) (W.contents result.0.writer)) }
+    ensures unread { IfErr input (λ fault. result.1 ≡ input_status_of fault) }
+    ensures untouched { OnErr input (Keeps (W.contents output.writer) (W.contents result.0.writer)) }
+    ensures quiet { result.1 ≤ 1 → Keeps (E.contents faults.old) (E.contents faults.new) }
+    ensures statuses { result.1 ≤ 3 }
+{
+    match input {
+        Ok(bytes) => run_bytes_in_lanes(
+            alloc, settings, lanes, registry, script, &bytes, output, faults,
+        ),
+        Err(fault) => {
+            report(faults, fault);
+            (output, input_status(fault))
+        }
+    }
+}
+
+/// Does what `run_in_lanes` does, with the bytes of the input.
+fn run_bytes_in_lanes<W: Write + Drop, E: Write>(
+    alloc: Global,
+    settings: &Settings,
+    lanes: u8,
+    registry: &Registry,
+    script: Option<&[u8]>,
+    bytes: &[u8],
+    output: StdSink<W>,
+    faults: &mut E,
+) -> (StdSink<W>, u8)
+    requires { output.failures < 2 ^ 64 - 1 }
+    ensures applied { result.1 ≤ 1 →
+        HasAppliedInLanes (record { plan = bytes.now; script = option_copied script.entry; hooks = rules_of registry.now })
+        lanes settings.now.at settings.now.operation (sight_of W.contents output) (sight_of W.contents result.0) result.1 }
+    ensures kept { result.1 ≡ 2 → Keeps (W.contents output.writer) (W.contents result.0.writer) }
+    ensures cut_off { result.1 ≡ 3 → Keeps (W.contents output.writer) (W.contents result.0.writer)
+        ⊎ HasBegunInLanes (record { plan = bytes.now; script = option_copied script.entry; hooks = rules_of registry.now })
+        lanes settings.now.at settings.now.operation (W.contents output.writer) (W.contents result.0.writer) }
+    ensures quiet { result.1 ≤ 1 → Keeps (E.contents faults.old) (E.contents faults.new) }
+    ensures statuses { result.1 ≤ 3 }
+{
+    let failures = output.failures();
+    let (mut output, result) = apply_bytes_in_lanes(
+        alloc,
+        bytes,
+        script,
+        registry,
+        lanes,
+        settings.at,
+        settings.operation,
+        output,
+    );
+    match result {
+        Ok(run) => {
+            if output.flush().is_err() {
+                report(faults, Why::Write);
+                return (output, FAILED);
+            }
+            (output, counts_status(&run.counts))
+        }
+        Err(Refusal::Fault(fault)) => {
+            flush_unless_failed(&mut output, failures);
+            report(faults, fault);
+            (output, FAILED)
+        }
+        Err(refusal) => {
+            report(faults, refusal);
+            (output, refusal_status(refusal))
+        }
+    }
+}

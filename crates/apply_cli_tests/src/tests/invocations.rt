@@ -1,0 +1,70 @@
+//! Which words ask for how many changes at once.
+
+use super::*;
+use std::alloc::AllocError;
+
+/// Words, and the parallelism that they ask for, if any, or the name of the usage.
+const TABLE: &str = r#" => None
+--parallelism 1 => Some(1)
+--parallelism 10 => Some(10)
+--parallelism=64 => Some(64)
+--parallelism 2 --destroy --at 2024-05-01T12:00:00Z --halt-before delete => Some(2)
+--parallelism 0 => Words
+--parallelism 65 => Words
+--parallelism 258 => Words
+--parallelism ten => Words
+--parallelism -1 => Words
+--parallelism => Words
+--parallelism 2 --parallelism 2 => Words
+--parallelism 2 --workers 2 => Words
+--workers 1 --parallelism 2 => Words
+--parallelism 2 --queue 64 => Words
+--workers 2 --queue 1 => None
+--parallelism 2 --at x => Moment
+--help => Help"#;
+
+/// What the words are answered.
+fn answer_to(rt: &impl Abort, alloc: Global, text: &str) -> String {
+    let words = words_of(rt, alloc, text);
+    shown(alloc, &read_invocation(alloc, &words)).expect(rt, "memory")
+}
+
+/// The parallelism, or the name of the usage.
+fn shown(alloc: Global, read: &Result<Invocation, Usage>) -> Result<String, AllocError> {
+    match read {
+        Ok(invocation) => format!(in alloc; "{:?}", invocation.parallelism),
+        Err(Usage::Help(_)) => String::from_str(alloc, "Help"),
+        Err(Usage::Words(_)) => String::from_str(alloc, "Words"),
+        Err(Usage::Moment(_)) => String::from_str(alloc, "Moment"),
+        Err(Usage::Hooks) => String::from_str(alloc, "Hooks"),
+        Err(Usage::Memory) => String::from_str(alloc, "Memory"),
+    }
+}
+
+#[test]
+fn words_ask_for_a_parallelism(rt: HostRuntime) {
+    for row in TABLE.lines() {
+        let (words, wanted) = parted(&rt, row, " => ");
+        let answer = answer_to(&rt, rt.alloc(), words);
+        assert_eq!(rt; answer.as_str(), wanted, "{words}");
+    }
+}
+
+#[test]
+fn settings_have_no_parallelism(rt: HostRuntime) {
+    let words = words_of(&rt, rt.alloc(), "--parallelism 2");
+    let read = read_words(rt.alloc(), &words);
+    assert!(rt; matches!(read, Err(Usage::Words(_))));
+}
+
+#[test]
+fn help_says_how_many_at_once(rt: HostRuntime) {
+    let words = words_of(&rt, rt.alloc(), "--help");
+    match read_invocation(rt.alloc(), &words) {
+        Err(Usage::Help(help)) => {
+            assert!(rt; help.as_str().contains("--parallelism <N>"));
+            assert!(rt; help.as_str().contains("1 to 64"));
+        }
+        _ => panic!(rt; "no help"),
+    }
+}
