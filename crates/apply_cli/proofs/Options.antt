@@ -7,7 +7,7 @@ use Rattle.clap.specs.Matches.{matched_of, raw_values}
 use Rattle.clap.specs.Walk.{Text, all_of, rows_of, texts}
 use Rattle.clap.specs.declared.parser.matches.Found.{Found}
 use Rattle.clap.proofs.WalkLemmas.{raw_values-rows}
-use Rattle.apply_cli.specs.CommandLine.{IsNumber}
+use Rattle.apply_cli.specs.CommandLine.{IsNumber, IsOptionalNumber}
 
 number_read : (E : Type 0) (gives : Text → Result ℕ E → Type 0) (width most otherwise : ℕ) (read : Option ℕ) (n : ℕ) (text : Text)
     → ((t : Text) (r : Result ℕ E) → gives t r → ParsesUnsigned width 10 t r) → most < 2 ^ width
@@ -27,6 +27,26 @@ pub number_is : (E : Type 0) (gives : Text → Result ℕ E → Type 0) (width m
 number_is E gives width most otherwise read n None parses fits reads is = tt
 number_is E gives width most otherwise read n (Some text) parses fits reads is =
     number_read E gives width most otherwise read n text parses fits (reads text refl) is
+
+option_read : (E : Type 0) (gives : Text → Result ℕ E → Type 0) (width most : ℕ) (read result : Option ℕ) (text : Text)
+    → ((t : Text) (r : Result ℕ E) → gives t r → ParsesUnsigned width 10 t r) → most < 2 ^ width
+    → ReadsOne gives text read → result ≡ option_map (λ v. max 1 (min v most)) read → IsOptionalNumber most text result
+option_read E gives width most (Some v) result text parses fits reads is numeral least greatest =
+    let parsed = parses text (Ok v) reads in
+    let said : v ≡ digits_value 10 (without_leading_plus text) = parsed.1 in
+    let within : max 1 (min v most) ≡ digits_value 10 (without_leading_plus text) = omega (arith, said, least, greatest) in
+    is ∙ ap Some within
+option_read E gives width most None result text parses fits reads is numeral least greatest =
+    absurd (parses text (Err reads.0) reads.1 (numeral, omega (arith, greatest, fits)))
+
+-- and so of an option that need not be given
+pub option_is : (E : Type 0) (gives : Text → Result ℕ E → Type 0) (width most : ℕ) (read result : Option ℕ) (found : Option Text)
+    → ((t : Text) (r : Result ℕ E) → gives t r → ParsesUnsigned width 10 t r) → most < 2 ^ width
+    → ((t : Text) → found ≡ Some t → ReadsOne gives t read) → result ≡ option_map (λ v. max 1 (min v most)) read
+    → IfSome found (λ text. IsOptionalNumber most text result)
+option_is E gives width most read result None parses fits reads is = tt
+option_is E gives width most read result (Some text) parses fits reads is =
+    option_read E gives width most read result text parses fits (reads text refl) is
 
 -- the values of an option that may be given again, where the program's own list stands for none
 pub values_are : (found : Found) (id : Text) (lent : Option (Bor (List (Bor Text)))) (none values : Bor (List (Bor Text)))

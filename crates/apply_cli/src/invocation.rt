@@ -1,8 +1,10 @@
 //! All that the words of the command line say.
 
-ghost use Rattle.std.specs.Prelude.{IfOk, IfSome};
+ghost use Rattle.std.specs.Prelude.{◌≡◌, Bool, false, IfOk, IfSome, map, string_bytes};
+ghost use Rattle.clap.specs.Matches.{found_of};
+ghost use Rattle.clap.specs.Walk.{rows_of, rule_of};
 ghost use Rattle.apply_run.specs.Lanes.{AreLanes};
-ghost use Rattle.apply_cli.specs.Invocation.{IsInRange};
+ghost use Rattle.apply_cli.specs.Invocation.{HaveInvoked, IsInRange, IsSaid, parallelism_rule};
 
 use crate::settings::Settings;
 use crate::usage::Usage;
@@ -26,7 +28,8 @@ pub struct Invocation {
 ///
 /// `Err` as there; and with `Usage::Words` where a parallelism stands beside workers or a queue.
 pub fn read_invocation(alloc: Global, words: &[String]) -> Result<Invocation, Usage>
-    ensures { IfOk result IsInRange }
+    ensures in_range { IfOk result IsInRange }
+    ensures said { IfOk result (HaveInvoked (map string_bytes words.now)) }
 {
     let command = command(alloc)?.arg(parallelism(alloc)?)?;
     match command.try_get_matches_from(words) {
@@ -38,7 +41,9 @@ pub fn read_invocation(alloc: Global, words: &[String]) -> Result<Invocation, Us
     }
 }
 
-fn parallelism<'a>(alloc: Global) -> Result<Arg<'a>, AllocError> {
+fn parallelism<'a>(alloc: Global) -> Result<Arg<'a>, AllocError>
+    ensures { IfOk result (λ arg. (free : Bool) × (rule_of arg ≡ parallelism_rule free) × (arg.global ≡ false)) }
+{
     let arg = Arg::new(alloc, "parallelism")
         .long("parallelism")
         .value_name("N")
@@ -52,7 +57,8 @@ fn parallelism<'a>(alloc: Global) -> Result<Arg<'a>, AllocError> {
 /// How many changes are under way at once, where it is said. The parser has tested the number, so that the bounds here do not
 /// change it.
 fn parallelism_of(matches: &ArgMatches<'_>) -> Option<u8>
-    ensures { IfSome result AreLanes }
+    ensures in_range { IfSome result AreLanes }
+    ensures said { IsSaid (rows_of (found_of matches.now)) result }
 {
     match matches.get_one::<u8>("parallelism") {
         Some(lanes) => Some(lanes.clamp(1, MAX_LANES)),
