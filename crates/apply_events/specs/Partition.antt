@@ -10,7 +10,8 @@ count_of number list = count_by (λ other. other == number) list
 abbrev pub places : ℕ → List (List ℕ) → ℕ
 places number lists = sum_by (count_of number) lists
 
--- a strictly increasing list for each worker. Each number below the limit stands in one place of one list, and no other number does
+-- a strictly increasing list for each worker. Each number below the limit stands in one place of one list, and no other
+-- number does
 pub record IsPartition (workers limit : ℕ) (lists : List (List ℕ)) : Type 0 where
   pub count : length lists ≡ workers
   pub rising : All IsStrictlyIncreasing lists
@@ -21,7 +22,10 @@ pub record NamesEachWorkerOnce (workers : ℕ) (named : List ℕ) : Type 0 where
   pub count : length named ≡ workers
   pub once : (worker : ℕ) → worker < workers → count_of worker named ≡ 1
 
--- the numbers below m that fall to a worker, in order
+-- the numbers below m that fall to a worker, in order, where each number falls to someone
 abbrev pub numbers_of : (falls_to : ℕ → ℕ) → (worker m : ℕ) → List ℕ
 numbers_of falls_to worker zero = []
-numbers_of falls_to worker (suc m) = if falls_to m == worker then numbers_of falls_to worker m ++ m ∷ [] else numbers_of falls_to worker m
+numbers_of falls_to worker (suc m) =
+    if falls_to m == worker
+    then numbers_of falls_to worker m ++ m ∷ []
+    else numbers_of falls_to worker m
