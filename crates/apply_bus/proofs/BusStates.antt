@@ -1,13 +1,13 @@
 -- The rule of a bus in a form that proofs take apart: of each worker, what was taken and queued of it, and nothing of what it sent beside.
 use Rattle.std.proofs.Common.{◌≡◌, ◌≢◌, ℕ, ◌<◌, ◌≤◌, true, List, [], ◌∷◌, ◌++◌, sym, refl, ◌∙◌, subst, ⊎_elim, arith}
 use Rattle.std.proofs.lemmas.Bool.Decides.{eqb_tells}
+use Rattle.std.specs.List.{AllByRecursion}
 use Rattle.crossbeam_channel.specs.Fifo.{Pushes, Pops, Forks, Merges, Learns}
 use Rattle.apply_bus.specs.declared.bus_rule.Known.{Known}
 use Rattle.apply_bus.specs.declared.bus_rule.Knowledge.{Knowledge}
 use Rattle.apply_bus.specs.declared.item.Item.{Item}
-use Rattle.apply_bus.specs.BusRule.{Knows, IsLawful, Told}
+use Rattle.apply_bus.specs.BusRule.{Knows, IsLawful, IsBorneOut}
 use Rattle.apply_bus.specs.BusState.{ClosesLast, IsConsistent}
-use Rattle.apply_bus.specs.Each.{Each}
 use Rattle.apply_bus.specs.Items.{worker_of, closes, items_of}
 use Rattle.apply_bus.proofs.Each.{each_map}
 use Rattle.apply_bus.proofs.Items.{closes_last, grows_here, grows_else, named_below, none_above}
@@ -47,7 +47,7 @@ abbrev pub IsPart : (owner : ℕ → ℕ) → (all : List Item) → (workers pas
 IsPart owner all workers pass k = (owner k.worker ≡ pass) × (k.worker < workers) × (items_of k.worker all ≡ k.sent)
 
 abbrev pub Suits : (reader : ℕ) → (owner : ℕ → ℕ) → (taken all : List Item) → (workers pass : ℕ) → Knowledge → Type 0
-Suits reader owner taken all workers pass v = Each (IsPart owner all workers pass) v.senders × (v.receives ≡ true → (pass ≡ reader) × (v.taken ≡ taken) × (v.workers ≡ workers))
+Suits reader owner taken all workers pass v = AllByRecursion (IsPart owner all workers pass) v.senders × (v.receives ≡ true → (pass ≡ reader) × (v.taken ≡ taken) × (v.workers ≡ workers))
 
 abbrev pub Plain : List Item → List Knowledge → Type 0
 Plain queue views =
@@ -86,17 +86,17 @@ from_plain queue views h =
 
 -- what a look at the plain rule tells
 abbrev pub Learned : Knowledge → List Item → Type 0
-Learned v queue = Orderly v.workers (v.taken ++ queue) × Each (λ k. (k.worker < v.workers) × (items_of k.worker (v.taken ++ queue) ≡ k.sent)) v.senders
+Learned v queue = Orderly v.workers (v.taken ++ queue) × AllByRecursion (λ k. (k.worker < v.workers) × (items_of k.worker (v.taken ++ queue) ≡ k.sent)) v.senders
 
-pub learned : (v : Knowledge) (queue : List Item) → Told v queue → Learned v queue
+pub learned : (v : Knowledge) (queue : List Item) → IsBorneOut v queue → Learned v queue
 learned v queue h = (
   orderly v.workers v.taken queue h.0 h.1,
   each_map (λ (k : Known). (k.worker < v.workers) × (k.sent ≡ h.0 k.worker)) (λ (k : Known). (k.worker < v.workers) × (items_of k.worker (v.taken ++ queue) ≡ k.sent)) v.senders
       (λ k fits. (fits.0, h.1.agree k.worker ∙ sym fits.1)) h.2,
 )
 
-pub told_from : (v : Knowledge) (queue : List Item) → Learned v queue → Told v queue
-told_from v queue h = (
+pub borne_out_from : (v : Knowledge) (queue : List Item) → Learned v queue → IsBorneOut v queue
+borne_out_from v queue h = (
   parts (v.taken ++ queue),
   consistent v.workers v.taken queue h.0,
   each_map (λ (k : Known). (k.worker < v.workers) × (items_of k.worker (v.taken ++ queue) ≡ k.sent)) (λ (k : Known). (k.worker < v.workers) × (k.sent ≡ parts (v.taken ++ queue) k.worker)) v.senders
@@ -119,5 +119,5 @@ forks_from pass v left right f queue views h at = from_plain _ _ (f queue views 
 pub merges_from : (pass : ℕ) (v : Knowledge) (other : ℕ) (w both spent : Knowledge) → Merges Plain pass v other w both spent → Merges IsLawful pass v other w both spent
 merges_from pass v other w both spent f queue views h at apart at' = from_plain _ _ (f queue views (to_plain queue views h) at apart at')
 
-pub learns_from : (pass : ℕ) (v : Knowledge) → Learns Plain pass v (Learned v) → Learns IsLawful pass v (Told v)
-learns_from pass v f queue views h at = told_from v queue (f queue views (to_plain queue views h) at)
+pub learns_from : (pass : ℕ) (v : Knowledge) → Learns Plain pass v (Learned v) → Learns IsLawful pass v (IsBorneOut v)
+learns_from pass v f queue views h at = borne_out_from v queue (f queue views (to_plain queue views h) at)

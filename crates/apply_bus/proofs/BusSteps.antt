@@ -1,5 +1,6 @@
 -- Each kind of step keeps the rule of a bus.
 use Rattle.std.proofs.Common.{◌≡◌, ◌≢◌, ℕ, ◌+◌, ◌<◌, true, true≢false, List, [], ◌∷◌, ◌++◌, length, set, eqb, sym, refl, ap, ◌∙◌, subst, ⊎_elim, append_assoc, arith, lt_of_not-le}
+use Rattle.std.specs.List.{AllByRecursion}
 use mathlib.Core.Option.{some, some-ne-none}
 use lib.ListN.{get_elem?}
 use Rattle.crossbeam_channel.specs.Fifo.{Pushes, Pops, Forks, Merges, Learns}
@@ -7,8 +8,7 @@ use Rattle.atomic_table.proofs.Lists.{at_set}
 use Rattle.apply_bus.specs.declared.bus_rule.Known.{Known}
 use Rattle.apply_bus.specs.declared.bus_rule.Knowledge.{Knowledge}
 use Rattle.apply_bus.specs.declared.item.Item.{Item}
-use Rattle.apply_bus.specs.BusRule.{knowledge, receiving, sending, spent, with_one_more, with_senders_of, after_send, IsLawful, IsTaken, Told}
-use Rattle.apply_bus.specs.Each.{Each}
+use Rattle.apply_bus.specs.BusRule.{knowledge, receiving, sending, spent, with_one_more, with_senders_of, after_send, IsLawful, IsTaken, IsBorneOut}
 use Rattle.apply_bus.specs.Items.{worker_of, closes, items_of}
 use Rattle.apply_bus.proofs.BusStates.{Orderly, orderly_grows, IsPart, Suits, Plain, from_plain, Learned, pushes_from, pops_from, forks_from, merges_from, learns_from}
 use Rattle.apply_bus.proofs.Each.{each_map, each_append}
@@ -74,7 +74,7 @@ adds_plain pass v receives queue views h at =
     let mine = h.5 pass v at in let now = mine.1 receives in
     let all = h.2 ++ queue in let vs : List Knowledge = set views pass (with_one_more v) in let n = length vs in let right : Knowledge = sending v.workers [] in
     let owner : ℕ → ℕ = λ p. pick (eqb p h.3) n (h.1 p) in
-    let keeps : (j : ℕ) (ks : List Known) → Each (IsPart h.1 all h.3 j) ks → Each (IsPart owner all (h.3 + 1) j) ks = λ j ks. each_map (IsPart h.1 all h.3 j) (IsPart owner all (h.3 + 1) j) ks
+    let keeps : (j : ℕ) (ks : List Known) → AllByRecursion (IsPart h.1 all h.3 j) ks → AllByRecursion (IsPart owner all (h.3 + 1) j) ks = λ j ks. each_map (IsPart h.1 all h.3 j) (IsPart owner all (h.3 + 1) j) ks
     (λ k fits. let low = fits.1 in (left_out k.worker h.3 n (h.1 k.worker) (λ e. omega arith) ∙ fits.0, (let goal : k.worker < h.3 + 1 = omega arith in goal), fits.2)) in
     let F : ℕ → Knowledge → Type 0 = Suits h.0 owner h.2 all (h.3 + 1) in
     let old : AtEach F vs = each_set F views pass (with_one_more v) (keeps pass v.senders mine.0, λ _. (now.0, now.1, ap (λ m. m + 1) now.2))
@@ -95,9 +95,9 @@ joins_plain pass v other w queue views h at apart at' =
     let both : Knowledge = with_senders_of v w in let mine = h.5 pass v at in let vs : List Knowledge = set views pass both in let all = h.2 ++ queue in
     let was : get_elem? views other ≡ some w = ⊎_elim (λ x. absurd (apart x.0)) (λ x. x.1) (at_set views pass other both w at') in let theirs = h.5 other w was in
     let owner : ℕ → ℕ = λ p. pick (eqb (h.1 p) other) pass (h.1 p) in
-    let keeps : (j : ℕ) (ks : List Known) → j ≢ other → Each (IsPart h.1 all h.3 j) ks → Each (IsPart owner all h.3 j) ks = λ j ks n. each_map (IsPart h.1 all h.3 j) (IsPart owner all h.3 j) ks
+    let keeps : (j : ℕ) (ks : List Known) → j ≢ other → AllByRecursion (IsPart h.1 all h.3 j) ks → AllByRecursion (IsPart owner all h.3 j) ks = λ j ks n. each_map (IsPart h.1 all h.3 j) (IsPart owner all h.3 j) ks
     (λ k fits. (left_out (h.1 k.worker) other pass (h.1 k.worker) (λ e. n (sym fits.0 ∙ e)) ∙ fits.0, fits.1, fits.2)) in
-    let comes : Each (IsPart owner all h.3 pass) w.senders = each_map (IsPart h.1 all h.3 other) (IsPart owner all h.3 pass) w.senders
+    let comes : AllByRecursion (IsPart owner all h.3 pass) w.senders = each_map (IsPart h.1 all h.3 other) (IsPart owner all h.3 pass) w.senders
     (λ k fits. (picked (h.1 k.worker) other pass (h.1 k.worker) fits.0, fits.1, fits.2)) theirs.0 in
     let F : ℕ → Knowledge → Type 0 = Suits h.0 owner h.2 all h.3 in let Now : ℕ → Knowledge → Type 0 = λ j y. j ≢ other → F j y in
     let now : AtEach Now vs = each_set Now views pass both (λ n. (each_append (IsPart owner all h.3 pass) v.senders w.senders (keeps pass v.senders n mine.0) comes, mine.1))
@@ -107,7 +107,7 @@ joins_plain pass v other w queue views h at apart at' =
 looks_plain : (pass : ℕ) (v : Knowledge) → v.receives ≡ true → Learns Plain pass v (Learned v)
 looks_plain pass v receives queue views h at =
     let mine = h.5 pass v at in let now = mine.1 receives in let all = h.2 ++ queue in
-    subst (λ (y : List Item × ℕ). Orderly y.1 (y.0 ++ queue) × Each (λ k. (k.worker < y.1) × (items_of k.worker (y.0 ++ queue) ≡ k.sent)) v.senders) (λ i. (sym now.1 i, sym now.2 i))
+    subst (λ (y : List Item × ℕ). Orderly y.1 (y.0 ++ queue) × AllByRecursion (λ k. (k.worker < y.1) × (items_of k.worker (y.0 ++ queue) ≡ k.sent)) v.senders) (λ i. (sym now.1 i, sym now.2 i))
     (h.4, each_map (IsPart h.1 all h.3 pass) (λ k. (k.worker < h.3) × (items_of k.worker all ≡ k.sent)) v.senders (λ k fits. (fits.1, fits.2)) mine.0)
 
 -- ---- the same of the rule
@@ -127,5 +127,5 @@ adds pass v receives = forks_from pass v (with_one_more v) (sending v.workers []
 pub joins : (pass : ℕ) (v : Knowledge) (other : ℕ) (w : Knowledge) → Merges IsLawful pass v other w (with_senders_of v w) spent
 joins pass v other w = merges_from pass v other w (with_senders_of v w) spent (joins_plain pass v other w)
 
-pub looks : (pass : ℕ) (v : Knowledge) → v.receives ≡ true → Learns IsLawful pass v (Told v)
+pub looks : (pass : ℕ) (v : Knowledge) → v.receives ≡ true → Learns IsLawful pass v (IsBorneOut v)
 looks pass v receives = learns_from pass v (looks_plain pass v receives)

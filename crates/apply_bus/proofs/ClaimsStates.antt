@@ -4,7 +4,7 @@ use Rattle.atomic_table.specs.Table.{State, Me, stepped, Allows, Splits, Joins, 
 use Rattle.std.specs.List.{range_with_len}
 use Rattle.apply_events.proofs.Dealing.{all_named, dealt_out}
 use Rattle.apply_bus.specs.declared.claims_rule.Hand.{Hand}
-use Rattle.apply_bus.specs.ClaimsRule.{Fits, IsLawful}
+use Rattle.apply_bus.specs.ClaimsRule.{KnowsAll, IsLawful}
 use Rattle.apply_bus.specs.ClaimsState.{marks}
 use Rattle.apply_bus.proofs.Views.{AtEach}
 
@@ -17,7 +17,7 @@ Plain n w s =
     (owner : ℕ → ℕ) × (who : ℕ → ℕ) × (met : ℕ → Bool) × (x : ℕ)
     × (s.words ≡ x ∷ [])
     × Counted who met n w x
-    × AtEach (Fits owner who met n w x) s.views
+    × AtEach (KnowsAll owner who met n w x) s.views
 
 pub to_plain : (n w : ℕ) (s : State ℕ Hand) → IsLawful n w s → Plain n w s
 to_plain n w s h = (h.0, h.1, h.2, h.3, h.4, (h.5.few, h.5.small, h.5.falls, h.6.marked), h.7)

@@ -2,6 +2,7 @@
 use Rattle.std.proofs.Common.{◌≡◌, ◌≢◌, ℕ, zero, suc, ◌+◌, ◌-◌, ◌%◌, ◌^◌, ◌<◌, ◌≤◌, min, Bool, true, false, List, [], ◌∷◌, ◌++◌, All, length, set, slice_set, slice_index, eqb, sym, refl, ap, ◌∙◌, subst, ⊎_elim, lt_of_not-le, mod-eq_of_lt, arith, lt-ltb, le-ltb, if◌then◌else◌}
 use Rattle.std.proofs.lemmas.Bool.{cases_lt}
 use Rattle.std.proofs.lemmas.Bool.Decides.{eqb_tells}
+use Rattle.std.specs.List.{AllByRecursion}
 use mathlib.Core.Option.{some, some-ne-none}
 use lib.ListN.{get_elem?}
 use Rattle.atomic_table.specs.Table.{State, Me, Allows, Splits, Joins, Enters, keeps, opening}
@@ -10,9 +11,8 @@ use Rattle.apply_events.specs.Partition.{numbers_of}
 use Rattle.apply_events.proofs.Numbers.{numbers_else, numbers_here, numbers_same, numbers_up}
 use Rattle.apply_bus.specs.declared.claims_rule.Hand.{Hand}
 use Rattle.apply_bus.specs.declared.claims_rule.Share.{Share}
-use Rattle.apply_bus.specs.ClaimsRule.{share, hand, drawer, new_shares, without_first, first_alone, spent, with_shares_of, IsDrawn, Knows, Fits, IsLawful, IsDealt, Told}
+use Rattle.apply_bus.specs.ClaimsRule.{share, hand, drawer, new_shares, without_first, first_alone, spent, with_shares_of, IsDrawn, Knows, KnowsAll, IsLawful, IsDealt, AreDealt}
 use Rattle.apply_bus.specs.ClaimsState.{marks}
-use Rattle.apply_bus.specs.Each.{Each}
 use Rattle.apply_bus.proofs.ClaimsStates.{Counted, Plain, from_plain, allows_from, splits_from, joins_from, enters_from}
 use Rattle.apply_bus.proofs.Each.{each_map, each_append}
 use Rattle.apply_bus.proofs.Marks.{marks_le, marks_more, marks_some, none_marked}
@@ -21,7 +21,7 @@ use Rattle.apply_bus.proofs.Views.{AtEach, each_set, at_end, pick, picked, left_
 abbrev at : List ℕ → List Hand → State ℕ Hand
 at ws views = record { words = ws; homes = []; views = views }
 
-fresh_knows : (owner : ℕ → ℕ) (who : ℕ → ℕ) (met : ℕ → Bool) (n w i m : ℕ) → ((k : ℕ) → owner k ≡ 0) → ((k : ℕ) → met k ≡ false) → i + m ≤ w → Each (Knows owner who met n w 0 0) (new_shares n w i m)
+fresh_knows : (owner : ℕ → ℕ) (who : ℕ → ℕ) (met : ℕ → Bool) (n w i m : ℕ) → ((k : ℕ) → owner k ≡ 0) → ((k : ℕ) → met k ≡ false) → i + m ≤ w → AllByRecursion (Knows owner who met n w 0 0) (new_shares n w i m)
 fresh_knows owner who met n w i zero o f le = tt
 fresh_knows owner who met n w i (suc m) o f le =
     let none : min 0 n ≡ zero = omega arith in
@@ -36,7 +36,7 @@ begins_plain n w small few = let first : Hand = hand (new_shares n w 0 w) in let
   refl,
   (few, small, (λ k low. absurd (omega arith)), (let z = none_marked met w (λ k. refl) in let g : marks met w ≡ 0 - n = omega arith in g)),
   λ j u e. ⊎_elim (λ (x : get_elem? [] j ≡ some u). absurd (some-ne-none u (sym x)))
-      (λ (x : (j ≡ 0) × (first ≡ u)). subst (λ (y : ℕ × Hand). Fits zeros zeros met n w 0 y.0 y.1) (λ i. (sym x.0 i, x.1 i)) (fresh_knows zeros zeros met n w 0 w (λ k. refl) (λ k. refl) (omega arith))) (at_end [] first u j e),
+      (λ (x : (j ≡ 0) × (first ≡ u)). subst (λ (y : ℕ × Hand). KnowsAll zeros zeros met n w 0 y.0 y.1) (λ i. (sym x.0 i, x.1 i)) (fresh_knows zeros zeros met n w 0 w (λ k. refl) (λ k. refl) (omega arith))) (at_end [] first u j e),
 )
 
 -- the word doesn't wrap
@@ -57,7 +57,7 @@ drawn_low n w x id d xs views low h here =
     let now : min (x + 1) n ≡ suc x = omega arith in
     let now' : suc x ≡ min (x + 1) n = sym now in
     let new : Hand = drawer d n w (xs ++ x ∷ []) false in
-    let F : ℕ → Hand → Type 0 = Fits owner who met n w (x + 1) in
+    let F : ℕ → Hand → Type 0 = KnowsAll owner who met n w (x + 1) in
     let grown : xs ++ x ∷ [] ≡ numbers_of who d (min (x + 1) n) =
     ap (λ l. l ++ x ∷ []) (mine.4 ∙ ap (numbers_of old d) was ∙ sym (numbers_same who old d x same)) ∙ sym (numbers_here who d x (picked x x d (old x) refl)) ∙ ap (numbers_of who d) now' in (
       owner,
@@ -101,7 +101,7 @@ drawn_high n w x id d xs views high h here =
     let stays : min h.3 n ≡ min (x + 1) n = omega arith in
     let more : marks met w ≡ marks old w + 1 = marks_more old met d w mine.1 (sym mine.5) (picked d d true (old d) refl) (λ k ne. sym (left_out k d true (old k) ne)) in
     let new : Hand = drawer d n w xs true in
-    let F : ℕ → Hand → Type 0 = Fits owner who met n w (x + 1) in (
+    let F : ℕ → Hand → Type 0 = KnowsAll owner who met n w (x + 1) in (
       owner,
       who,
       met,
@@ -158,7 +158,7 @@ draws_plain : (n w slots id : ℕ) (me : Me ℕ Hand) (d : ℕ) (xs : List ℕ) 
 draws_plain n w slots id me d xs is = subst (λ m. Allows (Plain n w) slots id m 0 (λ k. (k + 1) % 2 ^ 64) (IsDrawn m)) (sym is) (draws_of n w slots id d xs)
 
 -- the drawers that are left are above i
-above : (P : Share → Type 0) (n w i j m : ℕ) → i < j → Each P (new_shares n w j m) → Each (λ s. P s × (i < s.worker)) (new_shares n w j m)
+above : (P : Share → Type 0) (n w i j m : ℕ) → i < j → AllByRecursion P (new_shares n w j m) → AllByRecursion (λ s. P s × (i < s.worker)) (new_shares n w j m)
 above P n w i j zero lt e = tt
 above P n w i j (suc m) lt e = ((e.0, lt), above P n w i (suc j) m (omega arith) e.1)
 
@@ -171,7 +171,7 @@ deals_of n w id i m s h here =
     let owner : ℕ → ℕ = λ p. pick (eqb p i) seat (h.0 p) in
     let Old : ℕ → Share → Type 0 = Knows h.0 h.1 h.2 n w h.3 in
     let New : ℕ → Share → Type 0 = Knows owner h.1 h.2 n w h.3 in
-    let F : ℕ → Hand → Type 0 = Fits owner h.1 h.2 n w h.3 in
+    let F : ℕ → Hand → Type 0 = KnowsAll owner h.1 h.2 n w h.3 in
     let old : AtEach F vs = each_set F views id left
     (each_map (λ k. Old id k × (i < k.worker)) (New id) (new_shares n w (suc i) m)
     (λ k fits. let lt = fits.1 in (left_out k.worker i seat (h.0 k.worker) (λ e. omega arith) ∙ fits.0.0, fits.0.1, fits.0.2, fits.0.3, fits.0.4, fits.0.5))
@@ -202,19 +202,19 @@ joins_plain n w id v other u s h here apart there =
     let owner : ℕ → ℕ = λ p. pick (eqb (h.0 p) other) id (h.0 p) in
     let Old : ℕ → Share → Type 0 = Knows h.0 h.1 h.2 n w h.3 in
     let New : ℕ → Share → Type 0 = Knows owner h.1 h.2 n w h.3 in
-    let stays : (j : ℕ) (ks : List Share) → j ≢ other → Each (Old j) ks → Each (New j) ks = λ j ks ne. each_map (Old j) (New j) ks
+    let stays : (j : ℕ) (ks : List Share) → j ≢ other → AllByRecursion (Old j) ks → AllByRecursion (New j) ks = λ j ks ne. each_map (Old j) (New j) ks
     (λ k fits. (left_out (h.0 k.worker) other id (h.0 k.worker) (λ e. ne (sym fits.0 ∙ e)) ∙ fits.0, fits.1, fits.2, fits.3, fits.4, fits.5)) in
-    let comes : Each (New id) u.shares = each_map (Old other) (New id) u.shares (λ k fits. (picked (h.0 k.worker) other id (h.0 k.worker) fits.0, fits.1, fits.2, fits.3, fits.4, fits.5)) theirs in
-    let F : ℕ → Hand → Type 0 = Fits owner h.1 h.2 n w h.3 in let Now : ℕ → Hand → Type 0 = λ j y. j ≢ other → F j y in
+    let comes : AllByRecursion (New id) u.shares = each_map (Old other) (New id) u.shares (λ k fits. (picked (h.0 k.worker) other id (h.0 k.worker) fits.0, fits.1, fits.2, fits.3, fits.4, fits.5)) theirs in
+    let F : ℕ → Hand → Type 0 = KnowsAll owner h.1 h.2 n w h.3 in let Now : ℕ → Hand → Type 0 = λ j y. j ≢ other → F j y in
     let now : AtEach Now vs = each_set Now views id both (λ ne. each_append (New id) v.shares u.shares (stays id v.shares ne mine) comes)
     (λ j y _ e ne. stays j y.shares ne (h.6 j y e)) in
     (owner, h.1, h.2, h.3, h.4, h.5, each_set F vs other spent tt (λ j y ne e. now j y e ne))
 
-looks_plain : (n w slots id : ℕ) (me : Me ℕ Hand) → Allows (Plain n w) slots id me 0 (λ k. k) (λ _ after. (after ≡ me) × Told me.0)
+looks_plain : (n w slots id : ℕ) (me : Me ℕ Hand) → Allows (Plain n w) slots id me 0 (λ k. k) (λ _ after. (after ≡ me) × AreDealt me.0)
 looks_plain n w slots id me s h sized here fits =
     let v = me.0 in let mine = h.6 id v here in
     let m : ℕ = min h.3 n in
-    let learned : Told v = (
+    let learned : AreDealt v = (
       h.1,
       m,
       each_map (Knows h.0 h.1 h.2 n w h.3 id) (IsDealt h.1 m) v.shares
@@ -252,7 +252,7 @@ split_off n w i me after lt is then' =
 enters_plain : (n w slots : ℕ) → Enters (Plain n w) slots 0 (λ _ v. ◌≡◌ {A = Me ℕ Hand} (v, []) (spent, []))
 enters_plain n w slots s h sized fits = (
   spent,
-  (h.0, h.1, h.2, h.3, h.4, h.5, λ j u e. ⊎_elim (λ z. h.6 j u z) (λ (z : (j ≡ length s.views) × (spent ≡ u)). subst (λ (y : Hand). Fits h.0 h.1 h.2 n w h.3 j y) z.1 tt) (at_end s.views spent u j e)),
+  (h.0, h.1, h.2, h.3, h.4, h.5, λ j u e. ⊎_elim (λ z. h.6 j u z) (λ (z : (j ≡ length s.views) × (spent ≡ u)). subst (λ (y : Hand). KnowsAll h.0 h.1 h.2 n w h.3 j y) z.1 tt) (at_end s.views spent u j e)),
   refl,
 )
 
@@ -270,8 +270,8 @@ deals key n w id i me k lt is = splits_from key.0 key.1 id me.0 (hand (without_f
 pub joins : (n w id : ℕ) (v : Hand) (other : ℕ) (u : Hand) → Joins (IsLawful n w) id v other u (with_shares_of v u) spent
 joins n w id v other u = joins_from n w id v other u (with_shares_of v u) spent (joins_plain n w id v other u)
 
-pub looks : (n w slots id : ℕ) (me : Me ℕ Hand) → Allows (IsLawful n w) slots id me 0 (λ k. k) (λ _ after. (after ≡ me) × Told me.0)
-looks n w slots id me = allows_from n w slots id me (λ k. k) (λ _ after. (after ≡ me) × Told me.0) (looks_plain n w slots id me)
+pub looks : (n w slots id : ℕ) (me : Me ℕ Hand) → Allows (IsLawful n w) slots id me 0 (λ k. k) (λ _ after. (after ≡ me) × AreDealt me.0)
+looks n w slots id me = allows_from n w slots id me (λ k. k) (λ _ after. (after ≡ me) × AreDealt me.0) (looks_plain n w slots id me)
 
 pub enters : (n w slots : ℕ) → Enters (IsLawful n w) slots 0 (λ _ v. ◌≡◌ {A = Me ℕ Hand} (v, []) (spent, []))
 enters n w slots = enters_from n w slots (λ _ v. ◌≡◌ {A = Me ℕ Hand} (v, []) (spent, [])) (enters_plain n w slots)

@@ -1,12 +1,12 @@
 -- What the rule of claims tells of one drawer for each worker.
 use Rattle.std.proofs.Common.{◌≡◌, ℕ, ◌<◌, ◌≤◌, true, List, [], ◌∷◌, All, map, sym, refl, ap, ◌∙◌, subst, subst₂, arith}
 use Rattle.std.proofs.lemmas.List.Elements.{All-cons, All-nil}
+use Rattle.std.specs.List.{AllByRecursion}
 use Rattle.apply_events.specs.Partition.{IsPartition, NamesEachWorkerOnce}
 use Rattle.apply_events.proofs.Dealing.{dealt_out, lists}
 use Rattle.apply_bus.specs.declared.claims_rule.Share.{Share}
 use Rattle.apply_bus.specs.Claims.{ClaimsName, Drawing, lists_drawn, workers_of, IsDealtOut}
-use Rattle.apply_bus.specs.ClaimsRule.{hand, IsDealt, Told}
-use Rattle.apply_bus.specs.Each.{Each}
+use Rattle.apply_bus.specs.ClaimsRule.{hand, IsDealt, AreDealt}
 use Rattle.apply_bus.specs.Seats.{drawing_of}
 
 -- the shares, as contracts see them
@@ -17,17 +17,17 @@ pub lists_of_shares : (claims : ClaimsName) (shares : List Share) → map (λ (s
 lists_of_shares claims [] = refl
 lists_of_shares claims (s ∷ shares) = ap (λ l. s.drawn ∷ l) (lists_of_shares claims shares)
 
-lists_dealt : (claims : ClaimsName) (who : ℕ → ℕ) (m : ℕ) (shares : List Share) → Each (IsDealt who m) shares → lists who m (workers_of (drawings claims shares)) ≡ lists_drawn (drawings claims shares)
+lists_dealt : (claims : ClaimsName) (who : ℕ → ℕ) (m : ℕ) (shares : List Share) → AllByRecursion (IsDealt who m) shares → lists who m (workers_of (drawings claims shares)) ≡ lists_drawn (drawings claims shares)
 lists_dealt claims who m [] h = refl
 lists_dealt claims who m (s ∷ shares) h = subst₂ (λ (l : List ℕ) (ls : List (List ℕ)). lists who m (workers_of (drawings claims (s ∷ shares))) ≡ l ∷ ls) (sym h.0.2) (lists_dealt claims who m shares h.1) refl
 
-complete : (claims : ClaimsName) (who : ℕ → ℕ) (m : ℕ) (shares : List Share) → Each (IsDealt who m) shares → Each (λ (s : Share). (s.limit ≡ claims.limit) × (s.workers ≡ claims.workers)) shares
+complete : (claims : ClaimsName) (who : ℕ → ℕ) (m : ℕ) (shares : List Share) → AllByRecursion (IsDealt who m) shares → AllByRecursion (λ (s : Share). (s.limit ≡ claims.limit) × (s.workers ≡ claims.workers)) shares
     → All (λ (d : Drawing). d.met_none ≡ true → m ≡ claims.limit) (drawings claims shares)
 complete claims who m [] h same = All-nil (λ (d : Drawing). d.met_none ≡ true → m ≡ claims.limit)
 complete claims who m (s ∷ shares) h same = All-cons (λ (d : Drawing). d.met_none ≡ true → m ≡ claims.limit) (drawing_of claims s) (drawings claims shares)
     (λ met. h.0.3 met ∙ same.0.0) (complete claims who m shares h.1 same.1)
 
-pub gathered : (claims : ClaimsName) (shares : List Share) → Each (λ (s : Share). (s.limit ≡ claims.limit) × (s.workers ≡ claims.workers)) shares → Told (hand shares) → 0 < claims.workers
+pub gathered : (claims : ClaimsName) (shares : List Share) → AllByRecursion (λ (s : Share). (s.limit ≡ claims.limit) × (s.workers ≡ claims.workers)) shares → AreDealt (hand shares) → 0 < claims.workers
     → NamesEachWorkerOnce claims.workers (workers_of (drawings claims shares)) → (m : ℕ) × IsDealtOut claims (drawings claims shares) m
 gathered claims [] same told some each = absurd (let none : 0 ≡ claims.workers = each.count in omega arith)
 gathered claims (s ∷ shares) same told some each =

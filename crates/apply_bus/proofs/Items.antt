@@ -6,7 +6,7 @@ use Rattle.std.proofs.lemmas.Bool.{eq-eqb, ne_eqb}
 use Rattle.apply_events.specs.declared.event.Event.{Event}
 use Rattle.apply_events.specs.OfWorker.{of_worker}
 use Rattle.apply_bus.specs.declared.item.Item.{Item}
-use Rattle.apply_bus.specs.declared.item.Item.TheVariants.{Event as Told, Close}
+use Rattle.apply_bus.specs.declared.item.Item.TheVariants.{Event as EventItem, Close}
 use Rattle.apply_bus.specs.BusState.{ClosesLast}
 use Rattle.apply_bus.specs.Items.{worker_of, event_of, close_count, closes, items_of, events}
 
@@ -15,7 +15,7 @@ closes_append [] ys = omega arith
 closes_append (x ∷ xs) ys = omega (arith, closes_append xs ys)
 
 pub close_le : (x : Item) → close_count x ≤ 1
-close_le (Told e) = omega arith
+close_le (EventItem e) = omega arith
 close_le (Close w) = omega arith
 
 pub of_append : (w : ℕ) (xs ys : List Item) → items_of w (xs ++ ys) ≡ items_of w xs ++ items_of w ys
@@ -67,8 +67,8 @@ none_above n (x ∷ xs) h w le =
 -- the events among items that name workers name them too
 pub events_named : (n : ℕ) (xs : List Item) → All (λ x. worker_of x < n) xs → All (λ (e : Event). e.worker < n) (events xs)
 events_named n [] h = All-nil (λ (e : Event). e.worker < n)
-events_named n (Told e ∷ xs) h =
-    All-cons (λ (y : Event). y.worker < n) e (events xs) (All-head (λ (y : Item). worker_of y < n) (Told e) xs h) (events_named n xs (All-tail (λ (y : Item). worker_of y < n) (Told e) xs h))
+events_named n (EventItem e ∷ xs) h =
+    All-cons (λ (y : Event). y.worker < n) e (events xs) (All-head (λ (y : Item). worker_of y < n) (EventItem e) xs h) (events_named n xs (All-tail (λ (y : Item). worker_of y < n) (EventItem e) xs h))
 events_named n (Close w ∷ xs) h = events_named n xs (All-tail (λ (y : Item). worker_of y < n) (Close w) xs h)
 
 -- ---- events
@@ -76,7 +76,7 @@ events_named n (Close w ∷ xs) h = events_named n xs (All-tail (λ (y : Item). 
 pub events_append : (xs ys : List Item) → events (xs ++ ys) ≡ events xs ++ events ys
 events_append xs ys = filter_map-append event_of xs ys
 
-events_if : (b : Bool) (e : Event) (xs : List Item) (es : List Event) → events xs ≡ es → events (cond b (Told e ∷ xs) xs) ≡ cond b (e ∷ es) es
+events_if : (b : Bool) (e : Event) (xs : List Item) (es : List Event) → events xs ≡ es → events (cond b (EventItem e ∷ xs) xs) ≡ cond b (e ∷ es) es
 events_if true e xs es h = ap (λ l. e ∷ l) h
 events_if false e xs es h = h
 
@@ -87,5 +87,5 @@ close_if false w xs = refl
 -- the events among a worker's items are the worker's events
 pub events_of_worker : (w : ℕ) (xs : List Item) → events (items_of w xs) ≡ of_worker w (events xs)
 events_of_worker w [] = refl
-events_of_worker w (Told e ∷ xs) = events_if (e.worker == w) e (items_of w xs) (of_worker w (events xs)) (events_of_worker w xs)
+events_of_worker w (EventItem e ∷ xs) = events_if (e.worker == w) e (items_of w xs) (of_worker w (events xs)) (events_of_worker w xs)
 events_of_worker w (Close v ∷ xs) = close_if (v == w) v (items_of w xs) ∙ events_of_worker w xs

@@ -2,21 +2,21 @@
 use Rattle.std.proofs.Common.{◌≡◌, ◌≢◌, ℕ, zero, suc, ◌+◌, ◌<◌, ◌≤◌, List, [], ◌∷◌, ◌++◌, sym, refl, ap, ◌∙◌, subst, ⊎_elim, append_assoc, append-nil, map, All, lt_of_not-le, arith}
 use Rattle.std.proofs.lemmas.Bool.Decides.{eqb_tells}
 use Rattle.std.proofs.lemmas.List.Elements.{All-head, All-push, All-tail}
+use Rattle.std.specs.List.{AllByRecursion}
 use Rattle.apply_events.specs.declared.event.Event.{Event}
 use Rattle.apply_bus.specs.declared.bus_rule.Known.{Known}
 use Rattle.apply_bus.specs.declared.bus_rule.Knowledge.{Knowledge}
 use Rattle.apply_bus.specs.declared.item.Item.{Item}
 use Rattle.apply_bus.specs.declared.item.Item.TheVariants.{Close}
-use Rattle.apply_bus.specs.Bus.{Account, BusName, Sender, Stream, AreOf, stream_of, IsTakenInPart, IsTakenWhole}
-use Rattle.apply_bus.specs.BusEnds.{told, sent_by, stream_from, streams_in, IsOpen, IsClosed}
-use Rattle.apply_bus.specs.BusRule.{known, sending, with_senders_of, Told}
+use Rattle.apply_bus.specs.Bus.{Account, BusName, Sender, SentList, AreOf, sent_list_of, IsTakenInPart, IsTakenWhole}
+use Rattle.apply_bus.specs.BusEnds.{as_items, sent_by, sent_list_from, sent_lists_in, IsOpen, IsClosed}
+use Rattle.apply_bus.specs.BusRule.{known, sending, with_senders_of, IsBorneOut}
 use Rattle.apply_bus.specs.BusState.{ClosesLast}
-use Rattle.apply_bus.specs.Each.{Each}
 use Rattle.apply_bus.specs.Items.{worker_of, close_count, closes, items_of, events}
 use Rattle.apply_bus.proofs.BusStates.{Learned, Orderly, learned}
 use Rattle.apply_bus.proofs.Each.{each_last}
 use Rattle.apply_bus.proofs.Items.{nil_not, close_le, of_append, of_here, of_else, named_below, events_append, events_of_worker}
-use Rattle.apply_bus.proofs.Sent.{events_told, events_closed}
+use Rattle.apply_bus.proofs.Sent.{events_as_items, events_closed}
 
 -- the closes of the workers below n
 tally : ℕ → List Item → ℕ
@@ -104,7 +104,7 @@ settled taken queue workers w sent h full low is =
 joined : (v : Knowledge) (queue : List Item) (ks : List Known) (k : Known) → Learned v queue → v.senders ≡ ks ++ k ∷ [] → (k.worker < v.workers) × (items_of k.worker (v.taken ++ queue) ≡ k.sent)
 joined v queue ks k h ends =
     let P : Known → Type 0 = λ k. (k.worker < v.workers) × (items_of k.worker (v.taken ++ queue) ≡ k.sent) in
-    each_last P ks k (subst (Each P) ends h.1)
+    each_last P ks k (subst (AllByRecursion P) ends h.1)
 
 -- the receiver's view u, once v has taken in the view t of a sender, which has sent these items
 joined_in : (v u t : Knowledge) (queue : List Item) (w : ℕ) (sent : List Item) → u ≡ with_senders_of v t → t ≡ sending w sent → Learned u queue → (w < v.workers) × (items_of w (v.taken ++ queue) ≡ sent)
@@ -114,10 +114,10 @@ joined_in v u t queue w sent is shut h =
 orderly_in : (v u t : Knowledge) (queue : List Item) → u ≡ with_senders_of v t → Learned u queue → Orderly v.workers (v.taken ++ queue)
 orderly_in v u t queue is h = (subst (λ (x : Knowledge). Learned x queue) is h).0
 
-abbrev pub stream : ℕ → List Event → Stream
-stream w es = record { worker = w; sent = es }
+abbrev pub sent_list : ℕ → List Event → SentList
+sent_list w es = record { worker = w; sent = es }
 
-part_of : (v u t : Knowledge) (queue : List Item) (w : ℕ) (sent : List Item) → u ≡ with_senders_of v t → t ≡ sending w sent → events sent ≡ sent_by t → Learned u queue → IsTakenInPart v.taken (stream w (sent_by t))
+part_of : (v u t : Knowledge) (queue : List Item) (w : ℕ) (sent : List Item) → u ≡ with_senders_of v t → t ≡ sending w sent → events sent ≡ sent_by t → Learned u queue → IsTakenInPart v.taken (sent_list w (sent_by t))
 part_of v u t queue w sent is shut all h =
     let mine = joined_in v u t queue w sent is shut h in (
       events (items_of w queue),
@@ -125,45 +125,45 @@ part_of v u t queue w sent is shut all h =
     )
 
 -- of a sender that was closed
-pub closed_part : (v u t : Knowledge) (queue : List Item) (w : ℕ) → u ≡ with_senders_of v t → IsClosed w t → Told u queue → IsTakenInPart v.taken (stream w (sent_by t))
-closed_part v u t queue w is shut h = part_of v u t queue w (told (sent_by t) ++ Close w ∷ []) is shut (events_closed (sent_by t) w) (learned u queue h)
+pub closed_part : (v u t : Knowledge) (queue : List Item) (w : ℕ) → u ≡ with_senders_of v t → IsClosed w t → IsBorneOut u queue → IsTakenInPart v.taken (sent_list w (sent_by t))
+closed_part v u t queue w is shut h = part_of v u t queue w (as_items (sent_by t) ++ Close w ∷ []) is shut (events_closed (sent_by t) w) (learned u queue h)
 
-pub closed_whole : (v u t : Knowledge) (queue : List Item) (w : ℕ) → u ≡ with_senders_of v t → IsClosed w t → Told u queue → closes v.taken ≡ v.workers → IsTakenWhole v.taken (stream w (sent_by t))
+pub closed_whole : (v u t : Knowledge) (queue : List Item) (w : ℕ) → u ≡ with_senders_of v t → IsClosed w t → IsBorneOut u queue → closes v.taken ≡ v.workers → IsTakenWhole v.taken (sent_list w (sent_by t))
 closed_whole v u t queue w is shut h full =
-    let sent = told (sent_by t) ++ Close w ∷ [] in
+    let sent = as_items (sent_by t) ++ Close w ∷ [] in
     let mine = joined_in v u t queue w sent is shut (learned u queue h) in
     sym (events_of_worker w v.taken) ∙ ap events (settled v.taken queue v.workers w sent (orderly_in v u t queue is (learned u queue h)) full mine.0 mine.1) ∙ events_closed (sent_by t) w
 
 -- of a sender that was not
-pub open_part : (v u t : Knowledge) (queue : List Item) (w : ℕ) → u ≡ with_senders_of v t → IsOpen w t → Told u queue → IsTakenInPart v.taken (stream w (sent_by t))
-open_part v u t queue w is shut h = part_of v u t queue w (told (sent_by t)) is shut (events_told (sent_by t)) (learned u queue h)
+pub open_part : (v u t : Knowledge) (queue : List Item) (w : ℕ) → u ≡ with_senders_of v t → IsOpen w t → IsBorneOut u queue → IsTakenInPart v.taken (sent_list w (sent_by t))
+open_part v u t queue w is shut h = part_of v u t queue w (as_items (sent_by t)) is shut (events_as_items (sent_by t)) (learned u queue h)
 
--- ---- the streams of u, once v has taken in t
+-- ---- the sent lists of u, once v has taken in t
 
-streams_more : (ks : List Known) (k : Known) → map stream_from (ks ++ k ∷ []) ≡ map stream_from ks ++ stream_from k ∷ []
-streams_more [] k = refl
-streams_more (l ∷ ls) k = ap (λ m. stream_from l ∷ m) (streams_more ls k)
+sent_lists_more : (ks : List Known) (k : Known) → map sent_list_from (ks ++ k ∷ []) ≡ map sent_list_from ks ++ sent_list_from k ∷ []
+sent_lists_more [] k = refl
+sent_lists_more (l ∷ ls) k = ap (λ m. sent_list_from l ∷ m) (sent_lists_more ls k)
 
-streams : (v u t : Knowledge) (w : ℕ) (sent : List Item) → u ≡ with_senders_of v t → t ≡ sending w sent → events sent ≡ sent_by t → streams_in u ≡ streams_in v ++ stream w (sent_by t) ∷ []
-streams v u t w sent is shut all =
-    ap streams_in is ∙ ap (λ (x : Knowledge). map stream_from (v.senders ++ x.senders)) shut ∙ streams_more v.senders (known w sent)
-    ∙ ap (λ l. streams_in v ++ stream w l ∷ []) all
+sent_lists : (v u t : Knowledge) (w : ℕ) (sent : List Item) → u ≡ with_senders_of v t → t ≡ sending w sent → events sent ≡ sent_by t → sent_lists_in u ≡ sent_lists_in v ++ sent_list w (sent_by t) ∷ []
+sent_lists v u t w sent is shut all =
+    ap sent_lists_in is ∙ ap (λ (x : Knowledge). map sent_list_from (v.senders ++ x.senders)) shut ∙ sent_lists_more v.senders (known w sent)
+    ∙ ap (λ l. sent_lists_in v ++ sent_list w l ∷ []) all
 
-pub closed_streams : (v u t : Knowledge) (w : ℕ) → u ≡ with_senders_of v t → IsClosed w t → streams_in u ≡ streams_in v ++ stream w (sent_by t) ∷ []
-closed_streams v u t w is shut = streams v u t w (told (sent_by t) ++ Close w ∷ []) is shut (events_closed (sent_by t) w)
+pub closed_sent_lists : (v u t : Knowledge) (w : ℕ) → u ≡ with_senders_of v t → IsClosed w t → sent_lists_in u ≡ sent_lists_in v ++ sent_list w (sent_by t) ∷ []
+closed_sent_lists v u t w is shut = sent_lists v u t w (as_items (sent_by t) ++ Close w ∷ []) is shut (events_closed (sent_by t) w)
 
-pub open_streams : (v u t : Knowledge) (w : ℕ) → u ≡ with_senders_of v t → IsOpen w t → streams_in u ≡ streams_in v ++ stream w (sent_by t) ∷ []
-open_streams v u t w is shut = streams v u t w (told (sent_by t)) is shut (events_told (sent_by t))
+pub open_sent_lists : (v u t : Knowledge) (w : ℕ) → u ≡ with_senders_of v t → IsOpen w t → sent_lists_in u ≡ sent_lists_in v ++ sent_list w (sent_by t) ∷ []
+open_sent_lists v u t w is shut = sent_lists v u t w (as_items (sent_by t)) is shut (events_as_items (sent_by t))
 
 -- ---- lists of senders
 
-pub streams_of_more : (ss : List Sender) (s : Sender) → map stream_of (ss ++ s ∷ []) ≡ map stream_of ss ++ stream_of s ∷ []
-streams_of_more [] s = refl
-streams_of_more (x ∷ xs) s = ap (λ m. stream_of x ∷ m) (streams_of_more xs s)
+pub sent_lists_of_more : (ss : List Sender) (s : Sender) → map sent_list_of (ss ++ s ∷ []) ≡ map sent_list_of ss ++ sent_list_of s ∷ []
+sent_lists_of_more [] s = refl
+sent_lists_of_more (x ∷ xs) s = ap (λ m. sent_list_of x ∷ m) (sent_lists_of_more xs s)
 
 -- the fact holds of one sender more
-pub all_streams_more : (P : Stream → Type 0) (ss : List Sender) (s : Sender) → All P (map stream_of ss) → P (stream_of s) → All P (map stream_of (ss ++ s ∷ []))
-all_streams_more P ss s h one = subst (All P) (sym (streams_of_more ss s)) (All-push P (map stream_of ss) (stream_of s) h one)
+pub all_sent_lists_more : (P : SentList → Type 0) (ss : List Sender) (s : Sender) → All P (map sent_list_of ss) → P (sent_list_of s) → All P (map sent_list_of (ss ++ s ∷ []))
+all_sent_lists_more P ss s h one = subst (All P) (sym (sent_lists_of_more ss s)) (All-push P (map sent_list_of ss) (sent_list_of s) h one)
 
 -- a sender in the middle of a list is of this bus
 pub bus_at : (bus : BusName) (front rest all : List Sender) (s : Sender) → front ++ s ∷ rest ≡ all → AreOf bus all → s.bus ≡ bus
@@ -171,8 +171,8 @@ bus_at bus [] rest all s e h = All-head (λ (t : Sender). t.bus ≡ bus) s rest 
 bus_at bus (x ∷ xs) rest all s e h = bus_at bus xs rest (xs ++ s ∷ rest) s refl (All-tail (λ (t : Sender). t.bus ≡ bus) x (xs ++ s ∷ rest) (subst (AreOf bus) (sym e) h))
 
 -- one sender more was joined
-pub account_more : (a b c : Account) (ss : List Sender) (s : Sender) → b ≡ record a { streams = a.streams ++ map stream_of ss } → c ≡ record b { streams = b.streams ++ stream_of s ∷ [] }
-    → c ≡ record a { streams = a.streams ++ map stream_of (ss ++ s ∷ []) }
+pub account_more : (a b c : Account) (ss : List Sender) (s : Sender) → b ≡ record a { sent_lists = a.sent_lists ++ map sent_list_of ss } → c ≡ record b { sent_lists = b.sent_lists ++ sent_list_of s ∷ [] }
+    → c ≡ record a { sent_lists = a.sent_lists ++ map sent_list_of (ss ++ s ∷ []) }
 account_more a b c ss s before now =
-    now ∙ ap (λ (x : Account). record x { streams = x.streams ++ stream_of s ∷ [] }) before
-    ∙ ap (λ l. record a { streams = l }) (append_assoc a.streams (map stream_of ss) (stream_of s ∷ []) ∙ ap (λ l. a.streams ++ l) (sym (streams_of_more ss s)))
+    now ∙ ap (λ (x : Account). record x { sent_lists = x.sent_lists ++ sent_list_of s ∷ [] }) before
+    ∙ ap (λ l. record a { sent_lists = l }) (append_assoc a.sent_lists (map sent_list_of ss) (sent_list_of s ∷ []) ∙ ap (λ l. a.sent_lists ++ l) (sym (sent_lists_of_more ss s)))

@@ -3,7 +3,7 @@ use Rattle.std.proofs.Common.{◌≡◌, ℕ, ◌+◌, ◌<◌, [], ◌∷◌, �
 use Rattle.std.proofs.lemmas.List.Elements.{All-push}
 use Rattle.apply_bus.specs.declared.bus_rule.Knowledge.{Knowledge}
 use Rattle.apply_bus.specs.declared.item.Item.{Item}
-use Rattle.apply_bus.specs.BusEnds.{IsCounted, IsReceiving, streams_in}
+use Rattle.apply_bus.specs.BusEnds.{IsCounted, IsReceiving, sent_lists_in}
 use Rattle.apply_bus.specs.BusRule.{IsTaken}
 use Rattle.apply_bus.specs.Items.{close_count, closes, max_taken, worker_of}
 use Rattle.apply_bus.proofs.Items.{closes_append}
@@ -25,5 +25,5 @@ counts_on count v u x h took room =
       few = omega arith;
     }
 
-pub no_streams_yet : (v u : Knowledge) (x : Item) → streams_in v ≡ [] → IsTaken v x u → streams_in u ≡ []
-no_streams_yet v u x none took = ap streams_in took.0 ∙ none
+pub no_sent_lists_yet : (v u : Knowledge) (x : Item) → sent_lists_in v ≡ [] → IsTaken v x u → sent_lists_in u ≡ []
+no_sent_lists_yet v u x none took = ap sent_lists_in took.0 ∙ none

@@ -9,6 +9,14 @@ use Rattle.apply_events.specs.OfWorker.{of_worker}
 use Rattle.apply_bus.specs.declared.item.Item.{Item}
 use Rattle.apply_bus.specs.Items.{events}
 
+-- the greatest number of workers of a bus, and of claims
+abbrev pub max_workers : ℕ
+max_workers = 8
+
+-- the greatest number of items that a bus holds
+abbrev pub max_capacity : ℕ
+max_capacity = 1024
+
 -- which bus it is, among all
 pub record BusName : Type 0 where
   pub table : TableId
@@ -28,7 +36,7 @@ pub record Receiver : Type 0 where
   pub taken : List Item
 
 -- a worker, and the events that it has sent
-pub record Stream : Type 0 where
+pub record SentList : Type 0 where
   pub worker : ℕ
   pub sent : List Event
 
@@ -37,31 +45,32 @@ pub record Account : Type 0 where
   pub bus : BusName
   pub workers : ℕ
   pub taken : List Item
-  pub streams : List Stream
+  pub sent_lists : List SentList
 
-abbrev pub stream_of : Sender → Stream
-stream_of sender = record { worker = sender.worker; sent = sender.sent }
+abbrev pub sent_list_of : Sender → SentList
+sent_list_of sender = record { worker = sender.worker; sent = sender.sent }
 
 -- a receiver that ended, before any sender is joined
 abbrev pub account_of : Receiver → Account
-account_of receiver = record { bus = receiver.bus; workers = receiver.workers; taken = receiver.taken; streams = [] }
+account_of receiver = record { bus = receiver.bus; workers = receiver.workers; taken = receiver.taken; sent_lists = [] }
 
 -- the senders of the first n workers of a bus, before any send
 abbrev pub new_senders : BusName → (capacity n : ℕ) → List Sender
 new_senders bus capacity zero = []
-new_senders bus capacity (suc n) = new_senders bus capacity n ++ record { bus = bus; capacity = capacity; worker = n; sent = [] } ∷ []
+new_senders bus capacity (suc n) =
+    new_senders bus capacity n ++ record { bus = bus; capacity = capacity; worker = n; sent = [] } ∷ []
 
 -- each of the senders is of this bus
 abbrev pub AreOf : BusName → List Sender → Type 0
 AreOf bus senders = All (λ sender. sender.bus ≡ bus) senders
 
 -- the events taken of the worker are those that it sent
-abbrev pub IsTakenWhole : List Item → Stream → Type 0
-IsTakenWhole taken stream = of_worker stream.worker (events taken) ≡ stream.sent
+abbrev pub IsTakenWhole : List Item → SentList → Type 0
+IsTakenWhole taken sent_list = of_worker sent_list.worker (events taken) ≡ sent_list.sent
 
 -- the events taken of the worker are a prefix of those that it sent
-abbrev pub IsTakenInPart : List Item → Stream → Type 0
-IsTakenInPart taken stream = IsPrefix (of_worker stream.worker (events taken)) stream.sent
+abbrev pub IsTakenInPart : List Item → SentList → Type 0
+IsTakenInPart taken sent_list = IsPrefix (of_worker sent_list.worker (events taken)) sent_list.sent
 
 -- each event taken names a worker of the bus
 abbrev pub NamesWorkersBelow : ℕ → List Item → Type 0

@@ -5,8 +5,8 @@ use Rattle.apply_events.specs.declared.event.Event.{Event}
 use Rattle.apply_bus.specs.declared.bus_rule.Known.{Known}
 use Rattle.apply_bus.specs.declared.bus_rule.Knowledge.{Knowledge}
 use Rattle.apply_bus.specs.declared.item.Item.{Item}
-use Rattle.apply_bus.specs.declared.item.Item.TheVariants.{Event as Told, Close}
-use Rattle.apply_bus.specs.Bus.{Stream}
+use Rattle.apply_bus.specs.declared.item.Item.TheVariants.{Event as EventItem, Close}
+use Rattle.apply_bus.specs.Bus.{SentList}
 use Rattle.apply_bus.specs.BusRule.{sending}
 use Rattle.apply_bus.specs.Items.{closes, events, max_taken, worker_of}
 
@@ -19,17 +19,17 @@ abbrev pub sent_by : Knowledge → List Event
 sent_by v = events (first_sent v.senders)
 
 -- the events as items
-abbrev pub told : List Event → List Item
-told [] = []
-told (event ∷ rest) = Told event ∷ told rest
+abbrev pub as_items : List Event → List Item
+as_items [] = []
+as_items (event ∷ rest) = EventItem event ∷ as_items rest
 
 -- the view of a sender that is open: it has sent events alone
 abbrev pub IsOpen : ℕ → Knowledge → Type 0
-IsOpen worker v = v ≡ sending worker (told (sent_by v))
+IsOpen worker v = v ≡ sending worker (as_items (sent_by v))
 
 -- the view of a sender that is closed: it has sent events and then its close
 abbrev pub IsClosed : ℕ → Knowledge → Type 0
-IsClosed worker v = v ≡ sending worker (told (sent_by v) ++ Close worker ∷ [])
+IsClosed worker v = v ≡ sending worker (as_items (sent_by v) ++ Close worker ∷ [])
 
 -- the view of a receiver that still lacks as many closes
 pub record IsReceiving (left : ℕ) (v : Knowledge) : Type 0 where
@@ -42,12 +42,12 @@ pub record IsCounted (count : ℕ) (v : Knowledge) : Type 0 where
   pub counted : count ≡ length v.taken
   pub few : length v.taken ≤ max_taken
 
-abbrev pub stream_from : Known → Stream
-stream_from k = record { worker = k.worker; sent = events k.sent }
+abbrev pub sent_list_from : Known → SentList
+sent_list_from k = record { worker = k.worker; sent = events k.sent }
 
 -- what the senders that were taken in have sent
-abbrev pub streams_in : Knowledge → List Stream
-streams_in v = map stream_from v.senders
+abbrev pub sent_lists_in : Knowledge → List SentList
+sent_lists_in v = map sent_list_from v.senders
 
 abbrev pub pass_sent : Pass Item Knowledge → List Event
 pass_sent p = sent_by (view p)
@@ -70,5 +70,5 @@ pass_taken p = (view p).taken
 abbrev pub pass_workers : Pass Item Knowledge → ℕ
 pass_workers p = (view p).workers
 
-abbrev pub pass_streams : Pass Item Knowledge → List Stream
-pass_streams p = streams_in (view p)
+abbrev pub pass_sent_lists : Pass Item Knowledge → List SentList
+pass_sent_lists p = sent_lists_in (view p)

@@ -1,19 +1,21 @@
--- The rule of a bus: the queue, the receiver's view and the senders' views are consistent. A sender's view lies in the pass of its sender, and once that was joined, in the pass that took it in.
+-- The rule of a bus: the queue, the receiver's view and the senders' views are consistent. A sender's view lies in the
+-- pass of its sender, and once that was joined, in the pass that took it in.
 use Rattle.std.specs.Prelude.{◌≡◌, ℕ, ◌+◌, ◌<◌, Bool, true, false, List, [], ◌∷◌, ◌++◌}
+use Rattle.std.specs.List.{AllByRecursion}
 use mathlib.Core.Option.{some}
 use lib.ListN.{get_elem?}
 use Rattle.apply_bus.specs.declared.bus_rule.Known.{Known}
 use Rattle.apply_bus.specs.declared.bus_rule.Knowledge.{Knowledge}
 use Rattle.apply_bus.specs.declared.item.Item.{Item}
 use Rattle.apply_bus.specs.BusState.{IsConsistent}
-use Rattle.apply_bus.specs.Each.{Each}
 use Rattle.apply_bus.specs.Items.{closes, items_of, worker_of}
 
 abbrev pub known : ℕ → List Item → Known
 known worker sent = record { worker = worker; sent = sent }
 
 abbrev pub knowledge : Bool → List Item → ℕ → List Known → Knowledge
-knowledge receives taken workers senders = record { receives = receives; taken = taken; workers = workers; senders = senders }
+knowledge receives taken workers senders =
+    record { receives = receives; taken = taken; workers = workers; senders = senders }
 
 -- the receiver's pass, with the senders that it took in
 abbrev pub receiving : List Item → ℕ → List Known → Knowledge
@@ -52,9 +54,11 @@ abbrev pub Knows : (owner : ℕ → ℕ) → (sent : ℕ → List Item) → (wor
 Knows owner sent workers pass k = (owner k.worker ≡ pass) × (k.worker < workers) × (k.sent ≡ sent k.worker)
 
 -- what a pass knows is so
-abbrev pub Fits : (reader : ℕ) → (owner : ℕ → ℕ) → (taken : List Item) → (sent : ℕ → List Item) → (workers pass : ℕ) → Knowledge → Type 0
-Fits reader owner taken sent workers pass v =
-    Each (Knows owner sent workers pass) v.senders
+abbrev pub KnowsAll :
+    (reader : ℕ) → (owner : ℕ → ℕ) → (taken : List Item) → (sent : ℕ → List Item) → (workers pass : ℕ) → Knowledge
+    → Type 0
+KnowsAll reader owner taken sent workers pass v =
+    AllByRecursion (Knows owner sent workers pass) v.senders
     × (v.receives ≡ true → (pass ≡ reader) × (v.taken ≡ taken) × (v.workers ≡ workers))
 
 -- the rule of the queue and of what each pass knows
@@ -62,15 +66,19 @@ abbrev pub IsLawful : List Item → List Knowledge → Type 0
 IsLawful queue views =
     (reader : ℕ) × (owner : ℕ → ℕ) × (taken : List Item) × (workers : ℕ) × (sent : ℕ → List Item)
     × IsConsistent workers taken queue sent
-    × ((pass : ℕ) (v : Knowledge) → get_elem? views pass ≡ some v → Fits reader owner taken sent workers pass v)
+    × ((pass : ℕ) (v : Knowledge) → get_elem? views pass ≡ some v → KnowsAll reader owner taken sent workers pass v)
 
--- what a receive tells: the item joins the list taken, its worker is one of the bus, and no close of that worker was taken before
+-- what a receive tells: the item joins the list taken, its worker is one of the bus, and no close of that worker was
+-- taken before
 abbrev pub IsTaken : Knowledge → Item → Knowledge → Type 0
-IsTaken v item w = (w ≡ after_take v item) × (worker_of item < v.workers) × (closes (items_of (worker_of item) v.taken) ≡ 0)
+IsTaken v item w =
+    (w ≡ after_take v item)
+    × (worker_of item < v.workers)
+    × (closes (items_of (worker_of item) v.taken) ≡ 0)
 
 -- what a look at the rule tells, with the queue at that moment: each view that was taken in is what its worker sent
-abbrev pub Told : Knowledge → List Item → Type 0
-Told v queue =
+abbrev pub IsBorneOut : Knowledge → List Item → Type 0
+IsBorneOut v queue =
     (sent : ℕ → List Item)
     × IsConsistent v.workers v.taken queue sent
-    × Each (λ k. (k.worker < v.workers) × (k.sent ≡ sent k.worker)) v.senders
+    × AllByRecursion (λ k. (k.worker < v.workers) × (k.sent ≡ sent k.worker)) v.senders

@@ -24,7 +24,8 @@ pub record Gathered : Type 0 where
 -- the drawers of the first n workers, before any draw
 abbrev pub new_drawers : ClaimsName → (n : ℕ) → List Drawing
 new_drawers claims zero = []
-new_drawers claims (suc n) = new_drawers claims n ++ record { claims = claims; worker = n; drawn = []; met_none = false } ∷ []
+new_drawers claims (suc n) =
+    new_drawers claims n ++ record { claims = claims; worker = n; drawn = []; met_none = false } ∷ []
 
 -- the numbers that each has drawn
 abbrev pub lists_drawn : List Drawing → List (List ℕ)

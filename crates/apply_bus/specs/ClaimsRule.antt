@@ -1,16 +1,19 @@
--- The rule of claims: the word and the drawers' views are consistent. A drawer's view lies in its seat, and once it was joined, in the seat that took it in.
+-- The rule of claims: the word and the drawers' views are consistent. A drawer's view lies in its seat, and once it was
+-- joined, in the seat that took it in.
 use Rattle.std.specs.Prelude.{◌≡◌, ℕ, zero, suc, ◌^◌, ◌<◌, ◌≤◌, min, nat_lt, Bool, true, false, List, [], ◌∷◌, ◌++◌, All, if◌then◌else◌}
+use Rattle.std.specs.List.{AllByRecursion}
 use mathlib.Core.Option.{some}
 use lib.ListN.{get_elem?}
 use Rattle.atomic_table.specs.Table.{State, Me}
 use Rattle.apply_events.specs.Partition.{numbers_of}
 use Rattle.apply_bus.specs.declared.claims_rule.Hand.{Hand}
 use Rattle.apply_bus.specs.declared.claims_rule.Share.{Share}
+use Rattle.apply_bus.specs.Bus.{max_workers}
 use Rattle.apply_bus.specs.ClaimsState.{IsConsistent}
-use Rattle.apply_bus.specs.Each.{Each}
 
 abbrev pub share : (worker limit workers : ℕ) → (drawn : List ℕ) → (met_none : Bool) → Share
-share worker limit workers drawn met_none = record { worker = worker; limit = limit; workers = workers; drawn = drawn; met_none = met_none }
+share worker limit workers drawn met_none =
+    record { worker = worker; limit = limit; workers = workers; drawn = drawn; met_none = met_none }
 
 abbrev pub hand : List Share → Hand
 hand shares = record { shares = shares }
@@ -43,7 +46,9 @@ with_shares_of v w = hand (v.shares ++ w.shares)
 -- a number below the limit is drawn, any other sets the mark
 abbrev pub share_after : Share → ℕ → Share
 share_after s number =
-    if nat_lt number s.limit then share s.worker s.limit s.workers (s.drawn ++ number ∷ []) s.met_none else share s.worker s.limit s.workers s.drawn true
+    if nat_lt number s.limit
+      then share s.worker s.limit s.workers (s.drawn ++ number ∷ []) s.met_none
+      else share s.worker s.limit s.workers s.drawn true
 
 abbrev pub first_after : List Share → ℕ → List Share
 first_after [] number = []
@@ -51,7 +56,9 @@ first_after (s ∷ shares) number = share_after s number ∷ shares
 
 -- what a draw tells: the number is above all that were drawn before
 abbrev pub IsDrawn : Me ℕ Hand → ℕ → Me ℕ Hand → Type 0
-IsDrawn me number after = (after ≡ (hand (first_after me.0.shares number), [])) × Each (λ s. All (λ earlier. earlier < number) s.drawn) me.0.shares
+IsDrawn me number after =
+    (after ≡ (hand (first_after me.0.shares number), []))
+    × AllByRecursion (λ s. All (λ earlier. earlier < number) s.drawn) me.0.shares
 
 -- the share is that of its worker, and lies in the seat of that number alone
 abbrev pub Knows : (owner falls_to : ℕ → ℕ) → (met_none : ℕ → Bool) → (limit workers word seat : ℕ) → Share → Type 0
@@ -60,12 +67,13 @@ Knows owner falls_to met_none limit workers word seat s =
     × (s.drawn ≡ numbers_of falls_to s.worker (min word limit)) × (s.met_none ≡ met_none s.worker)
 
 -- what a seat knows is so
-abbrev pub Fits : (owner falls_to : ℕ → ℕ) → (met_none : ℕ → Bool) → (limit workers word seat : ℕ) → Hand → Type 0
-Fits owner falls_to met_none limit workers word seat v = Each (Knows owner falls_to met_none limit workers word seat) v.shares
+abbrev pub KnowsAll : (owner falls_to : ℕ → ℕ) → (met_none : ℕ → Bool) → (limit workers word seat : ℕ) → Hand → Type 0
+KnowsAll owner falls_to met_none limit workers word seat v =
+    AllByRecursion (Knows owner falls_to met_none limit workers word seat) v.shares
 
 -- the word cannot wrap, and each number that was drawn falls to a worker
 pub record IsInRange (limit workers word : ℕ) (falls_to : ℕ → ℕ) : Type 0 where
-  pub few : workers ≤ 8
+  pub few : workers ≤ max_workers
   pub small : limit < 2 ^ 32
   pub falls : (number : ℕ) → number < min word limit → falls_to number < workers
 
@@ -76,13 +84,17 @@ IsLawful limit workers s =
     × (s.words ≡ word ∷ [])
     × IsInRange limit workers word falls_to
     × IsConsistent workers limit word (λ worker. numbers_of falls_to worker (min word limit)) met_none
-    × ((seat : ℕ) (v : Hand) → get_elem? s.views seat ≡ some v → Fits owner falls_to met_none limit workers word seat v)
+    × ((seat : ℕ) (v : Hand) → get_elem? s.views seat ≡ some v
+    → KnowsAll owner falls_to met_none limit workers word seat v)
 
 -- the share is its worker's, where the numbers below m fall to the workers; m is the limit where the share has the mark
 abbrev pub IsDealt : (falls_to : ℕ → ℕ) → (m : ℕ) → Share → Type 0
 IsDealt falls_to m s =
-    (m ≤ s.limit) × ((number : ℕ) → number < m → falls_to number < s.workers) × (s.drawn ≡ numbers_of falls_to s.worker m) × (s.met_none ≡ true → m ≡ s.limit)
+    (m ≤ s.limit)
+    × ((number : ℕ) → number < m → falls_to number < s.workers)
+    × (s.drawn ≡ numbers_of falls_to s.worker m)
+    × (s.met_none ≡ true → m ≡ s.limit)
 
 -- what a look at the rule tells of the shares of a seat
-abbrev pub Told : Hand → Type 0
-Told v = (falls_to : ℕ → ℕ) × (m : ℕ) × Each (IsDealt falls_to m) v.shares
+abbrev pub AreDealt : Hand → Type 0
+AreDealt v = (falls_to : ℕ → ℕ) × (m : ℕ) × AllByRecursion (IsDealt falls_to m) v.shares

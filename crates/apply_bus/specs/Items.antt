@@ -3,21 +3,21 @@ use Rattle.std.specs.Prelude.{ℕ, ◌+◌, ◌^◌, ◌==◌, List, [], ◌∷�
 use Rattle.std.specs.List.{filter_map}
 use Rattle.apply_events.specs.declared.event.Event.{Event}
 use Rattle.apply_bus.specs.declared.item.Item.{Item}
-use Rattle.apply_bus.specs.declared.item.Item.TheVariants.{Event as Told, Close}
+use Rattle.apply_bus.specs.declared.item.Item.TheVariants.{Event as EventItem, Close}
 
 -- the worker that sent the item
 abbrev pub worker_of : Item → ℕ
-worker_of (Told event) = event.worker
+worker_of (EventItem event) = event.worker
 worker_of (Close worker) = worker
 
 -- the event that the item is, if it is one
 abbrev pub event_of : Item → Option Event
-event_of (Told event) = Some event
+event_of (EventItem event) = Some event
 event_of (Close worker) = None
 
 -- 1 for a close, and 0 for an event
 abbrev pub close_count : Item → ℕ
-close_count (Told event) = 0
+close_count (EventItem event) = 0
 close_count (Close worker) = 1
 
 -- how many of the items are closes

@@ -5,7 +5,6 @@ pub mod BusState
 pub mod Claims
 pub mod ClaimsRule
 pub mod ClaimsState
-pub mod Each
 pub mod Items
 pub mod Names
 pub mod Seats

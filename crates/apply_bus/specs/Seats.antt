@@ -1,11 +1,11 @@
 -- What claims and drawers keep in their seats.
 use Rattle.std.specs.Prelude.{◌≡◌, ℕ, Bool, List, [], ◌∷◌, map}
+use Rattle.std.specs.List.{AllByRecursion}
 use Rattle.atomic_table.specs.declared.shared.Seat.{Seat}
 use Rattle.apply_bus.specs.declared.claims_rule.Hand.{Hand}
 use Rattle.apply_bus.specs.declared.claims_rule.Share.{Share}
 use Rattle.apply_bus.specs.Claims.{ClaimsName, Drawing}
 use Rattle.apply_bus.specs.ClaimsRule.{drawer}
-use Rattle.apply_bus.specs.Each.{Each}
 
 abbrev pub first_limit : List Share → ℕ
 first_limit [] = 0
@@ -28,7 +28,8 @@ seat_drawn s = first_drawn s.me.0.shares
 
 -- it is the seat of a worker's drawer
 abbrev pub IsDrawerSeat : (worker : ℕ) → (met_none : Bool) → Seat ℕ Hand → Type 0
-IsDrawerSeat worker met_none s = s.me ≡ (drawer worker (seat_claims s).limit (seat_claims s).workers (seat_drawn s) met_none, [])
+IsDrawerSeat worker met_none s =
+    s.me ≡ (drawer worker (seat_claims s).limit (seat_claims s).workers (seat_drawn s) met_none, [])
 
 -- a share of these claims, as contracts see it
 abbrev pub drawing_of : ClaimsName → Share → Drawing
@@ -43,4 +44,4 @@ seat_lists s = map (λ (share : Share). share.drawn) s.me.0.shares
 -- it holds no slot, and shares of these claims alone
 pub record IsGathering (limit workers : ℕ) (s : Seat ℕ Hand) : Type 0 where
   pub free : s.me.1 ≡ []
-  pub same : Each (λ (share : Share). (share.limit ≡ limit) × (share.workers ≡ workers)) s.me.0.shares
+  pub same : AllByRecursion (λ (share : Share). (share.limit ≡ limit) × (share.workers ≡ workers)) s.me.0.shares

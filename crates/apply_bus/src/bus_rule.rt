@@ -92,7 +92,7 @@ impl Lesson<Item, Knowledge> for Takes {
 pub struct Looks;
 
 impl Lesson<Item, Knowledge> for Looks {
-    ghost use Rattle.apply_bus.specs.BusRule.{Told};
+    ghost use Rattle.apply_bus.specs.BusRule.{IsBorneOut};
 
-    ghost fact = { Told };
+    ghost fact = { IsBorneOut };
 }

@@ -1,6 +1,7 @@
 //! Claims.
 
 ghost use Rattle.std.specs.Prelude.{◌≡◌, ◌<◌, ◌++◌, ◌∷◌, [], ◌⊎◌, ◌↔◌, true, All, Err, IfOk, IfSome, IsNone, IfNone};
+ghost use Rattle.apply_bus.specs.Bus.{max_workers};
 ghost use Rattle.apply_bus.specs.Claims.{new_drawers};
 
 use crate::bus_error::BusError;
@@ -39,7 +40,7 @@ impl Claims {
     /// `Err` with `BadSize` where the number of workers is out of range, and otherwise with `Memory` where memory is
     /// refused. No later call takes any.
     pub fn open(alloc: Global, workers: u8, n: u32) -> Result<(Claims, Vec<Drawer>), BusError>
-        ensures sizes { (result ≡ Err BusError.BadSize) ↔ ((workers < 1) ⊎ (8 < workers)) }
+        ensures sizes { (result ≡ Err BusError.BadSize) ↔ ((workers < 1) ⊎ (max_workers < workers)) }
         ensures claims { IfOk result (λ opened. (opened.0.limit ≡ n) × (opened.0.workers ≡ workers)) }
         ensures drawers { IfOk result (λ opened. opened.1.items ≡ new_drawers opened.0 workers) }
     {

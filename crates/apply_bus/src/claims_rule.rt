@@ -66,9 +66,9 @@ pub struct LooksAtShares;
 
 impl Play<u8, Hand> for LooksAtShares {
     ghost use Rattle.std.specs.Prelude.{◌≡◌};
-    ghost use Rattle.apply_bus.specs.ClaimsRule.{Told};
+    ghost use Rattle.apply_bus.specs.ClaimsRule.{AreDealt};
 
-    ghost then = { λ _ me found after. (after ≡ me) × Told me.0 };
+    ghost then = { λ _ me found after. (after ≡ me) × AreDealt me.0 };
 }
 
 /// The making of a seat with no share.

@@ -1,7 +1,7 @@
 //! The opening of a bus.
 
 ghost use Rattle.std.specs.Prelude.{◌≡◌, ◌<◌, ◌⊎◌, ◌↔◌, [], Err, IfOk};
-ghost use Rattle.apply_bus.specs.Bus.{new_senders};
+ghost use Rattle.apply_bus.specs.Bus.{max_capacity, max_workers, new_senders};
 
 use crate::bus_error::BusError;
 use crate::bus_rule::{AddsSender, BusRule, Knowledge};
@@ -24,7 +24,7 @@ pub const MAX_CAPACITY: u16 = 1024;
 /// takes any.
 pub fn open(alloc: Global, workers: u8, capacity: u16) -> Result<(Vec<Tx>, Rx), BusError>
     ensures sizes { (result ≡ Err BusError.BadSize)
-        ↔ ((workers < 1) ⊎ (8 < workers) ⊎ (capacity < 1) ⊎ (1024 < capacity)) }
+        ↔ ((workers < 1) ⊎ (max_workers < workers) ⊎ (capacity < 1) ⊎ (max_capacity < capacity)) }
     ensures senders { IfOk result (λ bus. bus.0.items ≡ new_senders bus.1.bus capacity workers) }
     ensures receiver { IfOk result (λ bus. (bus.1.workers ≡ workers) × (bus.1.taken ≡ [])) }
 {

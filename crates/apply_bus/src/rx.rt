@@ -36,7 +36,7 @@ impl Model for Rx {
     ghost use Rattle.std.specs.Prelude.{◌≡◌, []};
     ghost use Rattle.crossbeam_channel.specs.Claims.{IsSeatAt};
     ghost use Rattle.crossbeam_channel.specs.Ends.{receives_on};
-    ghost use Rattle.apply_bus.specs.BusEnds.{pass_taken, pass_workers, pass_streams, IsCountedPass, IsReceivingPass};
+    ghost use Rattle.apply_bus.specs.BusEnds.{pass_taken, pass_workers, pass_sent_lists, IsCountedPass, IsReceivingPass};
 
     ghost view = { λ r. record {
       bus = record { table = (receives_on r.end).stamps.shared.table_id; key = (receives_on r.end).stamps.shared.key };
@@ -45,7 +45,7 @@ impl Model for Rx {
     } };
 
     ghost invariant = { λ r. IsSeatAt (receives_on r.end) r.pass × IsReceivingPass r.left r.pass
-        × IsCountedPass r.count r.pass × (pass_streams r.pass ≡ []) };
+        × IsCountedPass r.count r.pass × (pass_sent_lists r.pass ≡ []) };
 }
 
 impl Rx {

@@ -1,7 +1,7 @@
 //! What was taken from a bus on which the receiving was given up.
 
 ghost use Rattle.std.specs.Prelude.{◌≡◌, ◌++◌, map, All};
-ghost use Rattle.apply_bus.specs.Bus.{stream_of, AreOf, IsTakenInPart};
+ghost use Rattle.apply_bus.specs.Bus.{sent_list_of, AreOf, IsTakenInPart};
 
 use crate::closed::Closed;
 use crate::taken::Taken;
@@ -28,10 +28,10 @@ pub fn salvage(mut taken: Taken, closed: Vec<Closed>, open: Vec<Tx>) -> Salvaged
     requires closed { AreOf taken.bus closed.items }
     requires not_closed { AreOf taken.bus «open».items }
     ensures joined { result ≡ record taken {
-      streams = taken.streams ++ map stream_of closed.items ++ map stream_of «open».items;
+      sent_lists = taken.sent_lists ++ map sent_list_of closed.items ++ map sent_list_of «open».items;
     } }
-    ensures closed { All (IsTakenInPart taken.taken) (map stream_of closed.items) }
-    ensures not_closed { All (IsTakenInPart taken.taken) (map stream_of «open».items) }
+    ensures closed { All (IsTakenInPart taken.taken) (map sent_list_of closed.items) }
+    ensures not_closed { All (IsTakenInPart taken.taken) (map sent_list_of «open».items) }
 {
     taken.join_all_closed(closed);
     taken.join_all_open(open);

@@ -1,7 +1,7 @@
 //! What was taken from a bus whose senders are all closed.
 
 ghost use Rattle.std.specs.Prelude.{◌≡◌, map, All};
-ghost use Rattle.apply_bus.specs.Bus.{account_of, stream_of, AreOf, IsTakenWhole, NamesWorkersBelow};
+ghost use Rattle.apply_bus.specs.Bus.{account_of, sent_list_of, AreOf, IsTakenWhole, NamesWorkersBelow};
 ghost use Rattle.apply_bus.specs.Items.{closes};
 
 use crate::closed::Closed;
@@ -28,8 +28,8 @@ impl Model for Settled {
 pub fn settle(rx: Rx, closed: Vec<Closed>) -> Settled
     requires left { closes rx.taken ≡ rx.workers }
     requires bus { AreOf rx.bus closed.items }
-    ensures joined { result ≡ record (account_of rx) { streams = map stream_of closed.items } }
-    ensures whole { All (IsTakenWhole rx.taken) (map stream_of closed.items) }
+    ensures joined { result ≡ record (account_of rx) { sent_lists = map sent_list_of closed.items } }
+    ensures whole { All (IsTakenWhole rx.taken) (map sent_list_of closed.items) }
     ensures named { NamesWorkersBelow rx.workers rx.taken }
 {
     let mut taken = rx.give_up();

@@ -1,7 +1,7 @@
 //! What was taken.
 
 ghost use Rattle.std.specs.Prelude.{◌≡◌, ◌+◌, ◌++◌, ◌∷◌, [], map, All};
-ghost use Rattle.apply_bus.specs.Bus.{stream_of, AreOf, IsTakenInPart, IsTakenWhole, NamesWorkersBelow};
+ghost use Rattle.apply_bus.specs.Bus.{sent_list_of, AreOf, IsTakenInPart, IsTakenWhole, NamesWorkersBelow};
 ghost use Rattle.apply_bus.specs.Items.{closes};
 
 use crate::bus_rule::{JoinsSender, Knowledge, Looks};
@@ -25,13 +25,13 @@ impl Model for Taken {
     ghost Value = { Account };
 
     ghost use Rattle.std.specs.Prelude.{◌≡◌, []};
-    ghost use Rattle.apply_bus.specs.BusEnds.{pass_taken, pass_workers, pass_streams, IsReceivingPass};
+    ghost use Rattle.apply_bus.specs.BusEnds.{pass_taken, pass_workers, pass_sent_lists, IsReceivingPass};
 
     ghost view = { λ t. record {
       bus = record { table = t.pass.table_id; key = t.pass.me.0.of };
       workers = pass_workers t.pass;
       taken = pass_taken t.pass;
-      streams = pass_streams t.pass;
+      sent_lists = pass_sent_lists t.pass;
     } };
 
     ghost invariant = { λ t. IsReceivingPass t.left t.pass × (t.pass.me.1 ≡ []) };
@@ -50,9 +50,9 @@ impl Taken {
     /// them where every close was taken.
     pub fn join_closed(&mut self, closed: Closed)
         requires { closed.bus ≡ self.old.bus }
-        ensures joined { self.new ≡ record self.old { streams = self.old.streams ++ stream_of closed ∷ [] } }
-        ensures part { IsTakenInPart self.old.taken (stream_of closed) }
-        ensures whole { closes self.old.taken ≡ self.old.workers → IsTakenWhole self.old.taken (stream_of closed) }
+        ensures joined { self.new ≡ record self.old { sent_lists = self.old.sent_lists ++ sent_list_of closed ∷ [] } }
+        ensures part { IsTakenInPart self.old.taken (sent_list_of closed) }
+        ensures whole { closes self.old.taken ≡ self.old.workers → IsTakenWhole self.old.taken (sent_list_of closed) }
     {
         let Closed {
             end,
@@ -67,8 +67,8 @@ impl Taken {
     /// sent.
     pub fn join_open(&mut self, tx: Tx)
         requires { tx.bus ≡ self.old.bus }
-        ensures joined { self.new ≡ record self.old { streams = self.old.streams ++ stream_of tx ∷ [] } }
-        ensures part { IsTakenInPart self.old.taken (stream_of tx) }
+        ensures joined { self.new ≡ record self.old { sent_lists = self.old.sent_lists ++ sent_list_of tx ∷ [] } }
+        ensures part { IsTakenInPart self.old.taken (sent_list_of tx) }
     {
         let Tx {
             end,
@@ -82,10 +82,10 @@ impl Taken {
     /// Joins closed senders of this bus.
     pub(crate) fn join_all_closed(&mut self, closed: Vec<Closed>)
         requires { AreOf self.old.bus closed.items }
-        ensures joined { self.new ≡ record self.old { streams = self.old.streams ++ map stream_of closed.items } }
-        ensures part { All (IsTakenInPart self.old.taken) (map stream_of closed.items) }
+        ensures joined { self.new ≡ record self.old { sent_lists = self.old.sent_lists ++ map sent_list_of closed.items } }
+        ensures part { All (IsTakenInPart self.old.taken) (map sent_list_of closed.items) }
         ensures whole { closes self.old.taken ≡ self.old.workers
-            → All (IsTakenWhole self.old.taken) (map stream_of closed.items) }
+            → All (IsTakenWhole self.old.taken) (map sent_list_of closed.items) }
     {
         for sender in closed {
             self.join_closed(sender);
@@ -95,8 +95,8 @@ impl Taken {
     /// Joins senders of this bus that were not closed.
     pub(crate) fn join_all_open(&mut self, open: Vec<Tx>)
         requires { AreOf self.old.bus «open».items }
-        ensures joined { self.new ≡ record self.old { streams = self.old.streams ++ map stream_of «open».items } }
-        ensures part { All (IsTakenInPart self.old.taken) (map stream_of «open».items) }
+        ensures joined { self.new ≡ record self.old { sent_lists = self.old.sent_lists ++ map sent_list_of «open».items } }
+        ensures part { All (IsTakenInPart self.old.taken) (map sent_list_of «open».items) }
     {
         for tx in open {
             self.join_open(tx);

@@ -36,7 +36,7 @@ pub(crate) fn collect<'a, S: Sink + Drop, R: Wait>(
 ) -> Collected<'a, S>
     requires none { rx.taken ≡ [] }
     requires is_new { IsNew (telling_of S.bytes S.failed stream) }
-    ensures bus { (result.taken.bus ≡ rx.bus) × (result.taken.workers ≡ rx.workers) × (result.taken.streams ≡ []) }
+    ensures bus { (result.taken.bus ≡ rx.bus) × (result.taken.workers ≡ rx.workers) × (result.taken.sent_lists ≡ []) }
     ensures named { NamesWorkersBelow rx.workers result.taken.taken }
     ensures same { IsSameStream stream.entry result.stream }
     ensures told { All (CanBeTold stream.entry.plan.now) (events result.taken.taken)

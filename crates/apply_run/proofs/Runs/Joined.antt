@@ -11,7 +11,7 @@ use Rattle.apply_events.specs.Partition.{IsPartition}
 use Rattle.apply_events.specs.Step.{Work}
 use Rattle.apply_events.specs.WorkerEvents.{worker_events}
 use Rattle.apply_bus.specs.declared.item.Item.{Item}
-use Rattle.apply_bus.specs.Bus.{BusName, IsTakenInPart, IsTakenWhole, NamesWorkersBelow, stream_of}
+use Rattle.apply_bus.specs.Bus.{BusName, IsTakenInPart, IsTakenWhole, NamesWorkersBelow, sent_list_of}
 use Rattle.apply_bus.specs.Claims.{ClaimsName, Drawing, IsDealtOut, lists_drawn, workers_of}
 use Rattle.apply_bus.specs.Items.{events}
 use Rattle.apply_run.specs.Applied.{IsApplied, IsAppliedInPart}
@@ -24,12 +24,12 @@ use Rattle.apply_run.proofs.Workers.Prefixes.{all_of_prefix, events_prefix, pref
 
 -- ---- one worker
 
-part_taken : (work : Work) (claims : ClaimsName) (bus : BusName) (k : ℕ) (stopped : StoppedWorker) (taken : List Item) → IsStoppedWorker work claims bus k stopped → IsTakenInPart taken (stream_of (sender_of stopped.sender))
+part_taken : (work : Work) (claims : ClaimsName) (bus : BusName) (k : ℕ) (stopped : StoppedWorker) (taken : List Item) → IsStoppedWorker work claims bus k stopped → IsTakenInPart taken (sent_list_of (sender_of stopped.sender))
     → IsPrefix (of_worker k (events taken)) (sender_of stopped.sender).sent
 part_taken work claims bus k stopped taken did part = subst (λ w. IsPrefix (of_worker w (events taken)) (sender_of stopped.sender).sent) did.sender_worker part
 
 pub reconciled : (work : Work) (claims : ClaimsName) (bus : BusName) (k : ℕ) (stopped : StoppedWorker) (drawing : Drawing) (taken : List Item) → IsStoppedWorker work claims bus k stopped
-    → drawing.worker ≡ stopped.drawer.worker → drawing.met_none ≡ true → IsPrefix stopped.drawer.drawn drawing.drawn → IsTakenInPart taken (stream_of (sender_of stopped.sender)) → IsReconciled work taken k drawing
+    → drawing.worker ≡ stopped.drawer.worker → drawing.met_none ≡ true → IsPrefix stopped.drawer.drawn drawing.drawn → IsTakenInPart taken (sent_list_of (sender_of stopped.sender)) → IsReconciled work taken k drawing
 reconciled work claims bus k stopped drawing taken did same met more part =
     let sent = (sender_of stopped.sender).sent in let taken_part = part_taken work claims bus k stopped taken did part in
     let all = prefix_more sent (worker_events work k stopped.drawer.drawn) (worker_events work k drawing.drawn) did.part (events_prefix work k stopped.drawer.drawn drawing.drawn more) in
@@ -41,7 +41,7 @@ reconciled work claims bus k stopped drawing taken did same met more part =
     }
 
 pub reconciled_whole : (work : Work) (claims : ClaimsName) (bus : BusName) (k : ℕ) (stopped : StoppedWorker) (drawing : Drawing) (taken : List Item) → IsStoppedWorker work claims bus k stopped
-    → (stopped.drawer.met_none ≡ true → drawing.drawn ≡ stopped.drawer.drawn) → is_closed stopped.sender ≡ true → IsTakenWhole taken (stream_of (sender_of stopped.sender)) → IsReconciledWhole work taken k drawing
+    → (stopped.drawer.met_none ≡ true → drawing.drawn ≡ stopped.drawer.drawn) → is_closed stopped.sender ≡ true → IsTakenWhole taken (sent_list_of (sender_of stopped.sender)) → IsReconciledWhole work taken k drawing
 reconciled_whole work claims bus k stopped drawing taken did none_left closed whole =
     let all = did.whole closed in
     ap (λ w. of_worker w (events taken)) (sym did.sender_worker) ∙ whole ∙ all.1 ∙ ap (worker_events work k) (sym (none_left all.0))

@@ -3,7 +3,7 @@
 ghost use Rattle.std.specs.Prelude.{◌≡◌, ◌++◌, ◌∷◌, ◌<◌, ℕ, List, [], All, length, slice_index_or, true};
 ghost use mathlib.Core.List.{IsPrefix};
 ghost use Rattle.apply_events.specs.WorkerEvents.{worker_events};
-ghost use Rattle.apply_bus.specs.Bus.{stream_of, IsTakenInPart, IsTakenWhole};
+ghost use Rattle.apply_bus.specs.Bus.{sent_list_of, IsTakenInPart, IsTakenWhole};
 ghost use Rattle.apply_bus.specs.Items.{closes, events};
 ghost use Rattle.apply_run.specs.Applied.{IsApplied, IsAppliedInPart};
 ghost use Rattle.apply_run.specs.Worker.Drawn.{IsDrawn};
@@ -67,11 +67,11 @@ fn draw_all(claims: &Claims, drawer: &mut Drawer)
 /// Joins a sender, and says whether it was closed.
 fn join_sender(taken: &mut Taken, sender: SenderEnd) -> bool
     requires { (sender_of sender).bus ≡ taken.old.bus }
-    ensures joined { taken.new ≡ record taken.old { streams = taken.old.streams ++ stream_of (sender_of sender) ∷ [] } }
+    ensures joined { taken.new ≡ record taken.old { sent_lists = taken.old.sent_lists ++ sent_list_of (sender_of sender) ∷ [] } }
     ensures closed { result ≡ is_closed sender }
-    ensures part { IsTakenInPart taken.old.taken (stream_of (sender_of sender)) }
+    ensures part { IsTakenInPart taken.old.taken (sent_list_of (sender_of sender)) }
     ensures whole { result ≡ true → closes taken.old.taken ≡ taken.old.workers
-        → IsTakenWhole taken.old.taken (stream_of (sender_of sender)) }
+        → IsTakenWhole taken.old.taken (sent_list_of (sender_of sender)) }
 {
     match sender {
         SenderEnd::Closed(closed) => {

@@ -2,7 +2,7 @@ use Rattle.std.proofs.Common.{◌≡◌, ◌<◌, arith, subst, sym}
 use Rattle.apply_bus.specs.Bus.{Receiver}
 use Rattle.apply_bus.specs.Items.{close_count, closes}
 use Rattle.apply_bus.proofs.Items.{close_le}
-use Rattle.apply_bus.proofs.Taking.{counts_on, no_streams_yet, receives_on}
+use Rattle.apply_bus.proofs.Taking.{counts_on, no_sent_lists_yet, receives_on}
 use Rattle.apply_bus.proofs.rx.Rx.take.Goals as goal
 
 pub invariant_of-self : goal.invariant_of-self
@@ -14,5 +14,5 @@ invariant_of-self g c =
       c.take_item.ensures.seat,
       receives_on _ _ _ _ _ c.self.invariant.1 c.in-Ok.ensures.taken (omega arith),
       counts_on _ _ _ _ c.self.invariant.2 c.in-Ok.ensures.taken c.if-self-ge-MAX_TAKEN.false,
-      no_streams_yet _ _ _ c.self.invariant.3 c.in-Ok.ensures.taken,
+      no_sent_lists_yet _ _ _ c.self.invariant.3 c.in-Ok.ensures.taken,
     )

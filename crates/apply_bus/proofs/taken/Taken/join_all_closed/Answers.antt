@@ -1,10 +1,10 @@
 use Rattle.std.proofs.Common.{◌≡◌, ◌++◌, All, List, map, ap, sym, ◌∙◌, subst, arith}
 use Rattle.std.specs.Vec.Iter.{into_iter_items}
 use Rattle.std.proofs.lemmas.Grind.{common_steps}
-use Rattle.apply_bus.specs.Bus.{Account, Sender, stream_of, IsTakenInPart, IsTakenWhole}
+use Rattle.apply_bus.specs.Bus.{Account, Sender, sent_list_of, IsTakenInPart, IsTakenWhole}
 use Rattle.apply_bus.specs.Items.{closes}
 use Rattle.apply_bus.proofs.Seen.{all_seen}
-use Rattle.apply_bus.proofs.Settling.{account_more, all_streams_more, bus_at}
+use Rattle.apply_bus.proofs.Settling.{account_more, all_sent_lists_more, bus_at}
 use Rattle.apply_bus.proofs.taken.Taken.join_all_closed.Goals as goal
 
 pub join_closed-requires : goal.join_closed-requires
@@ -19,13 +19,13 @@ loop-sender-preserved c = let i = c.loop-sender.invariant in let e = c.join_clos
   left = grind (arith, common_steps);
   count = grind (arith, common_steps);
   joined = account_more c.args.self.now c.loop-sender.self _ seen s i.joined e.joined;
-  part = all_streams_more (IsTakenInPart c.args.self.now.taken) seen s i.part (subst (λ (a : Account). IsTakenInPart a.taken (stream_of s)) i.joined e.part);
-  whole = λ full. all_streams_more (IsTakenWhole c.args.self.now.taken) seen s (i.whole full)
-      (subst (λ (a : Account). closes a.taken ≡ a.workers → IsTakenWhole a.taken (stream_of s)) i.joined e.whole full);
+  part = all_sent_lists_more (IsTakenInPart c.args.self.now.taken) seen s i.part (subst (λ (a : Account). IsTakenInPart a.taken (sent_list_of s)) i.joined e.part);
+  whole = λ full. all_sent_lists_more (IsTakenWhole c.args.self.now.taken) seen s (i.whole full)
+      (subst (λ (a : Account). closes a.taken ≡ a.workers → IsTakenWhole a.taken (sent_list_of s)) i.joined e.whole full);
 }
 
 pub returns-clause-part : goal.returns-clause-part
 returns-clause-part c =
     let i = c.loop-sender.invariant in
     let all = all_seen _ _ _ _ (i.left ∙ c.into_iter-sender-iterator.ensures.into_iter_gives.0) i.count c.in-None.ensures.steps.0 in
-    subst (λ (l : List Sender). All (IsTakenInPart c.args.self.now.taken) (map stream_of l)) all i.part
+    subst (λ (l : List Sender). All (IsTakenInPart c.args.self.now.taken) (map sent_list_of l)) all i.part

@@ -1,6 +1,6 @@
 use Rattle.std.proofs.Common.{◌≡◌, ap, ◌∙◌, subst₂}
 use Rattle.apply_bus.specs.declared.bus_rule.Knowledge.{Knowledge}
-use Rattle.apply_bus.specs.Bus.{Account, Sender, stream_of, IsTakenInPart, IsTakenWhole}
+use Rattle.apply_bus.specs.Bus.{Account, Sender, sent_list_of, IsTakenInPart, IsTakenWhole}
 use Rattle.apply_bus.specs.Items.{closes}
 use Rattle.apply_bus.proofs.BusSteps.{joins, looks}
 use Rattle.apply_bus.proofs.Settling.{closed_part, closed_whole}
@@ -13,9 +13,9 @@ pub learn_as-requires-clause-rule : goal.learn_as-requires-clause-rule
 learn_as-requires-clause-rule c = looks _ _ (ap (λ (v : Knowledge). v.receives) c.absorb.ensures.rule ∙ c.self.invariant.0.receives)
 
 pub returns-clause-part : goal.returns-clause-part
-returns-clause-part c = subst₂ (λ (a : Account) (s : Sender). IsTakenInPart a.taken (stream_of s)) c.self.view_is c.closed.view_is
+returns-clause-part c = subst₂ (λ (a : Account) (s : Sender). IsTakenInPart a.taken (sent_list_of s)) c.self.view_is c.closed.view_is
     (closed_part _ _ _ c.learn_as.ensures.rule.0 _ c.absorb.ensures.rule c.closed.invariant.1 c.learn_as.ensures.rule.1)
 
 pub returns-clause-whole : goal.returns-clause-whole
-returns-clause-whole c = subst₂ (λ (a : Account) (s : Sender). closes a.taken ≡ a.workers → IsTakenWhole a.taken (stream_of s)) c.self.view_is c.closed.view_is
+returns-clause-whole c = subst₂ (λ (a : Account) (s : Sender). closes a.taken ≡ a.workers → IsTakenWhole a.taken (sent_list_of s)) c.self.view_is c.closed.view_is
     (closed_whole _ _ _ c.learn_as.ensures.rule.0 _ c.absorb.ensures.rule c.closed.invariant.1 c.learn_as.ensures.rule.1)

@@ -4,7 +4,7 @@ use Rattle.std.specs.Vec.Iter.{into_iter_items, into_iter_len}
 use Rattle.std.proofs.lemmas.Bool.Decides.{nat_tests}
 use Rattle.std.proofs.lemmas.Grind.{common_steps}
 use Rattle.apply_events.specs.Partition.{NamesEachWorkerOnce}
-use Rattle.apply_bus.specs.Bus.{Account, IsTakenInPart, IsTakenWhole, NamesWorkersBelow, stream_of}
+use Rattle.apply_bus.specs.Bus.{Account, IsTakenInPart, IsTakenWhole, NamesWorkersBelow, sent_list_of}
 use Rattle.apply_bus.specs.Claims.{ClaimsName, Drawing, Gathered, IsDealtOut, lists_drawn}
 use Rattle.apply_bus.specs.Items.{closes}
 use Rattle.apply_bus.specs.declared.item.Item.{Item}
@@ -35,7 +35,7 @@ loop-worker-preserved g c =
     let split = sym (ap (λ l. yielded ++ l) c.in-Some.ensures.steps.0) ∙ i.left in
     let did = each_at (IsStoppedWorker work claims bus) c.args.stopped.items yielded (into_iter_items c.next.new.self) stopped split c.requires.stopped in
     let drawings = ap (λ (a : Gathered). a.drawings) c.join.ensures in
-    let part : IsTakenInPart taken (stream_of (sender_of stopped.sender)) = subst (λ l. IsTakenInPart l (stream_of (sender_of stopped.sender))) i.taken joined.part in
+    let part : IsTakenInPart taken (sent_list_of (sender_of stopped.sender)) = subst (λ l. IsTakenInPart l (sent_list_of (sender_of stopped.sender))) i.taken joined.part in
     record {
       left = grind (arith, common_steps);
       count = grind (arith, common_steps);
@@ -47,8 +47,8 @@ loop-worker-preserved g c =
       part = subst (EachAt F) (sym drawings) (each_snoc F before drawing i.part
           (subst (λ k. F k drawing) (sym i.here) (reconciled work claims bus (length yielded) stopped drawing taken did c.draw_all.ensures.same.1 c.draw_all.ensures.met_none c.draw_all.ensures.more part)));
       whole = λ both full. let were = both_true c.loop-worker.closed c.join_sender-closed.result both in
-          let all : IsTakenWhole taken (stream_of (sender_of stopped.sender)) =
-          subst (λ l. IsTakenWhole l (stream_of (sender_of stopped.sender))) i.taken (joined.whole were.1 (ap closes i.taken ∙ full ∙ sym i.workers)) in
+          let all : IsTakenWhole taken (sent_list_of (sender_of stopped.sender)) =
+          subst (λ l. IsTakenWhole l (sent_list_of (sender_of stopped.sender))) i.taken (joined.whole were.1 (ap closes i.taken ∙ full ∙ sym i.workers)) in
           subst (EachAt W) (sym drawings) (each_snoc W before drawing (i.whole were.0 full)
           (subst (λ k. W k drawing) (sym i.here) (reconciled_whole work claims bus (length yielded) stopped drawing taken did c.draw_all.ensures.none_left (sym joined.closed ∙ were.1) all)));
     }
