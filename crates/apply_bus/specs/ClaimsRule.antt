@@ -47,8 +47,8 @@ with_shares_of v w = hand (v.shares ++ w.shares)
 abbrev pub share_after : Share → ℕ → Share
 share_after s number =
     if nat_lt number s.limit
-      then share s.worker s.limit s.workers (s.drawn ++ number ∷ []) s.met_none
-      else share s.worker s.limit s.workers s.drawn true
+    then share s.worker s.limit s.workers (s.drawn ++ number ∷ []) s.met_none
+    else share s.worker s.limit s.workers s.drawn true
 
 abbrev pub first_after : List Share → ℕ → List Share
 first_after [] number = []
