@@ -1,9 +1,7 @@
 -- What is looked up in a tree is still there when it is trimmed.
-use Rattle.std.proofs.Common.{◌≡◌, ℕ, List, Option, Some, None, option_map, Ordering, Less, Equal, Greater, nat_cmp, is_eq, refl, sym, ap, ◌∙◌}
-use Rattle.std.specs.Cmp.Lexicographic.{slice_cmp}
-use Rattle.std.specs.Option.{option_map_or}
+use Rattle.std.proofs.Common.{◌≡◌, ℕ, List, Option, Some, None, option_map, Ordering, Less, Equal, Greater, refl, sym, ap, ◌∙◌}
 use Rattle.std.specs.Ordering.{match_ordering}
-use Rattle.serde_json.specs.Data.{Data, null, boolean, number, string, array, object, Items, Members, no_members, member}
+use Rattle.serde_json.specs.Data.{Data, null, boolean, number, string, array, object, Members, no_members, member}
 use Rattle.serde_json.specs.Find.{as_array, as_bool, as_str, get, get_member}
 use Rattle.apply_plan.specs.declared.tree.shape.Shape.{Shape}
 use Rattle.apply_plan.specs.Json.{◌>>=◌, is_word, member_of, non_empty_text_of, text_of, text_or, unless_empty, unless_null}

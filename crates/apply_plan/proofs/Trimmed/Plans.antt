@@ -1,6 +1,5 @@
 -- A plan is the same when its tree is trimmed.
 use Rattle.std.proofs.Common.{◌≡◌, ◌<◌, ◌≤◌, ℕ, zero, suc, length, Bool, true, false, cond, ltb, List, [], ◌∷◌, ◌++◌, codes, Option, Some, None, option_map, Result, Ok, Err, refl, sym, ap, ◌∙◌, arith, nat_eq, ⊎_elim}
-use Rattle.std.specs.Prelude.{◌||◌}
 use Rattle.std.specs.List.{starts_with}
 use Rattle.std.proofs.lemmas.Bool.{cases_Bool, le-ltb, lt-ltb, ltb-false, ltb-true}
 use Rattle.serde_json.specs.Data.{Data, null, boolean, number, string, array, object, Items, no_items, item}
@@ -14,7 +13,7 @@ use Rattle.apply_plan.specs.declared.tree.shape.Shape.{Shape}
 use Rattle.apply_plan.specs.declared.tree.shape.Shape.TheVariants as shape
 use Rattle.apply_plan.specs.Json.{◌>>=◌, items_or_empty, list_of, max_bytes, member_of, non_empty_text_of, text_of, text_or, unless_empty}
 use Rattle.apply_plan.specs.Json.Parsed.{IsTrimmedTree}
-use Rattle.apply_plan.specs.Json.Trimmed.{item_limit, item_shape, member_shape, trimmed, trimmed_items}
+use Rattle.apply_plan.specs.Json.Trimmed.{trimmed, trimmed_items}
 use Rattle.apply_plan.specs.OneByOne.{made_after}
 use Rattle.apply_plan.specs.Plan.Address.{relative_address}
 use Rattle.apply_plan.specs.Plan.Element.{Element, element_of, hides_id, is_true, key_of, mode_named, planned_change_of, prior_id_of}
@@ -27,7 +26,7 @@ use Rattle.apply_plan.specs.Results as results
 use Rattle.apply_plan.specs.Results.{or_refuse}
 use Rattle.apply_plan.proofs.Plans.WholeList.{changes_one_by_one}
 use Rattle.apply_plan.proofs.Results.{bind_same}
-use Rattle.apply_plan.proofs.Trimmed.Lookups.{as_array_trimmed, as_bool_trimmed, as_str_trimmed, bind_mapped, is_word_trimmed, member_trimmed, non_empty_text_trimmed, text_or_trimmed, text_trimmed}
+use Rattle.apply_plan.proofs.Trimmed.Lookups.{as_array_trimmed, as_bool_trimmed, bind_mapped, is_word_trimmed, member_trimmed, non_empty_text_trimmed, text_or_trimmed, text_trimmed}
 
 -- ---- actions
 

@@ -1,5 +1,5 @@
-use Rattle.std.proofs.Common.{rules, ◌≡◌, ◌<◌, ◌-◌, ◌≤◌, length, is_some, true, false, Option, None, Some, Result, Ok, Err, List, [], ◌∷◌, ℕ, refl, sym, ap, ap₂, ◌∙◌, arith, true≢false, inl, inr}
-use Rattle.std.specs.Prelude.{OnOk, OnErr, option_map, ◌⊎◌, Bool}
+use Rattle.std.proofs.Common.{◌≡◌, ◌<◌, ◌-◌, length, None, Some, Result, Ok, Err, List, [], ◌∷◌, ℕ, refl, ap, ap₂, ◌∙◌, arith, inl, inr}
+use Rattle.std.specs.Prelude.{OnOk, OnErr, ◌⊎◌, Bool}
 use Rattle.std.specs.Borrow.{Bor}
 use Rattle.json.specs.declared.token.Token as token
 use Rattle.json.specs.declared.token.Token.TheVariants as variant
@@ -7,8 +7,8 @@ use Rattle.json.specs.Token.{Token}
 use Rattle.json.specs.Json.{parse_map, after_end_array, read_key, items, members, value}
 use Rattle.json.specs.Reads.{token_of}
 use Rattle.json.proofs.Grammar.{value_is, value-begin_array, value-begin_object, read_key-shorter}
-use Rattle.serde_json.specs.Data.{Num, Data, null, boolean, number, string, array, object, Items, no_items, item, Members, no_members, put}
-use Rattle.serde_json.specs.Read.{of_json, of_items, of_members, converted}
+use Rattle.serde_json.specs.Data.{Data, null, boolean, number, string, array, object, no_items, item, no_members, put}
+use Rattle.serde_json.specs.Read.{of_json, of_items, converted}
 use Rattle.serde_json.specs.View.{number_view}
 use Rattle.apply_plan.proofs.Turns.{converted-array, converted-object, item_read, item_refused, items_over, member_read, member_refused, key_refused, members_over, fused, none_before}
 use Rattle.apply_plan.proofs.tree.passing.+pass.Goals as goal

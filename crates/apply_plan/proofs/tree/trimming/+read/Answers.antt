@@ -3,14 +3,14 @@ use Rattle.json.specs.Token.{Token}
 use Rattle.json.specs.Json.{parse_map, after_end_array, read_key, items, members, value}
 use Rattle.json.specs.Reads.{token_of}
 use Rattle.json.proofs.Grammar.{value_is, value-begin_array, value-begin_object, read_key-shorter}
-use Rattle.serde_json.specs.Data.{Items, Members, null, boolean, number, string, array, object, no_items, item, no_members, put}
-use Rattle.serde_json.specs.Read.{of_json, of_items, of_members, converted}
-use Rattle.serde_json.specs.View.{view, items_view, number_view, members_view}
+use Rattle.serde_json.specs.Data.{null, boolean, number, string, array, object, no_items, item, no_members, put}
+use Rattle.serde_json.specs.Read.{of_json, of_items, converted}
+use Rattle.serde_json.specs.View.{view, number_view, members_view}
 use Rattle.serde_json.specs.declared.value.Value.{String, Number, Bool, Null, the_lemmas}
 use Rattle.serde_json.proofs.Views.{view-Array, view-Object, members_view-insert_entry}
-use Rattle.apply_plan.specs.Json.Trimmed.{item_limit, item_shape, member_shape, trimmed, trimmed_items, trimmed_members}
+use Rattle.apply_plan.specs.Json.Trimmed.{item_limit, item_shape, member_shape, trimmed, trimmed_items}
 use Rattle.apply_plan.proofs.Trimmed.Items.{items_before, items_before-no_items, kept, passed, none_found, none_left}
-use Rattle.apply_plan.proofs.Trimmed.Members.{AreInOrder, put_in_order, put_known, put_unknown}
+use Rattle.apply_plan.proofs.Trimmed.Members.{put_in_order, put_known, put_unknown}
 use Rattle.apply_plan.proofs.Turns.{converted-array, converted-object, item_read, item_refused, items_over, member_read, member_refused, key_refused, members_over, fused, none_before}
 use Rattle.apply_plan.proofs.tree.trimming.+read.Goals as goal
 
