@@ -9,8 +9,8 @@
    FULL_AT         standard output has room for so many bytes in all
    HELD_WRITE      for how many seconds the first write on standard output is held
    REFUSED_READ    that read of standard input, with the error number READ_ERROR
-   TOLD            an open file, to which goes a line for each refusal and each write, in their order, and where allocations
-                   are counted one for each thread that is started, with how many there were before */
+   TOLD            an open file, to which goes a line for each refusal and each write, in their order, and, where
+                   allocations are counted, one for each thread that is started, with how many there were before */
 #define _GNU_SOURCE
 #include <dlfcn.h>
 #include <errno.h>

@@ -48,8 +48,8 @@ def words_of(name):
 
 
 def run(program, words, plan, **environment):
-    """How the program ends, what it printed and said, and what was refused and written on the way. The plan comes from a file:
-    how much a read of a pipe gives differs from run to run, and with it how often memory is asked for."""
+    """How the program ends, what it printed and said, and what was refused and written on the way. The plan comes from
+    a file: how much a read of a pipe gives differs from run to run, and with it how often memory is asked for."""
     with open(os.memfd_create("told"), "rb") as told, open(os.memfd_create("plan"), "r+b") as given:
         given.write(plan)
         given.seek(0)
@@ -73,7 +73,8 @@ def side_by_side(work, cases):
 
 
 def thread_memory(told):
-    """The allocations that are a thread's own: the last before each thread was started, of a run in which none was refused."""
+    """The allocations that are a thread's own: the last before each thread was started, of a run in which none was
+    refused."""
     return {allocations for what, _, allocations in told if what == "starts"}
 
 
@@ -130,7 +131,8 @@ def shared_addresses(plan):
 
 
 def disorder(printed, wanted, plan, whole):
-    """What is wrong with a stream of several workers, beside that of one: all of it, or what was printed up to a refusal."""
+    """What is wrong with a stream of several workers, beside that of one: all of it, or what was printed up to a
+    refusal."""
     if printed and not printed.endswith(b"\n"):
         return "a line is cut"
     found, known = lines_of(printed), lines_of(wanted)
@@ -157,8 +159,8 @@ def disorder(printed, wanted, plan, whole):
 
 
 def mistake(found, wanted, plan, in_order, own=frozenset()):
-    """What is wrong with how a run ended in which something was refused, beside one in which nothing was; or nothing. The
-    allocations in `own` are threads' own."""
+    """What is wrong with how a run ended in which something was refused, beside one in which nothing was; or nothing.
+    The allocations in `own` are threads' own."""
     met = met_first(found.told, own)
     if (found.status, found.said) == (wanted.status, wanted.said):
         # It could do without, or nothing was refused.

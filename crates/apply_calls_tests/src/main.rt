@@ -1,7 +1,8 @@
-//! Makes one public call and prints what it answered, so that a check can refuse memory to that call alone, one allocation
-//! after the other. The first word names the call.
+//! Makes one public call and prints what it answered, so that a check can refuse memory to that call alone, one
+//! allocation after the other. The first word names the call.
 //!
-//! The line before the answer begins with `call`, and tells what was there before. A call that could not be prepared has neither.
+//! The line before the answer begins with `call`, and tells what was there before. A call that could not be prepared has
+//! neither.
 #![tactic(auto)]
 
 mod command;

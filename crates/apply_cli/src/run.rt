@@ -169,10 +169,11 @@ pub(crate) fn flush_unless_failed<W: Write + Drop>(output: &mut StdSink<W>, fail
     }
 }
 
-/// Says what went wrong, on a line of its own. A text that cannot be written is dropped, since there is nowhere left to say so.
+/// Says what went wrong, on a line of its own. A text that cannot be written is dropped, since there is nowhere left to
+/// say so.
 ///
-/// The line goes out in one write, so that it stays whole beside other writers, and takes no memory of the heap. One longer than
-/// 256 bytes, which no fault of this program has, goes out in pieces.
+/// The line goes out in one write, so that it stays whole beside other writers, and takes no memory of the heap. One
+/// longer than 256 bytes, which no fault of this program has, goes out in pieces.
 pub fn report<E: Write, D: Display + Drop>(faults: &mut E, fault: D) {
     let mut line = Cursor::new([0u8; LINE_ROOM]);
     let _ = match writeln!(line, "applystream: {fault}") {

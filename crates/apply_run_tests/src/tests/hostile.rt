@@ -1,5 +1,5 @@
-//! Plans and scripts that are made to hurt, from bytes: each is refused with the text that its reader has for it, and nothing is
-//! written, or it is applied.
+//! Plans and scripts that are made to hurt, from bytes: each is refused with the text that its reader has for it, and
+//! nothing is written, or it is applied.
 
 use super::*;
 
