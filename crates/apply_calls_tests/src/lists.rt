@@ -1,6 +1,6 @@
 //! Lists of rules and of hooks.
 
-use apply_hooks::{Answer, FnHook, Hook, HookCall, Phase, Registry, Rule, Rules, Verdict};
+use apply_hooks::{HookClosure, FnHook, Hook, HookCall, Phase, Registry, Rule, Rules, Verdict};
 use apply_plan::{StepKind, Text};
 use std::alloc::Global;
 use std::io;
@@ -25,7 +25,7 @@ pub fn rules_push(rt: &impl Print, alloc: Global) -> io::Result<()> {
 pub fn registry_add(rt: &impl Print, alloc: Global) -> io::Result<()> {
     let mut registry = Registry::new(alloc);
     let rules = Rules::halting(alloc, Some(Phase::Pre), None, "")?;
-    let answer: Answer = Box::new(alloc, |call: &HookCall<'_>| {
+    let answer: HookClosure = Box::new(alloc, |call: &HookCall<'_>| {
         if call.phase == Phase::Pre {
             Verdict::Halt
         } else {

@@ -17,7 +17,7 @@ use crate::run::run_command;
 use crate::script_file::{read_file, report_script};
 use crate::settings::Settings;
 use crate::usage::Usage;
-use apply_hooks::{Answer, FnHook, Hook, HookCall, HookError, Registry, Rules};
+use apply_hooks::{HookClosure, FnHook, Hook, HookCall, HookError, Registry, Rules};
 use apply_plan::Text;
 use apply_run::StdSink;
 use std::alloc::{AllocError, Global};
@@ -154,7 +154,7 @@ pub fn follow_invocation<
         let Ok(closure) = Box::new(alloc, move |call: &HookCall<'_>| own.decide(call)) else {
             return (output, report_hook(faults, HookError::Memory));
         };
-        let answer: Answer = closure;
+        let answer: HookClosure = closure;
         if let Err((refused, _)) = registry.add(FnHook::new(rules, answer)) {
             return (output, report_hook(faults, refused));
         }

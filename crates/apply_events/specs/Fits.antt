@@ -17,6 +17,10 @@ use Rattle.apply_events.specs.Step.{has_warning, is_failed, kinds_of}
 abbrev pub latest : ℕ
 latest = 1728000000
 
+-- the longest time between the begin of a change and its end, in seconds: two steps, each of a day
+abbrev pub max_span : ℕ
+max_span = 172800
+
 -- the plan has step k of change c
 abbrev pub HasStep : SavedPlan → (c k : ℕ) → Type 0
 HasStep plan c k = k < length (kinds_of plan c)

@@ -13,7 +13,7 @@ abbrev pub ends_step : ℕ → Event → Bool
 ends_step k event = event.step == k && (is_complete event.what || is_errored event.what)
 
 -- the work is what a plan and a script that were read give
-pub record IsRead (work : Work) : Type 0 where
+pub record IsWithinLimits (work : Work) : Type 0 where
   pub few_changes : length work.plan.changes ≤ max_changes
   pub few_steps : (c : ℕ) → length (kinds_of work.plan c) ≤ 2
   pub short_steps : IsInRange work.script

@@ -6,7 +6,7 @@ ghost use Rattle.apply_plan.specs.Script.Outcomes.{outcome_of};
 ghost use Rattle.apply_events.specs.Fits.{Fits, HasStep, can_happen, may_be_asked};
 ghost use Rattle.apply_events.specs.ProgressTimes.{progress_times};
 
-use crate::brief::Brief;
+use crate::step_facts::StepFacts;
 use crate::event::{Event, LATEST};
 use crate::what::What;
 use apply_hooks::{MAX_HOOKS, Phase};
@@ -31,11 +31,11 @@ fn has_step(plan: &Plan, event: &Event) -> bool
 fn can_happen(script: &Script, event: &Event) -> bool
     ensures { result ≡ can_happen (outcome_of script.now event.now.change event.now.step) event.now.what }
 {
-    let Brief {
+    let StepFacts {
         seconds,
         fails,
         warns,
-    } = Brief::new(script, event.change, event.step);
+    } = StepFacts::new(script, event.change, event.step);
     match event.what {
         What::Start => true,
         What::Progress(after) => is_progress_time(after, seconds),

@@ -6,8 +6,8 @@ ghost use Rattle.apply_plan.specs.Plan.SavedPlan.{SavedPlan};
 ghost use Rattle.apply_hooks.specs.Hooks.{max_hooks};
 ghost use Rattle.apply_events.specs.declared.event.Event.{Event};
 ghost use Rattle.apply_events.specs.ChangeEvents.{change_events, span_of};
-ghost use Rattle.apply_events.specs.Fits.{HasStep, latest};
-ghost use Rattle.apply_events.specs.Laws.{AllFit, IsRead, NamesEachOnce, ends_step};
+ghost use Rattle.apply_events.specs.Fits.{HasStep, latest, max_span};
+ghost use Rattle.apply_events.specs.Laws.{AllFit, IsWithinLimits, NamesEachOnce, ends_step};
 ghost use Rattle.apply_events.specs.OfWorker.{of_worker};
 ghost use Rattle.apply_events.specs.Step.{Work};
 ghost use Rattle.apply_events.specs.Totals.{plus, totals_of};
@@ -62,7 +62,7 @@ pub fn a_worker_names_itself()
 
 /// With a plan and a script that were read, and changes each of which stands once, no event comes after `LATEST`.
 pub fn no_event_comes_after_latest()
-    ensures { (work : Work) (worker : ℕ) (changes : List ℕ) → IsRead work → NamesEachOnce work changes
+    ensures { (work : Work) (worker : ℕ) (changes : List ℕ) → IsWithinLimits work → NamesEachOnce work changes
         → All (λ (event : Event). event.at ≤ latest) (worker_events work worker changes) }
 {}
 
@@ -75,9 +75,9 @@ pub fn every_event_has_its_step()
 /// With a plan and a script that were read, and 32 hooks at most, each event can happen: those of a change that begins
 /// two days before `LATEST` at the latest, and those of a worker with changes each of which stands once.
 pub fn every_event_fits()
-    ensures of_change { (work : Work) (worker c at : ℕ) → IsRead work → length work.hooks ≤ max_hooks
-        → at + 172800 ≤ latest → AllFit work (change_events work worker c at) }
-    ensures of_worker { (work : Work) (worker : ℕ) (changes : List ℕ) → IsRead work → length work.hooks ≤ max_hooks
+    ensures of_change { (work : Work) (worker c at : ℕ) → IsWithinLimits work → length work.hooks ≤ max_hooks
+        → at + max_span ≤ latest → AllFit work (change_events work worker c at) }
+    ensures of_worker { (work : Work) (worker : ℕ) (changes : List ℕ) → IsWithinLimits work → length work.hooks ≤ max_hooks
         → NamesEachOnce work changes → AllFit work (worker_events work worker changes) }
 {}
 
@@ -90,5 +90,5 @@ pub fn a_further_change_comes_behind()
 
 /// With a plan and a script that were read, no change takes longer than two days.
 pub fn a_span_is_short()
-    ensures { (work : Work) (c : ℕ) → IsRead work → span_of work c ≤ 172800 }
+    ensures { (work : Work) (c : ℕ) → IsWithinLimits work → span_of work c ≤ max_span }
 {}

@@ -2,7 +2,6 @@
 //! changes that are dealt out to workers, and of events that several workers report.
 #![tactic(auto)]
 
-mod brief;
 mod counts;
 mod event;
 mod fitting;
@@ -12,6 +11,7 @@ mod laws;
 mod partition;
 mod runner;
 mod stage;
+mod step_facts;
 mod what;
 
 pub use counts::Counts;

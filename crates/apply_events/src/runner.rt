@@ -2,13 +2,15 @@
 
 ghost use Rattle.std.specs.Prelude.{◌≡◌, ◌+◌, ◌-◌, ◌*◌, ◌%◌, ◌<◌, ◌≤◌, length, true};
 ghost use Rattle.apply_hooks.specs.Registry.{rules_of};
+ghost use Rattle.apply_plan.specs.Script.Outcome.{max_seconds};
+ghost use Rattle.apply_events.specs.Fits.{latest, max_span};
 ghost use Rattle.apply_events.specs.Stages.{is_on_course, time_behind};
 ghost use Rattle.apply_events.specs.Step.{steps_of};
 ghost use Rattle.std.specs.Prelude.{slice_get};
 
-use crate::brief::Brief;
 use crate::event::Event;
 use crate::stage::Stage;
+use crate::step_facts::StepFacts;
 use crate::what::What;
 use apply_hooks::{Asked, HookCall, Phase, Registry};
 use apply_plan::{Plan, Script, StepKind};
@@ -35,8 +37,8 @@ pub struct Runner<'a> {
     stage: Stage,
     ghost is_planned: { change < length plan.now.changes },
     ghost few: { step ≤ 2 },
-    ghost soon: { at ≤ begin + 86400 * step },
-    ghost in_time: { at + 86400 * (2 - step) ≤ 1728000000 },
+    ghost soon: { at ≤ begin + max_seconds * step },
+    ghost in_time: { at + max_seconds * (2 - step) ≤ latest },
     ghost on_ten: { told % 10 ≡ 0 },
     ghost on_time: { at ≡ begin + time_behind (steps_of (record {
       plan = plan.now;
@@ -52,10 +54,9 @@ pub struct Runner<'a> {
 
 impl<'a> Runner<'a> {
     ghost use Rattle.std.specs.Prelude.{[], ◌∷◌, ◌++◌, ◌↔◌, Some, IfSome, IfNone};
-    ghost use Rattle.apply_plan.specs.Script.Outcome.{max_seconds};
     ghost use Rattle.apply_plan.specs.Script.Outcomes.{outcome_of};
     ghost use Rattle.apply_events.specs.ChangeEvents.{change_events, span_of};
-    ghost use Rattle.apply_events.specs.Fits.{HasStep, latest};
+    ghost use Rattle.apply_events.specs.Fits.{HasStep};
     ghost use Rattle.apply_events.specs.Course.{GivesNext, beginning_of, ended_of};
     ghost use Rattle.apply_events.specs.Runner.{course_of, left_of, to_come};
     ghost use Rattle.apply_events.specs.RunnerStep.{rest_of, step_at_hand};
@@ -72,7 +73,7 @@ impl<'a> Runner<'a> {
         at: u64,
     ) -> Runner<'a>
         requires change { change < length plan.now.changes }
-        requires in_time { at + 172800 ≤ latest }
+        requires in_time { at + max_span ≤ latest }
         ensures course { course_of result ≡ record {
           work = record { plan = plan.now; script = script.now; hooks = rules_of registry.now };
           worker = worker;
@@ -162,15 +163,15 @@ impl<'a> Runner<'a> {
         ensures in_time { result.at ≤ latest }
         ensures course { course_of self.new ≡ course_of self.old }
     {
-        let brief = self.brief();
-        if brief.seconds.saturating_sub(10) > self.told {
+        let facts = self.facts();
+        if facts.seconds.saturating_sub(10) > self.told {
             let told = self.told + 10;
             let event = self.event(self.at + told as u64, What::Progress(told));
             self.told = told;
             event
         } else {
-            let event = self.event(self.at + brief.seconds as u64, brief.end());
-            if brief.has_note() {
+            let event = self.event(self.at + facts.seconds as u64, facts.end());
+            if facts.has_note() {
                 self.stage = Stage::Noting;
             } else {
                 self.finish(kind);
@@ -190,8 +191,8 @@ impl<'a> Runner<'a> {
         ensures in_time { result.at ≤ latest }
         ensures course { course_of self.new ≡ course_of self.old }
     {
-        let brief = self.brief();
-        let event = self.event(self.at + brief.seconds as u64, brief.note());
+        let facts = self.facts();
+        let event = self.event(self.at + facts.seconds as u64, facts.note());
         self.finish(kind);
         event
     }
@@ -207,9 +208,9 @@ impl<'a> Runner<'a> {
         ensures in_time { result.at ≤ latest }
         ensures course { course_of self.new ≡ course_of self.old }
     {
-        let brief = self.brief();
-        let phase = brief.phase_after();
-        let event = self.event(self.at + brief.seconds as u64, What::Halted { phase, hook });
+        let facts = self.facts();
+        let phase = facts.phase_after();
+        let event = self.event(self.at + facts.seconds as u64, What::Halted { phase, hook });
         self.pass(kind, Stage::Over);
         event
     }
@@ -223,10 +224,10 @@ impl<'a> Runner<'a> {
             ++ behind self.old.worker (step_at_hand self.old kind) (rest_of self.old) self.old.at }
         ensures course { course_of self.new ≡ course_of self.old }
     {
-        let brief = self.brief();
-        match self.halting(brief.phase_after(), kind) {
+        let facts = self.facts();
+        match self.halting(facts.phase_after(), kind) {
             Some(hook) => self.stage = Stage::Halting(hook),
-            None if brief.fails => self.pass(kind, Stage::Over),
+            None if facts.fails => self.pass(kind, Stage::Over),
             None => self.pass(kind, Stage::Before),
         }
     }
@@ -241,7 +242,7 @@ impl<'a> Runner<'a> {
             (self.old.at + (step_at_hand self.old kind).seconds) self.old.told stage }
         ensures course { course_of self.new ≡ course_of self.old }
     {
-        let seconds = self.brief().seconds;
+        let seconds = self.facts().seconds;
         self.at += seconds as u64;
         self.step += 1;
         self.stage = stage;
@@ -264,7 +265,7 @@ impl<'a> Runner<'a> {
         ensures ended { result ≡ ended_of (course_of self.now) (to_come self.now) }
         ensures whole { to_come self.now ≡ [] → result ≡ (course_of self.now).begin
             + span_of (course_of self.now).work (course_of self.now).change }
-        ensures in_time { result ≤ (course_of self.now).begin + 172800 }
+        ensures in_time { result ≤ (course_of self.now).begin + max_span }
     {
         self.at
     }
@@ -280,13 +281,13 @@ impl<'a> Runner<'a> {
     }
 
     /// What the events of the step at hand take from its outcome.
-    fn brief(&self) -> Brief
+    fn facts(&self) -> StepFacts
         ensures seconds { result.seconds ≡ (outcome_of self.now.script.now self.now.change self.now.step).seconds }
         ensures fails { result.fails ≡ is_failed (outcome_of self.now.script.now self.now.change self.now.step).result }
         ensures warns { result.warns ≡ has_warning (outcome_of self.now.script.now self.now.change self.now.step).result }
         ensures few { result.seconds ≤ max_seconds }
     {
-        Brief::new(self.script, self.change, self.step)
+        StepFacts::new(self.script, self.change, self.step)
     }
 
     /// Something that happens to the step at hand.

@@ -1,11 +1,10 @@
-pub mod Answer
 pub mod Asked
 pub mod FnHook
 pub mod HookCall
+pub mod HookClosure
 pub mod Hooks
 pub mod Phase
 pub mod Registry
 pub mod Rule
 pub mod Rules
-pub mod StepKind
 pub mod Verdict

@@ -1,7 +1,7 @@
 //! Hooks that are closures.
 
 ghost use Rattle.std.specs.Prelude.{◌≡◌};
-ghost use Rattle.apply_hooks.specs.Answer.{AnswersAs};
+ghost use Rattle.apply_hooks.specs.HookClosure.{AnswersAs};
 
 use crate::hook::Hook;
 use crate::hook_call::HookCall;
@@ -13,13 +13,13 @@ use crate::verdict::Verdict;
 ///
 /// Whoever owns the hooks makes the box: a function that made one and handed it out would hide what the closure
 /// answers.
-pub type Answer = Box<dyn Fn(&HookCall<'_>) -> Verdict + Send + Sync>;
+pub type HookClosure = Box<dyn Fn(&HookCall<'_>) -> Verdict + Send + Sync>;
 
 /// A closure that answers as a list of rules does, with those rules.
 #[derive(Drop)]
 pub struct FnHook {
     rules: Rules,
-    answer: Answer,
+    answer: HookClosure,
     ghost answers: { AnswersAs (pre answer) (post answer) rules },
 }
 
@@ -27,7 +27,7 @@ impl FnHook {
     ghost use Rattle.apply_hooks.specs.FnHook.{rules_of_hook};
 
     /// A hook of the closure, which may be called on every call and answers each as the rules do.
-    pub fn new(rules: Rules, answer: Answer) -> FnHook
+    pub fn new(rules: Rules, answer: HookClosure) -> FnHook
         requires { AnswersAs (pre answer) (post answer) rules }
         ensures { rules_of_hook result ≡ rules }
     {

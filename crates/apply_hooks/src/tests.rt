@@ -2,14 +2,14 @@
 //! that the definitions are the ones that were meant.
 
 ghost use Rattle.std.specs.Prelude.{◌≡◌, ◌∷◌, []};
-ghost use Rattle.apply_hooks.specs.Answer.{AnswersAs};
+ghost use Rattle.apply_hooks.specs.HookClosure.{AnswersAs};
 
 mod asking;
 mod closures;
 mod matching;
 
 use crate::{
-    Answer, Asked, FnHook, Hook, HookCall, HookError, MAX_HOOKS, Phase, Registry, Rule, Rules,
+    HookClosure, Asked, FnHook, Hook, HookCall, HookError, MAX_HOOKS, Phase, Registry, Rule, Rules,
     Verdict,
 };
 use apply_plan::{StepKind, Text};
@@ -102,7 +102,7 @@ fn is_added(rt: &impl Abort, added: Result<(), (HookError, FnHook)>) {
 }
 
 /// Adds a hook of that closure, which answers as the rules do.
-fn add(rt: &impl Abort, registry: &mut Registry, rules: Rules, answer: Answer)
+fn add(rt: &impl Abort, registry: &mut Registry, rules: Rules, answer: HookClosure)
     requires { AnswersAs (pre answer) (post answer) rules }
 {
     is_added(rt, registry.add(FnHook::new(rules, answer)));

@@ -1,4 +1,4 @@
-pub mod OneByOne
+pub mod ListReading
 pub mod Options
 pub mod Plans
 pub mod Results

@@ -1,5 +1,5 @@
 pub mod Json
-pub mod OneByOne
+pub mod ListReading
 pub mod Plan
 pub mod Results
 pub mod Script

@@ -6,9 +6,10 @@ pub mod ElementView
 pub mod Header
 pub mod HeaderView
 pub mod Laws
-pub mod OneByOne
+pub mod NextChange
 pub mod PlannedView
 pub mod ResourceChange
 pub mod SavedPlan
 pub mod SeenObjects
+pub mod StepKind
 pub mod Steps

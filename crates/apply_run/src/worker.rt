@@ -4,7 +4,7 @@ ghost use Rattle.std.specs.Prelude.{◌≡◌, ◌<◌, ◌≤◌, ◌+◌, ◌+
 ghost use mathlib.Core.List.{IsPrefix};
 ghost use Rattle.apply_events.specs.declared.event.Event.{Event};
 ghost use Rattle.apply_events.specs.ChangeEvents.{change_events, span_of};
-ghost use Rattle.apply_events.specs.Fits.{latest};
+ghost use Rattle.apply_events.specs.Fits.{latest, max_span};
 ghost use Rattle.apply_events.specs.WorkerEvents.{worker_events};
 ghost use Rattle.apply_plan.specs.Plan.SavedPlan.{max_changes};
 ghost use Rattle.apply_hooks.specs.Registry.{rules_of};
@@ -106,9 +106,9 @@ fn apply_change<G: Gate, R: Wait>(
     tx: &mut Tx,
 ) -> Option<u64>
     requires change { change < length job.now.plan.now.changes }
-    requires in_time { at + 172800 ≤ latest }
+    requires in_time { at + max_span ≤ latest }
     ensures sender { (tx.new.bus ≡ tx.old.bus) × (tx.new.worker ≡ tx.old.worker) }
-    ensures whole { IfSome result (λ end. (end ≡ at + span_of (work_of job.now) change) × (end ≤ at + 172800)
+    ensures whole { IfSome result (λ end. (end ≡ at + span_of (work_of job.now) change) × (end ≤ at + max_span)
         × (tx.new.sent ≡ tx.old.sent ++ change_events (work_of job.now) tx.old.worker change at)) }
     ensures part { (part : List Event) × (tx.new.sent ≡ tx.old.sent ++ part)
         × IsPrefix part (change_events (work_of job.now) tx.old.worker change at)

@@ -13,7 +13,7 @@ use Rattle.apply_plan.specs.Script.Outcomes.{Outcomes, outcome_of}
 use Rattle.apply_events.specs.declared.event.Event.{Event}
 use Rattle.apply_events.specs.declared.what.What.{What}
 use Rattle.apply_events.specs.declared.what.What.TheVariants.{Start, Progress, Complete, Errored, ErrorNote, WarnNote, Halted}
-use Rattle.apply_hooks.specs.StepKind.{is_kind}
+use Rattle.apply_plan.specs.Plan.StepKind.{is_kind}
 use Rattle.apply_events.specs.Totals.{completes, is_complete, totals_of}
 use Rattle.apply_text.specs.Laws.{tells_of_completion}
 use Rattle.apply_text.specs.Message.{event_message}

@@ -11,15 +11,15 @@ use Rattle.apply_text.specs.declared.applied_step.DiagTexts.{DiagTexts}
 use Rattle.apply_text.specs.Message.{Message, event_message}
 
 -- how it ends
-abbrev pub ending_of : AppliedStep → Ending
-ending_of step = (unwrap_or (option_copied step.outcome) default_outcome).result
+abbrev pub ending_view : AppliedStep → Ending
+ending_view step = (unwrap_or (option_copied step.outcome) default_outcome).result
 
-abbrev pub diag_of : DiagTexts → Diag
-diag_of texts = record { summary = texts.summary.now; detail = texts.detail.now }
+abbrev pub diag_view : DiagTexts → Diag
+diag_view texts = record { summary = texts.summary.now; detail = texts.detail.now }
 
 -- the message of an event of it
 abbrev pub message_of : AppliedStep → What → Message
-message_of step what = event_message step.change.now step.kind (ending_of step) what
+message_of step what = event_message step.change.now step.kind (ending_view step) what
 
 abbrev pub level_of : What → List ℕ
 level_of Start = codes "info"

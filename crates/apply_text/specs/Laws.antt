@@ -5,7 +5,7 @@ use Rattle.std.specs.Str.{bytes_eq}
 use Rattle.apply_plan.specs.declared.plan.step_kind.StepKind.TheVariants.{Read}
 use Rattle.apply_plan.specs.Plan.SavedPlan.{SavedPlan}
 use Rattle.apply_plan.specs.Script.Outcomes.{Outcomes, outcome_of}
-use Rattle.apply_hooks.specs.StepKind.{is_kind}
+use Rattle.apply_plan.specs.Plan.StepKind.{is_kind}
 use Rattle.apply_events.specs.declared.event.Event.{Event}
 use Rattle.apply_text.specs.Message.{event_message}
 

@@ -2,7 +2,7 @@
 
 ghost use Rattle.std.specs.Prelude.{◌≡◌, unwrap_or};
 ghost use Rattle.std.specs.Option.{option_copied};
-ghost use Rattle.apply_text.specs.AppliedStep.{diag_of, ending_of};
+ghost use Rattle.apply_text.specs.AppliedStep.{diag_view, ending_view};
 ghost use Rattle.apply_text.specs.Message as messages;
 ghost use Rattle.apply_text.specs.Message.{no_diag};
 
@@ -26,7 +26,7 @@ pub struct DiagTexts<'a> {
 impl<'a> DiagTexts<'a> {
     /// Those of a diagnostic, or empty ones where there is none.
     fn new(diag: Option<&'a Diag>) -> DiagTexts<'a>
-        ensures { diag_of result ≡ unwrap_or (option_copied diag.entry) no_diag }
+        ensures { diag_view result ≡ unwrap_or (option_copied diag.entry) no_diag }
     {
         match diag {
             Some(diag) => DiagTexts {
@@ -54,7 +54,7 @@ impl<'a> AppliedStep<'a> {
 
     /// The id that is told when the step completes: the provider's. `None` for a delete, or where there is none.
     pub fn end_id(&self) -> Option<&'a str>
-        ensures { option_copied result ≡ messages.end_id self.now.kind (ending_of self.now) }
+        ensures { option_copied result ≡ messages.end_id self.now.kind (ending_view self.now) }
     {
         match self.kind {
             StepKind::Delete => None,
@@ -64,7 +64,7 @@ impl<'a> AppliedStep<'a> {
 
     /// The id that the provider tells of the object.
     fn told_id(&self) -> Option<&'a str>
-        ensures { option_copied result ≡ messages.told_id (ending_of self.now) }
+        ensures { option_copied result ≡ messages.told_id (ending_view self.now) }
     {
         match &self.outcome?.result {
             Ending::Done { id: Some(id), .. } => Some(id.as_str()),
@@ -74,7 +74,7 @@ impl<'a> AppliedStep<'a> {
 
     /// Why the step failed.
     pub fn failure(&self) -> DiagTexts<'a>
-        ensures { diag_of result ≡ messages.failure_of (ending_of self.now) }
+        ensures { diag_view result ≡ messages.failure_of (ending_view self.now) }
     {
         match self.outcome {
             Some(
@@ -89,7 +89,7 @@ impl<'a> AppliedStep<'a> {
 
     /// What the provider warned of.
     pub fn warning(&self) -> DiagTexts<'a>
-        ensures { diag_of result ≡ messages.warning_of (ending_of self.now) }
+        ensures { diag_view result ≡ messages.warning_of (ending_view self.now) }
     {
         match self.outcome {
             Some(

@@ -31,8 +31,8 @@ const TEXT_LEN: usize = 256;
 pub struct LineBuffer {
     alloc: Global,
     bytes: Vec<u8>,
-    // Room for the texts that a message is put together of.
-    room: String,
+    // The texts that a message is put together of, one after the other.
+    scratch: String,
 }
 
 impl Model for LineBuffer {
@@ -47,17 +47,6 @@ impl Model for LineBuffer {
 }
 
 impl LineBuffer {
-    /// No line, and no room.
-    pub fn new(alloc: Global) -> LineBuffer
-        ensures { result ≡ [] }
-    {
-        LineBuffer {
-            alloc,
-            bytes: Vec::new(alloc),
-            room: String::new(alloc),
-        }
-    }
-
     /// No line, and room for one of up to 1,024 bytes, whose texts have up to 256, without a further growth. `Err` where
     /// memory is refused.
     pub fn with_room(alloc: Global) -> Result<LineBuffer, AllocError>
@@ -66,7 +55,7 @@ impl LineBuffer {
         Ok(LineBuffer {
             alloc,
             bytes: Vec::with_capacity(alloc, LINE_LEN)?,
-            room: String::with_capacity(alloc, TEXT_LEN)?,
+            scratch: String::with_capacity(alloc, TEXT_LEN)?,
         })
     }
 
@@ -100,7 +89,7 @@ impl LineBuffer {
         let moment = Moment::new(start, 0);
         let before = self.bytes.len();
         let mut out = self.begin_line();
-        let written = put_version(&mut out, &mut self.room, &moment, plan.version());
+        let written = put_version(&mut out, &mut self.scratch, &moment, plan.version());
         self.end_line(out, before, written)
     }
 
@@ -129,7 +118,7 @@ impl LineBuffer {
         };
         let before = self.bytes.len();
         let mut out = self.begin_line();
-        let written = put_event(&mut out, &mut self.room, &moment, step, event.what);
+        let written = put_event(&mut out, &mut self.scratch, &moment, step, event.what);
         self.end_line(out, before, written)
     }
 
@@ -150,7 +139,7 @@ impl LineBuffer {
         let moment = Moment::new(start, latest);
         let before = self.bytes.len();
         let mut out = self.begin_line();
-        let written = put_summary(&mut out, &mut self.room, &moment, operation, counts);
+        let written = put_summary(&mut out, &mut self.scratch, &moment, operation, counts);
         self.end_line(out, before, written)
     }
 

@@ -1,4 +1,4 @@
-//! The messages, written token by token into the buffer of a line. Each takes `room` for the texts that it puts together.
+//! The messages, written token by token into the buffer of a line. Each takes `scratch` for the texts that it puts together.
 
 ghost use Rattle.std.specs.Prelude.{◌≡◌, ◌++◌, codes, string_bytes, OnOk};
 ghost use Rattle.apply_text.specs.AppliedStep.{level_of, message_of, type_of};
@@ -24,16 +24,16 @@ use std::alloc::AllocError;
 /// Writes the first message.
 pub fn put_version(
     out: &mut Writer,
-    room: &mut String,
+    scratch: &mut String,
     moment: &Moment,
     version: &str,
 ) -> Result<(), AllocError>
     ensures { Sends result out.old out.new (data_tokens
         (message_object (codes "info") (codes "Terraform " ++ version.now) moment.now (version_members version.now))) }
 {
-    room.clear();
-    write!(room, "Terraform {version}")?;
-    begin_message(out, room, "info", moment)?;
+    scratch.clear();
+    write!(scratch, "Terraform {version}")?;
+    begin_message(out, scratch, "info", moment)?;
     put_text(out, "terraform", version)?;
     put_text(out, "type", "version")?;
     put_text(out, "ui", "1.0")?;
@@ -43,7 +43,7 @@ pub fn put_version(
 /// Writes the last message.
 pub fn put_summary(
     out: &mut Writer,
-    room: &mut String,
+    scratch: &mut String,
     moment: &Moment,
     operation: Operation,
     counts: &Counts,
@@ -51,84 +51,84 @@ pub fn put_summary(
     ensures { Sends result out.old out.new
         (message_tokens moment.now (messages.summary_message operation counts.now)) }
 {
-    say_totals(room, operation, counts)?;
-    begin_message(out, room, "info", moment)?;
+    say_totals(scratch, operation, counts)?;
+    begin_message(out, scratch, "info", moment)?;
     put_changes(out, operation, counts)?;
     end_message(out, "change_summary")
 }
 
 /// What the summary says.
-fn say_totals(room: &mut String, operation: Operation, counts: &Counts) -> Result<(), AllocError>
-    ensures { OnOk result (string_bytes room.new ≡ messages.totals_text operation counts.now) }
+fn say_totals(scratch: &mut String, operation: Operation, counts: &Counts) -> Result<(), AllocError>
+    ensures { OnOk result (string_bytes scratch.new ≡ messages.totals_text operation counts.now) }
 {
     let added = counts.added;
     let changed = counts.changed;
     let removed = counts.removed;
-    room.clear();
+    scratch.clear();
     match operation {
         Operation::Apply => write!(
-            room,
+            scratch,
             "Apply complete! Resources: {added} added, {changed} changed, {removed} destroyed."
         ),
-        Operation::Destroy => write!(room, "Destroy complete! Resources: {removed} destroyed."),
+        Operation::Destroy => write!(scratch, "Destroy complete! Resources: {removed} destroyed."),
     }
 }
 
 /// Writes the message of an event of a step.
 pub fn put_event(
     out: &mut Writer,
-    room: &mut String,
+    scratch: &mut String,
     moment: &Moment,
     step: AppliedStep<'_>,
     what: What,
 ) -> Result<(), AllocError>
     ensures { Sends result out.old out.new (message_tokens moment.now (message_of step.entry what)) }
 {
-    say_event(room, step, what)?;
-    begin_message(out, room, level(what), moment)?;
-    put_body(out, room, step, what)?;
+    say_event(scratch, step, what)?;
+    begin_message(out, scratch, level(what), moment)?;
+    put_body(out, scratch, step, what)?;
     end_message(out, type_name(what))
 }
 
 /// What is said of an event.
-fn say_event(room: &mut String, step: AppliedStep<'_>, what: What) -> Result<(), AllocError>
-    ensures { OnOk result (string_bytes room.new ≡ (message_of step.entry what).text) }
+fn say_event(scratch: &mut String, step: AppliedStep<'_>, what: What) -> Result<(), AllocError>
+    ensures { OnOk result (string_bytes scratch.new ≡ (message_of step.entry what).text) }
 {
     let address = step.change.address();
-    room.clear();
+    scratch.clear();
     match what {
         What::Start => {
             let word = start_word(step.kind);
             let note = IdNote {
                 id: step.start_id(),
             };
-            write!(room, "{address}: {word}...{note}")
+            write!(scratch, "{address}: {word}...{note}")
         }
         What::Progress(seconds) => {
             let word = still_word(step.kind);
             let elapsed = Elapsed { seconds };
-            write!(room, "{address}: Still {word}... [{elapsed} elapsed]")
+            write!(scratch, "{address}: Still {word}... [{elapsed} elapsed]")
         }
         What::Complete(seconds) => {
             let noun = noun_word(step.kind);
             let elapsed = Elapsed { seconds };
             let note = IdNote { id: step.end_id() };
-            write!(room, "{address}: {noun} complete after {elapsed}{note}")
+            write!(scratch, "{address}: {noun} complete after {elapsed}{note}")
         }
         What::Errored(seconds) => {
             let noun = noun_word(step.kind);
             let elapsed = Elapsed { seconds };
-            write!(room, "{address}: {noun} errored after {elapsed}")
+            write!(scratch, "{address}: {noun} errored after {elapsed}")
         }
         What::ErrorNote => {
             let DiagTexts { summary, .. } = step.failure();
-            write!(room, "Error: {summary}")
+            write!(scratch, "Error: {summary}")
         }
         What::WarnNote => {
             let DiagTexts { summary, .. } = step.warning();
-            write!(room, "Warning: {summary}")
+            write!(scratch, "Warning: {summary}")
         }
-        What::Halted { .. } => write!(room, "Error: execution halted"),
+        What::Halted { .. } => write!(scratch, "Error: execution halted"),
     }
 }
 
@@ -159,7 +159,7 @@ fn type_name(what: What) -> &'static str
 /// Writes the member of its own that the message of an event has.
 fn put_body(
     out: &mut Writer,
-    room: &mut String,
+    scratch: &mut String,
     step: AppliedStep<'_>,
     what: What,
 ) -> Result<(), AllocError>
@@ -183,9 +183,9 @@ fn put_body(
         What::Halted { phase, hook } => {
             let words = phase_words(phase);
             let action = action_word(kind);
-            room.clear();
-            write!(room, "Hook {hook} answered Halt {words} {action}.")?;
-            let detail = room.as_str();
+            scratch.clear();
+            write!(scratch, "Hook {hook} answered Halt {words} {action}.")?;
+            let detail = scratch.as_str();
             put_diagnostic(out, change.address(), "error", "execution halted", detail)
         }
     }

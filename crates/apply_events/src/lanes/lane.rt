@@ -5,7 +5,7 @@ ghost use Rattle.apply_hooks.specs.declared.rule.Rule.{Rule};
 ghost use Rattle.apply_events.specs.ChangeEvents.{change_events};
 ghost use Rattle.apply_events.specs.Lanes.ToCome.{max_of_change};
 
-use crate::brief::Brief;
+use crate::step_facts::StepFacts;
 use crate::event::Event;
 use crate::runner::Runner;
 use apply_hooks::Registry;
@@ -100,6 +100,6 @@ fn has_few_events(plan: &Plan, script: &Script, change: u32)
         (record { plan = plan.now; script = script.now; hooks = hooks }) worker change at) ≤ max_of_change }
 {
     let _steps = plan.change(change).steps();
-    let _first = Brief::new(script, change, 0);
-    let _second = Brief::new(script, change, 1);
+    let _first = StepFacts::new(script, change, 0);
+    let _second = StepFacts::new(script, change, 1);
 }

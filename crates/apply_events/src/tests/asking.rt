@@ -20,11 +20,11 @@ fn tells_by_default(
 fn hooks_halt_before_a_step(rt: HostRuntime) -> Result<(), Fail> {
     let alloc = rt.alloc();
     let mut registry = Registry::new(alloc);
-    let answer: Answer = Box::new(alloc, |_call: &HookCall<'_>| Verdict::Continue)?;
+    let answer: HookClosure = Box::new(alloc, |_call: &HookCall<'_>| Verdict::Continue)?;
     assert!(rt; registry.add(FnHook::new(Rules::new(alloc), answer)).is_ok());
     for _ in 1..3 {
         let rules = halt_in(alloc, Phase::Pre, Some(StepKind::Delete))?;
-        let answer: Answer = Box::new(alloc, |call: &HookCall<'_>| {
+        let answer: HookClosure = Box::new(alloc, |call: &HookCall<'_>| {
             if call.phase == Phase::Pre && call.kind == StepKind::Delete {
                 Verdict::Halt
             } else {
@@ -45,7 +45,7 @@ fn hooks_halt_after_a_failed_step(rt: HostRuntime) -> Result<(), Fail> {
     let alloc = rt.alloc();
     let mut registry = Registry::new(alloc);
     let rules = halt_in(alloc, Phase::PostFailed, None)?;
-    let answer: Answer = Box::new(alloc, |call: &HookCall<'_>| {
+    let answer: HookClosure = Box::new(alloc, |call: &HookCall<'_>| {
         if call.phase == Phase::PostFailed {
             Verdict::Halt
         } else {
@@ -83,7 +83,7 @@ fn hooks_halt_between_the_steps_of_a_replacement(rt: HostRuntime) -> Result<(), 
     let alloc = rt.alloc();
     let mut registry = Registry::new(alloc);
     let rules = halt_in(alloc, Phase::PostDone, Some(StepKind::Delete))?;
-    let answer: Answer = Box::new(alloc, |call: &HookCall<'_>| {
+    let answer: HookClosure = Box::new(alloc, |call: &HookCall<'_>| {
         if call.phase == Phase::PostDone && call.kind == StepKind::Delete {
             Verdict::Halt
         } else {
@@ -152,7 +152,7 @@ fn hooks_are_asked_once_for_each_phase(rt: HostRuntime) -> Result<(), Fail> {
     let mut registry = Registry::new(alloc);
     let calls = Arc::new(alloc, AtomicU64::new(0))?;
     let counted = Arc::try_clone(&calls)?;
-    let answer: Answer = Box::new(alloc, move |_call: &HookCall<'_>| {
+    let answer: HookClosure = Box::new(alloc, move |_call: &HookCall<'_>| {
         counted.fetch_add(1, Ordering::SeqCst);
         Verdict::Continue
     })?;

@@ -141,7 +141,7 @@ fn a_halted_change_beside_others(rt: HostRuntime) -> Result<(), Fail> {
     let alloc = rt.alloc();
     let mut registry = Registry::new(alloc);
     let rules = halt_in(alloc, Phase::Pre, Some(StepKind::Delete))?;
-    let answer: Answer = Box::new(alloc, |call: &HookCall<'_>| {
+    let answer: HookClosure = Box::new(alloc, |call: &HookCall<'_>| {
         if call.phase == Phase::Pre && call.kind == StepKind::Delete {
             Verdict::Halt
         } else {

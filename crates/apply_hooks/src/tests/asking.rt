@@ -10,14 +10,14 @@ Pre Create null_resource.a => Go";
 fn hooks_halt(rt: HostRuntime) {
     let alloc = rt.alloc();
     let mut registry = Registry::new(alloc);
-    let answer: Answer = Box::new(alloc, |_call: &HookCall<'_>| Verdict::Continue).expect(
+    let answer: HookClosure = Box::new(alloc, |_call: &HookCall<'_>| Verdict::Continue).expect(
         &rt, "memory",
     );
     add(&rt, &mut registry, Rules::new(alloc), answer);
     for number in 1..3 {
         let rules = halting(&rt, alloc, Some(Phase::Pre), Some(StepKind::Delete), "");
         let own = halting(&rt, alloc, Some(Phase::Pre), Some(StepKind::Delete), "");
-        let answer: Answer = Box::new(alloc, move |call: &HookCall<'_>| own.decide(call)).expect(
+        let answer: HookClosure = Box::new(alloc, move |call: &HookCall<'_>| own.decide(call)).expect(
             &rt, "memory",
         );
         add(&rt, &mut registry, rules, answer);
@@ -45,7 +45,7 @@ fn verdict_without_call(rt: HostRuntime) {
     let calls = count(&rt, alloc);
     let mut registry = Registry::new(alloc);
     let counted = shared(&rt, &calls);
-    let answer: Answer = Box::new(alloc, move |_call: &HookCall<'_>| {
+    let answer: HookClosure = Box::new(alloc, move |_call: &HookCall<'_>| {
         counted.fetch_add(1, Ordering::SeqCst);
         Verdict::Continue
     })
@@ -55,7 +55,7 @@ fn verdict_without_call(rt: HostRuntime) {
         let counted = shared(&rt, &calls);
         let rules = halting(&rt, alloc, Some(Phase::Pre), Some(StepKind::Delete), "");
         let own = halting(&rt, alloc, Some(Phase::Pre), Some(StepKind::Delete), "");
-        let answer: Answer = Box::new(alloc, move |call: &HookCall<'_>| {
+        let answer: HookClosure = Box::new(alloc, move |call: &HookCall<'_>| {
             counted.fetch_add(weight, Ordering::SeqCst);
             own.decide(call)
         })
@@ -88,13 +88,13 @@ fn the_33rd_hook_comes_back(rt: HostRuntime) {
     let mut registry = Registry::new(alloc);
     for number in 0..MAX_HOOKS {
         len_is(&rt, &registry, number);
-        let answer: Answer = Box::new(alloc, |_call: &HookCall<'_>| Verdict::Continue).expect(
+        let answer: HookClosure = Box::new(alloc, |_call: &HookCall<'_>| Verdict::Continue).expect(
             &rt, "memory",
         );
         add(&rt, &mut registry, Rules::new(alloc), answer);
     }
     let rules = halting(&rt, alloc, None, None, "");
-    let answer: Answer = Box::new(alloc, |_call: &HookCall<'_>| Verdict::Halt).expect(
+    let answer: HookClosure = Box::new(alloc, |_call: &HookCall<'_>| Verdict::Halt).expect(
         &rt, "memory",
     );
     comes_back(&rt, alloc, registry.add(FnHook::new(rules, answer)));
@@ -126,7 +126,7 @@ fn threads_ask_one_registry(rt: HostRuntime) {
     let counted = shared(&rt, &calls);
     let rules = halting(&rt, alloc, None, Some(StepKind::Create), "");
     let own = halting(&rt, alloc, None, Some(StepKind::Create), "");
-    let answer: Answer = Box::new(alloc, move |call: &HookCall<'_>| {
+    let answer: HookClosure = Box::new(alloc, move |call: &HookCall<'_>| {
         counted.fetch_add(1, Ordering::SeqCst);
         own.decide(call)
     })

@@ -11,7 +11,7 @@ Pre Delete b => Continue";
 fn one_rule(rt: HostRuntime) {
     let alloc = rt.alloc();
     let rules = halting(&rt, alloc, Some(Phase::Pre), Some(StepKind::Delete), "a");
-    let answer: Answer = Box::new(alloc, |call: &HookCall<'_>| {
+    let answer: HookClosure = Box::new(alloc, |call: &HookCall<'_>| {
         if call.phase == Phase::Pre && call.kind == StepKind::Delete && call.address_begins("a") {
             Verdict::Halt
         } else {
@@ -48,7 +48,7 @@ fn rules_of_values_that_are_known_when_the_program_runs(rt: HostRuntime) {
     let mut registry = Registry::new(alloc);
     let read = halted_kind(&rt, "Read");
     let rules = halting(&rt, alloc, Some(Phase::Pre), Some(read), "");
-    let answer: Answer = Box::new(alloc, move |call: &HookCall<'_>| {
+    let answer: HookClosure = Box::new(alloc, move |call: &HookCall<'_>| {
         if call.phase == Phase::Pre && call.kind == read {
             Verdict::Halt
         } else {
@@ -59,7 +59,7 @@ fn rules_of_values_that_are_known_when_the_program_runs(rt: HostRuntime) {
     add(&rt, &mut registry, rules, answer);
     let prefix = Text::new(alloc, "module.a").expect(&rt, "memory");
     let rules = halting(&rt, alloc, Some(Phase::Pre), None, prefix.as_str());
-    let answer: Answer = Box::new(alloc, move |call: &HookCall<'_>| {
+    let answer: HookClosure = Box::new(alloc, move |call: &HookCall<'_>| {
         if call.phase == Phase::Pre && call.address_begins(prefix.as_str()) {
             Verdict::Halt
         } else {
@@ -70,7 +70,7 @@ fn rules_of_values_that_are_known_when_the_program_runs(rt: HostRuntime) {
     add(&rt, &mut registry, rules, answer);
     let create = halted_kind(&rt, "Create");
     let rules = halting(&rt, alloc, Some(Phase::Pre), Some(create), "");
-    let answer: Answer = Box::new(alloc, move |call: &HookCall<'_>| {
+    let answer: HookClosure = Box::new(alloc, move |call: &HookCall<'_>| {
         if call.phase == Phase::Pre && call.kind == create {
             Verdict::Halt
         } else {
@@ -103,7 +103,7 @@ fn a_closure_that_counts_its_calls(rt: HostRuntime) {
     let calls = count(&rt, alloc);
     let counted = shared(&rt, &calls);
     let rules = halting(&rt, alloc, Some(Phase::PostFailed), None, "");
-    let answer: Answer = Box::new(alloc, move |call: &HookCall<'_>| {
+    let answer: HookClosure = Box::new(alloc, move |call: &HookCall<'_>| {
         counted.fetch_add(1, Ordering::SeqCst);
         if call.phase == Phase::PostFailed {
             Verdict::Halt

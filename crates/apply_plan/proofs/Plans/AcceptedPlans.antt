@@ -13,10 +13,10 @@ use Rattle.apply_plan.specs.Plan.Element.{element_of}
 use Rattle.apply_plan.specs.Plan.Header.{header_of}
 use Rattle.apply_plan.specs.Plan.Laws.{HasRelativeAddress, NamesEachObjectOnce}
 use Rattle.apply_plan.specs.Plan.SavedPlan.{SavedPlan, changes_of, change_of, max_changes, plan_of, plan_of_tree, planned_at}
-use Rattle.apply_plan.specs.OneByOne.{made_after}
-use Rattle.apply_plan.specs.Plan.OneByOne.{change_after}
+use Rattle.apply_plan.specs.ListReading.{made_after}
+use Rattle.apply_plan.specs.Plan.NextChange.{change_after}
 use Rattle.apply_plan.specs.Plan.ResourceChange.{ResourceChange, is_same_object}
-use Rattle.apply_plan.specs.Plan.Steps.{steps_of}
+use Rattle.apply_plan.specs.Plan.Steps.{steps_of_actions}
 use Rattle.apply_plan.specs.Json.{list_of, max_bytes, tree_of}
 use Rattle.apply_plan.specs.Results.{or_refuse}
 use Rattle.apply_plan.proofs.Plans.Relative.{relative_joins}
@@ -92,7 +92,7 @@ has_relative earlier d change e =
     let planned = bind_ok (planned_at n d) (λ c. cond (list_any (is_same_object c) earlier) (Err (Duplicate n)) (Ok c)) change e in
     let new = guard_ok (list_any (is_same_object planned.0) earlier) (Duplicate n) (Ok planned.0) change planned.2 in
     let formed = bind_ok (or_refuse (BadChange n) (element_of d)) _ planned.0 planned.1 in
-    let stepped = bind_ok (or_refuse (BadActions n) (steps_of formed.0.actions)) _ planned.0 formed.2 in
+    let stepped = bind_ok (or_refuse (BadActions n) (steps_of_actions formed.0.actions)) _ planned.0 formed.2 in
     let placed = bind_ok (or_refuse (BadAddress n) (relative_address formed.0.module_address formed.0.address)) _ planned.0 stepped.2 in
     let found = or_refuse_ok (BadAddress n) (relative_address formed.0.module_address formed.0.address) placed.0 placed.1 in
     subst HasRelativeAddress (ok_is planned.0 change new.1)

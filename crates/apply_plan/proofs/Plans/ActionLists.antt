@@ -2,9 +2,9 @@
 use Rattle.std.proofs.Common.{◌≡◌, ◌≤◌, List, [], ◌∷◌, length, None, refl, arith}
 use Rattle.serde_json.specs.View.{items_view}
 use Rattle.serde_json.specs.declared.value.Value.{Value}
-use Rattle.apply_plan.specs.Plan.Steps.{steps_of}
+use Rattle.apply_plan.specs.Plan.Steps.{steps_of_actions}
 
-pub none_of_three : (actions : List Value) → 3 ≤ length actions → None ≡ steps_of (items_view actions)
+pub none_of_three : (actions : List Value) → 3 ≤ length actions → None ≡ steps_of_actions (items_view actions)
 none_of_three [] long = absurd (omega arith)
 none_of_three (a ∷ []) long = absurd (omega arith)
 none_of_three (a ∷ b ∷ []) long = absurd (omega arith)

@@ -10,13 +10,13 @@ use Rattle.serde_json.specs.Data.{Data, Items}
 use Rattle.apply_plan.specs.declared.plan.plan_error.PlanError.{PlanError}
 use Rattle.apply_plan.specs.declared.plan.plan_error.PlanError.TheVariants.{BadChange, BadActions, BadAddress, Duplicate}
 use Rattle.apply_plan.specs.Json.{list_of}
-use Rattle.apply_plan.specs.OneByOne.{made_after}
+use Rattle.apply_plan.specs.ListReading.{made_after}
 use Rattle.apply_plan.specs.Plan.Address.{relative_address}
 use Rattle.apply_plan.specs.Plan.Element.{Element, element_of}
-use Rattle.apply_plan.specs.Plan.OneByOne.{change_after}
+use Rattle.apply_plan.specs.Plan.NextChange.{change_after}
 use Rattle.apply_plan.specs.Plan.ResourceChange.{ResourceChange, is_same_object}
 use Rattle.apply_plan.specs.Plan.SavedPlan.{change_at, change_of, changes_of, names_object_of, planned_at}
-use Rattle.apply_plan.specs.Plan.Steps.{steps_of}
+use Rattle.apply_plan.specs.Plan.Steps.{steps_of_actions}
 use Rattle.apply_plan.specs.Results.{or_refuse}
 use Rattle.apply_plan.proofs.Results.{bind_ok, bind_same, guard_ok, ok_is, or_refuse_ok}
 use Rattle.apply_plan.proofs.WholeList.{AnswersAlike, read_one_by_one}
@@ -31,7 +31,7 @@ names_same : (n : ℕ) (d : Data) (made change : ResourceChange) → planned_at 
 unfolding planned_at
 names_same n d made change e =
     let formed = bind_ok (or_refuse (BadChange n) (element_of d)) _ made e in
-    let stepped = bind_ok (or_refuse (BadActions n) (steps_of formed.0.actions)) _ made formed.2 in
+    let stepped = bind_ok (or_refuse (BadActions n) (steps_of_actions formed.0.actions)) _ made formed.2 in
     let placed = bind_ok (or_refuse (BadAddress n) (relative_address formed.0.module_address formed.0.address)) _ made stepped.2 in
     let found = or_refuse_ok (BadChange n) (element_of d) formed.0 formed.1 in
     subst (λ (c : ResourceChange). names_object_of change d ≡ is_same_object change c) (ok_is {E = PlanError} (change_of formed.0 stepped.0) made placed.2)

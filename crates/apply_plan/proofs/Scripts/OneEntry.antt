@@ -14,7 +14,7 @@ use Rattle.apply_plan.specs.declared.script.tree_step.TreeStep.{TreeStep}
 use Rattle.apply_plan.specs.Json.{◌>>=◌}
 use Rattle.apply_plan.specs.Plan.ResourceChange.{ResourceChange}
 use Rattle.apply_plan.specs.Script.Entry.{Entry, entry_of}
-use Rattle.apply_plan.specs.Script.OneByOne.{entry_beside}
+use Rattle.apply_plan.specs.Script.NextEntry.{entry_beside}
 use Rattle.apply_plan.specs.Script.Outcome.{is_too_long}
 use Rattle.apply_plan.specs.Script.Outcomes.{Outcomes, change_of_entry, said_at}
 use Rattle.apply_plan.specs.Script.TreeView.{entry_view, step_view}

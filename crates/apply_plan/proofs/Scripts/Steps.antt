@@ -10,24 +10,24 @@ use Rattle.serde_json.specs.declared.value.Value.{Value}
 use Rattle.apply_plan.specs.declared.script.outcome.Outcome.{Outcome}
 use Rattle.apply_plan.specs.declared.script.tree_step.TreeStep.{TreeStep}
 use Rattle.apply_plan.specs.Json.{◌>>=◌, list_of}
-use Rattle.apply_plan.specs.Script.Entry.{all_some, step_of}
+use Rattle.apply_plan.specs.Script.Entry.{all_some, step_from}
 use Rattle.apply_plan.specs.Script.Outcome.{is_too_long, max_seconds}
 use Rattle.apply_plan.specs.Script.TreeView.{step_view}
 
 -- the steps that the values are
-abbrev pub steps_of : List Value → Option (List Outcome)
-steps_of values = all_some (map step_of (list_of (items_view values)))
+abbrev pub outcomes_from : List Value → Option (List Outcome)
+outcomes_from values = all_some (map step_from (list_of (items_view values)))
 
 -- the steps so far, and those that the values are
 abbrev pub steps_behind : List TreeStep → List Value → Option (List Outcome)
-steps_behind steps values = option_map (λ others. map step_view steps ++ others) (steps_of values)
+steps_behind steps values = option_map (λ others. map step_view steps ++ others) (outcomes_from values)
 
 at_value : (steps : List TreeStep) (values : List Value) (i : ℕ) (value : Value) → i < length values → value ≡ get_or values i value
     → drop i values ≡ value ∷ drop (i + 1) values
 at_value steps values i value below is = rw (add-one, drop-cons values i value) (ap (λ (v : Value). v ∷ drop (suc i) values) (sym is))
 
 pub is_no_step : (steps : List TreeStep) (values : List Value) (i : ℕ) (value : Value) (total : Option (List Outcome)) → i < length values → value ≡ get_or values i value
-    → None ≡ step_of (view value) → steps_behind steps (drop i values) ≡ total → None ≡ total
+    → None ≡ step_from (view value) → steps_behind steps (drop i values) ≡ total → None ≡ total
 is_no_step steps values i value total below is none so_far =
     rw (at_value steps values i value below is, ← none) refl ∙ so_far
 
@@ -36,9 +36,9 @@ regroup front step None = refl
 regroup front step (Some others) = ap (λ (all : List Outcome). Some all) (append_assoc front (step ∷ []) others)
 
 pub step_more : (steps : List TreeStep) (values : List Value) (i : ℕ) (value : Value) (step : TreeStep) (total : Option (List Outcome)) → i < length values → value ≡ get_or values i value
-    → Some (step_view step) ≡ step_of (view value) → steps_behind steps (drop i values) ≡ total → steps_behind (steps ++ step ∷ []) (drop (i + 1) values) ≡ total
+    → Some (step_view step) ≡ step_from (view value) → steps_behind steps (drop i values) ≡ total → steps_behind (steps ++ step ∷ []) (drop (i + 1) values) ≡ total
 step_more steps values i value step total below is some so_far =
-    let rest = steps_of (drop (i + 1) values) in
+    let rest = outcomes_from (drop (i + 1) values) in
     let one : steps_behind steps (drop i values) ≡ option_map (λ others. map step_view steps ++ others) (rest >>= λ others. Some (step_view step ∷ others)) =
     rw (at_value steps values i value below is, ← some) refl in
     rw (map-append step_view steps (step ∷ [])) (regroup (map step_view steps) (step_view step) rest ∙ sym one ∙ so_far)

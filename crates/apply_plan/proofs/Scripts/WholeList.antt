@@ -12,12 +12,12 @@ use Rattle.apply_plan.specs.declared.script.outcome.Outcome.{Outcome}
 use Rattle.apply_plan.specs.declared.script.script_error.ScriptError.{ScriptError}
 use Rattle.apply_plan.specs.declared.script.script_error.ScriptError.TheVariants.{BadShape, UnknownChange, Duplicate, TooManySteps, SecondsRange}
 use Rattle.apply_plan.specs.Json.{list_of}
-use Rattle.apply_plan.specs.OneByOne.{made_after}
+use Rattle.apply_plan.specs.ListReading.{made_after}
 use Rattle.apply_plan.specs.Plan.ResourceChange.{ResourceChange}
 use Rattle.apply_plan.specs.Plan.SavedPlan.{SavedPlan}
 use Rattle.apply_plan.specs.Results.{◌>>=◌, all_or_first, each_with_earlier, or_refuse}
 use Rattle.apply_plan.specs.Script.Entry.{Entry, entry_of}
-use Rattle.apply_plan.specs.Script.OneByOne.{entry_after, entry_beside}
+use Rattle.apply_plan.specs.Script.NextEntry.{entry_after, entry_beside}
 use Rattle.apply_plan.specs.Script.Outcome.{is_too_long}
 use Rattle.apply_plan.specs.Script.Outcomes.{IsInRange, Outcomes, by_number, change_of_entry, entry_at, is_about, names_change, said_at, said_of, script_of_entries}
 use Rattle.apply_plan.proofs.Results.{bind_ok, bind_same, done, guard_ok, ok_is, or_refuse_ok}

@@ -14,14 +14,14 @@ use Rattle.apply_plan.specs.declared.tree.shape.Shape.TheVariants as shape
 use Rattle.apply_plan.specs.Json.{◌>>=◌, items_or_empty, list_of, max_bytes, member_of, non_empty_text_of, text_of, text_or, unless_empty}
 use Rattle.apply_plan.specs.Json.Parsed.{IsTrimmedTree}
 use Rattle.apply_plan.specs.Json.Trimmed.{trimmed, trimmed_items}
-use Rattle.apply_plan.specs.OneByOne.{made_after}
+use Rattle.apply_plan.specs.ListReading.{made_after}
 use Rattle.apply_plan.specs.Plan.Address.{relative_address}
 use Rattle.apply_plan.specs.Plan.Element.{Element, element_of, hides_id, is_true, key_of, mode_named, planned_change_of, prior_id_of}
 use Rattle.apply_plan.specs.Plan.Header.{Header, header_of}
-use Rattle.apply_plan.specs.Plan.OneByOne.{change_after}
+use Rattle.apply_plan.specs.Plan.NextChange.{change_after}
 use Rattle.apply_plan.specs.Plan.ResourceChange.{ResourceChange}
 use Rattle.apply_plan.specs.Plan.SavedPlan.{SavedPlan, change_of, changes_of, max_changes, plan_of, plan_of_tree, planned_at}
-use Rattle.apply_plan.specs.Plan.Steps.{steps_of}
+use Rattle.apply_plan.specs.Plan.Steps.{steps_of_actions}
 use Rattle.apply_plan.specs.Results as results
 use Rattle.apply_plan.specs.Results.{or_refuse}
 use Rattle.apply_plan.proofs.Plans.WholeList.{changes_one_by_one}
@@ -33,7 +33,7 @@ use Rattle.apply_plan.proofs.Trimmed.Lookups.{as_array_trimmed, as_bool_trimmed,
 abbrev few_actions : Items → Items
 few_actions = trimmed_items shape.Scalar 3
 
-same_steps : (actions : Items) → steps_of (few_actions actions) ≡ steps_of actions
+same_steps : (actions : Items) → steps_of_actions (few_actions actions) ≡ steps_of_actions actions
 same_steps no_items = refl
 same_steps (item one no_items) =
     rw (is_word_trimmed shape.Scalar (codes "no-op") one, is_word_trimmed shape.Scalar (codes "create") one, is_word_trimmed shape.Scalar (codes "read") one, is_word_trimmed shape.Scalar (codes "update") one, is_word_trimmed shape.Scalar (codes "delete") one) refl
@@ -167,7 +167,7 @@ same_element d =
 -- what an element describes, from its members
 abbrev from_element : ℕ → Option Element → Result ResourceChange PlanError
 from_element n e =
-    results.◌>>=◌ (or_refuse (BadChange n) e) λ e. results.◌>>=◌ (or_refuse (BadActions n) (steps_of e.actions)) λ steps. results.◌>>=◌ (or_refuse (BadAddress n) (relative_address e.module_address e.address)) λ relative. Ok (change_of e steps)
+    results.◌>>=◌ (or_refuse (BadChange n) e) λ e. results.◌>>=◌ (or_refuse (BadActions n) (steps_of_actions e.actions)) λ steps. results.◌>>=◌ (or_refuse (BadAddress n) (relative_address e.module_address e.address)) λ relative. Ok (change_of e steps)
 
 from_few : (n : ℕ) (e : Option Element) → from_element n (option_map with_few e) ≡ from_element n e
 from_few n None = refl

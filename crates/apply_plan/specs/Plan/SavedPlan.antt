@@ -12,7 +12,7 @@ use Rattle.apply_plan.specs.Plan.Address.{relative_address}
 use Rattle.apply_plan.specs.Plan.Element.{Element, element_of}
 use Rattle.apply_plan.specs.Plan.Header.{header_of}
 use Rattle.apply_plan.specs.Plan.ResourceChange.{ResourceChange}
-use Rattle.apply_plan.specs.Plan.Steps.{steps_of}
+use Rattle.apply_plan.specs.Plan.Steps.{steps_of_actions}
 use Rattle.apply_plan.specs.Results.{◌>>=◌, all_or_first, each_with_earlier, or_refuse}
 use Rattle.apply_plan.specs.Json.{list_of}
 use Rattle.apply_plan.specs.Json.Reading.{of_bytes}
@@ -43,7 +43,7 @@ change_of e steps = record {
 unfoldable pub planned_at : ℕ → Data → Result ResourceChange PlanError
 planned_at n d = do
   e ← or_refuse (BadChange n) (element_of d)
-  steps ← or_refuse (BadActions n) (steps_of e.actions)
+  steps ← or_refuse (BadActions n) (steps_of_actions e.actions)
   relative ← or_refuse (BadAddress n) (relative_address e.module_address e.address)
   Ok (change_of e steps)
 

@@ -23,8 +23,8 @@ steps_together first second =
     else None
 
 -- the steps of an action list; none where it is not one of the seven
-abbrev pub steps_of : Items → Option (List StepKind)
-steps_of no_items = None
-steps_of (item action no_items) = steps_alone action
-steps_of (item first (item second no_items)) = steps_together first second
-steps_of (item first (item second (item third others))) = None
+abbrev pub steps_of_actions : Items → Option (List StepKind)
+steps_of_actions no_items = None
+steps_of_actions (item action no_items) = steps_alone action
+steps_of_actions (item first (item second no_items)) = steps_together first second
+steps_of_actions (item first (item second (item third others))) = None

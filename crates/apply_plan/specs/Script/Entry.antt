@@ -14,8 +14,8 @@ pub record Entry : Type 0 where
   pub steps : List Outcome
 
 -- a diagnostic: a summary, and a detail that may be absent, which is then empty
-abbrev pub diag_of : Data → Option Diag
-diag_of d = do
+abbrev pub diag_from : Data → Option Diag
+diag_from d = do
   summary ← text_of (codes "summary") d
   detail ← text_or [] (member_of (codes "detail") d)
   Some (record { summary = summary; detail = detail })
@@ -23,27 +23,27 @@ diag_of d = do
 -- a diagnostic that may be absent
 abbrev pub diag_or_none : Option Data → Option (Option Diag)
 diag_or_none None = Some None
-diag_or_none (Some d) = option_map Some (diag_of d)
+diag_or_none (Some d) = option_map Some (diag_from d)
 
 -- the seconds: a whole number that fits 64 bits
 abbrev pub seconds_of : Data → Option ℕ
 seconds_of d = member_of (codes "seconds") d >>= as_number >>= as_u64
 
 -- how a step ends, by its id, its warning and its failure; a step that failed has neither of the others
-abbrev pub ending_of : (id : Option (List ℕ)) → (warning failed : Option Diag) → Option Ending
-ending_of id warning None = Some (Done id warning)
-ending_of None None (Some diag) = Some (Failed diag)
-ending_of None (Some warning) (Some diag) = None
-ending_of (Some id) warning (Some diag) = None
+abbrev pub ending_from : (id : Option (List ℕ)) → (warning failed : Option Diag) → Option Ending
+ending_from id warning None = Some (Done id warning)
+ending_from None None (Some diag) = Some (Failed diag)
+ending_from None (Some warning) (Some diag) = None
+ending_from (Some id) warning (Some diag) = None
 
 -- a step
-unfoldable pub step_of : Data → Option Outcome
-step_of d = do
+unfoldable pub step_from : Data → Option Outcome
+step_from d = do
   seconds ← seconds_of d
   id ← text_or [] (member_of (codes "id") d)
   warning ← diag_or_none (member_of (codes "warning") d)
   failed ← diag_or_none (member_of (codes "failed") d)
-  result ← ending_of (unless_empty id) warning failed
+  result ← ending_from (unless_empty id) warning failed
   Some (record { seconds = seconds; result = result })
 
 -- all values, where each is there
@@ -61,5 +61,5 @@ entry_of d = do
   deposed ← text_or [] (member_of (codes "deposed") d)
   list ← member_of (codes "steps") d
   items ← as_array list
-  steps ← all_some (map step_of (list_of items))
+  steps ← all_some (map step_from (list_of items))
   Some (record { address = address; deposed = unless_empty deposed; steps = steps })

@@ -3,7 +3,7 @@
 ghost use Rattle.std.specs.Prelude.{◌≡◌, option_map};
 ghost use Rattle.serde_json.specs.View.{view, items_view};
 ghost use Rattle.apply_plan.specs.Plan.Action.{steps_of_action};
-ghost use Rattle.apply_plan.specs.Plan.Steps.{steps_alone, steps_of, steps_together};
+ghost use Rattle.apply_plan.specs.Plan.Steps.{steps_alone, steps_of_actions, steps_together};
 
 use crate::plan::step_kind::StepKind;
 use crate::tree::members::is_text;
@@ -39,7 +39,7 @@ impl Action {
 
     /// The action that a list of actions means. `None` where the list is not one of the seven.
     pub fn of(actions: &[Value]) -> Option<Action>
-        ensures { option_map steps_of_action result ≡ steps_of (items_view actions.now) }
+        ensures { option_map steps_of_action result ≡ steps_of_actions (items_view actions.now) }
     {
         match actions {
             [action] => Action::alone(action),

@@ -7,7 +7,7 @@ ghost use Rattle.apply_plan.specs.Json.{list_of, max_bytes};
 ghost use Rattle.apply_plan.specs.Results.{Gives};
 ghost use Rattle.apply_plan.specs.Plan.SeenObjects.{is_of};
 ghost use Rattle.apply_plan.specs.Script.ChangeNumbers.{number_of};
-ghost use Rattle.apply_plan.specs.Script.OneByOne.{entry_beside};
+ghost use Rattle.apply_plan.specs.Script.NextEntry.{entry_beside};
 ghost use Rattle.apply_plan.specs.Script.Outcome.{is_too_long};
 ghost use Rattle.apply_plan.specs.Script.Outcomes.{by_number, elements_of, script_of, script_of_entries, script_of_tree};
 ghost use Rattle.apply_plan.specs.Script.TreeView.{step_view};

@@ -2,7 +2,7 @@
 
 ghost use Rattle.std.specs.Prelude.{◌≡◌, option_map};
 ghost use Rattle.serde_json.specs.View.{view};
-ghost use Rattle.apply_plan.specs.Script.Entry.{diag_of, diag_or_none};
+ghost use Rattle.apply_plan.specs.Script.Entry.{diag_from, diag_or_none};
 ghost use Rattle.apply_plan.specs.Script.TreeView.{diag_view};
 
 use crate::tree::members::{text_member, text_member_or};
@@ -18,7 +18,7 @@ pub struct TreeDiag<'a> {
 impl<'a> TreeDiag<'a> {
     /// The diagnostic that the value is. `None` where one of its members breaks its rule.
     pub fn of(value: &'a Value) -> Option<TreeDiag<'a>>
-        ensures { option_map diag_view result ≡ diag_of (view value.now) }
+        ensures { option_map diag_view result ≡ diag_from (view value.now) }
     {
         Some(TreeDiag {
             summary: text_member(value, "summary")?,

@@ -2,7 +2,7 @@
 
 ghost use Rattle.std.specs.Prelude.{◌≡◌, option_map};
 ghost use Rattle.std.specs.Option.{option_copied};
-ghost use Rattle.apply_plan.specs.Script.Entry.{ending_of};
+ghost use Rattle.apply_plan.specs.Script.Entry.{ending_from};
 ghost use Rattle.apply_plan.specs.Script.TreeView.{diag_view, ending_view};
 
 use crate::script::tree_diag::TreeDiag;
@@ -26,7 +26,7 @@ impl<'a> TreeEnding<'a> {
         warning: Option<TreeDiag<'a>>,
         failed: Option<TreeDiag<'a>>,
     ) -> Option<TreeEnding<'a>>
-        ensures { option_map ending_view result ≡ ending_of (option_copied id.entry)
+        ensures { option_map ending_view result ≡ ending_from (option_copied id.entry)
             (option_map diag_view warning.entry) (option_map diag_view failed.entry) }
     {
         match failed {

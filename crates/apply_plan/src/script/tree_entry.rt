@@ -3,7 +3,7 @@
 ghost use Rattle.std.specs.Prelude.{◌≡◌, IfOk, map, option_map};
 ghost use Rattle.serde_json.specs.View.{view, items_view};
 ghost use Rattle.apply_plan.specs.Json.{list_of};
-ghost use Rattle.apply_plan.specs.Script.Entry.{all_some, entry_of, step_of};
+ghost use Rattle.apply_plan.specs.Script.Entry.{all_some, entry_of, step_from};
 ghost use Rattle.apply_plan.specs.Script.TreeView.{entry_view, members_of, members_view, step_view};
 
 use crate::script::tree_step::TreeStep;
@@ -52,7 +52,7 @@ fn members(value: &Value) -> Option<(&str, Option<&str>, &[Value])>
 /// The steps that the values are. `None` where one is none.
 fn steps(alloc: Global, values: &[Value]) -> Result<Option<Vec<TreeStep<'_>>>, AllocError>
     ensures { IfOk result (λ found. option_map (λ steps. map step_view steps.items) found
-        ≡ all_some (map step_of (list_of (items_view values.now)))) }
+        ≡ all_some (map step_from (list_of (items_view values.now)))) }
 {
     let mut steps = Vec::with_capacity(alloc, values.len())?;
     for value in values {

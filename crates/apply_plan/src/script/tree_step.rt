@@ -2,7 +2,7 @@
 
 ghost use Rattle.std.specs.Prelude.{◌≡◌, option_map};
 ghost use Rattle.serde_json.specs.View.{view};
-ghost use Rattle.apply_plan.specs.Script.Entry.{seconds_of, step_of};
+ghost use Rattle.apply_plan.specs.Script.Entry.{seconds_of, step_from};
 ghost use Rattle.apply_plan.specs.Script.Outcome.{is_too_long};
 ghost use Rattle.apply_plan.specs.Script.TreeView.{step_view};
 
@@ -22,9 +22,9 @@ pub struct TreeStep<'a> {
 
 impl<'a> TreeStep<'a> {
     /// The step that the value is. `None` where one of its members breaks its rule.
-    #[tactic(auto, unfolding(crate::specs::Script::Entry::step_of))]
+    #[tactic(auto, unfolding(crate::specs::Script::Entry::step_from))]
     pub fn of(value: &'a Value) -> Option<TreeStep<'a>>
-        ensures { option_map step_view result ≡ step_of (view value.now) }
+        ensures { option_map step_view result ≡ step_from (view value.now) }
     {
         let seconds = seconds(value)?;
         let id = text_member_or(value, "id", "")?;

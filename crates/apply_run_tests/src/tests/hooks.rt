@@ -1,7 +1,7 @@
 //! Hooks that halt steps.
 
 use super::*;
-use apply_hooks::{Answer, FnHook, HookCall, Phase, Rules, Verdict};
+use apply_hooks::{HookClosure, FnHook, HookCall, Phase, Rules, Verdict};
 use apply_plan::StepKind;
 
 /// A replacement that destroys first.
@@ -36,11 +36,11 @@ pub(super) const HALTED_CREATE: &str =
 fn hooks_halt(rt: HostRuntime) -> Result<(), Fail> {
     let alloc = rt.alloc();
     let mut registry = Registry::new(alloc);
-    let answer: Answer = Box::new(alloc, |_call: &HookCall<'_>| Verdict::Continue)?;
+    let answer: HookClosure = Box::new(alloc, |_call: &HookCall<'_>| Verdict::Continue)?;
     assert!(rt; registry.add(FnHook::new(Rules::new(alloc), answer)).is_ok());
     for _ in 1..3 {
         let rules = Rules::halting(alloc, Some(Phase::Pre), Some(StepKind::Delete), "")?;
-        let answer: Answer = Box::new(alloc, |call: &HookCall<'_>| {
+        let answer: HookClosure = Box::new(alloc, |call: &HookCall<'_>| {
             if call.phase == Phase::Pre && call.kind == StepKind::Delete {
                 Verdict::Halt
             } else {
@@ -68,7 +68,7 @@ fn halted_steps_pass_the_gate(rt: HostRuntime) -> Result<(), Fail> {
     let alloc = rt.alloc();
     let mut registry = Registry::new(alloc);
     let rules = Rules::halting(alloc, Some(Phase::Pre), Some(StepKind::Delete), "")?;
-    let answer: Answer = Box::new(alloc, |call: &HookCall<'_>| {
+    let answer: HookClosure = Box::new(alloc, |call: &HookCall<'_>| {
         if call.phase == Phase::Pre && call.kind == StepKind::Delete {
             Verdict::Halt
         } else {
@@ -85,7 +85,7 @@ fn hooks_halt_what_has_failed(rt: HostRuntime) -> Result<(), Fail> {
     let alloc = rt.alloc();
     let mut registry = Registry::new(alloc);
     let rules = Rules::halting(alloc, Some(Phase::PostFailed), None, "")?;
-    let answer: Answer = Box::new(alloc, |call: &HookCall<'_>| {
+    let answer: HookClosure = Box::new(alloc, |call: &HookCall<'_>| {
         if call.phase == Phase::PostFailed {
             Verdict::Halt
         } else {

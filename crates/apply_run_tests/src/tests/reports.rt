@@ -2,7 +2,7 @@
 
 use super::hooks::{CREATE, FAILS, HALTED_CREATE, HALTED_REPLACEMENT, REPLACEMENT};
 use super::*;
-use apply_hooks::{Answer, FnHook, HookCall, Phase, Rules, Verdict};
+use apply_hooks::{HookClosure, FnHook, HookCall, Phase, Rules, Verdict};
 
 /// What was done and written of a whole stream.
 fn whole(counts: Counts, taken: u64, written: usize) -> Result<Report, Refusal> {
@@ -82,10 +82,10 @@ fn halted(failed: u64) -> Counts {
 fn report_of_a_halt(rt: HostRuntime) -> Result<(), Fail> {
     let alloc = rt.alloc();
     let mut registry = Registry::new(alloc);
-    let answer: Answer = Box::new(alloc, |_call: &HookCall<'_>| Verdict::Continue)?;
+    let answer: HookClosure = Box::new(alloc, |_call: &HookCall<'_>| Verdict::Continue)?;
     assert!(rt; registry.add(FnHook::new(Rules::new(alloc), answer)).is_ok());
     let rules = Rules::halting(alloc, Some(Phase::Pre), None, "")?;
-    let answer: Answer = Box::new(alloc, |call: &HookCall<'_>| {
+    let answer: HookClosure = Box::new(alloc, |call: &HookCall<'_>| {
         if call.phase == Phase::Pre {
             Verdict::Halt
         } else {
@@ -105,7 +105,7 @@ fn report_of_a_halt_of_what_has_failed(rt: HostRuntime) -> Result<(), Fail> {
     let alloc = rt.alloc();
     let mut registry = Registry::new(alloc);
     let rules = Rules::halting(alloc, Some(Phase::PostFailed), None, "")?;
-    let answer: Answer = Box::new(alloc, |call: &HookCall<'_>| {
+    let answer: HookClosure = Box::new(alloc, |call: &HookCall<'_>| {
         if call.phase == Phase::PostFailed {
             Verdict::Halt
         } else {

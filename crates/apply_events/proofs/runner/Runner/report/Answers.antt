@@ -10,10 +10,10 @@ returns-then-saturating_sub-self-clause-next g c =
 
 pub returns-then-has_note-clause-next : goal.returns-then-has_note-clause-next
 returns-then-has_note-clause-next g c =
-    rw (c.event-event-else-saturating_sub-self.ensures, c.end.ensures, c.brief-brief.ensures.fails, c.brief-brief.ensures.seconds)
+    rw (c.event-event-else-saturating_sub-self.ensures, c.end.ensures, c.facts-facts.ensures.fails, c.facts-facts.ensures.seconds)
     (running_notes c.args.self.now.worker (step_at_hand c.args.self.now c.args.kind) (rest_of c.args.self.now) (left_of c.args.self.now) c.args.self.now.at c.args.self.now.told c.args.self.now.stage c.requires.step c.requires.stage c.args.self.now.on_ten (omega arith) (cc))
 
 pub returns-else-has_note-clause-next : goal.returns-else-has_note-clause-next
 returns-else-has_note-clause-next g c =
-    rw (c.event-event-else-saturating_sub-self.ensures, c.end.ensures, c.brief-brief.ensures.fails, c.brief-brief.ensures.seconds, c.finish.ensures.next)
+    rw (c.event-event-else-saturating_sub-self.ensures, c.end.ensures, c.facts-facts.ensures.fails, c.facts-facts.ensures.seconds, c.finish.ensures.next)
     (running_ends c.args.self.now.worker (step_at_hand c.args.self.now c.args.kind) (rest_of c.args.self.now) (left_of c.args.self.now) c.args.self.now.at c.args.self.now.told c.args.self.now.stage c.requires.step c.requires.stage c.args.self.now.on_ten (omega arith) (cc))

@@ -2,8 +2,8 @@ use Rattle.std.proofs.Common.{[], ◌∷◌, arith, rules}
 use Rattle.std.proofs.lemmas.List.{length-append}
 use Rattle.std.proofs.lemmas.Result.{err_from_is_err_and}
 use Rattle.serde_json.specs.View.{view, items_view}
-use Rattle.apply_plan.specs.Plan.OneByOne.{change_after}
-use Rattle.apply_plan.proofs.OneByOne.{goes_on, is_done, refused}
+use Rattle.apply_plan.specs.Plan.NextChange.{change_after}
+use Rattle.apply_plan.proofs.ListReading.{goes_on, is_done, refused}
 use Rattle.apply_plan.proofs.Plans.Seen.{HaveBeenSeen-push, was_named, was_not_named}
 use Rattle.apply_plan.proofs.Plans.WholeList.{changes_one_by_one, faulty, is_new, repeats}
 use Rattle.apply_plan.proofs.plan.reading.changes_of.Goals as goal

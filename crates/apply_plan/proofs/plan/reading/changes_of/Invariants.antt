@@ -1,8 +1,8 @@
 use Rattle.std.proofs.Common.{◌≡◌, drop, length}
 use Rattle.serde_json.specs.View.{items_view}
 use Rattle.apply_plan.specs.Json.{list_of}
-use Rattle.apply_plan.specs.OneByOne.{made_after}
-use Rattle.apply_plan.specs.Plan.OneByOne.{change_after}
+use Rattle.apply_plan.specs.ListReading.{made_after}
+use Rattle.apply_plan.specs.Plan.NextChange.{change_after}
 use Rattle.apply_plan.specs.Plan.SavedPlan.{changes_of}
 use Rattle.apply_plan.proofs.Plans.Seen.{HaveBeenSeen}
 use Rattle.apply_plan.proofs.plan.reading.changes_of.Given as goal

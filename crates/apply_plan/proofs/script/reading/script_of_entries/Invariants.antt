@@ -2,9 +2,9 @@ use Rattle.std.proofs.Common.{◌≡◌, ℕ, List, drop}
 use Rattle.serde_json.specs.View.{items_view}
 use Rattle.apply_plan.specs.declared.script.outcome.Outcome.{Outcome}
 use Rattle.apply_plan.specs.Json.{list_of}
-use Rattle.apply_plan.specs.OneByOne.{made_after}
+use Rattle.apply_plan.specs.ListReading.{made_after}
 use Rattle.apply_plan.specs.Results.{all_or_first, each_with_earlier}
-use Rattle.apply_plan.specs.Script.OneByOne.{entry_after}
+use Rattle.apply_plan.specs.Script.NextEntry.{entry_after}
 use Rattle.apply_plan.specs.Script.Outcomes.{entry_at}
 use Rattle.apply_plan.proofs.Scripts.WholeList.{HasSaid}
 use Rattle.apply_plan.proofs.script.reading.script_of_entries.Given as goal

@@ -13,7 +13,7 @@ use apply_plan::{Ending, Script};
 
 /// What the events of a step take from its outcome, without its texts.
 #[derive(Clone, Copy, Debug)]
-pub struct Brief {
+pub struct StepFacts {
     /// How long the step takes, in seconds.
     pub seconds: u32,
     /// Whether it fails.
@@ -22,21 +22,21 @@ pub struct Brief {
     pub warns: bool,
 }
 
-impl Brief {
+impl StepFacts {
     /// What the script says of a step of a change; done after 0 seconds where it says nothing.
-    pub fn new(script: &Script, change: u32, step: u8) -> Brief
+    pub fn new(script: &Script, change: u32, step: u8) -> StepFacts
         ensures seconds { result.seconds ≡ (outcome_of script.now change step).seconds }
         ensures fails { result.fails ≡ is_failed (outcome_of script.now change step).result }
         ensures warns { result.warns ≡ has_warning (outcome_of script.now change step).result }
         ensures few { result.seconds ≤ max_seconds }
     {
         match script.outcome(change, step) {
-            Some(outcome) => Brief {
+            Some(outcome) => StepFacts {
                 seconds: outcome.seconds,
                 fails: fails(&outcome.result),
                 warns: warns(&outcome.result),
             },
-            None => Brief {
+            None => StepFacts {
                 seconds: 0,
                 fails: false,
                 warns: false,

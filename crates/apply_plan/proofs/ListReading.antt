@@ -5,7 +5,7 @@ use Rattle.std.proofs.lemmas.List.{nil_from_length}
 use Rattle.serde_json.specs.Data.{Data, item}
 use Rattle.serde_json.specs.View.{view, items_view}
 use Rattle.serde_json.specs.declared.value.Value.{Value}
-use Rattle.apply_plan.specs.OneByOne.{made_after}
+use Rattle.apply_plan.specs.ListReading.{made_after}
 
 -- what is left begins with the element at hand
 next_is : (values : List Value) (n : ℕ) (value : Value) → n < length values → value ≡ get_or values n value
