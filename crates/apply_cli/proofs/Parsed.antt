@@ -1,5 +1,5 @@
 -- From the words to what the matches say, and to why they are refused.
-use Rattle.std.proofs.Common.{◌≡◌, ◌∙◌, ◌<◌, List, [], ◌∷◌, Result, Ok, Err, true, ap, arith, inl, inr, length, refl, subst, sym}
+use Rattle.std.proofs.Common.{◌≡◌, ◌∙◌, ◌<◌, ℕ, Bool, List, [], ◌∷◌, Option, Result, Ok, Err, true, ap, arith, inl, inr, length, refl, subst, sym}
 use Rattle.std.proofs.lemmas.Result.{IfErr-weaker, IfOk-weaker}
 use Rattle.std.specs.Prelude.{IfErr, IfOk}
 use Rattle.clap.specs.Faults.{fault_of, is_simple_and_free}
@@ -16,6 +16,7 @@ use Rattle.clap.specs.declared.error.kind.ErrorKind.TheVariants.{DisplayHelp, Ou
 use Rattle.clap.specs.declared.parser.matches.ArgMatches.{ArgMatches}
 use Rattle.clap.proofs.OnLiterals.{clap_on_literals}
 use Rattle.apply_cli.specs.CommandLine.{Answers, AreSaid, HaveSaid, IsOneOf, IsSaidWrong, WereRefused, command_line, kind_words}
+use Rattle.apply_cli.specs.Invocation.{HaveInvoked, IsSaid, invocation_line}
 use Rattle.apply_cli.specs.declared.settings.Settings.{Settings}
 use Rattle.apply_cli.specs.declared.usage.Usage.{Usage}
 use Rattle.apply_cli.specs.declared.usage.Usage.TheVariants as usage
@@ -46,6 +47,26 @@ rows_are : (command : Command) (kinds : ValueParser) (words : List Text) (matche
     → rows_of (found_of matches) ≡ matches_of (command_line kinds) words
 rows_are command kinds words matches line has =
     (has (ap is_simple line ∙ line_is_simple kinds)).0 ∙ ap (λ (app : App). matches_of app words) line
+
+invocation_is_simple : (kinds : ValueParser) (free : Bool) → is_simple (invocation_line kinds free) ≡ true
+unfolding clap_on_literals
+invocation_is_simple kinds free = refl
+
+-- what the matches of an invocation say, its words say
+pub have_invoked : (command : Command) (kinds : ValueParser) (free : Bool) (words : List Text) (matches : ArgMatches) (settings : Settings) (parallelism : Option ℕ)
+    → IsOneOf kind_words kinds → app_of command ≡ invocation_line kinds free → HasMatchesOf (app_of command) words matches
+    → AreSaid (rows_of (found_of matches)) settings → IsSaid (rows_of (found_of matches)) parallelism
+    → HaveInvoked words (record { settings = settings; parallelism = parallelism })
+have_invoked command kinds free words matches settings parallelism are line has said invoked =
+    let rows : rows_of (found_of matches) ≡ matches_of (invocation_line kinds free) words =
+    (has (ap is_simple line ∙ invocation_is_simple kinds free)).0 ∙ ap (λ (app : App). matches_of app words) line in
+    record {
+      kinds = kinds;
+      are_kinds = are;
+      free = free;
+      settings = subst (λ (r : List Row). AreSaid r settings) rows said;
+      parallelism = subst (λ (r : List Row). IsSaid r parallelism) rows invoked;
+    }
 
 -- settings that the matches say are those that the words say
 pub have_said : (command : Command) (kinds : ValueParser) (words : List Text) (parse : Result ArgMatches Error) (matches : ArgMatches) (settings : Result Settings Usage)
