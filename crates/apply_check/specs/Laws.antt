@@ -36,8 +36,9 @@ tells test a k (summary totals) = false
 tells test a k (diagnostic e b) = false
 tells test a k other = false
 
--- At each moment no create, update or delete of an object has ended more often than it has started, and in the end as often. The
--- latest message is the first of the list, so that what stands behind its first n is what was told up to some moment.
+-- At each moment no create, update or delete of an object has ended more often than it has started, and in the end as
+-- often. The latest message is the first of the list, so that what stands behind its first n is what was told up to
+-- some moment.
 pub record EachEnds (messages : List Message) : Type 0 where
   pub in_order : (n : ℕ) (a : List ℕ) (k : Action) → k ≢ Read → count_by (tells is_end a k) (drop n messages) ≤ count_by (tells is_start a k) (drop n messages)
   pub at_last : (a : List ℕ) (k : Action) → k ≢ Read → count_by (tells is_start a k) messages ≡ count_by (tells is_end a k) messages
@@ -66,7 +67,8 @@ says_in p (Err fault) = false
 abbrev pub says : (Message → Bool) → List ℕ → Bool
 says p text = says_in p (message_of text)
 
--- its lines are messages in which each step ends as often as it starts, the totals are what they complete, a summary says the same, and there is a summary or an error
+-- its lines are messages in which each step ends as often as it starts, the totals are what they complete, a summary
+-- says the same, and there is a summary or an error
 pub record IsWhole (texts : List (List ℕ)) (whole : Whole) (messages : List Message) : Type 0 where
   pub lines : Say [] messages texts
   pub steps : EachEnds messages

@@ -51,7 +51,8 @@ abbrev pub IsFaultSaid : Form → (before after : Option (List ℕ)) → Type 0
 IsFaultSaid form.Text before after = Keeps before after
 IsFaultSaid form.Json before after = Keeps before after ⊎ ((object : List ℕ) × Appends before after (object ++ 10 ∷ []))
 
--- the answer is said on the output, and the status is its; or it is 3, since the output could not be written or memory was refused
+-- the answer is said on the output, and the status is its; or it is 3, since the output could not be written or
+-- memory was refused
 abbrev pub IsTold : Form → Result Whole ReadFault → (status : ℕ) → (before after : Option (List ℕ)) → Type 0
 IsTold form (Ok whole) status before after = (status ≡ 3) ⊎ ((status ≡ whole_status_of whole) × IsWholeSaid form whole before after)
 IsTold form (Err fault) status before after = (status ≡ 3) ⊎ ((status ≡ fault_status_of fault) × IsFaultSaid form before after)

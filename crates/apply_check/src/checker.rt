@@ -70,7 +70,8 @@ impl Checker {
         }
     }
 
-    /// Takes the next line, without its line feed. An `Err` says its first fault, and the checker stands where it stood.
+    /// Takes the next line, without its line feed. An `Err` says its first fault, and the checker stands where it
+    /// stood.
     pub fn line(&mut self, alloc: Global, text: &[u8]) -> Result<(), Fault>
         requires { lines_read self.old < 2 ^ 32 }
         ensures { Continues self.old self.new (λ messages. read_line messages text.now) result }

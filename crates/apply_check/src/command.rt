@@ -37,8 +37,8 @@ const FAILED: u8 = 3;
 /// How many bytes are asked for at once.
 const BUFFER_LEN: usize = 65_536;
 
-/// Does what the words behind `check` say, and answers the exit status, as `check_command` does. It is 0 where help was asked
-/// for, and 2 where the words are none of the command or the file could not be opened.
+/// Does what the words behind `check` say, and answers the exit status, as `check_command` does. It is 0 where help
+/// was asked for, and 2 where the words are none of the command or the file could not be opened.
 pub fn follow<F: Files, R: Read + Drop, W: Write, E: Write>(
     files: &F,
     alloc: Global,
@@ -81,13 +81,13 @@ pub fn check_input<R: Read + Drop, W: Write, E: Write>(
     }
 }
 
-/// Checks the stream that the reader gives, says the verdict, and answers the exit status. A stream that is not whole is read
-/// no further than the first line that shows it.
+/// Checks the stream that the reader gives, says the verdict, and answers the exit status. A stream that is not whole
+/// is read no further than the first line that shows it.
 ///
-/// The status is 0 where the stream is whole and tells of no error, and 1 where it is whole and tells of an error: what was
-/// done is said on `out` then. It is 2 where the stream is not whole, which is said on `out` as an object or on `faults` as a
-/// text, and where it has too many lines or could not be read, which is said on `faults`. It is 3 where memory was refused or
-/// `out` could not be written. A text for `faults` that cannot be written is dropped.
+/// The status is 0 where the stream is whole and tells of no error, and 1 where it is whole and tells of an error:
+/// what was done is said on `out` then. It is 2 where the stream is not whole, which is said on `out` as an object or
+/// on `faults` as a text, and where it has too many lines or could not be read, which is said on `faults`. It is 3
+/// where memory was refused or `out` could not be written. A text for `faults` that cannot be written is dropped.
 pub fn check_command<R: BufRead, W: Write, E: Write>(
     alloc: Global,
     form: Form,
@@ -199,8 +199,8 @@ fn refuse<E: Write>(faults: &mut E, fault: ReadFault) -> u8
     }
 }
 
-/// Says why the words are not followed, and answers the exit status: 0 for help, which is printed on `out`, 3 where memory was
-/// refused, else 2.
+/// Says why the words are not followed, and answers the exit status: 0 for help, which is printed on `out`, 3 where
+/// memory was refused, else 2.
 pub fn answer_usage<W: Write, E: Write>(usage: &Usage, out: &mut W, faults: &mut E) -> u8
     ensures status { result ≡ usage_status_of usage.now }
     ensures quiet { result ≡ 0 → Keeps (E.contents faults.old) (E.contents faults.new) }

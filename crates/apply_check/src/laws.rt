@@ -10,8 +10,8 @@ ghost use Rattle.apply_check.specs.declared.action.Action.TheVariants.{Read};
 ghost use Rattle.apply_check.specs.declared.what.What.{What};
 ghost use Rattle.apply_check.specs.declared.whole.Whole.{Whole};
 
-/// In an accepted stream each create, update and delete of an object ends as often as it starts, and never before it starts; the totals
-/// are how many of them were completed, and a summary says the same.
+/// In an accepted stream each create, update and delete of an object ends as often as it starts, and never before it
+/// starts; the totals are how many of them were completed, and a summary says the same.
 pub fn each_step_ends_once()
     ensures { (texts : List (List ℕ)) (whole : Whole) → verdict_of texts ≡ Ok whole
         → (messages : List Message) × IsWhole texts whole messages }
@@ -23,8 +23,8 @@ pub fn a_stream_without_errors_is_summed_up()
         → (messages : List Message) × Say [] messages texts × (list_any is_summary messages ≡ true) }
 {}
 
-/// A line that starts or ends a create, an update or a delete can't be put into an accepted stream, or taken from it, so that
-/// it is still accepted; such a line that stands twice is found, wherever it stands.
+/// A line that starts or ends a create, an update or a delete can't be put into an accepted stream, or taken from it,
+/// so that it is still accepted; such a line that stands twice is found, wherever it stands.
 pub fn no_start_or_end_is_one_too_many()
     ensures { (front back : List (List ℕ)) (line : List ℕ) (address : List ℕ) (action : Action) (what : What)
         → message_of line ≡ Ok (step address action what) → action ≢ Read → (is_start what || is_end what) ≡ true

@@ -1,4 +1,5 @@
-//! Whether a stream of the Machine-Readable UI is whole: each event of a step once, in its order, and totals that agree.
+//! Whether a stream of the Machine-Readable UI is whole: each event of a step once, in its order, and totals that
+//! agree.
 #![tactic(auto)]
 
 mod action;

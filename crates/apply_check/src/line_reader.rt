@@ -1,4 +1,5 @@
-//! Reading a stream line by line, with no more of a line in memory than a line may have and what the reader shows at once.
+//! Reading a stream line by line, with no more of a line in memory than a line may have and what the reader shows at
+//! once.
 
 ghost use Rattle.std.specs.Prelude.{◌≡◌, ◌≢◌, ◌<◌, ◌≤◌, ◌++◌, ℕ, List, All, Some, IfErr, IfOk, IfSome, length, take, slice_get};
 ghost use Rattle.apply_check.specs.Reading.{Gives, IsNoAnswer, Shows};

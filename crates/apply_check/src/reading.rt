@@ -17,11 +17,12 @@ use crate::whole::Whole;
 use std::alloc::Global;
 use std::io::BufRead;
 
-/// Checks the stream that the reader gives, line by line; a line feed ends each line but for the last, which may have none. A
-/// stream that is not whole is read no further than the first line that shows it.
+/// Checks the stream that the reader gives, line by line; a line feed ends each line but for the last, which may have
+/// none. A stream that is not whole is read no further than the first line that shows it.
 ///
-/// `Err` with `ReadFault::Found` where it is not whole, else with `ReadFault::TooMany` where it has more than 4,294,967,296
-/// lines, with `ReadFault::Unread` where a read fails, and with `ReadFault::Memory` where memory is refused.
+/// `Err` with `ReadFault::Found` where it is not whole, else with `ReadFault::TooMany` where it has more than
+/// 4,294,967,296 lines, with `ReadFault::Unread` where a read fails, and with `ReadFault::Memory` where memory is
+/// refused.
 pub fn check<R: BufRead>(alloc: Global, reader: &mut R) -> Result<Whole, ReadFault>
     ensures { IfSome (R.remaining reader.old) (λ bytes. IsAnswer (lines_of bytes) result) }
 {

@@ -27,8 +27,8 @@ Exit status:
   2  the stream is not whole or could not be read, or the words were refused
   3  memory was refused, or the output could not be written"#;
 
-/// The settings that the words behind `check` say. `Err` with `Usage::Help` where they ask for help, with `Usage::Words` where
-/// they are none of this command, and with `Usage::Memory` where memory is refused.
+/// The settings that the words behind `check` say. `Err` with `Usage::Help` where they ask for help, with
+/// `Usage::Words` where they are none of this command, and with `Usage::Memory` where memory is refused.
 pub fn read_words(alloc: Global, words: &[String]) -> Result<Settings, Usage> {
     let command = command(alloc)?;
     match command.try_get_matches_from(words) {

@@ -1,5 +1,5 @@
-//! What no clause says: that the definition is the one that was meant, the texts of faults, readers and writers that fail, and
-//! that calls succeed with ample memory.
+//! What no clause says: that the definition is the one that was meant, the texts of faults, readers and writers that
+//! fail, and that calls succeed with ample memory.
 
 mod commands;
 mod limits;
