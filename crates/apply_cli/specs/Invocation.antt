@@ -42,11 +42,11 @@ pub record HaveInvoked (words : List Text) (invocation : Invocation) : Type 0 wh
   pub parallelism : IsSaid (matches_of (invocation_line kinds free) words) invocation.parallelism
 
 -- what was given was applied: in lanes, where that is asked for, and else by workers
-abbrev pub WasApplied : Given → Settings → (parallelism : Option ℕ) → (before after : Sight) → (status : ℕ) → Type 0
+unfoldable pub WasApplied : Given → Settings → (parallelism : Option ℕ) → (before after : Sight) → (status : ℕ) → Type 0
 WasApplied given settings None before after status = HasApplied given (options_of settings) before after status
 WasApplied given settings (Some lanes) before after status = HasAppliedInLanes given lanes settings.at settings.operation before after status
 
 -- the output has a front of the stream
-abbrev pub WasBegun : Given → Settings → (parallelism : Option ℕ) → (before after : Option (List ℕ)) → Type 0
+unfoldable pub WasBegun : Given → Settings → (parallelism : Option ℕ) → (before after : Option (List ℕ)) → Type 0
 WasBegun given settings None before after = HasBegun given (options_of settings) before after
 WasBegun given settings (Some lanes) before after = HasBegunInLanes given lanes settings.at settings.operation before after

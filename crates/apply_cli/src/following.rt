@@ -2,6 +2,7 @@
 
 ghost use Rattle.std.specs.Prelude.{◌≡◌, ◌<◌, ◌≤◌, ◌-◌, ◌^◌, ◌⊎◌, is_some, IfOk};
 ghost use Rattle.std.specs.Io.KnownBytes.{Keeps};
+ghost use Rattle.std.specs.Option.{option_copied};
 ghost use Rattle.apply_hooks.specs.Registry.{rules_of};
 ghost use Rattle.apply_cli.specs.Command.{HasApplied, HasBegun, OfFile, OfInput, sight_of};
 ghost use Rattle.apply_cli.specs.Halt.{hooks_of_halts, rules_of_halt};
@@ -213,13 +214,50 @@ fn run_with_hooks<F: Files, R: Read + Drop, W: Write + Drop, E: Write, T: Thread
             return (output, status);
         }
     };
+    run_script(
+        rt,
+        alloc,
+        settings,
+        parallelism,
+        registry,
+        script.as_deref(),
+        input,
+        output,
+        faults,
+    )
+}
+
+/// Runs the command: in lanes, where a parallelism is asked for, and else by workers.
+fn run_script<R: Read + Drop, W: Write + Drop, E: Write, T: Threads + Wait + Sync>(
+    rt: &T,
+    alloc: Global,
+    settings: &Settings,
+    parallelism: Option<u8>,
+    registry: &Registry,
+    script: Option<&[u8]>,
+    input: R,
+    output: StdSink<W>,
+    faults: &mut E,
+) -> (StdSink<W>, u8)
+    requires { output.failures < 2 ^ 64 - 1 }
+    ensures applied { result.1 ≤ 1 → OfInput (R.remaining input) (λ plan.
+        WasApplied (record { plan = plan; script = option_copied script.entry; hooks = rules_of registry.now })
+        settings.now parallelism (sight_of W.contents output) (sight_of W.contents result.0) result.1) }
+    ensures refused { result.1 ≡ 2 → Keeps (W.contents output.writer) (W.contents result.0.writer) }
+    ensures cut_off { result.1 ≡ 3 → Keeps (W.contents output.writer) (W.contents result.0.writer)
+        ⊎ OfInput (R.remaining input) (λ plan.
+        WasBegun (record { plan = plan; script = option_copied script.entry; hooks = rules_of registry.now })
+        settings.now parallelism (W.contents output.writer) (W.contents result.0.writer)) }
+    ensures quiet { result.1 ≤ 1 → Keeps (E.contents faults.old) (E.contents faults.new) }
+    ensures statuses { result.1 ≤ 3 }
+{
     match parallelism {
         Some(lanes) => run_in_lanes(
             alloc,
             settings,
             lanes,
             registry,
-            script.as_deref(),
+            script,
             input,
             output,
             faults,
@@ -229,7 +267,7 @@ fn run_with_hooks<F: Files, R: Read + Drop, W: Write + Drop, E: Write, T: Thread
             alloc,
             settings,
             registry,
-            script.as_deref(),
+            script,
             input,
             output,
             faults,

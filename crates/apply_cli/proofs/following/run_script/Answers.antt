@@ -1,0 +1,19 @@
+use Rattle.std.proofs.Common.{◌≡◌}
+use Rattle.apply_cli.specs.Invocation.{WasApplied, WasBegun}
+use Rattle.apply_cli.proofs.following.run_script.Goals as goal
+
+pub returns-in-Some-clause-applied : goal.returns-in-Some-clause-applied
+unfolding WasApplied
+returns-in-Some-clause-applied g c = rw c.in-Some.is c.run_in_lanes.ensures.applied
+
+pub returns-in-Some-clause-cut_off : goal.returns-in-Some-clause-cut_off
+unfolding WasBegun
+returns-in-Some-clause-cut_off g c = rw c.in-Some.is c.run_in_lanes.ensures.cut_off
+
+pub returns-in-None-clause-applied : goal.returns-in-None-clause-applied
+unfolding WasApplied
+returns-in-None-clause-applied g c = rw c.in-None.is c.run_command.ensures.applied
+
+pub returns-in-None-clause-cut_off : goal.returns-in-None-clause-cut_off
+unfolding WasBegun
+returns-in-None-clause-cut_off g c = rw c.in-None.is c.run_command.ensures.cut_off
