@@ -47,6 +47,17 @@ impl Model for LineBuffer {
 }
 
 impl LineBuffer {
+    /// No line, and no room: the first line makes it.
+    pub fn new(alloc: Global) -> LineBuffer
+        ensures { result ≡ [] }
+    {
+        LineBuffer {
+            alloc,
+            bytes: Vec::new(alloc),
+            scratch: String::new(alloc),
+        }
+    }
+
     /// No line, and room for one of up to 1,024 bytes, whose texts have up to 256, without a further growth. `Err` where
     /// memory is refused.
     pub fn with_room(alloc: Global) -> Result<LineBuffer, AllocError>
