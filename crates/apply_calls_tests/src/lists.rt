@@ -1,6 +1,6 @@
 //! Lists of rules and of hooks.
 
-use apply_hooks::{HookClosure, FnHook, Hook, HookCall, Phase, Registry, Rule, Rules, Verdict};
+use apply_hooks::{FnHook, Hook, HookCall, HookClosure, Phase, Registry, Rule, Rules, Verdict};
 use apply_plan::{StepKind, Text};
 use std::alloc::Global;
 use std::io;

@@ -18,7 +18,7 @@ use crate::run::run_command;
 use crate::script_file::{read_file, report_script};
 use crate::settings::Settings;
 use crate::usage::Usage;
-use apply_hooks::{HookClosure, FnHook, Hook, HookCall, HookError, Registry, Rules};
+use apply_hooks::{FnHook, Hook, HookCall, HookClosure, HookError, Registry, Rules};
 use apply_plan::Text;
 use apply_run::StdSink;
 use std::alloc::{AllocError, Global};
@@ -253,25 +253,9 @@ fn run_script<R: Read + Drop, W: Write + Drop, E: Write, T: Threads + Wait + Syn
 {
     match parallelism {
         Some(lanes) => run_in_lanes(
-            alloc,
-            settings,
-            lanes,
-            registry,
-            script,
-            input,
-            output,
-            faults,
+            alloc, settings, lanes, registry, script, input, output, faults,
         ),
-        None => run_command(
-            rt,
-            alloc,
-            settings,
-            registry,
-            script,
-            input,
-            output,
-            faults,
-        ),
+        None => run_command(rt, alloc, settings, registry, script, input, output, faults),
     }
 }
 

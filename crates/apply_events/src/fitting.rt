@@ -6,8 +6,8 @@ ghost use Rattle.apply_plan.specs.Script.Outcomes.{outcome_of};
 ghost use Rattle.apply_events.specs.Fits.{Fits, HasStep, can_happen, may_be_asked};
 ghost use Rattle.apply_events.specs.ProgressTimes.{progress_times};
 
-use crate::step_facts::StepFacts;
 use crate::event::{Event, LATEST};
+use crate::step_facts::StepFacts;
 use crate::what::What;
 use apply_hooks::{MAX_HOOKS, Phase};
 use apply_plan::{Plan, Script};

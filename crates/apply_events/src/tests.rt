@@ -10,7 +10,7 @@ mod fitting;
 mod lanes;
 
 use crate::{Counts, Event, LATEST, Runner, What, fits};
-use apply_hooks::{HookClosure, FnHook, HookCall, Phase, Registry, Rule, Rules, Verdict};
+use apply_hooks::{FnHook, HookCall, HookClosure, Phase, Registry, Rule, Rules, Verdict};
 use apply_plan::{Plan, Script, StepKind, Text, read_plan, read_script};
 use std::alloc::{AllocError, Global};
 use std::process::Abort;

@@ -14,7 +14,7 @@ mod rules;
 mod verdict;
 
 pub use asked::Asked;
-pub use fn_hook::{HookClosure, FnHook};
+pub use fn_hook::{FnHook, HookClosure};
 pub use hook::Hook;
 pub use hook_call::HookCall;
 pub use hook_error::HookError;

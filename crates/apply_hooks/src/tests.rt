@@ -9,7 +9,7 @@ mod closures;
 mod matching;
 
 use crate::{
-    HookClosure, Asked, FnHook, Hook, HookCall, HookError, MAX_HOOKS, Phase, Registry, Rule, Rules,
+    Asked, FnHook, Hook, HookCall, HookClosure, HookError, MAX_HOOKS, Phase, Registry, Rule, Rules,
     Verdict,
 };
 use apply_plan::{StepKind, Text};

@@ -5,9 +5,9 @@ ghost use Rattle.apply_hooks.specs.declared.rule.Rule.{Rule};
 ghost use Rattle.apply_events.specs.ChangeEvents.{change_events};
 ghost use Rattle.apply_events.specs.Lanes.ToCome.{max_of_change};
 
-use crate::step_facts::StepFacts;
 use crate::event::Event;
 use crate::runner::Runner;
+use crate::step_facts::StepFacts;
 use apply_hooks::Registry;
 use apply_plan::{Plan, Script};
 

@@ -17,9 +17,10 @@ fn hooks_halt(rt: HostRuntime) {
     for number in 1..3 {
         let rules = halting(&rt, alloc, Some(Phase::Pre), Some(StepKind::Delete), "");
         let own = halting(&rt, alloc, Some(Phase::Pre), Some(StepKind::Delete), "");
-        let answer: HookClosure = Box::new(alloc, move |call: &HookCall<'_>| own.decide(call)).expect(
-            &rt, "memory",
-        );
+        let answer: HookClosure = Box::new(
+            alloc,
+            move |call: &HookCall<'_>| own.decide(call),
+        ).expect(&rt, "memory");
         add(&rt, &mut registry, rules, answer);
         len_is(&rt, &registry, number + 1);
     }

@@ -1,7 +1,7 @@
 //! Hooks that halt steps.
 
 use super::*;
-use apply_hooks::{HookClosure, FnHook, HookCall, Phase, Rules, Verdict};
+use apply_hooks::{FnHook, HookCall, HookClosure, Phase, Rules, Verdict};
 use apply_plan::StepKind;
 
 /// A replacement that destroys first.

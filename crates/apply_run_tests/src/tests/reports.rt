@@ -2,7 +2,7 @@
 
 use super::hooks::{CREATE, FAILS, HALTED_CREATE, HALTED_REPLACEMENT, REPLACEMENT};
 use super::*;
-use apply_hooks::{HookClosure, FnHook, HookCall, Phase, Rules, Verdict};
+use apply_hooks::{FnHook, HookCall, HookClosure, Phase, Rules, Verdict};
 
 /// What was done and written of a whole stream.
 fn whole(counts: Counts, taken: u64, written: usize) -> Result<Report, Refusal> {
