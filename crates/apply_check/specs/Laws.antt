@@ -40,8 +40,10 @@ tells test a k other = false
 -- often. The latest message is the first of the list, so that what stands behind its first n is what was told up to
 -- some moment.
 pub record EachEnds (messages : List Message) : Type 0 where
-  pub in_order : (n : ℕ) (a : List ℕ) (k : Action) → k ≢ Read → count_by (tells is_end a k) (drop n messages) ≤ count_by (tells is_start a k) (drop n messages)
-  pub at_last : (a : List ℕ) (k : Action) → k ≢ Read → count_by (tells is_start a k) messages ≡ count_by (tells is_end a k) messages
+  pub in_order : (n : ℕ) (a : List ℕ) (k : Action) → k ≢ Read → count_by (tells is_end a k) (drop n messages)
+      ≤ count_by (tells is_start a k) (drop n messages)
+  pub at_last : (a : List ℕ) (k : Action) → k ≢ Read → count_by (tells is_start a k) messages
+      ≡ count_by (tells is_end a k) messages
 
 -- it sums up so much, where it sums up
 abbrev pub SumsUp : Totals → Message → Type 0

@@ -27,7 +27,8 @@ message_of_tree d = do
   or_refuse Malformed (typed_message name d)
 
 unfoldable pub message_of : List ℕ → Result Message Fault
-message_of text = if nat_lt max_bytes (length text) then Err TooLong else (or_refuse NotAMessage (tree_of text) >>= message_of_tree)
+message_of text =
+    if nat_lt max_bytes (length text) then Err TooLong else (or_refuse NotAMessage (tree_of text) >>= message_of_tree)
 
 -- ---- what the lines before it say
 
@@ -72,7 +73,8 @@ planned_totals messages = record {
 }
 
 abbrev pub same_totals : Totals → Totals → Bool
-same_totals said found = (said.added == found.added) && (said.changed == found.changed) && (said.removed == found.removed)
+same_totals said found =
+    (said.added == found.added) && (said.changed == found.changed) && (said.removed == found.removed)
 
 abbrev pub is_summary : Message → Bool
 is_summary (summary totals) = true
@@ -96,7 +98,8 @@ is_error other = false
 
 -- something stands open after all messages at the address that the message is about
 abbrev pub is_unended : List Message → Message → Bool
-is_unended messages message = option_map_or (λ address. not (is_idle (standing_of address messages))) (address_of message) false
+is_unended messages message =
+    option_map_or (λ address. not (is_idle (standing_of address messages))) (address_of message) false
 
 unfoldable pub any_open : List Message → Bool
 any_open messages = list_any (is_unended messages) messages
@@ -116,13 +119,18 @@ summed totals earlier =
 
 -- the summary of a plan: the totals are those of the planned changes
 abbrev pub foreseen : Totals → List Message → Result (List Message) Fault
-foreseen totals earlier = if same_totals totals (planned_totals earlier) then Ok (plan_summary totals ∷ earlier) else Err WrongTotals
+foreseen totals earlier =
+    if same_totals totals (planned_totals earlier) then Ok (plan_summary totals ∷ earlier) else Err WrongTotals
 
 -- the messages with one more, or its first fault behind them; the latest is the first of the list
 abbrev pub behind : List Message → Message → Result (List Message) Fault
 behind earlier version = Err VersionAgain
-behind earlier (step address action what) = before_summary earlier (step_on action what (length earlier + 1) (standing_of address earlier) >>= λ standing. Ok (step address action what ∷ earlier))
-behind earlier (provision address part) = before_summary earlier (provision_on part (length earlier + 1) (standing_of address earlier) >>= λ standing. Ok (provision address part ∷ earlier))
+behind earlier (step address action what) =
+    before_summary earlier (step_on action what (length earlier + 1) (standing_of address earlier)
+    >>= λ standing. Ok (step address action what ∷ earlier))
+behind earlier (provision address part) =
+    before_summary earlier (provision_on part (length earlier + 1) (standing_of address earlier)
+    >>= λ standing. Ok (provision address part ∷ earlier))
 behind earlier (planned intent) = before_summary earlier (Ok (planned intent ∷ earlier))
 behind earlier (plan_summary totals) = before_summary earlier (foreseen totals earlier)
 behind earlier (summary totals) = before_summary earlier (summed totals earlier)
@@ -156,7 +164,8 @@ read_line earlier text = message_of text >>= next earlier
 
 -- what they tell: how much was completed, whether there was an error, and how many they are
 abbrev pub whole_of : List Message → Whole
-whole_of messages = record { totals = totals_of messages; has_errors = list_any is_error messages; lines = length messages }
+whole_of messages =
+    record { totals = totals_of messages; has_errors = list_any is_error messages; lines = length messages }
 
 -- what they tell, or what is wrong with the end: all has ended, and there was a summary or an error
 unfoldable pub end_of : List Message → Result Whole Fault
@@ -172,7 +181,8 @@ at_line line (Err fault) = Err (record { line = line; fault = fault })
 -- what the messages and the lines behind them tell, or the first fault with its line; the end counts as the last line
 unfoldable pub verdict_behind : List Message → List (List ℕ) → Result Whole Finding
 verdict_behind earlier [] = at_line (length earlier) (end_of earlier)
-verdict_behind earlier (text ∷ texts) = at_line (length earlier + 1) (read_line earlier text) >>= λ messages. verdict_behind messages texts
+verdict_behind earlier (text ∷ texts) =
+    at_line (length earlier + 1) (read_line earlier text) >>= λ messages. verdict_behind messages texts
 
 -- the verdict on a stream
 abbrev pub verdict_of : List (List ℕ) → Result Whole Finding

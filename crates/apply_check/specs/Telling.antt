@@ -13,11 +13,16 @@ use Rattle.apply_check.specs.declared.whole.Whole.{Whole}
 -- how much was done, and an end
 abbrev pub totals_text : Totals → (end : List ℕ) → List ℕ
 totals_text totals end =
-    codes "the stream is whole: " ++ decimal totals.added ++ codes " added, " ++ decimal totals.changed ++ codes " changed, " ++ decimal totals.removed ++ end
+    codes "the stream is whole: "
+    ++ decimal totals.added ++ codes " added, "
+    ++ decimal totals.changed ++ codes " changed, "
+    ++ decimal totals.removed ++ end
 
 -- that a stream is whole, with what was done
 abbrev pub whole_text : Whole → List ℕ
-whole_text whole = if whole.has_errors then totals_text whole.totals (codes " destroyed, with errors") else totals_text whole.totals (codes " destroyed")
+whole_text whole =
+    if whole.has_errors then totals_text whole.totals (codes " destroyed, with errors")
+    else totals_text whole.totals (codes " destroyed")
 
 -- the text says so of a whole stream, where a text is wanted; what stands in an object is not stated
 abbrev pub IsWholeText : Form → Whole → List ℕ → Type 0
@@ -44,7 +49,8 @@ usage_status_of usage.Memory = 3
 
 -- of a whole stream: a line
 abbrev pub IsWholeSaid : Form → Whole → (before after : Option (List ℕ)) → Type 0
-IsWholeSaid form whole before after = (text : List ℕ) × IsWholeText form whole text × Appends before after (text ++ 10 ∷ [])
+IsWholeSaid form whole before after =
+    (text : List ℕ) × IsWholeText form whole text × Appends before after (text ++ 10 ∷ [])
 
 -- of what is not whole: nothing, or an object on a line where objects are wanted
 abbrev pub IsFaultSaid : Form → (before after : Option (List ℕ)) → Type 0
@@ -54,5 +60,7 @@ IsFaultSaid form.Json before after = Keeps before after ⊎ ((object : List ℕ)
 -- the answer is said on the output, and the status is its; or it is 3, since the output could not be written or
 -- memory was refused
 abbrev pub IsTold : Form → Result Whole ReadFault → (status : ℕ) → (before after : Option (List ℕ)) → Type 0
-IsTold form (Ok whole) status before after = (status ≡ 3) ⊎ ((status ≡ whole_status_of whole) × IsWholeSaid form whole before after)
-IsTold form (Err fault) status before after = (status ≡ 3) ⊎ ((status ≡ fault_status_of fault) × IsFaultSaid form before after)
+IsTold form (Ok whole) status before after =
+    (status ≡ 3) ⊎ ((status ≡ whole_status_of whole) × IsWholeSaid form whole before after)
+IsTold form (Err fault) status before after =
+    (status ≡ 3) ⊎ ((status ≡ fault_status_of fault) × IsFaultSaid form before after)

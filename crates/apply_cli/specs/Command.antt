@@ -20,24 +20,32 @@ use Rattle.apply_cli.specs.Status.{unfinished}
 abbrev pub sight_of : {W : Type 0} → (contents : W → Option (List ℕ)) → OverWriter W → Sight
 sight_of contents output = record { bytes = contents output.writer; failed = output.failures }
 
--- what was given was applied, the output has all of its stream behind the bytes that it had, and the status is 1 exactly where a step failed or was halted; one worker applies all changes in the plan's order, so that the bytes are known
+-- what was given was applied, the output has all of its stream behind the bytes that it had, and the status is 1
+-- exactly where a step failed or was halted; one worker applies all changes in the plan's order, so that the bytes are
+-- known
 pub record HasApplied (given : Given) (options : Options) (before after : Sight) (status : ℕ) : Type 0 where
   pub report : Report
   pub applied : WasApplied given options report before after
-  pub alone : options.workers ≡ 1 → applied.streamed.events ≡ worker_events (record { plan = applied.plan; script = applied.script; hooks = given.hooks }) 0 (range_with_len 0 (length applied.plan.changes))
+  pub alone : options.workers ≡ 1
+      → applied.streamed.events ≡ worker_events
+        (record { plan = applied.plan; script = applied.script; hooks = given.hooks }) 0
+        (range_with_len 0 (length applied.plan.changes))
   pub told : (status ≡ 1) ↔ (0 < unfinished report.counts)
 
 -- all of the events, and a prefix of their stream
-pub record IsFrontOfStream (work : Work) (options : Options) (lists : List (List ℕ)) (events : List Event) (part : List ℕ) : Type 0 where
+pub record IsFrontOfStream (work : Work) (options : Options) (lists : List (List ℕ)) (events : List Event)
+    (part : List ℕ) : Type 0 where
   pub applied : IsApplied work options.workers lists events
   pub is_prefix : IsPrefix part (stream_for work options events)
 
 -- a part of the events, and a prefix of their lines, without a summary
-pub record IsFrontOfLines (work : Work) (options : Options) (lists : List (List ℕ)) (events : List Event) (part : List ℕ) : Type 0 where
+pub record IsFrontOfLines (work : Work) (options : Options) (lists : List (List ℕ)) (events : List Event)
+    (part : List ℕ) : Type 0 where
   pub applied : IsAppliedInPart work options.workers lists events
   pub is_prefix : IsPrefix part (lines_for work options events)
 
--- what was given was applied, or a part of it, and the output has a front of the stream behind the bytes that it had: with a summary only where all was applied, and then with that of all
+-- what was given was applied, or a part of it, and the output has a front of the stream behind the bytes that it had:
+-- with a summary only where all was applied, and then with that of all
 pub record HasBegun (given : Given) (options : Options) (before after : Option (List ℕ)) : Type 0 where
   pub plan : SavedPlan
   pub script : Outcomes

@@ -14,14 +14,17 @@ use Rattle.apply_run.specs.Lanes.{WasAppliedInLanes}
 use Rattle.apply_run.specs.Run.{Sight}
 use Rattle.apply_cli.specs.Status.{unfinished}
 
--- what was given was applied in so many lanes, the output has all of the stream of its time line behind the bytes that it had, and the status is 1 exactly where a step failed or was halted
-pub record HasAppliedInLanes (given : Given) (lanes start : ℕ) (operation : Operation) (before after : Sight) (status : ℕ) : Type 0 where
+-- what was given was applied in so many lanes, the output has all of the stream of its time line behind the bytes that
+-- it had, and the status is 1 exactly where a step failed or was halted
+pub record HasAppliedInLanes (given : Given) (lanes start : ℕ) (operation : Operation) (before after : Sight)
+    (status : ℕ) : Type 0 where
   pub report : Report
   pub applied : WasAppliedInLanes given lanes start operation report before after
   pub told : (status ≡ 1) ↔ (0 < unfinished report.counts)
 
 -- what was given was applied, and the output has a front of the stream of its time line behind the bytes that it had
-pub record HasBegunInLanes (given : Given) (lanes start : ℕ) (operation : Operation) (before after : Option (List ℕ)) : Type 0 where
+pub record HasBegunInLanes (given : Given) (lanes start : ℕ) (operation : Operation)
+    (before after : Option (List ℕ)) : Type 0 where
   pub plan : SavedPlan
   pub script : Outcomes
   pub read : IsRead given plan script

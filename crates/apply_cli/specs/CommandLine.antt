@@ -1,5 +1,5 @@
--- What the words of the command line say: the options that there are, as `clap` takes them, and which of them gives which
--- setting.
+-- What the words of the command line say: the options that there are, as `clap` takes them, and which of them
+-- gives which setting.
 use Rattle.std.specs.Prelude.{◌≡◌, ◌≤◌, ◌<◌, ◌++◌, ◌⊎◌, ⊤, ℕ, List, [], ◌∷◌, Option, Some, IfSome, Ok, Err, true, codes, length, map, pos, unwrap_or, if◌then◌else◌}
 use Rattle.std.specs.Borrow.{Bor}
 use Rattle.std.specs.Option.{option_map_or}
@@ -79,7 +79,8 @@ IsNumber most text n = IsNumeral 10 (without_leading_plus text) → 1 ≤ digits
 
 -- and so where there may be none
 abbrev pub IsOptionalNumber : (most : ℕ) → (text : Text) → Option ℕ → Type 0
-IsOptionalNumber most text found = IsNumeral 10 (without_leading_plus text) → 1 ≤ digits_value 10 (without_leading_plus text)
+IsOptionalNumber most text found =
+    IsNumeral 10 (without_leading_plus text) → 1 ≤ digits_value 10 (without_leading_plus text)
     → digits_value 10 (without_leading_plus text) ≤ most → found ≡ Some (digits_value 10 (without_leading_plus text))
 
 abbrev pub kind_of_word : Text → StepKind

@@ -8,8 +8,10 @@ use Rattle.apply_cli.specs.declared.halt.Halt.TheVariants.{Before, Inside}
 
 -- one rule, which halts before a step: each of that kind, or each of a change whose address begins so
 abbrev pub rules_of_halt : Halt → List Rule
-rules_of_halt (Before kind) = record { phase = Some phase.Pre; kind = Some kind; address_begins = []; verdict = verdict.Halt } ∷ []
-rules_of_halt (Inside prefix) = record { phase = Some phase.Pre; kind = None; address_begins = prefix; verdict = verdict.Halt } ∷ []
+rules_of_halt (Before kind) =
+    record { phase = Some phase.Pre; kind = Some kind; address_begins = []; verdict = verdict.Halt } ∷ []
+rules_of_halt (Inside prefix) =
+    record { phase = Some phase.Pre; kind = None; address_begins = prefix; verdict = verdict.Halt } ∷ []
 
 -- a hook for each halt, in their order
 abbrev pub hooks_of_halts : List Halt → List (List Rule)

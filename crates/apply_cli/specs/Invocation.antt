@@ -19,7 +19,8 @@ pub record IsInRange (invocation : Invocation) : Type 0 where
   pub settings : AreInRange invocation.settings
   pub parallelism : IfSome invocation.parallelism AreLanes
 
--- the option of a parallelism; that it stands beside no workers and no queue is for `clap` to keep, and then it is not free
+-- the option of a parallelism; that it stands beside no workers and no queue is for `clap` to keep, and it is not free
+-- then
 abbrev pub parallelism_rule : (free : Bool) → Rule
 parallelism_rule free =
     record (option_named (codes "parallelism")) { parser = Some (values.Signed (pos 1) (pos 64)); is_free = free }
@@ -44,9 +45,11 @@ pub record HaveInvoked (words : List Text) (invocation : Invocation) : Type 0 wh
 -- what was given was applied: in lanes, where that is asked for, and else by workers
 unfoldable pub WasApplied : Given → Settings → (parallelism : Option ℕ) → (before after : Sight) → (status : ℕ) → Type 0
 WasApplied given settings None before after status = HasApplied given (options_of settings) before after status
-WasApplied given settings (Some lanes) before after status = HasAppliedInLanes given lanes settings.at settings.operation before after status
+WasApplied given settings (Some lanes) before after status =
+    HasAppliedInLanes given lanes settings.at settings.operation before after status
 
 -- the output has a front of the stream
 unfoldable pub WasBegun : Given → Settings → (parallelism : Option ℕ) → (before after : Option (List ℕ)) → Type 0
 WasBegun given settings None before after = HasBegun given (options_of settings) before after
-WasBegun given settings (Some lanes) before after = HasBegunInLanes given lanes settings.at settings.operation before after
+WasBegun given settings (Some lanes) before after =
+    HasBegunInLanes given lanes settings.at settings.operation before after

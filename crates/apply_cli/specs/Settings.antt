@@ -7,7 +7,12 @@ use Rattle.apply_cli.specs.declared.settings.Settings.{Settings}
 
 -- how the run applies the plan
 abbrev pub options_of : Settings → Options
-options_of settings = record { workers = settings.workers; capacity = settings.queue; start = settings.at; operation = settings.operation }
+options_of settings = record {
+  workers = settings.workers;
+  capacity = settings.queue;
+  start = settings.at;
+  operation = settings.operation;
+}
 
 -- a run takes them: 1 to 8 workers, a queue of 1 to 1,024, a start from 1970 to 8999, and no more halts than hooks
 pub record AreInRange (settings : Settings) : Type 0 where

@@ -1,4 +1,5 @@
--- The exit status: 0 where all is well, 1 where a step failed or was halted, 2 where the words or the input are at fault, and 3 where memory ran out or the run did not end well.
+-- The exit status: 0 where all is well, 1 where a step failed or was halted, 2 where the words or the input are at
+-- fault, and 3 where memory ran out or the run did not end well.
 use Rattle.std.specs.Prelude.{ℕ, ◌+◌, nat_lt, if◌then◌else◌}
 use Rattle.apply_events.specs.declared.counts.Counts.{Counts}
 use Rattle.apply_hooks.specs.declared.hook_error.HookError.{HookError}
