@@ -1,4 +1,5 @@
--- The dates from 1 January 1970 on, in the calendar of RFC 3339 (section 5.7: the days of a month; appendix C: leap years).
+-- The dates from 1 January 1970 on, in the calendar of RFC 3339 (section 5.7: the days of a month; appendix C: leap
+-- years).
 use Rattle.std.specs.Prelude.{ℕ, ◌%◌, ◌==◌, Bool, not, ◌&&◌, ◌||◌, if◌then◌else◌, List, map, flat_map, Option, slice_get}
 use Rattle.std.specs.List.{range_with_len}
 
@@ -19,7 +20,8 @@ days_in_month year month =
     else (if (month == 4) || (month == 6) || (month == 9) || (month == 11) then 30 else 31)
 
 abbrev pub dates_of_month : (year month : ℕ) → List CivilDate
-dates_of_month year month = map (λ day. record { year = year; month = month; day = day }) (range_with_len 1 (days_in_month year month))
+dates_of_month year month =
+    map (λ day. record { year = year; month = month; day = day }) (range_with_len 1 (days_in_month year month))
 
 abbrev pub dates_of_year : ℕ → List CivilDate
 dates_of_year year = flat_map (dates_of_month year) (range_with_len 1 12)

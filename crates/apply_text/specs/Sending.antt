@@ -23,7 +23,8 @@ elapsed_tokens (Some seconds) = member_tokens (codes "elapsed_seconds") (number 
 
 abbrev pub id_tokens : Option (List ℕ) → List Token
 id_tokens None = []
-id_tokens (Some id) = member_tokens (codes "id_key") (string (codes "id")) ++ member_tokens (codes "id_value") (string id)
+id_tokens (Some id) =
+    member_tokens (codes "id_key") (string (codes "id")) ++ member_tokens (codes "id_value") (string id)
 
 -- the tokens of a message up to the members that are its own
 abbrev pub head_tokens : (level text moment : List ℕ) → List Token
@@ -40,4 +41,5 @@ data_tokens d = json_tokens (outline d)
 
 -- the tokens of a whole message
 abbrev pub message_tokens : (moment : List ℕ) → Message → List Token
-message_tokens moment message = data_tokens (message_object message.level message.text moment (typed message.name message.body message.type_name))
+message_tokens moment message =
+    data_tokens (message_object message.level message.text moment (typed message.name message.body message.type_name))

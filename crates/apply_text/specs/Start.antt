@@ -10,7 +10,8 @@ end_of_starts = 221845392000
 
 -- the whole seconds of an instant in nanoseconds, where it lies in the range
 abbrev pub start_at : ℤ → Result ℕ MomentError
-start_at (pos nanoseconds) = if nat_lt nanoseconds (end_of_starts * 1000000000) then Ok (nanoseconds / 1000000000) else Err OutOfRange
+start_at (pos nanoseconds) =
+    if nat_lt nanoseconds (end_of_starts * 1000000000) then Ok (nanoseconds / 1000000000) else Err OutOfRange
 start_at (negsuc below) = Err OutOfRange
 
 -- of an instant that was read, or was not

@@ -12,9 +12,13 @@ use Rattle.apply_events.specs.Lanes.LaneState.{IsOf, LaneState, unused}
 
 abbrev pub state_of : {a b : _} {g : _} → Lane a b g → LaneState
 state_of (Free at) = record { events = []; free = at }
-state_of (Busy busy) = record { events = busy.ahead ∷ to_come busy.behind; free = (course_of busy.behind).begin + span_of (course_of busy.behind).work (course_of busy.behind).change }
+state_of (Busy busy) = record {
+  events = busy.ahead ∷ to_come busy.behind;
+  free = (course_of busy.behind).begin + span_of (course_of busy.behind).work (course_of busy.behind).change;
+}
 
--- so many changes of the plan were begun, each of which takes two days at most; the next event is of a step of the plan, and in time
+-- so many changes of the plan were begun, each of which takes two days at most; the next event is of a step of the
+-- plan, and in time
 abbrev pub IsSound : {a b : _} {g : _} → (plan : SavedPlan) → (begun : ℕ) → Lane a b g → Type 0
 IsSound plan begun (Free at) = at ≤ 172800 * begun
 IsSound plan begun (Busy busy) = IsOf plan busy.ahead × ((course_of busy.behind).begin + 172800 ≤ 172800 * begun)
@@ -23,4 +27,5 @@ IsSound plan begun (Busy busy) = IsOf plan busy.ahead × ((course_of busy.behind
 -- the lane tells its next event, if it has one, and the others stay as they are
 abbrev pub TellsNext : (before : List LaneState) → (lane : ℕ) → Option Event → (after : List LaneState) → Type 0
 TellsNext before lane result after =
-    (s : LaneState) × (after ≡ set before lane s) × GivesNext (get_or before lane unused).events result s.events × (s.free ≡ (get_or before lane unused).free)
+    (s : LaneState) × (after ≡ set before lane s) × GivesNext (get_or before lane unused).events result s.events
+        × (s.free ≡ (get_or before lane unused).free)

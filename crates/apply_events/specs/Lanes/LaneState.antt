@@ -29,7 +29,8 @@ line work lane s changes = s.events ++ in_turn (change_events work lane) (span_o
 
 -- what each lane still reports, where these changes are not dealt out yet
 abbrev pub left : Work → List LaneState → List ℕ → (lane : ℕ) → List Event
-left work states changes lane = line work lane (get_or states lane unused) (get_or (dealt work (map free_of states) changes) lane [])
+left work states changes lane =
+    line work lane (get_or states lane unused) (get_or (dealt work (map free_of states) changes) lane [])
 
 -- from when on a lane is free, if no change is under way in it
 abbrev pub free_in : List Event → (free : ℕ) → Option ℕ
@@ -45,7 +46,8 @@ Runs lane low high (e ∷ es) = (e.worker ≡ lane) × (low ≤ e.at) × Runs la
 
 -- each lane's events run to the moment from which on it is free
 abbrev pub IsSteady : List LaneState → Type 0
-IsSteady states = (lane : ℕ) → lane < length states → Runs lane 0 (get_or states lane unused).free (get_or states lane unused).events
+IsSteady states =
+    (lane : ℕ) → lane < length states → Runs lane 0 (get_or states lane unused).free (get_or states lane unused).events
 
 -- when a lane comes next: never, where it has no event and no change waits
 abbrev pub moment_in : (waits : Bool) → List Event → (free : ℕ) → ℕ

@@ -12,7 +12,8 @@ free_before work lists lane c = sum_by (span_of work) (filter (λ earlier. nat_l
 abbrev pub under_way_of : Work → (moment at : ℕ) → List ℕ → ℕ
 under_way_of work moment at [] = 0
 under_way_of work moment at (c ∷ changes) =
-    (if nat_le at moment && nat_lt moment (at + span_of work c) then 1 else 0) + under_way_of work moment (at + span_of work c) changes
+    (if nat_le at moment && nat_lt moment (at + span_of work c) then 1 else 0)
+    + under_way_of work moment (at + span_of work c) changes
 
 -- how many changes are under way in n lanes at a moment
 abbrev pub under_way : Work → (n moment : ℕ) → ℕ

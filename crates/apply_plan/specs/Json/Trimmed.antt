@@ -8,7 +8,8 @@ use Rattle.apply_plan.specs.declared.tree.shape.Shape.TheVariants.{Scalar, Plan,
 
 abbrev pub is_scalar_of_element : List ℕ → Bool
 is_scalar_of_element name =
-    bytes_eq name (codes "address") || (bytes_eq name (codes "mode") || (bytes_eq name (codes "type") || (bytes_eq name (codes "name")
+    bytes_eq name (codes "address")
+    || (bytes_eq name (codes "mode") || (bytes_eq name (codes "type") || (bytes_eq name (codes "name")
     || (bytes_eq name (codes "module_address") || (bytes_eq name (codes "index") || bytes_eq name (codes "deposed"))))))
 
 -- the shape of the member of that name; none where nobody looks at it
@@ -17,7 +18,8 @@ member_shape Plan name =
     if bytes_eq name (codes "resource_changes") then Some Changes
     else if bytes_eq name (codes "format_version") || bytes_eq name (codes "terraform_version") then Some Scalar
     else None
-member_shape Element name = if bytes_eq name (codes "change") then Some Change else if is_scalar_of_element name then Some Scalar else None
+member_shape Element name =
+    if bytes_eq name (codes "change") then Some Change else if is_scalar_of_element name then Some Scalar else None
 member_shape Change name =
     if bytes_eq name (codes "actions") then Some Actions
     else if bytes_eq name (codes "before") || bytes_eq name (codes "before_sensitive") then Some Before
@@ -54,4 +56,6 @@ abbrev mutual
   pub trimmed_members : Shape → Members → Members
   trimmed_members shape no_members = no_members
   trimmed_members shape (member name d ms) =
-      option_map_or (λ known. member name (trimmed known d) (trimmed_members shape ms)) (member_shape shape name) (trimmed_members shape ms)
+      option_map_or
+      (λ known. member name (trimmed known d) (trimmed_members shape ms))
+      (member_shape shape name) (trimmed_members shape ms)

@@ -11,7 +11,8 @@ after_prefix prefix text = if starts_with nat_eq text prefix then Some (drop (le
 -- whole address. None where nothing is left, or the address does not begin so.
 abbrev pub relative_address : List ℕ → List ℕ → Option (List ℕ)
 relative_address module_address address =
-    (if is_empty module_address then Some address else (after_prefix module_address address >>= after_prefix (codes "."))) >>= unless_empty
+    (if is_empty module_address then Some address
+    else (after_prefix module_address address >>= after_prefix (codes "."))) >>= unless_empty
 
 -- the provider that a resource type implies: what stands before its first underscore, or all of it
 abbrev pub provider_of : List ℕ → List ℕ

@@ -9,7 +9,9 @@ use Rattle.apply_plan.specs.Json.{member_of}
 -- no change has the address and the deposed key of a change before it
 abbrev pub NamesEachObjectOnce : List ResourceChange → Type 0
 NamesEachObjectOnce [] = ⊤
-NamesEachObjectOnce (change ∷ later) = AllByRecursion (λ other. ¬ ((other.address ≡ change.address) × (other.deposed ≡ change.deposed))) later × NamesEachObjectOnce later
+NamesEachObjectOnce (change ∷ later) =
+    AllByRecursion (λ other. ¬ ((other.address ≡ change.address) × (other.deposed ≡ change.deposed))) later
+    × NamesEachObjectOnce later
 
 -- an address is the module's, a dot and the relative one; in the root module it is the relative one
 abbrev pub IsJoined : (module_address relative address : List ℕ) → Type 0
@@ -17,7 +19,8 @@ IsJoined [] relative address = address ≡ relative
 IsJoined (byte ∷ bytes) relative address = address ≡ (byte ∷ bytes) ++ (codes "." ++ relative)
 
 abbrev pub HasRelativeAddress : ResourceChange → Type 0
-HasRelativeAddress change = (resource_of change ≢ []) × IsJoined change.module_address (resource_of change) change.address
+HasRelativeAddress change =
+    (resource_of change ≢ []) × IsJoined change.module_address (resource_of change) change.address
 
 -- ---- values that are alike in all that is read of them
 
@@ -38,12 +41,16 @@ AgreeWithin name Alike one other = AreAlike Alike (member_of name one) (member_o
 
 -- the member `change` of two elements
 abbrev pub SaySameChange : Data → Data → Type 0
-SaySameChange one other = AgreeOn (codes "actions" ∷ codes "before_sensitive" ∷ []) one other × AgreeWithin (codes "before") (AgreeOn (codes "id" ∷ [])) one other
+SaySameChange one other =
+    AgreeOn (codes "actions" ∷ codes "before_sensitive" ∷ []) one other
+    × AgreeWithin (codes "before") (AgreeOn (codes "id" ∷ [])) one other
 
 -- two elements of `resource_changes`
 abbrev pub SaySameElement : Data → Data → Type 0
 SaySameElement one other =
-    AgreeOn (codes "address" ∷ codes "mode" ∷ codes "type" ∷ codes "name" ∷ codes "module_address" ∷ codes "index" ∷ codes "deposed" ∷ []) one other
+    AgreeOn
+    (codes "address" ∷ codes "mode" ∷ codes "type" ∷ codes "name" ∷ codes "module_address" ∷ codes "index"
+    ∷ codes "deposed" ∷ []) one other
     × AgreeWithin (codes "change") SaySameChange one other
 
 abbrev pub SaySameElements : Items → Items → Type 0
@@ -58,4 +65,6 @@ SaySameArray one other = AreAlike SaySameElements (as_array one) (as_array other
 
 -- two top levels
 abbrev pub SaySamePlan : Data → Data → Type 0
-SaySamePlan one other = AgreeOn (codes "format_version" ∷ codes "terraform_version" ∷ []) one other × AgreeWithin (codes "resource_changes") SaySameArray one other
+SaySamePlan one other =
+    AgreeOn (codes "format_version" ∷ codes "terraform_version" ∷ []) one other
+    × AgreeWithin (codes "resource_changes") SaySameArray one other

@@ -23,8 +23,10 @@ pub record ResourceChange : Type 0 where
 
 -- the address within its module
 abbrev pub resource_of : ResourceChange → List ℕ
-resource_of change = if is_empty change.module_address then change.address else drop (length change.module_address + 1) change.address
+resource_of change =
+    if is_empty change.module_address then change.address else drop (length change.module_address + 1) change.address
 
 -- an earlier change is of the same object: it has the same address, and the same deposed key or none
 abbrev pub is_same_object : ResourceChange → ResourceChange → Bool
-is_same_object change earlier = bytes_eq earlier.address change.address && option_eq bytes_eq earlier.deposed change.deposed
+is_same_object change earlier =
+    bytes_eq earlier.address change.address && option_eq bytes_eq earlier.deposed change.deposed

@@ -49,7 +49,10 @@ planned_at n d = do
 
 -- whether an element has the address of the change, and its deposed key or none
 abbrev pub names_object_of : ResourceChange → Data → Bool
-names_object_of change d = option_map_or (λ e. bytes_eq e.address change.address && option_eq bytes_eq e.deposed change.deposed) (element_of d) false
+names_object_of change d =
+    option_map_or
+    (λ e. bytes_eq e.address change.address && option_eq bytes_eq e.deposed change.deposed)
+    (element_of d) false
 
 -- what an element describes, or the first fault that holds of it; it is compared with each element before it
 unfoldable pub change_at : List Data → Data → Result ResourceChange PlanError

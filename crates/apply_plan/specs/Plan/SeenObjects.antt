@@ -8,7 +8,9 @@ use Rattle.apply_plan.specs.Plan.ResourceChange.{ResourceChange}
 use Rattle.apply_plan.specs.declared.plan.seen_objects.SeenObjects.{SeenObjects}
 
 abbrev pub is_same_id : ObjectId → ObjectId → Bool
-is_same_id one other = bytes_eq one.address.now other.address.now && option_eq bytes_eq (option_copied one.deposed) (option_copied other.deposed)
+is_same_id one other =
+    bytes_eq one.address.now other.address.now
+    && option_eq bytes_eq (option_copied one.deposed) (option_copied other.deposed)
 
 -- the object is in the set
 abbrev pub has_seen : SeenObjects → ObjectId → Bool
