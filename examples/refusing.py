@@ -49,18 +49,22 @@ def words_of(name):
 
 def run(program, words, plan, **environment):
     """How the program ends, what it printed and said, and what was refused and written on the way. The plan comes from
-    a file: how much a read of a pipe gives differs from run to run, and with it how often memory is asked for."""
+    a file: how much a read of a pipe gives differs from run to run, and with it how often memory is asked for. A program
+that has not ended after two minutes has no status."""
     with open(os.memfd_create("told"), "rb") as told, open(os.memfd_create("plan"), "r+b") as given:
         given.write(plan)
         given.seek(0)
-        ended = subprocess.run(
-            [program, *words],
-            stdin=given,
-            capture_output=True,
-            env={**environment, "TOLD": str(told.fileno())},
-            pass_fds=[told.fileno()],
-            timeout=120,
-        )
+        try:
+            ended = subprocess.run(
+                [program, *words],
+                stdin=given,
+                capture_output=True,
+                env={**environment, "TOLD": str(told.fileno())},
+                pass_fds=[told.fileno()],
+                timeout=120,
+            )
+        except subprocess.TimeoutExpired as hung:
+            return Ended(None, hung.stdout or b"", b"it hangs", [])
         told.seek(0)
         steps = [line.decode().split() for line in told]
     return Ended(ended.returncode, ended.stdout, ended.stderr, [(it[0], int(it[1]), int(it[2])) for it in steps])

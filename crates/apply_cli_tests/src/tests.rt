@@ -75,7 +75,7 @@ fn run_with<R: Read + Drop, T: Threads + Wait + Sync>(
     }
 }
 
-/// The same as no words say.
+/// Runs the command with the settings that no options give, without hooks and a script.
 fn run<R: Read + Drop, T: Threads + Wait + Sync>(rt: &T, alloc: Global, input: R) -> Outcome {
     let settings = defaults(alloc);
     let registry = Registry::new(alloc);

@@ -131,7 +131,7 @@ fn count(rt: &impl Abort, alloc: Global) -> Arc<AtomicU64> {
     Arc::new(alloc, AtomicU64::new(0)).expect(rt, "memory")
 }
 
-/// The same count.
+/// A second owner of the count.
 fn shared(rt: &impl Abort, count: &Arc<AtomicU64>) -> Arc<AtomicU64> {
     Arc::try_clone(count).expect(rt, "memory")
 }
