@@ -1,5 +1,6 @@
 pub mod ChangeEvents
 pub mod Course
+pub mod Diagnostics
 pub mod Fits
 pub mod Interleaving
 pub mod Lanes

@@ -1,3 +1,6 @@
+ghost use Rattle.std.specs.Prelude.{◌≡◌};
+ghost use Rattle.apply_events.specs.Diagnostics.{is_note};
+
 use crate::what::What;
 
 /// The greatest moment of an event, in seconds: 10,000 changes of two steps, each of 86,400 seconds.
@@ -16,4 +19,17 @@ pub struct Event {
     pub what: What,
     /// When, in seconds after the worker began.
     pub at: u64,
+}
+
+impl Event {
+    /// Whether it is a note: an error, a warning or a halt. A note is told as a diagnostic (Machine-Readable UI,
+    /// "Diagnostic"), every other event by the message of a hook.
+    pub fn is_note(&self) -> bool
+        ensures { result ≡ is_note self.now.what }
+    {
+        matches!(
+            self.what,
+            What::ErrorNote | What::WarnNote | What::Halted { .. }
+        )
+    }
 }
