@@ -7,6 +7,7 @@ pub mod Lines
 pub mod Message
 pub mod Moment
 pub mod Objects
+pub mod Order
 pub mod Sending
 pub mod Start
 pub mod Words

@@ -13,6 +13,7 @@ use Rattle.apply_text.specs.declared.operation.Operation.{Operation}
 use Rattle.apply_text.specs.Latest.{latest_of}
 use Rattle.apply_text.specs.Message.{Message, event_message, summary_message}
 use Rattle.apply_text.specs.Moment.{moment_text}
+use Rattle.apply_text.specs.Order.{as_written}
 
 -- ---- one line
 
@@ -56,11 +57,14 @@ summary_text start latest operation counts = message_line (start + latest) (summ
 
 -- ---- all lines
 
--- the first line, and one for each event, at the latest moment up to then
-abbrev pub lines_of : SavedPlan → Outcomes → (start : ℕ) → List Event → List ℕ
-lines_of plan script start events =
-    version_text plan start ++ flat_map (λ p. event_text plan script start (latest_of events (p.0 + 1)) p.1) (enumerate_from 0 events)
+-- of events in the order in which they are written: the first line, and one for each, at the latest moment up to then
+abbrev pub lines_of : SavedPlan → Outcomes → (start : ℕ) → (written : List Event) → List ℕ
+lines_of plan script start written =
+    version_text plan start ++ flat_map (λ p. event_text plan script start (latest_of written (p.0 + 1)) p.1) (enumerate_from 0 written)
 
--- with the summary of what the events completed
-abbrev pub stream_of : SavedPlan → Outcomes → (start : ℕ) → Operation → List Event → List ℕ
-stream_of plan script start operation events = lines_of plan script start events ++ summary_text start (latest_of events (length events)) operation (totals_of plan events)
+-- of events in the order in which they were taken: the lines of them as they are written, and the summary of what they
+-- completed, at the latest moment
+abbrev pub stream_of : SavedPlan → Outcomes → (start : ℕ) → Operation → (taken : List Event) → List ℕ
+stream_of plan script start operation taken =
+    lines_of plan script start (as_written taken)
+    ++ summary_text start (latest_of (as_written taken) (length (as_written taken))) operation (totals_of plan taken)
