@@ -7,6 +7,7 @@ use Rattle.apply_events.specs.Lanes.TimeLine.{IsTimeLine}
 use Rattle.apply_events.specs.Step.{Work}
 use Rattle.apply_text.specs.declared.operation.Operation.{Operation}
 use Rattle.apply_text.specs.Lines.{lines_of, stream_of}
+use Rattle.apply_text.specs.Order.{as_written}
 use Rattle.apply_run.specs.Bytes.{Given, IsRead, WasRefused}
 use Rattle.apply_run.specs.declared.options.Options.{Options}
 use Rattle.apply_run.specs.declared.refusal.Refusal.{Refusal}
@@ -37,15 +38,16 @@ pub record IsCutOffInLanes (work : Work) (lanes : ℕ) (bytes_of : List Event �
   pub time_line : IsTimeLine work lanes events
   pub part : IsCutOff work.plan events (bytes_of events) report before.bytes after.bytes failed after.failed
 
--- what is so after a fault of each cause: a write failed, or memory was refused, before anything was done or for a line.
--- Nothing is lost between threads, and no thread is refused
+-- what is so after a fault of each cause: a write failed, or memory was refused, before anything was done, for a line
+-- or to keep a note. Nothing is lost between threads, and no thread is refused
 abbrev pub HasFailedInLanes : Why → (work : Work) (lanes start : ℕ) (operation : Operation) → Report
     → (before after : Sight) → Type 0
 HasFailedInLanes Write work lanes start operation report before after =
     IsCutOffInLanes work lanes (stream_of work.plan work.script start operation) (before.failed + 1) report before after
 HasFailedInLanes Memory work lanes start operation report before after =
     DidNothing report before after
-    ⊎ IsCutOffInLanes work lanes (lines_of work.plan work.script start) before.failed report before after
+    ⊎ IsCutOffInLanes work lanes (λ events. lines_of work.plan work.script start (as_written events)) before.failed report
+    before after
 HasFailedInLanes Bus work lanes start operation report before after = ⊥
 HasFailedInLanes Workers work lanes start operation report before after = ⊥
 

@@ -8,6 +8,7 @@ use Rattle.std.specs.Prelude.{◌≡◌, ℕ, ◌+◌, ◌≤◌, ◌⊎◌, Lis
 use Rattle.apply_events.specs.declared.event.Event.{Event}
 use Rattle.apply_events.specs.Step.{Work}
 use Rattle.apply_text.specs.Lines.{lines_of, stream_of}
+use Rattle.apply_text.specs.Order.{as_written, hook_messages_of}
 use Rattle.apply_run.specs.Applied.{IsApplied, IsAppliedInPart}
 use Rattle.apply_run.specs.declared.options.Options.{Options}
 use Rattle.apply_run.specs.declared.report.Report.{Report}
@@ -24,11 +25,11 @@ pub record Sight : Type 0 where
 abbrev pub sight_of : {S : Type 0} → (bytes : S → Option (List ℕ)) → (failed : S → ℕ) → S → Sight
 sight_of bytes failed sink = record { bytes = bytes sink; failed = failed sink }
 
--- the stream of events, from the start on
+-- the stream of events that were taken in this order, from the start on: hook messages, then notes, and the summary
 abbrev pub stream_for : Work → Options → List Event → List ℕ
 stream_for work options events = stream_of work.plan work.script options.start options.operation events
 
--- the same without the summary
+-- the lines of events that are written in this order, and no summary
 abbrev pub lines_for : Work → Options → List Event → List ℕ
 lines_for work options events = lines_of work.plan work.script options.start events
 
@@ -49,22 +50,23 @@ pub record WasNotWritten (work : Work) (options : Options) (report : Report) (be
   pub part : IsCutOff work.plan events (stream_for work options events) report
       before.bytes after.bytes (before.failed + 1) after.failed
 
--- the same, but memory was refused for a line, and the sink took a prefix of the lines, and no summary; no write failed
+-- the same, but memory was refused for a line or to keep a note, and the sink took a prefix of the lines, and no summary; no
+-- write failed
 pub record RanOutOfMemory (work : Work) (options : Options) (report : Report) (before after : Sight) : Type 0 where
   pub lists : List (List ℕ)
   pub events : List Event
   pub applied : IsApplied work options.workers lists events
-  pub part : IsCutOff work.plan events (lines_for work options events) report
+  pub part : IsCutOff work.plan events (lines_for work options (as_written events)) report
       before.bytes after.bytes before.failed after.failed
 
--- a prefix of the events of each worker was taken, and the sink took a prefix of their lines, and no summary; as many
--- writes failed
+-- a prefix of the events of each worker was taken, and the sink took a prefix of the lines of their hook messages, no note
+-- and no summary; as many writes failed
 pub record WasCutOff (failed : ℕ) (work : Work) (options : Options) (report : Report)
     (before after : Sight) : Type 0 where
   pub lists : List (List ℕ)
   pub events : List Event
   pub applied : IsAppliedInPart work options.workers lists events
-  pub part : IsCutOff work.plan events (lines_for work options events) report
+  pub part : IsCutOff work.plan events (lines_for work options (hook_messages_of events)) report
       before.bytes after.bytes (before.failed + failed) after.failed
 
 -- a run that was cut off, after a write had failed or not
@@ -82,7 +84,8 @@ pub record DidNothing (report : Report) (before after : Sight) : Type 0 where
   }
   pub same : after ≡ before
 
--- what is so after a fault of each cause; memory was refused before the threads, or for a line
+-- what is so after a fault of each cause; memory was refused before the threads, for a line or to keep a
+-- note
 abbrev pub HasFailed : Why → Work → Options → Report → (before after : Sight) → Type 0
 HasFailed Write work options report before after = WasNotWritten work options report before after
 HasFailed Workers work options report before after = DidNothing report before after

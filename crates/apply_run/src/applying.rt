@@ -70,7 +70,7 @@ pub fn apply_stream<'a, S: Sink + Drop, G: Gate, R: Threads + Wait + Sync>(
         buffer,
     } = prepared;
     let signal = Signal::new();
-    let stream = StreamWriter::new(plan, script, start, buffer, sink);
+    let stream = StreamWriter::new(alloc, plan, script, start, buffer, sink);
     let finished = run_workers::<Brand, S, G, R>(
         rt, alloc, plan, script, registry, gate, &claims, &signal, endpoints, stream,
     );

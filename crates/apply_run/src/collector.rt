@@ -41,7 +41,7 @@ pub(crate) fn collect<'a, S: Sink + Drop, R: Wait>(
     ensures same { IsSameStream stream.entry result.stream }
     ensures told { All (CanBeTold stream.entry.plan.now) (events result.taken.taken)
         → IsToldSince S.bytes S.failed stream.entry (events result.taken.taken) result.stream }
-    ensures room { HasRoom (telling_of S.bytes S.failed result.stream) }
+    ensures room { HasRoom result.stream.plan.now (telling_of S.bytes S.failed result.stream) }
     ensures lost { result.lost ≡ false → All (CanBeTold stream.entry.plan.now) (events result.taken.taken)
         × (closes result.taken.taken ≡ rx.workers) }
 {
@@ -70,7 +70,7 @@ pub(crate) fn collect<'a, S: Sink + Drop, R: Wait>(
 
 /// Tells the item where it is an event of the plan, and says whether it is that or a close.
 fn note<S: Sink + Drop>(stream: &mut StreamWriter<'_, S>, item: &Item) -> bool
-    requires room { HasRoom (telling_of S.bytes S.failed stream.old) }
+    requires room { HasRoom stream.old.plan.now (telling_of S.bytes S.failed stream.old) }
     requires few { stream.old.taken < max_told }
     ensures fits { IsTrue result ↔ All (CanBeTold stream.old.plan.now) (events (item.now ∷ [])) }
     ensures told { (before : Option (List ℕ)) (failures : ℕ) (so_far : List Event)
@@ -79,7 +79,7 @@ fn note<S: Sink + Drop>(stream: &mut StreamWriter<'_, S>, item: &Item) -> bool
         (telling_of S.bytes S.failed stream.old)
         → HasTold stream.old.plan.now stream.old.script.now stream.old.start before failures
         (so_far ++ events (item.now ∷ [])) (telling_of S.bytes S.failed stream.new) }
-    ensures room { HasRoom (telling_of S.bytes S.failed stream.new) }
+    ensures room { HasRoom stream.new.plan.now (telling_of S.bytes S.failed stream.new) }
     ensures one_more { stream.new.taken ≤ stream.old.taken + 1 }
     ensures same { IsSameStream stream.old stream.new }
 {

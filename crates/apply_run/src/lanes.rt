@@ -65,7 +65,7 @@ pub fn apply_in_lanes<'a, S: Sink + Drop>(
     let Ok(lanes) = Lanes::start(alloc, plan, script, registry, lanes) else {
         return (sink, Err(Fault::at_once(Why::Memory)));
     };
-    let stream = StreamWriter::new(plan, script, start, buffer, sink);
+    let stream = StreamWriter::new(alloc, plan, script, start, buffer, sink);
     tell_all(lanes, stream).end(operation)
 }
 
@@ -79,7 +79,7 @@ fn tell_all<'a, S: Sink + Drop>(
     requires plan { stream.plan.now ≡ (work_of lanes).plan }
     ensures same { IsSameStream stream.entry result }
     ensures told { IsToldSince S.bytes S.failed stream.entry (to_come lanes.entry) result }
-    ensures room { HasRoom (telling_of S.bytes S.failed result) }
+    ensures room { HasRoom result.plan.now (telling_of S.bytes S.failed result) }
 {
     stream.write_version();
     while let Some(event) = lanes.next() {

@@ -4,6 +4,7 @@ use Rattle.apply_plan.specs.Plan.SavedPlan.{SavedPlan}
 use Rattle.apply_plan.specs.Script.Outcomes.{Outcomes}
 use Rattle.apply_events.specs.declared.event.Event.{Event}
 use Rattle.apply_events.specs.Step.{Work}
+use Rattle.apply_text.specs.Order.{as_written, hook_messages_of}
 use Rattle.apply_run.specs.Applied.{IsApplied, IsAppliedInPart}
 use Rattle.apply_run.specs.declared.fault.Fault.{Fault}
 use Rattle.apply_run.specs.declared.options.Options.{Options}
@@ -80,13 +81,13 @@ pub faulted : (work : Work) (options : Options) (fault : Fault) (before after : 
 faulted work options fault before after lists events applied h = ⊎_elim
     (λ (w : (fault.why ≡ Write) × IsCutOff work.plan events (stream_for work options events) fault.report before.bytes after.bytes (before.failed + 1) after.failed).
     subst (λ why. HasFailed why work options fault.report before after) (sym w.0) (record { lists = lists; events = events; applied = applied; part = w.1 }))
-    (λ (m : (fault.why ≡ Memory) × IsCutOff work.plan events (lines_for work options events) fault.report before.bytes after.bytes before.failed after.failed).
+    (λ (m : (fault.why ≡ Memory) × IsCutOff work.plan events (lines_for work options (as_written events)) fault.report before.bytes after.bytes before.failed after.failed).
     subst (λ why. HasFailed why work options fault.report before after) (sym m.0) (inr (record { lists = lists; events = events; applied = applied; part = m.1 })))
     h
 
 -- the bus failed
 pub lost : (work : Work) (options : Options) (why : Why) (report : Report) (before after : Sight) (lists : List (List ℕ)) (events : List Event) (stop : Stop) → why ≡ Bus → IsAppliedInPart work options.workers lists events
-    → IsCutOff work.plan events (lines_for work options events) report before.bytes after.bytes (before.failed + failed_writes stop) after.failed → HasFailed why work options report before after
+    → IsCutOff work.plan events (lines_for work options (hook_messages_of events)) report before.bytes after.bytes (before.failed + failed_writes stop) after.failed → HasFailed why work options report before after
 lost work options why report before after lists events stop is in_part part = subst (λ w. HasFailed w work options report before after) (sym is)
     (record { failed = failed_writes stop; few = few_failed stop; cut_off = record { lists = lists; events = events; applied = in_part; part = part } })
 

@@ -1,6 +1,7 @@
 -- The lines of events, and of one event more.
-use Rattle.std.proofs.Common.{◌≡◌, ℕ, ◌+◌, ◌≤◌, List, [], ◌∷◌, ◌++◌, length, length-append, map, take, take_all, flat_map, sym, refl, ap, ◌∙◌, append_assoc, append-nil, arith, add-zero}
+use Rattle.std.proofs.Common.{◌≡◌, ℕ, ◌+◌, ◌≤◌, List, [], ◌∷◌, ◌++◌, length, length-append, map, take, take_all, flat_map, sym, refl, ap, ◌∙◌, subst, append_assoc, append-nil, arith, add-zero}
 use Rattle.std.specs.Prelude.{max, fold}
+use mathlib.Core.List.{IsPrefix}
 use Rattle.std.specs.List.{enumerate_from}
 use Rattle.std.proofs.lemmas.Grind.{flat_map-append}
 use Rattle.std.proofs.lemmas.List.{map-append, take-append-le}
@@ -10,6 +11,7 @@ use Rattle.apply_plan.specs.Script.Outcomes.{Outcomes}
 use Rattle.apply_events.specs.declared.event.Event.{Event}
 use Rattle.apply_text.specs.Latest.{latest_of}
 use Rattle.apply_text.specs.Lines.{event_text, lines_of, version_text}
+use Rattle.apply_run.proofs.Workers.Prefixes.{prefix_more, prefix_same}
 
 -- ---- moments
 
@@ -74,3 +76,12 @@ lines_more plan script start events event =
 -- and of none
 pub lines_none : (plan : SavedPlan) (script : Outcomes) (start : ℕ) → lines_of plan script start [] ≡ version_text plan start
 lines_none plan script start = append-nil (version_text plan start)
+
+-- with more events behind them
+pub lines_prefix : (plan : SavedPlan) (script : Outcomes) (start : ℕ) (events more : List Event) → IsPrefix (lines_of plan script start events) (lines_of plan script start (events ++ more))
+lines_prefix plan script start events [] = subst (λ es. IsPrefix (lines_of plan script start events) (lines_of plan script start es)) (sym (append-nil events)) (prefix_same (lines_of plan script start events))
+lines_prefix plan script start events (event ∷ more) =
+    let first : IsPrefix (lines_of plan script start events) (lines_of plan script start (events ++ event ∷ [])) = (_, sym (lines_more plan script start events event)) in
+    let rest : IsPrefix (lines_of plan script start (events ++ event ∷ [])) (lines_of plan script start (events ++ event ∷ [] ++ more)) = lines_prefix plan script start (events ++ event ∷ []) more in
+    subst (λ es. IsPrefix (lines_of plan script start events) (lines_of plan script start es)) (append_assoc events (event ∷ []) more)
+    (prefix_more (lines_of plan script start events) (lines_of plan script start (events ++ event ∷ [])) (lines_of plan script start (events ++ event ∷ [] ++ more)) first rest)

@@ -1,17 +1,20 @@
 -- What was told, and one event more.
-use Rattle.std.proofs.Common.{◌≡◌, ℕ, ◌+◌, List, [], ◌∷◌, ◌++◌, length, length-append, Option, sym, refl, ap, ◌∙◌, subst, arith}
-use Rattle.std.specs.Prelude.{max}
+use Rattle.std.proofs.Common.{◌≡◌, ℕ, ◌+◌, List, [], ◌∷◌, ◌++◌, length, length-append, append-nil, Option, cond, true, false, sym, refl, ap, ◌∙◌, subst, arith}
+use Rattle.std.specs.Prelude.{max, not}
+use Rattle.std.proofs.lemmas.List.Elements.{filter-append}
 use Rattle.std.proofs.KnownBytes.{Appends-nil}
 use Rattle.apply_plan.specs.Plan.SavedPlan.{SavedPlan}
 use Rattle.apply_plan.specs.Script.Outcomes.{Outcomes}
 use Rattle.apply_events.specs.declared.event.Event.{Event}
+use Rattle.apply_events.specs.Diagnostics.{is_note}
 use Rattle.apply_events.specs.Totals.{plus, totals_of}
 use Rattle.apply_text.specs.Latest.{latest_of}
 use Rattle.apply_text.specs.Lines.{event_text, lines_of, version_text}
+use Rattle.apply_text.specs.Order.{hook_messages_of, notes_of}
 use Rattle.apply_run.specs.declared.stream.output.Stop.TheVariants.{Going}
 use Rattle.apply_run.specs.Stream.Outlet.{HasWritten, Outlet, Writes, failed_writes}
 use Rattle.apply_run.specs.Stream.Room.{IsNew}
-use Rattle.apply_run.specs.Stream.Telling.{HasTold, Telling}
+use Rattle.apply_run.specs.Stream.Telling.{HasLines, HasTold, Telling}
 use Rattle.apply_run.proofs.Streams.Lines.{latest_more, lines_more, lines_none}
 
 -- nothing was written yet
@@ -27,31 +30,93 @@ written_none outlet goes none = record {
 
 -- the version line
 pub told_none : (plan : SavedPlan) (script : Outcomes) (start : ℕ) (old new : Telling) → IsNew old → Writes old.outlet new.outlet (version_text plan start)
-    → new.counts ≡ old.counts → new.taken ≡ old.taken → new.latest ≡ old.latest
+    → new.counts ≡ old.counts → new.taken ≡ old.taken → new.latest ≡ old.latest → new.notes ≡ old.notes
     → HasTold plan script start old.outlet.bytes old.outlet.failures [] new
-told_none plan script start old new begins writes counts taken latest = record {
-  lines = subst (λ text. HasWritten old.outlet.bytes old.outlet.failures text new.outlet) (sym (lines_none plan script start)) (writes old.outlet.bytes old.outlet.failures [] (written_none old.outlet begins.going begins.written));
+told_none plan script start old new begins writes counts taken latest notes = record {
+  written = record {
+    lines = subst (λ text. HasWritten old.outlet.bytes old.outlet.failures text new.outlet) (sym (lines_none plan script start)) (writes old.outlet.bytes old.outlet.failures [] (written_none old.outlet begins.going begins.written));
+    latest = latest ∙ begins.latest;
+  };
   counts = counts ∙ begins.counts;
   taken = taken ∙ begins.taken;
-  latest = latest ∙ begins.latest;
+  notes = λ _. notes ∙ begins.notes;
 }
 
--- one event more
-pub told_more : (plan : SavedPlan) (script : Outcomes) (start : ℕ) (before : Option (List ℕ)) (failures : ℕ) (events : List Event) (event : Event) (old new : Telling)
+-- ---- lines
+
+-- the line of one event more
+pub lines_and_one : (plan : SavedPlan) (script : Outcomes) (start : ℕ) (before : Option (List ℕ)) (failures : ℕ) (events : List Event) (event : Event) (old new : Telling)
     → Writes old.outlet new.outlet (event_text plan script start new.latest event)
-    → new.counts ≡ plus old.counts (totals_of plan (event ∷ []))
-    → new.taken ≡ old.taken + 1
     → new.latest ≡ max old.latest event.at
-    → totals_of plan (events ++ event ∷ []) ≡ plus (totals_of plan events) (totals_of plan (event ∷ []))
-    → HasTold plan script start before failures events old
-    → HasTold plan script start before failures (events ++ event ∷ []) new
-told_more plan script start before failures events event old new writes counts taken latest adds was =
+    → HasLines plan script start before failures events old
+    → HasLines plan script start before failures (events ++ event ∷ []) new
+lines_and_one plan script start before failures events event old new writes latest was =
     let moment : new.latest ≡ latest_of (events ++ event ∷ []) (length (events ++ event ∷ [])) = latest ∙ ap (λ m. max m event.at) was.latest ∙ sym (latest_more events event) in
     let text : lines_of plan script start events ++ event_text plan script start new.latest event ≡ lines_of plan script start (events ++ event ∷ [])
     = ap (λ m. lines_of plan script start events ++ event_text plan script start m event) moment ∙ sym (lines_more plan script start events event) in
     record {
       lines = subst (λ text. HasWritten before failures text new.outlet) text (writes before failures (lines_of plan script start events) was.lines);
-      counts = counts ∙ ap (λ c. plus c (totals_of plan (event ∷ []))) was.counts ∙ sym adds;
-      taken = taken ∙ ap (λ n. n + 1) was.taken ∙ sym (length-append events (event ∷ []));
       latest = moment;
     }
+
+-- no line more
+pub lines_and_none : (plan : SavedPlan) (script : Outcomes) (start : ℕ) (before : Option (List ℕ)) (failures : ℕ) (events : List Event) (old new : Telling)
+    → Writes old.outlet new.outlet [] → new.latest ≡ old.latest
+    → HasLines plan script start before failures events old → HasLines plan script start before failures events new
+lines_and_none plan script start before failures events old new writes latest was = record {
+  lines = subst (λ text. HasWritten before failures text new.outlet) (append-nil (lines_of plan script start events)) (writes before failures (lines_of plan script start events) was.lines);
+  latest = latest ∙ was.latest;
+}
+
+-- ---- one event more
+
+messages_and_message : (events : List Event) (event : Event) → is_note event.what ≡ false → hook_messages_of events ++ event ∷ [] ≡ hook_messages_of (events ++ event ∷ [])
+messages_and_message events event is =
+    ap (λ b. hook_messages_of events ++ cond (not b) (event ∷ []) []) (sym is) ∙ sym (filter-append (λ (e : Event). not (is_note e.what)) events (event ∷ []))
+
+messages_and_note : (events : List Event) (event : Event) → is_note event.what ≡ true → hook_messages_of events ≡ hook_messages_of (events ++ event ∷ [])
+messages_and_note events event is =
+    sym (append-nil (hook_messages_of events)) ∙ ap (λ b. hook_messages_of events ++ cond (not b) (event ∷ []) []) (sym is) ∙ sym (filter-append (λ (e : Event). not (is_note e.what)) events (event ∷ []))
+
+notes_and_message : (events : List Event) (event : Event) → is_note event.what ≡ false → notes_of events ≡ notes_of (events ++ event ∷ [])
+notes_and_message events event is =
+    sym (append-nil (notes_of events)) ∙ ap (λ b. notes_of events ++ cond b (event ∷ []) []) (sym is) ∙ sym (filter-append (λ (e : Event). is_note e.what) events (event ∷ []))
+
+notes_and_note : (events : List Event) (event : Event) → is_note event.what ≡ true → notes_of events ++ event ∷ [] ≡ notes_of (events ++ event ∷ [])
+notes_and_note events event is =
+    ap (λ b. notes_of events ++ cond b (event ∷ []) []) (sym is) ∙ sym (filter-append (λ (e : Event). is_note e.what) events (event ∷ []))
+
+-- the line of a hook's message was written
+pub told_message : (plan : SavedPlan) (script : Outcomes) (start : ℕ) (before : Option (List ℕ)) (failures : ℕ) (events : List Event) (event : Event) (old new : Telling)
+    → is_note event.what ≡ false
+    → new.counts ≡ plus old.counts (totals_of plan (event ∷ []))
+    → new.taken ≡ old.taken + 1
+    → new.notes ≡ old.notes
+    → (new.outlet.stop ≡ Going → old.outlet.stop ≡ Going)
+    → totals_of plan (events ++ event ∷ []) ≡ plus (totals_of plan events) (totals_of plan (event ∷ []))
+    → HasLines plan script start before failures (hook_messages_of events ++ event ∷ []) new
+    → HasTold plan script start before failures events old
+    → HasTold plan script start before failures (events ++ event ∷ []) new
+told_message plan script start before failures events event old new is counts taken notes went adds lines was = record {
+  written = subst (λ es. HasLines plan script start before failures es new) (messages_and_message events event is) lines;
+  counts = counts ∙ ap (λ c. plus c (totals_of plan (event ∷ []))) was.counts ∙ sym adds;
+  taken = taken ∙ ap (λ n. n + 1) was.taken ∙ sym (length-append events (event ∷ []));
+  notes = λ goes. notes ∙ was.notes (went goes) ∙ notes_and_message events event is;
+}
+
+-- a note was kept, or the writing has stopped
+pub told_note : (plan : SavedPlan) (script : Outcomes) (start : ℕ) (before : Option (List ℕ)) (failures : ℕ) (events : List Event) (event : Event) (old new : Telling)
+    → is_note event.what ≡ true
+    → new.counts ≡ plus old.counts (totals_of plan (event ∷ []))
+    → new.taken ≡ old.taken + 1
+    → (new.outlet.stop ≡ Going → (old.outlet.stop ≡ Going) × (new.notes ≡ old.notes ++ event ∷ []))
+    → totals_of plan (events ++ event ∷ []) ≡ plus (totals_of plan events) (totals_of plan (event ∷ []))
+    → HasLines plan script start before failures (hook_messages_of events) new
+    → HasTold plan script start before failures events old
+    → HasTold plan script start before failures (events ++ event ∷ []) new
+told_note plan script start before failures events event old new is counts taken kept adds lines was = record {
+  written = subst (λ es. HasLines plan script start before failures es new) (messages_and_note events event is) lines;
+  counts = counts ∙ ap (λ c. plus c (totals_of plan (event ∷ []))) was.counts ∙ sym adds;
+  taken = taken ∙ ap (λ n. n + 1) was.taken ∙ sym (length-append events (event ∷ []));
+  notes = λ goes. (kept goes).1 ∙ ap (λ ns. ns ++ event ∷ []) (was.notes ((kept goes).0)) ∙ notes_and_note events event is;
+}

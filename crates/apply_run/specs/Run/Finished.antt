@@ -23,7 +23,7 @@ pub record IsJoinedRun {S : Type 0} (bytes : S → Option (List ℕ)) (failed : 
   pub count : length joined.stopped.items ≡ claims.workers
   pub stopped : EachAt (IsStoppedWorker work claims bus) joined.stopped.items
   pub same : IsSameStream stream joined.stream
-  pub room : HasRoom (telling_of bytes failed joined.stream)
+  pub room : HasRoom joined.stream.plan.now (telling_of bytes failed joined.stream)
   pub told : All (CanBeTold stream.plan.now) (events joined.taken.taken)
       → IsToldSince bytes failed stream (events joined.taken.taken) joined.stream
 
@@ -35,5 +35,5 @@ pub record IsFinishedRun {S : Type 0} (bytes : S → Option (List ℕ)) (failed 
   pub part : IsAppliedInPart work workers lists events
   pub whole : finished.whole ≡ true → IsApplied work workers lists events
   pub same : IsSameStream stream finished.stream
-  pub room : HasRoom (telling_of bytes failed finished.stream)
+  pub room : HasRoom finished.stream.plan.now (telling_of bytes failed finished.stream)
   pub told : IsToldSince bytes failed stream events finished.stream

@@ -6,6 +6,7 @@ use Rattle.apply_plan.specs.Script.Outcomes.{Outcomes}
 use Rattle.apply_events.specs.declared.event.Event.{Event}
 use Rattle.apply_text.specs.declared.operation.Operation.{Operation}
 use Rattle.apply_text.specs.Lines.{lines_of, stream_of}
+use Rattle.apply_text.specs.Order.{as_written}
 use Rattle.apply_run.specs.declared.fault.Fault.{Fault}
 use Rattle.apply_run.specs.declared.report.Report.{Report}
 use Rattle.apply_run.specs.declared.why.Why.TheVariants.{Memory, Write}
@@ -31,5 +32,5 @@ abbrev pub IsFaulted : (plan : SavedPlan) (script : Outcomes) (start : ℕ) (ope
 IsFaulted plan script start operation events fault before after failures failed =
     ((fault.why ≡ Write) × IsCutOff plan events (stream_of plan script start operation events) fault.report
     before after (failures + 1) failed)
-    ⊎ ((fault.why ≡ Memory) × IsCutOff plan events (lines_of plan script start events) fault.report
+    ⊎ ((fault.why ≡ Memory) × IsCutOff plan events (lines_of plan script start (as_written events)) fault.report
     before after failures failed)

@@ -7,15 +7,19 @@ use Rattle.apply_events.specs.declared.event.Event.{Event}
 use Rattle.apply_events.specs.Totals.{totals_of}
 use Rattle.apply_text.specs.Latest.{latest_of}
 use Rattle.apply_text.specs.Lines.{lines_of}
+use Rattle.apply_text.specs.Order.{hook_messages_of, notes_of}
 use Rattle.apply_run.specs.declared.stream.StreamWriter.{StreamWriter}
+use Rattle.apply_run.specs.declared.stream.output.Stop.TheVariants.{Going}
 use Rattle.apply_run.specs.Stream.Outlet.{HasWritten, Outlet, outlet_of}
 
--- what was told: on which output, how many events, what they add up to, and the greatest of their moments
+-- what was told: on which output, how many events, what they add up to, the latest moment of a line, and the notes that are
+-- kept
 pub record Telling : Type 0 where
   pub outlet : Outlet
   pub counts : Counts
   pub taken : ℕ
   pub latest : ℕ
+  pub notes : List Event
 
 -- what a stream has told, by what its sink tells
 abbrev pub telling_of : {S : Type 0} → (bytes : S → Option (List ℕ)) → (failed : S → ℕ) → StreamWriter S → Telling
@@ -24,16 +28,24 @@ telling_of bytes failed stream = record {
   counts = stream.counts;
   taken = stream.taken;
   latest = stream.latest;
+  notes = stream.notes.items;
 }
 
--- since the sink had these bytes and so many failures, the events were counted, and the lines of them were written, up to
--- where the writing stopped
+-- since the sink had these bytes and so many failures, the lines of the events were written in this order, up to where the
+-- writing stopped
+pub record HasLines (plan : SavedPlan) (script : Outcomes) (start : ℕ) (before : Option (List ℕ)) (failures : ℕ)
+    (written : List Event) (telling : Telling) : Type 0 where
+  pub lines : HasWritten before failures (lines_of plan script start written) telling.outlet
+  pub latest : telling.latest ≡ latest_of written (length written)
+
+-- the events, in the order in which they were taken, were counted, and the lines of their hook messages were written; their
+-- notes are kept, unless the writing has stopped
 pub record HasTold (plan : SavedPlan) (script : Outcomes) (start : ℕ) (before : Option (List ℕ)) (failures : ℕ)
     (events : List Event) (telling : Telling) : Type 0 where
-  pub lines : HasWritten before failures (lines_of plan script start events) telling.outlet
+  pub written : HasLines plan script start before failures (hook_messages_of events) telling
   pub counts : telling.counts ≡ totals_of plan events
   pub taken : telling.taken ≡ length events
-  pub latest : telling.latest ≡ latest_of events (length events)
+  pub notes : telling.outlet.stop ≡ Going → telling.notes ≡ notes_of events
 
 -- the streams are made of the same plan and script, from the same start on
 pub record IsSameStream {S : Type 0} (old new : StreamWriter S) : Type 0 where

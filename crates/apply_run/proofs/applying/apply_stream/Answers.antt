@@ -2,6 +2,7 @@ use Rattle.std.proofs.Common.{◌≡◌, ◌+◌, ap, ◌∙◌, subst, refl, �
 use Rattle.apply_hooks.specs.Registry.{rules_of}
 use Rattle.apply_events.specs.Step.{Work}
 use Rattle.apply_text.specs.Lines.{lines_of, stream_of}
+use Rattle.apply_text.specs.Order.{hook_messages_of}
 use Rattle.apply_run.specs.Applied.{IsApplied, IsAppliedInPart}
 use Rattle.apply_run.specs.declared.stream.StreamWriter.{StreamWriter}
 use Rattle.apply_run.specs.declared.why.Why.TheVariants.{Memory, Workers}
@@ -67,7 +68,7 @@ returns-in-Ok-finished-clause-err g c =
     let fault = c.give_up-sink.result.1 in
     lost work options fault.why fault.report before after finished.lists events stream.output.stop c.give_up-sink.ensures.why in_part
     (for_work g.S.Sink.bytes g.S.Sink.failed work start before events stream
-    (λ p s t. IsCutOff p events (lines_of p s t events) fault.report before.bytes after.bytes (before.failed + failed_writes stream.output.stop) after.failed)
+    (λ p s t. IsCutOff p events (lines_of p s t (hook_messages_of events)) fault.report before.bytes after.bytes (before.failed + failed_writes stream.output.stop) after.failed)
     told (c.give_up-sink.ensures.part before.bytes before.failed events told.told))
 
 pub returns-clause-err : goal.returns-clause-err

@@ -1,4 +1,4 @@
-use Rattle.std.proofs.Common.{◌≡◌, ◌+◌, subst}
+use Rattle.std.proofs.Common.{subst}
 use Rattle.apply_hooks.specs.Registry.{rules_of}
 use Rattle.apply_events.specs.Lanes.Merging.{time_line}
 use Rattle.apply_events.specs.Step.{Work}

@@ -13,7 +13,7 @@ invariant-loop-event g l = record {
   script : l.stream.script.now ≡ l.fn.stream.script.now;
   start : l.stream.start ≡ l.fn.stream.start;
   count : l.stream.taken ≡ told_of l.lanes;
-  room : HasRoom (telling_of g.S.Sink.bytes g.S.Sink.failed l.stream);
+  room : HasRoom l.stream.plan.now (telling_of g.S.Sink.bytes g.S.Sink.failed l.stream);
   told : (events : List Event) × (events ++ to_come l.lanes ≡ to_come l.fn.lanes)
       × HasTold l.fn.stream.plan.now l.fn.stream.script.now l.fn.stream.start (g.S.Sink.bytes l.fn.stream.output.sink) (g.S.Sink.failed l.fn.stream.output.sink) events
       (telling_of g.S.Sink.bytes g.S.Sink.failed l.stream);

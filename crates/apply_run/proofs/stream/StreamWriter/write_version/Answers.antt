@@ -12,4 +12,4 @@ returns-clause-told g c =
     let kept = c.write_built.ensures.told in
     let built = on_ok_weaker c.push_version-built.result (λ is. is ∙ ap (λ bytes. bytes ++ text) c.clear.ensures) c.push_version-built.ensures.ok in
     told_none s.plan.now s.script.now s.start (telling_of g.S.Sink.bytes g.S.Sink.failed s) (telling_of g.S.Sink.bytes g.S.Sink.failed c.write_built.new.self) c.requires
-    (c.write_built.ensures.written text built) kept.0 kept.1 kept.2
+    (c.write_built.ensures.written text built) kept.0 kept.1 kept.2 (ap (λ v. v.items) kept.3)
