@@ -17,6 +17,7 @@ use Rattle.apply_events.specs.Totals.{totals_of}
 use Rattle.apply_events.specs.WorkerEvents.{worker_events}
 use Rattle.apply_text.specs.Latest.{latest_of}
 use Rattle.apply_text.specs.Lines.{summary_text}
+use Rattle.apply_text.specs.Order.{as_written}
 use Rattle.apply_run.specs.Applied.{IsApplied}
 use Rattle.apply_run.specs.Bytes.{Given, IsRead, WasApplied, WasRefused}
 use Rattle.apply_run.specs.declared.options.Options.{Options}
@@ -104,7 +105,7 @@ begun_of_no_memory : (given : Given) (options : Options) (report : Report) (befo
     → RanOutOfMemory (record { plan = plan; script = script; hooks = given.hooks }) options report before after → HasBegun given options before.bytes bytes
 begun_of_no_memory given options report before after bytes plan script kept read h =
     let events = h.events in
-    let last = summary_text options.start (latest_of events (length events)) options.operation (totals_of plan events) in
+    let last = summary_text options.start (latest_of (as_written events) (length (as_written events))) options.operation (totals_of plan events) in
     record {
       plan = plan;
       script = script;

@@ -9,6 +9,7 @@ use Rattle.apply_events.specs.Totals.{totals_of}
 use Rattle.apply_text.specs.declared.operation.Operation.{Operation}
 use Rattle.apply_text.specs.Latest.{latest_of}
 use Rattle.apply_text.specs.Lines.{lines_of, stream_of, summary_text}
+use Rattle.apply_text.specs.Order.{as_written}
 use Rattle.apply_run.specs.Bytes.{Given, IsRead}
 use Rattle.apply_run.specs.declared.options.Options.{Options}
 use Rattle.apply_run.specs.declared.refusal.Refusal.{Refusal}
@@ -80,9 +81,9 @@ module _ (given : Given) (lanes start : ℕ) (operation : Operation) where
 
   -- memory was refused for a line: a prefix of the lines is one of the stream
   begun_by_no_memory : (failed : ℕ) (report : Report) (before after : Sight) (bytes : Option (List ℕ)) (plan : SavedPlan) (script : Outcomes) → Keeps after.bytes bytes → IsRead given plan script
-      → IsCutOffInLanes (record { plan = plan; script = script; hooks = given.hooks }) lanes (lines_of plan script start) failed report before after → HasBegunInLanes given lanes start operation before.bytes bytes
+      → IsCutOffInLanes (record { plan = plan; script = script; hooks = given.hooks }) lanes (λ events. lines_of plan script start (as_written events)) failed report before after → HasBegunInLanes given lanes start operation before.bytes bytes
   begun_by_no_memory failed report before after bytes plan script kept read h =
-      let last = summary_text start (latest_of h.events (length h.events)) operation (totals_of plan h.events) in
+      let last = summary_text start (latest_of (as_written h.events) (length (as_written h.events))) operation (totals_of plan h.events) in
       record {
         plan = plan;
         script = script;
@@ -101,7 +102,7 @@ module _ (given : Given) (lanes start : ℕ) (operation : Operation) where
       let work : Work = record { plan = plan; script = script; hooks = given.hooks } in
       ⊎_elim
       (λ (none : DidNothing report before after). inl (subst (λ s. Keeps s.bytes bytes) none.same kept))
-      (λ (ran : IsCutOffInLanes work lanes (lines_of plan script start) before.failed report before after). inr (begun_by_no_memory before.failed report before after bytes plan script kept read ran))
+      (λ (ran : IsCutOffInLanes work lanes (λ events. lines_of plan script start (as_written events)) before.failed report before after). inr (begun_by_no_memory before.failed report before after bytes plan script kept read ran))
       h
   begun_by_fault why.Workers report before after bytes plan script kept read h = absurd h
   begun_by_fault why.Bus report before after bytes plan script kept read h = absurd h

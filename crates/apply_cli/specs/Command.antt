@@ -9,6 +9,7 @@ use Rattle.apply_events.specs.declared.event.Event.{Event}
 use Rattle.apply_events.specs.Step.{Work}
 use Rattle.apply_events.specs.WorkerEvents.{worker_events}
 use Rattle.apply_run.specs.Applied.{IsApplied, IsAppliedInPart}
+use Rattle.apply_text.specs.Order.{hook_messages_of}
 use Rattle.apply_run.specs.Bytes.{Given, IsRead, WasApplied}
 use Rattle.apply_run.specs.declared.options.Options.{Options}
 use Rattle.apply_run.specs.declared.report.Report.{Report}
@@ -38,11 +39,11 @@ pub record IsFrontOfStream (work : Work) (options : Options) (lists : List (List
   pub applied : IsApplied work options.workers lists events
   pub is_prefix : IsPrefix part (stream_for work options events)
 
--- a part of the events, and a prefix of their lines, without a summary
+-- a part of the events, and a prefix of the lines of their hook messages, without a note or a summary
 pub record IsFrontOfLines (work : Work) (options : Options) (lists : List (List ℕ)) (events : List Event)
     (part : List ℕ) : Type 0 where
   pub applied : IsAppliedInPart work options.workers lists events
-  pub is_prefix : IsPrefix part (lines_for work options events)
+  pub is_prefix : IsPrefix part (lines_for work options (hook_messages_of events))
 
 -- what was given was applied, or a part of it, and the output has a front of the stream behind the bytes that it had:
 -- with a summary only where all was applied, and then with that of all
