@@ -10,7 +10,7 @@ use Rattle.apply_events.proofs.Dealing.{count_first, count_later}
 
 -- ---- a list that rises from a number on
 
-abbrev RisesFrom : ℕ → List ℕ → Type 0
+abbrev pub RisesFrom : ℕ → List ℕ → Type 0
 RisesFrom low [] = Unit {0}
 RisesFrom low (x ∷ xs) = (low ≤ x) × RisesFrom (x + 1) xs
 
@@ -20,7 +20,7 @@ rises_behind x (y ∷ ys) rise =
     let first : x < y = rise 0 (omega arith) in
     (omega arith, rises_behind y ys (λ k less. let next : suc k + 1 ≡ suc (k + 1) = omega arith in rw next at (rise (suc k) (omega arith))))
 
-rises_from_zero : (xs : List ℕ) → IsStrictlyIncreasing xs → RisesFrom 0 xs
+pub rises_from_zero : (xs : List ℕ) → IsStrictlyIncreasing xs → RisesFrom 0 xs
 rises_from_zero [] rise = tt
 rises_from_zero (x ∷ xs) rise = (omega arith, rises_behind x xs rise)
 
@@ -80,7 +80,7 @@ own_list workers limit worker lists parts lt = (
 
 -- ---- one worker
 
-none_below : (low x : ℕ) (xs : List ℕ) → x < low → RisesFrom low xs → count_of x xs ≡ 0
+pub none_below : (low x : ℕ) (xs : List ℕ) → x < low → RisesFrom low xs → count_of x xs ≡ 0
 none_below low x [] less rise = refl
 none_below low x (y ∷ ys) less rise =
     let first : low ≤ y = rise.0 in

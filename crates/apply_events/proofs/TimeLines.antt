@@ -9,4 +9,5 @@ pub mod Order
 pub mod Partition
 pub mod Sharing
 pub mod States
+pub mod StepTimes
 pub mod Steps

@@ -5,5 +5,6 @@ pub mod LaneState
 pub mod Merging
 pub mod Props
 pub mod Sharing
+pub mod StepTimes
 pub mod TimeLine
 pub mod ToCome

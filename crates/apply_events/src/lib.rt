@@ -23,8 +23,8 @@ pub use interleaving::{
 };
 pub use lanes::Lanes;
 pub use lanes::laws::{
-    a_time_line_ends_by_the_sum_of_all_spans, lanes_deal_out_the_changes,
-    moments_of_a_time_line_never_fall, no_end_comes_before_the_mean,
+    a_step_takes_the_seconds_that_it_tells, a_time_line_ends_by_the_sum_of_all_spans,
+    lanes_deal_out_the_changes, moments_of_a_time_line_never_fall, no_end_comes_before_the_mean,
     no_lane_is_idle_while_a_change_waits, no_more_changes_are_under_way_than_lanes,
     one_lane_has_all_changes_in_order, there_is_a_time_line, two_time_lines_are_equal,
 };

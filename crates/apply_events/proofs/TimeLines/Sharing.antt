@@ -1,6 +1,6 @@
 -- How lanes share the changes out over time.
-use Rattle.std.proofs.Common.{◌≡◌, ◌≢◌, ℕ, zero, suc, ◌+◌, ◌*◌, ◌<◌, ◌≤◌, Bool, true, false, ◌&&◌, List, [], ◌∷◌, All, cond, filter, get_or, length, nat_le, nat_lt, replicate, set, sum_by, map, sym, refl, ap, ◌∙◌, subst, subst₂, ⊎_elim, arith, lt-ltb, le-ltb, if◌then◌else◌}
-use Rattle.std.proofs.lemmas.Bool.{and_right, cases_Bool, cases_lt, lt-leb}
+use Rattle.std.proofs.Common.{◌≡◌, ◌≢◌, ℕ, zero, suc, ◌+◌, ◌*◌, ◌<◌, ◌≤◌, Bool, true, false, ◌&&◌, List, [], ◌∷◌, cond, filter, get_or, length, nat_le, nat_lt, replicate, sum_by, map, sym, refl, ap, ◌∙◌, subst, subst₂, ⊎_elim, arith, lt-ltb, le-ltb, if◌then◌else◌}
+use Rattle.std.proofs.lemmas.Bool.{and_right, cases_lt, lt-leb}
 use Rattle.std.proofs.lemmas.Bool.Decides.{eqb_tells}
 use Rattle.std.proofs.lemmas.List.{get_or-replicate, get_or-set_other, get_or-set_same, length-replicate, length-set}
 use Rattle.std.proofs.lemmas.List.Elements.{All-get_or}

@@ -11,6 +11,7 @@ ghost use Rattle.apply_events.specs.WorkerEvents.{worker_events};
 ghost use Rattle.apply_events.specs.Lanes.Dealing.{lanes};
 ghost use Rattle.apply_events.specs.Lanes.Merging.{time_line};
 ghost use Rattle.apply_events.specs.Lanes.Sharing.{free_before, under_way};
+ghost use Rattle.apply_events.specs.Lanes.StepTimes.{HasOneBegin};
 ghost use Rattle.apply_events.specs.Lanes.TimeLine.{IsTimeLine};
 
 /// Two time lines of the same work by as many lanes are equal.
@@ -33,6 +34,13 @@ pub fn lanes_deal_out_the_changes()
 pub fn moments_of_a_time_line_never_fall()
     ensures { (work : Work) (n : ℕ) (events : List Event) → IsTimeLine work n events
         → IsNonDecreasingBy (λ (event : Event). event.at) events }
+{}
+
+/// Along a time line a step begins at one moment, and what happens to it comes as long after that as it says: between its
+/// start and its end lie exactly the seconds that the end tells.
+pub fn a_step_takes_the_seconds_that_it_tells()
+    ensures { (work : Work) (n change step : ℕ) (events : List Event) → IsTimeLine work n events
+        → HasOneBegin change step events }
 {}
 
 /// With one lane it is all changes in order.
