@@ -1,6 +1,7 @@
--- The latest moment so far never falls.
-use Rattle.std.proofs.Common.{ℕ, zero, suc, ◌≤◌, List, [], ◌∷◌, map, take, arith}
-use Rattle.std.specs.Prelude.{max, fold}
+-- The latest moment so far never falls, and is an event's own where moments never fall.
+use Rattle.std.proofs.Common.{◌≡◌, ℕ, zero, suc, ◌+◌, ◌<◌, ◌≤◌, List, [], ◌∷◌, ◌++◌, get_or, length, map, take, add-one, arith}
+use Rattle.std.specs.Prelude.{IfSome, max, fold, slice_get}
+use Rattle.std.specs.List.Sorted.{IsNonDecreasingBy}
 use Rattle.apply_events.specs.declared.event.Event.{Event}
 use Rattle.apply_text.specs.Latest.{latest_of}
 
@@ -16,3 +17,21 @@ from (event ∷ events) a (suc i) (suc j) few = from events (max a event.at) i j
 
 pub never_falls : (events : List Event) (i j : ℕ) → i ≤ j → latest_of events i ≤ latest_of events j
 never_falls events i j few = from events 0 i j few
+
+-- ---- an event's own
+
+-- where the first of some events, along which moments never fall, comes no earlier than what was so far
+own_from : (events behind : List Event) (a i : ℕ) → IsNonDecreasingBy (λ (event : Event). event.at) events
+    → ((d : Event) → 0 < length events → a ≤ (get_or events 0 d).at)
+    → IfSome (slice_get events i) (λ event. fold max a (map (λ (event : Event). event.at) (take (suc i) (events ++ behind))) ≡ event.at)
+own_from [] behind a i rise first = tt
+own_from (event ∷ events) behind a zero rise first = let low : a ≤ event.at = first event (omega arith) in omega arith
+own_from (event ∷ events) behind a (suc i) rise first =
+    let low : a ≤ event.at = first event (omega arith) in
+    own_from events behind (max a event.at) i
+    (λ j k d le lt. rise (suc j) (suc k) d (omega arith) (omega arith))
+    (λ d some. let next : event.at ≤ (get_or events 0 d).at = rise 0 1 d (omega arith) (omega arith) in omega arith)
+
+pub own_moment : (events behind : List Event) (i : ℕ) → IsNonDecreasingBy (λ (event : Event). event.at) events
+    → IfSome (slice_get events i) (λ event. latest_of (events ++ behind) (i + 1) ≡ event.at)
+own_moment events behind i rise = rw (add-one i) (own_from events behind 0 i rise (λ d some. omega arith))

@@ -1,6 +1,8 @@
 //! Laws of lines. Each function does nothing; its contract is the law.
 
 ghost use Rattle.std.specs.Prelude.{◌≡◌, ◌≤◌, ◌<◌, ◌+◌, ◌*◌, ◌++◌, ℕ, List, codes, count_by, decimal};
+ghost use Rattle.std.specs.Prelude.{IfSome, slice_get};
+ghost use Rattle.std.specs.List.Sorted.{IsNonDecreasingBy};
 ghost use Rattle.serde_json.specs.Data.{Data};
 ghost use Rattle.apply_plan.specs.Plan.SavedPlan.{SavedPlan};
 ghost use Rattle.apply_plan.specs.Script.Outcomes.{Outcomes};
@@ -14,6 +16,13 @@ ghost use Rattle.apply_text.specs.Lines.{line_of};
 /// The moments of the lines of a stream never fall.
 pub fn moments_of_lines_never_fall()
     ensures { (events : List Event) (i j : ℕ) → i ≤ j → latest_of events i ≤ latest_of events j }
+{}
+
+/// Where the moments of events never fall, each of their lines has its event's own moment, whatever is written behind
+/// them.
+pub fn a_line_has_its_events_own_moment()
+    ensures { (events behind : List Event) (i : ℕ) → IsNonDecreasingBy (λ (event : Event). event.at) events
+        → IfSome (slice_get events i) (λ event. latest_of (events ++ behind) (i + 1) ≡ event.at) }
 {}
 
 /// Less than a minute is told in seconds alone, a whole minute of the first hour as `1m0s`, a whole hour as `1h0m0s`.

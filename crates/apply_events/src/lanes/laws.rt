@@ -36,8 +36,8 @@ pub fn moments_of_a_time_line_never_fall()
         → IsNonDecreasingBy (λ (event : Event). event.at) events }
 {}
 
-/// Along a time line a step begins at one moment, and what happens to it comes as long after that as it says: between its
-/// start and its end lie exactly the seconds that the end tells.
+/// Along a time line a step begins at one moment, and what happens to it comes as long after that as it says: between
+/// its start and its end lie exactly the seconds that the end tells.
 pub fn a_step_takes_the_seconds_that_it_tells()
     ensures { (work : Work) (n change step : ℕ) (events : List Event) → IsTimeLine work n events
         → HasOneBegin change step events }
