@@ -2,5 +2,6 @@
 pub mod Headline
 pub mod InLanes
 pub mod Joined
+pub mod LaneLines
 pub mod Places
 pub mod Ready

@@ -1,5 +1,6 @@
 pub mod Applied
 pub mod Bytes
+pub mod LaneLines
 pub mod Lanes
 pub mod Options
 pub mod Run
