@@ -1,48 +1,115 @@
-//! What lanes report, in the order of time.
+//! What lanes report, in the order of time: rows by hand, and drawn ones, which a plain body meets too.
 
 ghost use Rattle.std.specs.Prelude.{◌<◌, ◌≤◌};
 
+mod drawn;
+mod plain;
+
 use super::*;
 use crate::Lanes;
+use drawn::drawn_changes_agree;
+use plain::plain_events;
 
-/// Changes of `null_resource.a`, `.b` and `.c`, with the actions in the places of `CELL`.
-const THREE: &str = r#"{"format_version":"1.2","resource_changes":[
-{"address":"null_resource.a","mode":"managed","type":"null_resource","name":"a","change":{"actions":CELL}},
-{"address":"null_resource.b","mode":"managed","type":"null_resource","name":"b","change":{"actions":["create"]}},
-{"address":"null_resource.c","mode":"managed","type":"null_resource","name":"c","change":{"actions":["create"]}}]}"#;
+/// Of each change its actions and its steps in the script: three creates of twelve seconds each.
+const TWELVE_EACH: &str = r#"["create"] => [{"seconds":12}]
+["create"] => [{"seconds":12}]
+["create"] => [{"seconds":12}]"#;
 
-/// What the script says of their steps.
-const TWELVE_EACH: &str = r#"{"changes":[{"address":"null_resource.a","steps":[{"seconds":12}]},
-{"address":"null_resource.b","steps":[{"seconds":12}]},{"address":"null_resource.c","steps":[{"seconds":12}]}]}"#;
+/// Five, of which four end in pairs at one moment.
+const ENDS_IN_PAIRS: &str = r#"["create"] => [{"seconds":3}]
+["create"] => [{"seconds":3}]
+["create"] => [{"seconds":2}]
+["create"] => [{"seconds":2}]
+["create"] => [{"seconds":1}]"#;
 
 /// The first is replaced beside a longer create, and the third begins where the first ends.
-const REPLACED: &str =
-    r#"{"changes":[{"address":"null_resource.a","steps":[{"seconds":5},{"seconds":4}]},
-{"address":"null_resource.b","steps":[{"seconds":11}]},{"address":"null_resource.c","steps":[{"seconds":1}]}]}"#;
+const REPLACED: &str = r#"["delete","create"] => [{"seconds":5},{"seconds":4}]
+["create"] => [{"seconds":11}]
+["create"] => [{"seconds":1}]"#;
 
 /// The first fails, and the others go on.
-const FAILED: &str =
-    r#"{"changes":[{"address":"null_resource.a","steps":[{"seconds":5,"failed":{"summary":"x"}}]},
-{"address":"null_resource.b","steps":[{"seconds":7}]},{"address":"null_resource.c","steps":[{"seconds":2}]}]}"#;
+const FAILED: &str = r#"["create"] => [{"seconds":5,"failed":{"summary":"x"}}]
+["create"] => [{"seconds":7}]
+["create"] => [{"seconds":2}]"#;
 
-/// Nothing takes time.
-const AT_ONCE: &str = r#"{"changes":[]}"#;
+/// Nothing takes time, and one change has no step.
+const AT_ONCE: &str = r#"["create"] => []
+["no-op"] => []
+["create"] => []
+["create"] => []"#;
 
-/// Of each event the moment, the lane, the change with its step, and what happens.
-fn reported(
+/// A plan with the changes in the place of `CELL`.
+const CHANGES: &str = r#"{"format_version":"1.2","resource_changes":[CELL]}"#;
+
+/// The change of that number, with its actions in the place of `CELL`.
+const CHANGE: &str =
+    r#"{"address":"null_resource.rNUMBER","mode":"managed","type":"null_resource","name":"rNUMBER","change":{"actions":CELL}}"#;
+
+/// A script with the entries in the place of `CELL`.
+const ENTRIES: &str = r#"{"changes":[CELL]}"#;
+
+/// The entry of that number, with its steps in the place of `CELL`.
+const ENTRY: &str = r#"{"address":"null_resource.rNUMBER","steps":CELL}"#;
+
+/// Adds the text, with a number and a cell in their places, to a list.
+fn add(rt: &impl Abort, alloc: Global, list: &mut String, text: &str, number: u32, cell: &str) {
+    if !list.is_empty() {
+        list.push_str(",").expect(rt, "memory");
+    }
+    let text = put(rt, alloc, text, cell);
+    let number = format!(in alloc; "{number}").expect(rt, "memory");
+    let text = text.replace(alloc, "NUMBER", number.as_str());
+    let text = text.expect(rt, "memory");
+    list.push_str(text.as_str()).expect(rt, "memory");
+}
+
+/// A plan of the changes, `null_resource.r0` and so on, and a script for it.
+fn work_of(rt: &impl Abort, alloc: Global, changes: &str) -> (Plan, Script) {
+    let mut planned = String::new(alloc);
+    let mut scripted = String::new(alloc);
+    let mut number: u32 = 0;
+    for change in changes.lines() {
+        let (actions, steps) = change.split_once(" => ").expect(rt, "actions and steps");
+        add(rt, alloc, &mut planned, CHANGE, number, actions);
+        if actions != NO_OP {
+            add(rt, alloc, &mut scripted, ENTRY, number, steps);
+        }
+        number = number.wrapping_add(1);
+    }
+    let text = put(rt, alloc, CHANGES, planned.as_str());
+    let plan = read_plan(alloc, text.as_bytes()).ok().expect(rt, "a plan");
+    let text = put(rt, alloc, ENTRIES, scripted.as_str());
+    let script = read_script(alloc, text.as_bytes(), &plan);
+    (plan, script.ok().expect(rt, "a script"))
+}
+
+/// The actions of a change without steps.
+const NO_OP: &str = r#"["no-op"]"#;
+
+/// All events that so many lanes give.
+fn lane_events(
     rt: &impl Abort,
     alloc: Global,
     plan: &Plan,
     script: &Script,
     registry: &Registry,
     count: u8,
-) -> String
+) -> Vec<Event>
     requires { (0 < count) × (count ≤ 64) }
 {
     let lanes = Lanes::start(alloc, plan, script, registry, count);
     let mut lanes = lanes.ok().expect(rt, "memory");
-    let mut text = String::new(alloc);
+    let mut events = Vec::new(alloc);
     while let Some(event) = lanes.next() {
+        events.push(event).ok().expect(rt, "memory");
+    }
+    events
+}
+
+/// Of each event the moment, the lane, the change with its step, and what happens.
+fn text_of(rt: &impl Abort, alloc: Global, events: &[Event]) -> String {
+    let mut text = String::new(alloc);
+    for event in events {
         let piece = format!(in alloc;
             "{} {} {}.{} {:?}; ",
             event.at, event.worker, event.change, event.step, event.what
@@ -53,91 +120,105 @@ fn reported(
     text
 }
 
+/// Fails where so many lanes report something else than the plain body, and otherwise gives that as text.
+fn reported(
+    rt: &impl Abort,
+    alloc: Global,
+    changes: &str,
+    registry: &Registry,
+    count: u8,
+) -> String {
+    assert!(rt; 0 < count && count <= 64);
+    let (plan, script) = work_of(rt, alloc, changes);
+    let events = lane_events(rt, alloc, &plan, &script, registry, count);
+    let found = text_of(rt, alloc, events.as_slice());
+    let events = plain_events(rt, alloc, &plan, &script, registry, count);
+    let plain = text_of(rt, alloc, events.as_slice());
+    assert!(rt;
+        found == plain,
+        "{changes} in {count} lanes: {found} plainly: {plain}"
+    );
+    found
+}
+
 /// Fails where so many lanes report something else.
 fn lanes_report(
     rt: &impl Abort,
     alloc: Global,
-    actions: &str,
-    script: &str,
+    changes: &str,
     registry: &Registry,
     count: u8,
     wanted: &str,
-)
-    requires { (0 < count) × (count ≤ 64) }
-{
-    let text = put(rt, alloc, THREE, actions);
-    let plan = read_plan(alloc, text.as_bytes()).ok().expect(rt, "a plan");
-    let script = read_script(alloc, script.as_bytes(), &plan);
-    let script = script.ok().expect(rt, "a script");
-    let found = reported(rt, alloc, &plan, &script, registry, count);
+) {
+    let found = reported(rt, alloc, changes, registry, count);
     let found = found.as_str().trim_end();
-    assert!(rt; found == wanted, "{count} lanes: {found}");
+    assert!(rt; found == wanted, "{changes} in {count} lanes: {found}");
 }
 
+/// Three starts, three beats and three ends, each at one moment.
+const ALL_AT_ONCE: &str =
+    "0 0 0.0 Start; 0 1 1.0 Start; 0 2 2.0 Start; 10 0 0.0 Progress(10); 10 1 1.0 Progress(10); 10 2 2.0 Progress(10); 12 0 0.0 Complete(12); 12 1 1.0 Complete(12); 12 2 2.0 Complete(12);";
+
+/// Two lanes, and the third change behind the first.
+const TWO_AND_ONE: &str =
+    "0 0 0.0 Start; 0 1 1.0 Start; 10 0 0.0 Progress(10); 10 1 1.0 Progress(10); 12 0 0.0 Complete(12); 12 0 2.0 Start; 12 1 1.0 Complete(12); 22 0 2.0 Progress(10); 24 0 2.0 Complete(12);";
+
+/// One after another.
+const IN_TURN: &str =
+    "0 0 0.0 Start; 10 0 0.0 Progress(10); 12 0 0.0 Complete(12); 12 0 1.0 Start; 22 0 1.0 Progress(10); 24 0 1.0 Complete(12); 24 0 2.0 Start; 34 0 2.0 Progress(10); 36 0 2.0 Complete(12);";
+
+/// At each moment the lower lane comes first, with all that it does then.
+const PAIRS: &str =
+    "0 0 0.0 Start; 0 1 1.0 Start; 3 0 0.0 Complete(3); 3 0 2.0 Start; 3 1 1.0 Complete(3); 3 1 3.0 Start; 5 0 2.0 Complete(2); 5 0 4.0 Start; 5 1 3.0 Complete(2); 6 0 4.0 Complete(1);";
+
 #[test]
-fn three_creates_in_lanes(rt: HostRuntime) {
+fn creates_in_lanes(rt: HostRuntime) {
     let alloc = rt.alloc();
     let registry = Registry::new(alloc);
-    lanes_report(
-        &rt,
-        alloc,
-        CREATE,
-        TWELVE_EACH,
-        &registry,
-        1,
-        "0 0 0.0 Start; 10 0 0.0 Progress(10); 12 0 0.0 Complete(12); 12 0 1.0 Start; 22 0 1.0 Progress(10); 24 0 1.0 Complete(12); 24 0 2.0 Start; 34 0 2.0 Progress(10); 36 0 2.0 Complete(12);",
-    );
-    lanes_report(
-        &rt,
-        alloc,
-        CREATE,
-        TWELVE_EACH,
-        &registry,
-        2,
-        "0 0 0.0 Start; 0 1 1.0 Start; 10 0 0.0 Progress(10); 10 1 1.0 Progress(10); 12 0 0.0 Complete(12); 12 0 2.0 Start; 12 1 1.0 Complete(12); 22 0 2.0 Progress(10); 24 0 2.0 Complete(12);",
-    );
-    let at_once =
-        "0 0 0.0 Start; 0 1 1.0 Start; 0 2 2.0 Start; 10 0 0.0 Progress(10); 10 1 1.0 Progress(10); 10 2 2.0 Progress(10); 12 0 0.0 Complete(12); 12 1 1.0 Complete(12); 12 2 2.0 Complete(12);";
-    lanes_report(&rt, alloc, CREATE, TWELVE_EACH, &registry, 3, at_once);
-    lanes_report(&rt, alloc, CREATE, TWELVE_EACH, &registry, 64, at_once);
+    for (changes, count, wanted) in [
+        (TWELVE_EACH, 1, IN_TURN),
+        (TWELVE_EACH, 2, TWO_AND_ONE),
+        (TWELVE_EACH, 3, ALL_AT_ONCE),
+        (TWELVE_EACH, 64, ALL_AT_ONCE),
+        (ENDS_IN_PAIRS, 2, PAIRS),
+    ] {
+        lanes_report(&rt, alloc, changes, &registry, count, wanted);
+    }
 }
+
+/// The third change begins where the first has ended, in its lane.
+const BESIDE_A_LONG_ONE: &str =
+    "0 0 0.0 Start; 0 1 1.0 Start; 5 0 0.0 Complete(5); 5 0 0.1 Start; 9 0 0.1 Complete(4); 9 0 2.0 Start; 10 0 2.0 Complete(1); 10 1 1.0 Progress(10); 11 1 1.0 Complete(11);";
+
+/// The other lane goes on.
+const BESIDE_A_FAILURE: &str =
+    "0 0 0.0 Start; 0 1 1.0 Start; 5 0 0.0 Errored(5); 5 0 0.0 ErrorNote; 5 0 2.0 Start; 7 0 2.0 Complete(2); 7 1 1.0 Complete(7);";
+
+/// A lane that is free at once takes the next change too.
+const IN_ONE_LANE: &str =
+    "0 0 0.0 Start; 0 0 0.0 Complete(0); 0 0 2.0 Start; 0 0 2.0 Complete(0); 0 0 3.0 Start; 0 0 3.0 Complete(0);";
 
 #[test]
 fn changes_of_other_lengths_in_lanes(rt: HostRuntime) {
     let alloc = rt.alloc();
     let registry = Registry::new(alloc);
-    lanes_report(
-        &rt,
-        alloc,
-        REPLACEMENT,
-        REPLACED,
-        &registry,
-        2,
-        "0 0 0.0 Start; 0 1 1.0 Start; 5 0 0.0 Complete(5); 5 0 0.1 Start; 9 0 0.1 Complete(4); 9 0 2.0 Start; 10 0 2.0 Complete(1); 10 1 1.0 Progress(10); 11 1 1.0 Complete(11);",
-    );
-    lanes_report(
-        &rt,
-        alloc,
-        CREATE,
-        FAILED,
-        &registry,
-        2,
-        "0 0 0.0 Start; 0 1 1.0 Start; 5 0 0.0 Errored(5); 5 0 0.0 ErrorNote; 5 0 2.0 Start; 7 0 2.0 Complete(2); 7 1 1.0 Complete(7);",
-    );
-    // A lane that is free at once takes the next change too.
-    lanes_report(
-        &rt,
-        alloc,
-        CREATE,
-        AT_ONCE,
-        &registry,
-        2,
-        "0 0 0.0 Start; 0 0 0.0 Complete(0); 0 0 1.0 Start; 0 0 1.0 Complete(0); 0 0 2.0 Start; 0 0 2.0 Complete(0);",
-    );
+    for (changes, count, wanted) in [
+        (REPLACED, 2, BESIDE_A_LONG_ONE),
+        (FAILED, 2, BESIDE_A_FAILURE),
+        (AT_ONCE, 2, IN_ONE_LANE),
+        (AT_ONCE, 64, IN_ONE_LANE),
+    ] {
+        lanes_report(&rt, alloc, changes, &registry, count, wanted);
+    }
 }
 
+/// The halted change takes no time, so that the other two begin at once.
+const BESIDE_A_HALT: &str =
+    "0 0 0.0 Halted { phase: Pre, hook: 0 }; 0 0 1.0 Start; 0 1 2.0 Start; 1 1 2.0 Complete(1); 10 0 1.0 Progress(10); 11 0 1.0 Complete(11);";
+
+/// A hook halts each delete before it starts.
 #[test]
-fn a_halted_change_beside_others(rt: HostRuntime) -> Result<(), Fail> {
+fn halted_changes_beside_others(rt: HostRuntime) -> Result<(), Fail> {
     let alloc = rt.alloc();
     let mut registry = Registry::new(alloc);
     let rules = halt_in(alloc, Phase::Pre, Some(StepKind::Delete))?;
@@ -149,14 +230,7 @@ fn a_halted_change_beside_others(rt: HostRuntime) -> Result<(), Fail> {
         }
     })?;
     assert!(rt; registry.add(FnHook::new(rules, answer)).is_ok());
-    lanes_report(
-        &rt,
-        alloc,
-        REPLACEMENT,
-        REPLACED,
-        &registry,
-        2,
-        "0 0 0.0 Halted { phase: Pre, hook: 0 }; 0 0 1.0 Start; 0 1 2.0 Start; 1 1 2.0 Complete(1); 10 0 1.0 Progress(10); 11 0 1.0 Complete(11);",
-    );
+    lanes_report(&rt, alloc, REPLACED, &registry, 2, BESIDE_A_HALT);
+    drawn_changes_agree(&rt, alloc, &registry);
     Ok(())
 }
