@@ -3,6 +3,7 @@
 
 ghost use Rattle.std.specs.Prelude.{◌≡◌, ◌<◌, ◌-◌, ◌^◌};
 
+mod diagnostics;
 mod failing_sinks;
 mod gates;
 mod hooks;
@@ -66,6 +67,25 @@ const FAILED_DESTROY_STREAM: &str =
 {"@level":"info","@message":"null_resource.a: Destruction errored after 4s","@module":"terraform.ui","@timestamp":"1970-01-01T00:00:04Z","hook":{"action":"delete","elapsed_seconds":4,"resource":{"addr":"null_resource.a","implied_provider":"null","module":"","resource":"null_resource.a","resource_key":null,"resource_name":"a","resource_type":"null_resource"}},"type":"apply_errored"}
 {"@level":"error","@message":"Error: boom","@module":"terraform.ui","@timestamp":"1970-01-01T00:00:04Z","diagnostic":{"address":"null_resource.a","detail":"","severity":"error","summary":"boom"},"type":"diagnostic"}
 {"@level":"info","@message":"Apply complete! Resources: 1 added, 0 changed, 0 destroyed.","@module":"terraform.ui","@timestamp":"1970-01-01T00:00:04Z","changes":{"add":1,"change":0,"operation":"apply","remove":0},"type":"change_summary"}
+"#;
+
+/// Two creates.
+const TWO_CREATES: &str =
+    r#"{"format_version":"1.2","terraform_version":"1.9.0","resource_changes":[{"address":"null_resource.a","mode":"managed","type":"null_resource","name":"a","change":{"actions":["create"]}},{"address":"null_resource.b","mode":"managed","type":"null_resource","name":"b","change":{"actions":["create"]}}]}"#;
+
+/// The first of them fails, and the other goes on.
+const FIRST_FAILS: &str =
+    r#"{"changes":[{"address":"null_resource.a","steps":[{"seconds":5,"failed":{"summary":"boom"}}]},{"address":"null_resource.b","steps":[{"seconds":3}]}]}"#;
+
+/// What one worker writes of both: the diagnostic stands behind all other lines, at the latest moment.
+const FIRST_FAILS_STREAM: &str =
+    r#"{"@level":"info","@message":"Terraform 1.9.0","@module":"terraform.ui","@timestamp":"1970-01-01T00:00:00Z","terraform":"1.9.0","type":"version","ui":"1.0"}
+{"@level":"info","@message":"null_resource.a: Creating...","@module":"terraform.ui","@timestamp":"1970-01-01T00:00:00Z","hook":{"action":"create","resource":{"addr":"null_resource.a","implied_provider":"null","module":"","resource":"null_resource.a","resource_key":null,"resource_name":"a","resource_type":"null_resource"}},"type":"apply_start"}
+{"@level":"info","@message":"null_resource.a: Creation errored after 5s","@module":"terraform.ui","@timestamp":"1970-01-01T00:00:05Z","hook":{"action":"create","elapsed_seconds":5,"resource":{"addr":"null_resource.a","implied_provider":"null","module":"","resource":"null_resource.a","resource_key":null,"resource_name":"a","resource_type":"null_resource"}},"type":"apply_errored"}
+{"@level":"info","@message":"null_resource.b: Creating...","@module":"terraform.ui","@timestamp":"1970-01-01T00:00:05Z","hook":{"action":"create","resource":{"addr":"null_resource.b","implied_provider":"null","module":"","resource":"null_resource.b","resource_key":null,"resource_name":"b","resource_type":"null_resource"}},"type":"apply_start"}
+{"@level":"info","@message":"null_resource.b: Creation complete after 3s","@module":"terraform.ui","@timestamp":"1970-01-01T00:00:08Z","hook":{"action":"create","elapsed_seconds":3,"resource":{"addr":"null_resource.b","implied_provider":"null","module":"","resource":"null_resource.b","resource_key":null,"resource_name":"b","resource_type":"null_resource"}},"type":"apply_complete"}
+{"@level":"error","@message":"Error: boom","@module":"terraform.ui","@timestamp":"1970-01-01T00:00:08Z","diagnostic":{"address":"null_resource.a","detail":"","severity":"error","summary":"boom"},"type":"diagnostic"}
+{"@level":"info","@message":"Apply complete! Resources: 1 added, 0 changed, 0 destroyed.","@module":"terraform.ui","@timestamp":"1970-01-01T00:00:08Z","changes":{"add":1,"change":0,"operation":"apply","remove":0},"type":"change_summary"}
 "#;
 
 /// A replacement that destroys first, and a create.

@@ -99,7 +99,54 @@ fn into_a_writer(rt: HostRuntime) {
     bytes_are(&rt, bytes.as_slice(), ONE_CREATE_STREAM.as_bytes());
 }
 
+/// A plan and a script, the stream of both, and what is counted of them.
+#[derive(Drop)]
+struct Run {
+    plan: &'static str,
+    script: &'static str,
+    stream: &'static str,
+    counts: Counts,
+    taken: u64,
+}
+
+/// A replacement whose second step fails.
+fn failed_destroy() -> Run {
+    Run {
+        plan: FAILED_DESTROY,
+        script: FAILED_DESTROY_SCRIPT,
+        stream: FAILED_DESTROY_STREAM,
+        counts: counts(1, 0, 0, 1),
+        taken: 5,
+    }
+}
+
+/// Two creates of which the first fails: its diagnostic is written last.
+fn first_fails() -> Run {
+    Run {
+        plan: TWO_CREATES,
+        script: FIRST_FAILS,
+        stream: FIRST_FAILS_STREAM,
+        counts: counts(1, 0, 0, 1),
+        taken: 5,
+    }
+}
+
 /// Whatever byte is the first that the sink does not take: it has all before it and nothing more, and all events are taken.
+fn fails_at_each_byte_of<R: Threads + Wait + Sync + Abort>(
+    rt: &R,
+    alloc: Global,
+    run: &Run,
+    workers: u8,
+    per_write: usize,
+)
+    requires { 1 ≤ per_write }
+{
+    for room in 0..=run.stream.len() {
+        takes_so_many(rt, alloc, run, workers, per_write, room);
+    }
+}
+
+/// The same of the failed replacement, whose stream is the same by all numbers of workers.
 fn fails_at_each_byte<R: Threads + Wait + Sync + Abort>(
     rt: &R,
     alloc: Global,
@@ -108,9 +155,22 @@ fn fails_at_each_byte<R: Threads + Wait + Sync + Abort>(
 )
     requires { 1 ≤ per_write }
 {
-    for room in 0..=FAILED_DESTROY_STREAM.len() {
-        takes_so_many(rt, alloc, workers, per_write, room);
-    }
+    fails_at_each_byte_of(rt, alloc, &failed_destroy(), workers, per_write);
+}
+
+#[test]
+fn fails_at_each_byte_around_a_diagnostic(rt: HostRuntime) {
+    fails_at_each_byte_of(&rt, rt.alloc(), &first_fails(), 1, 1);
+}
+
+#[test]
+fn fails_at_each_byte_of_short_writes_around_a_diagnostic(rt: HostRuntime) {
+    fails_at_each_byte_of(&rt, rt.alloc(), &first_fails(), 1, 7);
+}
+
+#[test]
+fn fails_at_each_byte_of_whole_lines_around_a_diagnostic(rt: HostRuntime) {
+    fails_at_each_byte_of(&rt, rt.alloc(), &first_fails(), 1, 4096);
 }
 
 #[test]
@@ -162,30 +222,36 @@ fn fails_at_each_byte_under_eight_workers(rt: HostRuntime) {
 fn takes_so_many<R: Threads + Wait + Sync + Abort>(
     rt: &R,
     alloc: Global,
+    run: &Run,
     workers: u8,
     per_write: usize,
     room: usize,
 )
     requires { 1 ≤ per_write }
 {
-    let (plan, script) = (FAILED_DESTROY, FAILED_DESTROY_SCRIPT);
     let sink = MemorySink::new(alloc, per_write, Some(room));
     let options = options(workers, 64);
-    let (sink, result) = apply_texts(rt, alloc, plan, script, options, sink, &NoGate);
-    is_cut_off(rt, sink.bytes(), room);
-    fails_once_cut_off(rt, result, sink.failures(), room);
+    let (sink, result) = apply_texts(rt, alloc, run.plan, run.script, options, sink, &NoGate);
+    is_cut_off(rt, run, sink.bytes(), room);
+    fails_once_cut_off(rt, run, result, sink.failures(), room);
 }
 
 /// Fails where the bytes are not the first ones of the stream, so many.
-fn is_cut_off(rt: &impl Abort, found: &[u8], room: usize) {
-    let whole = FAILED_DESTROY_STREAM.as_bytes();
+fn is_cut_off(rt: &impl Abort, run: &Run, found: &[u8], room: usize) {
+    let whole = run.stream.as_bytes();
     assert!(rt; Some(found) == whole.get(..room), "{room} bytes");
 }
 
 /// Fails where a run with room for so many bytes ended otherwise than it has to, or other writes failed.
-fn fails_once_cut_off(rt: &impl Abort, end: Result<Report, Fault>, failures: u64, room: usize) {
-    if room < FAILED_DESTROY_STREAM.len() {
-        end_is(rt, end, failed(counts(1, 0, 0, 1), 5, room));
+fn fails_once_cut_off(
+    rt: &impl Abort,
+    run: &Run,
+    end: Result<Report, Fault>,
+    failures: u64,
+    room: usize,
+) {
+    if room < run.stream.len() {
+        end_is(rt, end, failed(run.counts, run.taken, room));
         assert!(rt; failures == 1, "{room} bytes, {failures} failed writes");
     } else {
         assert!(rt; end.is_ok());
