@@ -29,10 +29,17 @@ def examples():
     return sorted(it for it in os.listdir(HERE) if os.path.exists(f"{HERE}/{it}/plan.json"))
 
 
+def checked_streams():
+    """The names of the examples that check a stream."""
+    return sorted(it for it in os.listdir(HERE) if os.path.exists(f"{HERE}/{it}/input.jsonl"))
+
+
 def plan_of(name):
-    """The plan of an example."""
-    with open(f"{HERE}/{name}/plan.json", "rb") as text:
-        return text.read()
+    """The plan of an example, or the stream that it checks."""
+    for given in "plan.json", "input.jsonl":
+        if os.path.exists(f"{HERE}/{name}/{given}"):
+            with open(f"{HERE}/{name}/{given}", "rb") as text:
+                return text.read()
 
 
 def words_of(name):

@@ -13,6 +13,7 @@ use crate::fault::Fault;
 use crate::finding::Finding;
 use crate::form::Form;
 use crate::place::Place;
+use crate::placed_finding::PlacedFinding;
 use crate::read_fault::ReadFault;
 use crate::reading::check_with;
 use crate::telling::{finding_object, whole_line};
@@ -22,7 +23,7 @@ use crate::words::read_words;
 use std::alloc::Global;
 use std::fmt::Display;
 use std::fs;
-use std::io::{BufRead, BufReader, Read, Write};
+use std::io::{BufRead, BufReader, Cursor, Read, Write};
 use std::rt::Files;
 
 /// The stream is whole, and tells of an error.
@@ -33,6 +34,9 @@ const REFUSED: u8 = 2;
 
 /// Memory was refused, or the output could not be written.
 const FAILED: u8 = 3;
+
+/// How many bytes of a fault's line go out in one write.
+const LINE_ROOM: usize = 1_024;
 
 /// How many bytes are asked for at once.
 const BUFFER_LEN: usize = 65_536;
@@ -148,12 +152,13 @@ fn tell_finding<W: Write, E: Write>(
     let place = place_of(checker, finding.fault);
     match form {
         Form::Text => {
-            match place {
-                Some(place) => {
-                    let _ = writeln!(faults, "applystream: {finding}: {place}");
-                }
-                None => report(faults, *finding),
-            }
+            report(
+                faults,
+                PlacedFinding {
+                    finding: *finding,
+                    place,
+                },
+            );
             REFUSED
         }
         Form::Json => {
@@ -220,7 +225,18 @@ pub fn answer_usage<W: Write, E: Write>(usage: &Usage, out: &mut W, faults: &mut
     }
 }
 
-/// Says what went wrong. A text that cannot be written is dropped, since there is nowhere left to say so.
+/// Says what went wrong, on a line of its own. A text that cannot be written is dropped, since there is nowhere left to
+/// say so.
+///
+/// The line goes out in one write, so that it stays whole beside other writers, and takes no memory of the heap. One
+/// longer than 1,024 bytes, which only a long address makes, goes out in pieces.
 fn report<E: Write, D: Display + Drop>(faults: &mut E, fault: D) {
-    let _ = writeln!(faults, "applystream: {fault}");
+    let mut line = Cursor::new([0u8; LINE_ROOM]);
+    let _ = match writeln!(line, "applystream: {fault}") {
+        Ok(()) => {
+            let end = (line.position() as usize).min(LINE_ROOM);
+            faults.write_all(&line.get_ref()[..end])
+        }
+        Err(_) => writeln!(faults, "applystream: {fault}"),
+    };
 }

@@ -18,6 +18,7 @@ mod open_steps;
 mod part;
 mod pending;
 mod place;
+mod placed_finding;
 mod read_fault;
 mod reading;
 mod settings;
