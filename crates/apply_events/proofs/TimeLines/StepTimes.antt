@@ -3,22 +3,26 @@ use Rattle.std.proofs.Common.{◌≡◌, ◌≢◌, ℕ, zero, suc, ◌+◌, ◌
 use Rattle.std.specs.Prelude.{is_some, option_map, option_to_list}
 use Rattle.std.specs.List.{enumerate_from}
 use Rattle.std.proofs.lemmas.Bool.{cases_lt}
-use Rattle.std.proofs.lemmas.List.Elements.{All-append, All-cons, All-nil, All-weaker}
+use Rattle.std.proofs.lemmas.List.Elements.{All-append, All-cons, All-map, All-nil, All-weaker}
 use Rattle.std.proofs.lemmas.List.Sums.{get_or-le-sum_by, sum_by-cons}
 use Rattle.apply_plan.specs.declared.plan.step_kind.StepKind.{StepKind}
+use Rattle.apply_plan.specs.declared.script.provisioner.Provisioner.{Provisioner}
+use Rattle.apply_plan.specs.Script.Outcome.{has_failed}
 use Rattle.apply_hooks.specs.declared.phase.Phase.{Phase}
 use Rattle.apply_hooks.specs.declared.phase.Phase.TheVariants.{Pre}
 use Rattle.apply_events.specs.declared.event.Event.{Event}
-use Rattle.apply_events.specs.declared.what.What.TheVariants.{Complete, ErrorNote, Errored, Halted, Progress, Start, WarnNote}
+use Rattle.apply_events.specs.declared.what.What.{What}
+use Rattle.apply_events.specs.declared.what.What.TheVariants.{Complete, ErrorNote, Errored, Halted, ProvisionComplete, ProvisionErrored, Start, WarnNote}
 use Rattle.apply_events.specs.ChangeEvents.{begun, change_events, in_turn, span_of}
 use Rattle.apply_events.specs.Interleaving.{IsInterleaving}
 use Rattle.apply_events.specs.Partition.{IsPartition, count_of, places}
-use Rattle.apply_events.specs.ProgressTimes.{progress_times}
+use Rattle.apply_events.specs.Provisions.{provision_end}
 use Rattle.apply_events.specs.Step.{Step, Work, kinds_of, step_of, steps_of}
-use Rattle.apply_events.specs.StepEvents.{end_of, endings, event, goes_on, halts, notes, phase_after, started, step_events, step_time}
+use Rattle.apply_events.specs.StepEvents.{between, end_of, endings, event, goes_on, halts, notes, phase_after, seconds_of, started, step_events, step_time}
 use Rattle.apply_events.specs.WorkerEvents.{worker_events}
 use Rattle.apply_events.specs.Lanes.StepTimes.{ComesAsTold, HasOneBegin}
 use Rattle.apply_events.proofs.Dealing.{count_first, count_later}
+use Rattle.apply_events.proofs.Provisions.{all_along}
 use Rattle.apply_events.proofs.Parts.{RisesFrom, none_below, rises_from_zero}
 use Rattle.apply_events.proofs.TimeLines.Merge.{all_parts}
 use Rattle.apply_events.proofs.TimeLines.Order.{nobody_else}
@@ -29,38 +33,43 @@ use Rattle.apply_events.proofs.TimeLines.Order.{nobody_else}
 abbrev IsOnTime : (begin : ℕ) → Step → Event → Type 0
 IsOnTime begin s e = (e.change ≡ s.change) × (e.step ≡ s.number) × ComesAsTold begin e
 
-mapped : {X : Type 0} (P : Event → Type 0) (g : X → Event) (xs : List X) → ((x : X) → P (g x)) → All P (map g xs)
-mapped P g [] h = All-nil P
-mapped P g (x ∷ xs) h = All-cons P (g x) (map g xs) (h x) (mapped P g xs h)
-
 halt_on_time : (w begin at : ℕ) (s : Step) (phase : Phase) (found : Option ℕ) → All (IsOnTime begin s) (option_to_list (option_map (λ hook. event w s at (Halted phase hook)) found))
 halt_on_time w begin at s phase None = All-nil (IsOnTime begin s)
 halt_on_time w begin at s phase (Some hook) = All-cons (IsOnTime begin s) (event w s at (Halted phase hook)) [] (refl, refl, tt) (All-nil (IsOnTime begin s))
 
-note_on_time : (w at : ℕ) (s : Step) (warns : Bool) → All (IsOnTime at s) (map (λ what. event w s (at + s.seconds) what) (notes false warns))
-note_on_time w at s true = All-cons (IsOnTime at s) (event w s (at + s.seconds) WarnNote) [] (refl, refl, tt) (All-nil (IsOnTime at s))
+note_on_time : (w at : ℕ) (s : Step) (warns : Bool) → All (IsOnTime at s) (map (λ what. event w s (at + seconds_of s) what) (notes false warns))
+note_on_time w at s true = All-cons (IsOnTime at s) (event w s (at + seconds_of s) WarnNote) [] (refl, refl, tt) (All-nil (IsOnTime at s))
 note_on_time w at s false = All-nil (IsOnTime at s)
 
-end_on_time : (w at : ℕ) (s : Step) (fails warns : Bool) → All (IsOnTime at s) (map (λ what. event w s (at + s.seconds) what) (end_of fails s.seconds ∷ notes fails warns))
+end_on_time : (w at : ℕ) (s : Step) (fails warns : Bool) → All (IsOnTime at s) (map (λ what. event w s (at + seconds_of s) what) (end_of fails (seconds_of s) ∷ notes fails warns))
 end_on_time w at s true warns =
-    All-cons (IsOnTime at s) (event w s (at + s.seconds) (Errored s.seconds)) (event w s (at + s.seconds) ErrorNote ∷ []) (refl, refl, refl)
-    (All-cons (IsOnTime at s) (event w s (at + s.seconds) ErrorNote) [] (refl, refl, tt) (All-nil (IsOnTime at s)))
+    All-cons (IsOnTime at s) (event w s (at + seconds_of s) (Errored (seconds_of s))) (event w s (at + seconds_of s) ErrorNote ∷ []) (refl, refl, refl)
+    (All-cons (IsOnTime at s) (event w s (at + seconds_of s) ErrorNote) [] (refl, refl, tt) (All-nil (IsOnTime at s)))
 end_on_time w at s false warns =
-    All-cons (IsOnTime at s) (event w s (at + s.seconds) (Complete s.seconds)) (map (λ what. event w s (at + s.seconds) what) (notes false warns)) (refl, refl, refl)
+    All-cons (IsOnTime at s) (event w s (at + seconds_of s) (Complete (seconds_of s))) (map (λ what. event w s (at + seconds_of s) what) (notes false warns)) (refl, refl, refl)
     (note_on_time w at s warns)
+
+-- what happens between the start and the end
+between_on_time : (w at : ℕ) (s : Step) → All (IsOnTime at s) (map (λ (p : ℕ × What). event w s (at + p.0) p.1) (between s))
+between_on_time w at s =
+    All-map (IsOnTime at s) (λ (p : ℕ × What). event w s (at + p.0) p.1) (between s)
+    (all_along (λ p. IsOnTime at s (event w s (at + p.0) p.1)) (seconds_of s) 0 0 s.provider_seconds s.ran
+    (λ t. (refl, refl, refl)) (λ i p since. (refl, refl, tt)) (λ i p j since. (refl, refl, tt)) (λ i p since. end_says_no_time i p since))
+  where
+    end_says_no_time : (i : ℕ) (p : Provisioner) (since : ℕ) → IsOnTime at s (event w s (at + since) (provision_end i p))
+    end_says_no_time i p since =
+        elim (has_failed p) as (λ b. IsOnTime at s (event w s (at + since) (cond b (ProvisionErrored i) (ProvisionComplete i)))) [ true ↦ (refl, refl, tt) | false ↦ (refl, refl, tt) ]
 
 started_on_time : (w at : ℕ) (s : Step) → All (IsOnTime at s) (started w s at)
 started_on_time w at s =
-    let progress = map (λ (p : ℕ). event w s (at + p) (Progress p)) (progress_times s.seconds) in
-    let ends = map (λ what. event w s (at + s.seconds) what) (endings s) in
-    let halt = halts w s (phase_after s.fails) (at + s.seconds) in
+    let told = map (λ (p : ℕ × What). event w s (at + p.0) p.1) (between s) in
+    let ends = map (λ what. event w s (at + seconds_of s) what) (endings s) in
+    let halt = halts w s (phase_after s.fails) (at + seconds_of s) in
     let here : at ≡ at + 0 = omega arith in
-    All-cons (IsOnTime at s) (event w s at Start) (progress ++ ends ++ halt) (refl, refl, here)
-    (All-append (IsOnTime at s) (progress ++ ends) halt
-    (All-append (IsOnTime at s) progress ends
-    (mapped (IsOnTime at s) (λ (p : ℕ). event w s (at + p) (Progress p)) (progress_times s.seconds) (λ p. (refl, refl, refl)))
-    (end_on_time w at s s.fails s.warns))
-    (halt_on_time w at (at + s.seconds) s (phase_after s.fails) (s.halts (phase_after s.fails))))
+    All-cons (IsOnTime at s) (event w s at Start) (told ++ ends ++ halt) (refl, refl, here)
+    (All-append (IsOnTime at s) (told ++ ends) halt
+    (All-append (IsOnTime at s) told ends (between_on_time w at s) (end_on_time w at s s.fails s.warns))
+    (halt_on_time w at (at + seconds_of s) s (phase_after s.fails) (s.halts (phase_after s.fails))))
 
 step_on_time : (w at : ℕ) (s : Step) → All (IsOnTime at s) (step_events w s at)
 step_on_time w at s = with_halt w at s (s.halts Pre)
