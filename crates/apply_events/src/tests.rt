@@ -8,11 +8,8 @@ mod changes;
 mod counting;
 mod fitting;
 mod lanes;
-<<<<<<< HEAD
 mod notes;
-=======
 mod provisioners;
->>>>>>> 771c55d (apply_events: rows and wrong bodies of provisioners)
 
 use crate::{Counts, Event, LATEST, Runner, What, fits};
 use apply_hooks::{FnHook, HookCall, HookClosure, Phase, Registry, Rule, Rules, Verdict};
