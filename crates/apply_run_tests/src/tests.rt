@@ -8,6 +8,7 @@ mod failing_sinks;
 mod gates;
 mod hooks;
 mod hostile;
+mod lanes;
 mod lines;
 mod progress;
 mod refusals;
@@ -22,7 +23,7 @@ use apply_hooks::Registry;
 use apply_plan::{Plan, PlanError, Script, ScriptError, read_plan, read_script};
 use apply_run::{
     Fault, Gate, MemorySink, NoGate, Options, Refusal, Report, Sink, SinkFault, StdSink, Why,
-    apply_bytes, apply_stream,
+    apply_bytes, apply_bytes_in_lanes, apply_in_lanes, apply_stream,
 };
 use apply_text::{Operation, Start};
 use lines::{

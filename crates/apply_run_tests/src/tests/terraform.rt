@@ -14,6 +14,7 @@ mod modules_nested;
 mod replace_create_delete;
 mod update_in_place;
 
+use super::lanes::written_in_lanes;
 use super::*;
 
 /// The moment of each line: no step takes any time.
@@ -54,10 +55,20 @@ fn changes_are_as_of_terraform<R: Threads + Wait + Sync + Abort>(
     lines_are_of_changes(rt, bare.as_str(), case.stream);
 }
 
-/// Fails where one worker writes other lines, or the lines of a change are others where there are more workers.
+/// Fails where ten lanes write other lines. All that Terraform printed came within a second, and no step takes any time:
+/// so the lines stand change by change, as in the case.
+fn lanes_are_as_of_terraform(rt: &impl Abort, alloc: Global, case: &Case) {
+    let sink = written_in_lanes(rt, alloc, case.plan, case.script, 10, case.operation);
+    let bare = text_of(rt, &sink).replace(alloc, MOMENT, "");
+    let bare = bare.expect(rt, "memory");
+    text_is(rt, "ten lanes", bare.as_str(), case.stream);
+}
+
+/// Fails where one worker or ten lanes write other lines, or the lines of a change are others where there are more workers.
 fn is_as_of_terraform<R: Threads + Wait + Sync + Abort>(rt: &R, alloc: Global, case: &Case) {
     let bare = bare_stream(rt, alloc, case, 1);
     text_is(rt, "one worker", bare.as_str(), case.stream);
+    lanes_are_as_of_terraform(rt, alloc, case);
     changes_are_as_of_terraform(rt, alloc, case, 2);
     changes_are_as_of_terraform(rt, alloc, case, 8);
 }

@@ -1,0 +1,192 @@
+//! Plans that are applied in lanes: whole streams, refusals, and sinks that fail.
+
+ghost use Rattle.std.specs.Prelude.{◌<◌, ◌≤◌, ◌-◌, ◌^◌};
+
+use super::*;
+
+/// Applies what both texts say in so many lanes.
+pub(super) fn apply_texts_in_lanes<S: Sink + Drop>(
+    alloc: Global,
+    plan: &str,
+    script: &str,
+    lanes: u8,
+    operation: Operation,
+    sink: S,
+) -> (S, Result<Report, Refusal>)
+    requires { S.failed sink < 2 ^ 64 - 1 }
+{
+    let registry = Registry::new(alloc);
+    let script = script_bytes(script);
+    let plan = plan.as_bytes();
+    apply_bytes_in_lanes(
+        alloc,
+        plan,
+        script,
+        &registry,
+        lanes,
+        Start::zero(),
+        operation,
+        sink,
+    )
+}
+
+/// The same where it has to succeed. What was written.
+pub(super) fn written_in_lanes(
+    rt: &impl Abort,
+    alloc: Global,
+    plan: &str,
+    script: &str,
+    lanes: u8,
+    operation: Operation,
+) -> MemorySink {
+    let sink = memory(alloc);
+    let (sink, result) = apply_texts_in_lanes(alloc, plan, script, lanes, operation, sink);
+    match result {
+        Ok(report) => has_taken(rt, &sink, report.written),
+        Err(refusal) => panic!(rt; "{plan}: {refusal}"),
+    }
+    number_is(rt, "failed writes", sink.failures(), 0);
+    sink
+}
+
+/// Two creates of twelve seconds, and one of three.
+const THREE_CREATES: &str =
+    r#"{"format_version":"1.2","terraform_version":"1.9.0","resource_changes":[{"address":"null_resource.a","mode":"managed","type":"null_resource","name":"a","change":{"actions":["create"]}},{"address":"null_resource.b","mode":"managed","type":"null_resource","name":"b","change":{"actions":["create"]}},{"address":"null_resource.c","mode":"managed","type":"null_resource","name":"c","change":{"actions":["create"]}}]}"#;
+
+/// How long they take.
+const TWELVE_AND_THREE: &str =
+    r#"{"changes":[{"address":"null_resource.a","steps":[{"seconds":12}]},{"address":"null_resource.b","steps":[{"seconds":3}]},{"address":"null_resource.c","steps":[{"seconds":12}]}]}"#;
+
+/// When what is written of them in two lanes: the third begins where the second ends.
+const TWO_LANES: &str = "00:00:00Z Terraform 1.9.0
+00:00:00Z null_resource.a: Creating...
+00:00:00Z null_resource.b: Creating...
+00:00:03Z null_resource.b: Creation complete after 3s
+00:00:03Z null_resource.c: Creating...
+00:00:10Z null_resource.a: Still creating... [10s elapsed]
+00:00:12Z null_resource.a: Creation complete after 12s
+00:00:13Z null_resource.c: Still creating... [10s elapsed]
+00:00:15Z null_resource.c: Creation complete after 12s
+00:00:15Z Apply complete! Resources: 3 added, 0 changed, 0 destroyed.";
+
+/// Fails where the line has another time of the day, or another message.
+fn tells(rt: &impl Abort, line: &str, wanted: &str) {
+    let (_, time) = parted(rt, moment_of(rt, line), "T");
+    let (_, rest) = parted(rt, line, r#""@message":""#);
+    let (message, _) = parted(rt, rest, r#"","@module""#);
+    assert!(rt;
+        parted(rt, wanted, " ") == (time, message),
+        "{line} and not {wanted}"
+    );
+}
+
+#[test]
+fn lines_have_the_moments_of_their_events(rt: HostRuntime) {
+    let (plan, script) = (THREE_CREATES, TWELVE_AND_THREE);
+    let sink = written_in_lanes(&rt, rt.alloc(), plan, script, 2, Operation::Apply);
+    let text = text_of(&rt, &sink);
+    number_is(&rt, "lines", lines_of(text), lines_of(TWO_LANES));
+    for (line, wanted) in text.lines().zip(TWO_LANES.lines()) {
+        tells(&rt, line, wanted);
+    }
+}
+
+/// One lane writes what one worker does.
+#[test]
+fn one_lane_is_one_worker(rt: HostRuntime) {
+    let alloc = rt.alloc();
+    let (plan, script) = (FAILED_DESTROY, FAILED_DESTROY_SCRIPT);
+    let sink = written_in_lanes(&rt, alloc, plan, script, 1, Operation::Apply);
+    text_is(&rt, "one lane", text_of(&rt, &sink), FAILED_DESTROY_STREAM);
+    let (plan, script) = (THREE_CREATES, TWELVE_AND_THREE);
+    let sink = written_in_lanes(&rt, alloc, plan, script, 1, Operation::Destroy);
+    let registry = Registry::new(alloc);
+    let mut options = options(1, 64);
+    options.operation = Operation::Destroy;
+    let wanted = applied(&rt, alloc, plan, script, &registry, options);
+    text_is(
+        &rt,
+        "one worker",
+        text_of(&rt, &sink),
+        text_of(&rt, &wanted),
+    );
+}
+
+/// A plan and a script that were read, and what was done.
+#[test]
+fn a_plan_that_was_read_in_lanes(rt: HostRuntime) {
+    let alloc = rt.alloc();
+    let plan = plan_of(&rt, alloc, ONE_CREATE);
+    let script = Script::empty(alloc);
+    let registry = Registry::new(alloc);
+    let (sink, result) = apply_in_lanes(
+        alloc,
+        &plan,
+        &script,
+        &registry,
+        64,
+        Start::zero(),
+        Operation::Apply,
+        memory(alloc),
+    );
+    text_is(&rt, "64 lanes", text_of(&rt, &sink), ONE_CREATE_STREAM);
+    let report = report_of(&rt, result);
+    counts_are(&rt, report.counts, counts(1, 0, 0, 0));
+    number_is(&rt, "events", report.taken, 2);
+    has_taken(&rt, &sink, report.written);
+}
+
+/// Fails where the texts are not refused so in so many lanes, or anything was written.
+fn lanes_refuse(
+    rt: &impl Abort,
+    alloc: Global,
+    plan: &str,
+    script: &str,
+    lanes: u8,
+    wanted: Refusal,
+) {
+    let sink = memory(alloc);
+    let (sink, result) = apply_texts_in_lanes(alloc, plan, script, lanes, Operation::Apply, sink);
+    assert_eq!(rt; result, Err(wanted), "{plan} {script} in {lanes} lanes");
+    assert!(rt; sink.bytes().is_empty(), "{plan} {script} in {lanes} lanes");
+}
+
+/// The plan is refused before the script, and the script before the number of lanes.
+#[test]
+fn refusals_in_lanes(rt: HostRuntime) {
+    let alloc = rt.alloc();
+    let no_json = Refusal::Plan(PlanError::NotJson);
+    lanes_refuse(&rt, alloc, "[", "{", 0, no_json);
+    let no_script = Refusal::Script(ScriptError::NotJson);
+    lanes_refuse(&rt, alloc, ONE_CREATE, "{", 65, no_script);
+    lanes_refuse(&rt, alloc, ONE_CREATE, NO_SCRIPT, 0, Refusal::Size);
+    lanes_refuse(&rt, alloc, ONE_CREATE, NO_SCRIPT, 65, Refusal::Size);
+    lanes_refuse(&rt, alloc, ONE_CREATE, NO_SCRIPT, 255, Refusal::Size);
+}
+
+/// Whatever byte is the first that the sink does not take: it has all before it and nothing more, and all events are
+/// counted.
+#[test]
+fn fails_at_each_byte_in_lanes(rt: HostRuntime) {
+    for room in 0..FAILED_DESTROY_STREAM.len() {
+        is_cut_off_in_lanes(&rt, rt.alloc(), room);
+    }
+}
+
+/// Fails where a sink with room for so many bytes of the stream gets others, or the run does not end as it has to.
+fn is_cut_off_in_lanes(rt: &impl Abort, alloc: Global, room: usize) {
+    let sink = MemorySink::new(alloc, 7, Some(room));
+    let (plan, script) = (FAILED_DESTROY, FAILED_DESTROY_SCRIPT);
+    let (sink, result) = apply_texts_in_lanes(alloc, plan, script, 10, Operation::Apply, sink);
+    let whole = FAILED_DESTROY_STREAM.as_bytes();
+    assert!(rt; Some(sink.bytes()) == whole.get(..room), "{room} bytes");
+    assert!(rt; sink.failures() == 1, "{room} bytes");
+    let report = Report {
+        counts: counts(1, 0, 0, 1),
+        taken: 5,
+        written: room as u128,
+    };
+    let why = Why::Write;
+    let wanted = Err(Refusal::Fault(Fault { why, report }));
+    assert_eq!(rt; result, wanted, "{room} bytes");
+}
