@@ -157,6 +157,11 @@ def disorder(printed, wanted, plan, whole):
         return "the first or the last line stands where it must not, or is missing"
     if whole and found[-1]["changes"] != known[-1]["changes"]:
         return "the summary counts otherwise"
+    messages = sum("hook" in line for line in found)
+    if "diagnostic" in types[:messages]:
+        return "a diagnostic stands before a hook's message"
+    if "diagnostic" in types and messages < sum("hook" in line for line in known):
+        return "a diagnostic stands there, and lines before it are missing"
     own, wanted_lines, shared = by_change(found), by_change(known), shared_addresses(plan)
     for address, lines in own.items():
         rest = wanted_lines.get(address, [])

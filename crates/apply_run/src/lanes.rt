@@ -27,15 +27,17 @@ pub const MAX_LANES: u8 = 64;
 
 /// Applies a plan in 1 to 64 lanes, as `terraform apply -parallelism` has it: each change goes, in the plan's order, to the
 /// lane that is free first, at one moment to the lowest, and of what the lanes report the stream is written in the order of
-/// time, at one moment the lower lane first: the version, a line for each event, and the summary (Machine-Readable UI). A
-/// step without an entry in the script is done after 0 seconds. The sink comes back beside every answer.
+/// time, at one moment the lower lane first: the version, hook messages, then diagnostics, and the summary
+/// (Machine-Readable UI). A step without an entry in the script is done after 0 seconds. The sink comes back beside every
+/// answer.
 ///
 /// The same plan, script, hooks and number of lanes give the same bytes. No thread is started, and nothing is waited for.
 ///
 /// `Ok` where all of the stream was written. Otherwise `Err`, with why, and with what was done:
 ///
-/// - `Why::Memory` where memory was refused. Before the first line: nothing was told or written. For a line: all events
-///   were counted all the same, and that line and all later ones, with the summary, were not written.
+/// - `Why::Memory` where memory was refused. Before the first line: nothing was told or written. For a line, or to keep what
+///   a diagnostic tells: all events were counted all the same, and that line and all later ones, with the summary, were not
+///   written.
 /// - `Why::Write` where the sink failed: it was written to no more. All events were counted all the same.
 pub fn apply_in_lanes<'a, S: Sink + Drop>(
     alloc: Global,

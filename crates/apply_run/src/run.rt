@@ -55,7 +55,7 @@ pub(crate) struct JoinedRun<'a, S: Drop> {
 /// A joined run whose workers were reconciled with what was taken.
 #[derive(Drop)]
 pub(crate) struct FinishedRun<'a, S: Drop> {
-    /// The stream, without its summary.
+    /// The stream, without its notes and its summary.
     pub stream: StreamWriter<'a, S>,
     /// Whether all that the workers had to tell was told.
     pub whole: bool,

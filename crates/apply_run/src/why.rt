@@ -12,7 +12,7 @@ pub enum Why {
     /// A thread was refused. No worker had begun.
     #[error("a worker could not be started")]
     Workers,
-    /// Memory was refused: before the threads, or for a line.
+    /// Memory was refused: before the threads, for a line, or to keep what a diagnostic tells.
     #[error("out of memory")]
     Memory,
     /// The sink failed.

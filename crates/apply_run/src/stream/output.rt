@@ -12,7 +12,7 @@ pub(crate) enum Stop {
     Going,
     /// A write failed.
     Failed,
-    /// A line was refused memory.
+    /// Memory was refused, for a line or to keep a note.
     NoMemory,
 }
 
@@ -54,7 +54,7 @@ impl<S: Sink + Drop> Output<S> {
         }
     }
 
-    /// Nothing more is written, since a line was refused memory.
+    /// Nothing more is written, since memory was refused.
     pub fn stop_for_memory(&mut self)
         ensures written { (bytes : List ℕ)
             → Writes (outlet_of S.bytes S.failed self.old) (outlet_of S.bytes S.failed self.new) bytes }
