@@ -11,7 +11,7 @@ pub const ONE_CREATE: &str =
 
 /// Its script.
 pub const ONE_SCRIPT: &str =
-    r#"{"changes":[{"address":"random_pet.animal","steps":[{"seconds":12,"id":"brave-otter","warning":{"summary":"slow","detail":"The provider is slow."}}]}]}"#;
+    r#"{"changes":[{"address":"random_pet.animal","steps":[{"seconds":12,"id":"brave-otter","warning":{"summary":"slow","detail":"The provider is slow."},"provisioners":[{"provisioner":"file","seconds":0},{"provisioner":"local-exec","seconds":1,"output":["hi","there"],"failed":{"summary":"boom"}},{"provisioner":"file","seconds":2}]}]}]}"#;
 
 /// A plan with a module whose key is quoted.
 const QUOTED: &str =
