@@ -21,4 +21,5 @@ rest_of r = drop (r.step + 1) (steps_of (course_of r).work r.change)
 -- what still happens to it before its end, where it is so far
 abbrev pub left_before : {a b : _} {g : _} → Runner a b g → MidStep → List (ℕ × What)
 left_before r mid =
-    left_of (outcome_of r.script.now r.change r.step).seconds (ran (outcome_of r.script.now r.change r.step).provisioners) mid
+    left_of (outcome_of r.script.now r.change r.step).seconds
+    (ran (outcome_of r.script.now r.change r.step).provisioners) mid

@@ -42,7 +42,8 @@ from_stage worker [] at Noting = []
 from_stage worker [] at (Halting hook) = []
 from_stage worker (step ∷ steps) at (Running mid) = running worker step at mid ++ behind worker step steps at
 from_stage worker (step ∷ steps) at Noting =
-    event worker step (at + seconds_of step) (note_of step.fails) ∷ (halt_after worker step at ++ behind worker step steps at)
+    event worker step (at + seconds_of step) (note_of step.fails)
+    ∷ (halt_after worker step at ++ behind worker step steps at)
 from_stage worker (step ∷ steps) at (Halting hook) =
     event worker step (at + seconds_of step) (Halted (phase_after step.fails) hook) ∷ []
 

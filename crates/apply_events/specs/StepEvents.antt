@@ -19,7 +19,8 @@ event worker step at what = record { worker = worker; change = step.change; step
 
 -- the halt in a phase, where a hook halts
 abbrev pub halts : (worker : ℕ) → Step → Phase → (at : ℕ) → List Event
-halts worker step phase at = option_to_list (option_map (λ hook. event worker step at (Halted phase hook)) (step.halts phase))
+halts worker step phase at =
+    option_to_list (option_map (λ hook. event worker step at (Halted phase hook)) (step.halts phase))
 
 -- the phase in which hooks are asked after a step that fails or does not
 abbrev pub phase_after : (fails : Bool) → Phase
@@ -37,8 +38,8 @@ notes fails warns = if fails then ErrorNote ∷ [] else if warns then WarnNote �
 abbrev pub endings : Step → List What
 endings step = end_of step.fails (seconds_of step) ∷ notes step.fails step.warns
 
--- what happens to a step between its start and its end, and after how many seconds: progress up to the provider's end, and
--- then the provisioners, with the progress that falls within each
+-- what happens to a step between its start and its end, and after how many seconds: progress up to the provider's end,
+-- and then the provisioners, with the progress that falls within each
 abbrev pub between : Step → List (ℕ × What)
 between step = along (seconds_of step) 0 0 step.provider_seconds step.ran
 

@@ -72,7 +72,8 @@ impl MidStep {
         Some((begin, What::ProvisionStart(self.provisioner)))
     }
 
-    /// What happens next, where the provisioner at hand has begun and told so many outputs: progress, an output, or its end.
+    /// What happens next, where the provisioner at hand has begun and told so many outputs: progress, an output, or that
+    /// it ends.
     fn run(&mut self, outcome: &Outcome, line: u8) -> Option<(u32, What)>
         requires short { took outcome.now ≤ max_seconds }
         requires outputs { self.old.outputs ≡ Some line }

@@ -74,6 +74,6 @@ event_is plan script start latest event step kinds moment change steps kind outc
     let few : event.step < length step.change.now.steps = subst (λ (o : Option ResourceChange). event.step < length (option_map_or (λ change. change.steps) o [])) (sym change) has in
     let found : slice_get step.change.now.steps event.step ≡ Some step.kind = slice_get-get_or step.change.now.steps event.step Create few ∙ ap (λ ks. Some (get_or ks event.step Create)) (sym steps) ∙ ap Some (sym kind) in
     message_is (start + latest) moment (message_of step event.what) moments
-    ∙ ap (λ (o : Option Outcome). message_line (start + latest) (event_message step.change.now step.kind (unwrap_or o default_outcome).result event.what)) outcome
-    ∙ ap (λ (o : Option StepKind). option_map_or (λ kind. message_line (start + latest) (event_message step.change.now kind (outcome_of script event.change event.step).result event.what)) o []) (sym found)
-    ∙ ap (λ (o : Option ResourceChange). option_map_or (λ change. option_map_or (λ kind. message_line (start + latest) (event_message change kind (outcome_of script event.change event.step).result event.what)) (slice_get change.steps event.step) []) o []) change
+    ∙ ap (λ (o : Option Outcome). message_line (start + latest) (event_message step.change.now step.kind (unwrap_or o default_outcome) event.what)) outcome
+    ∙ ap (λ (o : Option StepKind). option_map_or (λ kind. message_line (start + latest) (event_message step.change.now kind (outcome_of script event.change event.step) event.what)) o []) (sym found)
+    ∙ ap (λ (o : Option ResourceChange). option_map_or (λ change. option_map_or (λ kind. message_line (start + latest) (event_message change kind (outcome_of script event.change event.step) event.what)) (slice_get change.steps event.step) []) o []) change

@@ -4,7 +4,7 @@ use Rattle.apply_plan.specs.declared.plan.step_kind.StepKind.{StepKind}
 use Rattle.apply_plan.specs.Plan.ResourceChange.{ResourceChange}
 use Rattle.apply_hooks.specs.declared.phase.Phase.{Phase}
 use Rattle.apply_text.specs.Elapsed.{elapsed_of}
-use Rattle.apply_text.specs.Message.{complete_message, halt_of, id_note}
+use Rattle.apply_text.specs.Message.{complete_message, halt_of, id_note, provision_complete_message, provision_errored_message}
 use Rattle.apply_text.specs.Words.{action_word, noun_word, phase_words}
 
 pub cleared : (old new text : List ℕ) → old ≡ [] → new ≡ old ++ text → new ≡ text
@@ -19,3 +19,12 @@ complete_text change step seconds address noun id id₂ addresses nouns ids = rw
 pub halt_text : (step : StepKind) (phase : Phase) (hook : ℕ) (phases action : List ℕ) → phases ≡ phase_words phase → action ≡ action_word step
     → codes "Hook " ++ (decimal hook ++ (codes " answered Halt " ++ (phases ++ (codes " " ++ (action ++ codes "."))))) ≡ (halt_of step phase hook).detail
 halt_text step phase hook phases action same_phases same_action = rw (same_phases, same_action) (simp append_assoc)
+
+-- the pieces of the texts that tell of a provisioner's end
+pub provision_complete_text : (change : ResourceChange) (address name name₂ : List ℕ) → address ≡ change.address → name ≡ name₂
+    → address ++ (codes ": (" ++ (name ++ codes ") Provisioning complete")) ≡ (provision_complete_message change name₂).text
+provision_complete_text change address name name₂ addresses names = rw (addresses, names) (simp append_assoc)
+
+pub provision_errored_text : (change : ResourceChange) (address name name₂ : List ℕ) → address ≡ change.address → name ≡ name₂
+    → address ++ (codes ": (" ++ (name ++ codes ") Provisioning errored")) ≡ (provision_errored_message change name₂).text
+provision_errored_text change address name name₂ addresses names = rw (addresses, names) (simp append_assoc)

@@ -14,9 +14,11 @@ abbrev pub tells_of_completion : SavedPlan → Outcomes → Event → Bool
 tells_of_completion plan script event =
     option_map_or (λ change.
     option_map_or (λ step.
-    bytes_eq (event_message change step (outcome_of script event.change event.step).result event.what).type_name
-      (codes "apply_complete")
-    && not (is_kind Read step)) (slice_get change.steps event.step) false) (slice_get plan.changes event.change) false
+    bytes_eq (event_message change step (outcome_of script event.change event.step) event.what).type_name
+    (codes "apply_complete")
+    && not (is_kind Read step))
+    (slice_get change.steps event.step) false)
+    (slice_get plan.changes event.change) false
 
 -- how many line feeds are in a text
 abbrev pub line_feeds : List ℕ → ℕ

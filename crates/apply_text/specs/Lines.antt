@@ -36,20 +36,30 @@ line_of d = compact_text d ++ 10 ∷ []
 
 -- the line of a message, so many seconds after the start of 1970
 abbrev pub message_line : (seconds : ℕ) → Message → List ℕ
-message_line seconds message = line_of (message_object message.level message.text (moment_text seconds) (typed message.name message.body message.type_name))
+message_line seconds message =
+    line_of (message_object message.level message.text (moment_text seconds)
+    (typed message.name message.body message.type_name))
 
 -- the first line, at the start: the version of Terraform that made the plan, and that of this interface
 abbrev pub version_members : (version : List ℕ) → Members
-version_members version = member (codes "terraform") (string version) (member (codes "type") (string (codes "version")) (member (codes "ui") (string (codes "1.0")) no_members))
+version_members version =
+    member (codes "terraform") (string version)
+    (member (codes "type") (string (codes "version"))
+    (member (codes "ui") (string (codes "1.0")) no_members))
 
 abbrev pub version_text : SavedPlan → (start : ℕ) → List ℕ
-version_text plan start = line_of (message_object (codes "info") (codes "Terraform " ++ plan.version) (moment_text start) (version_members plan.version))
+version_text plan start =
+    line_of (message_object (codes "info") (codes "Terraform " ++ plan.version) (moment_text start)
+    (version_members plan.version))
 
 -- the line of an event of the plan, so many seconds after the start
 abbrev pub event_text : SavedPlan → Outcomes → (start latest : ℕ) → Event → List ℕ
 event_text plan script start latest event =
     option_map_or (λ change.
-    option_map_or (λ step. message_line (start + latest) (event_message change step (outcome_of script event.change event.step).result event.what)) (slice_get change.steps event.step) []) (slice_get plan.changes event.change) []
+    option_map_or (λ step.
+    message_line (start + latest) (event_message change step (outcome_of script event.change event.step) event.what))
+    (slice_get change.steps event.step) [])
+    (slice_get plan.changes event.change) []
 
 -- the last line
 abbrev pub summary_text : (start latest : ℕ) → Operation → Counts → List ℕ

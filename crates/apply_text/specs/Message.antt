@@ -1,20 +1,23 @@
 -- The message of each event, and the summary (Machine-Readable UI).
-use Rattle.std.specs.Prelude.{ℕ, List, [], ◌++◌, codes, decimal, Option, Some, None, unwrap_or}
+use Rattle.std.specs.Prelude.{ℕ, List, [], ◌++◌, codes, decimal, slice_get, Option, Some, None, unwrap_or}
+use Rattle.std.specs.Option.{option_map_or}
 use Rattle.serde_json.specs.Data.{Data}
 use Rattle.apply_plan.specs.declared.plan.step_kind.StepKind.{StepKind}
 use Rattle.apply_plan.specs.declared.plan.step_kind.StepKind.TheVariants.{Create, Update, Delete, Read}
 use Rattle.apply_plan.specs.declared.script.diag.Diag.{Diag}
 use Rattle.apply_plan.specs.declared.script.ending.Ending.{Ending}
 use Rattle.apply_plan.specs.declared.script.ending.Ending.TheVariants.{Done, Failed}
+use Rattle.apply_plan.specs.declared.script.outcome.Outcome.{Outcome}
 use Rattle.apply_plan.specs.Plan.ResourceChange.{ResourceChange}
+use Rattle.apply_plan.specs.Script.Outcome.{failure_of}
 use Rattle.apply_hooks.specs.declared.phase.Phase.{Phase}
 use Rattle.apply_events.specs.declared.counts.Counts.{Counts}
 use Rattle.apply_events.specs.declared.what.What.{What}
-use Rattle.apply_events.specs.declared.what.What.TheVariants.{Start, Progress, Complete, Errored, ErrorNote, WarnNote, Halted}
+use Rattle.apply_events.specs.declared.what.What.TheVariants.{Start, Progress, Complete, Errored, ErrorNote, WarnNote, Halted, ProvisionStart, ProvisionOutput, ProvisionComplete, ProvisionErrored}
 use Rattle.apply_text.specs.declared.operation.Operation.{Operation}
 use Rattle.apply_text.specs.declared.operation.Operation.TheVariants.{Apply, Destroy}
 use Rattle.apply_text.specs.Elapsed.{elapsed_of}
-use Rattle.apply_text.specs.Objects.{changes_object, diagnostic_object, hook_object}
+use Rattle.apply_text.specs.Objects.{changes_object, diagnostic_object, hook_object, provisioner_object}
 use Rattle.apply_text.specs.Words.{action_word, noun_word, phase_words, start_word, still_word}
 
 -- what a message says, its level and type, and the one member of its own
@@ -53,7 +56,8 @@ id_note (Some id) = codes " [id=" ++ id ++ codes "]"
 -- ---- what happens to a step
 
 -- a message about a step of a change, with the seconds that have passed and the object's id, where they are told
-abbrev pub hook_message : ResourceChange → StepKind → (text : List ℕ) → (elapsed : Option ℕ) → (id : Option (List ℕ)) → (type_name : List ℕ) → Message
+abbrev pub hook_message : ResourceChange → StepKind → (text : List ℕ) → (elapsed : Option ℕ) → (id : Option (List ℕ))
+    → (type_name : List ℕ) → Message
 hook_message change step text elapsed id type_name = record {
   level = codes "info";
   text = change.address ++ codes ": " ++ text;
@@ -63,16 +67,73 @@ hook_message change step text elapsed id type_name = record {
 }
 
 abbrev pub start_message : ResourceChange → StepKind → (id : Option (List ℕ)) → Message
-start_message change step id = hook_message change step (start_word step ++ codes "..." ++ id_note id) None id (codes "apply_start")
+start_message change step id =
+    hook_message change step (start_word step ++ codes "..." ++ id_note id) None id (codes "apply_start")
 
 abbrev pub progress_message : ResourceChange → StepKind → (seconds : ℕ) → Message
-progress_message change step seconds = hook_message change step (codes "Still " ++ still_word step ++ codes "... [" ++ elapsed_of seconds ++ codes " elapsed]") (Some seconds) None (codes "apply_progress")
+progress_message change step seconds =
+    hook_message change step
+    (codes "Still " ++ still_word step ++ codes "... [" ++ elapsed_of seconds ++ codes " elapsed]")
+    (Some seconds) None (codes "apply_progress")
 
 abbrev pub complete_message : ResourceChange → StepKind → (seconds : ℕ) → (id : Option (List ℕ)) → Message
-complete_message change step seconds id = hook_message change step (noun_word step ++ codes " complete after " ++ elapsed_of seconds ++ id_note id) (Some seconds) id (codes "apply_complete")
+complete_message change step seconds id =
+    hook_message change step
+    (noun_word step ++ codes " complete after " ++ elapsed_of seconds ++ id_note id)
+    (Some seconds) id (codes "apply_complete")
 
 abbrev pub errored_message : ResourceChange → StepKind → (seconds : ℕ) → Message
-errored_message change step seconds = hook_message change step (noun_word step ++ codes " errored after " ++ elapsed_of seconds) (Some seconds) None (codes "apply_errored")
+errored_message change step seconds =
+    hook_message change step
+    (noun_word step ++ codes " errored after " ++ elapsed_of seconds)
+    (Some seconds) None (codes "apply_errored")
+
+-- ---- what provisioners do
+
+-- a message about a provisioner of a change, with what it puts out, where it does
+abbrev pub provision_message : ResourceChange → (name text : List ℕ) → (output : Option (List ℕ))
+    → (type_name : List ℕ) → Message
+provision_message change name text output type_name = record {
+  level = codes "info";
+  text = change.address ++ codes ": " ++ text;
+  name = codes "hook";
+  body = provisioner_object change name output;
+  type_name = type_name;
+}
+
+abbrev pub provision_start_message : ResourceChange → (name : List ℕ) → Message
+provision_start_message change name =
+    provision_message change name
+    (codes "Provisioning with '" ++ name ++ codes "'...")
+    None (codes "provision_start")
+
+abbrev pub provision_output_message : ResourceChange → (name output : List ℕ) → Message
+provision_output_message change name output =
+    provision_message change name
+    (codes "(" ++ name ++ codes "): " ++ output)
+    (Some output) (codes "provision_progress")
+
+abbrev pub provision_complete_message : ResourceChange → (name : List ℕ) → Message
+provision_complete_message change name =
+    provision_message change name
+    (codes "(" ++ name ++ codes ") Provisioning complete")
+    None (codes "provision_complete")
+
+abbrev pub provision_errored_message : ResourceChange → (name : List ℕ) → Message
+provision_errored_message change name =
+    provision_message change name
+    (codes "(" ++ name ++ codes ") Provisioning errored")
+    None (codes "provision_errored")
+
+-- the name of provisioner i; none where there is no such provisioner
+abbrev pub name_of : Outcome → (i : ℕ) → List ℕ
+name_of outcome i = option_map_or (λ provisioner. provisioner.name) (slice_get outcome.provisioners i) []
+
+-- its output of that number
+abbrev pub output_of : Outcome → (i line : ℕ) → List ℕ
+output_of outcome i line =
+    option_map_or (λ provisioner. unwrap_or (slice_get provisioner.output line) [])
+    (slice_get outcome.provisioners i) []
 
 -- ---- diagnostics
 
@@ -86,19 +147,20 @@ diagnostic_message address level severity label diag = record {
 }
 
 abbrev pub error_message : ResourceChange → Diag → Message
-error_message change diag = diagnostic_message change.address (codes "error") (codes "error") (codes "Error") diag
+error_message change diag =
+    diagnostic_message change.address (codes "error") (codes "error") (codes "Error") diag
 
 abbrev pub warning_message : ResourceChange → Diag → Message
-warning_message change diag = diagnostic_message change.address (codes "warn") (codes "warning") (codes "Warning") diag
+warning_message change diag =
+    diagnostic_message change.address (codes "warn") (codes "warning") (codes "Warning") diag
 
 -- what is said where nothing was told
 abbrev pub no_diag : Diag
 no_diag = record { summary = []; detail = [] }
 
--- why the step failed
-abbrev pub failure_of : Ending → Diag
-failure_of (Done id warning) = no_diag
-failure_of (Failed diag) = diag
+-- why the step failed: what the provider said, or the provisioner that failed
+abbrev pub told_failure : Outcome → Diag
+told_failure outcome = unwrap_or (failure_of outcome) no_diag
 
 -- what the provider warned of
 abbrev pub warning_of : Ending → Diag
@@ -109,24 +171,35 @@ warning_of (Failed diag) = no_diag
 abbrev pub halt_of : StepKind → Phase → (hook : ℕ) → Diag
 halt_of step phase hook = record {
   summary = codes "execution halted";
-  detail = codes "Hook " ++ decimal hook ++ codes " answered Halt " ++ phase_words phase ++ codes " " ++ action_word step ++ codes ".";
+  detail =
+      codes "Hook " ++ decimal hook ++ codes " answered Halt "
+      ++ phase_words phase ++ codes " " ++ action_word step ++ codes ".";
 }
 
 -- ---- events, and the end
 
--- what is said of an event of a step of the change that ends so
-abbrev pub event_message : ResourceChange → StepKind → Ending → What → Message
-event_message change step ending Start = start_message change step (start_id step change)
-event_message change step ending (Progress seconds) = progress_message change step seconds
-event_message change step ending (Complete seconds) = complete_message change step seconds (end_id step ending)
-event_message change step ending (Errored seconds) = errored_message change step seconds
-event_message change step ending ErrorNote = error_message change (failure_of ending)
-event_message change step ending WarnNote = warning_message change (warning_of ending)
-event_message change step ending (Halted phase hook) = error_message change (halt_of step phase hook)
+-- what is said of an event of a step of the change, of which that is the outcome
+abbrev pub event_message : ResourceChange → StepKind → Outcome → What → Message
+event_message change step outcome Start = start_message change step (start_id step change)
+event_message change step outcome (Progress seconds) = progress_message change step seconds
+event_message change step outcome (Complete seconds) = complete_message change step seconds (end_id step outcome.result)
+event_message change step outcome (Errored seconds) = errored_message change step seconds
+event_message change step outcome ErrorNote = error_message change (told_failure outcome)
+event_message change step outcome WarnNote = warning_message change (warning_of outcome.result)
+event_message change step outcome (Halted phase hook) = error_message change (halt_of step phase hook)
+event_message change step outcome (ProvisionStart i) = provision_start_message change (name_of outcome i)
+event_message change step outcome (ProvisionOutput i line) =
+    provision_output_message change (name_of outcome i) (output_of outcome i line)
+event_message change step outcome (ProvisionComplete i) = provision_complete_message change (name_of outcome i)
+event_message change step outcome (ProvisionErrored i) = provision_errored_message change (name_of outcome i)
 
 abbrev pub totals_text : Operation → Counts → List ℕ
-totals_text Apply counts = codes "Apply complete! Resources: " ++ decimal counts.added ++ codes " added, " ++ decimal counts.changed ++ codes " changed, " ++ decimal counts.removed ++ codes " destroyed."
-totals_text Destroy counts = codes "Destroy complete! Resources: " ++ decimal counts.removed ++ codes " destroyed."
+totals_text Apply counts =
+    codes "Apply complete! Resources: " ++ decimal counts.added ++ codes " added, "
+    ++ decimal counts.changed ++ codes " changed, "
+    ++ decimal counts.removed ++ codes " destroyed."
+totals_text Destroy counts =
+    codes "Destroy complete! Resources: " ++ decimal counts.removed ++ codes " destroyed."
 
 -- the last message: how much was completed
 abbrev pub summary_message : Operation → Counts → Message

@@ -10,15 +10,19 @@ two_digits n = (48 + n / 10) ∷ (48 + n % 10) ∷ []
 -- `1970-01-31`, of a year below 10,000
 abbrev pub date_text : CivilDate → List ℕ
 date_text date =
-    two_digits (date.year / 100) ++ two_digits (date.year % 100) ++ codes "-" ++ two_digits date.month ++ codes "-"
-    ++ two_digits date.day
+    two_digits (date.year / 100) ++ two_digits (date.year % 100)
+    ++ codes "-" ++ two_digits date.month
+    ++ codes "-" ++ two_digits date.day
 
 -- `23:59:59`, of a second of a day
 abbrev pub time_text : ℕ → List ℕ
 time_text second =
-    two_digits (second / 3600) ++ codes ":" ++ two_digits (second / 60 % 60) ++ codes ":" ++ two_digits (second % 60)
+    two_digits (second / 3600)
+    ++ codes ":" ++ two_digits (second / 60 % 60)
+    ++ codes ":" ++ two_digits (second % 60)
 
 -- so many seconds after the start of 1970, of which each day has 86,400
 unfoldable pub moment_text : ℕ → List ℕ
 moment_text seconds =
-    option_map_or date_text (date_of_day (seconds / 86400)) [] ++ codes "T" ++ time_text (seconds % 86400) ++ codes "Z"
+    option_map_or date_text (date_of_day (seconds / 86400)) []
+    ++ codes "T" ++ time_text (seconds % 86400) ++ codes "Z"

@@ -39,7 +39,8 @@ elapsed_member (Some seconds) others = member (codes "elapsed_seconds") (number 
 -- `id_key` and `id_value`, both or neither, before the other members
 abbrev pub id_members : Option (List ℕ) → Members → Members
 id_members None others = others
-id_members (Some id) others = member (codes "id_key") (string (codes "id")) (member (codes "id_value") (string id) others)
+id_members (Some id) others =
+    member (codes "id_key") (string (codes "id")) (member (codes "id_value") (string id) others)
 
 -- what happens to a step of a change, with the seconds that have passed and the object's id, where they are told
 unfoldable pub hook_object : ResourceChange → StepKind → (elapsed : Option ℕ) → (id : Option (List ℕ)) → Data
@@ -49,6 +50,19 @@ hook_object change step elapsed id =
     (elapsed_member elapsed
     (id_members id
     (member (codes "resource") (resource_object change) no_members))))
+
+-- a member for what a provisioner puts out, where it does, before the other members
+abbrev pub output_member : Option (List ℕ) → Members → Members
+output_member None others = others
+output_member (Some output) others = member (codes "output") (string output) others
+
+-- what a provisioner of a change does, with what it puts out, where it does
+unfoldable pub provisioner_object : ResourceChange → (name : List ℕ) → (output : Option (List ℕ)) → Data
+provisioner_object change name output =
+    object
+    (output_member output
+    (member (codes "provisioner") (string name)
+    (member (codes "resource") (resource_object change) no_members)))
 
 -- ---- the object `diagnostic`
 

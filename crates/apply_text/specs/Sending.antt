@@ -26,6 +26,10 @@ id_tokens None = []
 id_tokens (Some id) =
     member_tokens (codes "id_key") (string (codes "id")) ++ member_tokens (codes "id_value") (string id)
 
+abbrev pub output_tokens : Option (List ℕ) → List Token
+output_tokens None = []
+output_tokens (Some output) = member_tokens (codes "output") (string output)
+
 -- the tokens of a message up to the members that are its own
 abbrev pub head_tokens : (level text moment : List ℕ) → List Token
 head_tokens level text moment =
@@ -42,4 +46,5 @@ data_tokens d = json_tokens (outline d)
 -- the tokens of a whole message
 abbrev pub message_tokens : (moment : List ℕ) → Message → List Token
 message_tokens moment message =
-    data_tokens (message_object message.level message.text moment (typed message.name message.body message.type_name))
+    data_tokens (message_object message.level message.text moment
+    (typed message.name message.body message.type_name))

@@ -1,12 +1,12 @@
 //! A step of a change, with what the script says of it.
 
-ghost use Rattle.std.specs.Prelude.{◌≡◌, unwrap_or};
+ghost use Rattle.std.specs.Prelude.{◌≡◌, slice_get, unwrap_or};
 ghost use Rattle.std.specs.Option.{option_copied};
-ghost use Rattle.apply_text.specs.AppliedStep.{diag_view, ending_view};
+ghost use Rattle.apply_text.specs.AppliedStep.{diag_view, ending_view, outcome_view};
 ghost use Rattle.apply_text.specs.Message as messages;
 ghost use Rattle.apply_text.specs.Message.{no_diag};
 
-use apply_plan::{Change, Diag, Ending, Outcome, StepKind};
+use apply_plan::{Change, Diag, Ending, Outcome, Provisioner, StepKind};
 
 /// A step of a change, with what the script says of it. Where it says nothing, the step is done and nothing is told.
 #[derive(Clone, Copy, Drop)]
@@ -72,18 +72,13 @@ impl<'a> AppliedStep<'a> {
         }
     }
 
-    /// Why the step failed.
+    /// Why the step failed: what the provider says, or the provisioner that failed.
     pub fn failure(&self) -> DiagTexts<'a>
-        ensures { diag_view result ≡ messages.failure_of (ending_view self.now) }
+        ensures { diag_view result ≡ messages.told_failure (outcome_view self.now) }
     {
         match self.outcome {
-            Some(
-                Outcome {
-                    result: Ending::Failed { diag },
-                    ..
-                },
-            ) => DiagTexts::new(Some(diag)),
-            _ => DiagTexts::new(None),
+            Some(outcome) => DiagTexts::new(outcome.failure()),
+            None => DiagTexts::new(None),
         }
     }
 
@@ -99,6 +94,40 @@ impl<'a> AppliedStep<'a> {
                 },
             ) => DiagTexts::new(warning.as_ref()),
             _ => DiagTexts::new(None),
+        }
+    }
+
+    /// The name of a provisioner, by its number. Empty where there is none.
+    pub fn provisioner_name(&self, number: u8) -> &'a str
+        ensures { result.now ≡ messages.name_of (outcome_view self.now) number }
+    {
+        match self.provisioner(number) {
+            Some(provisioner) => provisioner.name.as_str(),
+            None => "",
+        }
+    }
+
+    /// An output of a provisioner, by their numbers. Empty where there is none.
+    pub fn output(&self, number: u8, line: u8) -> &'a str
+        ensures { result.now ≡ messages.output_of (outcome_view self.now) number line }
+    {
+        match self.provisioner(number) {
+            Some(provisioner) if line < provisioner.output.len() => {
+                provisioner.output.get(line).as_str()
+            }
+            _ => "",
+        }
+    }
+
+    /// The provisioner of that number, if there is one.
+    fn provisioner(&self, number: u8) -> Option<&'a Provisioner>
+        ensures { option_copied result ≡ slice_get (outcome_view self.now).provisioners number }
+    {
+        let outcome = self.outcome?;
+        if number < outcome.provisioners.len() {
+            Some(outcome.provisioners.get(number))
+        } else {
+            None
         }
     }
 }

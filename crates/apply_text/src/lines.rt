@@ -24,7 +24,8 @@ pub fn version_line(alloc: Global, plan: &Plan, start: Start) -> Result<String, 
 /// The line of an event, with its line feed, `latest` seconds after the start: the greatest moment of an event up to this
 /// one (Machine-Readable UI, "Operation Messages" and "Diagnostic"). `Err` where memory is refused.
 ///
-/// `latest` is `LATEST` at most. A note of which the script has no text is empty.
+/// `latest` is `LATEST` at most. A note of which the script has no text is empty, and so are the name and
+/// the output of a provisioner that it does not have.
 pub fn event_line(
     alloc: Global,
     plan: &Plan,

@@ -15,6 +15,7 @@ use crate::objects::diagnostic_object::put_diagnostic;
 use crate::objects::hook_object::put_hook;
 use crate::objects::member::put_text;
 use crate::objects::message_object::{begin_message, end_message};
+use crate::objects::provisioner_object::put_provisioner;
 use crate::operation::Operation;
 use crate::step_words::{action_word, noun_word, phase_words, start_word, still_word};
 use apply_events::{Counts, What};
@@ -129,6 +130,23 @@ fn say_event(scratch: &mut String, step: AppliedStep<'_>, what: What) -> Result<
             write!(scratch, "Warning: {summary}")
         }
         What::Halted { .. } => write!(scratch, "Error: execution halted"),
+        What::ProvisionStart(number) => {
+            let name = step.provisioner_name(number);
+            write!(scratch, "{address}: Provisioning with '{name}'...")
+        }
+        What::ProvisionOutput { prov, line } => {
+            let name = step.provisioner_name(prov);
+            let output = step.output(prov, line);
+            write!(scratch, "{address}: ({name}): {output}")
+        }
+        What::ProvisionComplete(number) => {
+            let name = step.provisioner_name(number);
+            write!(scratch, "{address}: ({name}) Provisioning complete")
+        }
+        What::ProvisionErrored(number) => {
+            let name = step.provisioner_name(number);
+            write!(scratch, "{address}: ({name}) Provisioning errored")
+        }
     }
 }
 
@@ -138,6 +156,8 @@ fn level(what: What) -> &'static str
 {
     match what {
         What::Start | What::Progress(_) | What::Complete(_) | What::Errored(_) => "info",
+        What::ProvisionStart(_) | What::ProvisionOutput { .. } => "info",
+        What::ProvisionComplete(_) | What::ProvisionErrored(_) => "info",
         What::ErrorNote | What::Halted { .. } => "error",
         What::WarnNote => "warn",
     }
@@ -153,6 +173,10 @@ fn type_name(what: What) -> &'static str
         What::Complete(_) => "apply_complete",
         What::Errored(_) => "apply_errored",
         What::ErrorNote | What::WarnNote | What::Halted { .. } => "diagnostic",
+        What::ProvisionStart(_) => "provision_start",
+        What::ProvisionOutput { .. } => "provision_progress",
+        What::ProvisionComplete(_) => "provision_complete",
+        What::ProvisionErrored(_) => "provision_errored",
     }
 }
 
@@ -187,6 +211,15 @@ fn put_body(
             write!(scratch, "Hook {hook} answered Halt {words} {action}.")?;
             let detail = scratch.as_str();
             put_diagnostic(out, change.address(), "error", "execution halted", detail)
+        }
+        What::ProvisionStart(number)
+        | What::ProvisionComplete(number)
+        | What::ProvisionErrored(number) => {
+            put_provisioner(out, change, step.provisioner_name(number), None)
+        }
+        What::ProvisionOutput { prov, line } => {
+            let output = step.output(prov, line);
+            put_provisioner(out, change, step.provisioner_name(prov), Some(output))
         }
     }
 }

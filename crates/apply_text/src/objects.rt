@@ -6,4 +6,5 @@ pub mod hook_object;
 pub mod key_value;
 pub mod member;
 pub mod message_object;
+pub mod provisioner_object;
 pub mod resource_object;

@@ -8,6 +8,7 @@ ghost use Rattle.apply_events.specs.Fits.{HasStep};
 mod escapes;
 mod events;
 mod moments;
+mod provisioners;
 mod streams;
 
 use crate::{Operation, Start, elapsed_text, event_line, summary_line, version_line};

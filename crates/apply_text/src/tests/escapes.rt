@@ -49,11 +49,11 @@ const ESCAPES: &str = r#"\u0000 => \u0000
 
 /// A plan in which each text has the character, in place of the percent sign.
 const PLAN: &str =
-    r#"{"format_version":"1.2","terraform_version":"%","resource_changes":[{"address":"m.%.a%","module_address":"m.%","mode":"managed","type":"t%","name":"n%","index":"k%","change":{"actions":["update"],"before":{"id":"p%"}}},{"address":"m.%.b%","module_address":"m.%","mode":"managed","type":"t%","name":"n%","index":"k%","change":{"actions":["update"],"before":{"id":"p%"}}}]}"#;
+    r#"{"format_version":"1.2","terraform_version":"%","resource_changes":[{"address":"m.%.a%","module_address":"m.%","mode":"managed","type":"t%","name":"n%","index":"k%","change":{"actions":["update"],"before":{"id":"p%"}}},{"address":"m.%.b%","module_address":"m.%","mode":"managed","type":"t%","name":"n%","index":"k%","change":{"actions":["update"],"before":{"id":"p%"}}},{"address":"m.%.c%","module_address":"m.%","mode":"managed","type":"t%","name":"n%","index":"k%","change":{"actions":["create"]}}]}"#;
 
 /// A script of the same kind.
 const SCRIPT: &str =
-    r#"{"changes":[{"address":"m.%.a%","steps":[{"seconds":0,"id":"i%","warning":{"summary":"s%","detail":"d%"}}]},{"address":"m.%.b%","steps":[{"seconds":0,"failed":{"summary":"s%","detail":"d%"}}]}]}"#;
+    r#"{"changes":[{"address":"m.%.a%","steps":[{"seconds":0,"id":"i%","warning":{"summary":"s%","detail":"d%"}}]},{"address":"m.%.b%","steps":[{"seconds":0,"failed":{"summary":"s%","detail":"d%"}}]},{"address":"m.%.c%","steps":[{"seconds":0,"provisioners":[{"provisioner":"p%","seconds":0,"output":["%o%"],"failed":{"summary":"s%","detail":"d%"}}]}]}]}"#;
 
 /// The stream of both, with the character in its place.
 const STREAM: &str =
@@ -64,6 +64,12 @@ const STREAM: &str =
 {"@level":"info","@message":"m.%.b%: Modifying... [id=p%]","@module":"terraform.ui","@timestamp":"1970-01-01T00:00:00Z","hook":{"action":"update","id_key":"id","id_value":"p%","resource":{"addr":"m.%.b%","implied_provider":"t%","module":"m.%","resource":"b%","resource_key":"k%","resource_name":"n%","resource_type":"t%"}},"type":"apply_start"}
 {"@level":"info","@message":"m.%.b%: Modifications errored after 0s","@module":"terraform.ui","@timestamp":"1970-01-01T00:00:00Z","hook":{"action":"update","elapsed_seconds":0,"resource":{"addr":"m.%.b%","implied_provider":"t%","module":"m.%","resource":"b%","resource_key":"k%","resource_name":"n%","resource_type":"t%"}},"type":"apply_errored"}
 {"@level":"error","@message":"Error: s%","@module":"terraform.ui","@timestamp":"1970-01-01T00:00:00Z","diagnostic":{"address":"m.%.b%","detail":"d%","severity":"error","summary":"s%"},"type":"diagnostic"}
+{"@level":"info","@message":"m.%.c%: Creating...","@module":"terraform.ui","@timestamp":"1970-01-01T00:00:00Z","hook":{"action":"create","resource":{"addr":"m.%.c%","implied_provider":"t%","module":"m.%","resource":"c%","resource_key":"k%","resource_name":"n%","resource_type":"t%"}},"type":"apply_start"}
+{"@level":"info","@message":"m.%.c%: Provisioning with 'p%'...","@module":"terraform.ui","@timestamp":"1970-01-01T00:00:00Z","hook":{"provisioner":"p%","resource":{"addr":"m.%.c%","implied_provider":"t%","module":"m.%","resource":"c%","resource_key":"k%","resource_name":"n%","resource_type":"t%"}},"type":"provision_start"}
+{"@level":"info","@message":"m.%.c%: (p%): %o%","@module":"terraform.ui","@timestamp":"1970-01-01T00:00:00Z","hook":{"output":"%o%","provisioner":"p%","resource":{"addr":"m.%.c%","implied_provider":"t%","module":"m.%","resource":"c%","resource_key":"k%","resource_name":"n%","resource_type":"t%"}},"type":"provision_progress"}
+{"@level":"info","@message":"m.%.c%: (p%) Provisioning errored","@module":"terraform.ui","@timestamp":"1970-01-01T00:00:00Z","hook":{"provisioner":"p%","resource":{"addr":"m.%.c%","implied_provider":"t%","module":"m.%","resource":"c%","resource_key":"k%","resource_name":"n%","resource_type":"t%"}},"type":"provision_errored"}
+{"@level":"info","@message":"m.%.c%: Creation errored after 0s","@module":"terraform.ui","@timestamp":"1970-01-01T00:00:00Z","hook":{"action":"create","elapsed_seconds":0,"resource":{"addr":"m.%.c%","implied_provider":"t%","module":"m.%","resource":"c%","resource_key":"k%","resource_name":"n%","resource_type":"t%"}},"type":"apply_errored"}
+{"@level":"error","@message":"Error: s%","@module":"terraform.ui","@timestamp":"1970-01-01T00:00:00Z","diagnostic":{"address":"m.%.c%","detail":"d%","severity":"error","summary":"s%"},"type":"diagnostic"}
 {"@level":"info","@message":"Apply complete! Resources: 0 added, 1 changed, 0 destroyed.","@module":"terraform.ui","@timestamp":"1970-01-01T00:00:00Z","changes":{"add":0,"change":1,"operation":"apply","remove":0},"type":"change_summary"}
 "#;
 
@@ -107,7 +113,7 @@ fn character_of(rt: &impl Abort, alloc: Global, escape: &str) -> String {
 
 /// Reads lines as JSON: the version and the address of the first change are as the plan has them.
 fn reads_back(rt: &impl Abort, alloc: Global, written: &str, plan: &Plan) {
-    assert!(rt; plan.len() == 2);
+    assert!(rt; plan.len() == 3);
     let address = plan.change(0).address();
     let mut lines = written.split_terminator("\n");
     reads_as(rt, alloc, lines.next(), "/terraform", plan.version());

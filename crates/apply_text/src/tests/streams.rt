@@ -174,7 +174,7 @@ fn streams_are_those_worked_out_by_hand(rt: HostRuntime) {
 }
 
 /// Fails where the stream of the case is another.
-fn is_written(rt: &impl Abort, alloc: Global, case: &str) {
+pub(super) fn is_written(rt: &impl Abort, alloc: Global, case: &str) {
     let (name, rest) = parted(rt, case, "\n");
     let (plan, rest) = parted(rt, rest, "\n");
     let (script, wanted) = parted(rt, rest, "\n");
