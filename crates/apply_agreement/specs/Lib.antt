@@ -1,0 +1,4 @@
+pub mod Objects
+pub mod Passing
+pub mod Plans
+pub mod Told

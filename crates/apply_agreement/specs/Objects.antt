@@ -1,0 +1,38 @@
+-- The objects that the lines of a stream are.
+use Rattle.std.specs.Prelude.{ℕ, ◌+◌, List, [], ◌∷◌, ◌++◌, codes, flat_map, length, slice_get}
+use Rattle.std.specs.List.{enumerate_from}
+use Rattle.std.specs.Option.{option_map_or}
+use Rattle.serde_json.specs.Data.{Data}
+use Rattle.apply_plan.specs.Plan.SavedPlan.{SavedPlan}
+use Rattle.apply_plan.specs.Script.Outcomes.{Outcomes, outcome_of}
+use Rattle.apply_events.specs.declared.event.Event.{Event}
+use Rattle.apply_events.specs.Totals.{totals_of}
+use Rattle.apply_text.specs.declared.operation.Operation.{Operation}
+use Rattle.apply_text.specs.Latest.{latest_of}
+use Rattle.apply_text.specs.Lines.{message_object, typed, version_members}
+use Rattle.apply_text.specs.Message.{Message, event_message, summary_message}
+use Rattle.apply_text.specs.Moment.{moment_text}
+
+-- the object of a message, so many seconds after the start of 1970
+abbrev pub object_of : (seconds : ℕ) → Message → Data
+object_of seconds message = message_object message.level message.text (moment_text seconds) (typed message.name message.body message.type_name)
+
+abbrev pub version_object : SavedPlan → (start : ℕ) → Data
+version_object plan start = message_object (codes "info") (codes "Terraform " ++ plan.version) (moment_text start) (version_members plan.version)
+
+-- that of an event; none where the plan has no such step
+abbrev pub objects_of : SavedPlan → Outcomes → (seconds : ℕ) → Event → List Data
+objects_of plan script seconds event =
+    option_map_or (λ change.
+    option_map_or (λ step. object_of seconds (event_message change step (outcome_of script event.change event.step).result event.what) ∷ []) (slice_get change.steps event.step) []) (slice_get plan.changes event.change) []
+
+-- those of events, at the latest moment up to each
+abbrev pub event_objects : SavedPlan → Outcomes → (start : ℕ) → List Event → List Data
+event_objects plan script start events = flat_map (λ p. objects_of plan script (start + latest_of events (p.0 + 1)) p.1) (enumerate_from 0 events)
+
+-- all objects of a stream: the version, the events, the summary
+abbrev pub stream_objects : SavedPlan → Outcomes → (start : ℕ) → Operation → List Event → List Data
+stream_objects plan script start operation events =
+    version_object plan start
+    ∷ (event_objects plan script start events
+    ++ object_of (start + latest_of events (length events)) (summary_message operation (totals_of plan events)) ∷ [])

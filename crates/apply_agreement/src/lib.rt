@@ -1,0 +1,7 @@
+//! What a stream says is what a checker of streams accepts: laws over the lines that `apply_text` defines and the verdict
+//! that `apply_check` defines. Nothing here runs.
+#![tactic(auto)]
+
+mod laws;
+
+pub use laws::an_event_is_heard;
