@@ -1,0 +1,230 @@
+-- One event more: the checker accepts its message, and stands where the changes stand.
+use Rattle.std.proofs.Common.{◌≡◌, ◌≢◌, ℕ, ◌+◌, ◌<◌, ◌≤◌, List, [], ◌∷◌, length, Bool, true, false, cond, Option, Some, None, Result, Ok, Err, refl, sym, ap, ◌∙◌, subst, ◌⊎◌, inl, inr, ⊎_elim, bytes_eq, is_some, arith}
+use Rattle.std.specs.List.{list_any}
+use Rattle.std.proofs.lemmas.Bool.{both_ways, cases_Bool, cases_eq}
+use Rattle.std.proofs.lemmas.Option.{cond_some}
+use Rattle.std.proofs.lemmas.Slice.Eq.{bytes_eq-Decides}
+use Rattle.apply_check.specs.declared.action.Action.{Action}
+use Rattle.apply_check.specs.declared.action.Action.TheVariants.{Create, Update, Delete, Read}
+use Rattle.apply_check.specs.declared.fault.Fault.{Fault}
+use Rattle.apply_check.specs.declared.pending.Pending.{Pending}
+use Rattle.apply_check.specs.declared.standing.Standing.{Standing}
+use Rattle.apply_check.specs.declared.what.What as checked
+use Rattle.apply_check.specs.declared.what.What.TheVariants as heard
+use Rattle.apply_check.specs.Course.{after, max_overlap}
+use Rattle.apply_check.specs.Lines.{is_summary, next}
+use Rattle.apply_check.specs.Message.{Message, step, diagnostic}
+use Rattle.apply_check.specs.Standing.{explained, pending_at, standing_of, step_on}
+use Rattle.apply_check.specs.Words.{same_action}
+use Rattle.apply_events.specs.declared.what.What.{What}
+use Rattle.apply_events.specs.declared.what.What.TheVariants.{Start, Progress, Complete, Errored, ErrorNote, WarnNote, Halted}
+use Rattle.apply_agreement.specs.Told.{told}
+use Rattle.apply_agreement.proofs.Counting.{counted, none_or_some, same}
+use Rattle.apply_agreement.proofs.Fitting.{Answers, Fits, begins, ends, fits_same, tells}
+use Rattle.apply_agreement.proofs.Phases.{Phase, between, under_way, unexplained, Turns, put, put_elsewhere, put_here, seconds_in, shown, shown_same}
+use Rattle.apply_agreement.proofs.Standings.{IsBegun, IsNoFailure, diagnostic_elsewhere, diagnostic_there, explained_other, next_diagnostic, next_step, owed_same, pending_other, pending_same, provisioner_same, same_is, same_itself, same_text, step_elsewhere, step_in, step_is, step_there}
+
+-- after the messages the checker stands, at each address of some, where the changes below the limit stand
+pub record Agrees (limit : ℕ) (addresses : ℕ → List ℕ) (Within : List ℕ → Type 0) (Does : ℕ → Action → Type 0) (phases : ℕ → Phase) (ms : List Message) : Type 0 where
+  pub open_steps : (a : List ℕ) (k : Action) → Within a → Fits limit k (shown addresses phases a k) (pending_at k (standing_of a ms))
+  pub provisioners : (a : List ℕ) → Within a → (standing_of a ms).provisioner ≡ None
+  pub owed : (a : List ℕ) → Within a → is_some (standing_of a ms).owed ≡ true → (c : ℕ) × (c < limit) × (addresses c ≡ a) × (phases c ≡ unexplained)
+  pub does : (c t : ℕ) (k : Action) → phases c ≡ under_way k t → Does c k
+  pub begun : IsBegun ms
+  pub unsummed : list_any is_summary ms ≡ false
+
+-- two changes of one address both do a thing only if it is a delete, and what is read stands alone at its address
+pub record Apart (addresses : ℕ → List ℕ) (Does : ℕ → Action → Type 0) : Type 0 where
+  pub sole : (b c : ℕ) (k : Action) → addresses b ≡ addresses c → Does b k → Does c k → b ≢ c → k ≡ Delete
+  pub read : (b c : ℕ) (k : Action) → addresses b ≡ addresses c → Does b Read → Does c k → b ≡ c
+
+-- ---- words of phases
+
+by_address : (Q : List ℕ → Type 0) (a : List ℕ) → Q a → ((b : List ℕ) → bytes_eq a b ≡ false → Q b) → (b : List ℕ) → Q b
+by_address Q a here elsewhere b = ⊎_elim (λ yes. subst Q ((bytes_eq-Decides a b).0 yes) here) (λ no. elsewhere b no) (cases_Bool (bytes_eq a b))
+
+pub running : (k : Action) (t : ℕ) → seconds_in k (under_way k t) ≡ Some t
+running k t = ap (λ (b : Bool). cond b (some t) None) (same_itself k)
+  where
+    some : ℕ → Option ℕ
+    some n = Some n
+
+pub not_running : (k l : Action) (t : ℕ) → same_action k l ≡ false → seconds_in l (under_way k t) ≡ None
+not_running k l t apart = ap (λ (b : Bool). cond b (some t) None) apart
+  where
+    some : ℕ → Option ℕ
+    some n = Some n
+
+abbrev action_in : Action → Phase → Action
+action_in k between = k
+action_in k (under_way l told) = l
+action_in k unexplained = k
+
+seconds_are : (k : Action) (p : Phase) (x : ℕ) → seconds_in k p ≡ Some x → p ≡ under_way k x
+seconds_are k between x e = absurd cc
+seconds_are k unexplained x e = absurd cc
+seconds_are k (under_way l t) x e =
+    let found = cond_some (same_action l k) t x e in
+    ap (λ (m : Action). under_way m t) (same_is l k found.0) ∙ ap (λ (n : ℕ). under_way k n) found.1
+
+pub shown_is : (addresses : ℕ → List ℕ) (phases : ℕ → Phase) (a : List ℕ) (k : Action) (b x : ℕ) → shown addresses phases a k b ≡ Some x → (addresses b ≡ a) × (phases b ≡ under_way k x)
+shown_is addresses phases a k b x e =
+    let found = guarded (bytes_eq (addresses b) a) (seconds_in k (phases b)) x e in
+    ((bytes_eq-Decides (addresses b) a).0 found.0, seconds_are k (phases b) x found.1)
+  where
+    guarded : (t : Bool) (o : Option ℕ) (x : ℕ) → cond t o None ≡ Some x → (t ≡ true) × (o ≡ Some x)
+    guarded true o x e = (refl, e)
+    guarded false o x e = absurd cc
+
+pub shown_here : (addresses : ℕ → List ℕ) (phases : ℕ → Phase) (k : Action) (c : ℕ) → shown addresses phases (addresses c) k c ≡ seconds_in k (phases c)
+shown_here addresses phases k c = ap (λ (t : Bool). cond t (seconds_in k (phases c)) None) (same_text (addresses c))
+
+shown_nowhere : (addresses : ℕ → List ℕ) (phases : ℕ → Phase) (a : List ℕ) (k : Action) (c : ℕ) → bytes_eq (addresses c) a ≡ false → shown addresses phases a k c ≡ None
+shown_nowhere addresses phases a k c away = ap (λ (t : Bool). cond t (seconds_in k (phases c)) None) away
+
+-- where change c does not have the action, nothing changes
+shown_kept : (addresses : ℕ → List ℕ) (phases : ℕ → Phase) (c : ℕ) (q : Phase) (a : List ℕ) (l : Action) → seconds_in l q ≡ seconds_in l (phases c)
+    → (b : ℕ) → shown addresses (put phases c q) a l b ≡ shown addresses phases a l b
+shown_kept addresses phases c q a l e b =
+    ⊎_elim
+    (λ (here : b ≡ c).
+    let at_c : shown addresses (put phases c q) a l c ≡ shown addresses phases a l c = ap (λ (o : Option ℕ). cond (bytes_eq (addresses c) a) o None) (ap (seconds_in l) (put_here phases c q) ∙ e) in
+    subst (λ (x : ℕ). shown addresses (put phases c q) a l x ≡ shown addresses phases a l x) (sym here) at_c)
+    (λ elsewhere. shown_same addresses phases (put phases c q) a l b (put_elsewhere phases c q b elsewhere))
+    (cases_eq b c)
+
+shown_elsewhere : (addresses : ℕ → List ℕ) (phases : ℕ → Phase) (c : ℕ) (q : Phase) (a : List ℕ) (l : Action) → bytes_eq (addresses c) a ≡ false
+    → (b : ℕ) → shown addresses (put phases c q) a l b ≡ shown addresses phases a l b
+shown_elsewhere addresses phases c q a l away b =
+    ⊎_elim
+    (λ (here : b ≡ c).
+    let at_c : shown addresses (put phases c q) a l c ≡ shown addresses phases a l c = shown_nowhere addresses (put phases c q) a l c away ∙ sym (shown_nowhere addresses phases a l c away) in
+    subst (λ (x : ℕ). shown addresses (put phases c q) a l x ≡ shown addresses phases a l x) (sym here) at_c)
+    (λ elsewhere. shown_same addresses phases (put phases c q) a l b (put_elsewhere phases c q b elsewhere))
+    (cases_eq b c)
+
+module _ (limit : ℕ) (addresses : ℕ → List ℕ) (Within : List ℕ → Type 0) (Does : ℕ → Action → Type 0) where
+  -- the message is accepted, and the checker stands where the changes stand then
+  abbrev pub Moves : (ℕ → Phase) → List Message → (c : ℕ) → Phase → Message → Type 0
+  Moves phases ms c q m = (next ms m ≡ Ok (m ∷ ms)) × Agrees limit addresses Within Does (put phases c q) (m ∷ ms)
+
+  still_does : (phases : ℕ → Phase) (c : ℕ) (q : Phase) → ((b t : ℕ) (l : Action) → phases b ≡ under_way l t → Does b l) → ((t : ℕ) (l : Action) → q ≡ under_way l t → Does c l)
+      → (b t : ℕ) (l : Action) → put phases c q b ≡ under_way l t → Does b l
+  still_does phases c q old new b t l e =
+      ⊎_elim
+      (λ (here : b ≡ c). subst (λ (x : ℕ). Does x l) (sym here) (new t l (sym (put_here phases c q) ∙ ap (put phases c q) (sym here) ∙ e)))
+      (λ elsewhere. old b t l (sym (put_elsewhere phases c q b elsewhere) ∙ e))
+      (cases_eq b c)
+
+  -- the failure of a change that stays unexplained
+  still_owed : (phases : ℕ → Phase) (c : ℕ) (q : Phase) (a : List ℕ) → ((b : ℕ) × (b < limit) × (addresses b ≡ a) × (phases b ≡ unexplained)) → ((b : ℕ) → addresses b ≡ a → phases b ≡ unexplained → b ≢ c)
+      → (b : ℕ) × (b < limit) × (addresses b ≡ a) × (put phases c q b ≡ unexplained)
+  still_owed phases c q a found other = (found.0, found.1, found.2, put_elsewhere phases c q found.0 (other found.0 found.2 found.3) ∙ found.3)
+
+  other_address : (c b : ℕ) (a : List ℕ) → bytes_eq (addresses c) a ≡ false → addresses b ≡ a → b ≢ c
+  other_address c b a away there e = both_ways (bytes_eq (addresses c) a) away ((bytes_eq-Decides (addresses c) a).1 (ap addresses (sym e) ∙ there))
+
+  pub stepped : (phases : ℕ → Phase) (ms : List Message) (c : ℕ) (k : Action) (what : checked.What) (q : Phase) (p : Option Pending)
+      → Agrees limit addresses Within Does phases ms → c < limit → Within (addresses c)
+      → after k what (length ms + 1) (pending_at k (standing_of (addresses c) ms)) ≡ Ok p
+      → Fits limit k (shown addresses (put phases c q) (addresses c) k) p
+      → ((l : Action) → same_action k l ≡ false → seconds_in l q ≡ seconds_in l (phases c))
+      → ((t : ℕ) (l : Action) → q ≡ under_way l t → Does c l)
+      → (IsNoFailure what × (phases c ≢ unexplained)) ⊎ (q ≡ unexplained)
+      → Moves phases ms c q (step (addresses c) k what)
+  stepped phases ms c k what q p agrees less within e fit kept does owes =
+      let a = addresses c in
+      let s = standing_of a ms in
+      let line = length ms + 1 in
+      let is : step_on k what line s ≡ Ok (step_in k what line p s) = step_is k what line p s (agrees.provisioners a within) e in
+      let there : standing_of a (step a k what ∷ ms) ≡ step_in k what line p s = step_there a k what (step_in k what line p s) ms is in
+      (next_step a k what (step_in k what line p s) ms agrees.begun agrees.unsummed is,
+      record {
+        open_steps = λ b l w. by_address (λ b. Within b → Fits limit l (shown addresses (put phases c q) b l) (pending_at l (standing_of b (step a k what ∷ ms)))) a
+            (λ _. subst (λ (t : Standing). Fits limit l (shown addresses (put phases c q) a l) (pending_at l t)) (sym there)
+            (⊎_elim
+            (λ yes.
+            let at_k : Fits limit k (shown addresses (put phases c q) a k) (pending_at k (step_in k what line p s)) = subst (Fits limit k (shown addresses (put phases c q) a k)) (sym (pending_same k what line p s)) fit in
+            subst (λ (m : Action). Fits limit m (shown addresses (put phases c q) a m) (pending_at m (step_in k what line p s))) (same_is k l yes) at_k)
+            (λ no.
+            subst (Fits limit l (shown addresses (put phases c q) a l)) (sym (pending_other k l what line p s no))
+            (fits_same limit l (shown addresses phases a l) (shown addresses (put phases c q) a l) (pending_at l s) (λ b _. shown_kept addresses phases c q a l (kept l no) b) (agrees.open_steps a l within)))
+            (cases_Bool (same_action k l))))
+            (λ b no w.
+            subst (λ (t : Standing). Fits limit l (shown addresses (put phases c q) b l) (pending_at l t)) (sym (step_elsewhere a k what ms b no))
+            (fits_same limit l (shown addresses phases b l) (shown addresses (put phases c q) b l) (pending_at l (standing_of b ms)) (λ d _. shown_elsewhere addresses phases c q b l no d) (agrees.open_steps b l w)))
+            b w;
+        provisioners = by_address (λ b. Within b → (standing_of b (step a k what ∷ ms)).provisioner ≡ None) a
+            (λ _. ap (λ (t : Standing). t.provisioner) there ∙ provisioner_same k what line p s ∙ agrees.provisioners a within)
+            (λ b no w. ap (λ (t : Standing). t.provisioner) (step_elsewhere a k what ms b no) ∙ agrees.provisioners b w);
+        owed = by_address (λ b. Within b → is_some (standing_of b (step a k what ∷ ms)).owed ≡ true → (d : ℕ) × (d < limit) × (addresses d ≡ b) × (put phases c q d ≡ unexplained)) a
+            (λ _ some.
+            ⊎_elim
+            (λ fine.
+            let before : is_some s.owed ≡ true = sym (ap is_some (ap (λ (t : Standing). t.owed) there ∙ owed_same k what line p s fine.0)) ∙ some in
+            still_owed phases c q a (agrees.owed a within before) (λ d _ u same. fine.1 (ap phases (sym same) ∙ u)))
+            (λ failed. (c, less, refl, put_here phases c q ∙ failed))
+            owes)
+            (λ b no w some.
+            let before : is_some (standing_of b ms).owed ≡ true = sym (ap is_some (ap (λ (t : Standing). t.owed) (step_elsewhere a k what ms b no))) ∙ some in
+            still_owed phases c q b (agrees.owed b w before) (λ d there u. other_address c d b no there));
+        does = still_does phases c q agrees.does does;
+        begun = tt;
+        unsummed = agrees.unsummed;
+      })
+
+  pub noted : (phases : ℕ → Phase) (ms : List Message) (c : ℕ) (k : Action) (e : Bool) (q : Phase)
+      → Agrees limit addresses Within Does phases ms → c < limit → Within (addresses c) → Apart addresses Does → Does c k
+      → ((l : Action) → seconds_in l q ≡ None) → ((l : Action) → seconds_in l (phases c) ≡ None)
+      → (e ≡ true) ⊎ (q ≡ phases c)
+      → Moves phases ms c q (diagnostic e (Some (addresses c)))
+  noted phases ms c k e q agrees less within apart does after_none before_none explains =
+      let a = addresses c in
+      let s = standing_of a ms in
+      let there : standing_of a (diagnostic e (Some a) ∷ ms) ≡ explained e s = diagnostic_there a e ms in
+      let kept = λ (b : List ℕ) (l : Action). shown_kept addresses phases c q b l (after_none l ∙ sym (before_none l)) in
+      (next_diagnostic a e ms agrees.begun,
+      record {
+        open_steps = λ b l w. by_address (λ b. Within b → Fits limit l (shown addresses (put phases c q) b l) (pending_at l (standing_of b (diagnostic e (Some a) ∷ ms)))) a
+            (λ _. subst (λ (t : Standing). Fits limit l (shown addresses (put phases c q) a l) (pending_at l t)) (sym there)
+            (⊎_elim
+            (λ yes.
+            let nobody : counted (shown addresses (put phases c q) a Read) 0 limit ≡ 0 =
+                same (shown addresses phases a Read) (shown addresses (put phases c q) a Read) 0 limit (λ b _ _. kept a Read b)
+                ∙ ⊎_elim (λ none. none)
+                (λ found.
+                let reads = shown_is addresses phases a Read found.0 found.1 found.3 in
+                let is : found.0 ≡ c = apart.read found.0 c k reads.0 (agrees.does found.0 found.1 Read reads.1) does in
+                absurd (let f : seconds_in Read (phases c) ≡ Some found.1 = ap (λ (x : ℕ). seconds_in Read (phases x)) (sym is) ∙ ap (seconds_in Read) reads.1 in let g : None ≡ Some found.1 = sym (before_none Read) ∙ f in cc))
+                (none_or_some (shown addresses phases a Read) 0 limit) in
+            subst (λ (m : Action). Fits limit m (shown addresses (put phases c q) a m) (pending_at m (explained e s))) (same_is Read l yes) nobody)
+            (λ no.
+            subst (Fits limit l (shown addresses (put phases c q) a l)) (sym (explained_other l e s (λ is. both_ways (same_action Read l) no (ap (same_action Read) is ∙ same_itself Read))))
+            (fits_same limit l (shown addresses phases a l) (shown addresses (put phases c q) a l) (pending_at l s) (λ b _. kept a l b) (agrees.open_steps a l within)))
+            (cases_Bool (same_action Read l))))
+            (λ b no w.
+            subst (λ (t : Standing). Fits limit l (shown addresses (put phases c q) b l) (pending_at l t)) (sym (diagnostic_elsewhere a e ms b no))
+            (fits_same limit l (shown addresses phases b l) (shown addresses (put phases c q) b l) (pending_at l (standing_of b ms)) (λ d _. kept b l d) (agrees.open_steps b l w)))
+            b w;
+        provisioners = by_address (λ b. Within b → (standing_of b (diagnostic e (Some a) ∷ ms)).provisioner ≡ None) a
+            (λ _. ap (λ (t : Standing). t.provisioner) there ∙ agrees.provisioners a within)
+            (λ b no w. ap (λ (t : Standing). t.provisioner) (diagnostic_elsewhere a e ms b no) ∙ agrees.provisioners b w);
+        owed = by_address (λ b. Within b → is_some (standing_of b (diagnostic e (Some a) ∷ ms)).owed ≡ true → (d : ℕ) × (d < limit) × (addresses d ≡ b) × (put phases c q d ≡ unexplained)) a
+            (λ _ some.
+            let now : is_some (explained e s).owed ≡ true = sym (ap is_some (ap (λ (t : Standing). t.owed) there)) ∙ some in
+            owed_then e explains now)
+            (λ b no w some.
+            let before : is_some (standing_of b ms).owed ≡ true = sym (ap is_some (ap (λ (t : Standing). t.owed) (diagnostic_elsewhere a e ms b no))) ∙ some in
+            still_owed phases c q b (agrees.owed b w before) (λ d there u. other_address c d b no there));
+        does = still_does phases c q agrees.does (λ t l is. absurd (let f : seconds_in l q ≡ Some t = ap (seconds_in l) is ∙ running l t in let g : None ≡ Some t = sym (after_none l) ∙ f in cc));
+        begun = tt;
+        unsummed = agrees.unsummed;
+      })
+    where
+      owed_then : (e : Bool) → (e ≡ true) ⊎ (q ≡ phases c) → is_some (explained e (standing_of (addresses c) ms)).owed ≡ true
+          → (d : ℕ) × (d < limit) × (addresses d ≡ addresses c) × (put phases c q d ≡ unexplained)
+      owed_then true explains now = absurd cc
+      owed_then false explains now =
+          let found = agrees.owed (addresses c) within now in
+          let same_phase : q ≡ phases c = ⊎_elim (λ no. absurd cc) (λ yes. yes) explains in
+          (found.0, found.1, found.2, ⊎_elim (λ (here : found.0 ≡ c). ap (put phases c q) here ∙ put_here phases c q ∙ same_phase ∙ ap phases (sym here) ∙ found.3) (λ elsewhere. put_elsewhere phases c q found.0 elsewhere ∙ found.3) (cases_eq found.0 c))

@@ -1,0 +1,68 @@
+-- The course of a change: what may happen to it, one event after another.
+use Rattle.std.proofs.Common.{◌≡◌, ◌≢◌, ℕ, ◌<◌, ◌≤◌, ◌==◌, List, [], ◌∷◌, true, false, cond, filter, Option, Some, None, refl, sym, ap, ◌∙◌, ◌⊎◌, ⊎_elim, bytes_eq, eq-eqb, ne_eqb}
+use Rattle.std.proofs.lemmas.Bool.{cases_eq}
+use Rattle.apply_check.specs.declared.action.Action.{Action}
+use Rattle.apply_check.specs.Words.{same_action}
+use Rattle.apply_events.specs.declared.what.What.{What}
+use Rattle.apply_events.specs.declared.what.What.TheVariants.{Start, Progress, Complete, Errored, ErrorNote, WarnNote, Halted}
+
+-- where a change is: between two steps, in one that told so many seconds last, or behind one whose failure no error has
+-- explained
+pub data Phase : Type 0 where
+  between : Phase
+  under_way : Action → (told : ℕ) → Phase
+  unexplained : Phase
+
+-- what happens to a step with that action takes the change from the first phase to the other
+abbrev pub Turns : Phase → Action → What → Phase → Type 0
+Turns between k Start q = q ≡ under_way k 0
+Turns between k ErrorNote q = q ≡ between
+Turns between k WarnNote q = q ≡ between
+Turns between k (Halted phase hook) q = q ≡ between
+Turns (under_way l t) k (Progress s) q = (l ≡ k) × (t < s) × (q ≡ under_way k s)
+Turns (under_way l t) k (Complete s) q = (l ≡ k) × (t ≤ s) × (q ≡ between)
+Turns (under_way l t) k (Errored s) q = (l ≡ k) × (t ≤ s) × (q ≡ unexplained)
+Turns unexplained k ErrorNote q = q ≡ between
+Turns unexplained k WarnNote q = q ≡ unexplained
+Turns unexplained k (Halted phase hook) q = q ≡ between
+Turns _ _ _ _ = ⊥
+
+-- what happens to a step of a change
+pub record Deed : Type 0 where
+  pub change : ℕ
+  pub action : Action
+  pub what : What
+
+-- it may happen to a change in that phase, one after another, and in the end the change is between two steps
+abbrev pub Follows : Phase → List Deed → Type 0
+Follows p [] = p ≡ between
+Follows p (d ∷ ds) = (q : Phase) × Turns p d.action d.what q × Follows q ds
+
+-- what happens to one change
+abbrev pub of_change : (c : ℕ) → List Deed → List Deed
+of_change c ds = filter (λ d. d.change == c) ds
+
+-- ---- several changes
+
+-- the phases of all changes, with another one of change c
+abbrev pub put : (ℕ → Phase) → (c : ℕ) → Phase → ℕ → Phase
+put phases c p b = cond (b == c) p (phases b)
+
+pub put_here : (phases : ℕ → Phase) (c : ℕ) (p : Phase) → put phases c p c ≡ p
+put_here phases c p = ap (λ t. cond t p (phases c)) (eq-eqb c c refl)
+
+pub put_elsewhere : (phases : ℕ → Phase) (c : ℕ) (p : Phase) (b : ℕ) → b ≢ c → put phases c p b ≡ phases b
+put_elsewhere phases c p b apart = ap (λ t. cond t p (phases b)) (ne_eqb b c apart)
+
+-- the seconds that an action told last, if it is under way
+abbrev pub seconds_in : Action → Phase → Option ℕ
+seconds_in k between = None
+seconds_in k (under_way l told) = cond (same_action l k) (Some told) None
+seconds_in k unexplained = None
+
+-- the seconds that the action on the object of the address told last, if change c has it under way
+abbrev pub shown : (addresses : ℕ → List ℕ) → (ℕ → Phase) → (a : List ℕ) → Action → (c : ℕ) → Option ℕ
+shown addresses phases a k c = cond (bytes_eq (addresses c) a) (seconds_in k (phases c)) None
+
+pub shown_same : (addresses : ℕ → List ℕ) (old new : ℕ → Phase) (a : List ℕ) (k : Action) (c : ℕ) → new c ≡ old c → shown addresses new a k c ≡ shown addresses old a k c
+shown_same addresses old new a k c e = ap (λ (p : Phase). cond (bytes_eq (addresses c) a) (seconds_in k p) None) e
