@@ -1,7 +1,9 @@
 pub mod Counting
+pub mod Deeds
 pub mod Fitting
 pub mod Heard
 pub mod Moves
+pub mod Parts
 pub mod Phases
 pub mod Standings
 pub mod Turning
