@@ -20,7 +20,7 @@ use Rattle.apply_agreement.proofs.Phases.{Deed, Follows, Phase, between, under_w
 use Rattle.apply_agreement.proofs.Turning.{said}
 
 -- what happens to a step of that kind
-abbrev deed : Event → StepKind → Deed
+abbrev pub deed : Event → StepKind → Deed
 deed e kind = record { change = e.change; action = action_of kind; what = e.what }
 
 -- what happens at an event, if the plan has its step

@@ -3,7 +3,9 @@ pub mod Deeds
 pub mod Fitting
 pub mod Heard
 pub mod Moves
+pub mod Ordinary
 pub mod Parts
 pub mod Phases
 pub mod Standings
 pub mod Turning
+pub mod Whole

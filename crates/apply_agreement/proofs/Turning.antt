@@ -34,6 +34,16 @@ acts_as k between = k
 acts_as k (under_way l t) = l
 acts_as k unexplained = k
 
+module _ (limit : ℕ) (addresses : ℕ → List ℕ) (Within : List ℕ → Type 0) (Does : ℕ → Action → Type 0) where
+  -- each is of a change below the limit that does so, at one of the addresses
+  abbrev pub AllKnown : List Deed → Type 0
+  AllKnown [] = Unit {0}
+  AllKnown (d ∷ ds) = ((d.change < limit) × Within (addresses d.change) × Does d.change d.action) × AllKnown ds
+
+  -- the messages are accepted, and in the end each change is between two steps
+  abbrev pub Runs : List Message → List Message → Type 0
+  Runs ms more = (with_all ms more ≡ Ok (behind ms more)) × ((phases : ℕ → Phase) × Agrees limit addresses Within Does phases (behind ms more) × ((c : ℕ) → c < limit → phases c ≡ between))
+
 module _ (limit : ℕ) (addresses : ℕ → List ℕ) (Within : List ℕ → Type 0) (Does : ℕ → Action → Type 0) (few : limit ≤ max_overlap) (apart : Apart addresses Does) where
   -- one change at one moment
   module _ (phases : ℕ → Phase) (ms : List Message) (c : ℕ) (k : Action) (agrees : Agrees limit addresses Within Does phases ms) (less : c < limit) (within : Within (addresses c)) (does : Does c k) where
@@ -136,17 +146,8 @@ module _ (limit : ℕ) (addresses : ℕ → List ℕ) (Within : List ℕ → Typ
 
   -- ---- all that happens
 
-  -- each is of a change below the limit that does so, at one of the addresses
-  abbrev pub AllKnown : List Deed → Type 0
-  AllKnown [] = Unit {0}
-  AllKnown (d ∷ ds) = ((d.change < limit) × Within (addresses d.change) × Does d.change d.action) × AllKnown ds
-
-  -- the messages are accepted, and in the end each change is between two steps
-  abbrev pub Runs : List Message → List Message → Type 0
-  Runs ms more = (with_all ms more ≡ Ok (behind ms more)) × ((phases : ℕ → Phase) × Agrees limit addresses Within Does phases (behind ms more) × ((c : ℕ) → c < limit → phases c ≡ between))
-
-  pub runs : (ds : List Deed) (phases : ℕ → Phase) (ms : List Message) → Agrees limit addresses Within Does phases ms → AllKnown ds
-      → ((c : ℕ) → c < limit → Follows (phases c) (of_change c ds)) → Runs ms (map (said addresses) ds)
+  pub runs : (ds : List Deed) (phases : ℕ → Phase) (ms : List Message) → Agrees limit addresses Within Does phases ms → AllKnown limit addresses Within Does ds
+      → ((c : ℕ) → c < limit → Follows (phases c) (of_change c ds)) → Runs limit addresses Within Does ms (map (said addresses) ds)
   runs [] phases ms agrees known follows = (refl, (phases, agrees, follows))
   runs (d ∷ ds) phases ms agrees known follows =
       let first : of_change d.change (d ∷ ds) ≡ d ∷ of_change d.change ds = ap (λ (b : Bool). cond b (d ∷ of_change d.change ds) (of_change d.change ds)) (eq-eqb d.change d.change refl) in

@@ -1,3 +1,4 @@
+pub mod Accepted
 pub mod Objects
 pub mod Passing
 pub mod Plans

@@ -1,0 +1,28 @@
+-- What a checker is to answer to the stream of some events.
+use Rattle.std.specs.Prelude.{◌+◌, List, [], ◌∷◌, ◌++◌, length}
+use Rattle.std.specs.List.{list_any}
+use Rattle.apply_plan.specs.Plan.SavedPlan.{SavedPlan}
+use Rattle.apply_check.specs.declared.totals.Totals.{Totals}
+use Rattle.apply_check.specs.declared.whole.Whole.{Whole}
+use Rattle.apply_check.specs.Lines.{is_error}
+use Rattle.apply_check.specs.Message.{Message, version, summary}
+use Rattle.apply_events.specs.declared.counts.Counts.{Counts}
+use Rattle.apply_events.specs.declared.event.Event.{Event}
+use Rattle.apply_events.specs.Totals.{totals_of}
+use Rattle.apply_agreement.specs.Told.{all_told}
+
+-- the totals that a summary says
+abbrev pub totals_said : Counts → Totals
+totals_said counts = record { added = counts.added; changed = counts.changed; removed = counts.removed }
+
+-- what the stream of some events tells: the version, the events, the summary
+abbrev pub stream_told : SavedPlan → List Event → List Message
+stream_told plan events = version ∷ (all_told plan events ++ summary (totals_said (totals_of plan events)) ∷ [])
+
+-- the stream is whole: the totals are the events', and the lines are theirs, the version's and the summary's
+abbrev pub whole_stream : SavedPlan → List Event → Whole
+whole_stream plan events = record {
+  totals = totals_said (totals_of plan events);
+  has_errors = list_any is_error (all_told plan events);
+  lines = length events + 2;
+}
