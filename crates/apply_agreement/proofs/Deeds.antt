@@ -1,5 +1,5 @@
 -- What happens to the steps of a plan, by its events.
-use Rattle.std.proofs.Common.{◌≡◌, ◌≢◌, ℕ, ◌+◌, ◌-◌, ◌<◌, ◌≤◌, ◌==◌, zero, suc, List, [], ◌∷◌, ◌++◌, length, map, filter, flat_map, Bool, true, false, cond, Option, Some, None, refl, sym, ap, ◌∙◌, subst, slice_get, option_map, option_to_list, arith}
+use Rattle.std.proofs.Common.{◌≡◌, ℕ, ◌+◌, ◌-◌, ◌<◌, ◌≤◌, ◌==◌, zero, suc, List, [], ◌∷◌, ◌++◌, map, filter, flat_map, Bool, true, false, cond, Option, Some, None, refl, sym, ap, ◌∙◌, subst, slice_get, option_map, option_to_list, arith}
 use Rattle.std.specs.Prelude.{is_some}
 use Rattle.std.specs.List.{enumerate_from, range_with_len}
 use Rattle.std.specs.Option.{option_map_or}
@@ -9,13 +9,12 @@ use Rattle.apply_hooks.specs.declared.phase.Phase as asked
 use Rattle.apply_hooks.specs.declared.phase.Phase.TheVariants.{Pre}
 use Rattle.apply_check.specs.Message.{Message}
 use Rattle.apply_events.specs.declared.event.Event.{Event}
-use Rattle.apply_events.specs.declared.what.What.{What}
-use Rattle.apply_events.specs.declared.what.What.TheVariants.{Start, Progress, Complete, Errored, ErrorNote, WarnNote, Halted}
+use Rattle.apply_events.specs.declared.what.What.TheVariants.{Start, Progress, Halted}
 use Rattle.apply_events.specs.ChangeEvents.{begun, change_events, in_turn}
 use Rattle.apply_events.specs.ProgressTimes.{is_multiple_of_ten, progress_times}
 use Rattle.apply_events.specs.Step.{Step, Work, address_of, kinds_of, step_of, steps_of}
 use Rattle.apply_events.specs.StepEvents.{end_of, endings, event, goes_on, halts, notes, phase_after, started, step_events, step_time}
-use Rattle.apply_agreement.specs.Told.{action_of, all_told, told, told_of}
+use Rattle.apply_agreement.specs.Told.{action_of, all_told, told}
 use Rattle.apply_agreement.proofs.Phases.{Deed, Follows, Phase, between, under_way, unexplained, Turns, of_change}
 use Rattle.apply_agreement.proofs.Turning.{said}
 
@@ -142,9 +141,10 @@ planned : (work : Work) (c n : ℕ) (kinds : List StepKind) → ((i : ℕ) → s
     → ArePlanned work.plan (map (λ p. step_of work c p.0 p.1) (enumerate_from n kinds))
 planned work c n [] is = tt
 planned work c n (kind ∷ kinds) is =
-    let here : n ≡ n + 0 = omega arith in
-    ((kind, ap (λ (x : ℕ). slice_get (kinds_of work.plan c) x) here ∙ is 0),
-    planned work c (n + 1) kinds (λ i. let next : n + 1 + i ≡ n + suc i = omega arith in ap (λ (x : ℕ). slice_get (kinds_of work.plan c) x) next ∙ is (suc i)))
+    let here : n ≡ n + 0 = omega arith in (
+      (kind, ap (λ (x : ℕ). slice_get (kinds_of work.plan c) x) here ∙ is 0),
+      planned work c (n + 1) kinds (λ i. let next : n + 1 + i ≡ n + suc i = omega arith in ap (λ (x : ℕ). slice_get (kinds_of work.plan c) x) next ∙ is (suc i)),
+    )
 
 planned_begun : (plan : SavedPlan) (steps : List Step) → ArePlanned plan steps → ArePlanned plan (begun steps)
 planned_begun plan [] h = tt

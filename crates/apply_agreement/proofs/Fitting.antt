@@ -1,7 +1,7 @@
 -- What stands open of an action at an address, beside what the changes have under way there.
-use Rattle.std.proofs.Common.{◌≡◌, ◌≢◌, ℕ, ◌+◌, ◌-◌, ◌<◌, ◌≤◌, true, false, cond, Option, Some, None, Result, Ok, Err, refl, sym, ap, ◌∙◌, subst, ◌⊎◌, inl, inr, ⊎_elim, arith}
+use Rattle.std.proofs.Common.{◌≡◌, ◌≢◌, ℕ, ◌+◌, ◌-◌, ◌<◌, ◌≤◌, cond, Option, Some, None, Result, Ok, Err, refl, sym, ap, ◌∙◌, ◌⊎◌, ⊎_elim, arith}
 use Rattle.std.proofs.lemmas.Bool.{cases_eq, cases_lt, le-ltb, lt-ltb}
-use Rattle.std.proofs.lemmas.Option.{none-some, same_Some}
+use Rattle.std.proofs.lemmas.Option.{same_Some}
 use Rattle.apply_check.specs.declared.action.Action.{Action}
 use Rattle.apply_check.specs.declared.action.Action.TheVariants.{Delete}
 use Rattle.apply_check.specs.declared.fault.Fault.{Fault}
@@ -41,12 +41,17 @@ module _ (limit c : ℕ) (k : Action) (h g : ℕ → Option ℕ) (known : c < li
   begins line None few old new may f =
       let all = counts in
       let was : weight (h c) ≡ 0 = ap weight old in
-      let is : weight (g c) ≡ 1 = ap weight new in
-      (Some (One line 0), refl, ((let none : counted h 0 limit ≡ 0 = f in omega arith),
-        λ b s less e. ⊎_elim
-        (λ (here : b ≡ c). same_Some s 0 (sym e ∙ ap g here ∙ new))
-        (λ elsewhere. absurd (let one = one_at_least h b limit s less (sym (others b elsewhere) ∙ e) in let none : counted h 0 limit ≡ 0 = f in omega arith))
-        (cases_eq b c)))
+      let is : weight (g c) ≡ 1 = ap weight new in (
+        Some (One line 0),
+        refl,
+        (
+          (let none : counted h 0 limit ≡ 0 = f in omega arith),
+          λ b s less e. ⊎_elim
+              (λ (here : b ≡ c). same_Some s 0 (sym e ∙ ap g here ∙ new))
+              (λ elsewhere. absurd (let one = one_at_least h b limit s less (sym (others b elsewhere) ∙ e) in let none : counted h 0 limit ≡ 0 = f in omega arith))
+              (cases_eq b c),
+        ),
+      )
   begins line (Some (One begin told)) few old new may f =
       let all = counts in
       let was : weight (h c) ≡ 0 = ap weight old in
@@ -76,12 +81,17 @@ module _ (limit c : ℕ) (k : Action) (h g : ℕ → Option ℕ) (known : c < li
       let was : weight (h c) ≡ 1 = ap weight old in
       let is : weight (g c) ≡ 1 = ap weight new in
       let one : counted h 0 limit ≡ 1 = f.0 in
-      let last : t ≡ told = f.1 c t known old in
-      (Some (One begin s), ap (λ b. cond b (fine (Some (One begin s))) (Err (NotLater begin))) (lt-ltb told s (omega arith)), (omega arith,
-        λ b r less e. ⊎_elim
-        (λ (here : b ≡ c). same_Some r s (sym e ∙ ap g here ∙ new))
-        (λ elsewhere. absurd (let two = two_at_least h b c limit r t less known elsewhere (sym (others b elsewhere) ∙ e) old in omega arith))
-        (cases_eq b c)))
+      let last : t ≡ told = f.1 c t known old in (
+        Some (One begin s),
+        ap (λ b. cond b (fine (Some (One begin s))) (Err (NotLater begin))) (lt-ltb told s (omega arith)),
+        (
+          omega arith,
+          λ b r less e. ⊎_elim
+              (λ (here : b ≡ c). same_Some r s (sym e ∙ ap g here ∙ new))
+              (λ elsewhere. absurd (let two = two_at_least h b c limit r t less known elsewhere (sym (others b elsewhere) ∙ e) old in omega arith))
+              (cases_eq b c),
+        ),
+      )
     where
       fine : Option Pending → Result (Option Pending) Fault
       fine q = Ok q

@@ -7,5 +7,6 @@ pub mod Ordinary
 pub mod Parts
 pub mod Phases
 pub mod Standings
+pub mod Tallies
 pub mod Turning
 pub mod Whole

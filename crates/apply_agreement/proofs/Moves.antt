@@ -1,27 +1,23 @@
 -- One event more: the checker accepts its message, and stands where the changes stand.
-use Rattle.std.proofs.Common.{◌≡◌, ◌≢◌, ℕ, ◌+◌, ◌<◌, ◌≤◌, List, [], ◌∷◌, length, Bool, true, false, cond, Option, Some, None, Result, Ok, Err, refl, sym, ap, ◌∙◌, subst, ◌⊎◌, inl, inr, ⊎_elim, bytes_eq, is_some, arith}
+use Rattle.std.proofs.Common.{◌≡◌, ◌≢◌, ℕ, ◌+◌, ◌<◌, List, ◌∷◌, length, Bool, true, false, cond, Option, Some, None, Ok, refl, sym, ap, ◌∙◌, subst, ◌⊎◌, ⊎_elim, bytes_eq, is_some}
 use Rattle.std.specs.List.{list_any}
 use Rattle.std.proofs.lemmas.Bool.{both_ways, cases_Bool, cases_eq}
 use Rattle.std.proofs.lemmas.Option.{cond_some}
 use Rattle.std.proofs.lemmas.Slice.Eq.{bytes_eq-Decides}
 use Rattle.apply_check.specs.declared.action.Action.{Action}
-use Rattle.apply_check.specs.declared.action.Action.TheVariants.{Create, Update, Delete, Read}
-use Rattle.apply_check.specs.declared.fault.Fault.{Fault}
+use Rattle.apply_check.specs.declared.action.Action.TheVariants.{Delete, Read}
 use Rattle.apply_check.specs.declared.pending.Pending.{Pending}
 use Rattle.apply_check.specs.declared.standing.Standing.{Standing}
 use Rattle.apply_check.specs.declared.what.What as checked
-use Rattle.apply_check.specs.declared.what.What.TheVariants as heard
-use Rattle.apply_check.specs.Course.{after, max_overlap}
+use Rattle.apply_check.specs.Course.{after}
 use Rattle.apply_check.specs.Lines.{is_summary, next}
 use Rattle.apply_check.specs.Message.{Message, step, diagnostic}
 use Rattle.apply_check.specs.Standing.{explained, pending_at, standing_of, step_on}
 use Rattle.apply_check.specs.Words.{same_action}
-use Rattle.apply_events.specs.declared.what.What.{What}
-use Rattle.apply_events.specs.declared.what.What.TheVariants.{Start, Progress, Complete, Errored, ErrorNote, WarnNote, Halted}
 use Rattle.apply_agreement.specs.Told.{told}
 use Rattle.apply_agreement.proofs.Counting.{counted, none_or_some, same}
-use Rattle.apply_agreement.proofs.Fitting.{Answers, Fits, begins, ends, fits_same, tells}
-use Rattle.apply_agreement.proofs.Phases.{Phase, between, under_way, unexplained, Turns, put, put_elsewhere, put_here, seconds_in, shown, shown_same}
+use Rattle.apply_agreement.proofs.Fitting.{Fits, fits_same}
+use Rattle.apply_agreement.proofs.Phases.{Phase, between, under_way, unexplained, put, put_elsewhere, put_here, seconds_in, shown, shown_same}
 use Rattle.apply_agreement.proofs.Standings.{IsBegun, IsNoFailure, diagnostic_elsewhere, diagnostic_there, explained_other, next_diagnostic, next_step, owed_same, pending_other, pending_same, provisioner_same, same_is, same_itself, same_text, step_elsewhere, step_in, step_is, step_there}
 
 -- after the messages the checker stands, at each address of some, where the changes below the limit stand
@@ -137,41 +133,42 @@ module _ (limit : ℕ) (addresses : ℕ → List ℕ) (Within : List ℕ → Typ
       let s = standing_of a ms in
       let line = length ms + 1 in
       let is : step_on k what line s ≡ Ok (step_in k what line p s) = step_is k what line p s (agrees.provisioners a within) e in
-      let there : standing_of a (step a k what ∷ ms) ≡ step_in k what line p s = step_there a k what (step_in k what line p s) ms is in
-      (next_step a k what (step_in k what line p s) ms agrees.begun agrees.unsummed is,
-      record {
-        open_steps = λ b l w. by_address (λ b. Within b → Fits limit l (shown addresses (put phases c q) b l) (pending_at l (standing_of b (step a k what ∷ ms)))) a
-            (λ _. subst (λ (t : Standing). Fits limit l (shown addresses (put phases c q) a l) (pending_at l t)) (sym there)
-            (⊎_elim
-            (λ yes.
-            let at_k : Fits limit k (shown addresses (put phases c q) a k) (pending_at k (step_in k what line p s)) = subst (Fits limit k (shown addresses (put phases c q) a k)) (sym (pending_same k what line p s)) fit in
-            subst (λ (m : Action). Fits limit m (shown addresses (put phases c q) a m) (pending_at m (step_in k what line p s))) (same_is k l yes) at_k)
-            (λ no.
-            subst (Fits limit l (shown addresses (put phases c q) a l)) (sym (pending_other k l what line p s no))
-            (fits_same limit l (shown addresses phases a l) (shown addresses (put phases c q) a l) (pending_at l s) (λ b _. shown_kept addresses phases c q a l (kept l no) b) (agrees.open_steps a l within)))
-            (cases_Bool (same_action k l))))
-            (λ b no w.
-            subst (λ (t : Standing). Fits limit l (shown addresses (put phases c q) b l) (pending_at l t)) (sym (step_elsewhere a k what ms b no))
-            (fits_same limit l (shown addresses phases b l) (shown addresses (put phases c q) b l) (pending_at l (standing_of b ms)) (λ d _. shown_elsewhere addresses phases c q b l no d) (agrees.open_steps b l w)))
-            b w;
-        provisioners = by_address (λ b. Within b → (standing_of b (step a k what ∷ ms)).provisioner ≡ None) a
-            (λ _. ap (λ (t : Standing). t.provisioner) there ∙ provisioner_same k what line p s ∙ agrees.provisioners a within)
-            (λ b no w. ap (λ (t : Standing). t.provisioner) (step_elsewhere a k what ms b no) ∙ agrees.provisioners b w);
-        owed = by_address (λ b. Within b → is_some (standing_of b (step a k what ∷ ms)).owed ≡ true → (d : ℕ) × (d < limit) × (addresses d ≡ b) × (put phases c q d ≡ unexplained)) a
-            (λ _ some.
-            ⊎_elim
-            (λ fine.
-            let before : is_some s.owed ≡ true = sym (ap is_some (ap (λ (t : Standing). t.owed) there ∙ owed_same k what line p s fine.0)) ∙ some in
-            still_owed phases c q a (agrees.owed a within before) (λ d _ u same. fine.1 (ap phases (sym same) ∙ u)))
-            (λ failed. (c, less, refl, put_here phases c q ∙ failed))
-            owes)
-            (λ b no w some.
-            let before : is_some (standing_of b ms).owed ≡ true = sym (ap is_some (ap (λ (t : Standing). t.owed) (step_elsewhere a k what ms b no))) ∙ some in
-            still_owed phases c q b (agrees.owed b w before) (λ d there u. other_address c d b no there));
-        does = still_does phases c q agrees.does does;
-        begun = tt;
-        unsummed = agrees.unsummed;
-      })
+      let there : standing_of a (step a k what ∷ ms) ≡ step_in k what line p s = step_there a k what (step_in k what line p s) ms is in (
+        next_step a k what (step_in k what line p s) ms agrees.begun agrees.unsummed is,
+        record {
+          open_steps = λ b l w. by_address (λ b. Within b → Fits limit l (shown addresses (put phases c q) b l) (pending_at l (standing_of b (step a k what ∷ ms)))) a
+              (λ _. subst (λ (t : Standing). Fits limit l (shown addresses (put phases c q) a l) (pending_at l t)) (sym there)
+              (⊎_elim
+              (λ yes.
+              let at_k : Fits limit k (shown addresses (put phases c q) a k) (pending_at k (step_in k what line p s)) = subst (Fits limit k (shown addresses (put phases c q) a k)) (sym (pending_same k what line p s)) fit in
+              subst (λ (m : Action). Fits limit m (shown addresses (put phases c q) a m) (pending_at m (step_in k what line p s))) (same_is k l yes) at_k)
+              (λ no.
+              subst (Fits limit l (shown addresses (put phases c q) a l)) (sym (pending_other k l what line p s no))
+              (fits_same limit l (shown addresses phases a l) (shown addresses (put phases c q) a l) (pending_at l s) (λ b _. shown_kept addresses phases c q a l (kept l no) b) (agrees.open_steps a l within)))
+              (cases_Bool (same_action k l))))
+              (λ b no w.
+              subst (λ (t : Standing). Fits limit l (shown addresses (put phases c q) b l) (pending_at l t)) (sym (step_elsewhere a k what ms b no))
+              (fits_same limit l (shown addresses phases b l) (shown addresses (put phases c q) b l) (pending_at l (standing_of b ms)) (λ d _. shown_elsewhere addresses phases c q b l no d) (agrees.open_steps b l w)))
+              b w;
+          provisioners = by_address (λ b. Within b → (standing_of b (step a k what ∷ ms)).provisioner ≡ None) a
+              (λ _. ap (λ (t : Standing). t.provisioner) there ∙ provisioner_same k what line p s ∙ agrees.provisioners a within)
+              (λ b no w. ap (λ (t : Standing). t.provisioner) (step_elsewhere a k what ms b no) ∙ agrees.provisioners b w);
+          owed = by_address (λ b. Within b → is_some (standing_of b (step a k what ∷ ms)).owed ≡ true → (d : ℕ) × (d < limit) × (addresses d ≡ b) × (put phases c q d ≡ unexplained)) a
+              (λ _ some.
+              ⊎_elim
+              (λ fine.
+              let before : is_some s.owed ≡ true = sym (ap is_some (ap (λ (t : Standing). t.owed) there ∙ owed_same k what line p s fine.0)) ∙ some in
+              still_owed phases c q a (agrees.owed a within before) (λ d _ u same. fine.1 (ap phases (sym same) ∙ u)))
+              (λ failed. (c, less, refl, put_here phases c q ∙ failed))
+              owes)
+              (λ b no w some.
+              let before : is_some (standing_of b ms).owed ≡ true = sym (ap is_some (ap (λ (t : Standing). t.owed) (step_elsewhere a k what ms b no))) ∙ some in
+              still_owed phases c q b (agrees.owed b w before) (λ d there u. other_address c d b no there));
+          does = still_does phases c q agrees.does does;
+          begun = tt;
+          unsummed = agrees.unsummed;
+        },
+      )
 
   pub noted : (phases : ℕ → Phase) (ms : List Message) (c : ℕ) (k : Action) (e : Bool) (q : Phase)
       → Agrees limit addresses Within Does phases ms → c < limit → Within (addresses c) → Apart addresses Does → Does c k
@@ -182,44 +179,45 @@ module _ (limit : ℕ) (addresses : ℕ → List ℕ) (Within : List ℕ → Typ
       let a = addresses c in
       let s = standing_of a ms in
       let there : standing_of a (diagnostic e (Some a) ∷ ms) ≡ explained e s = diagnostic_there a e ms in
-      let kept = λ (b : List ℕ) (l : Action). shown_kept addresses phases c q b l (after_none l ∙ sym (before_none l)) in
-      (next_diagnostic a e ms agrees.begun,
-      record {
-        open_steps = λ b l w. by_address (λ b. Within b → Fits limit l (shown addresses (put phases c q) b l) (pending_at l (standing_of b (diagnostic e (Some a) ∷ ms)))) a
-            (λ _. subst (λ (t : Standing). Fits limit l (shown addresses (put phases c q) a l) (pending_at l t)) (sym there)
-            (⊎_elim
-            (λ yes.
-            let nobody : counted (shown addresses (put phases c q) a Read) 0 limit ≡ 0 =
-                same (shown addresses phases a Read) (shown addresses (put phases c q) a Read) 0 limit (λ b _ _. kept a Read b)
-                ∙ ⊎_elim (λ none. none)
-                (λ found.
-                let reads = shown_is addresses phases a Read found.0 found.1 found.3 in
-                let is : found.0 ≡ c = apart.read found.0 c k reads.0 (agrees.does found.0 found.1 Read reads.1) does in
-                absurd (let f : seconds_in Read (phases c) ≡ Some found.1 = ap (λ (x : ℕ). seconds_in Read (phases x)) (sym is) ∙ ap (seconds_in Read) reads.1 in let g : None ≡ Some found.1 = sym (before_none Read) ∙ f in cc))
-                (none_or_some (shown addresses phases a Read) 0 limit) in
-            subst (λ (m : Action). Fits limit m (shown addresses (put phases c q) a m) (pending_at m (explained e s))) (same_is Read l yes) nobody)
-            (λ no.
-            subst (Fits limit l (shown addresses (put phases c q) a l)) (sym (explained_other l e s (λ is. both_ways (same_action Read l) no (ap (same_action Read) is ∙ same_itself Read))))
-            (fits_same limit l (shown addresses phases a l) (shown addresses (put phases c q) a l) (pending_at l s) (λ b _. kept a l b) (agrees.open_steps a l within)))
-            (cases_Bool (same_action Read l))))
-            (λ b no w.
-            subst (λ (t : Standing). Fits limit l (shown addresses (put phases c q) b l) (pending_at l t)) (sym (diagnostic_elsewhere a e ms b no))
-            (fits_same limit l (shown addresses phases b l) (shown addresses (put phases c q) b l) (pending_at l (standing_of b ms)) (λ d _. kept b l d) (agrees.open_steps b l w)))
-            b w;
-        provisioners = by_address (λ b. Within b → (standing_of b (diagnostic e (Some a) ∷ ms)).provisioner ≡ None) a
-            (λ _. ap (λ (t : Standing). t.provisioner) there ∙ agrees.provisioners a within)
-            (λ b no w. ap (λ (t : Standing). t.provisioner) (diagnostic_elsewhere a e ms b no) ∙ agrees.provisioners b w);
-        owed = by_address (λ b. Within b → is_some (standing_of b (diagnostic e (Some a) ∷ ms)).owed ≡ true → (d : ℕ) × (d < limit) × (addresses d ≡ b) × (put phases c q d ≡ unexplained)) a
-            (λ _ some.
-            let now : is_some (explained e s).owed ≡ true = sym (ap is_some (ap (λ (t : Standing). t.owed) there)) ∙ some in
-            owed_then e explains now)
-            (λ b no w some.
-            let before : is_some (standing_of b ms).owed ≡ true = sym (ap is_some (ap (λ (t : Standing). t.owed) (diagnostic_elsewhere a e ms b no))) ∙ some in
-            still_owed phases c q b (agrees.owed b w before) (λ d there u. other_address c d b no there));
-        does = still_does phases c q agrees.does (λ t l is. absurd (let f : seconds_in l q ≡ Some t = ap (seconds_in l) is ∙ running l t in let g : None ≡ Some t = sym (after_none l) ∙ f in cc));
-        begun = tt;
-        unsummed = agrees.unsummed;
-      })
+      let kept = λ (b : List ℕ) (l : Action). shown_kept addresses phases c q b l (after_none l ∙ sym (before_none l)) in (
+        next_diagnostic a e ms agrees.begun,
+        record {
+          open_steps = λ b l w. by_address (λ b. Within b → Fits limit l (shown addresses (put phases c q) b l) (pending_at l (standing_of b (diagnostic e (Some a) ∷ ms)))) a
+              (λ _. subst (λ (t : Standing). Fits limit l (shown addresses (put phases c q) a l) (pending_at l t)) (sym there)
+              (⊎_elim
+              (λ yes.
+              let nobody : counted (shown addresses (put phases c q) a Read) 0 limit ≡ 0 =
+              same (shown addresses phases a Read) (shown addresses (put phases c q) a Read) 0 limit (λ b _ _. kept a Read b)
+              ∙ ⊎_elim (λ none. none)
+              (λ found.
+              let reads = shown_is addresses phases a Read found.0 found.1 found.3 in
+              let is : found.0 ≡ c = apart.read found.0 c k reads.0 (agrees.does found.0 found.1 Read reads.1) does in
+              absurd (let f : seconds_in Read (phases c) ≡ Some found.1 = ap (λ (x : ℕ). seconds_in Read (phases x)) (sym is) ∙ ap (seconds_in Read) reads.1 in let g : None ≡ Some found.1 = sym (before_none Read) ∙ f in cc))
+              (none_or_some (shown addresses phases a Read) 0 limit) in
+              subst (λ (m : Action). Fits limit m (shown addresses (put phases c q) a m) (pending_at m (explained e s))) (same_is Read l yes) nobody)
+              (λ no.
+              subst (Fits limit l (shown addresses (put phases c q) a l)) (sym (explained_other l e s (λ is. both_ways (same_action Read l) no (ap (same_action Read) is ∙ same_itself Read))))
+              (fits_same limit l (shown addresses phases a l) (shown addresses (put phases c q) a l) (pending_at l s) (λ b _. kept a l b) (agrees.open_steps a l within)))
+              (cases_Bool (same_action Read l))))
+              (λ b no w.
+              subst (λ (t : Standing). Fits limit l (shown addresses (put phases c q) b l) (pending_at l t)) (sym (diagnostic_elsewhere a e ms b no))
+              (fits_same limit l (shown addresses phases b l) (shown addresses (put phases c q) b l) (pending_at l (standing_of b ms)) (λ d _. kept b l d) (agrees.open_steps b l w)))
+              b w;
+          provisioners = by_address (λ b. Within b → (standing_of b (diagnostic e (Some a) ∷ ms)).provisioner ≡ None) a
+              (λ _. ap (λ (t : Standing). t.provisioner) there ∙ agrees.provisioners a within)
+              (λ b no w. ap (λ (t : Standing). t.provisioner) (diagnostic_elsewhere a e ms b no) ∙ agrees.provisioners b w);
+          owed = by_address (λ b. Within b → is_some (standing_of b (diagnostic e (Some a) ∷ ms)).owed ≡ true → (d : ℕ) × (d < limit) × (addresses d ≡ b) × (put phases c q d ≡ unexplained)) a
+              (λ _ some.
+              let now : is_some (explained e s).owed ≡ true = sym (ap is_some (ap (λ (t : Standing). t.owed) there)) ∙ some in
+              owed_then e explains now)
+              (λ b no w some.
+              let before : is_some (standing_of b ms).owed ≡ true = sym (ap is_some (ap (λ (t : Standing). t.owed) (diagnostic_elsewhere a e ms b no))) ∙ some in
+              still_owed phases c q b (agrees.owed b w before) (λ d there u. other_address c d b no there));
+          does = still_does phases c q agrees.does (λ t l is. absurd (let f : seconds_in l q ≡ Some t = ap (seconds_in l) is ∙ running l t in let g : None ≡ Some t = sym (after_none l) ∙ f in cc));
+          begun = tt;
+          unsummed = agrees.unsummed;
+        },
+      )
     where
       owed_then : (e : Bool) → (e ≡ true) ⊎ (q ≡ phases c) → is_some (explained e (standing_of (addresses c) ms)).owed ≡ true
           → (d : ℕ) × (d < limit) × (addresses d ≡ addresses c) × (put phases c q d ≡ unexplained)

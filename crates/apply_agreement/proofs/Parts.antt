@@ -1,5 +1,5 @@
 -- The part that each change has of what several workers report.
-use Rattle.std.proofs.Common.{◌≡◌, ◌≢◌, ℕ, ◌+◌, ◌<◌, ◌≤◌, ◌==◌, zero, suc, All, List, [], ◌∷◌, ◌++◌, length, map, filter, get_or, sum_by, Bool, true, false, cond, Option, Some, None, refl, sym, ap, ◌∙◌, subst, ◌⊎◌, inl, inr, ⊎_elim, slice_get, option_map, option_to_list, append-nil, arith, eq-eqb, ne_eqb}
+use Rattle.std.proofs.Common.{◌≡◌, ◌≢◌, ℕ, ◌+◌, ◌<◌, ◌≤◌, ◌==◌, zero, suc, All, List, [], ◌∷◌, ◌++◌, length, map, get_or, sum_by, Bool, true, false, cond, Option, Some, None, refl, sym, ap, ◌∙◌, subst, ⊎_elim, slice_get, option_map, option_to_list, append-nil, arith, eq-eqb, ne_eqb}
 use Rattle.std.specs.Prelude.{is_some}
 use Rattle.std.specs.List.{enumerate_from}
 use Rattle.std.proofs.lemmas.Bool.{cases_eq, lt-ltb}
@@ -7,7 +7,6 @@ use Rattle.std.proofs.lemmas.Bool.Decides.{eqb_tells}
 use Rattle.std.proofs.lemmas.List.Elements.{All-head, All-tail}
 use Rattle.std.proofs.lemmas.List.Sums.{get_or-le-sum_by, sum_by-cons}
 use Rattle.apply_plan.specs.declared.plan.step_kind.StepKind.{StepKind}
-use Rattle.apply_hooks.specs.declared.phase.Phase as asked
 use Rattle.apply_hooks.specs.declared.phase.Phase.TheVariants.{Pre}
 use Rattle.apply_events.specs.declared.event.Event.{Event}
 use Rattle.apply_events.specs.declared.what.What.{What}
@@ -15,7 +14,7 @@ use Rattle.apply_events.specs.declared.what.What.TheVariants.{Start, Progress, H
 use Rattle.apply_events.specs.ChangeEvents.{begun, change_events, in_turn, span_of}
 use Rattle.apply_events.specs.Interleaving.{IsInterleaving}
 use Rattle.apply_events.specs.OfWorker.{of_worker}
-use Rattle.apply_events.specs.Partition.{IsPartition, count_of, places}
+use Rattle.apply_events.specs.Partition.{IsPartition, count_of}
 use Rattle.apply_events.specs.ProgressTimes.{progress_times}
 use Rattle.apply_events.specs.Step.{Step, Work, kinds_of, step_of, steps_of}
 use Rattle.apply_events.specs.StepEvents.{endings, event, goes_on, halts, phase_after, started, step_events, step_time}
@@ -86,9 +85,10 @@ all_of : (work : Work) (w c n : ℕ) (kinds : List StepKind) → ((i : ℕ) → 
     → AllSuit (IsOf work c) w (map (λ p. step_of work c p.0 p.1) (enumerate_from n kinds))
 all_of work w c n [] is = tt
 all_of work w c n (kind ∷ kinds) is =
-    let here : n ≡ n + 0 = omega arith in
-    (λ at what. record { named = refl; planned = (kind, ap (λ (x : ℕ). slice_get (kinds_of work.plan c) x) here ∙ is 0) },
-    all_of work w c (n + 1) kinds (λ i. let next : n + 1 + i ≡ n + suc i = omega arith in ap (λ (x : ℕ). slice_get (kinds_of work.plan c) x) next ∙ is (suc i)))
+    let here : n ≡ n + 0 = omega arith in (
+      λ at what. record { named = refl; planned = (kind, ap (λ (x : ℕ). slice_get (kinds_of work.plan c) x) here ∙ is 0) },
+      all_of work w c (n + 1) kinds (λ i. let next : n + 1 + i ≡ n + suc i = omega arith in ap (λ (x : ℕ). slice_get (kinds_of work.plan c) x) next ∙ is (suc i)),
+    )
 
 pub change_is_of : (work : Work) (w c at : ℕ) → Each (IsOf work c) (change_events work w c at)
 change_is_of work w c at =
@@ -147,9 +147,11 @@ module _ (work : Work) (w : ℕ) where
       let split = both_parts c (change_events work w b at) (turn changes (at + span_of work b)) in
       ⊎_elim
       (λ (same : ((b == c) ≡ true) × (b ≡ c)).
-      let here : cond {A = ℕ} (b == c) 1 0 ≡ 1 = ap (λ (t : Bool). cond t 1 0) same.0 in
-      (at, split ∙ ap (λ (l : List Event). with_change c (change_events work w b at) ++ l) (none_left c changes (at + span_of work b) (omega arith))
-      ∙ append-nil (with_change c (change_events work w b at)) ∙ ap (λ (x : ℕ). with_change c (change_events work w x at)) same.1 ∙ own_part c at))
+      let here : cond {A = ℕ} (b == c) 1 0 ≡ 1 = ap (λ (t : Bool). cond t 1 0) same.0 in (
+        at,
+        split ∙ ap (λ (l : List Event). with_change c (change_events work w b at) ++ l) (none_left c changes (at + span_of work b) (omega arith))
+            ∙ append-nil (with_change c (change_events work w b at)) ∙ ap (λ (x : ℕ). with_change c (change_events work w x at)) same.1 ∙ own_part c at,
+      ))
       (λ (other : ((b == c) ≡ false) × (b ≢ c)).
       let here : cond {A = ℕ} (b == c) 1 0 ≡ 0 = ap (λ (t : Bool). cond t 1 0) other.0 in
       let rest = part_of_turn c changes (at + span_of work b) (omega arith) in
@@ -177,6 +179,7 @@ only_one f (list ∷ lists) one =
     later : f list ≡ 0 → (w : ℕ) → ((v : ℕ) → v < length lists → 1 ≤ f (get_or lists v []) → v ≡ w) → (v : ℕ) → v < suc (length lists) → 1 ≤ f (get_or (list ∷ lists) v []) → v ≡ suc w
     later none w only zero less some = absurd (omega arith)
     later none w only (suc v) less some = ap suc (only v (omega arith) some)
+
     first : sum_by f lists ≡ 0 → (v : ℕ) → v < suc (length lists) → 1 ≤ f (get_or (list ∷ lists) v []) → v ≡ 0
     first nothing zero less some = refl
     first nothing (suc v) less some = absurd (let part : f (get_or lists v []) ≤ sum_by f lists = get_or-le-sum_by f lists v [] (omega arith) in omega arith)
@@ -240,16 +243,17 @@ pub worker_listed : (work : Work) (w : ℕ) (changes : List ℕ) → Each (IsLis
 worker_listed work w changes = turn_listed work w changes changes 0 (λ c. omega arith)
 
 module _ (work : Work) (workers limit : ℕ) (lists : List (List ℕ)) (events : List Event)
-  (dealt : IsPartition workers limit lists) (told : IsInterleaving workers (λ w. worker_events work w (get_or lists w [])) events) where
+    (dealt : IsPartition workers limit lists) (told : IsInterleaving workers (λ w. worker_events work w (get_or lists w [])) events) where
   pub all_listed : Each (λ e. IsListed work (get_or lists e.worker []) e) events
   all_listed = spread (λ w e. IsListed work (get_or lists w []) e) workers events told.named (λ w less. subst (Each (IsListed work (get_or lists w []))) (sym (told.parts w less)) (worker_listed work w (get_or lists w [])))
 
   owners : (c w : ℕ) (es : List Event) → All (λ (e : Event). e.worker < workers) es → Each (λ e. IsListed work (get_or lists e.worker []) e) es
       → ((v : ℕ) → v < workers → 1 ≤ count_of c (get_or lists v []) → v ≡ w) → Each (λ e. e.change ≡ c → e.worker ≡ w) es
   owners c w [] named listed only = tt
-  owners c w (e ∷ es) named listed only =
-      (λ same. only e.worker (All-head (λ (e : Event). e.worker < workers) e es named) (subst (λ (x : ℕ). 1 ≤ count_of x (get_or lists e.worker [])) same listed.0.listed),
-      owners c w es (All-tail (λ (e : Event). e.worker < workers) e es named) listed.1 only)
+  owners c w (e ∷ es) named listed only = (
+    λ same. only e.worker (All-head (λ (e : Event). e.worker < workers) e es named) (subst (λ (x : ℕ). 1 ≤ count_of x (get_or lists e.worker [])) same listed.0.listed),
+    owners c w es (All-tail (λ (e : Event). e.worker < workers) e es named) listed.1 only,
+  )
 
   -- the part of a change is its events, whoever applied it
   pub part_of_change : (c : ℕ) → c < limit → (w : ℕ) × (begin : ℕ) × (with_change c events ≡ change_events work w c begin)

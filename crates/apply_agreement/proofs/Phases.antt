@@ -1,6 +1,5 @@
 -- The course of a change: what may happen to it, one event after another.
-use Rattle.std.proofs.Common.{◌≡◌, ◌≢◌, ℕ, ◌<◌, ◌≤◌, ◌==◌, List, [], ◌∷◌, true, false, cond, filter, Option, Some, None, refl, sym, ap, ◌∙◌, ◌⊎◌, ⊎_elim, bytes_eq, eq-eqb, ne_eqb}
-use Rattle.std.proofs.lemmas.Bool.{cases_eq}
+use Rattle.std.proofs.Common.{◌≡◌, ◌≢◌, ℕ, ◌<◌, ◌≤◌, ◌==◌, List, [], ◌∷◌, cond, filter, Option, Some, None, refl, ap, bytes_eq, eq-eqb, ne_eqb}
 use Rattle.apply_check.specs.declared.action.Action.{Action}
 use Rattle.apply_check.specs.Words.{same_action}
 use Rattle.apply_events.specs.declared.what.What.{What}

@@ -1,16 +1,14 @@
 -- What may happen to a change is accepted, whatever the other changes have under way.
-use Rattle.std.proofs.Common.{◌≡◌, ◌≢◌, ℕ, ◌+◌, ◌<◌, ◌≤◌, ◌==◌, List, [], ◌∷◌, length, map, filter, Bool, true, false, cond, Option, Some, None, Result, Ok, Err, refl, sym, ap, ◌∙◌, subst, ◌⊎◌, inl, inr, ⊎_elim, arith, eq-eqb, ne_eqb}
+use Rattle.std.proofs.Common.{◌≡◌, ◌≢◌, ℕ, ◌+◌, ◌<◌, ◌≤◌, List, [], ◌∷◌, length, map, Bool, true, false, cond, Some, None, Result, Ok, refl, sym, ap, ◌∙◌, subst, ◌⊎◌, inl, inr, ⊎_elim, eq-eqb, ne_eqb}
 use Rattle.std.proofs.lemmas.Bool.{cases_eq}
 use Rattle.apply_check.specs.declared.action.Action.{Action}
 use Rattle.apply_check.specs.declared.action.Action.TheVariants.{Delete}
 use Rattle.apply_check.specs.declared.fault.Fault.{Fault}
 use Rattle.apply_check.specs.declared.what.What.TheVariants as heard
 use Rattle.apply_check.specs.Course.{max_overlap}
-use Rattle.apply_check.specs.Lines.{next}
 use Rattle.apply_check.specs.Message.{Message, step, diagnostic}
 use Rattle.apply_check.specs.Results.{◌>>=◌}
 use Rattle.apply_check.specs.Standing.{pending_at, standing_of}
-use Rattle.apply_check.specs.Words.{same_action}
 use Rattle.apply_events.specs.declared.what.What.{What}
 use Rattle.apply_events.specs.declared.what.What.TheVariants.{Start, Progress, Complete, Errored, ErrorNote, WarnNote, Halted}
 use Rattle.apply_agreement.specs.Passing.{with_all}
@@ -77,7 +75,7 @@ module _ (limit : ℕ) (addresses : ℕ → List ℕ) (Within : List ℕ → Typ
     starts : phases c ≡ between → Goes (under_way k 0) (step (addresses c) k heard.Start)
     starts is =
         let answer = begins limit c k (shown addresses phases (addresses c) k) (shown addresses (put phases c (under_way k 0)) (addresses c) k) less (others (under_way k 0)) (length ms + 1) (pending_at k (standing_of (addresses c) ms)) few
-            (before between is) (now (under_way k 0) ∙ running k 0) (may_start is) (agrees.open_steps (addresses c) k within) in
+        (before between is) (now (under_way k 0) ∙ running k 0) (may_start is) (agrees.open_steps (addresses c) k within) in
         stepped limit addresses Within Does phases ms c k heard.Start (under_way k 0) answer.0 agrees less within answer.1 answer.2
         (λ l other. not_running k l 0 other ∙ sym (ap (seconds_in l) is))
         (λ t l e. does_then t l 0 e)
@@ -86,7 +84,7 @@ module _ (limit : ℕ) (addresses : ℕ → List ℕ) (Within : List ℕ → Typ
     goes_on : (t s : ℕ) → phases c ≡ under_way k t → t < s → Goes (under_way k s) (step (addresses c) k (heard.Progress s))
     goes_on t s is more =
         let answer = tells limit c k (shown addresses phases (addresses c) k) (shown addresses (put phases c (under_way k s)) (addresses c) k) less (others (under_way k s)) t s (pending_at k (standing_of (addresses c) ms))
-            (before (under_way k t) is ∙ running k t) more (now (under_way k s) ∙ running k s) (agrees.open_steps (addresses c) k within) in
+        (before (under_way k t) is ∙ running k t) more (now (under_way k s) ∙ running k s) (agrees.open_steps (addresses c) k within) in
         stepped limit addresses Within Does phases ms c k (heard.Progress s) (under_way k s) answer.0 agrees less within answer.1 answer.2
         (λ l other. not_running k l s other ∙ sym (ap (seconds_in l) is ∙ not_running k l t other))
         (λ u l e. does_then u l s e)
@@ -95,7 +93,7 @@ module _ (limit : ℕ) (addresses : ℕ → List ℕ) (Within : List ℕ → Typ
     completes : (t s : ℕ) → phases c ≡ under_way k t → t ≤ s → Goes between (step (addresses c) k (heard.Complete s))
     completes t s is more =
         let answer = ends limit c k (shown addresses phases (addresses c) k) (shown addresses (put phases c between) (addresses c) k) less (others between) t s (pending_at k (standing_of (addresses c) ms))
-            (before (under_way k t) is ∙ running k t) more (now between) (agrees.open_steps (addresses c) k within) in
+        (before (under_way k t) is ∙ running k t) more (now between) (agrees.open_steps (addresses c) k within) in
         stepped limit addresses Within Does phases ms c k (heard.Complete s) between answer.0 agrees less within answer.1 answer.2
         (λ l other. sym (ap (seconds_in l) is ∙ not_running k l t other))
         (λ u l e. absurd cc)
@@ -104,7 +102,7 @@ module _ (limit : ℕ) (addresses : ℕ → List ℕ) (Within : List ℕ → Typ
     fails : (t s : ℕ) → phases c ≡ under_way k t → t ≤ s → Goes unexplained (step (addresses c) k (heard.Errored s))
     fails t s is more =
         let answer = ends limit c k (shown addresses phases (addresses c) k) (shown addresses (put phases c unexplained) (addresses c) k) less (others unexplained) t s (pending_at k (standing_of (addresses c) ms))
-            (before (under_way k t) is ∙ running k t) more (now unexplained) (agrees.open_steps (addresses c) k within) in
+        (before (under_way k t) is ∙ running k t) more (now unexplained) (agrees.open_steps (addresses c) k within) in
         stepped limit addresses Within Does phases ms c k (heard.Errored s) unexplained answer.0 agrees less within answer.1 answer.2
         (λ l other. sym (ap (seconds_in l) is ∙ not_running k l t other))
         (λ u l e. absurd cc)
@@ -154,11 +152,11 @@ module _ (limit : ℕ) (addresses : ℕ → List ℕ) (Within : List ℕ → Typ
       let follow : Follows (phases d.change) (d ∷ of_change d.change ds) = subst (Follows (phases d.change)) first (follows d.change known.0.0) in
       let here = turned phases ms d.change d.action agrees known.0.0 known.0.1 known.0.2 (phases d.change) d.what follow.0 refl follow.1 in
       let rest = runs ds (put phases d.change follow.0) (said addresses d ∷ ms) here.1 known.1
-          (λ c less. ⊎_elim
-          (λ (same : c ≡ d.change).
-          subst (λ (x : ℕ). Follows (put phases d.change follow.0 x) (of_change x ds)) (sym same) (subst (λ (p : Phase). Follows p (of_change d.change ds)) (sym (put_here phases d.change follow.0)) follow.2))
-          (λ (elsewhere : c ≢ d.change).
-          let later : of_change c (d ∷ ds) ≡ of_change c ds = ap (λ (b : Bool). cond b (d ∷ of_change c ds) (of_change c ds)) (ne_eqb d.change c (λ e. elsewhere (sym e))) in
-          subst (λ (p : Phase). Follows p (of_change c ds)) (sym (put_elsewhere phases d.change follow.0 c elsewhere)) (subst (Follows (phases c)) later (follows c less)))
-          (cases_eq c d.change)) in
+      (λ c less. ⊎_elim
+      (λ (same : c ≡ d.change).
+      subst (λ (x : ℕ). Follows (put phases d.change follow.0 x) (of_change x ds)) (sym same) (subst (λ (p : Phase). Follows p (of_change d.change ds)) (sym (put_here phases d.change follow.0)) follow.2))
+      (λ (elsewhere : c ≢ d.change).
+      let later : of_change c (d ∷ ds) ≡ of_change c ds = ap (λ (b : Bool). cond b (d ∷ of_change c ds) (of_change c ds)) (ne_eqb d.change c (λ e. elsewhere (sym e))) in
+      subst (λ (p : Phase). Follows p (of_change c ds)) (sym (put_elsewhere phases d.change follow.0 c elsewhere)) (subst (Follows (phases c)) later (follows c less)))
+      (cases_eq c d.change)) in
       (ap (λ (r : Result (List Message) Fault). r >>= λ later. with_all later (map (said addresses) ds)) here.0 ∙ rest.0, rest.1)

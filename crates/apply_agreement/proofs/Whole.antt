@@ -1,21 +1,16 @@
 -- The whole stream: the version, what happens, and the summary.
-use Rattle.std.proofs.Common.{◌≡◌, ◌≢◌, ℕ, zero, suc, ◌+◌, ◌<◌, ◌≤◌, ◌==◌, eqb, List, [], ◌∷◌, ◌++◌, length, map, get_or, Bool, true, false, cond, not, Option, Some, None, Result, Ok, Err, refl, sym, ap, ◌∙◌, subst, ◌⊎◌, inl, inr, ⊎_elim, is_some, slice_get, count_by, bytes_eq, arith, eq-eqb}
-use Rattle.std.specs.Prelude.{◌&&◌, ◌||◌}
+use Rattle.std.proofs.Common.{◌≡◌, ℕ, ◌+◌, ◌<◌, List, [], ◌∷◌, ◌++◌, length, Bool, true, false, cond, not, Option, Some, None, Result, Ok, Err, refl, sym, ap, ◌∙◌, ⊎_elim, is_some, count_by, arith, eq-eqb}
+use Rattle.std.specs.Prelude.{◌||◌}
 use Rattle.std.specs.List.{list_any}
 use Rattle.std.specs.Option.{option_map_or}
-use Rattle.std.proofs.lemmas.Bool.{cases_Bool}
-use Rattle.std.proofs.lemmas.List.Sums.{sum_by-append, sum_by-cons}
-use Rattle.apply_plan.specs.declared.plan.step_kind.StepKind.{StepKind}
-use Rattle.apply_plan.specs.Plan.SavedPlan.{SavedPlan}
+use Rattle.std.proofs.lemmas.List.Sums.{sum_by-cons}
 use Rattle.apply_check.specs.declared.action.Action.{Action}
 use Rattle.apply_check.specs.declared.action.Action.TheVariants.{Create, Update, Delete, Read}
 use Rattle.apply_check.specs.declared.fault.Fault.{Fault}
-use Rattle.apply_check.specs.declared.fault.Fault.TheVariants.{AfterSummary, NoEnd, Unended, WrongTotals}
 use Rattle.apply_check.specs.declared.standing.Standing.{Standing}
 use Rattle.apply_check.specs.declared.totals.Totals.{Totals}
-use Rattle.apply_check.specs.declared.whole.Whole.{Whole}
-use Rattle.apply_check.specs.Lines.{any_open, completes, end_of, is_error, is_summary, is_unended, next, same_totals, totals_of, whole_of}
-use Rattle.apply_check.specs.Message.{Message, version, step, provision, planned, plan_summary, summary, diagnostic, other, address_of}
+use Rattle.apply_check.specs.Lines.{any_open, end_of, is_summary, is_unended, next, same_totals, totals_of, whole_of}
+use Rattle.apply_check.specs.Message.{Message, version, summary, address_of}
 use Rattle.apply_check.specs.Results.{◌>>=◌}
 use Rattle.apply_check.specs.Standing.{is_idle, pending_at, standing_of}
 use Rattle.apply_agreement.specs.Passing.{verdict_on, with_all}
@@ -23,7 +18,7 @@ use Rattle.apply_agreement.proofs.Counting.{counted, none_or_some}
 use Rattle.apply_agreement.proofs.Fitting.{Fits, nothing_fits}
 use Rattle.apply_agreement.proofs.Moves.{Agrees, shown_is}
 use Rattle.apply_agreement.proofs.Ordinary.{Anywhere}
-use Rattle.apply_agreement.proofs.Phases.{Deed, Phase, between, under_way, unexplained, shown}
+use Rattle.apply_agreement.proofs.Phases.{Phase, between, under_way, unexplained, shown}
 use Rattle.apply_agreement.proofs.Standings.{IsBegun}
 use Rattle.apply_agreement.proofs.Turning.{Runs, behind}
 

@@ -1,13 +1,21 @@
 //! Laws of streams that are written here and checked there. Each function does nothing; its contract is the law.
 
-ghost use Rattle.std.specs.Prelude.{◌≡◌, ℕ, Ok};
+ghost use Rattle.std.specs.Prelude.{◌≡◌, ℕ, List, [], length, slice_index_or, Ok};
 ghost use Rattle.apply_plan.specs.declared.plan.step_kind.StepKind.{StepKind};
 ghost use Rattle.apply_plan.specs.declared.script.ending.Ending.{Ending};
 ghost use Rattle.apply_plan.specs.Plan.ResourceChange.{ResourceChange};
 ghost use Rattle.apply_check.specs.Lines.{message_of_tree};
+ghost use Rattle.apply_events.specs.declared.event.Event.{Event};
 ghost use Rattle.apply_events.specs.declared.what.What.{What};
+ghost use Rattle.apply_events.specs.Interleaving.{IsInterleaving};
+ghost use Rattle.apply_events.specs.Partition.{IsPartition};
+ghost use Rattle.apply_events.specs.Step.{Work};
+ghost use Rattle.apply_events.specs.WorkerEvents.{worker_events};
 ghost use Rattle.apply_text.specs.Message.{event_message};
+ghost use Rattle.apply_agreement.specs.Accepted.{stream_told, whole_stream};
 ghost use Rattle.apply_agreement.specs.Objects.{object_of};
+ghost use Rattle.apply_agreement.specs.Passing.{verdict_on};
+ghost use Rattle.apply_agreement.specs.Plans.{IsOrdinary};
 ghost use Rattle.apply_agreement.specs.Told.{action_of, told};
 
 /// The object of an event's message says to a checker what happens to which object: the address, the action and the
@@ -16,4 +24,13 @@ pub fn an_event_is_heard()
     ensures { (change : ResourceChange) (kind : StepKind) (ending : Ending) (what : What) (seconds : ℕ)
         → message_of_tree (object_of seconds (event_message change kind ending what))
         ≡ Ok (told change.address (action_of kind) what) }
+{}
+
+/// Whatever the script and the hooks, however the changes are dealt out to workers, and in whatever order the workers'
+/// events come: a checker accepts what their messages tell between the version and the summary, and counts what they count.
+pub fn every_run_is_accepted()
+    ensures { (work : Work) (workers : ℕ) (lists : List (List ℕ)) (events : List Event) → IsOrdinary work.plan
+        → IsPartition workers (length work.plan.changes) lists
+        → IsInterleaving workers (λ worker. worker_events work worker (slice_index_or lists worker [])) events
+        → verdict_on (stream_told work.plan events) ≡ Ok (whole_stream work.plan events) }
 {}

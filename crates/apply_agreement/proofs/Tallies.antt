@@ -1,0 +1,145 @@
+-- What the messages of events tell is what the events tell.
+use Rattle.std.proofs.Common.{◌≡◌, ℕ, suc, ◌+◌, List, [], ◌∷◌, ◌++◌, length, map, get_or, slice_index_or, Bool, true, false, cond, Option, Some, None, Result, Ok, refl, sym, ap, ◌∙◌, subst, slice_get, count_by, arith}
+use Rattle.std.specs.Prelude.{◌&&◌}
+use Rattle.std.specs.Option.{option_map_or}
+use Rattle.std.proofs.lemmas.List.Sums.{sum_by-cons}
+use Rattle.apply_plan.specs.declared.plan.step_kind.StepKind.{StepKind}
+use Rattle.apply_plan.specs.declared.plan.step_kind.StepKind.TheVariants.{Create, Update, Delete, Read}
+use Rattle.apply_plan.specs.Plan.SavedPlan.{SavedPlan}
+use Rattle.apply_plan.specs.Plan.StepKind.{is_kind}
+use Rattle.apply_check.specs.declared.fault.Fault.{Fault}
+use Rattle.apply_check.specs.declared.totals.Totals.{Totals}
+use Rattle.apply_check.specs.declared.whole.Whole.{Whole}
+use Rattle.apply_check.specs.Lines.{completes, is_error, totals_of, whole_of}
+use Rattle.apply_check.specs.Message.{Message, version, summary}
+use Rattle.apply_check.specs.Words.{same_action}
+use Rattle.apply_events.specs.declared.event.Event.{Event}
+use Rattle.apply_events.specs.declared.what.What.{What}
+use Rattle.apply_events.specs.declared.what.What.TheVariants.{Start, Progress, Complete, Errored, ErrorNote, WarnNote, Halted}
+use Rattle.apply_events.specs.Interleaving.{IsInterleaving}
+use Rattle.apply_events.specs.Partition.{IsPartition}
+use Rattle.apply_events.specs.Step.{Work, address_of, kinds_of}
+use Rattle.apply_events.specs.Totals as events_are
+use Rattle.apply_events.specs.Totals.{is_complete}
+use Rattle.apply_events.specs.WorkerEvents.{worker_events}
+use Rattle.apply_agreement.specs.Accepted.{stream_told, totals_said, whole_stream}
+use Rattle.apply_agreement.specs.Passing.{verdict_on}
+use Rattle.apply_agreement.specs.Plans.{IsOrdinary}
+use Rattle.apply_agreement.specs.Told.{action_of, all_told, told}
+use Rattle.apply_agreement.proofs.Deeds.{all_deeds, change_leads, follows, of_change_is, told_is}
+use Rattle.apply_agreement.proofs.Ordinary.{Anywhere, Does, apart, known}
+use Rattle.apply_agreement.proofs.Parts.{Each, IsListed, all_listed, each_weaker, part_of_change}
+use Rattle.apply_agreement.proofs.Phases.{Follows, between}
+use Rattle.apply_agreement.proofs.Turning.{Runs, behind, runs, said}
+use Rattle.apply_agreement.proofs.Whole.{accepted, any_behind, at_begin, counts_behind, length_behind}
+
+-- ---- totals
+
+same_kind : (kind step : StepKind) → same_action (action_of step) (action_of kind) ≡ is_kind kind step
+same_kind Create Create = refl
+same_kind Create Update = refl
+same_kind Create Delete = refl
+same_kind Create Read = refl
+same_kind Update Create = refl
+same_kind Update Update = refl
+same_kind Update Delete = refl
+same_kind Update Read = refl
+same_kind Delete Create = refl
+same_kind Delete Update = refl
+same_kind Delete Delete = refl
+same_kind Delete Read = refl
+same_kind Read Create = refl
+same_kind Read Update = refl
+same_kind Read Delete = refl
+same_kind Read Read = refl
+
+told_completes : (kind step : StepKind) (a : List ℕ) (what : What) → completes (action_of kind) (told a (action_of step) what) ≡ (is_complete what && is_kind kind step)
+told_completes kind step a (Complete seconds) = same_kind kind step
+told_completes kind step a Start = refl
+told_completes kind step a (Progress seconds) = refl
+told_completes kind step a (Errored seconds) = refl
+told_completes kind step a ErrorNote = refl
+told_completes kind step a WarnNote = refl
+told_completes kind step a (Halted phase hook) = refl
+
+and_false : (b : Bool) → (b && false) ≡ false
+and_false true = refl
+and_false false = refl
+
+one_counted : (kind : StepKind) (a : List ℕ) (what : What) (found : Option StepKind) (ms : List Message)
+    → count_by (completes (action_of kind)) (option_map_or (λ step. told a (action_of step) what ∷ []) found [] ++ ms)
+    ≡ cond (is_complete what && option_map_or (is_kind kind) found false) 1 0 + count_by (completes (action_of kind)) ms
+one_counted kind a what None ms =
+    let none : cond {A = ℕ} (is_complete what && false) 1 0 ≡ 0 = ap (λ (b : Bool). cond b 1 0) (and_false (is_complete what)) in omega arith
+one_counted kind a what (Some step) ms =
+    let here : cond {A = ℕ} (completes (action_of kind) (told a (action_of step) what)) 1 0 ≡ cond (is_complete what && is_kind kind step) 1 0 = ap (λ (b : Bool). cond b 1 0) (told_completes kind step a what) in
+    let all = sum_by-cons (λ m. cond (completes (action_of kind) m) 1 0) (told a (action_of step) what) ms in
+    omega arith
+
+completed : (plan : SavedPlan) (kind : StepKind) (es : List Event) → count_by (completes (action_of kind)) (all_told plan es) ≡ count_by (events_are.completes plan kind) es
+completed plan kind [] = refl
+completed plan kind (e ∷ es) =
+    let rest = completed plan kind es in
+    let here = one_counted kind (address_of plan e.change) e.what (slice_get (kinds_of plan e.change) e.step) (all_told plan es) in
+    let there = sum_by-cons (λ e. cond (events_are.completes plan kind e) 1 0) e es in
+    omega arith
+
+same_counts : {a b c a' b' c' : ℕ} → a ≡ a' → b ≡ b' → c ≡ c'
+    → (let one : Totals = record { added = a; changed = b; removed = c } in one) ≡ (let other : Totals = record { added = a'; changed = b'; removed = c' } in other)
+same_counts p q r = cc
+
+counted : (plan : SavedPlan) (kind : StepKind) (es : List Event) → completes (action_of kind) version ≡ false
+    → count_by (completes (action_of kind)) (behind (version ∷ []) (all_told plan es)) ≡ count_by (events_are.completes plan kind) es
+counted plan kind es none =
+    let first : count_by (completes (action_of kind)) (version ∷ []) ≡ 0 = refl in
+    let all = counts_behind (completes (action_of kind)) (version ∷ []) (all_told plan es) in
+    let rest = completed plan kind es in
+    omega arith
+
+totals_are : (plan : SavedPlan) (es : List Event) → totals_said (events_are.totals_of plan es) ≡ totals_of (behind (version ∷ []) (all_told plan es))
+totals_are plan es = same_counts (sym (counted plan Create es refl)) (sym (counted plan Update es refl)) (sym (counted plan Delete es refl))
+
+-- ---- lines
+
+one_line : (plan : SavedPlan) (e : Event) (ms : List Message) (kind : StepKind) → slice_get (kinds_of plan e.change) e.step ≡ Some kind
+    → length (option_map_or (λ step. told (address_of plan e.change) (action_of step) e.what ∷ []) (slice_get (kinds_of plan e.change) e.step) [] ++ ms) ≡ length ms + 1
+one_line plan e ms kind lookup =
+    ap (λ (o : Option StepKind). length (option_map_or (λ step. told (address_of plan e.change) (action_of step) e.what ∷ []) o [] ++ ms)) lookup ∙ (let more : suc (length ms) ≡ length ms + 1 = omega arith in more)
+
+all_lines : (plan : SavedPlan) (es : List Event) → Each (λ e. (kind : StepKind) × (slice_get (kinds_of plan e.change) e.step ≡ Some kind)) es → length (all_told plan es) ≡ length es
+all_lines plan [] h = refl
+all_lines plan (e ∷ es) h =
+    let here = one_line plan e (all_told plan es) h.0.0 h.0.1 in
+    let rest = all_lines plan es h.1 in
+    omega arith
+
+-- ---- a run
+
+same_whole : {t u : Totals} {a b : Bool} {m n : ℕ} → t ≡ u → a ≡ b → m ≡ n
+    → (let one : Whole = record { totals = t; has_errors = a; lines = m } in one) ≡ (let other : Whole = record { totals = u; has_errors = b; lines = n } in other)
+same_whole p q r = cc
+
+whole_is : (t : Totals) (plan : SavedPlan) (es : List Event) → t ≡ totals_said (events_are.totals_of plan es) → length (all_told plan es) ≡ length es
+    → whole_of (summary t ∷ behind (version ∷ []) (all_told plan es)) ≡ whole_stream plan es
+whole_is t plan es is lines =
+    same_whole (sym (totals_are plan es)) (any_behind is_error (version ∷ []) (all_told plan es))
+    (let all = length_behind (version ∷ []) (all_told plan es) in let more : suc (length (behind (version ∷ []) (all_told plan es))) ≡ length es + 2 = omega arith in more)
+
+pub run_accepted : (work : Work) (workers : ℕ) (lists : List (List ℕ)) (events : List Event) → IsOrdinary work.plan → IsPartition workers (length work.plan.changes) lists
+    → IsInterleaving workers (λ worker. worker_events work worker (slice_index_or lists worker [])) events
+    → verdict_on (stream_told work.plan events) ≡ Ok (whole_stream work.plan events)
+run_accepted work workers lists events ordinary dealt told_so =
+    let limit = length work.plan.changes in
+    let addresses = address_of work.plan in
+    let ran : Runs limit addresses Anywhere (Does work.plan) (version ∷ []) (map (said addresses) (all_deeds work.plan events)) =
+    runs limit addresses Anywhere (Does work.plan) ordinary.few (apart work.plan ordinary) (all_deeds work.plan events) (λ c. between) (version ∷ []) (at_begin limit addresses (Does work.plan)) (known work.plan events)
+    (λ c less.
+    let part = part_of_change work workers limit lists events dealt told_so c less in
+    subst (Follows between) (sym (of_change_is work.plan c events ∙ ap (all_deeds work.plan) part.2)) (follows work.plan between _ (change_leads work part.0 c part.1))) in
+    let ran_so : Runs limit addresses Anywhere (Does work.plan) (version ∷ []) (all_told work.plan events) = subst (Runs limit addresses Anywhere (Does work.plan) (version ∷ [])) (sym (told_is work.plan events)) ran in
+    let lines = all_lines work.plan events (each_weaker (λ e. IsListed work (get_or lists e.worker []) e) (λ e. (kind : StepKind) × (slice_get (kinds_of work.plan e.change) e.step ≡ Some kind)) (λ e is. is.planned) events (all_listed work workers limit lists events dealt told_so)) in
+    accepted limit addresses (Does work.plan) (all_told work.plan events) (totals_said (events_are.totals_of work.plan events)) ran_so (totals_are work.plan events)
+    ∙ ap (λ (w : Whole). fine w) (whole_is (totals_said (events_are.totals_of work.plan events)) work.plan events refl lines)
+  where
+    fine : Whole → Result Whole Fault
+    fine w = Ok w
