@@ -3,6 +3,7 @@ pub mod Deeds
 pub mod Fitting
 pub mod Heard
 pub mod Moves
+pub mod ObjectsHeard
 pub mod Ordinary
 pub mod Parts
 pub mod Phases

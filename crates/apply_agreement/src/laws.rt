@@ -11,10 +11,11 @@ ghost use Rattle.apply_events.specs.Interleaving.{IsInterleaving};
 ghost use Rattle.apply_events.specs.Partition.{IsPartition};
 ghost use Rattle.apply_events.specs.Step.{Work};
 ghost use Rattle.apply_events.specs.WorkerEvents.{worker_events};
+ghost use Rattle.apply_text.specs.declared.operation.Operation.{Operation};
 ghost use Rattle.apply_text.specs.Message.{event_message};
 ghost use Rattle.apply_agreement.specs.Accepted.{stream_told, whole_stream};
-ghost use Rattle.apply_agreement.specs.Objects.{object_of};
-ghost use Rattle.apply_agreement.specs.Passing.{verdict_on};
+ghost use Rattle.apply_agreement.specs.Objects.{object_of, stream_objects};
+ghost use Rattle.apply_agreement.specs.Passing.{verdict_on, verdict_on_objects};
 ghost use Rattle.apply_agreement.specs.Plans.{IsOrdinary};
 ghost use Rattle.apply_agreement.specs.Told.{action_of, told};
 
@@ -33,4 +34,14 @@ pub fn every_run_is_accepted()
         → IsPartition workers (length work.plan.changes) lists
         → IsInterleaving workers (λ worker. worker_events work worker (slice_index_or lists worker [])) events
         → verdict_on (stream_told work.plan events) ≡ Ok (whole_stream work.plan events) }
+{}
+
+/// So it accepts the objects that the stream of such a run is made of, whenever it began, of an apply and of a destroy.
+pub fn every_stream_of_objects_is_accepted()
+    ensures { (work : Work) (workers start : ℕ) (lists : List (List ℕ)) (events : List Event) (operation : Operation)
+        → IsOrdinary work.plan
+        → IsPartition workers (length work.plan.changes) lists
+        → IsInterleaving workers (λ worker. worker_events work worker (slice_index_or lists worker [])) events
+        → verdict_on_objects (stream_objects work.plan work.script start operation events)
+        ≡ Ok (whole_stream work.plan events) }
 {}
