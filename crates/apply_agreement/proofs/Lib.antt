@@ -3,10 +3,12 @@ pub mod Deeds
 pub mod Fitting
 pub mod Heard
 pub mod Moves
+pub mod ObjectsBack
 pub mod ObjectsHeard
 pub mod Ordinary
 pub mod Parts
 pub mod Phases
+pub mod ReadBack
 pub mod Standings
 pub mod Tallies
 pub mod Turning

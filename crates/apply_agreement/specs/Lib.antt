@@ -2,4 +2,5 @@ pub mod Accepted
 pub mod Objects
 pub mod Passing
 pub mod Plans
+pub mod Sound
 pub mod Told

@@ -1,0 +1,111 @@
+-- The objects of a stream, if they are sound, stand in the order in which they are read, and are not deep.
+use Rattle.std.proofs.Common.{◌≡◌, ℕ, suc, ◌+◌, ◌<◌, ◌≤◌, ◌^◌, pos, negsuc, max, List, [], ◌∷◌, ◌++◌, codes, decimal, IsUtf8, Option, Some, None, refl, sym, ap, ◌∙◌, arith, slice_get, flat_map}
+use Rattle.std.specs.List.{AllByRecursion, enumerate_from}
+use Rattle.std.specs.Option.{option_map_or}
+use Rattle.json.specs.Tree as tree
+use Rattle.serde_json.specs.Data.{Num, unsigned, Data, object, Members, no_members, member}
+use Rattle.serde_json.specs.Read.{max_depth, of_json}
+use Rattle.serde_json.specs.Written.{compact_text, outline}
+use Rattle.serde_json.proofs.Numbers.{number_of-decimal, number_of-negative}
+use Rattle.apply_plan.specs.declared.plan.key.Key.{Key}
+use Rattle.apply_plan.specs.declared.plan.key.Key.TheVariants as key
+use Rattle.apply_plan.specs.declared.plan.step_kind.StepKind.{StepKind}
+use Rattle.apply_plan.specs.declared.script.diag.Diag.{Diag}
+use Rattle.apply_plan.specs.declared.script.ending.Ending.{Ending}
+use Rattle.apply_plan.specs.Plan.ResourceChange.{ResourceChange}
+use Rattle.apply_plan.specs.Plan.SavedPlan.{SavedPlan}
+use Rattle.apply_plan.specs.Script.Outcomes.{Outcomes, outcome_of}
+use Rattle.apply_check.specs.Json.{tree_of}
+use Rattle.apply_events.specs.declared.counts.Counts.{Counts}
+use Rattle.apply_events.specs.declared.event.Event.{Event}
+use Rattle.apply_events.specs.declared.what.What.{What}
+use Rattle.apply_events.specs.declared.what.What.TheVariants.{Start, Progress, Complete, Errored, ErrorNote, WarnNote, Halted}
+use Rattle.apply_text.specs.declared.operation.Operation.{Operation}
+use Rattle.apply_text.specs.declared.operation.Operation.TheVariants.{Apply, Destroy}
+use Rattle.apply_text.specs.Lines.{message_object, typed, version_members}
+use Rattle.apply_text.specs.Message.{end_id, error_message, event_message, hook_message, start_id, summary_message, warning_message}
+use Rattle.apply_text.specs.Objects.{changes_object, diagnostic_object, hook_object, key_data, resource_object}
+use Rattle.apply_agreement.specs.Objects.{object_of, objects_of, version_object}
+use Rattle.apply_agreement.specs.Sound.{IsSound}
+use Rattle.apply_agreement.proofs.ReadBack.{tree_is}
+
+-- it is read in its own order, and is so deep at most
+abbrev IsInPlace : (deep : ℕ) → Data → Type 0
+IsInPlace deep d = (of_json (outline d) ≡ Some d) × (tree.depth (outline d) ≤ deep)
+
+key_back : (k : Key) → IsSound (key_data k) → IsInPlace 0 (key_data k)
+key_back key.None h = (refl, omega arith)
+key_back (key.Name s) h = (refl, omega arith)
+key_back (key.Number (pos n)) h = (rw (number_of-decimal n h) refl, omega arith)
+key_back (key.Number (negsuc n)) h = (rw (number_of-negative n h) refl, omega arith)
+
+resource_back : (change : ResourceChange) → IsSound (resource_object change) → IsInPlace 1 (resource_object change)
+unfolding resource_object
+resource_back change h =
+    let k = key_back change.key h.2.2.2.2.1 in
+    (rw k.0 refl, omega (arith, k.1))
+
+hook_back : (change : ResourceChange) (step : StepKind) (elapsed : Option ℕ) (id : Option (List ℕ)) → IsSound (hook_object change step elapsed id) → IsInPlace 2 (hook_object change step elapsed id)
+unfolding hook_object
+hook_back change step None None h = let r = resource_back change h.2.1 in (rw r.0 refl, omega (arith, r.1))
+hook_back change step None (Some id) h = let r = resource_back change h.2.2.2.1 in (rw r.0 refl, omega (arith, r.1))
+hook_back change step (Some seconds) None h = let r = resource_back change h.2.2.1 in (rw (number_of-decimal seconds h.2.1, r.0) refl, omega (arith, r.1))
+hook_back change step (Some seconds) (Some id) h = let r = resource_back change h.2.2.2.2.1 in (rw (number_of-decimal seconds h.2.1, r.0) refl, omega (arith, r.1))
+
+diagnostic_back : (address severity : List ℕ) (diag : Diag) → IsInPlace 1 (diagnostic_object address severity diag)
+unfolding diagnostic_object
+diagnostic_back address severity diag = (refl, omega arith)
+
+changes_back : (operation : Operation) (counts : Counts) → IsSound (changes_object operation counts) → IsInPlace 1 (changes_object operation counts)
+unfolding changes_object
+changes_back operation counts h =
+    (rw (number_of-decimal counts.added h.1, number_of-decimal counts.changed h.2.1, number_of-decimal counts.removed h.2.2.2.1) refl, omega arith)
+
+-- ---- whole messages
+
+-- the bodies of messages stand in place
+hook_line : (level text moment type_name : List ℕ) (body : Data) → IsInPlace 2 body → IsInPlace 3 (message_object level text moment (typed (codes "hook") body type_name))
+unfolding message_object
+hook_line level text moment type_name body is = (rw is.0 refl, omega (arith, is.1))
+
+diagnostic_line : (level text moment type_name : List ℕ) (body : Data) → IsInPlace 1 body → IsInPlace 3 (message_object level text moment (typed (codes "diagnostic") body type_name))
+unfolding message_object
+diagnostic_line level text moment type_name body is = (rw is.0 refl, omega (arith, is.1))
+
+changes_line : (level text moment type_name : List ℕ) (body : Data) → IsInPlace 1 body → IsInPlace 3 (message_object level text moment (typed (codes "changes") body type_name))
+unfolding message_object
+changes_line level text moment type_name body is = (rw is.0 refl, omega (arith, is.1))
+
+-- the body of a sound message is sound
+body_sound : (level text moment name type_name : List ℕ) (body : Data) → IsSound (message_object level text moment (typed name body type_name)) → IsSound body
+unfolding message_object
+body_sound level text moment name type_name body h = h.2.2.2.2.1
+
+hook_in_place : (change : ResourceChange) (kind : StepKind) (text : List ℕ) (elapsed : Option ℕ) (id : Option (List ℕ)) (type_name : List ℕ) (seconds : ℕ)
+    → IsSound (object_of seconds (hook_message change kind text elapsed id type_name)) → IsInPlace 3 (object_of seconds (hook_message change kind text elapsed id type_name))
+hook_in_place change kind text elapsed id type_name seconds h = hook_line _ _ _ type_name _ (hook_back change kind elapsed id (body_sound _ _ _ (codes "hook") type_name (hook_object change kind elapsed id) h))
+
+event_in_place : (change : ResourceChange) (kind : StepKind) (ending : Ending) (what : What) (seconds : ℕ)
+    → IsSound (object_of seconds (event_message change kind ending what)) → IsInPlace 3 (object_of seconds (event_message change kind ending what))
+event_in_place change kind ending Start seconds h = hook_in_place change kind _ None (start_id kind change) (codes "apply_start") seconds h
+event_in_place change kind ending (Progress s) seconds h = hook_in_place change kind _ (Some s) None (codes "apply_progress") seconds h
+event_in_place change kind ending (Complete s) seconds h = hook_in_place change kind _ (Some s) (end_id kind ending) (codes "apply_complete") seconds h
+event_in_place change kind ending (Errored s) seconds h = hook_in_place change kind _ (Some s) None (codes "apply_errored") seconds h
+event_in_place change kind ending ErrorNote seconds h = diagnostic_line _ _ _ _ _ (diagnostic_back change.address _ _)
+event_in_place change kind ending WarnNote seconds h = diagnostic_line _ _ _ _ _ (diagnostic_back change.address _ _)
+event_in_place change kind ending (Halted phase hook) seconds h = diagnostic_line _ _ _ _ _ (diagnostic_back change.address _ _)
+
+summary_in_place : (operation : Operation) (counts : Counts) (seconds : ℕ) → IsSound (object_of seconds (summary_message operation counts)) → IsInPlace 3 (object_of seconds (summary_message operation counts))
+summary_in_place operation counts seconds h = changes_line _ _ _ _ _ (changes_back operation counts (body_sound _ _ _ (codes "changes") _ (changes_object operation counts) h))
+
+version_in_place : (plan : SavedPlan) (start : ℕ) → IsInPlace 3 (version_object plan start)
+unfolding message_object
+version_in_place plan start = (refl, omega arith)
+
+-- ---- all objects are read back from their texts
+
+abbrev pub IsBack : Data → Type 0
+IsBack d = tree_of (compact_text d) ≡ Some d
+
+in_place_back : (d : Data) → IsSound d → IsInPlace 3 d → IsBack d
+in_place_back d sound is = tree_is d sound is.0 (omega (arith, is.1))
