@@ -1,3 +1,4 @@
+pub mod Bytes
 pub mod Counting
 pub mod Deeds
 pub mod Fitting

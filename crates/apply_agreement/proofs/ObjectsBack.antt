@@ -1,10 +1,10 @@
 -- The objects of a stream, if they are sound, stand in the order in which they are read, and are not deep.
-use Rattle.std.proofs.Common.{◌≡◌, ℕ, suc, ◌+◌, ◌<◌, ◌≤◌, ◌^◌, pos, negsuc, max, List, [], ◌∷◌, ◌++◌, codes, decimal, IsUtf8, Option, Some, None, refl, sym, ap, ◌∙◌, arith, slice_get, flat_map}
+use Rattle.std.proofs.Common.{◌≡◌, ℕ, ◌+◌, ◌≤◌, pos, negsuc, List, [], ◌∷◌, ◌++◌, codes, Option, Some, None, refl, sym, subst, append_assoc, length, arith, slice_get, flat_map}
 use Rattle.std.specs.List.{AllByRecursion, enumerate_from}
 use Rattle.std.specs.Option.{option_map_or}
 use Rattle.json.specs.Tree as tree
-use Rattle.serde_json.specs.Data.{Num, unsigned, Data, object, Members, no_members, member}
-use Rattle.serde_json.specs.Read.{max_depth, of_json}
+use Rattle.serde_json.specs.Data.{Data}
+use Rattle.serde_json.specs.Read.{of_json}
 use Rattle.serde_json.specs.Written.{compact_text, outline}
 use Rattle.serde_json.proofs.Numbers.{number_of-decimal, number_of-negative}
 use Rattle.apply_plan.specs.declared.plan.key.Key.{Key}
@@ -18,14 +18,15 @@ use Rattle.apply_plan.specs.Script.Outcomes.{Outcomes, outcome_of}
 use Rattle.apply_check.specs.Json.{tree_of}
 use Rattle.apply_events.specs.declared.counts.Counts.{Counts}
 use Rattle.apply_events.specs.declared.event.Event.{Event}
+use Rattle.apply_events.specs.Totals.{totals_of}
 use Rattle.apply_events.specs.declared.what.What.{What}
 use Rattle.apply_events.specs.declared.what.What.TheVariants.{Start, Progress, Complete, Errored, ErrorNote, WarnNote, Halted}
 use Rattle.apply_text.specs.declared.operation.Operation.{Operation}
-use Rattle.apply_text.specs.declared.operation.Operation.TheVariants.{Apply, Destroy}
-use Rattle.apply_text.specs.Lines.{message_object, typed, version_members}
-use Rattle.apply_text.specs.Message.{end_id, error_message, event_message, hook_message, start_id, summary_message, warning_message}
+use Rattle.apply_text.specs.Latest.{latest_of}
+use Rattle.apply_text.specs.Lines.{message_object, typed}
+use Rattle.apply_text.specs.Message.{end_id, event_message, hook_message, start_id, summary_message}
 use Rattle.apply_text.specs.Objects.{changes_object, diagnostic_object, hook_object, key_data, resource_object}
-use Rattle.apply_agreement.specs.Objects.{object_of, objects_of, version_object}
+use Rattle.apply_agreement.specs.Objects.{object_of, objects_of, stream_objects, version_object}
 use Rattle.apply_agreement.specs.Sound.{IsSound}
 use Rattle.apply_agreement.proofs.ReadBack.{tree_is}
 
@@ -107,5 +108,34 @@ version_in_place plan start = (refl, omega arith)
 abbrev pub IsBack : Data → Type 0
 IsBack d = tree_of (compact_text d) ≡ Some d
 
-in_place_back : (d : Data) → IsSound d → IsInPlace 3 d → IsBack d
+pub in_place_back : (d : Data) → IsSound d → IsInPlace 3 d → IsBack d
 in_place_back d sound is = tree_is d sound is.0 (omega (arith, is.1))
+
+one_back : (script : Outcomes) (seconds : ℕ) (e : Event) (found : Option ResourceChange) (ds : List Data) → (AllByRecursion IsSound ds → AllByRecursion IsBack ds)
+    → AllByRecursion IsSound (option_map_or (λ (change : ResourceChange). option_map_or (λ step. object_of seconds (event_message change step (outcome_of script e.change e.step).result e.what) ∷ []) (slice_get change.steps e.step) []) found [] ++ ds)
+    → AllByRecursion IsBack (option_map_or (λ (change : ResourceChange). option_map_or (λ step. object_of seconds (event_message change step (outcome_of script e.change e.step).result e.what) ∷ []) (slice_get change.steps e.step) []) found [] ++ ds)
+one_back script seconds e None ds rest sound = rest sound
+one_back script seconds e (Some change) ds rest sound = at (slice_get change.steps e.step) sound
+  where
+    at : (step : Option StepKind) → AllByRecursion IsSound (option_map_or (λ step. object_of seconds (event_message change step (outcome_of script e.change e.step).result e.what) ∷ []) step [] ++ ds)
+        → AllByRecursion IsBack (option_map_or (λ step. object_of seconds (event_message change step (outcome_of script e.change e.step).result e.what) ∷ []) step [] ++ ds)
+    at None s = rest s
+    at (Some step) s = (in_place_back _ s.0 (event_in_place change step (outcome_of script e.change e.step).result e.what seconds s.0), rest s.1)
+
+events_back : (plan : SavedPlan) (script : Outcomes) (seconds : ℕ → ℕ) (n : ℕ) (es : List Event) (ds : List Data) → (AllByRecursion IsSound ds → AllByRecursion IsBack ds)
+    → AllByRecursion IsSound (flat_map (λ p. objects_of plan script (seconds p.0) p.1) (enumerate_from n es) ++ ds) → AllByRecursion IsBack (flat_map (λ p. objects_of plan script (seconds p.0) p.1) (enumerate_from n es) ++ ds)
+events_back plan script seconds n [] ds rest sound = rest sound
+events_back plan script seconds n (e ∷ es) ds rest sound =
+    let more = flat_map (λ p. objects_of plan script (seconds p.0) p.1) (enumerate_from (n + 1) es) in
+    let grouped = append_assoc (objects_of plan script (seconds n) e) more ds in
+    subst (AllByRecursion IsBack) (sym grouped)
+    (one_back script (seconds n) e (slice_get plan.changes e.change) (more ++ ds) (events_back plan script seconds (n + 1) es ds rest) (subst (AllByRecursion IsSound) grouped sound))
+
+pub stream_back : (plan : SavedPlan) (script : Outcomes) (start : ℕ) (operation : Operation) (es : List Event)
+    → AllByRecursion IsSound (stream_objects plan script start operation es) → AllByRecursion IsBack (stream_objects plan script start operation es)
+stream_back plan script start operation es sound =
+    let t = totals_of plan es in
+    let last = object_of (start + latest_of es (length es)) (summary_message operation t) in (
+      in_place_back (version_object plan start) sound.0 (version_in_place plan start),
+      events_back plan script (λ i. start + latest_of es (i + 1)) 0 es (last ∷ []) (λ s. (in_place_back last s.0 (summary_in_place operation t (start + latest_of es (length es)) s.0), tt)) sound.1,
+    )

@@ -1,6 +1,9 @@
 -- JSON values whose text is read back: each text in them is UTF-8, and each number is an integer of 64 bits.
-use Rattle.std.specs.Prelude.{◌<◌, ◌^◌, pos, negsuc, IsUtf8, ⊤}
+use Rattle.std.specs.Prelude.{◌<◌, ◌≤◌, ◌^◌, List, length, pos, negsuc, IsUtf8, ⊤}
+use Rattle.std.specs.List.{AllByRecursion}
 use Rattle.serde_json.specs.Data.{Num, unsigned, negative, float, Data, null, boolean, number, string, array, object, Items, no_items, item, Members, no_members, member}
+use Rattle.serde_json.specs.Written.{compact_text}
+use Rattle.apply_check.specs.Json.{max_bytes}
 
 abbrev pub FitsBits : Num → Type 0
 FitsBits (unsigned n) = n < 2 ^ 64
@@ -24,3 +27,8 @@ abbrev mutual
   pub AreSoundMembers : Members → Type 0
   AreSoundMembers no_members = ⊤
   AreSoundMembers (member k d ms) = IsUtf8 k × IsSound d × AreSoundMembers ms
+
+-- the texts of the objects are read back: no text is damaged, no number too great, and no line too long
+pub record CanBeRead (objects : List Data) : Type 0 where
+  pub sound : AllByRecursion IsSound objects
+  pub short : AllByRecursion (λ (d : Data). length (compact_text d) ≤ max_bytes) objects

@@ -4,7 +4,8 @@ ghost use Rattle.std.specs.Prelude.{◌≡◌, ℕ, List, [], length, slice_inde
 ghost use Rattle.apply_plan.specs.declared.plan.step_kind.StepKind.{StepKind};
 ghost use Rattle.apply_plan.specs.declared.script.ending.Ending.{Ending};
 ghost use Rattle.apply_plan.specs.Plan.ResourceChange.{ResourceChange};
-ghost use Rattle.apply_check.specs.Lines.{message_of_tree};
+ghost use Rattle.apply_check.specs.Cut.{lines_of};
+ghost use Rattle.apply_check.specs.Lines.{message_of_tree, verdict_of};
 ghost use Rattle.apply_events.specs.declared.event.Event.{Event};
 ghost use Rattle.apply_events.specs.declared.what.What.{What};
 ghost use Rattle.apply_events.specs.Interleaving.{IsInterleaving};
@@ -12,12 +13,16 @@ ghost use Rattle.apply_events.specs.Partition.{IsPartition};
 ghost use Rattle.apply_events.specs.Step.{Work};
 ghost use Rattle.apply_events.specs.WorkerEvents.{worker_events};
 ghost use Rattle.apply_text.specs.declared.operation.Operation.{Operation};
+ghost use Rattle.apply_text.specs.Lines.{stream_of};
 ghost use Rattle.apply_text.specs.Message.{event_message};
 ghost use Rattle.apply_agreement.specs.Accepted.{stream_told, whole_stream};
 ghost use Rattle.apply_agreement.specs.Objects.{object_of, stream_objects};
 ghost use Rattle.apply_agreement.specs.Passing.{verdict_on, verdict_on_objects};
 ghost use Rattle.apply_agreement.specs.Plans.{IsOrdinary};
+ghost use Rattle.apply_agreement.specs.Sound.{CanBeRead};
 ghost use Rattle.apply_agreement.specs.Told.{action_of, told};
+
+use apply_text::a_line_has_one_line_feed;
 
 /// The object of an event's message says to a checker what happens to which object: the address, the action and the
 /// seconds are read as they were written, whenever it was.
@@ -45,3 +50,17 @@ pub fn every_stream_of_objects_is_accepted()
         → verdict_on_objects (stream_objects work.plan work.script start operation events)
         ≡ Ok (whole_stream work.plan events) }
 {}
+
+/// And so it accepts the bytes of the stream of such a run, cut at their line feeds, where no text is damaged, no number is
+/// beyond 64 bits and no line is longer than 64 MiB.
+pub fn every_stream_is_accepted()
+    ensures { (work : Work) (workers start : ℕ) (lists : List (List ℕ)) (events : List Event) (operation : Operation)
+        → IsOrdinary work.plan
+        → IsPartition workers (length work.plan.changes) lists
+        → IsInterleaving workers (λ worker. worker_events work worker (slice_index_or lists worker [])) events
+        → CanBeRead (stream_objects work.plan work.script start operation events)
+        → verdict_of (lines_of (stream_of work.plan work.script start operation events))
+        ≡ Ok (whole_stream work.plan events) }
+{
+    a_line_has_one_line_feed();
+}

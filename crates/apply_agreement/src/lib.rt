@@ -4,4 +4,7 @@
 
 mod laws;
 
-pub use laws::{an_event_is_heard, every_run_is_accepted, every_stream_of_objects_is_accepted};
+pub use laws::{
+    an_event_is_heard, every_run_is_accepted, every_stream_is_accepted,
+    every_stream_of_objects_is_accepted,
+};
