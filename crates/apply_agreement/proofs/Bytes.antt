@@ -27,6 +27,7 @@ use Rattle.apply_text.specs.Latest.{latest_of}
 use Rattle.apply_text.specs.Laws.{line_feeds}
 use Rattle.apply_text.specs.Lines.{event_text, line_of, stream_of, summary_text, version_text}
 use Rattle.apply_text.specs.Message.{event_message}
+use Rattle.apply_text.specs.Order.{as_written}
 use Rattle.apply_agreement.specs.Objects.{event_objects, object_of, objects_of, stream_objects}
 use Rattle.apply_agreement.specs.Passing.{verdict_on_objects, with_objects}
 use Rattle.apply_agreement.specs.Sound.{CanBeRead}
@@ -61,9 +62,10 @@ all_events plan script start moments n (e ∷ es) =
     ∙ ap (λ (l : List ℕ). l ++ flat_map line_of more) (one_event script (start + moments n) e (slice_get plan.changes e.change))
     ∙ ap (λ (l : List ℕ). event_text plan script start (moments n) e ++ l) (all_events plan script start moments (n + 1) es)
 
-stream_is : (plan : SavedPlan) (script : Outcomes) (start : ℕ) (operation : Operation) (es : List Event) → flat_map line_of (stream_objects plan script start operation es) ≡ stream_of plan script start operation es
-stream_is plan script start operation es =
-    let last = summary_text start (latest_of es (length es)) operation (totals_of plan es) in
+stream_is : (plan : SavedPlan) (script : Outcomes) (start : ℕ) (operation : Operation) (taken : List Event) → flat_map line_of (stream_objects plan script start operation taken) ≡ stream_of plan script start operation taken
+stream_is plan script start operation taken =
+    let es = as_written taken in
+    let last = summary_text start (latest_of es (length es)) operation (totals_of plan taken) in
     let first = version_text plan start in
     let events = flat_map (λ p. event_text plan script start (latest_of es (p.0 + 1)) p.1) (enumerate_from 0 es) in
     ap (λ (l : List ℕ). first ++ l)

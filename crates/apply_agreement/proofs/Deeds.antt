@@ -1,19 +1,22 @@
 -- What happens to the steps of a plan, by its events.
-use Rattle.std.proofs.Common.{◌≡◌, ℕ, ◌+◌, ◌-◌, ◌<◌, ◌≤◌, ◌==◌, zero, suc, List, [], ◌∷◌, ◌++◌, map, filter, flat_map, Bool, true, false, cond, Option, Some, None, refl, sym, ap, ◌∙◌, subst, slice_get, option_map, option_to_list, arith}
-use Rattle.std.specs.Prelude.{is_some}
+use Rattle.std.proofs.Common.{◌≡◌, ℕ, ◌+◌, ◌-◌, ◌<◌, ◌≤◌, ◌==◌, zero, suc, List, [], ◌∷◌, ◌++◌, map, filter, flat_map, Bool, true, false, cond, Option, Some, None, refl, sym, ap, ◌∙◌, subst, slice_get, option_map, option_to_list, arith, ◌⊎◌, inl, inr, ⊎_elim, append-nil}
+use Rattle.std.specs.Prelude.{◌&&◌, is_none, is_some, not}
 use Rattle.std.specs.List.{enumerate_from, range_with_len}
 use Rattle.std.specs.Option.{option_map_or}
+use Rattle.std.proofs.lemmas.Bool.{and_parts, not-true}
 use Rattle.apply_plan.specs.declared.plan.step_kind.StepKind.{StepKind}
 use Rattle.apply_plan.specs.Plan.SavedPlan.{SavedPlan}
 use Rattle.apply_hooks.specs.declared.phase.Phase as asked
-use Rattle.apply_hooks.specs.declared.phase.Phase.TheVariants.{Pre}
+use Rattle.apply_hooks.specs.declared.phase.Phase.TheVariants.{Pre, PostDone}
 use Rattle.apply_check.specs.Message.{Message}
 use Rattle.apply_events.specs.declared.event.Event.{Event}
 use Rattle.apply_events.specs.declared.what.What.TheVariants.{Start, Progress, Halted}
 use Rattle.apply_events.specs.ChangeEvents.{begun, change_events, in_turn}
+use Rattle.apply_events.specs.Diagnostics.{is_note}
 use Rattle.apply_events.specs.ProgressTimes.{is_multiple_of_ten, progress_times}
 use Rattle.apply_events.specs.Step.{Step, Work, address_of, kinds_of, step_of, steps_of}
 use Rattle.apply_events.specs.StepEvents.{end_of, endings, event, goes_on, halts, notes, phase_after, started, step_events, step_time}
+use Rattle.apply_text.specs.Order.{as_written, hook_messages_of, notes_of}
 use Rattle.apply_agreement.specs.Told.{action_of, all_told, told}
 use Rattle.apply_agreement.proofs.Phases.{Deed, Follows, Phase, between, under_way, unexplained, Turns, of_change}
 use Rattle.apply_agreement.proofs.Turning.{said}
@@ -82,6 +85,20 @@ follows plan p (e ∷ es) leads =
     subst (λ (o : Option StepKind). Follows p (option_map_or (λ kind. deed e kind ∷ []) o [] ++ all_deeds plan es)) (sym turn.1)
     (leads.0, turn.2, follows plan leads.0 es leads.2)
 
+-- ---- filters
+
+pub kept_both : (test : Event → Bool) (es fs : List Event) → filter test (es ++ fs) ≡ filter test es ++ filter test fs
+kept_both test [] fs = refl
+kept_both test (e ∷ es) fs = at (test e) (kept_both test es fs)
+  where
+    at : (b : Bool) → filter test (es ++ fs) ≡ filter test es ++ filter test fs → cond b (e ∷ filter test (es ++ fs)) (filter test (es ++ fs)) ≡ cond b (e ∷ filter test es) (filter test es) ++ filter test fs
+    at true is = ap (λ (l : List Event). e ∷ l) is
+    at false is = is
+
+is_nothing : (o : Option ℕ) → is_none o ≡ true → o ≡ None
+is_nothing None e = refl
+is_nothing (Some x) e = absurd cc
+
 -- ---- a step
 
 -- the plan has the step, which is of that kind
@@ -107,29 +124,130 @@ module _ (plan : SavedPlan) (kind : StepKind) (w : ℕ) (s : Step) (is : IsOfKin
   progressed at zero = (0, omega arith, refl)
   progressed at (suc n) = told_on at (suc n) 0 1 (suc n - 1) (omega arith) (omega arith) (omega arith)
 
-  ended : (fails warns : Bool) (at last end : ℕ) → last ≤ end → Leads plan (under_way (action_of kind) last) (map (λ what. event w s at what) (end_of fails end ∷ notes fails warns)) between
-  ended true warns at last end fits = (unexplained, (kind, is, (refl, fits, refl)), (between, (kind, is, refl), refl))
-  ended false true at last end fits = (between, (kind, is, (refl, fits, refl)), (between, (kind, is, refl), refl))
-  ended false false at last end fits = (between, (kind, is, (refl, fits, refl)), refl)
+  -- ---- hook messages, and the notes that stand behind those of all
 
-  ran : (at : ℕ) → Leads plan between (started w s at) between
-  ran at =
-      let progress = progressed at s.seconds in
+  -- where the change is behind the step's hook messages
+  abbrev pub phase_then : (halted_before fails : Bool) → Phase
+  phase_then true fails = between
+  phase_then false true = unexplained
+  phase_then false false = between
+
+  end_leads : (fails : Bool) (at last end : ℕ) → last ≤ end → Leads plan (under_way (action_of kind) last) (event w s at (end_of fails end) ∷ []) (phase_then false fails)
+  end_leads true at last end fits = (unexplained, (kind, is, (refl, fits, refl)), refl)
+  end_leads false at last end fits = (between, (kind, is, (refl, fits, refl)), refl)
+
+  hooks_told : (at : ℕ) → List Event
+  hooks_told at = event w s at Start ∷ [] ++ map (λ p. event w s (at + p) (Progress p)) (progress_times s.seconds) ++ event w s (at + s.seconds) (end_of s.fails s.seconds) ∷ []
+
+  notes_told : (at : ℕ) → List Event
+  notes_told at = map (λ what. event w s (at + s.seconds) what) (notes s.fails s.warns) ++ halts w s (phase_after s.fails) (at + s.seconds)
+
+  no_notes : (f : ℕ → Event) (ps : List ℕ) → ((p : ℕ) → is_note (f p).what ≡ false) → (hook_messages_of (map f ps) ≡ map f ps) × (notes_of (map f ps) ≡ [])
+  no_notes f [] none = (refl, refl)
+  no_notes f (p ∷ ps) none =
+      let rest = no_notes f ps none in (
+        ap (λ (b : Bool). cond (not b) (f p ∷ hook_messages_of (map f ps)) (hook_messages_of (map f ps))) (none p) ∙ ap (λ (l : List Event). f p ∷ l) rest.0,
+        ap (λ (b : Bool). cond b (f p ∷ notes_of (map f ps)) (notes_of (map f ps))) (none p) ∙ rest.1,
+      )
+
+  only_end : (fails warns : Bool) (at end : ℕ) → (hook_messages_of (map (λ what. event w s at what) (end_of fails end ∷ notes fails warns)) ≡ event w s at (end_of fails end) ∷ [])
+      × (notes_of (map (λ what. event w s at what) (end_of fails end ∷ notes fails warns)) ≡ map (λ what. event w s at what) (notes fails warns))
+  only_end true warns at end = (refl, refl)
+  only_end false true at end = (refl, refl)
+  only_end false false at end = (refl, refl)
+
+  only_halt : (phase : asked.Phase) (at : ℕ) (found : Option ℕ) → (hook_messages_of (option_to_list (option_map (λ hook. event w s at (Halted phase hook)) found)) ≡ [])
+      × (notes_of (option_to_list (option_map (λ hook. event w s at (Halted phase hook)) found)) ≡ option_to_list (option_map (λ hook. event w s at (Halted phase hook)) found))
+  only_halt phase at None = (refl, refl)
+  only_halt phase at (Some hook) = (refl, refl)
+
+  started_split : (at : ℕ) → (hook_messages_of (started w s at) ≡ hooks_told at) × (notes_of (started w s at) ≡ notes_told at)
+  unfolding hooks_told notes_told
+  started_split at =
       let start = event w s at Start ∷ [] in
       let middle = map (λ p. event w s (at + p) (Progress p)) (progress_times s.seconds) in
       let last = map (λ what. event w s (at + s.seconds) what) (endings s) in
-      leads_on plan between between between (start ++ middle ++ last) (halts w s (phase_after s.fails) (at + s.seconds))
-      (leads_on plan between (under_way (action_of kind) progress.0) between (start ++ middle) last
-      (leads_on plan between (under_way (action_of kind) 0) (under_way (action_of kind) progress.0) start middle (under_way (action_of kind) 0, (kind, is, refl), refl) progress.2)
-      (ended s.fails s.warns (at + s.seconds) progress.0 s.seconds progress.1))
-      (halted (phase_after s.fails) (at + s.seconds) (s.halts (phase_after s.fails)))
+      let halt = halts w s (phase_after s.fails) (at + s.seconds) in
+      let m = no_notes (λ p. event w s (at + p) (Progress p)) (progress_times s.seconds) (λ p. refl) in
+      let l = only_end s.fails s.warns (at + s.seconds) s.seconds in
+      let h = only_halt (phase_after s.fails) (at + s.seconds) (s.halts (phase_after s.fails)) in (
+        kept_both (λ e. not (is_note e.what)) (start ++ middle ++ last) halt
+            ∙ ap (λ (x : List Event). x ++ hook_messages_of halt) (kept_both (λ e. not (is_note e.what)) (start ++ middle) last ∙ ap (λ (x : List Event). (start ++ x) ++ hook_messages_of last) m.0 ∙ ap (λ (x : List Event). (start ++ middle) ++ x) l.0)
+            ∙ ap (λ (x : List Event). ((start ++ middle) ++ event w s (at + s.seconds) (end_of s.fails s.seconds) ∷ []) ++ x) h.0
+            ∙ append-nil ((start ++ middle) ++ event w s (at + s.seconds) (end_of s.fails s.seconds) ∷ []),
+        kept_both (λ e. is_note e.what) (start ++ middle ++ last) halt
+            ∙ ap (λ (x : List Event). x ++ notes_of halt) (kept_both (λ e. is_note e.what) (start ++ middle) last ∙ ap (λ (x : List Event). x ++ notes_of last) m.1 ∙ l.1)
+            ∙ ap (λ (x : List Event). map (λ what. event w s (at + s.seconds) what) (notes s.fails s.warns) ++ x) h.1,
+      )
 
-  pub step_leads : (at : ℕ) → Leads plan between (step_events w s at) between
-  step_leads at = either (s.halts Pre)
+  hooks_ran : (at : ℕ) → Leads plan between (hooks_told at) (phase_then false s.fails)
+  unfolding hooks_told
+  hooks_ran at =
+      let progress = progressed at s.seconds in
+      let start = event w s at Start ∷ [] in
+      let middle = map (λ p. event w s (at + p) (Progress p)) (progress_times s.seconds) in
+      leads_on plan between (under_way (action_of kind) progress.0) (phase_then false s.fails) (start ++ middle) (event w s (at + s.seconds) (end_of s.fails s.seconds) ∷ [])
+      (leads_on plan between (under_way (action_of kind) 0) (under_way (action_of kind) progress.0) start middle (under_way (action_of kind) 0, (kind, is, refl), refl) progress.2)
+      (end_leads s.fails (at + s.seconds) progress.0 s.seconds progress.1)
+
+  -- the notes of a step end the change's course
+  noted : (fails warns : Bool) (at : ℕ) → Leads plan (phase_then false fails) (map (λ what. event w s at what) (notes fails warns)) between
+  noted true warns at = (between, (kind, is, refl), refl)
+  noted false true at = (between, (kind, is, refl), refl)
+  noted false false at = refl
+
+  -- those of a step behind which the change goes on leave it where it is
+  warned : (warns : Bool) (at : ℕ) (p : Phase) → (p ≡ between) ⊎ (p ≡ unexplained) → Leads plan p (map (λ what. event w s at what) (notes false warns)) p
+  warned false at p may = refl
+  warned true at between may = (between, (kind, is, refl), refl)
+  warned true at unexplained may = (unexplained, (kind, is, refl), refl)
+  warned true at (under_way k t) may = absurd (⊎_elim (λ (e : under_way k t ≡ between). let f = e in cc) (λ (e : under_way k t ≡ unexplained). let f = e in cc) may)
+
+  pub step_hooks : (at : ℕ) → Leads plan between (hook_messages_of (step_events w s at)) (phase_then (is_some (s.halts Pre)) s.fails)
+  step_hooks at = either (s.halts Pre)
     where
-      either : (found : Option ℕ) → Leads plan between (cond (is_some found) (option_to_list (option_map (λ hook. event w s at (Halted Pre hook)) found)) (started w s at)) between
-      either None = ran at
+      either : (found : Option ℕ) → Leads plan between (hook_messages_of (cond (is_some found) (option_to_list (option_map (λ hook. event w s at (Halted Pre hook)) found)) (started w s at))) (phase_then (is_some found) s.fails)
+      either None = subst (λ (es : List Event). Leads plan between es (phase_then false s.fails)) (sym (started_split at).0) (hooks_ran at)
+      either (Some hook) = refl
+
+  pub step_notes : (at : ℕ) → Leads plan (phase_then (is_some (s.halts Pre)) s.fails) (notes_of (step_events w s at)) between
+  unfolding notes_told
+  step_notes at = either (s.halts Pre)
+    where
+      either : (found : Option ℕ) → Leads plan (phase_then (is_some found) s.fails) (notes_of (cond (is_some found) (option_to_list (option_map (λ hook. event w s at (Halted Pre hook)) found)) (started w s at))) between
+      either None =
+          subst (λ (es : List Event). Leads plan (phase_then false s.fails) es between) (sym (started_split at).1)
+          (leads_on plan (phase_then false s.fails) between between (map (λ what. event w s (at + s.seconds) what) (notes s.fails s.warns)) (halts w s (phase_after s.fails) (at + s.seconds))
+          (noted s.fails s.warns (at + s.seconds)) (halted (phase_after s.fails) (at + s.seconds) (s.halts (phase_after s.fails))))
       either (Some hook) = halted Pre at (Some hook)
+
+  -- a step behind which the change goes on
+  pub step_warns : goes_on s ≡ true → (at : ℕ) (p : Phase) → (p ≡ between) ⊎ (p ≡ unexplained) → Leads plan p (notes_of (step_events w s at)) p
+  unfolding notes_told
+  step_warns on at p may =
+      let all = and_parts (is_none (s.halts Pre) && not s.fails) (is_none (s.halts PostDone)) on in
+      let both = and_parts (is_none (s.halts Pre)) (not s.fails) all.0 in
+      let pre : is_some (s.halts Pre) ≡ false = ap is_some (is_nothing (s.halts Pre) both.0) in
+      let fine : s.fails ≡ false = not-true s.fails both.1 in
+      let post : s.halts PostDone ≡ None = is_nothing (s.halts PostDone) all.1 in
+      let told : notes_of (step_events w s at) ≡ map (λ what. event w s (at + s.seconds) what) (notes false s.warns) =
+      ap (λ (b : Bool). notes_of (cond b (halts w s Pre at) (started w s at))) pre
+      ∙ (started_split at).1
+      ∙ ap (λ (f : Bool). map (λ what. event w s (at + s.seconds) what) (notes f s.warns) ++ halts w s (phase_after f) (at + s.seconds)) fine
+      ∙ ap (λ (o : Option ℕ). map (λ what. event w s (at + s.seconds) what) (notes false s.warns) ++ option_to_list (option_map (λ hook. event w s (at + s.seconds) (Halted PostDone hook)) o)) post
+      ∙ append-nil (map (λ what. event w s (at + s.seconds) what) (notes false s.warns)) in
+      subst (λ (es : List Event). Leads plan p es p) (sym told) (warned s.warns (at + s.seconds) p may)
+
+  pub goes_between : goes_on s ≡ true → phase_then (is_some (s.halts Pre)) s.fails ≡ between
+  goes_between on =
+      let all = and_parts (is_none (s.halts Pre) && not s.fails) (is_none (s.halts PostDone)) on in
+      let both = and_parts (is_none (s.halts Pre)) (not s.fails) all.0 in
+      ap (λ (b : Bool). phase_then b s.fails) (ap is_some (is_nothing (s.halts Pre) both.0)) ∙ ap (phase_then false) (not-true s.fails both.1)
+
+  pub phase_is : (b fails : Bool) → (phase_then b fails ≡ between) ⊎ (phase_then b fails ≡ unexplained)
+  phase_is true fails = inl refl
+  phase_is false true = inr refl
+  phase_is false false = inl refl
 
 -- ---- a change
 
@@ -146,16 +264,40 @@ planned work c n (kind ∷ kinds) is =
       planned work c (n + 1) kinds (λ i. let next : n + 1 + i ≡ n + suc i = omega arith in ap (λ (x : ℕ). slice_get (kinds_of work.plan c) x) next ∙ is (suc i)),
     )
 
-planned_begun : (plan : SavedPlan) (steps : List Step) → ArePlanned plan steps → ArePlanned plan (begun steps)
-planned_begun plan [] h = tt
-planned_begun plan (s ∷ steps) h = (h.0, elim (goes_on s) as (λ b. ArePlanned plan (cond b (begun steps) [])) [ true ↦ planned_begun plan steps h.1 | false ↦ tt ])
+-- where the hook messages of these events leave a change, from where their notes take it on
+pub record Written (plan : SavedPlan) (es : List Event) : Type 0 where
+  pub phase : Phase
+  pub is : (phase ≡ between) ⊎ (phase ≡ unexplained)
+  pub hooks : Leads plan between (hook_messages_of es) phase
+  pub notes : Leads plan phase (notes_of es) between
 
-steps_lead : (plan : SavedPlan) (w : ℕ) (steps : List Step) (at : ℕ) → ArePlanned plan steps → Leads plan between (in_turn (step_events w) step_time steps at) between
-steps_lead plan w [] at h = refl
-steps_lead plan w (s ∷ steps) at h =
-    leads_on plan between between between (step_events w s at) (in_turn (step_events w) step_time steps (at + step_time s)) (step_leads plan h.0.0 w s h.0.1 at) (steps_lead plan w steps (at + step_time s) h.1)
+steps_written : (plan : SavedPlan) (w : ℕ) (steps : List Step) (at : ℕ) → ArePlanned plan steps → Written plan (in_turn (step_events w) step_time (begun steps) at)
+steps_written plan w [] at h = record { phase = between; is = inl refl; hooks = refl; notes = refl }
+steps_written plan w (s ∷ steps) at h = either (goes_on s) refl (steps_written plan w steps (at + step_time s) h.1)
+  where
+    either : (on : Bool) → goes_on s ≡ on → Written plan (in_turn (step_events w) step_time (begun steps) (at + step_time s)) → Written plan (step_events w s at ++ in_turn (step_events w) step_time (cond on (begun steps) []) (at + step_time s))
+    either true on rest =
+        let others = in_turn (step_events w) step_time (begun steps) (at + step_time s) in
+        record {
+          phase = rest.phase;
+          is = rest.is;
+          hooks = subst (λ (es : List Event). Leads plan between es rest.phase) (sym (kept_both (λ e. not (is_note e.what)) (step_events w s at) others))
+              (leads_on plan between between rest.phase (hook_messages_of (step_events w s at)) (hook_messages_of others)
+              (subst (Leads plan between (hook_messages_of (step_events w s at))) (goes_between plan h.0.0 w s h.0.1 on) (step_hooks plan h.0.0 w s h.0.1 at)) rest.hooks);
+          notes = subst (λ (es : List Event). Leads plan rest.phase es between) (sym (kept_both (λ e. is_note e.what) (step_events w s at) others))
+              (leads_on plan rest.phase rest.phase between (notes_of (step_events w s at)) (notes_of others) (step_warns plan h.0.0 w s h.0.1 on at rest.phase rest.is) rest.notes);
+        }
+    either false off rest =
+        let whole = append-nil (step_events w s at) in
+        record {
+          phase = phase_then plan h.0.0 w s h.0.1 (is_some (s.halts Pre)) s.fails;
+          is = phase_is plan h.0.0 w s h.0.1 (is_some (s.halts Pre)) s.fails;
+          hooks = subst (λ (es : List Event). Leads plan between (hook_messages_of es) (phase_then plan h.0.0 w s h.0.1 (is_some (s.halts Pre)) s.fails)) (sym whole) (step_hooks plan h.0.0 w s h.0.1 at);
+          notes = subst (λ (es : List Event). Leads plan (phase_then plan h.0.0 w s h.0.1 (is_some (s.halts Pre)) s.fails) (notes_of es) between) (sym whole) (step_notes plan h.0.0 w s h.0.1 at);
+        }
 
-pub change_leads : (work : Work) (w c at : ℕ) → Leads work.plan between (change_events work w c at) between
+-- the events of a change, as they are written, lead it from between two steps back there
+pub change_leads : (work : Work) (w c at : ℕ) → Leads work.plan between (as_written (change_events work w c at)) between
 change_leads work w c at =
-    steps_lead work.plan w (begun (steps_of work c)) at
-    (planned_begun work.plan (steps_of work c) (planned work c 0 (kinds_of work.plan c) (λ i. let same : 0 + i ≡ i = omega arith in ap (λ (x : ℕ). slice_get (kinds_of work.plan c) x) same)))
+    let written = steps_written work.plan w (steps_of work c) at (planned work c 0 (kinds_of work.plan c) (λ i. let same : 0 + i ≡ i = omega arith in ap (λ (x : ℕ). slice_get (kinds_of work.plan c) x) same)) in
+    leads_on work.plan between written.phase between (hook_messages_of (change_events work w c at)) (notes_of (change_events work w c at)) written.hooks written.notes

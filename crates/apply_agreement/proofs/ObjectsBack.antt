@@ -26,6 +26,7 @@ use Rattle.apply_text.specs.Latest.{latest_of}
 use Rattle.apply_text.specs.Lines.{message_object, typed}
 use Rattle.apply_text.specs.Message.{end_id, event_message, hook_message, start_id, summary_message}
 use Rattle.apply_text.specs.Objects.{changes_object, diagnostic_object, hook_object, key_data, resource_object}
+use Rattle.apply_text.specs.Order.{as_written}
 use Rattle.apply_agreement.specs.Objects.{object_of, objects_of, stream_objects, version_object}
 use Rattle.apply_agreement.specs.Sound.{IsSound}
 use Rattle.apply_agreement.proofs.ReadBack.{tree_is}
@@ -131,10 +132,11 @@ events_back plan script seconds n (e ∷ es) ds rest sound =
     subst (AllByRecursion IsBack) (sym grouped)
     (one_back script (seconds n) e (slice_get plan.changes e.change) (more ++ ds) (events_back plan script seconds (n + 1) es ds rest) (subst (AllByRecursion IsSound) grouped sound))
 
-pub stream_back : (plan : SavedPlan) (script : Outcomes) (start : ℕ) (operation : Operation) (es : List Event)
-    → AllByRecursion IsSound (stream_objects plan script start operation es) → AllByRecursion IsBack (stream_objects plan script start operation es)
-stream_back plan script start operation es sound =
-    let t = totals_of plan es in
+pub stream_back : (plan : SavedPlan) (script : Outcomes) (start : ℕ) (operation : Operation) (taken : List Event)
+    → AllByRecursion IsSound (stream_objects plan script start operation taken) → AllByRecursion IsBack (stream_objects plan script start operation taken)
+stream_back plan script start operation taken sound =
+    let t = totals_of plan taken in
+    let es = as_written taken in
     let last = object_of (start + latest_of es (length es)) (summary_message operation t) in (
       in_place_back (version_object plan start) sound.0 (version_in_place plan start),
       events_back plan script (λ i. start + latest_of es (i + 1)) 0 es (last ∷ []) (λ s. (in_place_back last s.0 (summary_in_place operation t (start + latest_of es (length es)) s.0), tt)) sound.1,

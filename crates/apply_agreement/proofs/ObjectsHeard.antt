@@ -20,6 +20,7 @@ use Rattle.apply_text.specs.Latest.{latest_of}
 use Rattle.apply_text.specs.Lines.{message_object}
 use Rattle.apply_text.specs.Message.{event_message, summary_message}
 use Rattle.apply_text.specs.Objects.{changes_object}
+use Rattle.apply_text.specs.Order.{as_written}
 use Rattle.apply_agreement.specs.Accepted.{stream_told, totals_said}
 use Rattle.apply_agreement.specs.Objects.{event_objects, object_of, objects_of, stream_objects, version_object}
 use Rattle.apply_agreement.specs.Passing.{verdict_on, verdict_on_objects, with_all, with_objects}
@@ -74,10 +75,11 @@ all_events plan script seconds n (e ∷ es) ds ms rest =
     let first = one_event script (seconds n) e (slice_get plan.changes e.change) (more ++ ds) (all_told plan es ++ ms) others in
     λ earlier. ap (with_objects earlier) (append_assoc (objects_of plan script (seconds n) e) more ds) ∙ first earlier ∙ ap (with_all earlier) (sym (append_assoc (told_of plan e) (all_told plan es) ms))
 
-pub objects_heard : (plan : SavedPlan) (script : Outcomes) (start : ℕ) (operation : Operation) (es : List Event)
-    → verdict_on_objects (stream_objects plan script start operation es) ≡ verdict_on (stream_told plan es)
-objects_heard plan script start operation es =
-    let t = totals_of plan es in
+pub objects_heard : (plan : SavedPlan) (script : Outcomes) (start : ℕ) (operation : Operation) (taken : List Event)
+    → verdict_on_objects (stream_objects plan script start operation taken) ≡ verdict_on (stream_told plan taken)
+objects_heard plan script start operation taken =
+    let t = totals_of plan taken in
+    let es = as_written taken in
     let last = object_of (start + latest_of es (length es)) (summary_message operation t) in
     let ends : Same (last ∷ []) (summary (totals_said t) ∷ []) = both last (summary (totals_said t)) [] [] (summary_heard operation t (start + latest_of es (length es))) (λ earlier. refl) in
     let events : Same (event_objects plan script start es ++ last ∷ []) (all_told plan es ++ summary (totals_said t) ∷ []) = all_events plan script (λ i. start + latest_of es (i + 1)) 0 es (last ∷ []) (summary (totals_said t) ∷ []) ends in

@@ -1,6 +1,6 @@
 -- The part that each change has of what several workers report.
-use Rattle.std.proofs.Common.{◌≡◌, ◌≢◌, ℕ, ◌+◌, ◌<◌, ◌≤◌, ◌==◌, zero, suc, All, List, [], ◌∷◌, ◌++◌, length, map, get_or, sum_by, Bool, true, false, cond, Option, Some, None, refl, sym, ap, ◌∙◌, subst, ⊎_elim, slice_get, option_map, option_to_list, append-nil, arith, eq-eqb, ne_eqb}
-use Rattle.std.specs.Prelude.{is_some}
+use Rattle.std.proofs.Common.{filter, ◌≡◌, ◌≢◌, ℕ, ◌+◌, ◌<◌, ◌≤◌, ◌==◌, zero, suc, All, List, [], ◌∷◌, ◌++◌, length, map, get_or, sum_by, Bool, true, false, cond, Option, Some, None, refl, sym, ap, ◌∙◌, subst, ⊎_elim, slice_get, option_map, option_to_list, append-nil, arith, eq-eqb, ne_eqb}
+use Rattle.std.specs.Prelude.{is_some, not}
 use Rattle.std.specs.List.{enumerate_from}
 use Rattle.std.proofs.lemmas.Bool.{cases_eq, lt-ltb}
 use Rattle.std.proofs.lemmas.Bool.Decides.{eqb_tells}
@@ -11,6 +11,7 @@ use Rattle.apply_hooks.specs.declared.phase.Phase.TheVariants.{Pre}
 use Rattle.apply_events.specs.declared.event.Event.{Event}
 use Rattle.apply_events.specs.declared.what.What.{What}
 use Rattle.apply_events.specs.declared.what.What.TheVariants.{Start, Progress, Halted}
+use Rattle.apply_events.specs.Diagnostics.{is_note}
 use Rattle.apply_events.specs.ChangeEvents.{begun, change_events, in_turn, span_of}
 use Rattle.apply_events.specs.Interleaving.{IsInterleaving}
 use Rattle.apply_events.specs.OfWorker.{of_worker}
@@ -19,7 +20,8 @@ use Rattle.apply_events.specs.ProgressTimes.{progress_times}
 use Rattle.apply_events.specs.Step.{Step, Work, kinds_of, step_of, steps_of}
 use Rattle.apply_events.specs.StepEvents.{endings, event, goes_on, halts, phase_after, started, step_events, step_time}
 use Rattle.apply_events.specs.WorkerEvents.{worker_events}
-use Rattle.apply_agreement.proofs.Deeds.{with_change}
+use Rattle.apply_text.specs.Order.{as_written, hook_messages_of, notes_of}
+use Rattle.apply_agreement.proofs.Deeds.{kept_both, with_change}
 
 -- ---- what holds of each event
 
@@ -263,3 +265,32 @@ module _ (work : Work) (workers limit : ℕ) (lists : List (List ℕ)) (events :
       let mine : Each (λ e. e.change ≡ c → e.worker ≡ whose.0) events = owners c whose.0 events told.named all_listed (λ v l. whose.3 v (omega arith)) in
       let part = part_of_turn work whose.0 c (get_or lists whose.0 []) 0 whose.2 in
       (whose.0, part.0, narrowed c whose.0 events mine ∙ ap (with_change c) (told.parts whose.0 (let l : whose.0 < length lists = whose.1 in omega arith)) ∙ part.1)
+
+-- ---- as they are written
+
+each_kept : (P : Event → Type 0) (test : Event → Bool) (es : List Event) → Each P es → Each P (filter test es)
+each_kept P test [] h = tt
+each_kept P test (e ∷ es) h = at (test e) (each_kept P test es h.1)
+  where
+    at : (b : Bool) → Each P (filter test es) → Each P (cond b (e ∷ filter test es) (filter test es))
+    at true rest = (h.0, rest)
+    at false rest = rest
+
+pub each_written : (P : Event → Type 0) (es : List Event) → Each P es → Each P (as_written es)
+each_written P es h = each_both P (hook_messages_of es) (notes_of es) (each_kept P (λ e. not (is_note e.what)) es h) (each_kept P (λ e. is_note e.what) es h)
+
+filters_swap : {X : Type 0} (p q : X → Bool) (xs : List X) → filter p (filter q xs) ≡ filter q (filter p xs)
+filters_swap p q [] = refl
+filters_swap p q (x ∷ xs) = at (p x) (q x) refl refl (filters_swap p q xs)
+  where
+    at : (a b : Bool) → p x ≡ a → q x ≡ b → filter p (filter q xs) ≡ filter q (filter p xs) → filter p (cond b (x ∷ filter q xs) (filter q xs)) ≡ filter q (cond a (x ∷ filter p xs) (filter p xs))
+    at true true e f rest = ap (λ (t : Bool). cond t (x ∷ filter p (filter q xs)) (filter p (filter q xs))) e ∙ ap (λ l. x ∷ l) rest ∙ sym (ap (λ (t : Bool). cond t (x ∷ filter q (filter p xs)) (filter q (filter p xs))) f)
+    at true false e f rest = rest ∙ sym (ap (λ (t : Bool). cond t (x ∷ filter q (filter p xs)) (filter q (filter p xs))) f)
+    at false true e f rest = ap (λ (t : Bool). cond t (x ∷ filter p (filter q xs)) (filter p (filter q xs))) e ∙ rest
+    at false false e f rest = rest
+
+pub part_written : (c : ℕ) (es : List Event) → with_change c (as_written es) ≡ as_written (with_change c es)
+part_written c es =
+    kept_both (λ e. e.change == c) (hook_messages_of es) (notes_of es)
+    ∙ ap (λ (l : List Event). l ++ with_change c (notes_of es)) (filters_swap (λ (e : Event). e.change == c) (λ e. not (is_note e.what)) es)
+    ∙ ap (λ (l : List Event). hook_messages_of (with_change c es) ++ l) (filters_swap (λ (e : Event). e.change == c) (λ e. is_note e.what) es)

@@ -1,8 +1,10 @@
 -- What the messages of events tell is what the events tell.
 use Rattle.std.proofs.Common.{◌≡◌, ℕ, suc, ◌+◌, List, [], ◌∷◌, ◌++◌, length, map, get_or, slice_index_or, Bool, true, false, cond, Option, Some, None, Result, Ok, refl, sym, ap, ◌∙◌, subst, slice_get, count_by, arith}
-use Rattle.std.specs.Prelude.{◌&&◌}
+use Rattle.std.specs.Prelude.{not, ◌&&◌}
 use Rattle.std.specs.Option.{option_map_or}
-use Rattle.std.proofs.lemmas.List.Sums.{sum_by-cons}
+use Rattle.std.proofs.lemmas.List.{length-append}
+use Rattle.std.proofs.lemmas.List.Filters.{length-filter_both, sum_by-filter_both}
+use Rattle.std.proofs.lemmas.List.Sums.{sum_by-append, sum_by-cons}
 use Rattle.apply_plan.specs.declared.plan.step_kind.StepKind.{StepKind}
 use Rattle.apply_plan.specs.declared.plan.step_kind.StepKind.TheVariants.{Create, Update, Delete, Read}
 use Rattle.apply_plan.specs.Plan.SavedPlan.{SavedPlan}
@@ -16,19 +18,21 @@ use Rattle.apply_check.specs.Words.{same_action}
 use Rattle.apply_events.specs.declared.event.Event.{Event}
 use Rattle.apply_events.specs.declared.what.What.{What}
 use Rattle.apply_events.specs.declared.what.What.TheVariants.{Start, Progress, Complete, Errored, ErrorNote, WarnNote, Halted}
+use Rattle.apply_events.specs.Diagnostics.{is_note}
 use Rattle.apply_events.specs.Interleaving.{IsInterleaving}
 use Rattle.apply_events.specs.Partition.{IsPartition}
 use Rattle.apply_events.specs.Step.{Work, address_of, kinds_of}
 use Rattle.apply_events.specs.Totals as events_are
 use Rattle.apply_events.specs.Totals.{is_complete}
 use Rattle.apply_events.specs.WorkerEvents.{worker_events}
+use Rattle.apply_text.specs.Order.{as_written, hook_messages_of, notes_of}
 use Rattle.apply_agreement.specs.Accepted.{stream_told, totals_said, whole_stream}
 use Rattle.apply_agreement.specs.Passing.{verdict_on}
 use Rattle.apply_agreement.specs.Plans.{IsOrdinary}
 use Rattle.apply_agreement.specs.Told.{action_of, all_told, told}
 use Rattle.apply_agreement.proofs.Deeds.{all_deeds, change_leads, follows, of_change_is, told_is}
 use Rattle.apply_agreement.proofs.Ordinary.{Anywhere, Does, apart, known}
-use Rattle.apply_agreement.proofs.Parts.{Each, IsListed, all_listed, each_weaker, part_of_change}
+use Rattle.apply_agreement.proofs.Parts.{Each, IsListed, all_listed, each_weaker, each_written, part_of_change, part_written}
 use Rattle.apply_agreement.proofs.Phases.{Follows, between}
 use Rattle.apply_agreement.proofs.Turning.{Runs, behind, runs, said}
 use Rattle.apply_agreement.proofs.Whole.{accepted, any_behind, at_begin, counts_behind, length_behind}
@@ -113,17 +117,36 @@ all_lines plan (e ∷ es) h =
     let rest = all_lines plan es h.1 in
     omega arith
 
+-- ---- as they are written
+
+count_written : (p : Event → Bool) (es : List Event) → count_by p (as_written es) ≡ count_by p es
+count_written p es =
+    let both = sum_by-append (λ e. cond (p e) 1 0) (hook_messages_of es) (notes_of es) in
+    let split = sum_by-filter_both (λ (e : Event). is_note e.what) (λ e. not (is_note e.what)) (λ e. refl) (λ e. cond (p e) 1 0) es in
+    omega arith
+
+length_written : (es : List Event) → length (as_written es) ≡ length es
+length_written es =
+    let both = length-append (hook_messages_of es) (notes_of es) in
+    let split = length-filter_both (λ (e : Event). is_note e.what) (λ e. not (is_note e.what)) (λ e. refl) es in
+    omega arith
+
+totals_written : (plan : SavedPlan) (es : List Event) → totals_said (events_are.totals_of plan es) ≡ totals_of (behind (version ∷ []) (all_told plan (as_written es)))
+totals_written plan es =
+    same_counts (sym (count_written (events_are.completes plan Create) es)) (sym (count_written (events_are.completes plan Update) es)) (sym (count_written (events_are.completes plan Delete) es))
+    ∙ totals_are plan (as_written es)
+
 -- ---- a run
 
 same_whole : {t u : Totals} {a b : Bool} {m n : ℕ} → t ≡ u → a ≡ b → m ≡ n
     → (let one : Whole = record { totals = t; has_errors = a; lines = m } in one) ≡ (let other : Whole = record { totals = u; has_errors = b; lines = n } in other)
 same_whole p q r = cc
 
-whole_is : (t : Totals) (plan : SavedPlan) (es : List Event) → t ≡ totals_said (events_are.totals_of plan es) → length (all_told plan es) ≡ length es
-    → whole_of (summary t ∷ behind (version ∷ []) (all_told plan es)) ≡ whole_stream plan es
-whole_is t plan es is lines =
-    same_whole (sym (totals_are plan es)) (any_behind is_error (version ∷ []) (all_told plan es))
-    (let all = length_behind (version ∷ []) (all_told plan es) in let more : suc (length (behind (version ∷ []) (all_told plan es))) ≡ length es + 2 = omega arith in more)
+whole_is : (plan : SavedPlan) (es : List Event) → length (all_told plan (as_written es)) ≡ length (as_written es)
+    → whole_of (summary (totals_said (events_are.totals_of plan es)) ∷ behind (version ∷ []) (all_told plan (as_written es))) ≡ whole_stream plan es
+whole_is plan es lines =
+    same_whole (sym (totals_written plan es)) (any_behind is_error (version ∷ []) (all_told plan (as_written es)))
+    (let all = length_behind (version ∷ []) (all_told plan (as_written es)) in let same = length_written es in let more : suc (length (behind (version ∷ []) (all_told plan (as_written es)))) ≡ length es + 2 = omega arith in more)
 
 pub run_accepted : (work : Work) (workers : ℕ) (lists : List (List ℕ)) (events : List Event) → IsOrdinary work.plan → IsPartition workers (length work.plan.changes) lists
     → IsInterleaving workers (λ worker. worker_events work worker (slice_index_or lists worker [])) events
@@ -131,15 +154,17 @@ pub run_accepted : (work : Work) (workers : ℕ) (lists : List (List ℕ)) (even
 run_accepted work workers lists events ordinary dealt told_so =
     let limit = length work.plan.changes in
     let addresses = address_of work.plan in
-    let ran : Runs limit addresses Anywhere (Does work.plan) (version ∷ []) (map (said addresses) (all_deeds work.plan events)) =
-    runs limit addresses Anywhere (Does work.plan) ordinary.few (apart work.plan ordinary) (all_deeds work.plan events) (λ c. between) (version ∷ []) (at_begin limit addresses (Does work.plan)) (known work.plan events)
+    let written = as_written events in
+    let ran : Runs limit addresses Anywhere (Does work.plan) (version ∷ []) (map (said addresses) (all_deeds work.plan written)) =
+    runs limit addresses Anywhere (Does work.plan) ordinary.few (apart work.plan ordinary) (all_deeds work.plan written) (λ c. between) (version ∷ []) (at_begin limit addresses (Does work.plan)) (known work.plan written)
     (λ c less.
     let part = part_of_change work workers limit lists events dealt told_so c less in
-    subst (Follows between) (sym (of_change_is work.plan c events ∙ ap (all_deeds work.plan) part.2)) (follows work.plan between _ (change_leads work part.0 c part.1))) in
-    let ran_so : Runs limit addresses Anywhere (Does work.plan) (version ∷ []) (all_told work.plan events) = subst (Runs limit addresses Anywhere (Does work.plan) (version ∷ [])) (sym (told_is work.plan events)) ran in
-    let lines = all_lines work.plan events (each_weaker (λ e. IsListed work (get_or lists e.worker []) e) (λ e. (kind : StepKind) × (slice_get (kinds_of work.plan e.change) e.step ≡ Some kind)) (λ e is. is.planned) events (all_listed work workers limit lists events dealt told_so)) in
-    accepted limit addresses (Does work.plan) (all_told work.plan events) (totals_said (events_are.totals_of work.plan events)) ran_so (totals_are work.plan events)
-    ∙ ap (λ (w : Whole). fine w) (whole_is (totals_said (events_are.totals_of work.plan events)) work.plan events refl lines)
+    subst (Follows between) (sym (of_change_is work.plan c written ∙ ap (all_deeds work.plan) (part_written c events ∙ ap as_written part.2))) (follows work.plan between _ (change_leads work part.0 c part.1))) in
+    let ran_so : Runs limit addresses Anywhere (Does work.plan) (version ∷ []) (all_told work.plan written) = subst (Runs limit addresses Anywhere (Does work.plan) (version ∷ [])) (sym (told_is work.plan written)) ran in
+    let planned = each_weaker (λ e. IsListed work (get_or lists e.worker []) e) (λ e. (kind : StepKind) × (slice_get (kinds_of work.plan e.change) e.step ≡ Some kind)) (λ e is. is.planned) events (all_listed work workers limit lists events dealt told_so) in
+    let lines = all_lines work.plan written (each_written (λ e. (kind : StepKind) × (slice_get (kinds_of work.plan e.change) e.step ≡ Some kind)) events planned) in
+    accepted limit addresses (Does work.plan) (all_told work.plan written) (totals_said (events_are.totals_of work.plan events)) ran_so (totals_written work.plan events)
+    ∙ ap (λ (w : Whole). fine w) (whole_is work.plan events lines)
   where
     fine : Whole → Result Whole Fault
     fine w = Ok w

@@ -9,20 +9,21 @@ use Rattle.apply_check.specs.Message.{Message, version, summary}
 use Rattle.apply_events.specs.declared.counts.Counts.{Counts}
 use Rattle.apply_events.specs.declared.event.Event.{Event}
 use Rattle.apply_events.specs.Totals.{totals_of}
+use Rattle.apply_text.specs.Order.{as_written}
 use Rattle.apply_agreement.specs.Told.{all_told}
 
 -- the totals that a summary says
 abbrev pub totals_said : Counts → Totals
 totals_said counts = record { added = counts.added; changed = counts.changed; removed = counts.removed }
 
--- what the stream of some events tells: the version, the events, the summary
-abbrev pub stream_told : SavedPlan → List Event → List Message
-stream_told plan events = version ∷ (all_told plan events ++ summary (totals_said (totals_of plan events)) ∷ [])
+-- what the stream of events that were taken tells: the version, the events as they are written, the summary
+abbrev pub stream_told : SavedPlan → (taken : List Event) → List Message
+stream_told plan taken = version ∷ (all_told plan (as_written taken) ++ summary (totals_said (totals_of plan taken)) ∷ [])
 
 -- the stream is whole: the totals are the events', and the lines are theirs, the version's and the summary's
-abbrev pub whole_stream : SavedPlan → List Event → Whole
-whole_stream plan events = record {
-  totals = totals_said (totals_of plan events);
-  has_errors = list_any is_error (all_told plan events);
-  lines = length events + 2;
+abbrev pub whole_stream : SavedPlan → (taken : List Event) → Whole
+whole_stream plan taken = record {
+  totals = totals_said (totals_of plan taken);
+  has_errors = list_any is_error (all_told plan (as_written taken));
+  lines = length taken + 2;
 }

@@ -12,6 +12,7 @@ use Rattle.apply_text.specs.Latest.{latest_of}
 use Rattle.apply_text.specs.Lines.{message_object, typed, version_members}
 use Rattle.apply_text.specs.Message.{Message, event_message, summary_message}
 use Rattle.apply_text.specs.Moment.{moment_text}
+use Rattle.apply_text.specs.Order.{as_written}
 
 -- the object of a message, so many seconds after the start of 1970
 abbrev pub object_of : (seconds : ℕ) → Message → Data
@@ -30,9 +31,9 @@ objects_of plan script seconds event =
 abbrev pub event_objects : SavedPlan → Outcomes → (start : ℕ) → List Event → List Data
 event_objects plan script start events = flat_map (λ p. objects_of plan script (start + latest_of events (p.0 + 1)) p.1) (enumerate_from 0 events)
 
--- all objects of a stream: the version, the events, the summary
-abbrev pub stream_objects : SavedPlan → Outcomes → (start : ℕ) → Operation → List Event → List Data
-stream_objects plan script start operation events =
+-- all objects of the stream of events that were taken: the version, the events as they are written, the summary
+abbrev pub stream_objects : SavedPlan → Outcomes → (start : ℕ) → Operation → (taken : List Event) → List Data
+stream_objects plan script start operation taken =
     version_object plan start
-    ∷ (event_objects plan script start events
-    ++ object_of (start + latest_of events (length events)) (summary_message operation (totals_of plan events)) ∷ [])
+    ∷ (event_objects plan script start (as_written taken)
+    ++ object_of (start + latest_of (as_written taken) (length (as_written taken))) (summary_message operation (totals_of plan taken)) ∷ [])
