@@ -1,5 +1,5 @@
 -- What happens to the steps of a plan, by its events.
-use Rattle.std.proofs.Common.{◌≡◌, ℕ, ◌+◌, ◌-◌, ◌<◌, ◌≤◌, ◌==◌, zero, suc, List, [], ◌∷◌, ◌++◌, map, filter, flat_map, Bool, true, false, cond, Option, Some, None, refl, sym, ap, ◌∙◌, subst, slice_get, option_map, option_to_list, arith, ◌⊎◌, inl, inr, ⊎_elim, append-nil}
+use Rattle.std.proofs.Common.{append_assoc, ◌≡◌, ℕ, ◌+◌, ◌-◌, ◌<◌, ◌≤◌, ◌==◌, zero, suc, List, [], ◌∷◌, ◌++◌, map, filter, flat_map, Bool, true, false, cond, Option, Some, None, refl, sym, ap, ◌∙◌, subst, slice_get, option_map, option_to_list, arith, append-nil}
 use Rattle.std.specs.Prelude.{◌&&◌, is_none, is_some, not}
 use Rattle.std.specs.List.{enumerate_from, range_with_len}
 use Rattle.std.specs.Option.{option_map_or}
@@ -16,10 +16,10 @@ use Rattle.apply_events.specs.Diagnostics.{is_note}
 use Rattle.apply_events.specs.ProgressTimes.{is_multiple_of_ten, progress_times}
 use Rattle.apply_events.specs.Step.{Step, Work, address_of, kinds_of, step_of, steps_of}
 use Rattle.apply_events.specs.StepEvents.{end_of, endings, event, goes_on, halts, notes, phase_after, started, step_events, step_time}
-use Rattle.apply_text.specs.Order.{as_written, hook_messages_of, notes_of}
-use Rattle.apply_agreement.specs.Told.{action_of, all_told, told}
-use Rattle.apply_agreement.proofs.Phases.{Deed, Follows, Phase, between, under_way, unexplained, Turns, of_change}
-use Rattle.apply_agreement.proofs.Turning.{said}
+use Rattle.apply_text.specs.Order.{hook_messages_of, notes_of}
+use Rattle.apply_agreement.specs.Told.{action_of, all_told, told, told_of}
+use Rattle.apply_agreement.proofs.Phases.{Deed, Follows, IsStill, Phase, between, under_way, unexplained, Turns, of_change}
+use Rattle.apply_agreement.proofs.Turning.{AllAre, said}
 
 -- what happens to a step of that kind
 abbrev pub deed : Event → StepKind → Deed
@@ -78,12 +78,12 @@ pub leads_on : (plan : SavedPlan) (p q r : Phase) (es fs : List Event) → Leads
 leads_on plan p q r [] fs one other = subst (λ (x : Phase). Leads plan x fs r) (sym one) other
 leads_on plan p q r (e ∷ es) fs one other = (one.0, one.1, leads_on plan one.0 q r es fs one.2 other)
 
-pub follows : (plan : SavedPlan) (p : Phase) (es : List Event) → Leads plan p es between → Follows p (all_deeds plan es)
-follows plan p [] leads = leads
-follows plan p (e ∷ es) leads =
+pub follows : (plan : SavedPlan) (p : Phase) (es : List Event) (r : Phase) → Leads plan p es r → Follows p (all_deeds plan es) r
+follows plan p [] r leads = leads
+follows plan p (e ∷ es) r leads =
     let turn = leads.1 in
-    subst (λ (o : Option StepKind). Follows p (option_map_or (λ kind. deed e kind ∷ []) o [] ++ all_deeds plan es)) (sym turn.1)
-    (leads.0, turn.2, follows plan leads.0 es leads.2)
+    subst (λ (o : Option StepKind). Follows p (option_map_or (λ kind. deed e kind ∷ []) o [] ++ all_deeds plan es) r) (sym turn.1)
+    (leads.0, turn.2, follows plan leads.0 es r leads.2)
 
 -- ---- filters
 
@@ -197,11 +197,11 @@ module _ (plan : SavedPlan) (kind : StepKind) (w : ℕ) (s : Step) (is : IsOfKin
   noted false false at = refl
 
   -- those of a step behind which the change goes on leave it where it is
-  warned : (warns : Bool) (at : ℕ) (p : Phase) → (p ≡ between) ⊎ (p ≡ unexplained) → Leads plan p (map (λ what. event w s at what) (notes false warns)) p
+  warned : (warns : Bool) (at : ℕ) (p : Phase) → IsStill p → Leads plan p (map (λ what. event w s at what) (notes false warns)) p
   warned false at p may = refl
   warned true at between may = (between, (kind, is, refl), refl)
   warned true at unexplained may = (unexplained, (kind, is, refl), refl)
-  warned true at (under_way k t) may = absurd (⊎_elim (λ (e : under_way k t ≡ between). let f = e in cc) (λ (e : under_way k t ≡ unexplained). let f = e in cc) may)
+  warned true at (under_way k t) may = absurd may
 
   pub step_hooks : (at : ℕ) → Leads plan between (hook_messages_of (step_events w s at)) (phase_then (is_some (s.halts Pre)) s.fails)
   step_hooks at = either (s.halts Pre)
@@ -222,7 +222,7 @@ module _ (plan : SavedPlan) (kind : StepKind) (w : ℕ) (s : Step) (is : IsOfKin
       either (Some hook) = halted Pre at (Some hook)
 
   -- a step behind which the change goes on
-  pub step_warns : goes_on s ≡ true → (at : ℕ) (p : Phase) → (p ≡ between) ⊎ (p ≡ unexplained) → Leads plan p (notes_of (step_events w s at)) p
+  pub step_warns : goes_on s ≡ true → (at : ℕ) (p : Phase) → IsStill p → Leads plan p (notes_of (step_events w s at)) p
   unfolding notes_told
   step_warns on at p may =
       let all = and_parts (is_none (s.halts Pre) && not s.fails) (is_none (s.halts PostDone)) on in
@@ -244,10 +244,10 @@ module _ (plan : SavedPlan) (kind : StepKind) (w : ℕ) (s : Step) (is : IsOfKin
       let both = and_parts (is_none (s.halts Pre)) (not s.fails) all.0 in
       ap (λ (b : Bool). phase_then b s.fails) (ap is_some (is_nothing (s.halts Pre) both.0)) ∙ ap (phase_then false) (not-true s.fails both.1)
 
-  pub phase_is : (b fails : Bool) → (phase_then b fails ≡ between) ⊎ (phase_then b fails ≡ unexplained)
-  phase_is true fails = inl refl
-  phase_is false true = inr refl
-  phase_is false false = inl refl
+  pub phase_is : (b fails : Bool) → IsStill (phase_then b fails)
+  phase_is true fails = tt
+  phase_is false true = tt
+  phase_is false false = tt
 
 -- ---- a change
 
@@ -267,12 +267,12 @@ planned work c n (kind ∷ kinds) is =
 -- where the hook messages of these events leave a change, from where their notes take it on
 pub record Written (plan : SavedPlan) (es : List Event) : Type 0 where
   pub phase : Phase
-  pub is : (phase ≡ between) ⊎ (phase ≡ unexplained)
+  pub still : IsStill phase
   pub hooks : Leads plan between (hook_messages_of es) phase
   pub notes : Leads plan phase (notes_of es) between
 
 steps_written : (plan : SavedPlan) (w : ℕ) (steps : List Step) (at : ℕ) → ArePlanned plan steps → Written plan (in_turn (step_events w) step_time (begun steps) at)
-steps_written plan w [] at h = record { phase = between; is = inl refl; hooks = refl; notes = refl }
+steps_written plan w [] at h = record { phase = between; still = tt; hooks = refl; notes = refl }
 steps_written plan w (s ∷ steps) at h = either (goes_on s) refl (steps_written plan w steps (at + step_time s) h.1)
   where
     either : (on : Bool) → goes_on s ≡ on → Written plan (in_turn (step_events w) step_time (begun steps) (at + step_time s)) → Written plan (step_events w s at ++ in_turn (step_events w) step_time (cond on (begun steps) []) (at + step_time s))
@@ -280,24 +280,49 @@ steps_written plan w (s ∷ steps) at h = either (goes_on s) refl (steps_written
         let others = in_turn (step_events w) step_time (begun steps) (at + step_time s) in
         record {
           phase = rest.phase;
-          is = rest.is;
+          still = rest.still;
           hooks = subst (λ (es : List Event). Leads plan between es rest.phase) (sym (kept_both (λ e. not (is_note e.what)) (step_events w s at) others))
               (leads_on plan between between rest.phase (hook_messages_of (step_events w s at)) (hook_messages_of others)
               (subst (Leads plan between (hook_messages_of (step_events w s at))) (goes_between plan h.0.0 w s h.0.1 on) (step_hooks plan h.0.0 w s h.0.1 at)) rest.hooks);
           notes = subst (λ (es : List Event). Leads plan rest.phase es between) (sym (kept_both (λ e. is_note e.what) (step_events w s at) others))
-              (leads_on plan rest.phase rest.phase between (notes_of (step_events w s at)) (notes_of others) (step_warns plan h.0.0 w s h.0.1 on at rest.phase rest.is) rest.notes);
+              (leads_on plan rest.phase rest.phase between (notes_of (step_events w s at)) (notes_of others) (step_warns plan h.0.0 w s h.0.1 on at rest.phase rest.still) rest.notes);
         }
     either false off rest =
         let whole = append-nil (step_events w s at) in
         record {
           phase = phase_then plan h.0.0 w s h.0.1 (is_some (s.halts Pre)) s.fails;
-          is = phase_is plan h.0.0 w s h.0.1 (is_some (s.halts Pre)) s.fails;
+          still = phase_is plan h.0.0 w s h.0.1 (is_some (s.halts Pre)) s.fails;
           hooks = subst (λ (es : List Event). Leads plan between (hook_messages_of es) (phase_then plan h.0.0 w s h.0.1 (is_some (s.halts Pre)) s.fails)) (sym whole) (step_hooks plan h.0.0 w s h.0.1 at);
           notes = subst (λ (es : List Event). Leads plan (phase_then plan h.0.0 w s h.0.1 (is_some (s.halts Pre)) s.fails) (notes_of es) between) (sym whole) (step_notes plan h.0.0 w s h.0.1 at);
         }
 
--- the events of a change, as they are written, lead it from between two steps back there
-pub change_leads : (work : Work) (w c at : ℕ) → Leads work.plan between (as_written (change_events work w c at)) between
-change_leads work w c at =
-    let written = steps_written work.plan w (steps_of work c) at (planned work c 0 (kinds_of work.plan c) (λ i. let same : 0 + i ≡ i = omega arith in ap (λ (x : ℕ). slice_get (kinds_of work.plan c) x) same)) in
-    leads_on work.plan between written.phase between (hook_messages_of (change_events work w c at)) (notes_of (change_events work w c at)) written.hooks written.notes
+-- the hook messages of a change lead it from between two steps to its end or a failure, and the notes from there to the end
+pub change_written : (work : Work) (w c at : ℕ) → Written work.plan (change_events work w c at)
+change_written work w c at =
+    steps_written work.plan w (steps_of work c) at (planned work c 0 (kinds_of work.plan c) (λ i. let same : 0 + i ≡ i = omega arith in ap (λ (x : ℕ). slice_get (kinds_of work.plan c) x) same))
+
+-- ---- events of one kind
+
+one_is : (plan : SavedPlan) (b : Bool) (e : Event) (found : Option StepKind) (ds : List Deed) → is_note e.what ≡ b → AllAre b ds → AllAre b (option_map_or (λ kind. deed e kind ∷ []) found [] ++ ds)
+one_is plan b e None ds is rest = rest
+one_is plan b e (Some kind) ds is rest = (is, rest)
+
+pub hooks_are : (plan : SavedPlan) (es : List Event) → AllAre false (all_deeds plan (hook_messages_of es))
+hooks_are plan [] = tt
+hooks_are plan (e ∷ es) = at (is_note e.what) refl (hooks_are plan es)
+  where
+    at : (b : Bool) → is_note e.what ≡ b → AllAre false (all_deeds plan (hook_messages_of es)) → AllAre false (all_deeds plan (cond (not b) (e ∷ hook_messages_of es) (hook_messages_of es)))
+    at true is rest = rest
+    at false is rest = one_is plan false e (slice_get (kinds_of plan e.change) e.step) (all_deeds plan (hook_messages_of es)) is rest
+
+pub notes_are : (plan : SavedPlan) (es : List Event) → AllAre true (all_deeds plan (notes_of es))
+notes_are plan [] = tt
+notes_are plan (e ∷ es) = at (is_note e.what) refl (notes_are plan es)
+  where
+    at : (b : Bool) → is_note e.what ≡ b → AllAre true (all_deeds plan (notes_of es)) → AllAre true (all_deeds plan (cond b (e ∷ notes_of es) (notes_of es)))
+    at true is rest = one_is plan true e (slice_get (kinds_of plan e.change) e.step) (all_deeds plan (notes_of es)) is rest
+    at false is rest = rest
+
+pub all_told_both : (plan : SavedPlan) (es fs : List Event) → all_told plan (es ++ fs) ≡ all_told plan es ++ all_told plan fs
+all_told_both plan [] fs = refl
+all_told_both plan (e ∷ es) fs = ap (λ (l : List Message). told_of plan e ++ l) (all_told_both plan es fs) ∙ sym (append_assoc (told_of plan e) (all_told plan es) (all_told plan fs))

@@ -1,5 +1,5 @@
 -- One event more: the checker accepts its message, and stands where the changes stand.
-use Rattle.std.proofs.Common.{◌≡◌, ◌≢◌, ℕ, ◌+◌, ◌<◌, List, ◌∷◌, length, Bool, true, false, cond, Option, Some, None, Ok, refl, sym, ap, ◌∙◌, subst, ◌⊎◌, ⊎_elim, bytes_eq, is_some}
+use Rattle.std.proofs.Common.{◌≡◌, ◌≢◌, ℕ, ◌+◌, ◌<◌, List, ◌∷◌, length, Bool, true, false, cond, Option, Some, None, Ok, refl, sym, ap, ◌∙◌, subst, ◌⊎◌, ⊎_elim, bytes_eq, is_some, arith}
 use Rattle.std.specs.List.{list_any}
 use Rattle.std.proofs.lemmas.Bool.{both_ways, cases_Bool, cases_eq}
 use Rattle.std.proofs.lemmas.Option.{cond_some}
@@ -29,10 +29,9 @@ pub record Agrees (limit : ℕ) (addresses : ℕ → List ℕ) (Within : List �
   pub begun : IsBegun ms
   pub unsummed : list_any is_summary ms ≡ false
 
--- two changes of one address both do a thing only if it is a delete, and what is read stands alone at its address
-pub record Apart (addresses : ℕ → List ℕ) (Does : ℕ → Action → Type 0) : Type 0 where
-  pub sole : (b c : ℕ) (k : Action) → addresses b ≡ addresses c → Does b k → Does c k → b ≢ c → k ≡ Delete
-  pub read : (b c : ℕ) (k : Action) → addresses b ≡ addresses c → Does b Read → Does c k → b ≡ c
+-- two changes of one address both do a thing only if it is a delete
+abbrev pub Apart : (addresses : ℕ → List ℕ) (Does : ℕ → Action → Type 0) → Type 0
+Apart addresses Does = (b c : ℕ) (k : Action) → addresses b ≡ addresses c → Does b k → Does c k → b ≢ c → k ≡ Delete
 
 -- ---- words of phases
 
@@ -170,12 +169,13 @@ module _ (limit : ℕ) (addresses : ℕ → List ℕ) (Within : List ℕ → Typ
         },
       )
 
-  pub noted : (phases : ℕ → Phase) (ms : List Message) (c : ℕ) (k : Action) (e : Bool) (q : Phase)
-      → Agrees limit addresses Within Does phases ms → c < limit → Within (addresses c) → Apart addresses Does → Does c k
+  -- a note comes where nothing is read, since it would end a read
+  pub noted : (phases : ℕ → Phase) (ms : List Message) (c : ℕ) (e : Bool) (q : Phase)
+      → Agrees limit addresses Within Does phases ms → c < limit → Within (addresses c) → ((b x : ℕ) → b < limit → phases b ≢ under_way Read x)
       → ((l : Action) → seconds_in l q ≡ None) → ((l : Action) → seconds_in l (phases c) ≡ None)
       → (e ≡ true) ⊎ (q ≡ phases c)
       → Moves phases ms c q (diagnostic e (Some (addresses c)))
-  noted phases ms c k e q agrees less within apart does after_none before_none explains =
+  noted phases ms c e q agrees less within unread after_none before_none explains =
       let a = addresses c in
       let s = standing_of a ms in
       let there : standing_of a (diagnostic e (Some a) ∷ ms) ≡ explained e s = diagnostic_there a e ms in
@@ -190,9 +190,7 @@ module _ (limit : ℕ) (addresses : ℕ → List ℕ) (Within : List ℕ → Typ
               same (shown addresses phases a Read) (shown addresses (put phases c q) a Read) 0 limit (λ b _ _. kept a Read b)
               ∙ ⊎_elim (λ none. none)
               (λ found.
-              let reads = shown_is addresses phases a Read found.0 found.1 found.3 in
-              let is : found.0 ≡ c = apart.read found.0 c k reads.0 (agrees.does found.0 found.1 Read reads.1) does in
-              absurd (let f : seconds_in Read (phases c) ≡ Some found.1 = ap (λ (x : ℕ). seconds_in Read (phases x)) (sym is) ∙ ap (seconds_in Read) reads.1 in let g : None ≡ Some found.1 = sym (before_none Read) ∙ f in cc))
+              absurd (unread found.0 found.1 (let l : found.0 < 0 + limit = found.2 in omega arith) (shown_is addresses phases a Read found.0 found.1 found.3).1))
               (none_or_some (shown addresses phases a Read) 0 limit) in
               subst (λ (m : Action). Fits limit m (shown addresses (put phases c q) a m) (pending_at m (explained e s))) (same_is Read l yes) nobody)
               (λ no.

@@ -10,7 +10,7 @@ use Rattle.apply_plan.specs.Plan.Laws.{NamesEachObjectOnce}
 use Rattle.apply_plan.specs.Plan.ResourceChange.{ResourceChange}
 use Rattle.apply_plan.specs.Plan.SavedPlan.{SavedPlan}
 use Rattle.apply_check.specs.declared.action.Action.{Action}
-use Rattle.apply_check.specs.declared.action.Action.TheVariants.{Delete, Read}
+use Rattle.apply_check.specs.declared.action.Action.TheVariants.{Delete}
 use Rattle.apply_events.specs.declared.event.Event.{Event}
 use Rattle.apply_events.specs.Step.{address_of, kinds_of}
 use Rattle.apply_agreement.specs.Plans.{IsChange, IsOrdinary}
@@ -79,33 +79,8 @@ module _ (plan : SavedPlan) (ordinary : IsOrdinary plan) where
       (cases_Bool (is_some other.0.deposed)))
       (cases_Bool (is_some one.0.deposed))
 
-  reads : (step : StepKind) → Read ≡ action_of step → step ≡ kind.Read
-  reads kind.Create e = absurd cc
-  reads kind.Update e = absurd cc
-  reads kind.Delete e = absurd cc
-  reads kind.Read e = refl
-
-  read_alone : (b c : ℕ) (k : Action) → address_of plan b ≡ address_of plan c → Does plan b Read → Does plan c k → b ≡ c
-  read_alone b c k same does also =
-      let one = found (slice_get plan.changes b) does.0 does.1 does.2 in
-      let other = found (slice_get plan.changes c) also.0 also.1 also.2 in
-      let is : does.1 ≡ kind.Read = reads does.1 does.3 in
-      ⊎_elim
-      (λ yes. absurd (let deletes : kind.Read ≡ kind.Delete = sym is ∙ deleted b does.0 does.1 one.0 one.1 one.2 yes in cc))
-      (λ first. ⊎_elim
-      (λ yes.
-      let lookup : slice_get one.0.steps does.0 ≡ Some kind.Read = one.2 ∙ ap (λ (x : StepKind). some x) is in
-      absurd (ordinary.unread c b other.0 one.0 other.1 one.1 (sym (address_is plan c other.0 other.1) ∙ sym same ∙ address_is plan b one.0 one.1) yes
-      (does.0, slice_get_within one.0.steps does.0 kind.Read lookup, get_or_from_slice_get one.0.steps does.0 kind.Read kind.Read lookup)))
-      (λ second. same_change b c one.0 other.0 one.1 other.1 same first second)
-      (cases_Bool (is_some other.0.deposed)))
-      (cases_Bool (is_some one.0.deposed))
-    where
-      some : StepKind → Option StepKind
-      some x = Some x
-
   pub apart : Apart (address_of plan) (Does plan)
-  apart = record { sole = sole; read = read_alone }
+  apart = sole
 
 -- ---- what happens is of the plan
 

@@ -21,7 +21,7 @@ use Rattle.apply_events.specs.Step.{Step, Work, kinds_of, step_of, steps_of}
 use Rattle.apply_events.specs.StepEvents.{endings, event, goes_on, halts, phase_after, started, step_events, step_time}
 use Rattle.apply_events.specs.WorkerEvents.{worker_events}
 use Rattle.apply_text.specs.Order.{as_written, hook_messages_of, notes_of}
-use Rattle.apply_agreement.proofs.Deeds.{kept_both, with_change}
+use Rattle.apply_agreement.proofs.Deeds.{with_change}
 
 -- ---- what holds of each event
 
@@ -289,8 +289,5 @@ filters_swap p q (x ∷ xs) = at (p x) (q x) refl refl (filters_swap p q xs)
     at false true e f rest = ap (λ (t : Bool). cond t (x ∷ filter p (filter q xs)) (filter p (filter q xs))) e ∙ rest
     at false false e f rest = rest
 
-pub part_written : (c : ℕ) (es : List Event) → with_change c (as_written es) ≡ as_written (with_change c es)
-part_written c es =
-    kept_both (λ e. e.change == c) (hook_messages_of es) (notes_of es)
-    ∙ ap (λ (l : List Event). l ++ with_change c (notes_of es)) (filters_swap (λ (e : Event). e.change == c) (λ e. not (is_note e.what)) es)
-    ∙ ap (λ (l : List Event). hook_messages_of (with_change c es) ++ l) (filters_swap (λ (e : Event). e.change == c) (λ e. is_note e.what) es)
+pub part_of_kept : (c : ℕ) (test : Event → Bool) (es : List Event) → with_change c (filter test es) ≡ filter test (with_change c es)
+part_of_kept c test es = filters_swap (λ (e : Event). e.change == c) test es

@@ -32,10 +32,16 @@ pub record Deed : Type 0 where
   pub action : Action
   pub what : What
 
--- it may happen to a change in that phase, one after another, and in the end the change is between two steps
-abbrev pub Follows : Phase → List Deed → Type 0
-Follows p [] = p ≡ between
-Follows p (d ∷ ds) = (q : Phase) × Turns p d.action d.what q × Follows q ds
+-- it may happen to a change in the first phase, one after another, and leaves it in the other
+abbrev pub Follows : Phase → List Deed → Phase → Type 0
+Follows p [] r = p ≡ r
+Follows p (d ∷ ds) r = (q : Phase) × Turns p d.action d.what q × Follows q ds r
+
+-- no step of the change is under way
+abbrev pub IsStill : Phase → Type 0
+IsStill between = Unit {0}
+IsStill (under_way k told) = ⊥
+IsStill unexplained = Unit {0}
 
 -- what happens to one change
 abbrev pub of_change : (c : ℕ) → List Deed → List Deed

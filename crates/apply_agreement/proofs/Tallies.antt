@@ -18,6 +18,7 @@ use Rattle.apply_check.specs.Words.{same_action}
 use Rattle.apply_events.specs.declared.event.Event.{Event}
 use Rattle.apply_events.specs.declared.what.What.{What}
 use Rattle.apply_events.specs.declared.what.What.TheVariants.{Start, Progress, Complete, Errored, ErrorNote, WarnNote, Halted}
+use Rattle.apply_events.specs.ChangeEvents.{change_events}
 use Rattle.apply_events.specs.Diagnostics.{is_note}
 use Rattle.apply_events.specs.Interleaving.{IsInterleaving}
 use Rattle.apply_events.specs.Partition.{IsPartition}
@@ -30,11 +31,11 @@ use Rattle.apply_agreement.specs.Accepted.{stream_told, totals_said, whole_strea
 use Rattle.apply_agreement.specs.Passing.{verdict_on}
 use Rattle.apply_agreement.specs.Plans.{IsOrdinary}
 use Rattle.apply_agreement.specs.Told.{action_of, all_told, told}
-use Rattle.apply_agreement.proofs.Deeds.{all_deeds, change_leads, follows, of_change_is, told_is}
+use Rattle.apply_agreement.proofs.Deeds.{all_deeds, all_told_both, change_written, follows, hooks_are, notes_are, of_change_is, told_is}
 use Rattle.apply_agreement.proofs.Ordinary.{Anywhere, Does, apart, known}
-use Rattle.apply_agreement.proofs.Parts.{Each, IsListed, all_listed, each_weaker, each_written, part_of_change, part_written}
-use Rattle.apply_agreement.proofs.Phases.{Follows, between}
-use Rattle.apply_agreement.proofs.Turning.{Runs, behind, runs, said}
+use Rattle.apply_agreement.proofs.Parts.{Each, IsListed, all_listed, each_weaker, each_written, part_of_change, part_of_kept}
+use Rattle.apply_agreement.proofs.Phases.{Deed, Follows, between, of_change}
+use Rattle.apply_agreement.proofs.Turning.{Runs, behind, both_run, said}
 use Rattle.apply_agreement.proofs.Whole.{accepted, any_behind, at_begin, counts_behind, length_behind}
 
 -- ---- totals
@@ -152,19 +153,34 @@ pub run_accepted : (work : Work) (workers : ℕ) (lists : List (List ℕ)) (even
     → IsInterleaving workers (λ worker. worker_events work worker (slice_index_or lists worker [])) events
     → verdict_on (stream_told work.plan events) ≡ Ok (whole_stream work.plan events)
 run_accepted work workers lists events ordinary dealt told_so =
-    let limit = length work.plan.changes in
-    let addresses = address_of work.plan in
-    let written = as_written events in
-    let ran : Runs limit addresses Anywhere (Does work.plan) (version ∷ []) (map (said addresses) (all_deeds work.plan written)) =
-    runs limit addresses Anywhere (Does work.plan) ordinary.few (apart work.plan ordinary) (all_deeds work.plan written) (λ c. between) (version ∷ []) (at_begin limit addresses (Does work.plan)) (known work.plan written)
+    let plan = work.plan in
+    let limit = length plan.changes in
+    let addresses = address_of plan in
+    let hooks = all_deeds plan (hook_messages_of events) in
+    let notes = all_deeds plan (notes_of events) in
+    let ran : Runs limit addresses Anywhere (Does plan) (version ∷ []) (map (said addresses) hooks ++ map (said addresses) notes) =
+    both_run limit addresses Anywhere (Does plan) ordinary.few (apart plan ordinary) hooks notes (λ c. between) (version ∷ []) (at_begin limit addresses (Does plan))
+    (known plan (hook_messages_of events)) (hooks_are plan events) (known plan (notes_of events)) (notes_are plan events)
     (λ c less.
     let part = part_of_change work workers limit lists events dealt told_so c less in
-    subst (Follows between) (sym (of_change_is work.plan c written ∙ ap (all_deeds work.plan) (part_written c events ∙ ap as_written part.2))) (follows work.plan between _ (change_leads work part.0 c part.1))) in
-    let ran_so : Runs limit addresses Anywhere (Does work.plan) (version ∷ []) (all_told work.plan written) = subst (Runs limit addresses Anywhere (Does work.plan) (version ∷ [])) (sym (told_is work.plan written)) ran in
-    let planned = each_weaker (λ e. IsListed work (get_or lists e.worker []) e) (λ e. (kind : StepKind) × (slice_get (kinds_of work.plan e.change) e.step ≡ Some kind)) (λ e is. is.planned) events (all_listed work workers limit lists events dealt told_so) in
-    let lines = all_lines work.plan written (each_written (λ e. (kind : StepKind) × (slice_get (kinds_of work.plan e.change) e.step ≡ Some kind)) events planned) in
-    accepted limit addresses (Does work.plan) (all_told work.plan written) (totals_said (events_are.totals_of work.plan events)) ran_so (totals_written work.plan events)
-    ∙ ap (λ (w : Whole). fine w) (whole_is work.plan events lines)
+    let written = change_written work part.0 c part.1 in
+    let first : of_change c hooks ≡ all_deeds plan (hook_messages_of (change_events work part.0 c part.1)) =
+    of_change_is plan c (hook_messages_of events) ∙ ap (all_deeds plan) (part_of_kept c (λ e. not (is_note e.what)) events ∙ ap hook_messages_of part.2) in
+    let second : of_change c notes ≡ all_deeds plan (notes_of (change_events work part.0 c part.1)) =
+    of_change_is plan c (notes_of events) ∙ ap (all_deeds plan) (part_of_kept c (λ e. is_note e.what) events ∙ ap notes_of part.2) in (
+      written.phase,
+      subst (λ (ds : List Deed). Follows between ds written.phase) (sym first) (follows plan between (hook_messages_of (change_events work part.0 c part.1)) written.phase written.hooks),
+      (written.still, subst (λ (ds : List Deed). Follows written.phase ds between) (sym second) (follows plan written.phase (notes_of (change_events work part.0 c part.1)) between written.notes)),
+    )) in
+    let same : map (said addresses) hooks ++ map (said addresses) notes ≡ all_told plan (as_written events) =
+    ap (λ (l : List Message). l ++ map (said addresses) notes) (sym (told_is plan (hook_messages_of events)))
+    ∙ ap (λ (l : List Message). all_told plan (hook_messages_of events) ++ l) (sym (told_is plan (notes_of events)))
+    ∙ sym (all_told_both plan (hook_messages_of events) (notes_of events)) in
+    let ran_so : Runs limit addresses Anywhere (Does plan) (version ∷ []) (all_told plan (as_written events)) = subst (Runs limit addresses Anywhere (Does plan) (version ∷ [])) same ran in
+    let planned = each_weaker (λ e. IsListed work (get_or lists e.worker []) e) (λ e. (kind : StepKind) × (slice_get (kinds_of plan e.change) e.step ≡ Some kind)) (λ e is. is.planned) events (all_listed work workers limit lists events dealt told_so) in
+    let lines = all_lines plan (as_written events) (each_written (λ e. (kind : StepKind) × (slice_get (kinds_of plan e.change) e.step ≡ Some kind)) events planned) in
+    accepted limit addresses (Does plan) (all_told plan (as_written events)) (totals_said (events_are.totals_of plan events)) ran_so (totals_written plan events)
+    ∙ ap (λ (w : Whole). fine w) (whole_is plan events lines)
   where
     fine : Whole → Result Whole Fault
     fine w = Ok w

@@ -1,22 +1,24 @@
 -- What may happen to a change is accepted, whatever the other changes have under way.
-use Rattle.std.proofs.Common.{◌≡◌, ◌≢◌, ℕ, ◌+◌, ◌<◌, ◌≤◌, List, [], ◌∷◌, length, map, Bool, true, false, cond, Some, None, Result, Ok, refl, sym, ap, ◌∙◌, subst, ◌⊎◌, inl, inr, ⊎_elim, eq-eqb, ne_eqb}
+use Rattle.std.proofs.Common.{◌++◌, ◌≡◌, ◌≢◌, ℕ, ◌+◌, ◌<◌, ◌≤◌, List, [], ◌∷◌, length, map, Bool, true, false, cond, Some, None, Result, Ok, refl, sym, ap, ◌∙◌, subst, ◌⊎◌, inl, inr, ⊎_elim, eq-eqb, ne_eqb, Err}
 use Rattle.std.proofs.lemmas.Bool.{cases_eq}
 use Rattle.apply_check.specs.declared.action.Action.{Action}
-use Rattle.apply_check.specs.declared.action.Action.TheVariants.{Delete}
+use Rattle.apply_check.specs.declared.action.Action.TheVariants.{Delete, Read}
 use Rattle.apply_check.specs.declared.fault.Fault.{Fault}
 use Rattle.apply_check.specs.declared.what.What.TheVariants as heard
 use Rattle.apply_check.specs.Course.{max_overlap}
+use Rattle.apply_check.specs.Lines.{next}
 use Rattle.apply_check.specs.Message.{Message, step, diagnostic}
 use Rattle.apply_check.specs.Results.{◌>>=◌}
 use Rattle.apply_check.specs.Standing.{pending_at, standing_of}
 use Rattle.apply_events.specs.declared.what.What.{What}
 use Rattle.apply_events.specs.declared.what.What.TheVariants.{Start, Progress, Complete, Errored, ErrorNote, WarnNote, Halted}
+use Rattle.apply_events.specs.Diagnostics.{is_note}
 use Rattle.apply_agreement.specs.Passing.{with_all}
 use Rattle.apply_agreement.specs.Told.{told}
 use Rattle.apply_agreement.proofs.Counting.{counted, none_or_some}
 use Rattle.apply_agreement.proofs.Fitting.{begins, ends, tells}
 use Rattle.apply_agreement.proofs.Moves.{Agrees, Apart, Moves, noted, not_running, running, shown_here, shown_is, stepped}
-use Rattle.apply_agreement.proofs.Phases.{Deed, Follows, Phase, between, under_way, unexplained, Turns, of_change, put, put_elsewhere, put_here, seconds_in, shown, shown_same}
+use Rattle.apply_agreement.proofs.Phases.{Deed, Follows, IsStill, Phase, between, under_way, unexplained, Turns, of_change, put, put_elsewhere, put_here, seconds_in, shown, shown_same}
 
 -- the message of what happens to a change
 abbrev pub said : (ℕ → List ℕ) → Deed → Message
@@ -26,6 +28,27 @@ said addresses d = told (addresses d.change) d.action d.what
 abbrev pub behind : List Message → List Message → List Message
 behind earlier [] = earlier
 behind earlier (m ∷ ms) = behind (m ∷ earlier) ms
+
+pub joined : (ms later xs ys : List Message) → with_all ms xs ≡ Ok later → with_all ms (xs ++ ys) ≡ with_all later ys
+joined ms later [] ys e = ap (λ (l : List Message). with_all l ys) (same e)
+  where
+    same : (let r : Result (List Message) Fault = Ok ms in r) ≡ Ok later → ms ≡ later
+    same e = cc
+joined ms later (x ∷ xs) ys e = first (next ms x) (λ now. joined now later xs ys) e
+  where
+    first : (r : Result (List Message) Fault) → ((now : List Message) → with_all now xs ≡ Ok later → with_all now (xs ++ ys) ≡ with_all later ys)
+        → (r >>= λ now. with_all now xs) ≡ Ok later → (r >>= λ now. with_all now (xs ++ ys)) ≡ with_all later ys
+    first (Ok now) rest e = rest now e
+    first (Err fault) rest e = absurd cc
+
+behind_both : (ms xs ys : List Message) → behind (behind ms xs) ys ≡ behind ms (xs ++ ys)
+behind_both ms [] ys = refl
+behind_both ms (x ∷ xs) ys = behind_both (x ∷ ms) xs ys
+
+-- all of it is told by diagnostics, or none
+abbrev pub AllAre : Bool → List Deed → Type 0
+AllAre b [] = Unit {0}
+AllAre b (d ∷ ds) = (is_note d.what ≡ b) × AllAre b ds
 
 abbrev acts_as : Action → Phase → Action
 acts_as k between = k
@@ -68,7 +91,7 @@ module _ (limit : ℕ) (addresses : ℕ → List ℕ) (Within : List ℕ → Typ
         (λ none. inr none)
         (λ found.
         let does_too = shown_is addresses phases (addresses c) k found.0 found.1 found.3 in
-        inl (apart.sole found.0 c k does_too.0 (agrees.does found.0 found.1 k does_too.1) does
+        inl (apart found.0 c k does_too.0 (agrees.does found.0 found.1 k does_too.1) does
         (λ same. absurd (let f : between ≡ under_way k found.1 = sym is ∙ ap phases (sym same) ∙ does_too.1 in cc))))
         (none_or_some (shown addresses phases (addresses c) k) 0 limit)
 
@@ -108,55 +131,118 @@ module _ (limit : ℕ) (addresses : ℕ → List ℕ) (Within : List ℕ → Typ
         (λ u l e. absurd cc)
         (inr refl)
 
-    tells_error : (p : Phase) → phases c ≡ p → ((l : Action) → seconds_in l p ≡ None) → Goes between (diagnostic true (Some (addresses c)))
-    tells_error p is none =
-        noted limit addresses Within Does phases ms c k true between agrees less within apart does (λ l. refl) (λ l. ap (seconds_in l) is ∙ none l) (inl refl)
+    -- nothing is under way
+    module _ (still : (b : ℕ) → b < limit → IsStill (phases b)) where
+      no_reads : (b x : ℕ) → b < limit → phases b ≢ under_way Read x
+      no_reads b x l e = subst IsStill e (still b l)
 
-    tells_warning : (p : Phase) → phases c ≡ p → ((l : Action) → seconds_in l p ≡ None) → Goes p (diagnostic false (Some (addresses c)))
-    tells_warning p is none =
-        noted limit addresses Within Does phases ms c k false p agrees less within apart does none (λ l. ap (seconds_in l) is ∙ none l) (inr (sym is))
+      tells_error : (p : Phase) → phases c ≡ p → ((l : Action) → seconds_in l p ≡ None) → Goes between (diagnostic true (Some (addresses c)))
+      tells_error p is none =
+          noted limit addresses Within Does phases ms c true between agrees less within no_reads (λ l. refl) (λ l. ap (seconds_in l) is ∙ none l) (inl refl)
 
-    pub turned : (p : Phase) (what : What) (q : Phase) → phases c ≡ p → Turns p k what q → Goes q (told (addresses c) k what)
-    turned between Start q is turn = subst (λ (x : Phase). Goes x (step (addresses c) k heard.Start)) (sym turn) (starts is)
-    turned between ErrorNote q is turn = subst (λ (x : Phase). Goes x (diagnostic true (Some (addresses c)))) (sym turn) (tells_error between is (λ l. refl))
-    turned between WarnNote q is turn = subst (λ (x : Phase). Goes x (diagnostic false (Some (addresses c)))) (sym turn) (tells_warning between is (λ l. refl))
-    turned between (Halted phase hook) q is turn = subst (λ (x : Phase). Goes x (diagnostic true (Some (addresses c)))) (sym turn) (tells_error between is (λ l. refl))
-    turned between (Progress s) q is turn = absurd turn
-    turned between (Complete s) q is turn = absurd turn
-    turned between (Errored s) q is turn = absurd turn
-    turned (under_way l t) (Progress s) q is turn =
+      tells_warning : (p : Phase) → phases c ≡ p → ((l : Action) → seconds_in l p ≡ None) → Goes p (diagnostic false (Some (addresses c)))
+      tells_warning p is none =
+          noted limit addresses Within Does phases ms c false p agrees less within no_reads none (λ l. ap (seconds_in l) is ∙ none l) (inr (sym is))
+
+      pub note_turns : (p : Phase) (what : What) (q : Phase) → is_note what ≡ true → phases c ≡ p → Turns p k what q → Goes q (told (addresses c) k what) × IsStill q
+      note_turns between ErrorNote q note is turn = (subst (λ (x : Phase). Goes x (diagnostic true (Some (addresses c)))) (sym turn) (tells_error between is (λ l. refl)), subst IsStill (sym turn) tt)
+      note_turns between WarnNote q note is turn = (subst (λ (x : Phase). Goes x (diagnostic false (Some (addresses c)))) (sym turn) (tells_warning between is (λ l. refl)), subst IsStill (sym turn) tt)
+      note_turns between (Halted phase hook) q note is turn = (subst (λ (x : Phase). Goes x (diagnostic true (Some (addresses c)))) (sym turn) (tells_error between is (λ l. refl)), subst IsStill (sym turn) tt)
+      note_turns unexplained ErrorNote q note is turn = (subst (λ (x : Phase). Goes x (diagnostic true (Some (addresses c)))) (sym turn) (tells_error unexplained is (λ l. refl)), subst IsStill (sym turn) tt)
+      note_turns unexplained WarnNote q note is turn = (subst (λ (x : Phase). Goes x (diagnostic false (Some (addresses c)))) (sym turn) (tells_warning unexplained is (λ l. refl)), subst IsStill (sym turn) tt)
+      note_turns unexplained (Halted phase hook) q note is turn = (subst (λ (x : Phase). Goes x (diagnostic true (Some (addresses c)))) (sym turn) (tells_error unexplained is (λ l. refl)), subst IsStill (sym turn) tt)
+      note_turns (under_way l t) what q note is turn = absurd (subst IsStill is (still c less))
+      note_turns p Start q note is turn = absurd cc
+      note_turns p (Progress s) q note is turn = absurd cc
+      note_turns p (Complete s) q note is turn = absurd cc
+      note_turns p (Errored s) q note is turn = absurd cc
+
+    pub hook_turns : (p : Phase) (what : What) (q : Phase) → is_note what ≡ false → phases c ≡ p → Turns p k what q → Goes q (told (addresses c) k what)
+    hook_turns between Start q hook is turn = subst (λ (x : Phase). Goes x (step (addresses c) k heard.Start)) (sym turn) (starts is)
+    hook_turns (under_way l t) (Progress s) q hook is turn =
         subst (λ (x : Phase). Goes x (step (addresses c) k (heard.Progress s))) (sym turn.2) (goes_on t s (is ∙ ap (λ (x : Action). under_way x t) turn.0) turn.1)
-    turned (under_way l t) (Complete s) q is turn =
+    hook_turns (under_way l t) (Complete s) q hook is turn =
         subst (λ (x : Phase). Goes x (step (addresses c) k (heard.Complete s))) (sym turn.2) (completes t s (is ∙ ap (λ (x : Action). under_way x t) turn.0) turn.1)
-    turned (under_way l t) (Errored s) q is turn =
+    hook_turns (under_way l t) (Errored s) q hook is turn =
         subst (λ (x : Phase). Goes x (step (addresses c) k (heard.Errored s))) (sym turn.2) (fails t s (is ∙ ap (λ (x : Action). under_way x t) turn.0) turn.1)
-    turned (under_way l t) Start q is turn = absurd turn
-    turned (under_way l t) ErrorNote q is turn = absurd turn
-    turned (under_way l t) WarnNote q is turn = absurd turn
-    turned (under_way l t) (Halted phase hook) q is turn = absurd turn
-    turned unexplained ErrorNote q is turn = subst (λ (x : Phase). Goes x (diagnostic true (Some (addresses c)))) (sym turn) (tells_error unexplained is (λ l. refl))
-    turned unexplained WarnNote q is turn = subst (λ (x : Phase). Goes x (diagnostic false (Some (addresses c)))) (sym turn) (tells_warning unexplained is (λ l. refl))
-    turned unexplained (Halted phase hook) q is turn = subst (λ (x : Phase). Goes x (diagnostic true (Some (addresses c)))) (sym turn) (tells_error unexplained is (λ l. refl))
-    turned unexplained Start q is turn = absurd turn
-    turned unexplained (Progress s) q is turn = absurd turn
-    turned unexplained (Complete s) q is turn = absurd turn
-    turned unexplained (Errored s) q is turn = absurd turn
+    hook_turns between (Progress s) q hook is turn = absurd turn
+    hook_turns between (Complete s) q hook is turn = absurd turn
+    hook_turns between (Errored s) q hook is turn = absurd turn
+    hook_turns (under_way l t) Start q hook is turn = absurd turn
+    hook_turns unexplained Start q hook is turn = absurd turn
+    hook_turns unexplained (Progress s) q hook is turn = absurd turn
+    hook_turns unexplained (Complete s) q hook is turn = absurd turn
+    hook_turns unexplained (Errored s) q hook is turn = absurd turn
+    hook_turns p ErrorNote q hook is turn = absurd cc
+    hook_turns p WarnNote q hook is turn = absurd cc
+    hook_turns p (Halted phase hook_number) q hook is turn = absurd cc
 
   -- ---- all that happens
 
-  pub runs : (ds : List Deed) (phases : ℕ → Phase) (ms : List Message) → Agrees limit addresses Within Does phases ms → AllKnown limit addresses Within Does ds
-      → ((c : ℕ) → c < limit → Follows (phases c) (of_change c ds)) → Runs limit addresses Within Does ms (map (said addresses) ds)
-  runs [] phases ms agrees known follows = (refl, (phases, agrees, follows))
-  runs (d ∷ ds) phases ms agrees known follows =
+  -- what is so of each change after all
+  abbrev Courses : (After : ℕ → Phase → Type 0) → (ℕ → Phase) → List Deed → Type 0
+  Courses After phases ds = (c : ℕ) → c < limit → (q : Phase) × Follows (phases c) (of_change c ds) q × After c q
+
+  -- the first that happens, and the courses behind it
+  first_follows : (After : ℕ → Phase → Type 0) (phases : ℕ → Phase) (d : Deed) (ds : List Deed) → Courses After phases (d ∷ ds) → (less : d.change < limit)
+      → (r : Phase) × Turns (phases d.change) d.action d.what r × Courses After (put phases d.change r) ds
+  first_follows After phases d ds courses less =
+      let mine = courses d.change less in
       let first : of_change d.change (d ∷ ds) ≡ d ∷ of_change d.change ds = ap (λ (b : Bool). cond b (d ∷ of_change d.change ds) (of_change d.change ds)) (eq-eqb d.change d.change refl) in
-      let follow : Follows (phases d.change) (d ∷ of_change d.change ds) = subst (Follows (phases d.change)) first (follows d.change known.0.0) in
-      let here = turned phases ms d.change d.action agrees known.0.0 known.0.1 known.0.2 (phases d.change) d.what follow.0 refl follow.1 in
-      let rest = runs ds (put phases d.change follow.0) (said addresses d ∷ ms) here.1 known.1
-      (λ c less. ⊎_elim
-      (λ (same : c ≡ d.change).
-      subst (λ (x : ℕ). Follows (put phases d.change follow.0 x) (of_change x ds)) (sym same) (subst (λ (p : Phase). Follows p (of_change d.change ds)) (sym (put_here phases d.change follow.0)) follow.2))
-      (λ (elsewhere : c ≢ d.change).
-      let later : of_change c (d ∷ ds) ≡ of_change c ds = ap (λ (b : Bool). cond b (d ∷ of_change c ds) (of_change c ds)) (ne_eqb d.change c (λ e. elsewhere (sym e))) in
-      subst (λ (p : Phase). Follows p (of_change c ds)) (sym (put_elsewhere phases d.change follow.0 c elsewhere)) (subst (Follows (phases c)) later (follows c less)))
-      (cases_eq c d.change)) in
-      (ap (λ (r : Result (List Message) Fault). r >>= λ later. with_all later (map (said addresses) ds)) here.0 ∙ rest.0, rest.1)
+      let follow : Follows (phases d.change) (d ∷ of_change d.change ds) mine.0 = subst (λ (l : List Deed). Follows (phases d.change) l mine.0) first mine.1 in (
+        follow.0,
+        follow.1,
+        λ c l. ⊎_elim
+            (λ (same : c ≡ d.change).
+            subst (λ (x : ℕ). (q : Phase) × Follows (put phases d.change follow.0 x) (of_change x ds) q × After x q) (sym same)
+            (mine.0, subst (λ (p : Phase). Follows p (of_change d.change ds) mine.0) (sym (put_here phases d.change follow.0)) follow.2, mine.2))
+            (λ (elsewhere : c ≢ d.change).
+            let later : of_change c (d ∷ ds) ≡ of_change c ds = ap (λ (b : Bool). cond b (d ∷ of_change c ds) (of_change c ds)) (ne_eqb d.change c (λ e. elsewhere (sym e))) in
+            let its = courses c l in
+            (its.0, subst (λ (p : Phase). Follows p (of_change c ds) its.0) (sym (put_elsewhere phases d.change follow.0 c elsewhere)) (subst (λ (x : List Deed). Follows (phases c) x its.0) later its.1), its.2))
+            (cases_eq c d.change),
+      )
+
+  -- the messages are accepted, and the courses are run
+  abbrev Ran : (After : ℕ → Phase → Type 0) → List Message → List Message → Type 0
+  Ran After ms more = (with_all ms more ≡ Ok (behind ms more)) × ((phases : ℕ → Phase) × Agrees limit addresses Within Does phases (behind ms more) × ((c : ℕ) → c < limit → After c (phases c)))
+
+  one_more : (After : ℕ → Phase → Type 0) (ms : List Message) (m : Message) (more : List Message) → next ms m ≡ Ok (m ∷ ms) → Ran After (m ∷ ms) more → Ran After ms (m ∷ more)
+  one_more After ms m more e rest = (ap (λ (r : Result (List Message) Fault). r >>= λ later. with_all later more) e ∙ rest.0, rest.1)
+
+  none_more : (After : ℕ → Phase → Type 0) (phases : ℕ → Phase) (ms : List Message) → Agrees limit addresses Within Does phases ms → Courses After phases [] → Ran After ms []
+  none_more After phases ms agrees courses = (refl, (phases, agrees, λ c l. let its = courses c l in subst (After c) (sym its.1) its.2))
+
+  pub hooks_run : (After : ℕ → Phase → Type 0) (ds : List Deed) (phases : ℕ → Phase) (ms : List Message) → Agrees limit addresses Within Does phases ms → AllKnown limit addresses Within Does ds → AllAre false ds
+      → Courses After phases ds → Ran After ms (map (said addresses) ds)
+  hooks_run After [] phases ms agrees known hooks courses = none_more After phases ms agrees courses
+  hooks_run After (d ∷ ds) phases ms agrees known hooks courses =
+      let first = first_follows After phases d ds courses known.0.0 in
+      let here = hook_turns phases ms d.change d.action agrees known.0.0 known.0.1 known.0.2 (phases d.change) d.what first.0 hooks.0 refl first.1 in
+      one_more After ms (said addresses d) (map (said addresses) ds) here.0 (hooks_run After ds (put phases d.change first.0) (said addresses d ∷ ms) here.1 known.1 hooks.1 first.2)
+
+  pub notes_run : (After : ℕ → Phase → Type 0) (ds : List Deed) (phases : ℕ → Phase) (ms : List Message) → Agrees limit addresses Within Does phases ms → AllKnown limit addresses Within Does ds → AllAre true ds
+      → ((b : ℕ) → b < limit → IsStill (phases b)) → Courses After phases ds → Ran After ms (map (said addresses) ds)
+  notes_run After [] phases ms agrees known notes still courses = none_more After phases ms agrees courses
+  notes_run After (d ∷ ds) phases ms agrees known notes still courses =
+      let first = first_follows After phases d ds courses known.0.0 in
+      let here = note_turns phases ms d.change d.action agrees known.0.0 known.0.1 known.0.2 still (phases d.change) d.what first.0 notes.0 refl first.1 in
+      let still_then : (b : ℕ) → b < limit → IsStill (put phases d.change first.0 b) = λ b l. ⊎_elim
+      (λ (same : b ≡ d.change). subst IsStill (sym (ap (put phases d.change first.0) same ∙ put_here phases d.change first.0)) here.1)
+      (λ (elsewhere : b ≢ d.change). subst IsStill (sym (put_elsewhere phases d.change first.0 b elsewhere)) (still b l))
+      (cases_eq b d.change) in
+      one_more After ms (said addresses d) (map (said addresses) ds) here.0.0 (notes_run After ds (put phases d.change first.0) (said addresses d ∷ ms) here.0.1 known.1 notes.1 still_then first.2)
+
+  pub both_run : (hs ns : List Deed) (phases : ℕ → Phase) (ms : List Message) → Agrees limit addresses Within Does phases ms → AllKnown limit addresses Within Does hs → AllAre false hs → AllKnown limit addresses Within Does ns → AllAre true ns
+      → ((c : ℕ) → c < limit → (q : Phase) × Follows (phases c) (of_change c hs) q × (IsStill q × Follows q (of_change c ns) between))
+      → Runs limit addresses Within Does ms (map (said addresses) hs ++ map (said addresses) ns)
+  both_run hs ns phases ms agrees known hooks known_too notes courses =
+      let front = hooks_run (λ c q. IsStill q × Follows q (of_change c ns) between) hs phases ms agrees known hooks courses in
+      let back = notes_run (λ c q. q ≡ between) ns front.1.0 (behind ms (map (said addresses) hs)) front.1.1 known_too notes (λ c l. (front.1.2 c l).0) (λ c l. (between, (front.1.2 c l).1, refl)) in
+      let same : behind (behind ms (map (said addresses) hs)) (map (said addresses) ns) ≡ behind ms (map (said addresses) hs ++ map (said addresses) ns) = behind_both ms (map (said addresses) hs) (map (said addresses) ns) in (
+        joined ms (behind ms (map (said addresses) hs)) (map (said addresses) hs) (map (said addresses) ns) front.0 ∙ back.0 ∙ ap (λ (l : List Message). fine l) same,
+        (back.1.0, subst (λ (l : List Message). Agrees limit addresses Within Does back.1.0 l) same back.1.1, back.1.2),
+      )
+    where
+      fine : List Message → Result (List Message) Fault
+      fine l = Ok l

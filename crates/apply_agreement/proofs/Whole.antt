@@ -1,5 +1,5 @@
 -- The whole stream: the version, what happens, and the summary.
-use Rattle.std.proofs.Common.{◌≡◌, ℕ, ◌+◌, ◌<◌, List, [], ◌∷◌, ◌++◌, length, Bool, true, false, cond, not, Option, Some, None, Result, Ok, Err, refl, sym, ap, ◌∙◌, ⊎_elim, is_some, count_by, arith, eq-eqb}
+use Rattle.std.proofs.Common.{◌≡◌, ℕ, ◌+◌, ◌<◌, List, [], ◌∷◌, ◌++◌, length, Bool, true, false, cond, not, Option, Some, None, Result, Ok, refl, sym, ap, ◌∙◌, ⊎_elim, is_some, count_by, arith, eq-eqb}
 use Rattle.std.specs.Prelude.{◌||◌}
 use Rattle.std.specs.List.{list_any}
 use Rattle.std.specs.Option.{option_map_or}
@@ -20,7 +20,7 @@ use Rattle.apply_agreement.proofs.Moves.{Agrees, shown_is}
 use Rattle.apply_agreement.proofs.Ordinary.{Anywhere}
 use Rattle.apply_agreement.proofs.Phases.{Phase, between, under_way, unexplained, shown}
 use Rattle.apply_agreement.proofs.Standings.{IsBegun}
-use Rattle.apply_agreement.proofs.Turning.{Runs, behind}
+use Rattle.apply_agreement.proofs.Turning.{Runs, behind, joined}
 
 -- ---- the begin
 
@@ -98,18 +98,6 @@ whole_end t ms idle =
     rw closed refl
 
 -- ---- all messages
-
-joined : (ms later xs ys : List Message) → with_all ms xs ≡ Ok later → with_all ms (xs ++ ys) ≡ with_all later ys
-joined ms later [] ys e = ap (λ (l : List Message). with_all l ys) (same e)
-  where
-    same : (let r : Result (List Message) Fault = Ok ms in r) ≡ Ok later → ms ≡ later
-    same e = cc
-joined ms later (x ∷ xs) ys e = first (next ms x) (λ now. joined now later xs ys) e
-  where
-    first : (r : Result (List Message) Fault) → ((now : List Message) → with_all now xs ≡ Ok later → with_all now (xs ++ ys) ≡ with_all later ys)
-        → (r >>= λ now. with_all now xs) ≡ Ok later → (r >>= λ now. with_all now (xs ++ ys)) ≡ with_all later ys
-    first (Ok now) rest e = rest now e
-    first (Err fault) rest e = absurd cc
 
 pub accepted : (limit : ℕ) (addresses : ℕ → List ℕ) (Does : ℕ → Action → Type 0) (ms : List Message) (t : Totals) → Runs limit addresses Anywhere Does (version ∷ []) ms → t ≡ totals_of (behind (version ∷ []) ms)
     → verdict_on (version ∷ (ms ++ summary t ∷ [])) ≡ Ok (whole_of (summary t ∷ behind (version ∷ []) ms))
