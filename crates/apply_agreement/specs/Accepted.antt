@@ -18,7 +18,8 @@ totals_said counts = record { added = counts.added; changed = counts.changed; re
 
 -- what the stream of events that were taken tells: the version, the events as they are written, the summary
 abbrev pub stream_told : SavedPlan → (taken : List Event) → List Message
-stream_told plan taken = version ∷ (all_told plan (as_written taken) ++ summary (totals_said (totals_of plan taken)) ∷ [])
+stream_told plan taken =
+    version ∷ (all_told plan (as_written taken) ++ summary (totals_said (totals_of plan taken)) ∷ [])
 
 -- the stream is whole: the totals are the events', and the lines are theirs, the version's and the summary's
 abbrev pub whole_stream : SavedPlan → (taken : List Event) → Whole

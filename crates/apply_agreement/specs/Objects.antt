@@ -16,24 +16,33 @@ use Rattle.apply_text.specs.Order.{as_written}
 
 -- the object of a message, so many seconds after the start of 1970
 abbrev pub object_of : (seconds : ℕ) → Message → Data
-object_of seconds message = message_object message.level message.text (moment_text seconds) (typed message.name message.body message.type_name)
+object_of seconds message =
+    message_object message.level message.text (moment_text seconds)
+    (typed message.name message.body message.type_name)
 
 abbrev pub version_object : SavedPlan → (start : ℕ) → Data
-version_object plan start = message_object (codes "info") (codes "Terraform " ++ plan.version) (moment_text start) (version_members plan.version)
+version_object plan start =
+    message_object (codes "info") (codes "Terraform " ++ plan.version) (moment_text start)
+    (version_members plan.version)
 
 -- that of an event; none where the plan has no such step
 abbrev pub objects_of : SavedPlan → Outcomes → (seconds : ℕ) → Event → List Data
 objects_of plan script seconds event =
     option_map_or (λ change.
-    option_map_or (λ step. object_of seconds (event_message change step (outcome_of script event.change event.step).result event.what) ∷ []) (slice_get change.steps event.step) []) (slice_get plan.changes event.change) []
+    option_map_or (λ step.
+    object_of seconds (event_message change step (outcome_of script event.change event.step).result event.what) ∷ [])
+    (slice_get change.steps event.step) []) (slice_get plan.changes event.change) []
 
 -- those of events, at the latest moment up to each
 abbrev pub event_objects : SavedPlan → Outcomes → (start : ℕ) → List Event → List Data
-event_objects plan script start events = flat_map (λ p. objects_of plan script (start + latest_of events (p.0 + 1)) p.1) (enumerate_from 0 events)
+event_objects plan script start events =
+    flat_map (λ p. objects_of plan script (start + latest_of events (p.0 + 1)) p.1) (enumerate_from 0 events)
 
--- all objects of the stream of events that were taken: the version, the events as they are written, the summary
+-- all objects of the stream of events that were taken: the version, the events as they are written, and the summary at
+-- the latest moment
 abbrev pub stream_objects : SavedPlan → Outcomes → (start : ℕ) → Operation → (taken : List Event) → List Data
 stream_objects plan script start operation taken =
     version_object plan start
     ∷ (event_objects plan script start (as_written taken)
-    ++ object_of (start + latest_of (as_written taken) (length (as_written taken))) (summary_message operation (totals_of plan taken)) ∷ [])
+    ++ object_of (start + latest_of (as_written taken) (length (as_written taken)))
+    (summary_message operation (totals_of plan taken)) ∷ [])

@@ -33,7 +33,8 @@ told address does (Halted phase hook) = diagnostic true (Some address)
 -- what is told of an event; nothing where the plan has no such step
 abbrev pub told_of : SavedPlan → Event → List Message
 told_of plan event =
-    option_map_or (λ kind. told (address_of plan event.change) (action_of kind) event.what ∷ []) (slice_get (kinds_of plan event.change) event.step) []
+    option_map_or (λ kind. told (address_of plan event.change) (action_of kind) event.what ∷ [])
+    (slice_get (kinds_of plan event.change) event.step) []
 
 -- what is told of events, one after another
 abbrev pub all_told : SavedPlan → List Event → List Message

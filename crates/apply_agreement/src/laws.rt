@@ -1,6 +1,6 @@
 //! Laws of streams that are written here and checked there. Each function does nothing; its contract is the law.
 
-ghost use Rattle.std.specs.Prelude.{◌≡◌, ℕ, List, [], length, slice_index_or, Ok};
+ghost use Rattle.std.specs.Prelude.{◌≡◌, ◌<◌, ℕ, List, [], length, slice_index_or, Ok};
 ghost use Rattle.apply_plan.specs.declared.plan.step_kind.StepKind.{StepKind};
 ghost use Rattle.apply_plan.specs.declared.script.ending.Ending.{Ending};
 ghost use Rattle.apply_plan.specs.Plan.ResourceChange.{ResourceChange};
@@ -9,6 +9,7 @@ ghost use Rattle.apply_check.specs.Lines.{message_of_tree, verdict_of};
 ghost use Rattle.apply_events.specs.declared.event.Event.{Event};
 ghost use Rattle.apply_events.specs.declared.what.What.{What};
 ghost use Rattle.apply_events.specs.Interleaving.{IsInterleaving};
+ghost use Rattle.apply_events.specs.Lanes.TimeLine.{IsTimeLine};
 ghost use Rattle.apply_events.specs.Partition.{IsPartition};
 ghost use Rattle.apply_events.specs.Step.{Work};
 ghost use Rattle.apply_events.specs.WorkerEvents.{worker_events};
@@ -22,6 +23,7 @@ ghost use Rattle.apply_agreement.specs.Plans.{IsOrdinary};
 ghost use Rattle.apply_agreement.specs.Sound.{CanBeRead};
 ghost use Rattle.apply_agreement.specs.Told.{action_of, told};
 
+use apply_events::lanes_deal_out_the_changes;
 use apply_text::a_line_has_one_line_feed;
 
 /// The object of an event's message says to a checker what happens to which object: the address, the action and the
@@ -33,7 +35,9 @@ pub fn an_event_is_heard()
 {}
 
 /// Whatever the script and the hooks, however the changes are dealt out to workers, and in whatever order the workers'
-/// events come: a checker accepts what their messages tell between the version and the summary, and counts what they count.
+/// events come: a checker accepts what their messages tell, in the order in which they are written, between the version
+/// and the summary. Its totals are theirs. Of the plan it is asked that no object is changed twice and that a deposed
+/// object is only deleted.
 pub fn every_run_is_accepted()
     ensures { (work : Work) (workers : ℕ) (lists : List (List ℕ)) (events : List Event) → IsOrdinary work.plan
         → IsPartition workers (length work.plan.changes) lists
@@ -51,8 +55,8 @@ pub fn every_stream_of_objects_is_accepted()
         ≡ Ok (whole_stream work.plan events) }
 {}
 
-/// And so it accepts the bytes of the stream of such a run, cut at their line feeds, where no text is damaged, no number is
-/// beyond 64 bits and no line is longer than 64 MiB.
+/// And so it accepts the bytes of the stream of such a run, cut at their line feeds, where no text is damaged, no number
+/// is beyond 64 bits and no line is longer than 64 MiB.
 pub fn every_stream_is_accepted()
     ensures { (work : Work) (workers start : ℕ) (lists : List (List ℕ)) (events : List Event) (operation : Operation)
         → IsOrdinary work.plan
@@ -63,4 +67,16 @@ pub fn every_stream_is_accepted()
         ≡ Ok (whole_stream work.plan events) }
 {
     a_line_has_one_line_feed();
+}
+
+/// The same of the stream of a time line, of as many changes under way at once as there are lanes.
+pub fn every_stream_in_lanes_is_accepted()
+    ensures { (work : Work) (n start : ℕ) (events : List Event) (operation : Operation) → IsOrdinary work.plan
+        → 0 < n → IsTimeLine work n events
+        → CanBeRead (stream_objects work.plan work.script start operation events)
+        → verdict_of (lines_of (stream_of work.plan work.script start operation events))
+        ≡ Ok (whole_stream work.plan events) }
+{
+    lanes_deal_out_the_changes();
+    every_stream_is_accepted();
 }

@@ -1,10 +1,10 @@
-//! What a stream says is what a checker of streams accepts: laws over the lines that `apply_text` defines and the verdict
-//! that `apply_check` defines. Nothing here runs.
+//! What a run writes a checker of streams accepts: laws over the lines that `apply_text` defines and the verdict that
+//! `apply_check` defines. Nothing here runs.
 #![tactic(auto)]
 
 mod laws;
 
 pub use laws::{
-    an_event_is_heard, every_run_is_accepted, every_stream_is_accepted,
-    every_stream_of_objects_is_accepted,
+    an_event_is_heard, every_run_is_accepted, every_stream_in_lanes_is_accepted,
+    every_stream_is_accepted, every_stream_of_objects_is_accepted,
 };
