@@ -8,6 +8,7 @@ ghost use Rattle.apply_events.specs.Lanes.TimeLine.{IsTimeLine};
 ghost use Rattle.apply_events.specs.Step.{Work};
 ghost use Rattle.apply_events.specs.WorkerEvents.{worker_events};
 ghost use Rattle.apply_text.specs.declared.operation.Operation.{Operation};
+ghost use Rattle.apply_text.specs.Order.{as_written};
 ghost use Rattle.apply_run.specs.Applied.{IsApplied};
 ghost use Rattle.apply_run.specs.declared.report.Report.{Report};
 ghost use Rattle.apply_run.specs.Lanes.{AreLanes, HasStreamedInLanes};
@@ -19,7 +20,7 @@ use apply_events::{
     an_interleaving_of_one_worker_is_its_list, lanes_deal_out_the_changes,
     moments_of_a_time_line_never_fall,
 };
-use apply_text::a_line_has_its_events_own_moment;
+use apply_text::a_hook_message_has_its_events_own_moment;
 
 /// One worker applies all changes in the plan's order, so that its run has one stream.
 pub fn one_worker_applies_all_changes_in_order()
@@ -49,13 +50,13 @@ pub fn what_lanes_stream_is_a_run_of_workers()
     a_time_line_is_applied_by_workers();
 }
 
-/// The lines of a time line have their events' own moments: a step begins at one moment, and between the lines of its
-/// start and its end lie exactly the seconds that the end tells.
+/// The lines of hooks' messages of a time line have their events' own moments: a step begins at one moment, and between
+/// the lines of its start and its end lie exactly the seconds that the end tells.
 pub fn between_the_lines_of_a_step_lie_its_seconds()
     ensures { (work : Work) (n change step : ℕ) (events : List Event) → IsTimeLine work n events
-        → HaveOneBegin change step events }
+        → HaveOneBegin change step (as_written events) }
 {
     a_step_takes_the_seconds_that_it_tells();
     moments_of_a_time_line_never_fall();
-    a_line_has_its_events_own_moment();
+    a_hook_message_has_its_events_own_moment();
 }

@@ -1,9 +1,12 @@
 -- The latest moment so far never falls, and is an event's own where moments never fall.
-use Rattle.std.proofs.Common.{◌≡◌, ℕ, zero, suc, ◌+◌, ◌<◌, ◌≤◌, List, [], ◌∷◌, ◌++◌, get_or, length, map, take, add-one, arith}
+use Rattle.std.proofs.Common.{◌≡◌, ℕ, zero, suc, ◌+◌, ◌<◌, ◌≤◌, List, [], ◌∷◌, ◌++◌, get_or, length, map, take, add-one, arith, not}
 use Rattle.std.specs.Prelude.{IfSome, max, fold, slice_get}
 use Rattle.std.specs.List.Sorted.{IsNonDecreasingBy}
+use Rattle.std.proofs.lemmas.List.Kept.{IsNonDecreasingBy-filter}
 use Rattle.apply_events.specs.declared.event.Event.{Event}
+use Rattle.apply_events.specs.Diagnostics.{is_note}
 use Rattle.apply_text.specs.Latest.{latest_of}
+use Rattle.apply_text.specs.Order.{as_written, hook_messages_of, notes_of}
 
 at_least : (a : ℕ) (moments : List ℕ) → a ≤ fold max a moments
 at_least a [] = omega arith
@@ -32,6 +35,12 @@ own_from (event ∷ events) behind a (suc i) rise first =
     (λ j k d le lt. rise (suc j) (suc k) d (omega arith) (omega arith))
     (λ d some. let next : event.at ≤ (get_or events 0 d).at = rise 0 1 d (omega arith) (omega arith) in omega arith)
 
-pub own_moment : (events behind : List Event) (i : ℕ) → IsNonDecreasingBy (λ (event : Event). event.at) events
+own_moment : (events behind : List Event) (i : ℕ) → IsNonDecreasingBy (λ (event : Event). event.at) events
     → IfSome (slice_get events i) (λ event. latest_of (events ++ behind) (i + 1) ≡ event.at)
 own_moment events behind i rise = rw (add-one i) (own_from events behind 0 i rise (λ d some. omega arith))
+
+pub own_of_hook_message : (taken : List Event) (i : ℕ) → IsNonDecreasingBy (λ (event : Event). event.at) taken
+    → IfSome (slice_get (hook_messages_of taken) i) (λ event. latest_of (as_written taken) (i + 1) ≡ event.at)
+own_of_hook_message taken i rise =
+    own_moment (hook_messages_of taken) (notes_of taken) i
+    (IsNonDecreasingBy-filter (λ (event : Event). event.at) (λ (event : Event). not (is_note event.what)) taken rise)

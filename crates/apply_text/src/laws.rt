@@ -12,17 +12,17 @@ ghost use Rattle.apply_text.specs.Elapsed.{elapsed_of};
 ghost use Rattle.apply_text.specs.Latest.{latest_of};
 ghost use Rattle.apply_text.specs.Laws.{line_feeds, tells_of_completion};
 ghost use Rattle.apply_text.specs.Lines.{line_of};
+ghost use Rattle.apply_text.specs.Order.{as_written, hook_messages_of};
 
 /// The moments of the lines of a stream never fall.
 pub fn moments_of_lines_never_fall()
     ensures { (events : List Event) (i j : ℕ) → i ≤ j → latest_of events i ≤ latest_of events j }
 {}
 
-/// Where the moments of events never fall, each of their lines has its event's own moment, whatever is written behind
-/// them.
-pub fn a_line_has_its_events_own_moment()
-    ensures { (events behind : List Event) (i : ℕ) → IsNonDecreasingBy (λ (event : Event). event.at) events
-        → IfSome (slice_get events i) (λ event. latest_of (events ++ behind) (i + 1) ≡ event.at) }
+/// Where the moments of events never fall, the line of each hook's message has its event's own moment.
+pub fn a_hook_message_has_its_events_own_moment()
+    ensures { (taken : List Event) (i : ℕ) → IsNonDecreasingBy (λ (event : Event). event.at) taken
+        → IfSome (slice_get (hook_messages_of taken) i) (λ event. latest_of (as_written taken) (i + 1) ≡ event.at) }
 {}
 
 /// Less than a minute is told in seconds alone, a whole minute of the first hour as `1m0s`, a whole hour as `1h0m0s`.
