@@ -10,8 +10,8 @@ fn add_events(rt: &impl Abort, all: &mut Vec<Event>, mut runner: Runner<'_>) -> 
     runner.ended_at()
 }
 
-/// All events: each change begins in the lane that is free first, and what it reports is made at once. In the end all is
-/// sorted by moment and lane; what a lane reports at one moment keeps its order.
+/// All events: each change begins in the lane that is free first, and what it reports is made at once. In the end all
+/// is sorted by moment and lane; what a lane reports at one moment keeps its order.
 pub(super) fn plain_events(
     rt: &impl Abort,
     alloc: Global,
