@@ -63,8 +63,8 @@ pub record WasAppliedInLanes (given : Given) (lanes start : ℕ) (operation : Op
   pub streamed : HasStreamedInLanes (record { plan = plan; script = script; hooks = given.hooks }) lanes start operation
       report before after
 
--- the plan and the script are refused as they are with any options, else the number of lanes where it is out of range; the
--- sink is as it was. Otherwise the run has ended in a fault
+-- the plan and the script are refused as they are with any options, else the number of lanes where it is out of range;
+-- the sink is as it was. Otherwise the run has ended in a fault
 abbrev pub WasRefusedInLanes : Given → (lanes start : ℕ) (operation : Operation) → Refusal → (before after : Sight) → Type 0
 WasRefusedInLanes given lanes start operation (Plan refusal) before after =
     (options : Options) → WasRefused given options (Plan refusal) before after

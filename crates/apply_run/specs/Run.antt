@@ -50,8 +50,8 @@ pub record WasNotWritten (work : Work) (options : Options) (report : Report) (be
   pub part : IsCutOff work.plan events (stream_for work options events) report
       before.bytes after.bytes (before.failed + 1) after.failed
 
--- the same, but memory was refused for a line or to keep a note, and the sink took a prefix of the lines, and no summary; no
--- write failed
+-- the same, but memory was refused for a line or to keep a note, and the sink took a prefix of the lines, and no
+-- summary; no write failed
 pub record RanOutOfMemory (work : Work) (options : Options) (report : Report) (before after : Sight) : Type 0 where
   pub lists : List (List ℕ)
   pub events : List Event
@@ -59,8 +59,8 @@ pub record RanOutOfMemory (work : Work) (options : Options) (report : Report) (b
   pub part : IsCutOff work.plan events (lines_for work options (as_written events)) report
       before.bytes after.bytes before.failed after.failed
 
--- a prefix of the events of each worker was taken, and the sink took a prefix of the lines of their hook messages, no note
--- and no summary; as many writes failed
+-- a prefix of the events of each worker was taken, and the sink took a prefix of the lines of their hook messages, no
+-- note and no summary; as many writes failed
 pub record WasCutOff (failed : ℕ) (work : Work) (options : Options) (report : Report)
     (before after : Sight) : Type 0 where
   pub lists : List (List ℕ)

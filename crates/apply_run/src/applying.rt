@@ -22,23 +22,24 @@ use std::marker::Brand;
 use std::sync::Wait;
 use std::thread::Threads;
 
-/// Applies a plan by workers in threads, with what the script says of its steps, and writes the stream of what they report:
-/// the version, hook messages as they are taken, while the workers run; then, once all have ended, diagnostics, as taken, and
-/// the summary (Machine-Readable UI). A step without an entry in the script is done after 0 seconds. The sink comes back
-/// beside every answer.
+/// Applies a plan by workers in threads, with what the script says of its steps, and writes the stream of what they
+/// report: the version, hook messages as they are taken, while the workers run; then, once all have ended, diagnostics,
+/// as taken, and the summary (Machine-Readable UI). A step without an entry in the script is done after 0 seconds. The
+/// sink comes back beside every answer.
 ///
 /// `Ok` where all of the stream was written. Otherwise `Err`, with why, and with what was done:
 ///
-/// - `Why::Bus` where an event or a close was lost between a worker and this thread: a take failed, or a send came back. No
-///   clause rules that out. Each event taken is one of the plan, so that no run ends so because of an event that does not
-///   fit.
+/// - `Why::Bus` where an event or a close was lost between a worker and this thread: a take failed, or a send came
+///   back. No clause rules that out. Each event taken is one of the plan, so that no run ends so because of an event
+///   that does not fit.
 /// - `Why::Workers` where a thread was refused: no worker has begun, and nothing was written.
-/// - `Why::Memory` where memory was refused. Before the threads: nothing was taken or written. For a line, or to keep what
-///   a diagnostic tells: all events were taken all the same, and that line and all later ones, with the summary, were not
-///   written.
+/// - `Why::Memory` where memory was refused. Before the threads: nothing was taken or written. For a line, or to keep
+///   what a diagnostic tells: all events were taken all the same, and that line and all later ones, with the summary,
+///   were not written.
 /// - `Why::Write` where the sink failed: it was written to no more. All events were taken all the same.
 ///
-/// After `Why::Bus` no diagnostic stands in the sink; after `Why::Memory` none of a step whose lines before it are missing.
+/// After `Why::Bus` no diagnostic stands in the sink; after `Why::Memory` none of a step whose lines before it are
+/// missing.
 pub fn apply_stream<'a, S: Sink + Drop, G: Gate, R: Threads + Wait + Sync>(
     rt: &R,
     alloc: Global,

@@ -15,8 +15,8 @@ use apply_events::{Event, LATEST};
 use apply_plan::Plan;
 use std::sync::Wait;
 
-/// What a collector gives back: the stream as far as it was told, with the notes that it keeps, what was taken, and whether
-/// the bus failed.
+/// What a collector gives back: the stream as far as it was told, with the notes that it keeps, what was taken, and
+/// whether the bus failed.
 #[derive(Drop)]
 pub(crate) struct Collected<'a, S: Drop> {
     pub stream: StreamWriter<'a, S>,
@@ -29,8 +29,8 @@ pub(crate) struct Collected<'a, S: Drop> {
 const MAX_LOST: u32 = 1_000;
 
 /// Writes the version line, and takes events until each worker has closed. Each event of the plan is told when it is
-/// taken: counted, and written at once unless it is a note, which the stream keeps. A take that fails is tried again, up to
-/// 1,000 times.
+/// taken: counted, and written at once unless it is a note, which the stream keeps. A take that fails is tried again,
+/// up to 1,000 times.
 pub(crate) fn collect<'a, S: Sink + Drop, R: Wait>(
     rt: &R,
     mut rx: Rx,

@@ -25,19 +25,20 @@ use std::alloc::Global;
 /// The most lanes that a plan is applied in.
 pub const MAX_LANES: u8 = 64;
 
-/// Applies a plan in 1 to 64 lanes, as `terraform apply -parallelism` has it: each change goes, in the plan's order, to the
-/// lane that is free first, at one moment to the lowest, and of what the lanes report the stream is written in the order of
-/// time, at one moment the lower lane first: the version, hook messages, then diagnostics, and the summary
-/// (Machine-Readable UI). A step without an entry in the script is done after 0 seconds. The sink comes back beside every
-/// answer.
+/// Applies a plan in 1 to 64 lanes, as `terraform apply -parallelism` has it: each change goes, in the plan's order, to
+/// the lane that is free first, at one moment to the lowest, and of what the lanes report the stream is written in the
+/// order of time, at one moment the lower lane first: the version, hook messages, then diagnostics, and the summary
+/// (Machine-Readable UI). A step without an entry in the script is done after 0 seconds. The sink comes back beside
+/// every answer.
 ///
-/// The same plan, script, hooks and number of lanes give the same bytes. No thread is started, and nothing is waited for.
+/// The same plan, script, hooks and number of lanes give the same bytes. No thread is started, and nothing is waited
+/// for.
 ///
 /// `Ok` where all of the stream was written. Otherwise `Err`, with why, and with what was done:
 ///
-/// - `Why::Memory` where memory was refused. Before the first line: nothing was told or written. For a line, or to keep what
-///   a diagnostic tells: all events were counted all the same, and that line and all later ones, with the summary, were not
-///   written.
+/// - `Why::Memory` where memory was refused. Before the first line: nothing was told or written. For a line, or to keep
+///   what a diagnostic tells: all events were counted all the same, and that line and all later ones, with the summary,
+///   were not written.
 /// - `Why::Write` where the sink failed: it was written to no more. All events were counted all the same.
 pub fn apply_in_lanes<'a, S: Sink + Drop>(
     alloc: Global,
@@ -98,12 +99,12 @@ fn are_lanes(lanes: u8) -> bool
 }
 
 /// Reads a plan (JSON Output Format, "Plan Representation") and a script of outcomes for it, and applies it as
-/// [`apply_in_lanes`](crate::apply_in_lanes) does. Without a script each step is done after 0 seconds. The sink comes back
-/// beside every answer.
+/// [`apply_in_lanes`](crate::apply_in_lanes) does. Without a script each step is done after 0 seconds. The sink comes
+/// back beside every answer.
 ///
-/// `Err` with `Refusal::Plan` where the bytes are no plan, else with `Refusal::Script` where there is a script and it is none
-/// for the plan, else with `Refusal::Size` where the lanes are not 1 to 64: then nothing was written, and the sink is as it
-/// was. `Err` with `Refusal::Fault` where the run did not end well.
+/// `Err` with `Refusal::Plan` where the bytes are no plan, else with `Refusal::Script` where there is a script and it
+/// is none for the plan, else with `Refusal::Size` where the lanes are not 1 to 64: then nothing was written, and the
+/// sink is as it was. `Err` with `Refusal::Fault` where the run did not end well.
 pub fn apply_bytes_in_lanes<S: Sink + Drop>(
     alloc: Global,
     plan: &[u8],

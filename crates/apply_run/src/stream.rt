@@ -23,8 +23,8 @@ use apply_plan::{Plan, Script};
 use apply_text::{LineBuffer, Operation, Start};
 use std::alloc::{AllocError, Global};
 
-/// Writes a stream: what its lines are made of, where they go, and what was told so far. An event is told by counting it,
-/// and by writing its line at once where it is a hook's message; notes are kept, and their lines are written last.
+/// Writes a stream: what its lines are made of, where they go, and what was told so far. An event is told by counting
+/// it, and by writing its line at once where it is a hook's message; notes are kept, and their lines are written last.
 #[derive(Drop)]
 pub(crate) struct StreamWriter<'a, S: Drop> {
     pub plan: &'a Plan,
@@ -84,7 +84,8 @@ impl<'a, S: Sink + Drop> StreamWriter<'a, S> {
         self.write_built(built);
     }
 
-    /// Counts an event of the plan. Unless the writing has stopped, its line is written, or it is kept where it is a note.
+    /// Counts an event of the plan. Unless the writing has stopped, its line is written, or it is kept where it is a
+    /// note.
     pub fn tell(&mut self, event: &Event)
         requires event { CanBeTold self.old.plan.now event.now }
         requires room { HasRoom self.old.plan.now (telling_of S.bytes S.failed self.old) }
@@ -108,11 +109,12 @@ impl<'a, S: Sink + Drop> StreamWriter<'a, S> {
         }
     }
 
-    /// Writes what comes behind the hooks' messages, unless the writing has stopped: the notes and the summary. Gives the
-    /// sink back.
+    /// Writes what comes behind the hooks' messages, unless the writing has stopped: the notes and the summary. Gives
+    /// the sink back.
     ///
-    /// `Err` with `Why::Write` where a write has failed, now or before, and with `Why::Memory` where memory was refused for
-    /// a line or to keep a note: then the sink has a prefix of the stream, and without the summary in the second case.
+    /// `Err` with `Why::Write` where a write has failed, now or before, and with `Why::Memory` where memory was refused
+    /// for a line or to keep a note: then the sink has a prefix of the stream, and without the summary in the second
+    /// case.
     pub fn end(mut self, operation: Operation) -> (S, Result<Report, Fault>)
         requires { HasRoom self.plan.now (telling_of S.bytes S.failed self) }
         ensures ok { IfOk result.1 (λ report. (before : Option (List ℕ)) (failures : ℕ) (events : List Event)
@@ -183,7 +185,8 @@ impl<'a, S: Sink + Drop> StreamWriter<'a, S> {
         }
     }
 
-    /// Writes the line of an event of the plan, unless the writing has stopped. A line that is not written is not built.
+    /// Writes the line of an event of the plan, unless the writing has stopped. A line that is not written is not
+    /// built.
     fn write_event(&mut self, event: &Event)
         requires event { CanBeTold self.old.plan.now event.now }
         requires room { MayWrite (telling_of S.bytes S.failed self.old) }

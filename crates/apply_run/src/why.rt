@@ -5,8 +5,8 @@ use thiserror::Error;
 /// Why a run did not end well.
 #[derive(Clone, Copy, Debug, Drop, Error, PartialEq, Eq)]
 pub enum Why {
-    /// Events were lost between the workers and the collector: a take failed, or a send came back. Nothing that is proved
-    /// rules it out.
+    /// Events were lost between the workers and the collector: a take failed, or a send came back. Nothing that is
+    /// proved rules it out.
     #[error("the event bus failed")]
     Bus,
     /// A thread was refused. No worker had begun.

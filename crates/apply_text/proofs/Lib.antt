@@ -9,3 +9,4 @@ mod LinesAdded
 mod Moments
 mod Sending
 mod Texts
+mod WrittenOrder

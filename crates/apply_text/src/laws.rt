@@ -7,6 +7,7 @@ ghost use Rattle.serde_json.specs.Data.{Data};
 ghost use Rattle.apply_plan.specs.Plan.SavedPlan.{SavedPlan};
 ghost use Rattle.apply_plan.specs.Script.Outcomes.{Outcomes};
 ghost use Rattle.apply_events.specs.declared.event.Event.{Event};
+ghost use Rattle.apply_events.specs.OfWorker.{of_worker};
 ghost use Rattle.apply_events.specs.Totals.{totals_of};
 ghost use Rattle.apply_text.specs.Elapsed.{elapsed_of};
 ghost use Rattle.apply_text.specs.Latest.{latest_of};
@@ -23,6 +24,14 @@ pub fn moments_of_lines_never_fall()
 pub fn a_hook_message_has_its_events_own_moment()
     ensures { (taken : List Event) (i : ℕ) → IsNonDecreasingBy (λ (event : Event). event.at) taken
         → IfSome (slice_get (hook_messages_of taken) i) (λ event. latest_of (as_written taken) (i + 1) ≡ event.at) }
+{}
+
+/// That diagnostics are written last leaves no event out, and adds none: totals are the same, and what is written of a
+/// worker is what would be written if it ran alone.
+pub fn the_order_of_writing_loses_nothing()
+    ensures totals { (plan : SavedPlan) (taken : List Event) → totals_of plan (as_written taken) ≡ totals_of plan taken }
+    ensures workers { (worker : ℕ) (taken : List Event)
+        → of_worker worker (as_written taken) ≡ as_written (of_worker worker taken) }
 {}
 
 /// Less than a minute is told in seconds alone, a whole minute of the first hour as `1m0s`, a whole hour as `1h0m0s`.

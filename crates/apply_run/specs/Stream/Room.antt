@@ -19,8 +19,8 @@ pub record IsWithin (n : ℕ) (counts : Counts) : Type 0 where
   pub failed : counts.failed ≤ n
   pub halted : counts.halted ≤ n
 
--- each event was counted at most once, a line is as long as a slice can be, that of each kept note of the plan is still to
--- come, and one write more may fail
+-- each event was counted at most once, a line is as long as a slice can be, that of each kept note of the plan is still
+-- to come, and one write more may fail
 pub record HasRoom (plan : SavedPlan) (telling : Telling) : Type 0 where
   pub few : telling.taken ≤ max_told
   pub counts : IsWithin telling.taken telling.counts

@@ -12,8 +12,8 @@ use Rattle.apply_run.specs.declared.stream.StreamWriter.{StreamWriter}
 use Rattle.apply_run.specs.declared.stream.output.Stop.TheVariants.{Going}
 use Rattle.apply_run.specs.Stream.Outlet.{HasWritten, Outlet, outlet_of}
 
--- what was told: on which output, how many events, what they add up to, the latest moment of a line, and the notes that are
--- kept
+-- what was told: on which output, how many events, what they add up to, the latest moment of a line, and the notes that
+-- are kept
 pub record Telling : Type 0 where
   pub outlet : Outlet
   pub counts : Counts
@@ -31,15 +31,15 @@ telling_of bytes failed stream = record {
   notes = stream.notes.items;
 }
 
--- since the sink had these bytes and so many failures, the lines of the events were written in this order, up to where the
--- writing stopped
+-- since the sink had these bytes and so many failures, the lines of the events were written in this order, up to where
+-- the writing stopped
 pub record HasLines (plan : SavedPlan) (script : Outcomes) (start : ℕ) (before : Option (List ℕ)) (failures : ℕ)
     (written : List Event) (telling : Telling) : Type 0 where
   pub lines : HasWritten before failures (lines_of plan script start written) telling.outlet
   pub latest : telling.latest ≡ latest_of written (length written)
 
--- the events, in the order in which they were taken, were counted, and the lines of their hook messages were written; their
--- notes are kept, unless the writing has stopped
+-- the events, in the order in which they were taken, were counted, and the lines of their hook messages were written;
+-- their notes are kept, unless the writing has stopped
 pub record HasTold (plan : SavedPlan) (script : Outcomes) (start : ℕ) (before : Option (List ℕ)) (failures : ℕ)
     (events : List Event) (telling : Telling) : Type 0 where
   pub written : HasLines plan script start before failures (hook_messages_of events) telling
