@@ -1,6 +1,7 @@
 pub mod Bytes
 pub mod Counting
 pub mod Deeds
+pub mod Errors
 pub mod Fitting
 pub mod Heard
 pub mod Moves

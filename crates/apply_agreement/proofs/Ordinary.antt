@@ -24,10 +24,10 @@ abbrev pub Does : SavedPlan → ℕ → Action → Type 0
 Does plan c k = (n : ℕ) × (step : StepKind) × (slice_get (kinds_of plan c) n ≡ Some step) × (k ≡ action_of step)
 
 -- the change whose step it is
-abbrev Found : Option ResourceChange → ℕ → StepKind → Type 0
+abbrev pub Found : Option ResourceChange → ℕ → StepKind → Type 0
 Found o n step = (change : ResourceChange) × (o ≡ Some change) × (slice_get change.steps n ≡ Some step)
 
-found : (o : Option ResourceChange) (n : ℕ) (step : StepKind) → slice_get (option_map_or (λ (change : ResourceChange). change.steps) o []) n ≡ Some step → Found o n step
+pub found : (o : Option ResourceChange) (n : ℕ) (step : StepKind) → slice_get (option_map_or (λ (change : ResourceChange). change.steps) o []) n ≡ Some step → Found o n step
 found None n step e = absurd cc
 found (Some change) n step e = (change, refl, e)
 

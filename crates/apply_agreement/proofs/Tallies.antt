@@ -1,8 +1,10 @@
 -- What the messages of events tell is what the events tell.
-use Rattle.std.proofs.Common.{◌≡◌, ℕ, suc, ◌+◌, List, [], ◌∷◌, ◌++◌, length, map, get_or, slice_index_or, Bool, true, false, cond, Option, Some, None, Result, Ok, refl, sym, ap, ◌∙◌, subst, slice_get, count_by, arith}
-use Rattle.std.specs.Prelude.{not, ◌&&◌}
+use Rattle.std.proofs.Common.{◌≡◌, ℕ, suc, ◌+◌, ◌<◌, List, [], ◌∷◌, ◌++◌, length, map, get_or, slice_index_or, Bool, true, false, cond, Option, Some, None, Result, Ok, refl, sym, ap, ◌∙◌, subst, slice_get, count_by, arith}
+use Rattle.std.specs.Prelude.{nat_lt, not, ◌&&◌}
+use Rattle.std.specs.List.{list_any}
 use Rattle.std.specs.Option.{option_map_or}
 use Rattle.std.proofs.lemmas.List.{length-append}
+use Rattle.std.proofs.lemmas.Option.{slice_get_within}
 use Rattle.std.proofs.lemmas.List.Filters.{length-filter_both, sum_by-filter_both}
 use Rattle.std.proofs.lemmas.List.Sums.{sum_by-append, sum_by-cons}
 use Rattle.apply_plan.specs.declared.plan.step_kind.StepKind.{StepKind}
@@ -32,7 +34,8 @@ use Rattle.apply_agreement.specs.Passing.{verdict_on}
 use Rattle.apply_agreement.specs.Plans.{IsOrdinary}
 use Rattle.apply_agreement.specs.Told.{action_of, all_told, told}
 use Rattle.apply_agreement.proofs.Deeds.{all_deeds, all_told_both, change_written, follows, hooks_are, notes_are, of_change_is, told_is}
-use Rattle.apply_agreement.proofs.Ordinary.{Anywhere, Does, apart, known}
+use Rattle.apply_agreement.proofs.Errors.{IsPlanned, errors_told}
+use Rattle.apply_agreement.proofs.Ordinary.{Anywhere, Does, apart, found, known}
 use Rattle.apply_agreement.proofs.Parts.{Each, IsListed, all_listed, each_weaker, each_written, part_of_change, part_of_kept}
 use Rattle.apply_agreement.proofs.Phases.{Deed, Follows, between, of_change}
 use Rattle.apply_agreement.proofs.Turning.{Runs, behind, both_run, said}
@@ -144,10 +147,15 @@ same_whole : {t u : Totals} {a b : Bool} {m n : ℕ} → t ≡ u → a ≡ b →
 same_whole p q r = cc
 
 whole_is : (plan : SavedPlan) (es : List Event) → length (all_told plan (as_written es)) ≡ length (as_written es)
+    → list_any is_error (all_told plan (as_written es)) ≡ nat_lt 0 ((events_are.totals_of plan es).failed + (events_are.totals_of plan es).halted)
     → whole_of (summary (totals_said (events_are.totals_of plan es)) ∷ behind (version ∷ []) (all_told plan (as_written es))) ≡ whole_stream plan es
-whole_is plan es lines =
-    same_whole (sym (totals_written plan es)) (any_behind is_error (version ∷ []) (all_told plan (as_written es)))
+whole_is plan es lines errors =
+    same_whole (sym (totals_written plan es)) (any_behind is_error (version ∷ []) (all_told plan (as_written es)) ∙ errors)
     (let all = length_behind (version ∷ []) (all_told plan (as_written es)) in let same = length_written es in let more : suc (length (behind (version ∷ []) (all_told plan (as_written es)))) ≡ length es + 2 = omega arith in more)
+
+-- an event whose step the plan has is of one of its changes
+is_within : (plan : SavedPlan) (e : Event) → IsPlanned plan e → e.change < length plan.changes
+is_within plan e is = let change = found (slice_get plan.changes e.change) e.step is.0 is.1 in slice_get_within plan.changes e.change change.0 change.1
 
 pub run_accepted : (work : Work) (workers : ℕ) (lists : List (List ℕ)) (events : List Event) → IsOrdinary work.plan → IsPartition workers (length work.plan.changes) lists
     → IsInterleaving workers (λ worker. worker_events work worker (slice_index_or lists worker [])) events
@@ -179,8 +187,9 @@ run_accepted work workers lists events ordinary dealt told_so =
     let ran_so : Runs limit addresses Anywhere (Does plan) (version ∷ []) (all_told plan (as_written events)) = subst (Runs limit addresses Anywhere (Does plan) (version ∷ [])) same ran in
     let planned = each_weaker (λ e. IsListed work (get_or lists e.worker []) e) (λ e. (kind : StepKind) × (slice_get (kinds_of plan e.change) e.step ≡ Some kind)) (λ e is. is.planned) events (all_listed work workers limit lists events dealt told_so) in
     let lines = all_lines plan (as_written events) (each_written (λ e. (kind : StepKind) × (slice_get (kinds_of plan e.change) e.step ≡ Some kind)) events planned) in
+    let errors = errors_told work limit events (each_written (IsPlanned plan) events planned) (each_weaker (IsPlanned plan) (λ e. e.change < limit) (is_within plan) events planned) (part_of_change work workers limit lists events dealt told_so) in
     accepted limit addresses (Does plan) (all_told plan (as_written events)) (totals_said (events_are.totals_of plan events)) ran_so (totals_written plan events)
-    ∙ ap (λ (w : Whole). fine w) (whole_is plan events lines)
+    ∙ ap (λ (w : Whole). fine w) (whole_is plan events lines errors)
   where
     fine : Whole → Result Whole Fault
     fine w = Ok w

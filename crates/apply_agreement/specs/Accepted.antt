@@ -1,10 +1,8 @@
 -- What a checker is to answer to the stream of some events.
-use Rattle.std.specs.Prelude.{◌+◌, List, [], ◌∷◌, ◌++◌, length}
-use Rattle.std.specs.List.{list_any}
+use Rattle.std.specs.Prelude.{◌+◌, List, [], ◌∷◌, ◌++◌, length, nat_lt}
 use Rattle.apply_plan.specs.Plan.SavedPlan.{SavedPlan}
 use Rattle.apply_check.specs.declared.totals.Totals.{Totals}
 use Rattle.apply_check.specs.declared.whole.Whole.{Whole}
-use Rattle.apply_check.specs.Lines.{is_error}
 use Rattle.apply_check.specs.Message.{Message, version, summary}
 use Rattle.apply_events.specs.declared.counts.Counts.{Counts}
 use Rattle.apply_events.specs.declared.event.Event.{Event}
@@ -21,10 +19,11 @@ abbrev pub stream_told : SavedPlan → (taken : List Event) → List Message
 stream_told plan taken =
     version ∷ (all_told plan (as_written taken) ++ summary (totals_said (totals_of plan taken)) ∷ [])
 
--- the stream is whole: the totals are the events', and the lines are theirs, the version's and the summary's
+-- the stream is whole: the totals are the events', it tells of an error where a step failed or was halted, and the lines
+-- are those of the events, the version and the summary
 abbrev pub whole_stream : SavedPlan → (taken : List Event) → Whole
 whole_stream plan taken = record {
   totals = totals_said (totals_of plan taken);
-  has_errors = list_any is_error (all_told plan (as_written taken));
+  has_errors = nat_lt 0 ((totals_of plan taken).failed + (totals_of plan taken).halted);
   lines = length taken + 2;
 }

@@ -36,7 +36,7 @@ pub fn an_event_is_heard()
 
 /// Whatever the script and the hooks, however the changes are dealt out to workers, and in whatever order the workers'
 /// events come: a checker accepts what their messages tell, in the order in which they are written, between the version
-/// and the summary. Its totals are theirs. Of the plan it is asked that no object is changed twice and that a deposed
+/// and the summary. Its totals are theirs, and it tells of an error where a step failed or was halted. Of the plan it is asked that no object is changed twice and that a deposed
 /// object is only deleted.
 pub fn every_run_is_accepted()
     ensures { (work : Work) (workers : ℕ) (lists : List (List ℕ)) (events : List Event) → IsOrdinary work.plan

@@ -1,0 +1,222 @@
+-- An error is told exactly where a step failed or was halted.
+use Rattle.std.proofs.Common.{◌≡◌, ℕ, zero, suc, ◌+◌, ◌<◌, ◌==◌, List, [], ◌∷◌, ◌++◌, map, filter, Bool, true, false, cond, not, Option, Some, None, refl, sym, ap, ◌∙◌, subst, slice_get, count_by, option_map, option_to_list, arith, eq-eqb, lt-ltb}
+use Rattle.std.specs.Prelude.{◌||◌, is_some, nat_lt}
+use Rattle.std.specs.List.{list_any}
+use Rattle.std.specs.Option.{option_map_or}
+use Rattle.std.proofs.lemmas.List.Sums.{sum_by-cons}
+use Rattle.apply_plan.specs.declared.plan.step_kind.StepKind.{StepKind}
+use Rattle.apply_plan.specs.Plan.SavedPlan.{SavedPlan}
+use Rattle.apply_hooks.specs.declared.phase.Phase as asked
+use Rattle.apply_hooks.specs.declared.phase.Phase.TheVariants.{Pre}
+use Rattle.apply_check.specs.declared.action.Action.{Action}
+use Rattle.apply_check.specs.Lines.{is_error}
+use Rattle.apply_check.specs.Message.{Message}
+use Rattle.apply_events.specs.declared.event.Event.{Event}
+use Rattle.apply_events.specs.declared.what.What.{What}
+use Rattle.apply_events.specs.declared.what.What.TheVariants.{Start, Progress, Complete, Errored, ErrorNote, WarnNote, Halted}
+use Rattle.apply_events.specs.ChangeEvents.{begun, change_events, in_turn}
+use Rattle.apply_events.specs.Diagnostics.{is_note}
+use Rattle.apply_events.specs.ProgressTimes.{progress_times}
+use Rattle.apply_events.specs.Step.{Step, Work, address_of, kinds_of, steps_of}
+use Rattle.apply_events.specs.StepEvents.{end_of, endings, event, halts, notes, phase_after, started, step_events, step_time}
+use Rattle.apply_events.specs.Totals.{is_errored, is_halted, totals_of}
+use Rattle.apply_text.specs.Order.{as_written, hook_messages_of, notes_of}
+use Rattle.apply_agreement.specs.Told.{action_of, all_told, told}
+use Rattle.apply_agreement.proofs.Deeds.{with_change}
+use Rattle.apply_agreement.proofs.Parts.{Each}
+
+abbrev pub is_error_note : What → Bool
+is_error_note Start = false
+is_error_note (Progress seconds) = false
+is_error_note (Complete seconds) = false
+is_error_note (Errored seconds) = false
+is_error_note ErrorNote = true
+is_error_note WarnNote = false
+is_error_note (Halted phase hook) = false
+
+-- ---- tests of lists
+
+or_assoc : (a b c : Bool) → (a || (b || c)) ≡ ((a || b) || c)
+or_assoc true b c = refl
+or_assoc false b c = refl
+
+or_true : (a : Bool) → (a || true) ≡ true
+or_true true = refl
+or_true false = refl
+
+or_swap : (a b c d : Bool) → ((a || b) || (c || d)) ≡ ((a || c) || (b || d))
+or_swap true b c d = refl
+or_swap false true true d = refl
+or_swap false true false d = refl
+or_swap false false c d = refl
+
+any_both : {X : Type 0} (p : X → Bool) (xs ys : List X) → list_any p (xs ++ ys) ≡ (list_any p xs || list_any p ys)
+any_both p [] ys = refl
+any_both p (x ∷ xs) ys = ap (λ (b : Bool). p x || b) (any_both p xs ys) ∙ or_assoc (p x) (list_any p xs) (list_any p ys)
+
+any_either : {X : Type 0} (p q : X → Bool) (xs : List X) → list_any (λ x. p x || q x) xs ≡ (list_any p xs || list_any q xs)
+any_either p q [] = refl
+any_either p q (x ∷ xs) = ap (λ (b : Bool). (p x || q x) || b) (any_either p q xs) ∙ or_swap (p x) (q x) (list_any p xs) (list_any q xs)
+
+any_counted : {X : Type 0} (p : X → Bool) (xs : List X) → list_any p xs ≡ nat_lt 0 (count_by p xs)
+any_counted p [] = refl
+any_counted p (x ∷ xs) = at (p x) refl (any_counted p xs)
+  where
+    at : (b : Bool) → p x ≡ b → list_any p xs ≡ nat_lt 0 (count_by p xs) → (p x || list_any p xs) ≡ nat_lt 0 (count_by p (x ∷ xs))
+    at true is rest =
+        let all = sum_by-cons (λ y. cond (p y) 1 0) x xs in
+        let one : cond {A = ℕ} (p x) 1 0 ≡ 1 = ap (λ (b : Bool). cond b 1 0) is in
+        ap (λ (b : Bool). b || list_any p xs) is ∙ sym (lt-ltb 0 (count_by p (x ∷ xs)) (omega arith))
+    at false is rest =
+        let all = sum_by-cons (λ y. cond (p y) 1 0) x xs in
+        let none : cond {A = ℕ} (p x) 1 0 ≡ 0 = ap (λ (b : Bool). cond b 1 0) is in
+        let same : count_by p xs ≡ count_by p (x ∷ xs) = omega arith in
+        ap (λ (b : Bool). b || list_any p xs) is ∙ rest ∙ ap (nat_lt 0) same
+
+any_kept : {X : Type 0} (p t : X → Bool) (xs : List X) → (list_any p (filter (λ x. not (t x)) xs) || list_any p (filter t xs)) ≡ list_any p xs
+any_kept p t [] = refl
+any_kept p t (x ∷ xs) = at (t x) (any_kept p t xs)
+  where
+    at : (b : Bool) → (list_any p (filter (λ y. not (t y)) xs) || list_any p (filter t xs)) ≡ list_any p xs
+        → (list_any p (cond (not b) (x ∷ filter (λ y. not (t y)) xs) (filter (λ y. not (t y)) xs)) || list_any p (cond b (x ∷ filter t xs) (filter t xs))) ≡ (p x || list_any p xs)
+    at true rest = swapped (list_any p (filter (λ y. not (t y)) xs)) (p x) (list_any p (filter t xs)) ∙ ap (λ (b : Bool). p x || b) rest
+      where
+        swapped : (a b c : Bool) → (a || (b || c)) ≡ (b || (a || c))
+        swapped true true c = refl
+        swapped true false c = refl
+        swapped false b c = refl
+    at false rest = sym (or_assoc (p x) (list_any p (filter (λ y. not (t y)) xs)) (list_any p (filter t xs))) ∙ ap (λ (b : Bool). p x || b) rest
+
+any_written : (p : Event → Bool) (es : List Event) → list_any p (as_written es) ≡ list_any p es
+any_written p es = any_both p (hook_messages_of es) (notes_of es) ∙ any_kept p (λ (e : Event). is_note e.what) es
+
+any_of_kept : {X : Type 0} (p t : X → Bool) (xs : List X) → list_any p (filter t xs) ≡ true → list_any p xs ≡ true
+any_of_kept p t xs e = sym (any_kept p t xs) ∙ ap (λ (b : Bool). list_any p (filter (λ x. not (t x)) xs) || b) e ∙ or_true (list_any p (filter (λ x. not (t x)) xs))
+
+-- ---- by changes
+
+found_change : (p : Event → Bool) (limit : ℕ) (es : List Event) → Each (λ e. e.change < limit) es → list_any p es ≡ true → (c : ℕ) × (c < limit) × (list_any p (with_change c es) ≡ true)
+found_change p limit [] within e = absurd cc
+found_change p limit (x ∷ es) within e = at (p x) refl (found_change p limit es within.1) e
+  where
+    at : (b : Bool) → p x ≡ b → (list_any p es ≡ true → (c : ℕ) × (c < limit) × (list_any p (with_change c es) ≡ true)) → (p x || list_any p es) ≡ true → (c : ℕ) × (c < limit) × (list_any p (with_change c (x ∷ es)) ≡ true)
+    at true is rest e = (
+      x.change,
+      within.0,
+      ap (λ (b : Bool). list_any p (cond b (x ∷ with_change x.change es) (with_change x.change es))) (eq-eqb x.change x.change refl) ∙ ap (λ (b : Bool). b || list_any p (with_change x.change es)) is,
+    )
+    at false is rest e =
+        let found = rest (sym (ap (λ (b : Bool). b || list_any p es) is) ∙ e) in
+        (found.0, found.1, either found.0 (x.change == found.0) found.2)
+      where
+        either : (c : ℕ) (b : Bool) → list_any p (with_change c es) ≡ true → list_any p (cond b (x ∷ with_change c es) (with_change c es)) ≡ true
+        either c true f = ap (λ (t : Bool). p x || t) f ∙ or_true (p x)
+        either c false f = f
+
+-- ---- a change
+
+abbrev pub Alike : (p q : Event → Bool) → List Event → Type 0
+Alike p q es = list_any p es ≡ list_any q es
+
+alike_both : (p q : Event → Bool) (es fs : List Event) → Alike p q es → Alike p q fs → Alike p q (es ++ fs)
+alike_both p q es fs one other = any_both p es fs ∙ ap (λ (b : Bool). b || list_any p fs) one ∙ ap (λ (b : Bool). list_any q es || b) other ∙ sym (any_both q es fs)
+
+abbrev noted : Event → Bool
+noted e = is_error_note e.what
+
+abbrev failed : Event → Bool
+failed e = is_errored e.what
+
+progress_alike : (f : ℕ → Event) (ps : List ℕ) → ((p : ℕ) → noted (f p) ≡ failed (f p)) → Alike noted failed (map f ps)
+progress_alike f [] same = refl
+progress_alike f (p ∷ ps) same = ap (λ (b : Bool). b || list_any noted (map f ps)) (same p) ∙ ap (λ (b : Bool). failed (f p) || b) (progress_alike f ps same)
+
+module _ (w : ℕ) (s : Step) where
+  ends_alike : (fails warns : Bool) (at end : ℕ) → Alike noted failed (map (λ what. event w s at what) (end_of fails end ∷ notes fails warns))
+  ends_alike true warns at end = refl
+  ends_alike false true at end = refl
+  ends_alike false false at end = refl
+
+  halts_alike : (phase : asked.Phase) (at : ℕ) (found : Option ℕ) → Alike noted failed (option_to_list (option_map (λ hook. event w s at (Halted phase hook)) found))
+  halts_alike phase at None = refl
+  halts_alike phase at (Some hook) = refl
+
+  step_alike : (at : ℕ) → Alike noted failed (step_events w s at)
+  step_alike at = either (s.halts Pre)
+    where
+      either : (found : Option ℕ) → Alike noted failed (cond (is_some found) (option_to_list (option_map (λ hook. event w s at (Halted Pre hook)) found)) (started w s at))
+      either (Some hook) = refl
+      either None =
+          let start = event w s at Start ∷ [] in
+          let middle = map (λ p. event w s (at + p) (Progress p)) (progress_times s.seconds) in
+          let last = map (λ what. event w s (at + s.seconds) what) (endings s) in
+          alike_both noted failed (start ++ middle ++ last) (halts w s (phase_after s.fails) (at + s.seconds))
+          (alike_both noted failed (start ++ middle) last
+          (alike_both noted failed start middle refl (progress_alike (λ p. event w s (at + p) (Progress p)) (progress_times s.seconds) (λ p. refl)))
+          (ends_alike s.fails s.warns (at + s.seconds) s.seconds))
+          (halts_alike (phase_after s.fails) (at + s.seconds) (s.halts (phase_after s.fails)))
+
+steps_alike : (w : ℕ) (steps : List Step) (at : ℕ) → Alike noted failed (in_turn (step_events w) step_time steps at)
+steps_alike w [] at = refl
+steps_alike w (s ∷ steps) at = alike_both noted failed (step_events w s at) (in_turn (step_events w) step_time steps (at + step_time s)) (step_alike w s at) (steps_alike w steps (at + step_time s))
+
+-- ---- all events
+
+same_bools : (a b : Bool) → (a ≡ true → b ≡ true) → (b ≡ true → a ≡ true) → a ≡ b
+same_bools true b f g = sym (f refl)
+same_bools false true f g = g refl
+same_bools false false f g = refl
+
+carried : (p q : Event → Bool) (limit : ℕ) (es : List Event) → Each (λ e. e.change < limit) es → ((c : ℕ) → c < limit → list_any p (with_change c es) ≡ list_any q (with_change c es)) → list_any p es ≡ true → list_any q es ≡ true
+carried p q limit es within same e =
+    let found = found_change p limit es within e in
+    any_of_kept q (λ (x : Event). x.change == found.0) es (sym (same found.0 found.1) ∙ found.2)
+
+-- each change's part is its events
+abbrev pub AreParts : Work → ℕ → List Event → Type 0
+AreParts work limit es = (c : ℕ) → c < limit → (w : ℕ) × (begin : ℕ) × (with_change c es ≡ change_events work w c begin)
+
+all_alike : (work : Work) (limit : ℕ) (es : List Event) → Each (λ e. e.change < limit) es → AreParts work limit es → Alike noted failed es
+all_alike work limit es within parts =
+    let same : (c : ℕ) → c < limit → Alike noted failed (with_change c es) = λ c less.
+    let part = parts c less in
+    subst (Alike noted failed) (sym part.2) (steps_alike part.0 (begun (steps_of work c)) part.1) in
+    same_bools (list_any noted es) (list_any failed es) (carried noted failed limit es within same) (carried failed noted limit es within (λ c less. sym (same c less)))
+
+-- ---- what is told
+
+told_error : (a : List ℕ) (k : Action) (what : What) → is_error (told a k what) ≡ (is_error_note what || is_halted what)
+told_error a k Start = refl
+told_error a k (Progress seconds) = refl
+told_error a k (Complete seconds) = refl
+told_error a k (Errored seconds) = refl
+told_error a k ErrorNote = refl
+told_error a k WarnNote = refl
+told_error a k (Halted phase hook) = refl
+
+one_told : (plan : SavedPlan) (e : Event) (ms : List Message) (kind : StepKind) → slice_get (kinds_of plan e.change) e.step ≡ Some kind
+    → list_any is_error (option_map_or (λ step. told (address_of plan e.change) (action_of step) e.what ∷ []) (slice_get (kinds_of plan e.change) e.step) [] ++ ms) ≡ ((is_error_note e.what || is_halted e.what) || list_any is_error ms)
+one_told plan e ms kind lookup =
+    ap (λ (o : Option StepKind). list_any is_error (option_map_or (λ step. told (address_of plan e.change) (action_of step) e.what ∷ []) o [] ++ ms)) lookup
+    ∙ ap (λ (b : Bool). b || list_any is_error ms) (told_error (address_of plan e.change) (action_of kind) e.what)
+
+abbrev pub IsPlanned : SavedPlan → Event → Type 0
+IsPlanned plan e = (kind : StepKind) × (slice_get (kinds_of plan e.change) e.step ≡ Some kind)
+
+any_told : (plan : SavedPlan) (es : List Event) → Each (IsPlanned plan) es → list_any is_error (all_told plan es) ≡ list_any (λ (e : Event). is_error_note e.what || is_halted e.what) es
+any_told plan [] h = refl
+any_told plan (e ∷ es) h = one_told plan e (all_told plan es) h.0.0 h.0.1 ∙ ap (λ (b : Bool). (is_error_note e.what || is_halted e.what) || b) (any_told plan es h.1)
+
+positive : (m n : ℕ) → (nat_lt 0 m || nat_lt 0 n) ≡ nat_lt 0 (m + n)
+positive zero n = ap (nat_lt 0) (let e : n ≡ 0 + n = omega arith in e)
+positive (suc m) n = ap (λ (b : Bool). b || nat_lt 0 n) (lt-ltb 0 (suc m) (omega arith)) ∙ sym (lt-ltb 0 (suc m + n) (omega arith))
+
+pub errors_told : (work : Work) (limit : ℕ) (es : List Event) → Each (IsPlanned work.plan) (as_written es) → Each (λ e. e.change < limit) es → AreParts work limit es
+    → list_any is_error (all_told work.plan (as_written es)) ≡ nat_lt 0 ((totals_of work.plan es).failed + (totals_of work.plan es).halted)
+errors_told work limit es planned within parts =
+    any_told work.plan (as_written es) planned
+    ∙ any_written (λ (e : Event). is_error_note e.what || is_halted e.what) es
+    ∙ any_either noted (λ (e : Event). is_halted e.what) es
+    ∙ ap (λ (b : Bool). b || list_any (λ (e : Event). is_halted e.what) es) (all_alike work limit es within parts ∙ any_counted failed es)
+    ∙ ap (λ (b : Bool). nat_lt 0 (count_by failed es) || b) (any_counted (λ (e : Event). is_halted e.what) es)
+    ∙ positive (count_by failed es) (count_by (λ (e : Event). is_halted e.what) es)
