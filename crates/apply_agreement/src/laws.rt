@@ -36,8 +36,8 @@ pub fn an_event_is_heard()
 
 /// Whatever the script and the hooks, however the changes are dealt out to workers, and in whatever order the workers'
 /// events come: a checker accepts what their messages tell, in the order in which they are written, between the version
-/// and the summary. Its totals are theirs, and it tells of an error where a step failed or was halted. Of the plan it is asked that no object is changed twice and that a deposed
-/// object is only deleted.
+/// and the summary. Its totals are theirs, and it tells of an error exactly where a step failed or was halted. Of the
+/// plan it is asked that no object is changed twice and that a deposed object is only deleted.
 pub fn every_run_is_accepted()
     ensures { (work : Work) (workers : ℕ) (lists : List (List ℕ)) (events : List Event) → IsOrdinary work.plan
         → IsPartition workers (length work.plan.changes) lists
@@ -55,8 +55,8 @@ pub fn every_stream_of_objects_is_accepted()
         ≡ Ok (whole_stream work.plan events) }
 {}
 
-/// And so it accepts the bytes of the stream of such a run, cut at their line feeds, where no text is damaged, no number
-/// is beyond 64 bits and no line is longer than 64 MiB.
+/// And so it accepts the bytes of the stream of such a run, cut at their line feeds, where no text is damaged, no
+/// number is beyond 64 bits and no line is longer than 64 MiB.
 pub fn every_stream_is_accepted()
     ensures { (work : Work) (workers start : ℕ) (lists : List (List ℕ)) (events : List Event) (operation : Operation)
         → IsOrdinary work.plan
@@ -71,8 +71,8 @@ pub fn every_stream_is_accepted()
 
 /// The same of the stream of a time line, of as many changes under way at once as there are lanes.
 pub fn every_stream_in_lanes_is_accepted()
-    ensures { (work : Work) (n start : ℕ) (events : List Event) (operation : Operation) → IsOrdinary work.plan
-        → 0 < n → IsTimeLine work n events
+    ensures { (work : Work) (n start : ℕ) (events : List Event) (operation : Operation)
+        → IsOrdinary work.plan → 0 < n → IsTimeLine work n events
         → CanBeRead (stream_objects work.plan work.script start operation events)
         → verdict_of (lines_of (stream_of work.plan work.script start operation events))
         ≡ Ok (whole_stream work.plan events) }
