@@ -28,4 +28,4 @@ IsSound plan begun (Busy busy) = IsOf plan busy.ahead × ((course_of busy.behind
 abbrev pub TellsNext : (before : List LaneState) → (lane : ℕ) → Option Event → (after : List LaneState) → Type 0
 TellsNext before lane result after =
     (s : LaneState) × (after ≡ set before lane s) × GivesNext (get_or before lane unused).events result s.events
-        × (s.free ≡ (get_or before lane unused).free)
+    × (s.free ≡ (get_or before lane unused).free)
