@@ -32,6 +32,12 @@ const FAILED: &str = r#"["create"] => [{"seconds":5,"failed":{"summary":"x"}}]
 ["create"] => [{"seconds":7}]
 ["create"] => [{"seconds":2}]"#;
 
+/// A provisioner runs after the first, while the third has begun.
+const PROVISIONED: &str =
+    r#"["create"] => [{"seconds":2,"provisioners":[{"provisioner":"a","seconds":3,"output":["x"]}]}]
+["create"] => [{"seconds":4}]
+["create"] => [{"seconds":1}]"#;
+
 /// Nothing takes time, and one change has no step.
 const AT_ONCE: &str = r#"["create"] => []
 ["no-op"] => []
@@ -194,6 +200,10 @@ const BESIDE_A_LONG_ONE: &str =
 const BESIDE_A_FAILURE: &str =
     "0 0 0.0 Start; 0 1 1.0 Start; 5 0 0.0 Errored(5); 5 0 0.0 ErrorNote; 5 0 2.0 Start; 7 0 2.0 Complete(2); 7 1 1.0 Complete(7);";
 
+/// A lane is free where the last provisioner of its change ends.
+const BESIDE_A_PROVISIONER: &str =
+    "0 0 0.0 Start; 0 1 1.0 Start; 2 0 0.0 ProvisionStart(0); 4 1 1.0 Complete(4); 4 1 2.0 Start; 5 0 0.0 ProvisionOutput { prov: 0, line: 0 }; 5 0 0.0 ProvisionComplete(0); 5 0 0.0 Complete(5); 5 1 2.0 Complete(1);";
+
 /// A lane that is free at once takes the next change too.
 const IN_ONE_LANE: &str =
     "0 0 0.0 Start; 0 0 0.0 Complete(0); 0 0 2.0 Start; 0 0 2.0 Complete(0); 0 0 3.0 Start; 0 0 3.0 Complete(0);";
@@ -205,6 +215,7 @@ fn changes_of_other_lengths_in_lanes(rt: HostRuntime) {
     for (changes, count, wanted) in [
         (REPLACED, 2, BESIDE_A_LONG_ONE),
         (FAILED, 2, BESIDE_A_FAILURE),
+        (PROVISIONED, 2, BESIDE_A_PROVISIONER),
         (AT_ONCE, 2, IN_ONE_LANE),
         (AT_ONCE, 64, IN_ONE_LANE),
     ] {

@@ -63,12 +63,25 @@ const STEPS: [&str; 16] = [
     r#"{"seconds":2,"warning":{"summary":"x"}}"#,
 ];
 
+/// The same of a create with provisioners.
+const WITH_PROVISIONERS: [&str; 4] = [
+    r#"{"seconds":2,"provisioners":[{"provisioner":"a","seconds":3,"output":["x","y"]}]}"#,
+    r#"{"seconds":0,"provisioners":[{"provisioner":"a","seconds":0},{"provisioner":"b","seconds":1}]}"#,
+    r#"{"seconds":5,"provisioners":[{"provisioner":"a","seconds":7},{"provisioner":"b","seconds":1}]}"#,
+    r#"{"seconds":1,"provisioners":[{"provisioner":"a","seconds":1,"failed":{"summary":"x"}}]}"#,
+];
+
 /// Up to fifteen changes, with their steps.
 fn drawn(rt: &impl Abort, alloc: Global, draws: &mut Draws) -> String {
     let mut changes = String::new(alloc);
     for _ in 0..draws.next() {
         let actions = ACTIONS[draws.next()];
-        let (first, second) = (STEPS[draws.next()], STEPS[draws.next()]);
+        let first = if actions == CREATE && draws.next() < 4 {
+            WITH_PROVISIONERS[draws.next() / 4]
+        } else {
+            STEPS[draws.next()]
+        };
+        let second = STEPS[draws.next()];
         let change = if actions == REPLACEMENT || actions == CREATES_FIRST {
             format!(in alloc; "{actions} => [{first},{second}]\n")
         } else {
