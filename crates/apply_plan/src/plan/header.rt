@@ -5,9 +5,9 @@ ghost use Rattle.std.specs.List.{starts_with};
 ghost use Rattle.serde_json.specs.View.{view, items_view};
 ghost use Rattle.apply_plan.specs.Plan.Header.{header_of};
 ghost use Rattle.apply_plan.specs.Plan.HeaderView.{header_view};
-ghost use Rattle.apply_plan.specs.Json.{items_or_empty, member_of};
+ghost use Rattle.apply_json.specs.Tree.{items_or_empty, member_of};
 
-use crate::tree::members::{member, text_member, text_member_or};
+use apply_json::members::{member, text_member, text_member_or};
 use serde_json::Value;
 
 /// The version that stands for one that a plan does not give.
