@@ -11,7 +11,7 @@ use Rattle.apply_plan.specs.declared.script.script_error.ScriptError.{ScriptErro
 use Rattle.apply_plan.specs.declared.script.script_error.ScriptError.TheVariants.{BadShape, UnknownChange, Duplicate, TooManySteps, SecondsRange}
 use Rattle.apply_plan.specs.declared.script.tree_entry.TreeEntry.{TreeEntry}
 use Rattle.apply_plan.specs.declared.script.tree_step.TreeStep.{TreeStep}
-use Rattle.apply_plan.specs.Json.{◌>>=◌}
+use Rattle.apply_json.specs.Tree.{◌>>=◌}
 use Rattle.apply_plan.specs.Plan.ResourceChange.{ResourceChange}
 use Rattle.apply_plan.specs.Script.Entry.{Entry, entry_of}
 use Rattle.apply_plan.specs.Script.NextEntry.{entry_beside}

@@ -9,7 +9,7 @@ use Rattle.serde_json.specs.View.{view, items_view}
 use Rattle.serde_json.specs.declared.value.Value.{Value}
 use Rattle.apply_plan.specs.declared.script.outcome.Outcome.{Outcome}
 use Rattle.apply_plan.specs.declared.script.tree_step.TreeStep.{TreeStep}
-use Rattle.apply_plan.specs.Json.{◌>>=◌, list_of}
+use Rattle.apply_json.specs.Tree.{◌>>=◌, list_of}
 use Rattle.apply_plan.specs.Script.Entry.{all_some, step_from}
 use Rattle.apply_plan.specs.Script.Outcome.{is_too_long, max_seconds}
 use Rattle.apply_plan.specs.Script.TreeView.{step_view}

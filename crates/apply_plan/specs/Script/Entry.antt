@@ -6,7 +6,7 @@ use Rattle.apply_plan.specs.declared.script.diag.Diag.{Diag}
 use Rattle.apply_plan.specs.declared.script.ending.Ending.{Ending}
 use Rattle.apply_plan.specs.declared.script.ending.Ending.TheVariants.{Done, Failed}
 use Rattle.apply_plan.specs.declared.script.outcome.Outcome.{Outcome}
-use Rattle.apply_plan.specs.Json.{◌>>=◌, unless_empty, list_of, member_of, text_of, text_or}
+use Rattle.apply_json.specs.Tree.{◌>>=◌, unless_empty, list_of, member_of, text_of, text_or}
 
 pub record Entry : Type 0 where
   pub address : List ℕ

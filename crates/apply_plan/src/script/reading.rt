@@ -3,7 +3,8 @@
 ghost use Rattle.std.specs.Prelude.{◌≡◌, ◌<◌, ◌≤◌, [], find, length, option_map, IfOk};
 ghost use Rattle.std.specs.List.{enumerate_from, list_any};
 ghost use Rattle.serde_json.specs.View.{view, items_view};
-ghost use Rattle.apply_plan.specs.Json.{list_of, max_bytes};
+ghost use Rattle.apply_json.specs.Tree.{list_of};
+ghost use Rattle.apply_plan.specs.Bytes.{max_bytes};
 ghost use Rattle.apply_plan.specs.Results.{Gives};
 ghost use Rattle.apply_plan.specs.Plan.SeenObjects.{is_of};
 ghost use Rattle.apply_plan.specs.Script.ChangeNumbers.{number_of};
@@ -12,6 +13,7 @@ ghost use Rattle.apply_plan.specs.Script.Outcome.{is_too_long};
 ghost use Rattle.apply_plan.specs.Script.Outcomes.{by_number, elements_of, script_of, script_of_entries, script_of_tree};
 ghost use Rattle.apply_plan.specs.Script.TreeView.{step_view};
 
+use crate::bytes::MAX_BYTES;
 use crate::plan::Plan;
 use crate::plan::object_id::ObjectId;
 use crate::script::Script;
@@ -20,8 +22,8 @@ use crate::script::script_error::ScriptError;
 use crate::script::step_outcomes::StepOutcomes;
 use crate::script::tree_entry::TreeEntry;
 use crate::script::tree_step::TreeStep;
-use crate::tree::members::member;
-use crate::tree::parsing::{JsonFault, parse};
+use apply_json::members::member;
+use apply_json::{JsonFault, parse};
 use serde_json::Value;
 use std::alloc::{AllocError, Global};
 
@@ -37,7 +39,7 @@ pub fn read_script(alloc: Global, bytes: &[u8], plan: &Plan) -> Result<Script, S
         (script_of plan.now bytes.now) }
     ensures memory { result ≡ Err ScriptError.Memory → length bytes.now ≤ max_bytes }
 {
-    match parse(alloc, bytes) {
+    match parse(alloc, bytes, MAX_BYTES) {
         Ok(tree) => script_of_value(alloc, &tree, plan),
         Err(JsonFault::TooLarge) => Err(ScriptError::TooLarge),
         Err(JsonFault::NotJson) => Err(ScriptError::NotJson),

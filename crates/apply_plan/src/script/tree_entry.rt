@@ -2,12 +2,12 @@
 
 ghost use Rattle.std.specs.Prelude.{◌≡◌, IfOk, map, option_map};
 ghost use Rattle.serde_json.specs.View.{view, items_view};
-ghost use Rattle.apply_plan.specs.Json.{list_of};
+ghost use Rattle.apply_json.specs.Tree.{list_of};
 ghost use Rattle.apply_plan.specs.Script.Entry.{all_some, entry_of, step_from};
 ghost use Rattle.apply_plan.specs.Script.TreeView.{entry_view, members_of, members_view, step_view};
 
 use crate::script::tree_step::TreeStep;
-use crate::tree::members::{member, non_empty, text_member, text_member_or};
+use apply_json::members::{member, non_empty, text_member, text_member_or};
 use serde_json::Value;
 use std::alloc::{AllocError, Global};
 

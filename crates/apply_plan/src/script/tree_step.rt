@@ -9,7 +9,7 @@ ghost use Rattle.apply_plan.specs.Script.TreeView.{step_view};
 use crate::script::outcome::MAX_SECONDS;
 use crate::script::tree_diag::TreeDiag;
 use crate::script::tree_ending::TreeEnding;
-use crate::tree::members::{member, non_empty, text_member_or};
+use apply_json::members::{member, non_empty, text_member_or};
 use serde_json::Value;
 
 /// A step that the tree holds, each of whose members obeys its rule.
