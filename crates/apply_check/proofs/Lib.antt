@@ -10,5 +10,5 @@ pub mod OneLine
 pub mod OpenSteps
 pub mod Held
 pub mod Summing
-pub mod Trees
+pub mod Trimmed
 pub mod WholeStream

@@ -11,8 +11,8 @@ use crate::action::Action;
 use crate::fault::Fault;
 use crate::finding::Finding;
 use crate::intent::Intent;
-use crate::json::members::text_member;
-use crate::json::parsing::{JsonFault, parse};
+use crate::limits::MAX_BYTES;
+use crate::line_shape::LineShape;
 use crate::message::Message;
 use crate::open_steps::OpenSteps;
 use crate::part::Part;
@@ -20,6 +20,8 @@ use crate::standing::{Standing, explained, provision_on, step_on};
 use crate::totals::{Totals, agree, counted, foretold};
 use crate::what::What;
 use crate::whole::Whole;
+use apply_json::members::text_member;
+use apply_json::{JsonFault, parse_trimmed};
 use serde_json::Value;
 use std::alloc::Global;
 
@@ -76,7 +78,7 @@ impl Checker {
         requires { lines_read self.old < 2 ^ 32 }
         ensures { Continues self.old self.new (λ messages. read_line messages text.now) result }
     {
-        match parse(alloc, text) {
+        match parse_trimmed(alloc, text, MAX_BYTES, LineShape::Line) {
             Ok(tree) => self.tree(alloc, &tree),
             Err(JsonFault::TooLarge) => Err(Fault::TooLong),
             Err(JsonFault::NotJson) => Err(Fault::NotAMessage),

@@ -4,7 +4,7 @@
 ghost use Rattle.std.specs.Prelude.{◌≡◌, ◌≢◌, ◌<◌, ◌≤◌, ◌++◌, ℕ, List, All, Some, IfErr, IfOk, IfSome, length, take, slice_get};
 ghost use Rattle.apply_check.specs.Reading.{Gives, IsNoAnswer, Shows};
 
-use crate::json::parsing::MAX_BYTES;
+use crate::limits::MAX_BYTES;
 use crate::next::Next;
 use crate::read_fault::ReadFault;
 use crate::shown::Shown;
