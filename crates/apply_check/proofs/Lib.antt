@@ -3,6 +3,7 @@ pub mod Balance
 pub mod Continuing
 pub mod Cut
 pub mod Doubling
+pub mod Feeds
 pub mod Firsts
 pub mod FromReader
 pub mod Least

@@ -21,11 +21,12 @@ use crate::totals::{Totals, agree, counted, foretold};
 use crate::what::What;
 use crate::whole::Whole;
 use apply_json::members::text_member;
-use apply_json::{JsonFault, parse_trimmed};
+use apply_json::{JsonFault, Scratch, parse_trimmed};
 use serde_json::Value;
 use std::alloc::Global;
 
-/// What is needed of the lines so far: it grows only with the number of addresses at which a step stands open.
+/// What is needed of the lines so far: it grows only with the number of addresses at which a step stands open, and with the
+/// longest line.
 #[derive(Drop)]
 pub struct Checker {
     pub(crate) lines: u64,
@@ -34,6 +35,8 @@ pub struct Checker {
     pub(crate) planned: Totals,
     pub(crate) is_summed: bool,
     pub(crate) has_failed: bool,
+    // Kept from line to line, so that reading one takes no memory of its own.
+    scratch: Scratch,
     ghost few: { lines < 2 ^ 33 },
     ghost added_few: { totals.added ≤ lines },
     ghost changed_few: { totals.changed ≤ lines },
@@ -69,6 +72,7 @@ impl Checker {
             },
             is_summed: false,
             has_failed: false,
+            scratch: Scratch::new(alloc),
         }
     }
 
@@ -78,7 +82,7 @@ impl Checker {
         requires { lines_read self.old < 2 ^ 32 }
         ensures { Continues self.old self.new (λ messages. read_line messages text.now) result }
     {
-        match parse_trimmed(alloc, text, MAX_BYTES, LineShape::Line) {
+        match parse_trimmed(alloc, &mut self.scratch, text, MAX_BYTES, LineShape::Line) {
             Ok(tree) => self.tree(alloc, &tree),
             Err(JsonFault::TooLarge) => Err(Fault::TooLong),
             Err(JsonFault::NotJson) => Err(Fault::NotAMessage),

@@ -10,6 +10,7 @@ mod read_fault;
 mod shape;
 mod trimming;
 
+pub use json::Scratch;
 pub use json_fault::JsonFault;
 pub use parsing::{parse, parse_trimmed};
 pub use shape::Shape;

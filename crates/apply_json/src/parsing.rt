@@ -9,6 +9,7 @@ use crate::json_fault::JsonFault;
 use crate::read_fault::ReadFault;
 use crate::shape::Shape;
 use crate::trimming::read_trimmed;
+use json::Scratch;
 use serde_json::Value;
 use simdutf8::basic::from_utf8;
 use std::alloc::Global;
@@ -49,9 +50,11 @@ pub fn parse(alloc: Global, bytes: &[u8], most: usize) -> Result<Value, JsonFaul
 }
 
 /// The tree that the bytes are, without what nobody looks at in a value of that shape. It takes no memory for that, which is
-/// checked as the rest is. `Err` as `parse`.
+/// checked as the rest is. `scratch` grows to the length of the bytes, and may be lent to one read after the other. `Err` as
+/// `parse`.
 pub fn parse_trimmed<S: Shape>(
     alloc: Global,
+    scratch: &mut Scratch,
     bytes: &[u8],
     most: usize,
     shape: S,
@@ -62,7 +65,7 @@ pub fn parse_trimmed<S: Shape>(
     ensures err { IfErr result (λ fault. IsNoTree most fault bytes.now) }
 {
     let text = text_of(bytes, most)?;
-    match read_trimmed(alloc, text, shape) {
+    match read_trimmed(alloc, scratch, text, shape) {
         Ok(tree) => Ok(tree),
         Err(ReadFault::NotJson) => Err(JsonFault::NotJson),
         Err(ReadFault::Memory) => Err(JsonFault::Memory),

@@ -3,7 +3,7 @@
 use crate::members::{
     is_text, member, non_empty, non_empty_text_member, text_member, text_member_or,
 };
-use crate::{JsonFault, Shape, parse, parse_trimmed};
+use crate::{JsonFault, Scratch, Shape, parse, parse_trimmed};
 use serde_json::Value;
 use std::alloc::Global;
 use std::process::Abort;
@@ -68,7 +68,13 @@ true => true
 
 /// What is left of the text, as a text.
 fn left_of(rt: &impl Abort, alloc: Global, text: &str) -> String {
-    match parse_trimmed(alloc, text.as_bytes(), 100, TestShape::Object) {
+    match parse_trimmed(
+        alloc,
+        &mut Scratch::new(alloc),
+        text.as_bytes(),
+        100,
+        TestShape::Object,
+    ) {
         Ok(tree) => tree.to_string(alloc).expect(rt, "memory"),
         Err(JsonFault::NotJson) => String::from_str(alloc, "no JSON").expect(rt, "memory"),
         Err(fault) => panic!(rt; "{text}: {fault:?}"),
@@ -88,7 +94,7 @@ fn what_is_looked_at_is_left(rt: HostRuntime) {
 fn both_refuse(rt: &impl Abort, alloc: Global, bytes: &[u8], wanted: JsonFault) {
     assert_eq!(rt; parse(alloc, bytes, 4).err(), Some(wanted));
     assert_eq!(rt;
-        parse_trimmed(alloc, bytes, 4, TestShape::List).err(),
+        parse_trimmed(alloc, &mut Scratch::new(alloc), bytes, 4, TestShape::List).err(),
         Some(wanted)
     );
 }

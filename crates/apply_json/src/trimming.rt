@@ -19,14 +19,18 @@ use std::alloc::Global;
 const MAX_DEPTH: usize = 127;
 
 /// The tree that the text is, without what nobody looks at.
-pub fn read_trimmed<S: Shape>(alloc: Global, text: &str, shape: S) -> Result<Value, ReadFault>
+pub fn read_trimmed<S: Shape>(
+    alloc: Global,
+    scratch: &mut Scratch,
+    text: &str,
+    shape: S,
+) -> Result<Value, ReadFault>
     ensures ok { IfOk result
         (λ tree. (whole : Data) × (read_text text.now ≡ Some whole)
         × (view tree ≡ trimmed S.selection shape whole)) }
     ensures err { result ≡ Err ReadFault.NotJson → read_text text.now ≡ None }
 {
-    let mut scratch = Scratch::new(alloc);
-    let mut reader = Reader::new(text, &mut scratch)?;
+    let mut reader = Reader::new(text, scratch)?;
     let tree = read(alloc, &mut reader, MAX_DEPTH, shape)?;
     if reader.next().is_some() {
         return Err(ReadFault::NotJson);

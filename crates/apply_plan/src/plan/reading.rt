@@ -19,7 +19,7 @@ use crate::plan::plan_shape::PlanShape;
 use crate::plan::planned::Planned;
 use crate::plan::seen_objects::SeenObjects;
 use crate::text::Text;
-use apply_json::{JsonFault, parse_trimmed};
+use apply_json::{JsonFault, Scratch, parse_trimmed};
 use serde_json::Value;
 use std::alloc::Global;
 
@@ -75,7 +75,8 @@ pub fn read_plan(alloc: Global, bytes: &[u8]) -> Result<Plan, PlanError>
     ensures defined { Gives PlanError.Memory (λ plan. plan) result (plan_of bytes.now) }
     ensures memory { result ≡ Err PlanError.Memory → length bytes.now ≤ max_bytes }
 {
-    match parse_trimmed(alloc, bytes, MAX_BYTES, PlanShape::Plan) {
+    let mut scratch = Scratch::new(alloc);
+    match parse_trimmed(alloc, &mut scratch, bytes, MAX_BYTES, PlanShape::Plan) {
         Ok(tree) => plan_of_value(alloc, &tree),
         Err(JsonFault::TooLarge) => Err(PlanError::TooLarge),
         Err(JsonFault::NotJson) => Err(PlanError::NotJson),
