@@ -2,7 +2,7 @@
 
 ghost use Rattle.std.specs.Prelude.{◌≡◌, ◌+◌, ◌-◌, ◌*◌, ◌%◌, ◌<◌, ◌≤◌, length, true};
 ghost use Rattle.apply_hooks.specs.Registry.{rules_of};
-ghost use Rattle.apply_plan.specs.Script.Outcome.{max_seconds};
+ghost use Rattle.apply_plan.specs.Script.Limits.{max_seconds};
 ghost use Rattle.apply_events.specs.Fits.{latest, max_span};
 ghost use Rattle.apply_events.specs.Stages.{is_on_course, time_behind};
 ghost use Rattle.apply_events.specs.Step.{steps_of};

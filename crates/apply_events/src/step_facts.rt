@@ -1,7 +1,7 @@
 //! What the events of a step take from its outcome.
 
 ghost use Rattle.std.specs.Prelude.{◌≡◌, ◌≤◌, ◌||◌};
-ghost use Rattle.apply_plan.specs.Script.Outcome.{max_seconds};
+ghost use Rattle.apply_plan.specs.Script.Limits.{max_seconds};
 ghost use Rattle.apply_plan.specs.Script.Outcomes.{outcome_of};
 ghost use Rattle.apply_events.specs.Step.{has_warning, is_failed};
 ghost use Rattle.apply_events.specs.Notes.{note_of};

@@ -20,8 +20,11 @@ pub use script::Script;
 pub use script::diag::Diag;
 pub use script::ending::Ending;
 pub use script::outcome::{MAX_SECONDS, Outcome};
+pub use script::provisioner::Provisioner;
+pub use script::provisioners::Provisioners;
 pub use script::reading::read_script;
 pub use script::script_error::ScriptError;
+pub use script::texts::Texts;
 pub use text::Text;
 pub use tree::parsing::MAX_BYTES;
 

@@ -2,15 +2,19 @@
 
 ghost use Rattle.std.specs.Prelude.{◌≡◌, ◌≤◌, [], IfSome};
 ghost use Rattle.std.specs.Option.{option_copied};
-ghost use Rattle.apply_plan.specs.Script.Outcome.{max_seconds};
+ghost use Rattle.apply_plan.specs.Script.Limits.{max_seconds};
+ghost use Rattle.apply_plan.specs.Script.Outcome.{IsBounded, took};
 
 pub mod change_numbers;
 pub mod diag;
 pub mod ending;
 pub mod outcome;
+pub mod provisioner;
+pub mod provisioners;
 pub mod reading;
 pub mod script_error;
 pub mod step_outcomes;
+pub mod texts;
 pub mod tree_diag;
 pub mod tree_ending;
 pub mod tree_entry;
@@ -52,13 +56,14 @@ impl Script {
     }
 
     /// What the script says of a step of a change, both counted from 0. `None` means the default: the step is done
-    /// after 0 seconds, with no id and no warning.
+    /// after 0 seconds, with no id, no warning and no provisioners.
     ///
     /// Any numbers may be asked for, also those of another plan than the one that the script was read for.
     pub fn outcome(&self, change: u32, step: u8) -> Option<&Outcome>
         ensures given { option_copied result ≡ given_outcome self.now change step }
-        ensures in_range { IfSome (given_outcome self.now change step)
-            (λ outcome. outcome.seconds ≤ max_seconds) }
+        ensures in_range { IfSome (given_outcome self.now change step) IsBounded }
+        ensures in_time { IfSome (given_outcome self.now change step)
+            (λ outcome. took outcome ≤ max_seconds) }
     {
         self.changes
             .get(change as usize)?
