@@ -1,9 +1,9 @@
 pub mod ListReading
 pub mod Options
 pub mod Plans
+pub mod Prefixes
 pub mod Results
 pub mod Scripts
-pub mod Texts
 pub mod Trees
 pub mod Trimmed
 pub mod Turns

@@ -18,6 +18,7 @@ pub mod texts;
 pub mod tree_diag;
 pub mod tree_ending;
 pub mod tree_entry;
+pub mod tree_provisioner;
 pub mod tree_step;
 
 use crate::script::outcome::Outcome;

@@ -1,5 +1,5 @@
 -- What an entry says as a reader meets it, for private clauses: beside what the entries before it have said.
-use Rattle.std.specs.Prelude.{ℕ, List, length, is_some, if◌then◌else◌, Some, Result, Ok, Err}
+use Rattle.std.specs.Prelude.{ℕ, List, length, is_some, if◌then◌else◌, Some, Result, Err}
 use Rattle.serde_json.specs.Data.{Data}
 use Rattle.apply_plan.specs.declared.script.outcome.Outcome.{Outcome}
 use Rattle.apply_plan.specs.declared.script.script_error.ScriptError.{ScriptError}

@@ -64,8 +64,16 @@ is_too_long outcome = nat_lt max_seconds (seconds_in_all outcome)
 abbrev pub has_too_many_provisioners : Outcome → Bool
 has_too_many_provisioners outcome = nat_lt max_provisioners (length outcome.provisioners)
 
+abbrev pub puts_out_too_much : Provisioner → Bool
+puts_out_too_much provisioner = nat_lt max_outputs (length provisioner.output)
+
 abbrev pub has_too_much_output : Outcome → Bool
-has_too_much_output outcome = list_any (λ provisioner. nat_lt max_outputs (length provisioner.output)) outcome.provisioners
+has_too_much_output outcome = list_any puts_out_too_much outcome.provisioners
+
+-- the provisioner alone is within the limits
+pub record IsSmall (provisioner : Provisioner) : Type 0 where
+  pub short : provisioner.seconds ≤ max_seconds
+  pub little_output : length provisioner.output ≤ max_outputs
 
 -- the step is within the limits
 pub record IsBounded (outcome : Outcome) : Type 0 where

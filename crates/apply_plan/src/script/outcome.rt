@@ -1,11 +1,14 @@
 //! What a provider answers to a step, and the provisioners that run after it.
 
-ghost use Rattle.std.specs.Prelude.{◌≡◌, ◌<◌, ◌^◌};
+ghost use Rattle.std.specs.Prelude.{◌≡◌, ◌<◌, ◌^◌, IfOk};
 ghost use Rattle.std.specs.Option.{option_copied};
+ghost use Rattle.apply_plan.specs.Script.TreeView.{step_view};
 
 use crate::script::diag::Diag;
 use crate::script::ending::Ending;
 use crate::script::provisioners::Provisioners;
+use crate::script::tree_step::TreeStep;
+use std::alloc::{AllocError, Global};
 
 /// The greatest number of seconds that a step may take in a script, with all its provisioners: a day.
 pub const MAX_SECONDS: u32 = 86_400;
@@ -23,7 +26,19 @@ pub struct Outcome {
 }
 
 impl Outcome {
-    ghost use Rattle.apply_plan.specs.Script.Outcome.{failure_of, fails, took};
+    ghost use Rattle.apply_plan.specs.Script.Outcome.{IsBounded, failure_of, fails, took};
+
+    /// The outcome that stands in the tree, with copies of its texts.
+    pub(crate) fn new(alloc: Global, step: &TreeStep<'_>) -> Result<Outcome, AllocError>
+        requires { IsBounded (step_view step.now) }
+        ensures { IfOk result (λ copy. copy ≡ step_view step.now) }
+    {
+        Ok(Outcome {
+            seconds: step.seconds as u32,
+            provisioners: Provisioners::new(alloc, &step.provisioners)?,
+            result: Ending::new(alloc, step.result)?,
+        })
+    }
 
     /// How long the step takes, in seconds: the provider, and the provisioners that run, which are those up to and with
     /// the first that fails.
@@ -31,11 +46,7 @@ impl Outcome {
         requires { took self.now < 2 ^ 32 }
         ensures { result ≡ took self.now }
     {
-        let mut seconds = self.seconds;
-        for number in 0..self.provisioners.count_that_run() {
-            seconds += self.provisioners.get(number).seconds;
-        }
-        seconds
+        self.seconds + self.provisioners.seconds()
     }
 
     /// Whether the step fails: its provider does, or a provisioner.

@@ -1,12 +1,18 @@
 //! The provisioners of a step.
 
-ghost use Rattle.std.specs.Prelude.{◌≡◌, ◌<◌, ◌≤◌, length, Some, slice_get};
+ghost use Rattle.std.specs.Prelude.{◌≡◌, ◌<◌, ◌≤◌, ◌^◌, length, map, All, IfOk, Some, slice_get};
 ghost use Rattle.std.specs.Option.{option_copied};
 ghost use Rattle.apply_plan.specs.Script.Limits.{max_provisioners};
+ghost use Rattle.apply_plan.specs.Script.TreeView.{provisioner_view};
 
 use crate::script::diag::Diag;
 use crate::script::provisioner::Provisioner;
+use crate::script::tree_provisioner::TreeProvisioner;
+use std::alloc::{AllocError, Global};
 use std::marker::Model;
+
+/// The greatest number of provisioners of a step in a script.
+pub const MAX_PROVISIONERS: usize = 8;
 
 /// The provisioners of a step in the order in which they run, 8 at most, which contracts see as a list.
 #[derive(Debug, Drop)]
@@ -27,7 +33,23 @@ impl Model for Provisioners {
 }
 
 impl Provisioners {
-    ghost use Rattle.apply_plan.specs.Script.Outcome.{first_diag, ran};
+    ghost use Rattle.apply_plan.specs.Script.Outcome.{IsSmall, first_diag, ran, seconds_of_all};
+
+    /// The provisioners that stand in the tree, with copies of their texts.
+    pub(crate) fn new(
+        alloc: Global,
+        tree: &[TreeProvisioner<'_>],
+    ) -> Result<Provisioners, AllocError>
+        requires few { length tree.now ≤ max_provisioners }
+        requires small { All IsSmall (map provisioner_view tree.now) }
+        ensures { IfOk result (λ copy. copy ≡ map provisioner_view tree.now) }
+    {
+        let mut provisioners = Vec::with_capacity(alloc, tree.len())?;
+        for provisioner in tree {
+            provisioners.push(Provisioner::new(alloc, provisioner)?)?;
+        }
+        Ok(Provisioners { provisioners })
+    }
 
     /// How many they are, 8 at most.
     pub fn len(&self) -> u8
@@ -67,5 +89,20 @@ impl Provisioners {
             }
         }
         self.len()
+    }
+
+    /// How long those take together that run, in seconds.
+    pub fn seconds(&self) -> u32
+        requires { seconds_of_all (ran self.now) < 2 ^ 32 }
+        ensures { result ≡ seconds_of_all (ran self.now) }
+    {
+        let mut seconds = 0;
+        for provisioner in &self.provisioners {
+            seconds += provisioner.seconds;
+            if provisioner.failed.is_some() {
+                return seconds;
+            }
+        }
+        seconds
     }
 }

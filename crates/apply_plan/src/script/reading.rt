@@ -1,16 +1,14 @@
 //! Reading a script.
 
 ghost use Rattle.std.specs.Prelude.{◌≡◌, ◌<◌, ◌≤◌, [], find, length, option_map, IfOk};
-ghost use Rattle.std.specs.List.{enumerate_from, list_any};
+ghost use Rattle.std.specs.List.{enumerate_from};
 ghost use Rattle.serde_json.specs.View.{view, items_view};
 ghost use Rattle.apply_plan.specs.Json.{list_of, max_bytes};
 ghost use Rattle.apply_plan.specs.Results.{Gives};
 ghost use Rattle.apply_plan.specs.Plan.SeenObjects.{is_of};
 ghost use Rattle.apply_plan.specs.Script.ChangeNumbers.{number_of};
 ghost use Rattle.apply_plan.specs.Script.NextEntry.{entry_beside};
-ghost use Rattle.apply_plan.specs.Script.Outcome.{is_too_long};
 ghost use Rattle.apply_plan.specs.Script.Outcomes.{by_number, elements_of, script_of, script_of_entries, script_of_tree};
-ghost use Rattle.apply_plan.specs.Script.TreeView.{step_view};
 
 use crate::plan::Plan;
 use crate::plan::object_id::ObjectId;
@@ -19,7 +17,6 @@ use crate::script::change_numbers::ChangeNumbers;
 use crate::script::script_error::ScriptError;
 use crate::script::step_outcomes::StepOutcomes;
 use crate::script::tree_entry::TreeEntry;
-use crate::script::tree_step::TreeStep;
 use crate::tree::members::member;
 use crate::tree::parsing::{JsonFault, parse};
 use serde_json::Value;
@@ -124,18 +121,8 @@ fn read_entry<'a>(
     if said[change as usize].is_some() {
         return Err(ScriptError::Duplicate(number));
     }
-    if entry.steps.len() > plan.change(change).steps().len() {
-        return Err(ScriptError::TooManySteps(number));
-    }
-    if is_any_too_long(&entry.steps) {
-        return Err(ScriptError::SecondsRange(number));
+    if let Some(fault) = entry.fault(number, plan.change(change).steps()) {
+        return Err(fault);
     }
     Ok((change, StepOutcomes::new(alloc, &entry.steps)?))
-}
-
-/// Whether a step takes longer than it may.
-fn is_any_too_long(steps: &[TreeStep<'_>]) -> bool
-    ensures { result ≡ list_any (λ step. is_too_long (step_view step)) steps.now }
-{
-    steps.iter().any(TreeStep::is_too_long)
 }

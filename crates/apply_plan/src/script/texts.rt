@@ -1,10 +1,15 @@
 //! Texts in order.
 
-ghost use Rattle.std.specs.Prelude.{◌≡◌, ◌<◌, ◌≤◌, length, Some, slice_get};
+ghost use Rattle.std.specs.Prelude.{◌≡◌, ◌<◌, ◌≤◌, length, IfOk, Some, slice_get};
 ghost use Rattle.apply_plan.specs.Script.Limits.{max_outputs};
+ghost use Rattle.apply_plan.specs.Script.TreeView.{texts_view};
 
 use crate::text::Text;
+use std::alloc::{AllocError, Global};
 use std::marker::Model;
+
+/// The greatest number of texts that a provisioner may put out in a script.
+pub const MAX_OUTPUTS: usize = 100;
 
 /// What a provisioner puts out: texts in order, 100 at most, which contracts see as a list.
 #[derive(Debug, Drop)]
@@ -24,6 +29,18 @@ impl Model for Texts {
 }
 
 impl Texts {
+    /// Copies of the texts.
+    pub(crate) fn new(alloc: Global, borrowed: &[&str]) -> Result<Texts, AllocError>
+        requires { length borrowed.now ≤ max_outputs }
+        ensures { IfOk result (λ copy. copy ≡ texts_view borrowed.now) }
+    {
+        let mut texts = Vec::with_capacity(alloc, borrowed.len())?;
+        for text in borrowed {
+            texts.push(Text::new(alloc, text)?)?;
+        }
+        Ok(Texts { texts })
+    }
+
     /// How many they are, 100 at most.
     pub fn len(&self) -> u8
         ensures len { result ≡ length self.now }

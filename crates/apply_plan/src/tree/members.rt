@@ -3,7 +3,7 @@
 ghost use Rattle.std.specs.Prelude.{◌≡◌, option_map};
 ghost use Rattle.std.specs.Option.{option_copied};
 ghost use Rattle.serde_json.specs.View.{view, items_view};
-ghost use Rattle.apply_plan.specs.Json.{is_word, member_of, non_empty_text_of, text_of, text_or, unless_empty};
+ghost use Rattle.apply_plan.specs.Json.{is_word, items_or_empty, member_of, non_empty_text_of, text_of, text_or, unless_empty};
 
 use serde_json::Value;
 
@@ -53,5 +53,16 @@ pub fn is_text(value: &Value, word: &str) -> bool
     match value.as_str() {
         Some(text) => text == word,
         None => false,
+    }
+}
+
+/// The values of an array, or no values where it is absent. `None` where it is no array.
+pub fn array_or_empty(found: Option<&Value>) -> Option<&[Value]>
+    ensures { option_map (λ items. items_view items.now) result
+        ≡ items_or_empty (option_map (λ value. view value.now) found.entry) }
+{
+    match found {
+        Some(value) => Some(value.as_array()?.as_slice()),
+        None => Some(&[]),
     }
 }
