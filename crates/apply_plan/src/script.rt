@@ -23,7 +23,6 @@ pub mod tree_step;
 
 use crate::script::outcome::Outcome;
 use crate::script::step_outcomes::StepOutcomes;
-use std::alloc::Global;
 use std::marker::Model;
 
 /// What the providers will answer to the steps of a plan.
@@ -31,29 +30,30 @@ use std::marker::Model;
 /// Contracts see, for each change by number, the outcomes of its first steps, or nothing.
 #[derive(Debug, Drop)]
 pub struct Script {
-    pub(crate) changes: Vec<Option<StepOutcomes>>,
+    /// None where nothing is said of any change.
+    pub(crate) changes: Option<Vec<Option<StepOutcomes>>>,
 }
 
 impl Model for Script {
+    ghost use Rattle.std.specs.Prelude.{[]};
+    ghost use Rattle.std.specs.Option.{option_map_or};
     ghost use Rattle.apply_plan.specs.Script.Outcomes.{IsInRange, Outcomes};
 
     ghost Value = { Outcomes };
 
-    ghost view = { λ s. s.changes.items };
+    ghost view = { λ s. option_map_or (λ changes. changes.items) s.changes [] };
 
-    ghost invariant = { λ s. IsInRange s.changes.items };
+    ghost invariant = { λ s. IsInRange (option_map_or (λ changes. changes.items) s.changes []) };
 }
 
 impl Script {
     ghost use Rattle.apply_plan.specs.Script.Outcomes.{given_outcome};
 
     /// A script that says nothing: every step has the default outcome.
-    pub fn empty(alloc: Global) -> Script
+    pub fn empty() -> Script
         ensures { result ≡ [] }
     {
-        Script {
-            changes: Vec::new(alloc),
-        }
+        Script { changes: None }
     }
 
     /// What the script says of a step of a change, both counted from 0. `None` means the default: the step is done
@@ -66,9 +66,7 @@ impl Script {
         ensures in_time { IfSome (given_outcome self.now change step)
             (λ outcome. took outcome ≤ max_seconds) }
     {
-        self.changes
-            .get(change as usize)?
-            .as_ref()?
-            .get(step as usize)
+        let changes = self.changes.as_ref()?;
+        changes.get(change as usize)?.as_ref()?.get(step as usize)
     }
 }

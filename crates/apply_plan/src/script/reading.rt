@@ -78,7 +78,9 @@ fn script_of_entries<'a>(
         let (change, outcomes) = read_entry(alloc, number, value, plan, &numbers, &said)?;
         said[change as usize] = Some(outcomes);
     }
-    Ok(Script { changes: said })
+    Ok(Script {
+        changes: Some(said),
+    })
 }
 
 /// Nothing said of so many changes.
