@@ -97,7 +97,7 @@ fn a_halt_is_counted(rt: HostRuntime) {
         },
         at: 0,
     };
-    assert!(rt; fits(&plan, &Script::empty(alloc), &event));
+    assert!(rt; fits(&plan, &Script::empty(), &event));
     let mut counted = Counts::new();
     counted.count(&plan, &event);
     assert!(rt; counted == counts(0, 0, 0, 0, 1), "{counted:?}");

@@ -158,7 +158,7 @@ fn events_that_can_happen(rt: HostRuntime) {
 fn events_happen_in_time_to_changes_of_the_plan(rt: HostRuntime) {
     let alloc = rt.alloc();
     let plan = plan_of(&rt, alloc, CREATE);
-    let script = Script::empty(alloc);
+    let script = Script::empty();
     assert!(rt; fits(&plan, &script, &event(0, 0, What::Start, LATEST)));
     assert!(rt; !fits(&plan, &script, &event(0, 0, What::Start, 1_728_000_001)));
     assert!(rt; !fits(&plan, &script, &event(1, 0, What::Start, 0)));
