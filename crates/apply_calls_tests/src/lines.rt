@@ -36,7 +36,7 @@ pub fn summary(rt: &impl Print, alloc: Global) -> io::Result<()> {
 /// Makes the line of the plan's first event.
 pub fn event(rt: &impl Print, alloc: Global) -> io::Result<()> {
     let plan = plan(alloc)?;
-    let script = Script::empty(alloc);
+    let script = Script::empty();
     let registry = Registry::new(alloc);
     if plan.len() == 0 {
         return Err(io::Error::from(ErrorKind::InvalidData));
@@ -98,7 +98,7 @@ pub fn pushed_summary(rt: &impl Print, alloc: Global) -> io::Result<()> {
 /// Adds the line of the plan's first event to a buffer.
 pub fn pushed_event(rt: &impl Print, alloc: Global) -> io::Result<()> {
     let plan = plan(alloc)?;
-    let script = Script::empty(alloc);
+    let script = Script::empty();
     let registry = Registry::new(alloc);
     let mut buffer = begun(alloc, &plan)?;
     if plan.len() == 0 {

@@ -32,4 +32,4 @@ member_shape Scalar name = None
 
 -- of no array an item is looked at
 abbrev pub line_selection : Selection LineShape
-line_selection = record { member_shape = member_shape; item_shape = λ shape. Scalar; item_limit = λ shape. 0 }
+line_selection = record { member_shape = member_shape; item_shape = λ shape. Scalar; item_limit = λ shape. Some 0 }

@@ -44,8 +44,8 @@ impl Shape for LineShape {
         LineShape::Scalar
     }
 
-    fn limit(self) -> usize {
-        0
+    fn limit(self) -> Option<usize> {
+        Some(0)
     }
 }
 

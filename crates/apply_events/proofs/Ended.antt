@@ -7,15 +7,18 @@ use Rattle.std.proofs.lemmas.List.Folds.{list_any-append}
 use Rattle.std.proofs.lemmas.List.Sums.{sum_by-append}
 use Rattle.apply_hooks.specs.declared.phase.Phase.TheVariants.{Pre, PostDone}
 use Rattle.apply_events.specs.declared.event.Event.{Event}
+use Rattle.apply_events.specs.declared.mid_step.MidStep.{MidStep}
 use Rattle.apply_events.specs.declared.stage.Stage.{Stage}
 use Rattle.apply_events.specs.declared.stage.Stage.TheVariants.{Before, Running, Noting, Halting, Over}
-use Rattle.apply_events.specs.declared.what.What.TheVariants.{Progress, Halted}
+use Rattle.apply_events.specs.declared.what.What.{What}
+use Rattle.apply_events.specs.declared.what.What.TheVariants.{Halted}
 use Rattle.apply_events.specs.ChangeEvents.{begun, in_turn, span_of}
 use Rattle.apply_events.specs.Course.{Course, ended_of, has_event_in, time_in}
+use Rattle.apply_events.specs.MidStep.{left_of}
 use Rattle.apply_events.specs.Notes.{note_of}
-use Rattle.apply_events.specs.Stages.{behind, events_from, from_stage, halt_after, is_on_course, is_reached, running, tens_between, time_behind}
+use Rattle.apply_events.specs.Stages.{behind, events_from, from_stage, halt_after, is_on_course, is_reached, running, time_behind}
 use Rattle.apply_events.specs.Step.{Step, steps_of}
-use Rattle.apply_events.specs.StepEvents.{endings, event, goes_on, halts, phase_after, started, step_events, step_time}
+use Rattle.apply_events.specs.StepEvents.{endings, event, goes_on, halts, phase_after, seconds_of, started, step_events, step_time}
 use Rattle.apply_events.proofs.Begun.{and_first, and_second, begun_from}
 use Rattle.apply_events.proofs.Rising.{Rises}
 use Rattle.apply_events.proofs.StepNumbers.{AreNumbered, AreNumbered-drop, number_of, steps_of-numbered, to_come_rise}
@@ -62,10 +65,10 @@ in_turn_has w (s ∷ steps) at = (
   AllHave-append steps (step_events w s at) (in_turn (step_events w) step_time steps (at + step_time s)) (in_turn_has w steps (at + step_time s)),
 )
 
-running_has : (w : ℕ) (s : Step) (at told : ℕ) → has_event_in (running w s at told) s ≡ true
-running_has w s at told =
-    has-append_first (map (λ p. event w s (at + p) (Progress p)) (tens_between told s.seconds) ++ map (λ what. event w s (at + s.seconds) what) (endings s)) (halts w s (phase_after s.fails) (at + s.seconds)) s
-    (has-append_second (map (λ p. event w s (at + p) (Progress p)) (tens_between told s.seconds)) (map (λ what. event w s (at + s.seconds) what) (endings s)) s (rw (itself s.number) refl))
+running_has : (w : ℕ) (s : Step) (at : ℕ) (mid : MidStep) → has_event_in (running w s at mid) s ≡ true
+running_has w s at mid =
+    has-append_first (map (λ (p : ℕ × What). event w s (at + p.0) p.1) (left_of s.provider_seconds s.ran mid) ++ map (λ what. event w s (at + (seconds_of s)) what) (endings s)) (halts w s (phase_after s.fails) (at + (seconds_of s))) s
+    (has-append_second (map (λ (p : ℕ × What). event w s (at + p.0) p.1) (left_of s.provider_seconds s.ran mid)) (map (λ what. event w s (at + (seconds_of s)) what) (endings s)) s (rw (itself s.number) refl))
 
 none_of : {X : Type 0} (found : Option X) → is_none found ≡ true → found ≡ None
 none_of None h = refl
@@ -77,20 +80,20 @@ after_have : (w : ℕ) (s : Step) (steps : List Step) (at : ℕ) (events : List 
 after_have w s steps at events starts own =
     rw starts (
       has-append_first events (behind w s steps at) s own,
-      elim (not s.fails && is_none (s.halts PostDone)) as (λ b. AllHave (cond b (begun steps) []) (events ++ cond b (events_from w steps (at + s.seconds)) []))
-          [ true ↦ AllHave-append (begun steps) events (events_from w steps (at + s.seconds)) (in_turn_has w (begun steps) (at + s.seconds)) | false ↦ tt ],
+      elim (not s.fails && is_none (s.halts PostDone)) as (λ b. AllHave (cond b (begun steps) []) (events ++ cond b (events_from w steps (at + (seconds_of s))) []))
+          [ true ↦ AllHave-append (begun steps) events (events_from w steps (at + (seconds_of s))) (in_turn_has w (begun steps) (at + (seconds_of s))) | false ↦ tt ],
     )
 
-to_come_have : (w : ℕ) (left : List Step) (at told : ℕ) (stage : Stage) → is_reached left stage ≡ true → (stage ≡ Over → ⊥) → AllHave (begun left) (from_stage w left at told stage)
-to_come_have w left at told Before h going = in_turn_has w (begun left) at
-to_come_have w left at told Over h going = absurd (going refl)
-to_come_have w [] at told Running h going = tt
-to_come_have w [] at told Noting h going = tt
-to_come_have w [] at told (Halting hook) h going = tt
-to_come_have w (s ∷ steps) at told Running h going = after_have w s steps at (running w s at told) (none_of (s.halts Pre) h) (running_has w s at told)
-to_come_have w (s ∷ steps) at told Noting h going =
-    after_have w s steps at (event w s (at + s.seconds) (note_of s.fails) ∷ halt_after w s at) (none_of (s.halts Pre) h) (rw (itself s.number) refl)
-to_come_have w (s ∷ steps) at told (Halting hook) h going =
+to_come_have : (w : ℕ) (left : List Step) (at : ℕ) (stage : Stage) → is_reached left stage ≡ true → (stage ≡ Over → ⊥) → AllHave (begun left) (from_stage w left at stage)
+to_come_have w left at Before h going = in_turn_has w (begun left) at
+to_come_have w left at Over h going = absurd (going refl)
+to_come_have w [] at (Running mid) h going = tt
+to_come_have w [] at Noting h going = tt
+to_come_have w [] at (Halting hook) h going = tt
+to_come_have w (s ∷ steps) at (Running mid) h going = after_have w s steps at (running w s at mid) (none_of (s.halts Pre) h) (running_has w s at mid)
+to_come_have w (s ∷ steps) at Noting h going =
+    after_have w s steps at (event w s (at + (seconds_of s)) (note_of s.fails) ∷ halt_after w s at) (none_of (s.halts Pre) h) (rw (itself s.number) refl)
+to_come_have w (s ∷ steps) at (Halting hook) h going =
     let stops : goes_on s ≡ false = not_true (goes_on s) (and_second (is_none (s.halts Pre)) (not (goes_on s)) h) in
     rw stops (rw (itself s.number) refl, tt)
   where
@@ -125,42 +128,42 @@ none_have [] = refl
 none_have (s ∷ steps) = none_have steps
 
 -- where the runner stands, while its change goes on
-going : (course : Course) (steps : List Step) (k at told : ℕ) (stage : Stage)
+going : (course : Course) (steps : List Step) (k at : ℕ) (stage : Stage)
     → AreNumbered 0 steps → list_all goes_on (take k steps) ≡ true → is_reached (drop k steps) stage ≡ true → (stage ≡ Over → ⊥)
     → at ≡ course.begin + sum_by step_time (take k steps)
-    → at ≡ course.begin + sum_by step_time (begun steps) - sum_by step_time (filter (has_event_in (from_stage course.worker (drop k steps) at told stage)) (begun steps))
-going course steps k at told stage numbered all reached more time =
+    → at ≡ course.begin + sum_by step_time (begun steps) - sum_by step_time (filter (has_event_in (from_stage course.worker (drop k steps) at stage)) (begun steps))
+going course steps k at stage numbered all reached more time =
     let whole : begun steps ≡ take k steps ++ begun (drop k steps) = begun_from steps k all in
     let numbers : AreNumbered k (drop k steps) = (let e : 0 + k ≡ k = omega arith in rw e at (AreNumbered-drop 0 k steps numbered)) in
-    let rise : Rises number_of (0 + k) (k + length (drop k steps)) (from_stage course.worker (drop k steps) at told stage) = (let e : 0 + k ≡ k = omega arith in rw e (to_come_rise course.worker k (drop k steps) at told stage numbers)) in
-    let left : filter (has_event_in (from_stage course.worker (drop k steps) at told stage)) (begun steps) ≡ begun (drop k steps) =
-    ap (λ ss. filter (has_event_in (from_stage course.worker (drop k steps) at told stage)) ss) whole
-    ∙ keeps_last 0 k (k + length (drop k steps)) steps (begun (drop k steps)) (from_stage course.worker (drop k steps) at told stage) numbered rise (to_come_have course.worker (drop k steps) at told stage reached more) in
+    let rise : Rises number_of (0 + k) (k + length (drop k steps)) (from_stage course.worker (drop k steps) at stage) = (let e : 0 + k ≡ k = omega arith in rw e (to_come_rise course.worker k (drop k steps) at stage numbers)) in
+    let left : filter (has_event_in (from_stage course.worker (drop k steps) at stage)) (begun steps) ≡ begun (drop k steps) =
+    ap (λ ss. filter (has_event_in (from_stage course.worker (drop k steps) at stage)) ss) whole
+    ∙ keeps_last 0 k (k + length (drop k steps)) steps (begun (drop k steps)) (from_stage course.worker (drop k steps) at stage) numbered rise (to_come_have course.worker (drop k steps) at stage reached more) in
     let sums : sum_by step_time (begun steps) ≡ sum_by step_time (take k steps) + sum_by step_time (begun (drop k steps)) =
     ap (λ ss. sum_by step_time ss) whole ∙ sum_by-append step_time (take k steps) (begun (drop k steps)) in
-    let less : sum_by step_time (filter (has_event_in (from_stage course.worker (drop k steps) at told stage)) (begun steps)) ≡ sum_by step_time (begun (drop k steps)) = ap (λ ss. sum_by step_time ss) left in
+    let less : sum_by step_time (filter (has_event_in (from_stage course.worker (drop k steps) at stage)) (begun steps)) ≡ sum_by step_time (begun (drop k steps)) = ap (λ ss. sum_by step_time ss) left in
     omega arith
 
 -- where the runner stands
-pub stands : (course : Course) (k at told : ℕ) (stage : Stage)
+pub stands : (course : Course) (k at : ℕ) (stage : Stage)
     → is_on_course (steps_of course.work course.change) k stage ≡ true
     → at ≡ course.begin + time_behind (steps_of course.work course.change) k stage
-    → at ≡ ended_of course (from_stage course.worker (drop k (steps_of course.work course.change)) at told stage)
-stands course k at told Over on time =
+    → at ≡ ended_of course (from_stage course.worker (drop k (steps_of course.work course.change)) at stage)
+stands course k at Over on time =
     let none : time_in course [] ≡ 0 = ap (λ ss. sum_by step_time ss) (none_have (begun (steps_of course.work course.change))) in
     omega arith
-stands course k at told Before on time =
-    going course (steps_of course.work course.change) k at told Before (steps_of-numbered course.work course.change) on refl (λ e. cc) time
-stands course k at told Running on time =
-    going course (steps_of course.work course.change) k at told Running (steps_of-numbered course.work course.change)
-    (and_first (list_all goes_on (take k (steps_of course.work course.change))) (is_reached (drop k (steps_of course.work course.change)) Running) on)
-    (and_second (list_all goes_on (take k (steps_of course.work course.change))) (is_reached (drop k (steps_of course.work course.change)) Running) on) (λ e. cc) time
-stands course k at told Noting on time =
-    going course (steps_of course.work course.change) k at told Noting (steps_of-numbered course.work course.change)
+stands course k at Before on time =
+    going course (steps_of course.work course.change) k at Before (steps_of-numbered course.work course.change) on refl (λ e. cc) time
+stands course k at (Running mid) on time =
+    going course (steps_of course.work course.change) k at (Running mid) (steps_of-numbered course.work course.change)
+    (and_first (list_all goes_on (take k (steps_of course.work course.change))) (is_reached (drop k (steps_of course.work course.change)) (Running mid)) on)
+    (and_second (list_all goes_on (take k (steps_of course.work course.change))) (is_reached (drop k (steps_of course.work course.change)) (Running mid)) on) (λ e. cc) time
+stands course k at Noting on time =
+    going course (steps_of course.work course.change) k at Noting (steps_of-numbered course.work course.change)
     (and_first (list_all goes_on (take k (steps_of course.work course.change))) (is_reached (drop k (steps_of course.work course.change)) Noting) on)
     (and_second (list_all goes_on (take k (steps_of course.work course.change))) (is_reached (drop k (steps_of course.work course.change)) Noting) on) (λ e. cc) time
-stands course k at told (Halting hook) on time =
-    going course (steps_of course.work course.change) k at told (Halting hook) (steps_of-numbered course.work course.change)
+stands course k at (Halting hook) on time =
+    going course (steps_of course.work course.change) k at (Halting hook) (steps_of-numbered course.work course.change)
     (and_first (list_all goes_on (take k (steps_of course.work course.change))) (is_reached (drop k (steps_of course.work course.change)) (Halting hook)) on)
     (and_second (list_all goes_on (take k (steps_of course.work course.change))) (is_reached (drop k (steps_of course.work course.change)) (Halting hook)) on) (λ e. cc) time
 

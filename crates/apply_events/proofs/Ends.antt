@@ -1,17 +1,23 @@
 -- A step ends once.
-use Rattle.std.proofs.Common.{◌≡◌, ℕ, zero, suc, ◌+◌, ◌<◌, ◌≤◌, nat_eq, Bool, true, false, ◌&&◌, List, [], ◌∷◌, ◌++◌, cond, length, map, Option, Some, None, refl, ap, arith, ◌⊎◌, inl, inr, ⊎_elim}
+use Rattle.std.proofs.Common.{◌≡◌, ℕ, zero, suc, ◌+◌, ◌<◌, ◌≤◌, nat_eq, All, Bool, true, false, ◌&&◌, ◌||◌, List, [], ◌∷◌, ◌++◌, cond, length, map, Option, Some, None, refl, ap, arith, ◌⊎◌, inl, inr, ⊎_elim}
 use Rattle.std.specs.Prelude.{count_by, is_some, option_map, option_to_list}
 use Rattle.std.proofs.lemmas.Bool.Decides.{eqb_tells}
+use Rattle.std.proofs.lemmas.List.Elements.{All-head, All-tail}
 use Rattle.std.proofs.lemmas.List.Sums.{sum_by-append, sum_by-cons}
+use Rattle.apply_plan.specs.declared.script.provisioner.Provisioner.{Provisioner}
+use Rattle.apply_plan.specs.Script.Outcome.{has_failed}
 use Rattle.apply_hooks.specs.declared.phase.Phase.{Phase}
 use Rattle.apply_hooks.specs.declared.phase.Phase.TheVariants.{Pre}
 use Rattle.apply_events.specs.declared.event.Event.{Event}
-use Rattle.apply_events.specs.declared.what.What.TheVariants.{Progress, Halted, Start}
+use Rattle.apply_events.specs.declared.what.What.{What}
+use Rattle.apply_events.specs.declared.what.What.TheVariants.{Halted, ProvisionComplete, ProvisionErrored, Start}
 use Rattle.apply_events.specs.ChangeEvents.{begun, change_events, in_turn}
 use Rattle.apply_events.specs.Laws.{ends_step}
-use Rattle.apply_events.specs.ProgressTimes.{progress_times}
+use Rattle.apply_events.specs.Provisions.{provision_end}
 use Rattle.apply_events.specs.Step.{Step, Work, steps_of}
-use Rattle.apply_events.specs.StepEvents.{end_of, endings, event, halts, notes, phase_after, started, step_events, step_time}
+use Rattle.apply_events.specs.StepEvents.{between, end_of, endings, event, halts, notes, phase_after, seconds_of, started, step_events, step_time}
+use Rattle.apply_events.specs.Totals.{is_complete, is_errored}
+use Rattle.apply_events.proofs.Provisions.{all_along}
 use Rattle.apply_events.proofs.Rising.{Rises, Rises-le}
 use Rattle.apply_events.proofs.StepNumbers.{AreNumbered, AreNumbered-begun, in_turn_rise, number_of, step_events_rise, steps_of-numbered}
 
@@ -48,22 +54,43 @@ notes_end_nothing false false k w s at = refl
 
 count-endings : (k w : ℕ) (s : Step) (at : ℕ) → count_by (ends_step k) (map (λ what. event w s at what) (endings s)) ≤ 1
 count-endings k w s at =
-    let first : cond (ends_step k (event w s at (end_of s.fails s.seconds))) 1 0 ≤ 1 = at_most_one (ends_step k (event w s at (end_of s.fails s.seconds))) in
+    let first : cond (ends_step k (event w s at (end_of s.fails (seconds_of s)))) 1 0 ≤ 1 = at_most_one (ends_step k (event w s at (end_of s.fails (seconds_of s)))) in
     let rest : count_by (ends_step k) (map (λ what. event w s at what) (notes s.fails s.warns)) ≡ 0 = notes_end_nothing s.fails s.warns k w s at in
-    let e : count_by (ends_step k) (map (λ what. event w s at what) (endings s)) ≡ cond (ends_step k (event w s at (end_of s.fails s.seconds))) 1 0 + count_by (ends_step k) (map (λ what. event w s at what) (notes s.fails s.warns)) =
-    count-cons (ends_step k) (event w s at (end_of s.fails s.seconds)) (map (λ what. event w s at what) (notes s.fails s.warns)) in
+    let e : count_by (ends_step k) (map (λ what. event w s at what) (endings s)) ≡ cond (ends_step k (event w s at (end_of s.fails (seconds_of s)))) 1 0 + count_by (ends_step k) (map (λ what. event w s at what) (notes s.fails s.warns)) =
+    count-cons (ends_step k) (event w s at (end_of s.fails (seconds_of s))) (map (λ what. event w s at what) (notes s.fails s.warns)) in
     omega arith
+
+-- what happens before the end is no end
+abbrev EndsNothing : List (ℕ × What) → Type 0
+EndsNothing xs = All (λ x. (is_complete x.1 || is_errored x.1) ≡ false) xs
+
+count-between : (k w : ℕ) (s : Step) (at : ℕ) (xs : List (ℕ × What)) → EndsNothing xs → count_by (ends_step k) (map (λ (p : ℕ × What). event w s (at + p.0) p.1) xs) ≡ 0
+count-between k w s at [] none = refl
+count-between k w s at (x ∷ xs) none =
+    let e = event w s (at + x.0) x.1 in
+    let here : cond {A = ℕ} (ends_step k e) 1 0 ≡ 0 = rw (All-head (λ (y : ℕ × What). (is_complete y.1 || is_errored y.1) ≡ false) x xs none, and-false (nat_eq s.number k)) refl in
+    let rest : count_by (ends_step k) (map (λ (p : ℕ × What). event w s (at + p.0) p.1) xs) ≡ 0 = count-between k w s at xs (All-tail (λ (y : ℕ × What). (is_complete y.1 || is_errored y.1) ≡ false) x xs none) in
+    let sum : count_by (ends_step k) (e ∷ map (λ (p : ℕ × What). event w s (at + p.0) p.1) xs) ≡ cond (ends_step k e) 1 0 + count_by (ends_step k) (map (λ (p : ℕ × What). event w s (at + p.0) p.1) xs) =
+    count-cons (ends_step k) e (map (λ (p : ℕ × What). event w s (at + p.0) p.1) xs) in
+    omega arith
+
+between_ends_nothing : (s : Step) → EndsNothing (between s)
+between_ends_nothing s = all_along (λ x. (is_complete x.1 || is_errored x.1) ≡ false) (seconds_of s) 0 0 s.provider_seconds s.ran
+    (λ t. refl) (λ i p since. refl) (λ i p j since. refl) (λ i p since. end_is_none i p)
+  where
+    end_is_none : (i : ℕ) (p : Provisioner) → (is_complete (provision_end i p) || is_errored (provision_end i p)) ≡ false
+    end_is_none i p = elim (has_failed p) as (λ b. (is_complete (cond b (ProvisionErrored i) (ProvisionComplete i)) || is_errored (cond b (ProvisionErrored i) (ProvisionComplete i))) ≡ false) [ true ↦ refl | false ↦ refl ]
 
 count-started : (k w : ℕ) (s : Step) (at : ℕ) → count_by (ends_step k) (started w s at) ≤ 1
 count-started k w s at =
     let start = event w s at Start ∷ [] in
-    let progress = map (λ (p : ℕ). event w s (at + p) (Progress p)) (progress_times s.seconds) in
-    let ends = map (λ what. event w s (at + s.seconds) what) (endings s) in
-    let halt = halts w s (phase_after s.fails) (at + s.seconds) in
+    let progress = map (λ (p : ℕ × What). event w s (at + p.0) p.1) (between s) in
+    let ends = map (λ what. event w s (at + (seconds_of s)) what) (endings s) in
+    let halt = halts w s (phase_after s.fails) (at + (seconds_of s)) in
     let first : count_by (ends_step k) start ≡ 0 = rw (and-false (nat_eq s.number k)) refl in
-    let second : count_by (ends_step k) progress ≡ 0 = count-map_none (ends_step k) (λ p. event w s (at + p) (Progress p)) (progress_times s.seconds) (λ p. and-false (nat_eq s.number k)) in
-    let third : count_by (ends_step k) ends ≤ 1 = count-endings k w s (at + s.seconds) in
-    let fourth : count_by (ends_step k) halt ≡ 0 = count-halts k w s (phase_after s.fails) (at + s.seconds) (s.halts (phase_after s.fails)) in
+    let second : count_by (ends_step k) progress ≡ 0 = count-between k w s at (between s) (between_ends_nothing s) in
+    let third : count_by (ends_step k) ends ≤ 1 = count-endings k w s (at + (seconds_of s)) in
+    let fourth : count_by (ends_step k) halt ≡ 0 = count-halts k w s (phase_after s.fails) (at + (seconds_of s)) (s.halts (phase_after s.fails)) in
     let a : count_by (ends_step k) (start ++ progress) ≡ count_by (ends_step k) start + count_by (ends_step k) progress = count-append (ends_step k) start progress in
     let b : count_by (ends_step k) (start ++ progress ++ ends) ≡ count_by (ends_step k) (start ++ progress) + count_by (ends_step k) ends = count-append (ends_step k) (start ++ progress) ends in
     let c : count_by (ends_step k) (start ++ progress ++ ends ++ halt) ≡ count_by (ends_step k) (start ++ progress ++ ends) + count_by (ends_step k) halt = count-append (ends_step k) (start ++ progress ++ ends) halt in

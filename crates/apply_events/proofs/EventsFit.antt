@@ -1,15 +1,14 @@
 -- The events of a work can happen.
-use Rattle.std.proofs.Common.{◌≡◌, ℕ, ◌+◌, ◌<◌, ◌≤◌, All, nat_eq, Bool, true, false, ◌&&◌, List, [], ◌∷◌, ◌++◌, cond, get_or, length, map, Option, Some, None, IfSome, refl, arith, ⊎_elim}
+use Rattle.std.proofs.Common.{◌≡◌, ℕ, ◌+◌, ◌<◌, ◌≤◌, All, nat_eq, Bool, true, false, not, ◌&&◌, List, [], ◌∷◌, ◌++◌, cond, length, map, Option, Some, None, IfSome, refl, ap, arith, ⊎_elim}
 use Rattle.std.specs.Prelude.{IsTrue, is_some, nat_lt, option_map, option_to_list}
-use Rattle.std.specs.List.{enumerate_from, list_any}
+use Rattle.std.specs.List.{enumerate_from}
 use Rattle.std.proofs.lemmas.Bool.{lt-ltb}
 use Rattle.std.proofs.lemmas.Bool.Decides.{eqb_tells}
 use Rattle.std.proofs.lemmas.List.Elements.{All-append, All-cons, All-map, All-nil}
-use Rattle.std.proofs.lemmas.List.Folds.{list_any_at}
 use Rattle.std.proofs.lemmas.List.Quantifiers.{position-Some}
 use Rattle.apply_plan.specs.declared.plan.step_kind.StepKind.{StepKind}
-use Rattle.apply_plan.specs.declared.script.ending.Ending.{Ending}
-use Rattle.apply_plan.specs.declared.script.ending.Ending.TheVariants.{Done, Failed}
+use Rattle.apply_plan.specs.declared.script.outcome.Outcome.{Outcome}
+use Rattle.apply_plan.specs.Script.Outcome.{fails, took}
 use Rattle.apply_plan.specs.Script.Outcomes.{outcome_of}
 use Rattle.apply_hooks.specs.HookCall.{Call}
 use Rattle.apply_hooks.specs.Hooks.{first_halting, max_hooks}
@@ -20,15 +19,15 @@ use Rattle.apply_hooks.specs.declared.phase.Phase.TheVariants.{Pre}
 use Rattle.apply_hooks.specs.declared.rule.Rule.{Rule}
 use Rattle.apply_events.specs.declared.event.Event.{Event}
 use Rattle.apply_events.specs.declared.what.What.{What}
-use Rattle.apply_events.specs.declared.what.What.TheVariants.{Start, Progress, Complete, Errored, ErrorNote, WarnNote, Halted}
+use Rattle.apply_events.specs.declared.what.What.TheVariants.{Start, Complete, Errored, ErrorNote, WarnNote, Halted}
 use Rattle.apply_events.specs.ChangeEvents.{begun, change_events, in_turn, span_of}
 use Rattle.apply_events.specs.Fits.{can_happen, latest, may_be_asked}
 use Rattle.apply_events.specs.Laws.{AllFit, IsWithinLimits, NamesEachOnce}
-use Rattle.apply_events.specs.ProgressTimes.{progress_times}
-use Rattle.apply_events.specs.Step.{Work, address_of, has_warning, is_failed, kinds_of, step_of}
-use Rattle.apply_events.specs.StepEvents.{end_of, endings, event, goes_on, halts, notes, phase_after, started, step_events, step_time}
+use Rattle.apply_events.specs.Step.{Work, address_of, has_warning, kinds_of, step_of}
+use Rattle.apply_events.specs.StepEvents.{between, end_of, endings, event, goes_on, halts, notes, phase_after, seconds_of, started, step_events, step_time}
 use Rattle.apply_events.specs.WorkerEvents.{worker_events}
 use Rattle.apply_events.proofs.Moments.{change_rises, moment_of, span_short, worker_in_time}
+use Rattle.apply_events.proofs.ProvisionsFit.{along_happens}
 use Rattle.apply_events.proofs.Rising.{Rises-at_most, Rises-higher}
 use Rattle.apply_events.proofs.WorkerLists.{change_planned, worker_planned}
 
@@ -41,25 +40,28 @@ itself n = ⊎_elim (λ e. e.0) (λ e. absurd (e.1 refl)) (eqb_tells n n)
 
 -- ---- what happens to a step
 
-all-members : (times : List ℕ) → All (λ p. IsTrue (list_any (λ time. nat_eq time p) times)) times
-all-members times k d less = list_any_at (λ time. nat_eq time (get_or times k d)) times k d less (itself (get_or times k d))
+abbrev Suits : Outcome → What → Type 0
+Suits outcome what = IsTrue (can_happen outcome what)
 
-abbrev Suits : (seconds : ℕ) → Ending → What → Type 0
-Suits seconds ending what = IsTrue (can_happen (record { seconds = seconds; result = ending }) what)
+both : (a b : Bool) → a ≡ true → b ≡ true → (a && b) ≡ true
+both a b p q = rw (p, q) refl
 
-all-endings : (seconds : ℕ) (ending : Ending) → All (Suits seconds ending) (end_of (is_failed ending) seconds ∷ notes (is_failed ending) (has_warning ending))
-all-endings seconds (Done id None) = All-cons (Suits seconds (Done id None)) (Complete seconds) [] (itself seconds) (All-nil (Suits seconds (Done id None)))
-all-endings seconds (Done id (Some diag)) =
-    let P = Suits seconds (Done id (Some diag)) in All-cons P (Complete seconds) (WarnNote ∷ []) (itself seconds) (All-cons P WarnNote [] refl (All-nil P))
-all-endings seconds (Failed diag) =
-    let P = Suits seconds (Failed diag) in All-cons P (Errored seconds) (ErrorNote ∷ []) (itself seconds) (All-cons P ErrorNote [] refl (All-nil P))
+all-endings : (outcome : Outcome) → All (Suits outcome) (end_of (fails outcome) (took outcome) ∷ notes (fails outcome) (has_warning outcome.result))
+all-endings outcome =
+    let P = Suits outcome in
+    elim (fails outcome) as (λ b. fails outcome ≡ b → All P (end_of b (took outcome) ∷ notes b (has_warning outcome.result))) [
+      | true ↦ λ fails_so. All-cons P (Errored (took outcome)) (ErrorNote ∷ []) (both (fails outcome) (nat_eq (took outcome) (took outcome)) fails_so (itself (took outcome))) (All-cons P ErrorNote [] fails_so (All-nil P))
+      | false ↦ λ fails_so.
+          All-cons P (Complete (took outcome)) (notes false (has_warning outcome.result)) (both (not (fails outcome)) (nat_eq (took outcome) (took outcome)) (ap not fails_so) (itself (took outcome)))
+          (elim (has_warning outcome.result) as (λ b. has_warning outcome.result ≡ b → All P (notes false b)) [
+            | true ↦ λ warns_so. All-cons P WarnNote [] (both (not (fails outcome)) (has_warning outcome.result) (ap not fails_so) warns_so) (All-nil P)
+            | false ↦ λ warns_so. All-nil P
+          ] refl)
+    ] refl
 
 asked_after : (fails : Bool) → may_be_asked fails (phase_after fails) ≡ true
 asked_after true = refl
 asked_after false = refl
-
-both : (a b : Bool) → a ≡ true → b ≡ true → (a && b) ≡ true
-both a b p q = rw (p, q) refl
 
 -- a hook that halts is one of those that there are
 abbrev IsFew : Option ℕ → Type 0
@@ -73,10 +75,10 @@ few-halting : (hooks : List (List Rule)) (call : Call) → length hooks ≤ max_
 few-halting hooks call few = few-found (first_halting hooks call) (length hooks) (λ hook is. (position-Some (λ rules. is_halt (verdict_of rules call)) hooks hook [] is).0) few
 
 all-halts : (work : Work) (w c n : ℕ) (kind : StepKind) (phase : Phase) (at : ℕ) (found : Option ℕ)
-    → may_be_asked (is_failed (outcome_of work.script c n).result) phase ≡ true → IsFew found
+    → may_be_asked (fails (outcome_of work.script c n)) phase ≡ true → IsFew found
     → All (CanHappen work) (option_to_list (option_map (λ hook. event w (step_of work c n kind) at (Halted phase hook)) found))
 all-halts work w c n kind phase at None asked few = All-nil (CanHappen work)
-all-halts work w c n kind phase at (Some hook) asked few = All-cons (CanHappen work) (event w (step_of work c n kind) at (Halted phase hook)) [] (both (may_be_asked (is_failed (outcome_of work.script c n).result) phase) (nat_lt hook max_hooks) asked few) (All-nil (CanHappen work))
+all-halts work w c n kind phase at (Some hook) asked few = All-cons (CanHappen work) (event w (step_of work c n kind) at (Halted phase hook)) [] (both (may_be_asked (fails (outcome_of work.script c n)) phase) (nat_lt hook max_hooks) asked few) (All-nil (CanHappen work))
 
 few-step : (work : Work) (c n : ℕ) (kind : StepKind) (phase : Phase) → length work.hooks ≤ max_hooks → IsFew ((step_of work c n kind).halts phase)
 few-step work c n kind phase few = few-halting work.hooks (record { phase = phase; kind = kind; address = address_of work.plan c }) few
@@ -85,15 +87,15 @@ all-started : (work : Work) (w c n : ℕ) (kind : StepKind) (at : ℕ) → lengt
 all-started work w c n kind at few =
     let s = step_of work c n kind in
     let outcome = outcome_of work.script c n in
-    let progress = map (λ (p : ℕ). event w s (at + p) (Progress p)) (progress_times s.seconds) in
-    let ends = map (λ what. event w s (at + s.seconds) what) (endings s) in
-    let halt = halts w s (phase_after s.fails) (at + s.seconds) in
+    let progress = map (λ (p : ℕ × What). event w s (at + p.0) p.1) (between s) in
+    let ends = map (λ what. event w s (at + (seconds_of s)) what) (endings s) in
+    let halt = halts w s (phase_after s.fails) (at + (seconds_of s)) in
     All-cons (CanHappen work) (event w s at Start) (progress ++ ends ++ halt) refl
     (All-append (CanHappen work) (progress ++ ends) halt
     (All-append (CanHappen work) progress ends
-    (All-map (CanHappen work) (λ (p : ℕ). event w s (at + p) (Progress p)) (progress_times s.seconds) (all-members (progress_times s.seconds)))
-    (All-map (CanHappen work) (λ what. event w s (at + s.seconds) what) (endings s) (all-endings outcome.seconds outcome.result)))
-    (all-halts work w c n kind (phase_after s.fails) (at + s.seconds) (s.halts (phase_after s.fails)) (asked_after s.fails) (few-step work c n kind (phase_after s.fails) few)))
+    (All-map (CanHappen work) (λ (p : ℕ × What). event w s (at + p.0) p.1) (between s) (along_happens outcome))
+    (All-map (CanHappen work) (λ what. event w s (at + (seconds_of s)) what) (endings s) (all-endings outcome)))
+    (all-halts work w c n kind (phase_after s.fails) (at + (seconds_of s)) (s.halts (phase_after s.fails)) (asked_after s.fails) (few-step work c n kind (phase_after s.fails) few)))
 
 all-step : (work : Work) (w c n : ℕ) (kind : StepKind) (at : ℕ) → length work.hooks ≤ max_hooks → All (CanHappen work) (step_events w (step_of work c n kind) at)
 all-step work w c n kind at few = all-step-at work w c n kind at ((step_of work c n kind).halts Pre) (few-step work c n kind Pre few) few

@@ -9,12 +9,12 @@ use Rattle.apply_plan.specs.declared.plan.step_kind.StepKind.TheVariants.{Create
 use Rattle.apply_hooks.specs.declared.phase.Phase.{Phase}
 use Rattle.apply_hooks.specs.declared.phase.Phase.TheVariants.{Pre}
 use Rattle.apply_events.specs.declared.event.Event.{Event}
-use Rattle.apply_events.specs.declared.what.What.TheVariants.{Progress, Halted, Start}
+use Rattle.apply_events.specs.declared.what.What.{What}
+use Rattle.apply_events.specs.declared.what.What.TheVariants.{Halted, Start}
 use Rattle.apply_events.specs.ChangeEvents.{begun, change_events, in_turn, span_of}
 use Rattle.apply_events.specs.OfWorker.{of_worker}
-use Rattle.apply_events.specs.ProgressTimes.{progress_times}
 use Rattle.apply_events.specs.Step.{Step, Work, steps_of}
-use Rattle.apply_events.specs.StepEvents.{endings, event, halts, phase_after, started, step_events, step_time}
+use Rattle.apply_events.specs.StepEvents.{between, endings, event, halts, phase_after, seconds_of, started, step_events, step_time}
 use Rattle.apply_events.specs.Totals.{completes, is_errored, is_halted, plus, totals_of}
 use Rattle.apply_events.specs.WorkerEvents.{worker_events}
 
@@ -53,12 +53,12 @@ own-halts w s phase at (Some hook) = rw (itself w) refl
 
 own-started : (w : ℕ) (s : Step) (at : ℕ) → of_worker w (started w s at) ≡ started w s at
 own-started w s at =
-    own-append w (event w s at Start ∷ [] ++ map (λ p. event w s (at + p) (Progress p)) (progress_times s.seconds) ++ map (λ what. event w s (at + s.seconds) what) (endings s)) (halts w s (phase_after s.fails) (at + s.seconds))
-    (own-append w (event w s at Start ∷ [] ++ map (λ p. event w s (at + p) (Progress p)) (progress_times s.seconds)) (map (λ what. event w s (at + s.seconds) what) (endings s))
-    (own-append w (event w s at Start ∷ []) (map (λ p. event w s (at + p) (Progress p)) (progress_times s.seconds)) (rw (itself w) refl)
-    (own-map w (λ p. event w s (at + p) (Progress p)) (progress_times s.seconds) (λ p. refl)))
-    (own-map w (λ what. event w s (at + s.seconds) what) (endings s) (λ what. refl)))
-    (own-halts w s (phase_after s.fails) (at + s.seconds) (s.halts (phase_after s.fails)))
+    own-append w (event w s at Start ∷ [] ++ map (λ (p : ℕ × What). event w s (at + p.0) p.1) (between s) ++ map (λ what. event w s (at + (seconds_of s)) what) (endings s)) (halts w s (phase_after s.fails) (at + (seconds_of s)))
+    (own-append w (event w s at Start ∷ [] ++ map (λ (p : ℕ × What). event w s (at + p.0) p.1) (between s)) (map (λ what. event w s (at + (seconds_of s)) what) (endings s))
+    (own-append w (event w s at Start ∷ []) (map (λ (p : ℕ × What). event w s (at + p.0) p.1) (between s)) (rw (itself w) refl)
+    (own-map w (λ (p : ℕ × What). event w s (at + p.0) p.1) (between s) (λ p. refl)))
+    (own-map w (λ what. event w s (at + (seconds_of s)) what) (endings s) (λ what. refl)))
+    (own-halts w s (phase_after s.fails) (at + (seconds_of s)) (s.halts (phase_after s.fails)))
 
 own-step : (w : ℕ) (s : Step) (at : ℕ) → of_worker w (step_events w s at) ≡ step_events w s at
 own-step w s at = own-step-at w s at (s.halts Pre)

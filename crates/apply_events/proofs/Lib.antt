@@ -5,11 +5,14 @@ pub mod Ends
 pub mod EventsFit
 pub mod Interleaved
 pub mod Joined
+pub mod MidSteps
 pub mod Moments
 pub mod Numbers
 pub mod Parts
 pub mod PlannedSteps
 pub mod ProgressTimes
+pub mod Provisions
+pub mod ProvisionsFit
 pub mod Rising
 pub mod Stages
 pub mod StepNumbers

@@ -6,64 +6,54 @@ use Rattle.std.proofs.lemmas.Bool.Decides.{eqb_tells}
 use Rattle.std.proofs.lemmas.List.Sums.{sum_by-cons}
 use Rattle.std.proofs.lemmas.Map.Steps.{length-le_from_distinct_below}
 use Rattle.apply_plan.specs.declared.plan.step_kind.StepKind.{StepKind}
-use Rattle.apply_plan.specs.Script.Outcome.{max_seconds}
+use Rattle.apply_plan.specs.Script.Limits.{max_seconds}
 use Rattle.apply_plan.specs.Script.Outcomes.{IsInRange, given_outcome}
 use Rattle.apply_plan.specs.declared.script.outcome.Outcome.{Outcome}
-use Rattle.apply_plan.specs.Script.Outcome.{default_outcome}
+use Rattle.apply_plan.specs.Script.Outcome.{IsBounded, default_outcome, took}
 use Rattle.std.specs.Prelude.{unwrap_or}
 use Rattle.apply_hooks.specs.declared.phase.Phase.{Phase}
 use Rattle.apply_hooks.specs.declared.phase.Phase.TheVariants.{Pre}
 use Rattle.apply_events.specs.declared.event.Event.{Event}
-use Rattle.apply_events.specs.declared.what.What.TheVariants.{Progress, Halted}
+use Rattle.apply_events.specs.declared.what.What.{What}
+use Rattle.apply_events.specs.declared.what.What.TheVariants.{Halted}
 use Rattle.apply_events.specs.ChangeEvents.{begun, change_events, in_turn, span_of}
 use Rattle.apply_events.specs.Fits.{latest}
 use Rattle.apply_events.specs.Laws.{IsWithinLimits, NamesEachOnce}
-use Rattle.apply_events.specs.ProgressTimes.{is_multiple_of_ten, progress_times}
 use Rattle.apply_events.specs.Step.{Step, Work, kinds_of, step_of, steps_of}
-use Rattle.apply_events.specs.StepEvents.{endings, event, goes_on, halts, phase_after, started, step_events, step_time}
+use Rattle.apply_events.specs.StepEvents.{between, endings, event, goes_on, halts, phase_after, seconds_of, started, step_events, step_time}
 use Rattle.apply_events.specs.WorkerEvents.{worker_events}
+use Rattle.apply_events.proofs.MidSteps.{ran_short}
+use Rattle.apply_events.proofs.Provisions.{along_rises, time_of}
 use Rattle.apply_events.proofs.Rising.{Rises, Rises-append, Rises-at_most, Rises-higher, Rises-lower, Rises-map_more, Rises-map_same}
 
 abbrev pub moment_of : Event → ℕ
 moment_of e = e.at
 
-filter_rises : (test : ℕ → Bool) (low n : ℕ) → Rises (λ x. x) low (low + n) (filter test (range_with_len low n))
-filter_rises test low zero = omega arith
-filter_rises test low (suc n) =
-    let rest : Rises (λ x. x) (low + 1) (low + suc n) (filter test (range_with_len (low + 1) n)) = (let e : low + 1 + n ≡ low + suc n = omega arith in rw (← e) (filter_rises test (low + 1) n)) in
-    elim (test low) as (λ b. Rises (λ x. x) low (low + suc n) (cond b (low ∷ filter test (range_with_len (low + 1) n)) (filter test (range_with_len (low + 1) n)))) [
-      | true ↦ (omega arith, Rises-lower (λ x. x) low (low + 1) (low + suc n) (filter test (range_with_len (low + 1) n)) (omega arith) rest)
-      | false ↦ Rises-lower (λ x. x) low (low + 1) (low + suc n) (filter test (range_with_len (low + 1) n)) (omega arith) rest
-    ]
-
-progress_rises : (d : ℕ) → Rises (λ x. x) 0 d (progress_times d)
-progress_rises zero = omega arith
-progress_rises (suc d) =
-    let less : suc d - 1 ≡ d = omega arith in
-    let high : 1 + d ≡ suc d = omega arith in
-    Rises-lower (λ x. x) 0 1 (suc d) (progress_times (suc d)) (omega arith)
-    (rw less (rw high at (filter_rises is_multiple_of_ten 1 d)))
-
 halts_rise : (w : ℕ) (s : Step) (phase : Phase) (at : ℕ) (found : Option ℕ) → Rises moment_of at at (option_to_list (option_map (λ hook. event w s at (Halted phase hook)) found))
 halts_rise w s phase at None = omega arith
 halts_rise w s phase at (Some hook) = (omega arith, omega arith)
 
-started_rise : (w : ℕ) (s : Step) (at : ℕ) → Rises moment_of at (at + s.seconds) (started w s at)
+-- as much later as it is behind the start
+moments_rise : (w : ℕ) (s : Step) (at low high : ℕ) (xs : List (ℕ × What)) → Rises time_of low high xs → Rises moment_of (at + low) (at + high) (map (λ (p : ℕ × What). event w s (at + p.0) p.1) xs)
+moments_rise w s at low high [] h = omega arith
+moments_rise w s at low high (x ∷ xs) h = (let first : low ≤ x.0 = h.0 in omega arith, moments_rise w s at x.0 high xs h.1)
+
+started_rise : (w : ℕ) (s : Step) (at : ℕ) → Rises moment_of at (at + (seconds_of s)) (started w s at)
 started_rise w s at =
-    let progress = map (λ (p : ℕ). event w s (at + p) (Progress p)) (progress_times s.seconds) in
-    let ends = map (λ what. event w s (at + s.seconds) what) (endings s) in (
+    let progress = map (λ (p : ℕ × What). event w s (at + p.0) p.1) (between s) in
+    let ends = map (λ what. event w s (at + (seconds_of s)) what) (endings s) in (
       omega arith,
-      Rises-append moment_of at (at + s.seconds) (at + s.seconds) (progress ++ ends) (halts w s (phase_after s.fails) (at + s.seconds))
-          (Rises-append moment_of at (at + s.seconds) (at + s.seconds) progress ends
-          (let none : at + 0 ≡ at = omega arith in rw none at (Rises-map_more moment_of (λ p. event w s (at + p) (Progress p)) at 0 s.seconds (progress_times s.seconds) (λ p. refl) (progress_rises s.seconds)))
-          (Rises-map_same moment_of (λ what. event w s (at + s.seconds) what) (at + s.seconds) (endings s) (λ what. refl)))
-          (halts_rise w s (phase_after s.fails) (at + s.seconds) (s.halts (phase_after s.fails))),
+      Rises-append moment_of at (at + (seconds_of s)) (at + (seconds_of s)) (progress ++ ends) (halts w s (phase_after s.fails) (at + (seconds_of s)))
+          (Rises-append moment_of at (at + (seconds_of s)) (at + (seconds_of s)) progress ends
+          (let none : at + 0 ≡ at = omega arith in rw none at (moments_rise w s at 0 (seconds_of s) (between s) (along_rises (seconds_of s) s.provider_seconds s.ran)))
+          (Rises-map_same moment_of (λ what. event w s (at + (seconds_of s)) what) (at + (seconds_of s)) (endings s) (λ what. refl)))
+          (halts_rise w s (phase_after s.fails) (at + (seconds_of s)) (s.halts (phase_after s.fails))),
     )
 
 step_rises : (w : ℕ) (s : Step) (at : ℕ) → Rises moment_of at (at + step_time s) (step_events w s at)
 step_rises w s at = step_rises-at w s at (s.halts Pre)
   where
-    step_rises-at : (w : ℕ) (s : Step) (at : ℕ) (found : Option ℕ) → Rises moment_of at (at + cond (is_some found) 0 s.seconds) (cond (is_some found) (option_to_list (option_map (λ hook. event w s at (Halted Pre hook)) found)) (started w s at))
+    step_rises-at : (w : ℕ) (s : Step) (at : ℕ) (found : Option ℕ) → Rises moment_of at (at + cond (is_some found) 0 (seconds_of s)) (cond (is_some found) (option_to_list (option_map (λ hook. event w s at (Halted Pre hook)) found)) (started w s at))
     step_rises-at w s at None = started_rise w s at
     step_rises-at w s at (Some hook) = (omega arith, omega arith)
 
@@ -100,16 +90,16 @@ change_first work w c at = steps_first w (begun (steps_of work c)) at
 
 -- ---- how late it can be
 
-short : (found : Option Outcome) → IfSome found (λ outcome. outcome.seconds ≤ max_seconds) → (unwrap_or found default_outcome).seconds ≤ 86400
+short : (found : Option Outcome) → IfSome found IsBounded → took (unwrap_or found default_outcome) ≤ 86400
 short None h = omega arith
-short (Some outcome) h = h
+short (Some outcome) h = let less = ran_short outcome.provisioners in let all = h.short in omega arith
 
-time_short : (s : Step) → s.seconds ≤ 86400 → step_time s ≤ 86400
-time_short s h = elim (is_some (s.halts Pre)) as (λ b. cond b 0 s.seconds ≤ 86400) [ true ↦ omega arith | false ↦ h ]
+time_short : (s : Step) → (seconds_of s) ≤ 86400 → step_time s ≤ 86400
+time_short s h = elim (is_some (s.halts Pre)) as (λ b. cond b 0 (seconds_of s) ≤ 86400) [ true ↦ omega arith | false ↦ h ]
 
 abbrev AreShort : List Step → Type 0
 AreShort [] = Unit {0}
-AreShort (s ∷ steps) = (s.seconds ≤ 86400) × AreShort steps
+AreShort (s ∷ steps) = ((seconds_of s) ≤ 86400) × AreShort steps
 
 planned_short : (work : Work) (c n : ℕ) (kinds : List StepKind) → IsInRange work.script → AreShort (map (λ p. step_of work c p.0 p.1) (enumerate_from n kinds))
 planned_short work c n [] range = tt

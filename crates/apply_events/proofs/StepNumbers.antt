@@ -6,14 +6,17 @@ use Rattle.apply_plan.specs.declared.plan.step_kind.StepKind.{StepKind}
 use Rattle.apply_hooks.specs.declared.phase.Phase.{Phase}
 use Rattle.apply_hooks.specs.declared.phase.Phase.TheVariants.{Pre, PostDone}
 use Rattle.apply_events.specs.declared.event.Event.{Event}
+use Rattle.apply_events.specs.declared.mid_step.MidStep.{MidStep}
 use Rattle.apply_events.specs.declared.stage.Stage.{Stage}
 use Rattle.apply_events.specs.declared.stage.Stage.TheVariants.{Before, Running, Noting, Halting, Over}
-use Rattle.apply_events.specs.declared.what.What.TheVariants.{Progress, Halted}
+use Rattle.apply_events.specs.declared.what.What.{What}
+use Rattle.apply_events.specs.declared.what.What.TheVariants.{Halted}
 use Rattle.apply_events.specs.ChangeEvents.{begun, in_turn}
+use Rattle.apply_events.specs.MidStep.{left_of}
 use Rattle.apply_events.specs.Notes.{note_of}
-use Rattle.apply_events.specs.Stages.{behind, events_from, from_stage, halt_after, running, tens_between}
+use Rattle.apply_events.specs.Stages.{behind, events_from, from_stage, halt_after, running}
 use Rattle.apply_events.specs.Step.{Step, Work, kinds_of, step_of, steps_of}
-use Rattle.apply_events.specs.StepEvents.{endings, event, goes_on, halts, phase_after, started, step_events, step_time}
+use Rattle.apply_events.specs.StepEvents.{between, endings, event, goes_on, halts, phase_after, seconds_of, started, step_events, step_time}
 use Rattle.apply_events.proofs.Rising.{Rises, Rises-append, Rises-higher, Rises-lower, Rises-map_same}
 
 -- the steps are numbered from n on
@@ -48,19 +51,24 @@ halts_rise : (w : ℕ) (s : Step) (phase : Phase) (at : ℕ) (found : Option ℕ
 halts_rise w s phase at None = omega arith
 halts_rise w s phase at (Some hook) = (omega arith, omega arith)
 
-pub running_rise : (w : ℕ) (s : Step) (at told : ℕ) → Rises number_of s.number s.number (running w s at told)
-running_rise w s at told =
-    Rises-append number_of s.number s.number s.number (map (λ p. event w s (at + p) (Progress p)) (tens_between told s.seconds) ++ map (λ what. event w s (at + s.seconds) what) (endings s)) (halts w s (phase_after s.fails) (at + s.seconds))
-    (Rises-append number_of s.number s.number s.number (map (λ p. event w s (at + p) (Progress p)) (tens_between told s.seconds)) (map (λ what. event w s (at + s.seconds) what) (endings s))
-    (Rises-map_same number_of (λ p. event w s (at + p) (Progress p)) s.number (tens_between told s.seconds) (λ p. refl))
-    (Rises-map_same number_of (λ what. event w s (at + s.seconds) what) s.number (endings s) (λ what. refl)))
-    (halts_rise w s (phase_after s.fails) (at + s.seconds) (s.halts (phase_after s.fails)))
+-- what happens before the end, and then the end
+told_rise : (w : ℕ) (s : Step) (at : ℕ) (xs : List (ℕ × What)) → Rises number_of s.number s.number
+    (map (λ (p : ℕ × What). event w s (at + p.0) p.1) xs ++ map (λ what. event w s (at + seconds_of s) what) (endings s) ++ halts w s (phase_after s.fails) (at + seconds_of s))
+told_rise w s at xs =
+    Rises-append number_of s.number s.number s.number (map (λ (p : ℕ × What). event w s (at + p.0) p.1) xs ++ map (λ what. event w s (at + seconds_of s) what) (endings s)) (halts w s (phase_after s.fails) (at + seconds_of s))
+    (Rises-append number_of s.number s.number s.number (map (λ (p : ℕ × What). event w s (at + p.0) p.1) xs) (map (λ what. event w s (at + seconds_of s) what) (endings s))
+    (Rises-map_same number_of (λ (p : ℕ × What). event w s (at + p.0) p.1) s.number xs (λ p. refl))
+    (Rises-map_same number_of (λ what. event w s (at + seconds_of s) what) s.number (endings s) (λ what. refl)))
+    (halts_rise w s (phase_after s.fails) (at + seconds_of s) (s.halts (phase_after s.fails)))
+
+pub running_rise : (w : ℕ) (s : Step) (at : ℕ) (mid : MidStep) → Rises number_of s.number s.number (running w s at mid)
+running_rise w s at mid = told_rise w s at (left_of s.provider_seconds s.ran mid)
 
 pub step_events_rise : (w : ℕ) (s : Step) (at : ℕ) → Rises number_of s.number s.number (step_events w s at)
 step_events_rise w s at = step_events_rise-at w s at (s.halts Pre)
   where
     step_events_rise-at : (w : ℕ) (s : Step) (at : ℕ) (found : Option ℕ) → Rises number_of s.number s.number (cond (is_some found) (option_to_list (option_map (λ hook. event w s at (Halted Pre hook)) found)) (started w s at))
-    step_events_rise-at w s at None = (omega arith, running_rise w s at 0)
+    step_events_rise-at w s at None = (omega arith, told_rise w s at (between s))
     step_events_rise-at w s at (Some hook) = (omega arith, omega arith)
 
 pub in_turn_rise : (w n : ℕ) (steps : List Step) (at : ℕ) → AreNumbered n steps → Rises number_of n (n + length steps) (in_turn (step_events w) step_time steps at)
@@ -85,9 +93,9 @@ events_from_rise w n steps at h =
 
 behind_rise : (w n : ℕ) (s : Step) (steps : List Step) (at : ℕ) → AreNumbered (n + 1) steps → Rises number_of n (n + suc (length steps)) (behind w s steps at)
 behind_rise w n s steps at h =
-    elim (not s.fails && is_none (s.halts PostDone)) as (λ b. Rises number_of n (n + suc (length steps)) (cond b (events_from w steps (at + s.seconds)) [])) [
-      | true ↦ Rises-lower number_of n (n + 1) (n + suc (length steps)) (events_from w steps (at + s.seconds)) (omega arith)
-          (let high : n + 1 + length steps ≡ n + suc (length steps) = omega arith in rw (← high) (events_from_rise w (n + 1) steps (at + s.seconds) h))
+    elim (not s.fails && is_none (s.halts PostDone)) as (λ b. Rises number_of n (n + suc (length steps)) (cond b (events_from w steps (at + (seconds_of s))) [])) [
+      | true ↦ Rises-lower number_of n (n + 1) (n + suc (length steps)) (events_from w steps (at + (seconds_of s))) (omega arith)
+          (let high : n + 1 + length steps ≡ n + suc (length steps) = omega arith in rw (← high) (events_from_rise w (n + 1) steps (at + (seconds_of s)) h))
       | false ↦ omega arith
     ]
 
@@ -98,13 +106,13 @@ after_rise w n s steps at events h own =
     Rises-append number_of n n (n + suc (length steps)) events (behind w s steps at) (rw here at own) (behind_rise w n s steps at h.1)
 
 -- the events to come are of the steps that are left
-pub to_come_rise : (w n : ℕ) (left : List Step) (at told : ℕ) (stage : Stage) → AreNumbered n left → Rises number_of n (n + length left) (from_stage w left at told stage)
-to_come_rise w n left at told Before h = events_from_rise w n left at h
-to_come_rise w n left at told Over h = omega arith
-to_come_rise w n [] at told Running h = omega arith
-to_come_rise w n [] at told Noting h = omega arith
-to_come_rise w n [] at told (Halting hook) h = omega arith
-to_come_rise w n (s ∷ steps) at told Running h = after_rise w n s steps at (running w s at told) h (running_rise w s at told)
-to_come_rise w n (s ∷ steps) at told Noting h =
-    after_rise w n s steps at (event w s (at + s.seconds) (note_of s.fails) ∷ halt_after w s at) h (omega arith, halts_rise w s (phase_after s.fails) (at + s.seconds) (s.halts (phase_after s.fails)))
-to_come_rise w n (s ∷ steps) at told (Halting hook) h = let here : s.number ≡ n = h.0 in (omega arith, omega arith)
+pub to_come_rise : (w n : ℕ) (left : List Step) (at : ℕ) (stage : Stage) → AreNumbered n left → Rises number_of n (n + length left) (from_stage w left at stage)
+to_come_rise w n left at Before h = events_from_rise w n left at h
+to_come_rise w n left at Over h = omega arith
+to_come_rise w n [] at (Running mid) h = omega arith
+to_come_rise w n [] at Noting h = omega arith
+to_come_rise w n [] at (Halting hook) h = omega arith
+to_come_rise w n (s ∷ steps) at (Running mid) h = after_rise w n s steps at (running w s at mid) h (running_rise w s at mid)
+to_come_rise w n (s ∷ steps) at Noting h =
+    after_rise w n s steps at (event w s (at + (seconds_of s)) (note_of s.fails) ∷ halt_after w s at) h (omega arith, halts_rise w s (phase_after s.fails) (at + (seconds_of s)) (s.halts (phase_after s.fails)))
+to_come_rise w n (s ∷ steps) at (Halting hook) h = let here : s.number ≡ n = h.0 in (omega arith, omega arith)

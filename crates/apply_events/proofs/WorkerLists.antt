@@ -10,12 +10,11 @@ use Rattle.apply_hooks.specs.declared.phase.Phase.{Phase}
 use Rattle.apply_hooks.specs.declared.phase.Phase.TheVariants.{Pre}
 use Rattle.apply_events.specs.declared.event.Event.{Event}
 use Rattle.apply_events.specs.declared.what.What.{What}
-use Rattle.apply_events.specs.declared.what.What.TheVariants.{Progress, Halted, Start}
+use Rattle.apply_events.specs.declared.what.What.TheVariants.{Halted, Start}
 use Rattle.apply_events.specs.ChangeEvents.{begun, change_events, in_turn, span_of}
 use Rattle.apply_events.specs.Fits.{HasStep}
-use Rattle.apply_events.specs.ProgressTimes.{progress_times}
 use Rattle.apply_events.specs.Step.{Step, Work, kinds_of, step_of, steps_of}
-use Rattle.apply_events.specs.StepEvents.{endings, event, goes_on, halts, phase_after, started, step_events, step_time}
+use Rattle.apply_events.specs.StepEvents.{between, endings, event, goes_on, halts, phase_after, seconds_of, started, step_events, step_time}
 use Rattle.apply_events.specs.WorkerEvents.{worker_events}
 
 -- ---- what holds of whatever happens to a step holds of its events
@@ -34,15 +33,15 @@ all-halts P w s phase at (Some hook) h = All-cons P (event w s at (Halted phase 
 
 all-started : (P : Event → Type 0) (w : ℕ) (s : Step) (at : ℕ) → Suits P w s → All P (started w s at)
 all-started P w s at h =
-    let progress = map (λ (p : ℕ). event w s (at + p) (Progress p)) (progress_times s.seconds) in
-    let ends = map (λ what. event w s (at + s.seconds) what) (endings s) in
-    let halt = halts w s (phase_after s.fails) (at + s.seconds) in
+    let progress = map (λ (p : ℕ × What). event w s (at + p.0) p.1) (between s) in
+    let ends = map (λ what. event w s (at + (seconds_of s)) what) (endings s) in
+    let halt = halts w s (phase_after s.fails) (at + (seconds_of s)) in
     All-cons P (event w s at Start) (progress ++ ends ++ halt) (h at Start)
     (All-append P (progress ++ ends) halt
     (All-append P progress ends
-    (all-map P (λ (p : ℕ). event w s (at + p) (Progress p)) (progress_times s.seconds) (λ p. h (at + p) (Progress p)))
-    (all-map P (λ what. event w s (at + s.seconds) what) (endings s) (λ what. h (at + s.seconds) what)))
-    (all-halts P w s (phase_after s.fails) (at + s.seconds) (s.halts (phase_after s.fails)) h))
+    (all-map P (λ (p : ℕ × What). event w s (at + p.0) p.1) (between s) (λ p. h (at + p.0) p.1))
+    (all-map P (λ what. event w s (at + (seconds_of s)) what) (endings s) (λ what. h (at + (seconds_of s)) what)))
+    (all-halts P w s (phase_after s.fails) (at + (seconds_of s)) (s.halts (phase_after s.fails)) h))
 
 all-step : (P : Event → Type 0) (w : ℕ) (s : Step) (at : ℕ) → Suits P w s → All P (step_events w s at)
 all-step P w s at h = all-step-at P w s at (s.halts Pre) h

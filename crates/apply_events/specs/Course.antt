@@ -4,7 +4,7 @@ use Rattle.std.specs.List.{list_any}
 use Rattle.apply_hooks.specs.declared.phase.Phase.TheVariants.{Pre, PostDone, PostFailed}
 use Rattle.apply_events.specs.declared.event.Event.{Event}
 use Rattle.apply_events.specs.declared.what.What.{What}
-use Rattle.apply_events.specs.declared.what.What.TheVariants.{Start, Progress, Complete, Errored, ErrorNote, WarnNote, Halted}
+use Rattle.apply_events.specs.declared.what.What.TheVariants.{Start, Progress, Complete, Errored, ErrorNote, WarnNote, Halted, ProvisionStart, ProvisionOutput, ProvisionComplete, ProvisionErrored}
 use Rattle.apply_events.specs.ChangeEvents.{begun, span_of}
 use Rattle.apply_events.specs.Step.{Step, Work, steps_of}
 use Rattle.apply_events.specs.StepEvents.{step_time}
@@ -16,10 +16,10 @@ pub record Course : Type 0 where
   pub change : ℕ
   pub begin : ℕ
 
--- the event that is given is the first of those to come, and the others stay
-abbrev pub GivesNext : List Event → Option Event → List Event → Type 0
+-- what is given is the first of what is to come, and the others stay
+abbrev pub GivesNext : {X : Type 0} → List X → Option X → List X → Type 0
 GivesNext before None after = (before ≡ []) × (after ≡ [])
-GivesNext before (Some event) after = before ≡ event ∷ after
+GivesNext before (Some first) after = before ≡ first ∷ after
 
 -- a step begins with it
 abbrev pub is_beginning : What → Bool
@@ -32,6 +32,10 @@ is_beginning (Complete seconds) = false
 is_beginning (Errored seconds) = false
 is_beginning ErrorNote = false
 is_beginning WarnNote = false
+is_beginning (ProvisionStart provisioner) = false
+is_beginning (ProvisionOutput provisioner line) = false
+is_beginning (ProvisionComplete provisioner) = false
+is_beginning (ProvisionErrored provisioner) = false
 
 -- the step with whose first event the list begins, if it begins so
 abbrev pub beginning_of : List Event → Option ℕ

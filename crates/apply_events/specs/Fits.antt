@@ -1,17 +1,20 @@
 -- Events that can happen, with a plan and a script, under some hooks.
-use Rattle.std.specs.Prelude.{ℕ, ◌<◌, ◌≤◌, ◌==◌, length, Bool, true, ◌&&◌, not, nat_lt, IsTrue}
+use Rattle.std.specs.Prelude.{ℕ, ◌<◌, ◌≤◌, ◌==◌, length, slice_get, Bool, true, false, ◌&&◌, not, nat_lt, IsTrue}
 use Rattle.std.specs.List.{list_any}
+use Rattle.std.specs.Option.{option_map_or}
 use Rattle.apply_plan.specs.declared.script.outcome.Outcome.{Outcome}
+use Rattle.apply_plan.specs.declared.script.provisioner.Provisioner.{Provisioner}
 use Rattle.apply_plan.specs.Plan.SavedPlan.{SavedPlan}
+use Rattle.apply_plan.specs.Script.Outcome.{fails, has_failed, ran, took}
 use Rattle.apply_plan.specs.Script.Outcomes.{Outcomes, outcome_of}
 use Rattle.apply_hooks.specs.declared.phase.Phase.{Phase}
 use Rattle.apply_hooks.specs.declared.phase.Phase.TheVariants.{Pre, PostDone, PostFailed}
 use Rattle.apply_hooks.specs.Hooks.{max_hooks}
 use Rattle.apply_events.specs.declared.event.Event.{Event}
 use Rattle.apply_events.specs.declared.what.What.{What}
-use Rattle.apply_events.specs.declared.what.What.TheVariants.{Start, Progress, Complete, Errored, ErrorNote, WarnNote, Halted}
+use Rattle.apply_events.specs.declared.what.What.TheVariants.{Start, Progress, Complete, Errored, ErrorNote, WarnNote, Halted, ProvisionStart, ProvisionOutput, ProvisionComplete, ProvisionErrored}
 use Rattle.apply_events.specs.ProgressTimes.{progress_times}
-use Rattle.apply_events.specs.Step.{has_warning, is_failed, kinds_of}
+use Rattle.apply_events.specs.Step.{has_warning, kinds_of}
 
 -- the greatest moment of an event, in seconds: 10,000 changes of two steps, each of a day
 abbrev pub latest : ℕ
@@ -31,15 +34,23 @@ may_be_asked fails Pre = true
 may_be_asked fails PostDone = not fails
 may_be_asked fails PostFailed = fails
 
+-- provisioner i of a step with that outcome runs, and passes the test
+abbrev pub runs : Outcome → (i : ℕ) → (Provisioner → Bool) → Bool
+runs outcome i test = option_map_or test (slice_get (ran outcome.provisioners) i) false
+
 -- it can happen to a step with that outcome
 abbrev pub can_happen : Outcome → What → Bool
 can_happen outcome Start = true
-can_happen outcome (Progress seconds) = list_any (λ time. time == seconds) (progress_times outcome.seconds)
-can_happen outcome (Complete seconds) = not (is_failed outcome.result) && seconds == outcome.seconds
-can_happen outcome (Errored seconds) = is_failed outcome.result && seconds == outcome.seconds
-can_happen outcome ErrorNote = is_failed outcome.result
-can_happen outcome WarnNote = has_warning outcome.result
-can_happen outcome (Halted phase hook) = may_be_asked (is_failed outcome.result) phase && nat_lt hook max_hooks
+can_happen outcome (Progress seconds) = list_any (λ time. time == seconds) (progress_times (took outcome))
+can_happen outcome (Complete seconds) = not (fails outcome) && seconds == took outcome
+can_happen outcome (Errored seconds) = fails outcome && seconds == took outcome
+can_happen outcome ErrorNote = fails outcome
+can_happen outcome WarnNote = not (fails outcome) && has_warning outcome.result
+can_happen outcome (Halted phase hook) = may_be_asked (fails outcome) phase && nat_lt hook max_hooks
+can_happen outcome (ProvisionStart i) = runs outcome i (λ provisioner. true)
+can_happen outcome (ProvisionOutput i line) = runs outcome i (λ provisioner. nat_lt line (length provisioner.output))
+can_happen outcome (ProvisionComplete i) = runs outcome i (λ provisioner. not (has_failed provisioner))
+can_happen outcome (ProvisionErrored i) = runs outcome i has_failed
 
 -- the event can happen; the worker is not looked at
 pub record Fits (plan : SavedPlan) (script : Outcomes) (event : Event) : Type 0 where

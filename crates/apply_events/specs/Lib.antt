@@ -4,10 +4,12 @@ pub mod Fits
 pub mod Interleaving
 pub mod Lanes
 pub mod Laws
+pub mod MidStep
 pub mod Notes
 pub mod OfWorker
 pub mod Partition
 pub mod ProgressTimes
+pub mod Provisions
 pub mod Runner
 pub mod RunnerStep
 pub mod Stages

@@ -21,4 +21,4 @@ left_of r = drop r.step (steps_of (course_of r).work r.change)
 
 -- the events that are still to come
 abbrev pub to_come : {a b : _} {g : _} → Runner a b g → List Event
-to_come r = from_stage r.worker (left_of r) r.at r.told r.stage
+to_come r = from_stage r.worker (left_of r) r.at r.stage

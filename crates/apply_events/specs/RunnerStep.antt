@@ -1,7 +1,12 @@
 -- The step that a runner has at hand, for private clauses.
-use Rattle.std.specs.Prelude.{◌+◌, List, drop}
+use Rattle.std.specs.Prelude.{ℕ, ◌+◌, List, drop}
 use Rattle.apply_plan.specs.declared.plan.step_kind.StepKind.{StepKind}
+use Rattle.apply_plan.specs.Script.Outcome.{ran}
+use Rattle.apply_plan.specs.Script.Outcomes.{outcome_of}
+use Rattle.apply_events.specs.declared.mid_step.MidStep.{MidStep}
 use Rattle.apply_events.specs.declared.runner.Runner.{Runner}
+use Rattle.apply_events.specs.declared.what.What.{What}
+use Rattle.apply_events.specs.MidStep.{left_of}
 use Rattle.apply_events.specs.Runner.{course_of}
 use Rattle.apply_events.specs.Step.{Step, step_of, steps_of}
 
@@ -12,3 +17,8 @@ step_at_hand r kind = step_of (course_of r).work r.change r.step kind
 -- the steps behind it
 abbrev pub rest_of : {a b : _} {g : _} → Runner a b g → List Step
 rest_of r = drop (r.step + 1) (steps_of (course_of r).work r.change)
+
+-- what still happens to it before its end, where it is so far
+abbrev pub left_before : {a b : _} {g : _} → Runner a b g → MidStep → List (ℕ × What)
+left_before r mid =
+    left_of (outcome_of r.script.now r.change r.step).seconds (ran (outcome_of r.script.now r.change r.step).provisioners) mid

@@ -1,31 +1,28 @@
 -- What is still to come at each stage of a step: what contracts see of a runner.
-use Rattle.std.specs.Prelude.{◌≡◌, ℕ, ◌+◌, ◌-◌, None, List, [], ◌∷◌, ◌++◌, drop, filter, map, sum_by, take, Bool, true, not, ◌&&◌, is_none, if◌then◌else◌}
-use Rattle.std.specs.List.{list_all, range_with_len}
+use Rattle.std.specs.Prelude.{◌≡◌, ℕ, ◌+◌, None, List, [], ◌∷◌, ◌++◌, drop, map, sum_by, take, Bool, true, not, ◌&&◌, is_none, if◌then◌else◌}
+use Rattle.std.specs.List.{list_all}
 use Rattle.apply_hooks.specs.declared.phase.Phase.TheVariants.{Pre, PostDone}
 use Rattle.apply_events.specs.declared.event.Event.{Event}
+use Rattle.apply_events.specs.declared.mid_step.MidStep.{MidStep}
 use Rattle.apply_events.specs.declared.stage.Stage.{Stage}
 use Rattle.apply_events.specs.declared.stage.Stage.TheVariants.{Before, Running, Noting, Halting, Over}
-use Rattle.apply_events.specs.declared.what.What.TheVariants.{Progress, Halted}
+use Rattle.apply_events.specs.declared.what.What.TheVariants.{Halted}
 use Rattle.apply_events.specs.ChangeEvents.{begun, in_turn}
+use Rattle.apply_events.specs.MidStep.{left_of}
 use Rattle.apply_events.specs.Notes.{note_of}
-use Rattle.apply_events.specs.ProgressTimes.{is_multiple_of_ten}
 use Rattle.apply_events.specs.Step.{Step}
-use Rattle.apply_events.specs.StepEvents.{endings, event, halts, goes_on, phase_after, step_events, step_time}
+use Rattle.apply_events.specs.StepEvents.{endings, event, halts, goes_on, phase_after, seconds_of, step_events, step_time}
 
--- the multiples of ten strictly between two numbers
-abbrev pub tens_between : ℕ → ℕ → List ℕ
-tens_between low high = filter is_multiple_of_ten (range_with_len (low + 1) (high - (low + 1)))
-
--- a step that has started at a moment, after so many seconds of progress
-abbrev pub running : (worker : ℕ) → Step → (at told : ℕ) → List Event
-running worker step at told =
-    map (λ p. event worker step (at + p) (Progress p)) (tens_between told step.seconds)
-    ++ map (λ what. event worker step (at + step.seconds) what) (endings step)
-    ++ halts worker step (phase_after step.fails) (at + step.seconds)
+-- a step that has started at a moment
+abbrev pub running : (worker : ℕ) → Step → (at : ℕ) → MidStep → List Event
+running worker step at mid =
+    map (λ p. event worker step (at + p.0) p.1) (left_of step.provider_seconds step.ran mid)
+    ++ map (λ what. event worker step (at + seconds_of step) what) (endings step)
+    ++ halts worker step (phase_after step.fails) (at + seconds_of step)
 
 -- the halt after it
 abbrev pub halt_after : (worker : ℕ) → Step → (at : ℕ) → List Event
-halt_after worker step at = halts worker step (phase_after step.fails) (at + step.seconds)
+halt_after worker step at = halts worker step (phase_after step.fails) (at + seconds_of step)
 
 -- the events of steps from a moment on
 abbrev pub events_from : (worker : ℕ) → List Step → (at : ℕ) → List Event
@@ -33,18 +30,21 @@ events_from worker steps at = in_turn (step_events worker) step_time (begun step
 
 -- the events behind a step that has started
 abbrev pub behind : (worker : ℕ) → Step → List Step → (at : ℕ) → List Event
-behind worker step steps at = if not step.fails && is_none (step.halts PostDone) then events_from worker steps (at + step.seconds) else []
+behind worker step steps at =
+    if not step.fails && is_none (step.halts PostDone) then events_from worker steps (at + seconds_of step) else []
 
 -- the events still to come at a stage of the first of the steps
-abbrev pub from_stage : (worker : ℕ) → List Step → (at told : ℕ) → Stage → List Event
-from_stage worker steps at told Before = events_from worker steps at
-from_stage worker steps at told Over = []
-from_stage worker [] at told Running = []
-from_stage worker [] at told Noting = []
-from_stage worker [] at told (Halting hook) = []
-from_stage worker (step ∷ steps) at told Running = running worker step at told ++ behind worker step steps at
-from_stage worker (step ∷ steps) at told Noting = event worker step (at + step.seconds) (note_of step.fails) ∷ (halt_after worker step at ++ behind worker step steps at)
-from_stage worker (step ∷ steps) at told (Halting hook) = event worker step (at + step.seconds) (Halted (phase_after step.fails) hook) ∷ []
+abbrev pub from_stage : (worker : ℕ) → List Step → (at : ℕ) → Stage → List Event
+from_stage worker steps at Before = events_from worker steps at
+from_stage worker steps at Over = []
+from_stage worker [] at (Running mid) = []
+from_stage worker [] at Noting = []
+from_stage worker [] at (Halting hook) = []
+from_stage worker (step ∷ steps) at (Running mid) = running worker step at mid ++ behind worker step steps at
+from_stage worker (step ∷ steps) at Noting =
+    event worker step (at + seconds_of step) (note_of step.fails) ∷ (halt_after worker step at ++ behind worker step steps at)
+from_stage worker (step ∷ steps) at (Halting hook) =
+    event worker step (at + seconds_of step) (Halted (phase_after step.fails) hook) ∷ []
 
 -- ---- where a runner may stand
 
@@ -52,7 +52,7 @@ from_stage worker (step ∷ steps) at told (Halting hook) = event worker step (a
 abbrev pub time_behind : List Step → (k : ℕ) → Stage → ℕ
 time_behind steps k Over = sum_by step_time (begun steps)
 time_behind steps k Before = sum_by step_time (take k steps)
-time_behind steps k Running = sum_by step_time (take k steps)
+time_behind steps k (Running mid) = sum_by step_time (take k steps)
 time_behind steps k Noting = sum_by step_time (take k steps)
 time_behind steps k (Halting hook) = sum_by step_time (take k steps)
 
@@ -60,10 +60,10 @@ time_behind steps k (Halting hook) = sum_by step_time (take k steps)
 abbrev pub is_reached : List Step → Stage → Bool
 is_reached steps Before = true
 is_reached steps Over = true
-is_reached [] Running = true
+is_reached [] (Running mid) = true
 is_reached [] Noting = true
 is_reached [] (Halting hook) = true
-is_reached (step ∷ steps) Running = is_none (step.halts Pre)
+is_reached (step ∷ steps) (Running mid) = is_none (step.halts Pre)
 is_reached (step ∷ steps) Noting = is_none (step.halts Pre)
 is_reached (step ∷ steps) (Halting hook) = is_none (step.halts Pre) && not (goes_on step)
 
@@ -71,7 +71,7 @@ is_reached (step ∷ steps) (Halting hook) = is_none (step.halts Pre) && not (go
 abbrev pub is_on_course : List Step → (k : ℕ) → Stage → Bool
 is_on_course steps k Over = true
 is_on_course steps k Before = list_all goes_on (take k steps)
-is_on_course steps k Running = list_all goes_on (take k steps) && is_reached (drop k steps) Running
+is_on_course steps k (Running mid) = list_all goes_on (take k steps) && is_reached (drop k steps) (Running mid)
 is_on_course steps k Noting = list_all goes_on (take k steps) && is_reached (drop k steps) Noting
 is_on_course steps k (Halting hook) = list_all goes_on (take k steps) && is_reached (drop k steps) (Halting hook)
 

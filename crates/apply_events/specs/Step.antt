@@ -5,7 +5,9 @@ use Rattle.std.specs.Option.{option_map_or}
 use Rattle.apply_plan.specs.declared.plan.step_kind.StepKind.{StepKind}
 use Rattle.apply_plan.specs.declared.script.ending.Ending.{Ending}
 use Rattle.apply_plan.specs.declared.script.ending.Ending.TheVariants.{Done, Failed}
+use Rattle.apply_plan.specs.declared.script.provisioner.Provisioner.{Provisioner}
 use Rattle.apply_plan.specs.Plan.SavedPlan.{SavedPlan}
+use Rattle.apply_plan.specs.Script.Outcome.{fails, ran}
 use Rattle.apply_plan.specs.Script.Outcomes.{Outcomes, outcome_of}
 use Rattle.apply_hooks.specs.declared.phase.Phase.{Phase}
 use Rattle.apply_hooks.specs.declared.rule.Rule.{Rule}
@@ -21,16 +23,14 @@ pub record Step : Type 0 where
   -- the number of its change, and its own in that change
   pub change : ℕ
   pub number : ℕ
-  -- how long it takes, in seconds
-  pub seconds : ℕ
+  -- how long its provider takes, in seconds, and the provisioners that run behind it
+  pub provider_seconds : ℕ
+  pub ran : List Provisioner
+  -- it fails, by its provider or a provisioner; its provider warns
   pub fails : Bool
   pub warns : Bool
   -- the first hook that halts it, in each phase
   pub halts : Phase → Option ℕ
-
-abbrev pub is_failed : Ending → Bool
-is_failed (Done id warning) = false
-is_failed (Failed diag) = true
 
 abbrev pub has_warning : Ending → Bool
 has_warning (Done id None) = false
@@ -49,8 +49,9 @@ abbrev pub step_of : Work → (c k : ℕ) → StepKind → Step
 step_of work c k kind = record {
   change = c;
   number = k;
-  seconds = (outcome_of work.script c k).seconds;
-  fails = is_failed (outcome_of work.script c k).result;
+  provider_seconds = (outcome_of work.script c k).seconds;
+  ran = ran (outcome_of work.script c k).provisioners;
+  fails = fails (outcome_of work.script c k);
   warns = has_warning (outcome_of work.script c k).result;
   halts = λ phase. first_halting work.hooks (record { phase = phase; kind = kind; address = address_of work.plan c });
 }

@@ -1,12 +1,17 @@
 -- The events of one step (Machine-Readable UI, "Operation Messages"; hooks before and after each action).
 use Rattle.std.specs.Prelude.{ℕ, ◌+◌, List, [], ◌∷◌, ◌++◌, map, Bool, not, ◌&&◌, is_some, is_none, if◌then◌else◌, option_map, option_to_list}
+use Rattle.apply_plan.specs.Script.Outcome.{seconds_of_all}
 use Rattle.apply_hooks.specs.declared.phase.Phase.{Phase}
 use Rattle.apply_hooks.specs.declared.phase.Phase.TheVariants.{Pre, PostDone, PostFailed}
 use Rattle.apply_events.specs.declared.event.Event.{Event}
 use Rattle.apply_events.specs.declared.what.What.{What}
-use Rattle.apply_events.specs.declared.what.What.TheVariants.{Start, Progress, Complete, Errored, ErrorNote, WarnNote, Halted}
-use Rattle.apply_events.specs.ProgressTimes.{progress_times}
+use Rattle.apply_events.specs.declared.what.What.TheVariants.{Start, Complete, Errored, ErrorNote, WarnNote, Halted}
+use Rattle.apply_events.specs.Provisions.{along}
 use Rattle.apply_events.specs.Step.{Step}
+
+-- how long a step takes that no hook halts before it, in seconds: its provider, and the provisioners that run
+abbrev pub seconds_of : Step → ℕ
+seconds_of step = step.provider_seconds + seconds_of_all step.ran
 
 -- something happens to a step at a moment
 abbrev pub event : (worker : ℕ) → Step → (at : ℕ) → What → Event
@@ -30,15 +35,20 @@ notes fails warns = if fails then ErrorNote ∷ [] else if warns then WarnNote �
 
 -- what happens at the end, but for a halt
 abbrev pub endings : Step → List What
-endings step = end_of step.fails step.seconds ∷ notes step.fails step.warns
+endings step = end_of step.fails (seconds_of step) ∷ notes step.fails step.warns
 
--- the step starts at a moment, reports progress, and ends
+-- what happens to a step between its start and its end, and after how many seconds: progress up to the provider's end, and
+-- then the provisioners, with the progress that falls within each
+abbrev pub between : Step → List (ℕ × What)
+between step = along (seconds_of step) 0 0 step.provider_seconds step.ran
+
+-- the step starts at a moment, and ends
 abbrev pub started : (worker : ℕ) → Step → (at : ℕ) → List Event
 started worker step at =
     event worker step at Start ∷ []
-    ++ map (λ p. event worker step (at + p) (Progress p)) (progress_times step.seconds)
-    ++ map (λ what. event worker step (at + step.seconds) what) (endings step)
-    ++ halts worker step (phase_after step.fails) (at + step.seconds)
+    ++ map (λ p. event worker step (at + p.0) p.1) (between step)
+    ++ map (λ what. event worker step (at + seconds_of step) what) (endings step)
+    ++ halts worker step (phase_after step.fails) (at + seconds_of step)
 
 -- the events of a step that begins at a moment: a halt alone, where a hook halts before it
 abbrev pub step_events : (worker : ℕ) → Step → (at : ℕ) → List Event
@@ -46,7 +56,7 @@ step_events worker step at = if is_some (step.halts Pre) then halts worker step 
 
 -- how long it takes
 abbrev pub step_time : Step → ℕ
-step_time step = if is_some (step.halts Pre) then 0 else step.seconds
+step_time step = if is_some (step.halts Pre) then 0 else seconds_of step
 
 -- it completes, and no hook halts
 abbrev pub goes_on : Step → Bool

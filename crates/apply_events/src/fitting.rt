@@ -1,16 +1,19 @@
 //! Whether an event can happen.
 
-ghost use Rattle.std.specs.Prelude.{◌≡◌, ◌↔◌, ◌==◌, IsTrue};
+ghost use Rattle.std.specs.Prelude.{◌≡◌, ◌↔◌, ◌==◌, false, length, nat_lt, not, slice_get, IsTrue};
 ghost use Rattle.std.specs.List.{list_any};
+ghost use Rattle.std.specs.Option.{option_copied, option_map_or};
+ghost use Rattle.apply_plan.specs.Script.Outcome.{has_failed, ran};
 ghost use Rattle.apply_plan.specs.Script.Outcomes.{outcome_of};
 ghost use Rattle.apply_events.specs.Fits.{Fits, HasStep, can_happen, may_be_asked};
 ghost use Rattle.apply_events.specs.ProgressTimes.{progress_times};
 
 use crate::event::{Event, LATEST};
+use crate::ran::that_ran;
 use crate::step_facts::StepFacts;
 use crate::what::What;
 use apply_hooks::{MAX_HOOKS, Phase};
-use apply_plan::{Plan, Script};
+use apply_plan::{Plan, Provisioner, Script};
 
 /// Whether the event can happen under some hooks: the plan has its step, `at` is `LATEST` at most, and `what` can happen
 /// to a step with that outcome. The worker is not looked at.
@@ -42,8 +45,52 @@ fn can_happen(script: &Script, event: &Event) -> bool
         What::Complete(after) => !fails && after == seconds,
         What::Errored(after) => fails && after == seconds,
         What::ErrorNote => fails,
-        What::WarnNote => warns,
+        What::WarnNote => !fails && warns,
         What::Halted { phase, hook } => may_be_asked(fails, phase) && (hook as usize) < MAX_HOOKS,
+        What::ProvisionStart(number) => ran_at(script, event, number).is_some(),
+        What::ProvisionOutput { prov, line } => has_output(ran_at(script, event, prov), line),
+        What::ProvisionComplete(number) => completes(ran_at(script, event, number)),
+        What::ProvisionErrored(number) => errs(ran_at(script, event, number)),
+    }
+}
+
+/// The provisioner of that number of the event's step, if it runs.
+fn ran_at<'a>(script: &'a Script, event: &Event, number: u8) -> Option<&'a Provisioner>
+    ensures { option_copied result
+        ≡ slice_get (ran (outcome_of script.now event.now.change event.now.step).provisioners) number }
+{
+    that_ran(script.outcome(event.change, event.step)?, number)
+}
+
+/// Whether there is a provisioner, which has an output of that number.
+fn has_output(provisioner: Option<&Provisioner>, line: u8) -> bool
+    ensures { result ≡ option_map_or (λ provisioner. nat_lt line (length provisioner.output))
+        (option_copied provisioner.entry) false }
+{
+    match provisioner {
+        Some(provisioner) => line < provisioner.output.len(),
+        None => false,
+    }
+}
+
+/// Whether there is a provisioner, which does not fail.
+fn completes(provisioner: Option<&Provisioner>) -> bool
+    ensures { result ≡ option_map_or (λ provisioner. not (has_failed provisioner))
+        (option_copied provisioner.entry) false }
+{
+    match provisioner {
+        Some(provisioner) => provisioner.failed.is_none(),
+        None => false,
+    }
+}
+
+/// Whether there is a provisioner, which fails.
+fn errs(provisioner: Option<&Provisioner>) -> bool
+    ensures { result ≡ option_map_or has_failed (option_copied provisioner.entry) false }
+{
+    match provisioner {
+        Some(provisioner) => provisioner.failed.is_some(),
+        None => false,
     }
 }
 

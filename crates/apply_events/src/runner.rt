@@ -1,14 +1,15 @@
 //! A change that is being applied.
 
-ghost use Rattle.std.specs.Prelude.{◌≡◌, ◌+◌, ◌-◌, ◌*◌, ◌%◌, ◌<◌, ◌≤◌, length, true};
+ghost use Rattle.std.specs.Prelude.{◌≡◌, ◌+◌, ◌-◌, ◌*◌, ◌<◌, ◌≤◌, length, true};
 ghost use Rattle.apply_hooks.specs.Registry.{rules_of};
-ghost use Rattle.apply_plan.specs.Script.Outcome.{max_seconds};
+ghost use Rattle.apply_plan.specs.Script.Limits.{max_seconds};
 ghost use Rattle.apply_events.specs.Fits.{latest, max_span};
 ghost use Rattle.apply_events.specs.Stages.{is_on_course, time_behind};
 ghost use Rattle.apply_events.specs.Step.{steps_of};
 ghost use Rattle.std.specs.Prelude.{slice_get};
 
 use crate::event::Event;
+use crate::mid_step::MidStep;
 use crate::stage::Stage;
 use crate::step_facts::StepFacts;
 use crate::what::What;
@@ -32,14 +33,11 @@ pub struct Runner<'a> {
     step: u8,
     /// When it begins.
     at: u64,
-    /// After how many seconds its last progress was told.
-    told: u32,
     stage: Stage,
     ghost is_planned: { change < length plan.now.changes },
     ghost few: { step ≤ 2 },
     ghost soon: { at ≤ begin + max_seconds * step },
     ghost in_time: { at + max_seconds * (2 - step) ≤ latest },
-    ghost on_ten: { told % 10 ≡ 0 },
     ghost on_time: { at ≡ begin + time_behind (steps_of (record {
       plan = plan.now;
       script = script.now;
@@ -54,13 +52,15 @@ pub struct Runner<'a> {
 
 impl<'a> Runner<'a> {
     ghost use Rattle.std.specs.Prelude.{[], ◌∷◌, ◌++◌, ◌↔◌, Some, IfSome, IfNone};
+    ghost use Rattle.apply_plan.specs.Script.Outcome.{fails, took};
     ghost use Rattle.apply_plan.specs.Script.Outcomes.{outcome_of};
     ghost use Rattle.apply_events.specs.ChangeEvents.{change_events, span_of};
     ghost use Rattle.apply_events.specs.Fits.{HasStep};
     ghost use Rattle.apply_events.specs.Course.{GivesNext, beginning_of, ended_of};
     ghost use Rattle.apply_events.specs.Runner.{course_of, left_of, to_come};
-    ghost use Rattle.apply_events.specs.RunnerStep.{rest_of, step_at_hand};
-    ghost use Rattle.apply_events.specs.Step.{has_warning, is_failed};
+    ghost use Rattle.apply_events.specs.RunnerStep.{left_before, rest_of, step_at_hand};
+    ghost use Rattle.apply_events.specs.Step.{has_warning};
+    ghost use Rattle.apply_events.specs.StepEvents.{seconds_of};
     ghost use Rattle.apply_events.specs.Stages.{IsUnderWay, behind, from_stage, halt_after};
 
     /// The runner of a change that begins at a moment, in seconds, early enough that two steps of a day end by `LATEST`.
@@ -91,7 +91,6 @@ impl<'a> Runner<'a> {
             begin: at,
             step: 0,
             at,
-            told: 0,
             stage: Stage::Before,
         }
     }
@@ -113,7 +112,7 @@ impl<'a> Runner<'a> {
         };
         match self.stage {
             Stage::Before => Some(self.begin(kind)),
-            Stage::Running => Some(self.report(kind)),
+            Stage::Running(mid) => Some(self.report(kind, mid)),
             Stage::Noting => Some(self.note(kind)),
             Stage::Halting(hook) => Some(self.halt(kind, hook)),
             Stage::Over => None,
@@ -145,38 +144,46 @@ impl<'a> Runner<'a> {
             }
             None => {
                 let event = self.event(self.at, What::Start);
-                self.stage = Stage::Running;
-                self.told = 0;
+                self.stage = Stage::Running(MidStep::new());
                 event
             }
         }
     }
 
-    /// Tells the progress, or the end.
-    fn report(&mut self, kind: StepKind) -> Event
+    /// Tells what happens next before the end, or the end.
+    fn report(&mut self, kind: StepKind, mid: MidStep) -> Event
         requires step { left_of self.old ≡ step_at_hand self.old kind ∷ rest_of self.old }
         requires few { self.old.step < 2 }
-        requires stage { self.old.stage ≡ Stage.Running }
+        requires stage { self.old.stage ≡ Stage.Running mid }
         ensures next { to_come self.old ≡ result ∷ to_come self.new }
         ensures place { (result.worker ≡ self.old.worker) × (result.change ≡ self.old.change)
             × (result.step ≡ self.old.step) }
         ensures in_time { result.at ≤ latest }
         ensures course { course_of self.new ≡ course_of self.old }
     {
+        let mut mid = mid;
+        if let Some((after, what)) = self.happens(&mut mid) {
+            self.stage = Stage::Running(mid);
+            return self.event(self.at + after as u64, what);
+        }
         let facts = self.facts();
-        if facts.seconds.saturating_sub(10) > self.told {
-            let told = self.told + 10;
-            let event = self.event(self.at + told as u64, What::Progress(told));
-            self.told = told;
-            event
+        let event = self.event(self.at + facts.seconds as u64, facts.end());
+        if facts.has_note() {
+            self.stage = Stage::Noting;
         } else {
-            let event = self.event(self.at + facts.seconds as u64, facts.end());
-            if facts.has_note() {
-                self.stage = Stage::Noting;
-            } else {
-                self.finish(kind);
-            }
-            event
+            self.finish(kind);
+        }
+        event
+    }
+
+    /// What happens next to the step at hand before its end, and after how many seconds.
+    fn happens(&self, mid: &mut MidStep) -> Option<(u32, What)>
+        ensures next { GivesNext (left_before self.now mid.old) result (left_before self.now mid.new) }
+        ensures in_time { IfSome result (λ told. told.0 ≤ max_seconds) }
+    {
+        match self.script.outcome(self.change, self.step) {
+            Some(outcome) => mid.next(outcome),
+            None => None,
         }
     }
 
@@ -235,11 +242,11 @@ impl<'a> Runner<'a> {
     /// Leaves the step behind.
     fn pass(&mut self, kind: StepKind, stage: Stage)
         requires few { self.old.step < 2 }
-        requires time { self.old.at + (step_at_hand self.old kind).seconds
+        requires time { self.old.at + seconds_of (step_at_hand self.old kind)
             ≡ self.old.begin + time_behind (steps_of (course_of self.old).work self.old.change) (self.old.step + 1) stage }
         requires course { is_on_course (steps_of (course_of self.old).work self.old.change) (self.old.step + 1) stage ≡ true }
         ensures next { to_come self.new ≡ from_stage self.old.worker (rest_of self.old)
-            (self.old.at + (step_at_hand self.old kind).seconds) self.old.told stage }
+            (self.old.at + seconds_of (step_at_hand self.old kind)) stage }
         ensures course { course_of self.new ≡ course_of self.old }
     {
         let seconds = self.facts().seconds;
@@ -255,7 +262,7 @@ impl<'a> Runner<'a> {
         let _kind = self.kind()?;
         match self.stage {
             Stage::Before => Some(self.step),
-            Stage::Running | Stage::Noting | Stage::Halting(_) | Stage::Over => None,
+            Stage::Running(_) | Stage::Noting | Stage::Halting(_) | Stage::Over => None,
         }
     }
 
@@ -282,8 +289,8 @@ impl<'a> Runner<'a> {
 
     /// What the events of the step at hand take from its outcome.
     fn facts(&self) -> StepFacts
-        ensures seconds { result.seconds ≡ (outcome_of self.now.script.now self.now.change self.now.step).seconds }
-        ensures fails { result.fails ≡ is_failed (outcome_of self.now.script.now self.now.change self.now.step).result }
+        ensures seconds { result.seconds ≡ took (outcome_of self.now.script.now self.now.change self.now.step) }
+        ensures fails { result.fails ≡ fails (outcome_of self.now.script.now self.now.change self.now.step) }
         ensures warns { result.warns ≡ has_warning (outcome_of self.now.script.now self.now.change self.now.step).result }
         ensures few { result.seconds ≤ max_seconds }
     {

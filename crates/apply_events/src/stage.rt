@@ -1,10 +1,12 @@
+use crate::mid_step::MidStep;
+
 /// How far the step at hand is.
-#[derive(Clone, Copy, Debug, PartialEq, Eq)]
+#[derive(Clone, Copy, Debug)]
 pub enum Stage {
     /// No hook was asked yet.
     Before,
     /// It has started, and has not ended.
-    Running,
+    Running(MidStep),
     /// Its end was told. Its note comes next.
     Noting,
     /// All was told but the halt by that hook.

@@ -1,9 +1,10 @@
 //! What the events of a step take from its outcome.
 
 ghost use Rattle.std.specs.Prelude.{◌≡◌, ◌≤◌, ◌||◌};
-ghost use Rattle.apply_plan.specs.Script.Outcome.{max_seconds};
+ghost use Rattle.apply_plan.specs.Script.Limits.{max_seconds};
+ghost use Rattle.apply_plan.specs.Script.Outcome.{fails, took};
 ghost use Rattle.apply_plan.specs.Script.Outcomes.{outcome_of};
-ghost use Rattle.apply_events.specs.Step.{has_warning, is_failed};
+ghost use Rattle.apply_events.specs.Step.{has_warning};
 ghost use Rattle.apply_events.specs.Notes.{note_of};
 ghost use Rattle.apply_events.specs.StepEvents.{end_of, phase_after};
 
@@ -14,26 +15,26 @@ use apply_plan::{Ending, Script};
 /// What the events of a step take from its outcome, without its texts.
 #[derive(Clone, Copy, Debug)]
 pub struct StepFacts {
-    /// How long the step takes, in seconds.
+    /// How long the step takes, in seconds, with the provisioners that run.
     pub seconds: u32,
-    /// Whether it fails.
+    /// Whether it fails: its provider does, or a provisioner.
     pub fails: bool,
-    /// Whether it completes with a warning.
+    /// Whether the provider warns.
     pub warns: bool,
 }
 
 impl StepFacts {
     /// What the script says of a step of a change; done after 0 seconds where it says nothing.
     pub fn new(script: &Script, change: u32, step: u8) -> StepFacts
-        ensures seconds { result.seconds ≡ (outcome_of script.now change step).seconds }
-        ensures fails { result.fails ≡ is_failed (outcome_of script.now change step).result }
+        ensures seconds { result.seconds ≡ took (outcome_of script.now change step) }
+        ensures fails { result.fails ≡ fails (outcome_of script.now change step) }
         ensures warns { result.warns ≡ has_warning (outcome_of script.now change step).result }
         ensures few { result.seconds ≤ max_seconds }
     {
         match script.outcome(change, step) {
             Some(outcome) => StepFacts {
-                seconds: outcome.seconds,
-                fails: fails(&outcome.result),
+                seconds: outcome.took(),
+                fails: outcome.fails(),
                 warns: warns(&outcome.result),
             },
             None => StepFacts {
@@ -82,15 +83,6 @@ impl StepFacts {
         } else {
             Phase::PostDone
         }
-    }
-}
-
-fn fails(ending: &Ending) -> bool
-    ensures { result ≡ is_failed ending.now }
-{
-    match ending {
-        Ending::Done { .. } => false,
-        Ending::Failed { .. } => true,
     }
 }
 

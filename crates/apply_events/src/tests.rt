@@ -8,6 +8,7 @@ mod changes;
 mod counting;
 mod fitting;
 mod lanes;
+mod provisioners;
 
 use crate::{Counts, Event, LATEST, Runner, What, fits};
 use apply_hooks::{FnHook, HookCall, HookClosure, Phase, Registry, Rule, Rules, Verdict};

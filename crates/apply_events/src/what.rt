@@ -22,4 +22,17 @@ pub enum What {
         /// The hook's number in the registry, 31 at most: the first that halted.
         hook: u8,
     },
+    /// A provisioner begins (`provision_start`): its number among those of the step, from 0.
+    ProvisionStart(u8),
+    /// A provisioner has put something out (`provision_progress`).
+    ProvisionOutput {
+        /// The provisioner's number.
+        prov: u8,
+        /// The output's number among those of the provisioner, from 0.
+        line: u8,
+    },
+    /// The provisioner of that number completes (`provision_complete`).
+    ProvisionComplete(u8),
+    /// The provisioner of that number fails (`provision_errored`), and with it the step.
+    ProvisionErrored(u8),
 }

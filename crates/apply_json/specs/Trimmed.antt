@@ -1,5 +1,5 @@
 -- What is left of a tree without all that nobody looks at.
-use Rattle.std.specs.Prelude.{ℕ, zero, suc, List, Option}
+use Rattle.std.specs.Prelude.{ℕ, zero, suc, List, Bool, true, nat_lt, Option, Some, None}
 use Rattle.std.specs.Option.{option_map_or}
 use Rattle.serde_json.specs.Data.{Data, null, boolean, number, string, array, object, Items, no_items, item, Members, no_members, member}
 
@@ -9,8 +9,13 @@ pub record Selection (S : Type 0) : Type 0 where
   pub member_shape : S → List ℕ → Option S
   -- the shape of each item
   pub item_shape : S → S
-  -- how many items are looked at, from the first
-  pub item_limit : S → ℕ
+  -- how many items are looked at, from the first; all where none is given
+  pub item_limit : S → Option ℕ
+
+-- an item behind that many is looked at
+abbrev pub is_within : Option ℕ → ℕ → Bool
+is_within None count = true
+is_within (Some limit) count = nat_lt count limit
 
 abbrev mutual
   -- a value without the members and items that nobody looks at
@@ -22,11 +27,12 @@ abbrev mutual
   trimmed selection shape (array ds) = array (trimmed_items selection (selection.item_shape shape) (selection.item_limit shape) ds)
   trimmed selection shape (object ms) = object (trimmed_members selection shape ms)
 
-  -- the first items, as many as the number says
-  pub trimmed_items : {S : Type 0} → Selection S → S → ℕ → Items → Items
-  trimmed_items selection shape count no_items = no_items
-  trimmed_items selection shape zero (item d ds) = no_items
-  trimmed_items selection shape (suc count) (item d ds) = item (trimmed selection shape d) (trimmed_items selection shape count ds)
+  -- the first items, as many as the number says, or all
+  pub trimmed_items : {S : Type 0} → Selection S → S → Option ℕ → Items → Items
+  trimmed_items selection shape limit no_items = no_items
+  trimmed_items selection shape (Some zero) (item d ds) = no_items
+  trimmed_items selection shape (Some (suc count)) (item d ds) = item (trimmed selection shape d) (trimmed_items selection shape (Some count) ds)
+  trimmed_items selection shape None (item d ds) = item (trimmed selection shape d) (trimmed_items selection shape None ds)
 
   pub trimmed_members : {S : Type 0} → Selection S → S → Members → Members
   trimmed_members selection shape no_members = no_members

@@ -3,7 +3,7 @@
 ghost use Rattle.std.specs.Prelude.{◌≡◌, option_map};
 ghost use Rattle.std.specs.Option.{option_copied};
 ghost use Rattle.serde_json.specs.View.{view, items_view};
-ghost use Rattle.apply_json.specs.Tree.{is_word, member_of, non_empty_text_of, text_of, text_or, unless_empty};
+ghost use Rattle.apply_json.specs.Tree.{is_word, items_or_empty, member_of, non_empty_text_of, text_of, text_or, unless_empty};
 
 use serde_json::Value;
 
@@ -44,6 +44,17 @@ pub fn non_empty_text_member<'a>(object: &'a Value, name: &str) -> Option<&'a st
     ensures { option_copied result ≡ non_empty_text_of name.now (view object.now) }
 {
     non_empty(text_member(object, name)?)
+}
+
+/// The values of an array, or no values where it is absent. `None` where it is no array.
+pub fn array_or_empty(found: Option<&Value>) -> Option<&[Value]>
+    ensures { option_map (λ items. items_view items.now) result
+        ≡ items_or_empty (option_map (λ value. view value.now) found.entry) }
+{
+    match found {
+        Some(value) => Some(value.as_array()?.as_slice()),
+        None => Some(&[]),
+    }
 }
 
 /// Whether the value is a text, and this one.

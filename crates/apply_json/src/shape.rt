@@ -17,7 +17,7 @@ pub trait Shape: Copy {
     fn item(self) -> Self
         ensures { result ≡ selection.item_shape self };
 
-    /// The number of items that are looked at.
-    fn limit(self) -> usize
+    /// The number of items that are looked at, from the first; `None` where all are.
+    fn limit(self) -> Option<usize>
         ensures { result ≡ selection.item_limit self };
 }

@@ -24,7 +24,7 @@ impl Shape for TestShape {
       member_shape = λ s name. if bytes_eq name (codes "a") then Some shape.Object
           else if bytes_eq name (codes "list") then Some shape.List else None;
       item_shape = λ s. shape.Object;
-      item_limit = elim [ shape.Object ↦ 0 | shape.List ↦ 2 ];
+      item_limit = elim [ shape.Object ↦ Some 0 | shape.List ↦ Some 2 ];
     } };
 
     fn member(self, name: &str) -> Option<TestShape> {
@@ -41,10 +41,10 @@ impl Shape for TestShape {
         TestShape::Object
     }
 
-    fn limit(self) -> usize {
+    fn limit(self) -> Option<usize> {
         match self {
-            TestShape::Object => 0,
-            TestShape::List => 2,
+            TestShape::Object => Some(0),
+            TestShape::List => Some(2),
         }
     }
 }

@@ -5,7 +5,7 @@ ghost use Rattle.json.specs.Json.{items, members, value};
 ghost use Rattle.serde_json.specs.Data.{Data, Items, Members, no_members};
 ghost use Rattle.serde_json.specs.Read.{converted, of_items, of_json, of_members, read as read_text};
 ghost use Rattle.serde_json.specs.View.{view, items_view, members_view};
-ghost use Rattle.apply_json.specs.Trimmed.{trimmed, trimmed_items, trimmed_members};
+ghost use Rattle.apply_json.specs.Trimmed.{is_within, trimmed, trimmed_items, trimmed_members};
 
 use crate::number::number;
 use crate::passing::pass;
@@ -78,6 +78,16 @@ fn read<S: Shape>(
     }
 }
 
+/// Whether an item is looked at that stands behind `count` others.
+fn is_within(limit: Option<usize>, count: usize) -> bool
+    ensures { result ≡ is_within limit count }
+{
+    match limit {
+        Some(limit) => count < limit,
+        None => true,
+    }
+}
+
 #[cycle(read)]
 #[inline(never)]
 fn read_items<S: Shape>(
@@ -96,7 +106,7 @@ fn read_items<S: Shape>(
 {
     let mut found = Vec::new(alloc);
     'items: while !reader.take_end_array() {
-        if found.len() < shape.limit() {
+        if is_within(shape.limit(), found.len()) {
             let item = read(alloc, reader, depth, shape.item())?;
             found.push(item)?;
         } else {

@@ -1,6 +1,6 @@
 -- Steps that may be refused.
 use Rattle.std.proofs.Common.{◌≡◌, Bool, true, false, cond, Option, Some, None, Result, Ok, Err, refl}
-use Rattle.apply_plan.specs.Results.{◌>>=◌, or_refuse}
+use Rattle.apply_plan.specs.Results.{◌>>=◌, or_refuse, unless_refused}
 
 pub bind_ok : {A B E : Type 0} (r : Result A E) (f : A → Result B E) (y : B) → (r >>= f) ≡ Ok y → (x : A) × (r ≡ Ok x) × (f x ≡ Ok y)
 bind_ok (Ok x) f y e = (x, refl, e)
@@ -14,6 +14,11 @@ or_refuse_ok refusal (Some y) x e = cc
 pub guard_ok : {A E : Type 0} (b : Bool) (d : E) (r : Result A E) (y : A) → cond b (Err d) r ≡ Ok y → (b ≡ false) × (r ≡ Ok y)
 guard_ok true d r y e = absurd cc
 guard_ok false d r y e = (refl, e)
+
+-- a value that nothing refused
+pub unless_refused_ok : {A E : Type 0} (o : Option E) (x y : A) → unless_refused o x ≡ Ok y → (o ≡ None) × (x ≡ y)
+unless_refused_ok None x y e = (refl, cc)
+unless_refused_ok (Some refusal) x y e = absurd cc
 
 abbrev pub done : {A E : Type 0} → A → Result A E
 done x = Ok x

@@ -1,6 +1,11 @@
 -- Lemmas on scripts.
 pub mod Entries
+pub mod Limits
 pub mod Numbers
 pub mod OneEntry
-pub mod Steps
+pub mod Parts
+pub mod Provisioners
+pub mod Refusals
+pub mod Trimmed
+pub mod TreeSteps
 pub mod WholeList

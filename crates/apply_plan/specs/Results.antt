@@ -12,6 +12,11 @@ abbrev pub or_refuse : {A E : Type 0} → E → Option A → Result A E
 or_refuse refusal None = Err refusal
 or_refuse refusal (Some x) = Ok x
 
+-- a value, unless there is a refusal
+abbrev pub unless_refused : {A E : Type 0} → Option E → A → Result A E
+unless_refused None x = Ok x
+unless_refused (Some refusal) x = Err refusal
+
 -- all values, or the first refusal among them
 abbrev pub all_or_first : {A E : Type 0} → List (Result A E) → Result (List A) E
 all_or_first [] = Ok []

@@ -1,7 +1,10 @@
 -- Scripts: what they say, and what is seen of the types that read one.
 pub mod ChangeNumbers
 pub mod Entry
+pub mod Limits
 pub mod NextEntry
 pub mod Outcome
 pub mod Outcomes
+pub mod Refusals
+pub mod Selection
 pub mod TreeView

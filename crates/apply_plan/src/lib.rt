@@ -21,8 +21,11 @@ pub use script::Script;
 pub use script::diag::Diag;
 pub use script::ending::Ending;
 pub use script::outcome::{MAX_SECONDS, Outcome};
+pub use script::provisioner::Provisioner;
+pub use script::provisioners::{MAX_PROVISIONERS, Provisioners};
 pub use script::reading::read_script;
 pub use script::script_error::ScriptError;
+pub use script::texts::{MAX_OUTPUTS, Texts};
 pub use text::Text;
 
 #[cfg(test)]

@@ -2,23 +2,28 @@
 
 ghost use Rattle.std.specs.Prelude.{◌≡◌, ◌≤◌, [], IfSome};
 ghost use Rattle.std.specs.Option.{option_copied};
-ghost use Rattle.apply_plan.specs.Script.Outcome.{max_seconds};
+ghost use Rattle.apply_plan.specs.Script.Limits.{max_seconds};
+ghost use Rattle.apply_plan.specs.Script.Outcome.{IsBounded, took};
 
 pub mod change_numbers;
 pub mod diag;
 pub mod ending;
 pub mod outcome;
+pub mod provisioner;
+pub mod provisioners;
 pub mod reading;
 pub mod script_error;
+pub mod script_shape;
 pub mod step_outcomes;
+pub mod texts;
 pub mod tree_diag;
 pub mod tree_ending;
 pub mod tree_entry;
+pub mod tree_provisioner;
 pub mod tree_step;
 
 use crate::script::outcome::Outcome;
 use crate::script::step_outcomes::StepOutcomes;
-use std::alloc::Global;
 use std::marker::Model;
 
 /// What the providers will answer to the steps of a plan.
@@ -26,43 +31,43 @@ use std::marker::Model;
 /// Contracts see, for each change by number, the outcomes of its first steps, or nothing.
 #[derive(Debug, Drop)]
 pub struct Script {
-    pub(crate) changes: Vec<Option<StepOutcomes>>,
+    /// None where nothing is said of any change.
+    pub(crate) changes: Option<Vec<Option<StepOutcomes>>>,
 }
 
 impl Model for Script {
+    ghost use Rattle.std.specs.Prelude.{[]};
+    ghost use Rattle.std.specs.Option.{option_map_or};
     ghost use Rattle.apply_plan.specs.Script.Outcomes.{IsInRange, Outcomes};
 
     ghost Value = { Outcomes };
 
-    ghost view = { λ s. s.changes.items };
+    ghost view = { λ s. option_map_or (λ changes. changes.items) s.changes [] };
 
-    ghost invariant = { λ s. IsInRange s.changes.items };
+    ghost invariant = { λ s. IsInRange (option_map_or (λ changes. changes.items) s.changes []) };
 }
 
 impl Script {
     ghost use Rattle.apply_plan.specs.Script.Outcomes.{given_outcome};
 
     /// A script that says nothing: every step has the default outcome.
-    pub fn empty(alloc: Global) -> Script
+    pub fn empty() -> Script
         ensures { result ≡ [] }
     {
-        Script {
-            changes: Vec::new(alloc),
-        }
+        Script { changes: None }
     }
 
     /// What the script says of a step of a change, both counted from 0. `None` means the default: the step is done
-    /// after 0 seconds, with no id and no warning.
+    /// after 0 seconds, with no id, no warning and no provisioners.
     ///
     /// Any numbers may be asked for, also those of another plan than the one that the script was read for.
     pub fn outcome(&self, change: u32, step: u8) -> Option<&Outcome>
         ensures given { option_copied result ≡ given_outcome self.now change step }
-        ensures in_range { IfSome (given_outcome self.now change step)
-            (λ outcome. outcome.seconds ≤ max_seconds) }
+        ensures in_range { IfSome (given_outcome self.now change step) IsBounded }
+        ensures in_time { IfSome (given_outcome self.now change step)
+            (λ outcome. took outcome ≤ max_seconds) }
     {
-        self.changes
-            .get(change as usize)?
-            .as_ref()?
-            .get(step as usize)
+        let changes = self.changes.as_ref()?;
+        changes.get(change as usize)?.as_ref()?.get(step as usize)
     }
 }

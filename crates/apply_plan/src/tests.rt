@@ -5,6 +5,8 @@ mod elements;
 mod limits;
 mod outcomes;
 mod plans;
+mod provisioners;
+mod provisioning;
 mod script_members;
 mod scripts;
 mod table;

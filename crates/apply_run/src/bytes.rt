@@ -76,6 +76,6 @@ pub(crate) fn read_given(
 {
     match bytes {
         Some(bytes) => read_script(alloc, bytes, plan),
-        None => Ok(Script::empty(alloc)),
+        None => Ok(Script::empty()),
     }
 }

@@ -101,7 +101,7 @@ fn plan_of(rt: &impl Abort, alloc: Global, text: &str) -> Plan {
 /// A script that has to be accepted, or the empty one.
 fn script_of(rt: &impl Abort, alloc: Global, text: &str, plan: &Plan) -> Script {
     if text == NO_SCRIPT {
-        return Script::empty(alloc);
+        return Script::empty();
     }
     match read_script(alloc, text.as_bytes(), plan) {
         Ok(script) => script,

@@ -5,11 +5,11 @@ use Rattle.std.proofs.lemmas.List.Elements.{All-append, All-cons, All-head, All-
 use Rattle.apply_hooks.specs.declared.phase.Phase.{Phase}
 use Rattle.apply_hooks.specs.declared.phase.Phase.TheVariants.{Pre}
 use Rattle.apply_events.specs.declared.event.Event.{Event}
-use Rattle.apply_events.specs.declared.what.What.TheVariants.{Progress, Halted, Start}
+use Rattle.apply_events.specs.declared.what.What.{What}
+use Rattle.apply_events.specs.declared.what.What.TheVariants.{Halted, Start}
 use Rattle.apply_events.specs.ChangeEvents.{begun, change_events, in_turn, span_of}
-use Rattle.apply_events.specs.ProgressTimes.{progress_times}
 use Rattle.apply_events.specs.Step.{Step, Work, steps_of}
-use Rattle.apply_events.specs.StepEvents.{endings, event, halts, phase_after, started, step_events, step_time}
+use Rattle.apply_events.specs.StepEvents.{between, endings, event, halts, phase_after, seconds_of, started, step_events, step_time}
 use Rattle.apply_events.proofs.Rising as rising
 use Rattle.apply_events.proofs.Moments.{change_rises, moment_of}
 use Rattle.apply_events.specs.Lanes.LaneState.{Runs}
@@ -28,15 +28,15 @@ names_halts w s phase at (Some hook) = All-cons (Names w) (event w s at (Halted 
 
 names_started : (w : ℕ) (s : Step) (at : ℕ) → All (Names w) (started w s at)
 names_started w s at =
-    let progress = map (λ (p : ℕ). event w s (at + p) (Progress p)) (progress_times s.seconds) in
-    let ends = map (λ what. event w s (at + s.seconds) what) (endings s) in
-    let halt = halts w s (phase_after s.fails) (at + s.seconds) in
+    let progress = map (λ (p : ℕ × What). event w s (at + p.0) p.1) (between s) in
+    let ends = map (λ what. event w s (at + (seconds_of s)) what) (endings s) in
+    let halt = halts w s (phase_after s.fails) (at + (seconds_of s)) in
     All-cons (Names w) (event w s at Start) (progress ++ ends ++ halt) refl
     (All-append (Names w) (progress ++ ends) halt
     (All-append (Names w) progress ends
-    (names_map w (λ (p : ℕ). event w s (at + p) (Progress p)) (progress_times s.seconds) (λ p. refl))
-    (names_map w (λ what. event w s (at + s.seconds) what) (endings s) (λ what. refl)))
-    (names_halts w s (phase_after s.fails) (at + s.seconds) (s.halts (phase_after s.fails))))
+    (names_map w (λ (p : ℕ × What). event w s (at + p.0) p.1) (between s) (λ p. refl))
+    (names_map w (λ what. event w s (at + (seconds_of s)) what) (endings s) (λ what. refl)))
+    (names_halts w s (phase_after s.fails) (at + (seconds_of s)) (s.halts (phase_after s.fails))))
 
 names_step : (w : ℕ) (s : Step) (at : ℕ) → All (Names w) (step_events w s at)
 names_step w s at = names_step_at w s at (s.halts Pre)

@@ -1,41 +1,35 @@
 -- How many events a change has at most, and the lanes of some changes.
-use Rattle.std.proofs.Common.{◌≡◌, ℕ, zero, suc, ◌+◌, ◌*◌, ◌%◌, ◌<◌, ◌≤◌, true, false, List, [], ◌∷◌, ◌++◌, cond, get_or, length, length-append, map, replicate, set, sum_by, Option, Some, None, sym, ap, subst, ◌∙◌, arith, ⊎_elim}
-use Rattle.std.specs.Prelude.{is_some, option_map, option_to_list, slice_get, IfSome}
+use Rattle.std.proofs.Common.{◌≡◌, ℕ, zero, suc, ◌+◌, ◌*◌, ◌<◌, ◌≤◌, All, true, false, List, [], ◌∷◌, ◌++◌, cond, get_or, length, length-append, map, replicate, set, sum_by, Option, Some, None, sym, ap, subst, ◌∙◌, arith, ⊎_elim}
+use Rattle.std.specs.Prelude.{is_some, option_map, option_to_list, slice_get, unwrap_or, IfSome}
 use Rattle.std.specs.List.{enumerate_from}
 use Rattle.std.specs.Option.{option_map_or}
 use Rattle.apply_plan.specs.Plan.ResourceChange.{ResourceChange}
 use Rattle.apply_plan.specs.Plan.SavedPlan.{SavedPlan}
-use Rattle.std.proofs.lemmas.Bool.{cases_lt}
 use Rattle.std.proofs.lemmas.List.{length-map, map-set}
+use Rattle.std.proofs.lemmas.List.Elements.{All-nil}
 use Rattle.std.proofs.lemmas.List.Folds.{sum_by-replicate}
 use Rattle.std.proofs.lemmas.List.Sums.{sum_by-set}
 use Rattle.apply_plan.specs.declared.plan.step_kind.StepKind.{StepKind}
+use Rattle.apply_plan.specs.declared.script.outcome.Outcome.{Outcome}
+use Rattle.apply_plan.specs.declared.script.provisioner.Provisioner.{Provisioner}
+use Rattle.apply_plan.specs.Script.Outcome.{IsBounded, default_outcome}
 use Rattle.apply_plan.specs.Script.Outcomes.{outcome_of}
 use Rattle.apply_hooks.specs.declared.phase.Phase.{Phase}
 use Rattle.apply_hooks.specs.declared.phase.Phase.TheVariants.{Pre}
 use Rattle.apply_events.specs.declared.event.Event.{Event}
 use Rattle.apply_events.specs.declared.what.What.{What}
-use Rattle.apply_events.specs.declared.what.What.TheVariants.{Halted, Progress, Start}
+use Rattle.apply_events.specs.declared.what.What.TheVariants.{Halted, Start}
 use Rattle.apply_events.specs.ChangeEvents.{begun, change_events, in_turn}
-use Rattle.apply_events.specs.ProgressTimes.{progress_times}
-use Rattle.apply_events.specs.Stages.{tens_between}
 use Rattle.apply_events.specs.Step.{Step, Work, kinds_of, step_of}
-use Rattle.apply_events.specs.StepEvents.{endings, event, goes_on, halts, notes, phase_after, started, step_events, step_time}
+use Rattle.apply_events.specs.StepEvents.{between, endings, event, goes_on, halts, notes, phase_after, seconds_of, started, step_events, step_time}
 use Rattle.apply_events.specs.Lanes.LaneState.{LaneState, count_left, free_in, unused}
 use Rattle.apply_events.specs.Lanes.Lane.{TellsNext, state_of}
 use Rattle.apply_events.specs.declared.lanes.lane.Lane.{Lane}
 use Rattle.apply_events.proofs.TimeLines.Steps.{busy_parts, idle_parts}
-use Rattle.apply_events.proofs.ProgressTimes.{tens_last, tens_next}
+use Rattle.apply_events.proofs.MidSteps.{ran_all, ran_few, ran_short}
+use Rattle.apply_events.proofs.Provisions.{few_along}
 
 -- ---- a step
-
-few_tens : (n low high : ℕ) → low % 10 ≡ 0 → high ≤ low + 10 * (n + 1) → length (tens_between low high) ≤ n
-few_tens zero low high z h = let none = ap length (tens_last low high z (omega arith)) in omega arith
-few_tens (suc n) low high z h = ⊎_elim
-    (λ (more : low + 10 < high).
-    let rest = few_tens n (low + 10) high (omega arith) (omega arith) in let one = ap length (tens_next low high z more) in omega arith)
-    (λ (last : high ≤ low + 10). let none = ap length (tens_last low high z last) in omega arith)
-    (cases_lt (low + 10) high)
 
 few_notes : (fails warns : _) → length (notes fails warns) ≤ 1
 few_notes true warns = omega arith
@@ -47,36 +41,53 @@ few_found w s phase at None = omega arith
 few_found w s phase at (Some hook) = omega arith
 
 -- a start, what lies between, and what comes at the end
-few_joined : (e : Event) (progress ends halt : List Event) → length progress ≤ 8640 → length ends ≤ 2 → length halt ≤ 1 → length (e ∷ (progress ++ ends ++ halt)) ≤ 10000
+few_joined : (e : Event) (progress ends halt : List Event) → length progress ≤ 9456 → length ends ≤ 2 → length halt ≤ 1 → length (e ∷ (progress ++ ends ++ halt)) ≤ 10000
 few_joined e progress ends halt p q r =
     let front : length (progress ++ ends) ≡ length progress + length ends = length-append progress ends in
     let all : length (progress ++ ends ++ halt) ≡ length (progress ++ ends) + length halt = length-append (progress ++ ends) halt in
     omega arith
 
-few_started : (w : ℕ) (s : Step) (at : ℕ) → s.seconds ≤ 86400 → length (started w s at) ≤ 10000
-few_started w s at short =
-    let beat : ℕ → Event = (λ p. event w s (at + p) (Progress p)) in
-    let tell : What → Event = (λ what. event w s (at + s.seconds) what) in
-    let tens : length (progress_times s.seconds) ≤ 8640 = few_tens 8640 0 s.seconds (omega arith) (omega arith) in
-    let same : length (map beat (progress_times s.seconds)) ≡ length (progress_times s.seconds) = length-map (progress_times s.seconds) beat in
+-- a step of a day at most, with few provisioners and little output
+pub record IsSmall (s : Step) : Type 0 where
+  pub short : seconds_of s ≤ 86400
+  pub few : length s.ran ≤ 8
+  pub little : All (λ p. length p.output ≤ 100) s.ran
+
+few_started : (w : ℕ) (s : Step) (at : ℕ) → IsSmall s → length (started w s at) ≤ 10000
+few_started w s at small =
+    let beat : ℕ × What → Event = (λ p. event w s (at + p.0) p.1) in
+    let tell : What → Event = (λ what. event w s (at + seconds_of s) what) in
+    let inside : length (between s) ≤ 9456 = few_along (seconds_of s) s.provider_seconds s.ran small.little small.few small.short in
+    let same : length (map beat (between s)) ≡ length (between s) = length-map (between s) beat in
     let last : length (map tell (endings s)) ≡ length (endings s) = length-map (endings s) tell in
     let note : length (notes s.fails s.warns) ≤ 1 = few_notes s.fails s.warns in
-    few_joined (event w s at Start) (map beat (progress_times s.seconds)) (map tell (endings s)) (halts w s (phase_after s.fails) (at + s.seconds))
-    (omega arith) (omega arith) (few_found w s (phase_after s.fails) (at + s.seconds) (s.halts (phase_after s.fails)))
+    few_joined (event w s at Start) (map beat (between s)) (map tell (endings s)) (halts w s (phase_after s.fails) (at + seconds_of s))
+    (omega arith) (omega arith) (few_found w s (phase_after s.fails) (at + seconds_of s) (s.halts (phase_after s.fails)))
 
-few_step : (w : ℕ) (s : Step) (at : ℕ) (found : Option ℕ) → s.seconds ≤ 86400 → length (cond (is_some found) (option_to_list (option_map (λ hook. event w s at (Halted Pre hook)) found)) (started w s at)) ≤ 10000
+few_step : (w : ℕ) (s : Step) (at : ℕ) (found : Option ℕ) → IsSmall s → length (cond (is_some found) (option_to_list (option_map (λ hook. event w s at (Halted Pre hook)) found)) (started w s at)) ≤ 10000
 few_step w s at None short = few_started w s at short
 few_step w s at (Some hook) short = let one = few_found w s Pre at (Some hook) in omega arith
 
 -- ---- a change
 
-few_steps : (work : Work) (w c n : ℕ) (kinds : List StepKind) (at : ℕ) → n + length kinds ≤ 2 → ((k : ℕ) → k < 2 → (outcome_of work.script c k).seconds ≤ 86400)
+small_step : (work : Work) (c n : ℕ) (kind : StepKind) → IsBounded (outcome_of work.script c n) → IsSmall (step_of work c n kind)
+small_step work c n kind bounded =
+    let outcome = outcome_of work.script c n in
+    let less = ran_short outcome.provisioners in let most = ran_few outcome.provisioners in
+    let day = bounded.short in let eight = bounded.few_provisioners in
+    record {
+      short = omega arith;
+      few = omega arith;
+      little = ran_all (λ (p : Provisioner). length p.output ≤ 100) outcome.provisioners bounded.little_output;
+    }
+
+few_steps : (work : Work) (w c n : ℕ) (kinds : List StepKind) (at : ℕ) → n + length kinds ≤ 2 → ((k : ℕ) → k < 2 → IsBounded (outcome_of work.script c k))
     → length (in_turn (step_events w) step_time (begun (map (λ p. step_of work c p.0 p.1) (enumerate_from n kinds))) at) ≤ 10000 * length kinds
 few_steps work w c n [] at few short = omega arith
 few_steps work w c n (kind ∷ kinds) at few short =
     let s = step_of work c n kind in
     let steps = begun (map (λ p. step_of work c p.0 p.1) (enumerate_from (n + 1) kinds)) in
-    let here : length (step_events w s at) ≤ 10000 = few_step w s at (s.halts Pre) (short n (omega arith)) in
+    let here : length (step_events w s at) ≤ 10000 = few_step w s at (s.halts Pre) (small_step work c n kind (short n (omega arith))) in
     let rest = few_steps work w c (n + 1) kinds (at + step_time s) (omega arith) short in
     elim (goes_on s) as (λ b. length (in_turn (step_events w) step_time (s ∷ cond b steps []) at) ≤ 10000 * suc (length kinds)) [
       | true ↦ (let both = length-append (step_events w s at) (in_turn (step_events w) step_time steps (at + step_time s)) in omega arith)
@@ -87,11 +98,16 @@ few_steps work w c n (kind ∷ kinds) at few short =
 pub few_kinds : (plan : SavedPlan) (c : ℕ) (change : ResourceChange) → Some change ≡ slice_get plan.changes c → length change.steps ≤ 2 → length (kinds_of plan c) ≤ 2
 few_kinds plan c change is few = subst (λ found. length (option_map_or (λ (change : ResourceChange). change.steps) found []) ≤ 2) is few
 
-pub few_events : (work : Work) (w c at : ℕ) → length (kinds_of work.plan c) ≤ 2 → (outcome_of work.script c 0).seconds ≤ 86400 → (outcome_of work.script c 1).seconds ≤ 86400 → length (change_events work w c at) ≤ 20000
+-- each outcome is within the limits, also where nothing is said
+pub bounded : (found : Option Outcome) → IfSome found IsBounded → IsBounded (unwrap_or found default_outcome)
+bounded None within = record { short = omega arith; few_provisioners = omega arith; little_output = All-nil (λ (p : Provisioner). length p.output ≤ 100) }
+bounded (Some outcome) within = within
+
+pub few_events : (work : Work) (w c at : ℕ) → length (kinds_of work.plan c) ≤ 2 → IsBounded (outcome_of work.script c 0) → IsBounded (outcome_of work.script c 1) → length (change_events work w c at) ≤ 20000
 few_events work w c at few first second =
     let all = few_steps work w c 0 (kinds_of work.plan c) at (omega arith) (λ k lt. short_at k lt) in omega arith
   where
-    short_at : (k : ℕ) → k < 2 → (outcome_of work.script c k).seconds ≤ 86400
+    short_at : (k : ℕ) → k < 2 → IsBounded (outcome_of work.script c k)
     short_at zero lt = first
     short_at (suc zero) lt = second
     short_at (suc (suc k)) lt = absurd (omega arith)

@@ -7,7 +7,6 @@ ghost use Rattle.apply_events.specs.Lanes.ToCome.{max_of_change};
 
 use crate::event::Event;
 use crate::runner::Runner;
-use crate::step_facts::StepFacts;
 use apply_hooks::Registry;
 use apply_plan::{Plan, Script};
 
@@ -93,13 +92,13 @@ impl<'a> Lane<'a> {
     }
 }
 
-/// A change of a plan has few events: two steps at most, of a day each.
+/// A change of a plan has few events: two steps at most, each of a day with few provisioners.
 fn has_few_events(plan: &Plan, script: &Script, change: u32)
     requires { change < length plan.now.changes }
     ensures { (hooks : List (List Rule)) (worker at : ℕ) → length (change_events
         (record { plan = plan.now; script = script.now; hooks = hooks }) worker change at) ≤ max_of_change }
 {
     let _steps = plan.change(change).steps();
-    let _first = StepFacts::new(script, change, 0);
-    let _second = StepFacts::new(script, change, 1);
+    let _first = script.outcome(change, 0);
+    let _second = script.outcome(change, 1);
 }

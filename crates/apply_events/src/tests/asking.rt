@@ -11,7 +11,7 @@ fn tells_by_default(
     wanted: &str,
 ) {
     let plan = plan_of(rt, alloc, actions);
-    let script = Script::empty(alloc);
+    let script = Script::empty();
     events_are(rt, alloc, actions, &plan, &script, registry, wanted);
 }
 

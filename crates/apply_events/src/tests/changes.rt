@@ -78,7 +78,7 @@ fn a_default_script_and_a_late_begin(rt: HostRuntime) {
     let alloc = rt.alloc();
     let registry = Registry::new(alloc);
     let plan = plan_of(&rt, alloc, REPLACEMENT);
-    let script = Script::empty(alloc);
+    let script = Script::empty();
     assert!(rt; plan.len() == 1);
     let mut runner = Runner::start(&plan, &script, &registry, 7, 0, LAST_BEGIN);
     next_is(&rt, &mut runner, 0, What::Start);

@@ -69,6 +69,20 @@ fn counts_of_changes(rt: HostRuntime) {
     counts_are(&rt, alloc, r#"["read"]"#, "[]", NOTHING, NOTHING);
 }
 
+/// A create is counted once, with its provisioners, and not where one of them fails: then it is one step that failed.
+#[test]
+fn counts_of_creates_with_provisioners(rt: HostRuntime) {
+    let alloc = rt.alloc();
+    let done =
+        r#"[{"seconds":1,"provisioners":[{"provisioner":"a","seconds":1,"output":["x"]},{"provisioner":"b","seconds":0}]}]"#;
+    let added = counts(1, 0, 0, 0, 0);
+    counts_are(&rt, alloc, CREATE, done, NOTHING, added);
+    let fails =
+        r#"[{"seconds":1,"provisioners":[{"provisioner":"a","seconds":1,"failed":{"summary":"boom"}}]}]"#;
+    let failed = counts(0, 0, 0, 1, 0);
+    counts_are(&rt, alloc, CREATE, fails, NOTHING, failed);
+}
+
 #[test]
 fn a_halt_is_counted(rt: HostRuntime) {
     let alloc = rt.alloc();
@@ -83,7 +97,7 @@ fn a_halt_is_counted(rt: HostRuntime) {
         },
         at: 0,
     };
-    assert!(rt; fits(&plan, &Script::empty(alloc), &event));
+    assert!(rt; fits(&plan, &Script::empty(), &event));
     let mut counted = Counts::new();
     counted.count(&plan, &event);
     assert!(rt; counted == counts(0, 0, 0, 0, 1), "{counted:?}");

@@ -7,7 +7,9 @@ use super::*;
 const FITTING: &str =
     r#"[{"seconds":10}] => 0 Start; 0 Complete(10); 0 Halted { phase: Pre, hook: 31 }; 0 Halted { phase: PostDone, hook: 0 }; 1 Start; 1 Complete(0); 1 Halted { phase: Pre, hook: 31 }; 1 Halted { phase: PostDone, hook: 0 };
 [{"seconds":11,"warning":{"summary":"slow"}}] => 0 Start; 0 Progress(10); 0 Complete(11); 0 WarnNote; 0 Halted { phase: Pre, hook: 31 }; 0 Halted { phase: PostDone, hook: 0 }; 1 Start; 1 Complete(0); 1 Halted { phase: Pre, hook: 31 }; 1 Halted { phase: PostDone, hook: 0 };
-[{"seconds":25,"failed":{"summary":"boom"}}] => 0 Start; 0 Progress(10); 0 Progress(20); 0 Errored(25); 0 ErrorNote; 0 Halted { phase: Pre, hook: 31 }; 0 Halted { phase: PostFailed, hook: 0 }; 1 Start; 1 Complete(0); 1 Halted { phase: Pre, hook: 31 }; 1 Halted { phase: PostDone, hook: 0 };"#;
+[{"seconds":25,"failed":{"summary":"boom"}}] => 0 Start; 0 Progress(10); 0 Progress(20); 0 Errored(25); 0 ErrorNote; 0 Halted { phase: Pre, hook: 31 }; 0 Halted { phase: PostFailed, hook: 0 }; 1 Start; 1 Complete(0); 1 Halted { phase: Pre, hook: 31 }; 1 Halted { phase: PostDone, hook: 0 };
+[{"seconds":0},{"seconds":1,"warning":{"summary":"slow"},"provisioners":[{"provisioner":"a","seconds":8,"output":["x","y"]},{"provisioner":"b","seconds":2}]}] => 0 Start; 0 Complete(0); 0 Halted { phase: Pre, hook: 31 }; 0 Halted { phase: PostDone, hook: 0 }; 1 Start; 1 Progress(10); 1 Complete(11); 1 WarnNote; 1 Halted { phase: Pre, hook: 31 }; 1 Halted { phase: PostDone, hook: 0 }; 1 ProvisionStart(0); 1 ProvisionOutput { prov: 0, line: 0 }; 1 ProvisionOutput { prov: 0, line: 1 }; 1 ProvisionComplete(0); 1 ProvisionStart(1); 1 ProvisionComplete(1);
+[{"seconds":0},{"seconds":1,"warning":{"summary":"slow"},"provisioners":[{"provisioner":"a","seconds":9,"output":["x"],"failed":{"summary":"boom"}},{"provisioner":"b","seconds":15,"output":["y"]}]}] => 0 Start; 0 Complete(0); 0 Halted { phase: Pre, hook: 31 }; 0 Halted { phase: PostDone, hook: 0 }; 1 Start; 1 Errored(10); 1 ErrorNote; 1 Halted { phase: Pre, hook: 31 }; 1 Halted { phase: PostFailed, hook: 0 }; 1 ProvisionStart(0); 1 ProvisionOutput { prov: 0, line: 0 }; 1 ProvisionErrored(0);"#;
 
 fn halted(phase: Phase, hook: u8) -> What {
     What::Halted { phase, hook }
@@ -83,6 +85,52 @@ fn push_step(
         step,
         halted(Phase::PostFailed, 0),
     );
+    for prov in 0..3 {
+        push_provisioner(rt, alloc, text, plan, script, step, prov);
+    }
+}
+
+/// Tries all kinds of events of a provisioner of the step.
+fn push_provisioner(
+    rt: &impl Abort,
+    alloc: Global,
+    text: &mut String,
+    plan: &Plan,
+    script: &Script,
+    step: u8,
+    prov: u8,
+) {
+    push_fitting(
+        rt,
+        alloc,
+        text,
+        plan,
+        script,
+        step,
+        What::ProvisionStart(prov),
+    );
+    for line in 0..3 {
+        let output = What::ProvisionOutput { prov, line };
+        push_fitting(rt, alloc, text, plan, script, step, output);
+    }
+    push_fitting(
+        rt,
+        alloc,
+        text,
+        plan,
+        script,
+        step,
+        What::ProvisionComplete(prov),
+    );
+    push_fitting(
+        rt,
+        alloc,
+        text,
+        plan,
+        script,
+        step,
+        What::ProvisionErrored(prov),
+    );
 }
 
 /// What can happen to three steps, of what is tried of each.
@@ -110,7 +158,7 @@ fn events_that_can_happen(rt: HostRuntime) {
 fn events_happen_in_time_to_changes_of_the_plan(rt: HostRuntime) {
     let alloc = rt.alloc();
     let plan = plan_of(&rt, alloc, CREATE);
-    let script = Script::empty(alloc);
+    let script = Script::empty();
     assert!(rt; fits(&plan, &script, &event(0, 0, What::Start, LATEST)));
     assert!(rt; !fits(&plan, &script, &event(0, 0, What::Start, 1_728_000_001)));
     assert!(rt; !fits(&plan, &script, &event(1, 0, What::Start, 0)));

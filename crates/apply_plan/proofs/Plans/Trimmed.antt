@@ -33,7 +33,7 @@ use Rattle.apply_json.proofs.Trimmed.Lookups.{as_array_trimmed, as_bool_trimmed,
 -- ---- actions
 
 abbrev few_actions : Items → Items
-few_actions = trimmed_items plan_selection shape.Scalar 3
+few_actions = trimmed_items plan_selection shape.Scalar (Some 3)
 
 same_steps : (actions : Items) → steps_of_actions (few_actions actions) ≡ steps_of_actions actions
 same_steps no_items = refl
@@ -183,7 +183,7 @@ same_answer : (earlier : List ResourceChange) (d : Data) → change_after earlie
 unfolding change_after
 same_answer earlier d = rw (same_planned_at (length earlier) d) refl
 
-same_answers : (n : ℕ) (earlier : List ResourceChange) (ds : Items) → items_len ds ≤ n → made_after change_after earlier (trimmed_items plan_selection shape.Element n ds) ≡ made_after change_after earlier ds
+same_answers : (n : ℕ) (earlier : List ResourceChange) (ds : Items) → items_len ds ≤ n → made_after change_after earlier (trimmed_items plan_selection shape.Element (Some n) ds) ≡ made_after change_after earlier ds
 unfolding made_after
 same_answers n earlier no_items within = refl
 same_answers zero earlier (item d ds) within = absurd (omega (arith, within))
@@ -192,18 +192,18 @@ same_answers (suc n) earlier (item d ds) within =
 
 -- ---- the top level
 
-no_longer : (shape : PlanShape) (n : ℕ) (ds : Items) → items_len (trimmed_items plan_selection shape n ds) ≤ items_len ds
+no_longer : (shape : PlanShape) (n : ℕ) (ds : Items) → items_len (trimmed_items plan_selection shape (Some n) ds) ≤ items_len ds
 no_longer shape n no_items = omega arith
 no_longer shape zero (item d ds) = omega arith
 no_longer shape (suc n) (item d ds) = let rest = no_longer shape n ds in omega (arith, rest)
 
-still_many : (shape : PlanShape) (n : ℕ) (ds : Items) → n < items_len ds → n < items_len (trimmed_items plan_selection shape (suc n) ds)
+still_many : (shape : PlanShape) (n : ℕ) (ds : Items) → n < items_len ds → n < items_len (trimmed_items plan_selection shape (Some (suc n)) ds)
 still_many shape n no_items many = absurd (omega (arith, many))
 still_many shape zero (item d ds) many = omega arith
 still_many shape (suc n) (item d ds) many = let rest = still_many shape n ds (omega (arith, many)) in omega (arith, rest)
 
 abbrev most_changes : Items → Items
-most_changes = trimmed_items plan_selection shape.Element 10001
+most_changes = trimmed_items plan_selection shape.Element (Some 10001)
 
 abbrev with_most : Header → Header
 with_most h = record { version = h.version; elements = most_changes h.elements }

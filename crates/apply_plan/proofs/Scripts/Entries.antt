@@ -1,13 +1,12 @@
 -- What entries say: the change that one is about, and what several say of each change.
 use Rattle.std.proofs.Common.{◌≡◌, ℕ, zero, suc, ◌+◌, ◌<◌, ◌≤◌, Bool, true, false, cond, List, [], ◌∷◌, ◌++◌, length, map, get_or, set, Option, Some, None, option_map, IfSome, refl, sym, ap, subst, ◌∙◌, add-one, arith, ⊎_elim}
 use Rattle.std.specs.Prelude.{◌&&◌, ◌||◌, find, is_some, slice_get, ◌==◌}
-use Rattle.std.specs.List.{count_by, enumerate_from, list_any, range_with_len}
+use Rattle.std.specs.List.{All, count_by, enumerate_from, range_with_len}
 use Rattle.std.specs.Option.{option_eq, option_or}
 use Rattle.std.specs.Str.{bytes_eq}
-use Rattle.std.proofs.lemmas.Bool.{cases_Bool, cases_lt, ltb-false}
+use Rattle.std.proofs.lemmas.Bool.{cases_Bool, cases_lt}
 use Rattle.std.proofs.lemmas.Bool.Decides.{eqb_tells}
 use Rattle.std.proofs.lemmas.List.{get_or-set_other, get_or-set_same, length-set, same_lists}
-use Rattle.std.proofs.lemmas.List.Folds.{list_any_at}
 use Rattle.std.proofs.lemmas.List.FromFn.{get_or-map-range_with_len, length-map-range_with_len}
 use Rattle.std.proofs.lemmas.List.Sums.{sum_by-cons, sum_by-set}
 use Rattle.std.proofs.lemmas.Option.{get_or_from_slice_get, slice_get-get_or, slice_get_past, slice_get_within, some_pair_parts}
@@ -16,7 +15,7 @@ use Rattle.apply_plan.specs.declared.script.outcome.Outcome.{Outcome}
 use Rattle.apply_plan.specs.Plan.ResourceChange.{ResourceChange}
 use Rattle.apply_json.specs.Tree.{◌>>=◌}
 use Rattle.apply_plan.specs.Script.Entry.{Entry}
-use Rattle.apply_plan.specs.Script.Outcome.{is_too_long, max_seconds}
+use Rattle.apply_plan.specs.Script.Outcome.{IsBounded}
 use Rattle.apply_plan.specs.Script.Outcomes.{IsInRange, Outcomes, by_number, change_of_entry, is_about, said_at, said_of}
 
 -- ---- the change that an entry is about
@@ -203,37 +202,32 @@ counted_more said number outcomes below none =
     let none_before : counted (get_or said number None) ≡ 0 = ap counted nothing in
     omega (arith, grown, none_before)
 
--- ---- no step takes too long
+-- ---- each step is within the limits
 
 -- what the entries say is in range
 abbrev pub SaysInRange : List (ℕ × List Outcome) → Type 0
-SaysInRange made = (number : ℕ) → IfSome (said_of made number) (λ outcomes. list_any is_too_long outcomes ≡ false)
+SaysInRange made = (number : ℕ) → IfSome (said_of made number) (All IsBounded)
 
-pub in_range_more : (made : List (ℕ × List Outcome)) (one : ℕ × List Outcome) → SaysInRange made → list_any is_too_long one.1 ≡ false → SaysInRange (made ++ one ∷ [])
-in_range_more made one before short number = subst (λ o. IfSome o (λ outcomes. list_any is_too_long outcomes ≡ false)) (sym (said_of-append made one number)) (either (said_of made number) (one.0 == number) (before number))
+pub in_range_more : (made : List (ℕ × List Outcome)) (one : ℕ × List Outcome) → SaysInRange made → All IsBounded one.1 → SaysInRange (made ++ one ∷ [])
+in_range_more made one before bounded number = subst (λ o. IfSome o (All IsBounded)) (sym (said_of-append made one number)) (either (said_of made number) (one.0 == number) (before number))
   where
-    either : (o : Option (List Outcome)) (b : Bool) → IfSome o (λ outcomes. list_any is_too_long outcomes ≡ false) → IfSome (option_or o (cond b (Some one.1) None)) (λ outcomes. list_any is_too_long outcomes ≡ false)
-    either None true h = short
+    either : (o : Option (List Outcome)) (b : Bool) → IfSome o (All IsBounded) → IfSome (option_or o (cond b (Some one.1) None)) (All IsBounded)
+    either None true h = bounded
     either None false h = tt
     either (Some outcomes) b h = h
 
-short_at : (outcomes : List Outcome) (k : ℕ) (o : Option Outcome) → list_any is_too_long outcomes ≡ false → slice_get outcomes k ≡ o → IfSome o (λ outcome. outcome.seconds ≤ max_seconds)
-short_at outcomes k None none at = tt
-short_at outcomes k (Some outcome) none at =
-    ⊎_elim
-    (λ (yes : is_too_long outcome ≡ true).
-    let found : list_any is_too_long outcomes ≡ true = list_any_at is_too_long outcomes k outcome (slice_get_within outcomes k outcome at) (ap is_too_long (get_or_from_slice_get outcomes k outcome outcome at) ∙ yes) in
-    absurd cc)
-    (λ (no : is_too_long outcome ≡ false). ltb-false max_seconds outcome.seconds no)
-    (cases_Bool (is_too_long outcome))
+bounded_at : (outcomes : List Outcome) (k : ℕ) (o : Option Outcome) → All IsBounded outcomes → slice_get outcomes k ≡ o → IfSome o IsBounded
+bounded_at outcomes k None bounded at = tt
+bounded_at outcomes k (Some outcome) bounded at =
+    subst IsBounded (get_or_from_slice_get outcomes k outcome outcome at) (bounded k outcome (slice_get_within outcomes k outcome at))
 
-given_in_range : (said : Option (List Outcome)) (k : ℕ) → IfSome said (λ outcomes. list_any is_too_long outcomes ≡ false) → IfSome (said >>= λ outcomes. slice_get outcomes k) (λ outcome. outcome.seconds ≤ max_seconds)
+given_in_range : (said : Option (List Outcome)) (k : ℕ) → IfSome said (All IsBounded) → IfSome (said >>= λ outcomes. slice_get outcomes k) IsBounded
 given_in_range None k h = tt
-given_in_range (Some outcomes) k h = short_at outcomes k (slice_get outcomes k) h refl
+given_in_range (Some outcomes) k h = bounded_at outcomes k (slice_get outcomes k) h refl
 
 pub is_in_range : (count : ℕ) (made : List (ℕ × List Outcome)) → SaysInRange made → IsInRange (by_number count made)
 is_in_range count made says c k =
     ⊎_elim
-    (λ (below : c < count). subst (λ (said : Option (List Outcome)). IfSome (said >>= λ outcomes. slice_get outcomes k) (λ outcome. outcome.seconds ≤ max_seconds)) (sym (at_number count made c below)) (given_in_range (said_of made c) k (says c)))
-    (λ (past : count ≤ c). subst (λ (said : Option (List Outcome)). IfSome (said >>= λ outcomes. slice_get outcomes k) (λ outcome. outcome.seconds ≤ max_seconds)) (sym (none_past count made c past)) tt)
+    (λ (below : c < count). subst (λ (said : Option (List Outcome)). IfSome (said >>= λ outcomes. slice_get outcomes k) IsBounded) (sym (at_number count made c below)) (given_in_range (said_of made c) k (says c)))
+    (λ (past : count ≤ c). subst (λ (said : Option (List Outcome)). IfSome (said >>= λ outcomes. slice_get outcomes k) IsBounded) (sym (none_past count made c past)) tt)
     (cases_lt c count)

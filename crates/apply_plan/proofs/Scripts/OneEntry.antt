@@ -1,22 +1,19 @@
 -- What one entry says, in the steps of a reader.
-use Rattle.std.proofs.Common.{◌≡◌, ℕ, ◌<◌, ◌≤◌, Bool, true, false, cond, nat_lt, List, [], ◌∷◌, length, map, get_or, Option, Some, None, option_map, Result, Ok, Err, refl, sym, ap, ◌∙◌, arith}
-use Rattle.std.specs.Prelude.{◌||◌, is_some, vec_len}
-use Rattle.std.specs.List.{list_any}
-use Rattle.std.proofs.lemmas.Bool.{le-ltb, lt-ltb}
-use Rattle.std.proofs.lemmas.List.{length-map}
+use Rattle.std.proofs.Common.{◌≡◌, ℕ, ◌<◌, true, false, cond, List, length, map, get_or, Option, Some, None, option_map, Result, Ok, Err, refl, sym, ap, ◌∙◌}
+use Rattle.std.specs.Prelude.{is_some}
 use Rattle.std.proofs.lemmas.Option.{slice_get_read}
 use Rattle.serde_json.specs.Data.{Data}
 use Rattle.apply_plan.specs.declared.script.outcome.Outcome.{Outcome}
 use Rattle.apply_plan.specs.declared.script.script_error.ScriptError.{ScriptError}
-use Rattle.apply_plan.specs.declared.script.script_error.ScriptError.TheVariants.{BadShape, UnknownChange, Duplicate, TooManySteps, SecondsRange}
+use Rattle.apply_plan.specs.declared.script.script_error.ScriptError.TheVariants.{BadShape, UnknownChange, Duplicate}
 use Rattle.apply_plan.specs.declared.script.tree_entry.TreeEntry.{TreeEntry}
-use Rattle.apply_plan.specs.declared.script.tree_step.TreeStep.{TreeStep}
 use Rattle.apply_json.specs.Tree.{◌>>=◌}
 use Rattle.apply_plan.specs.Plan.ResourceChange.{ResourceChange}
+use Rattle.apply_plan.specs.Results.{unless_refused}
 use Rattle.apply_plan.specs.Script.Entry.{Entry, entry_of}
 use Rattle.apply_plan.specs.Script.NextEntry.{entry_beside}
-use Rattle.apply_plan.specs.Script.Outcome.{is_too_long}
 use Rattle.apply_plan.specs.Script.Outcomes.{Outcomes, change_of_entry, said_at}
+use Rattle.apply_plan.specs.Script.Refusals.{fault_of_steps}
 use Rattle.apply_plan.specs.Script.TreeView.{entry_view, step_view}
 use Rattle.apply_plan.proofs.Scripts.Entries.{IsChangeOf}
 
@@ -36,9 +33,7 @@ unknown changes said n d found entry is some none = rw (← is, some, none) refl
 -- what is left to ask of an entry that is about a change
 abbrev asked : Outcomes → (n number : ℕ) → ResourceChange → Entry → Result (ℕ × List Outcome) ScriptError
 asked said n number change entry =
-    cond (is_some (said_at said number)) (Err (Duplicate n))
-    (cond (nat_lt (length change.steps) (length entry.steps)) (Err (TooManySteps n))
-    (cond (list_any is_too_long entry.steps) (Err (SecondsRange n)) (Ok (number, entry.steps))))
+    cond (is_some (said_at said number)) (Err (Duplicate n)) (unless_refused (fault_of_steps n change.steps entry.steps) (number, entry.steps))
 
 -- a reader has found the entry and the change that it is about
 pub record IsFound (changes : List ResourceChange) (said : Outcomes) (d : Data) (entry : TreeEntry) (number : ℕ) (change : ResourceChange) (there : Option (List Outcome)) : Type 0 where
@@ -60,29 +55,16 @@ pub repeats : (changes : List ResourceChange) (said : Outcomes) (n : ℕ) (d : D
 repeats changes said n d entry number change there is some =
     known changes said n d entry number change there is ∙ rw (said_there said number there is.below is.there_is, some) refl
 
-pub too_many : (changes : List ResourceChange) (said : Outcomes) (n : ℕ) (d : Data) (entry : TreeEntry) (number : ℕ) (change : ResourceChange) (there : Option (List Outcome)) → IsFound changes said d entry number change there
-    → is_some there ≡ false → length change.steps < vec_len entry.steps → entry_beside changes said n d ≡ Err (TooManySteps n)
-too_many changes said n d entry number change there is none more =
-    let longer : nat_lt (length change.steps) (length (map step_view entry.steps.items)) ≡ true =
-    rw (length-map entry.steps.items step_view) (let beyond : length change.steps < length entry.steps.items = omega (arith, entry.steps.ok.0) in lt-ltb _ _ beyond) in
-    known changes said n d entry number change there is ∙ rw (said_there said number there is.below is.there_is, none, longer) refl
+-- what is answered where the change is new
+answered : (changes : List ResourceChange) (said : Outcomes) (n : ℕ) (d : Data) (entry : TreeEntry) (number : ℕ) (change : ResourceChange) (there : Option (List Outcome)) (fault : Option ScriptError) → IsFound changes said d entry number change there
+    → is_some there ≡ false → fault ≡ fault_of_steps n change.steps (entry_view entry).steps → entry_beside changes said n d ≡ unless_refused fault (number, map step_view entry.steps.items)
+answered changes said n d entry number change there fault is none asked =
+    known changes said n d entry number change there is ∙ rw (said_there said number there is.below is.there_is, none, ← asked) refl
 
-list_any-map : (steps : List TreeStep) → list_any is_too_long (map step_view steps) ≡ list_any (λ step. is_too_long (step_view step)) steps
-list_any-map [] = refl
-list_any-map (step ∷ steps) = ap (λ b. is_too_long (step_view step) || b) (list_any-map steps)
-
-timed : (changes : List ResourceChange) (said : Outcomes) (n : ℕ) (d : Data) (entry : TreeEntry) (number : ℕ) (change : ResourceChange) (there : Option (List Outcome)) (long : Bool) → IsFound changes said d entry number change there
-    → is_some there ≡ false → vec_len entry.steps ≤ length change.steps → list_any (λ step. is_too_long (step_view step)) entry.steps.items ≡ long
-    → entry_beside changes said n d ≡ cond long (Err (SecondsRange n)) (Ok (number, map step_view entry.steps.items))
-timed changes said n d entry number change there long is none few too_long =
-    let no_longer : nat_lt (length change.steps) (length (map step_view entry.steps.items)) ≡ false =
-    rw (length-map entry.steps.items step_view) (let within : length entry.steps.items ≤ length change.steps = omega (arith, entry.steps.ok.0) in le-ltb _ _ within) in
-    known changes said n d entry number change there is ∙ rw (said_there said number there is.below is.there_is, none, no_longer, list_any-map entry.steps.items, too_long) refl
-
-pub too_slow : (changes : List ResourceChange) (said : Outcomes) (n : ℕ) (d : Data) (entry : TreeEntry) (number : ℕ) (change : ResourceChange) (there : Option (List Outcome)) → IsFound changes said d entry number change there
-    → is_some there ≡ false → vec_len entry.steps ≤ length change.steps → list_any (λ step. is_too_long (step_view step)) entry.steps.items ≡ true → entry_beside changes said n d ≡ Err (SecondsRange n)
-too_slow changes said n d entry number change there is none few long = timed changes said n d entry number change there true is none few long
+pub refused : (changes : List ResourceChange) (said : Outcomes) (n : ℕ) (d : Data) (entry : TreeEntry) (number : ℕ) (change : ResourceChange) (there : Option (List Outcome)) (fault : ScriptError) → IsFound changes said d entry number change there
+    → is_some there ≡ false → Some fault ≡ fault_of_steps n change.steps (entry_view entry).steps → entry_beside changes said n d ≡ Err fault
+refused changes said n d entry number change there fault is none asked = answered changes said n d entry number change there (Some fault) is none asked
 
 pub accepted : (changes : List ResourceChange) (said : Outcomes) (n : ℕ) (d : Data) (entry : TreeEntry) (number : ℕ) (change : ResourceChange) (there : Option (List Outcome)) → IsFound changes said d entry number change there
-    → is_some there ≡ false → vec_len entry.steps ≤ length change.steps → list_any (λ step. is_too_long (step_view step)) entry.steps.items ≡ false → entry_beside changes said n d ≡ Ok (number, map step_view entry.steps.items)
-accepted changes said n d entry number change there is none few short = timed changes said n d entry number change there false is none few short
+    → is_some there ≡ false → None ≡ fault_of_steps n change.steps (entry_view entry).steps → entry_beside changes said n d ≡ Ok (number, map step_view entry.steps.items)
+accepted changes said n d entry number change there is none asked = answered changes said n d entry number change there None is none asked

@@ -1,7 +1,7 @@
 -- Reading the entries one by one, behind what has been said, gives the script that is defined over the whole list.
-use Rattle.std.proofs.Common.{◌≡◌, ℕ, ◌+◌, ◌<◌, ◌≤◌, Bool, true, false, nat_lt, Option, Some, None, List, [], ◌∷◌, ◌++◌, length, set, Result, Ok, Err, refl, sym, ap, subst, ◌∙◌, arith}
+use Rattle.std.proofs.Common.{◌≡◌, ℕ, ◌+◌, ◌<◌, ◌≤◌, Bool, true, false, Option, Some, None, List, [], ◌∷◌, ◌++◌, length, set, Result, Ok, Err, refl, sym, ap, subst, ◌∙◌, arith}
 use Rattle.std.specs.Prelude.{◌||◌, ◌==◌, is_some}
-use Rattle.std.specs.List.{count_by, list_any}
+use Rattle.std.specs.List.{All, count_by, list_any}
 use Rattle.std.specs.Option.{option_map_or}
 use Rattle.std.proofs.lemmas.List.{length-append}
 use Rattle.std.proofs.lemmas.List.Folds.{list_any-append}
@@ -10,7 +10,7 @@ use Rattle.std.proofs.lemmas.Option.{slice_get_within}
 use Rattle.serde_json.specs.Data.{Data, Items}
 use Rattle.apply_plan.specs.declared.script.outcome.Outcome.{Outcome}
 use Rattle.apply_plan.specs.declared.script.script_error.ScriptError.{ScriptError}
-use Rattle.apply_plan.specs.declared.script.script_error.ScriptError.TheVariants.{BadShape, UnknownChange, Duplicate, TooManySteps, SecondsRange}
+use Rattle.apply_plan.specs.declared.script.script_error.ScriptError.TheVariants.{BadShape, UnknownChange, Duplicate}
 use Rattle.apply_json.specs.Tree.{list_of}
 use Rattle.apply_plan.specs.ListReading.{made_after}
 use Rattle.apply_plan.specs.Plan.ResourceChange.{ResourceChange}
@@ -18,11 +18,13 @@ use Rattle.apply_plan.specs.Plan.SavedPlan.{SavedPlan}
 use Rattle.apply_plan.specs.Results.{◌>>=◌, all_or_first, each_with_earlier, or_refuse}
 use Rattle.apply_plan.specs.Script.Entry.{Entry, entry_of}
 use Rattle.apply_plan.specs.Script.NextEntry.{entry_after, entry_beside}
-use Rattle.apply_plan.specs.Script.Outcome.{is_too_long}
+use Rattle.apply_plan.specs.Script.Outcome.{IsBounded}
 use Rattle.apply_plan.specs.Script.Outcomes.{IsInRange, Outcomes, by_number, change_of_entry, entry_at, is_about, names_change, said_at, said_of, script_of_entries}
-use Rattle.apply_plan.proofs.Results.{bind_ok, bind_same, done, guard_ok, ok_is, or_refuse_ok}
+use Rattle.apply_plan.specs.Script.Refusals.{fault_of_steps}
+use Rattle.apply_plan.proofs.Results.{bind_ok, bind_same, done, guard_ok, or_refuse_ok, unless_refused_ok}
 use Rattle.apply_plan.proofs.WholeList.{AnswersAlike, read_one_by_one}
 use Rattle.apply_plan.proofs.Scripts.Entries.{IsChangeOf, SaysInRange, about_same, at_number, by_number-append, change_is, counted_more, in_range_more, is_in_range, is_said-append, length-by_number, none_counted}
+use Rattle.apply_plan.proofs.Scripts.Limits.{none_is_bounded}
 
 -- ---- what an accepted entry says
 
@@ -33,7 +35,7 @@ record IsAccepted (changes : List ResourceChange) (said : Outcomes) (d : Data) (
   entry_is : entry_of d ≡ Some entry
   change_of : IsChangeOf changes entry one.0 change
   new : is_some (said_at said one.0) ≡ false
-  short : list_any is_too_long one.1 ≡ false
+  bounded : All IsBounded one.1
 
 accepted : (changes : List ResourceChange) (said : Outcomes) (n : ℕ) (d : Data) (one : ℕ × List Outcome) → entry_beside changes said n d ≡ Ok one → IsAccepted changes said d one
 unfolding entry_beside
@@ -43,11 +45,17 @@ accepted changes said n d one e =
     let known = bind_ok (or_refuse (UnknownChange n) (change_of_entry changes formed.0)) _ one formed.2 in
     let found = or_refuse_ok (UnknownChange n) (change_of_entry changes formed.0) known.0 known.1 in
     let new = guard_ok (is_some (said_at said known.0.0)) (Duplicate n) _ one known.2 in
-    let few = guard_ok (nat_lt (length known.0.1.steps) (length formed.0.steps)) (TooManySteps n) _ one new.1 in
-    let short = guard_ok (list_any is_too_long formed.0.steps) (SecondsRange n) (Ok (known.0.0, formed.0.steps)) one few.1 in
-    let same = ok_is {E = ScriptError} (known.0.0, formed.0.steps) one short.1 in
-    subst (λ (o : ℕ × List Outcome). IsAccepted changes said d o) same
-    (record { entry = formed.0; change = known.0.1; entry_is = entry_is; change_of = change_is changes formed.0 known.0.0 known.0.1 found; new = new.0; short = short.0 })
+    let fault = fault_of_steps n known.0.1.steps formed.0.steps in
+    let clear = unless_refused_ok fault (known.0.0, formed.0.steps) one new.1 in
+    subst (λ (o : ℕ × List Outcome). IsAccepted changes said d o) clear.1
+    (record {
+      entry = formed.0;
+      change = known.0.1;
+      entry_is = entry_is;
+      change_of = change_is changes formed.0 known.0.0 known.0.1 found;
+      new = new.0;
+      bounded = none_is_bounded n known.0.1.steps formed.0.steps clear.0;
+    })
 
 -- ---- the whole list
 
@@ -129,7 +137,7 @@ said_more changes said n made d number outcomes has e =
       count = omega (arith, length-append made ((number, outcomes) ∷ []), has.count);
       said_is = ap (λ (s : Outcomes). set s number (Some outcomes)) has.said_is ∙ sym (by_number-append (length changes) made number outcomes below unsaid);
       counted = omega (arith, counted_more said number outcomes within new, has.counted);
-      in_range = in_range_more made (number, outcomes) has.in_range is.short;
+      in_range = in_range_more made (number, outcomes) has.in_range is.bounded;
     }
   where
     none_there : (o : Option (List Outcome)) → is_some o ≡ false → o ≡ None

@@ -29,10 +29,10 @@ item_shape Changes = Element
 item_shape _ = Scalar
 
 -- how many items are looked at
-abbrev pub item_limit : PlanShape → ℕ
-item_limit Changes = 10001
-item_limit Actions = 3
-item_limit _ = 0
+abbrev pub item_limit : PlanShape → Option ℕ
+item_limit Changes = Some 10001
+item_limit Actions = Some 3
+item_limit _ = Some 0
 
 abbrev pub plan_selection : Selection PlanShape
 plan_selection = record { member_shape = member_shape; item_shape = item_shape; item_limit = item_limit }

@@ -1,12 +1,14 @@
 -- An entry of a script: its members, each under its rule (the script's own format).
-use Rattle.std.specs.Prelude.{ℕ, List, [], ◌∷◌, codes, map, Option, Some, None, option_map}
+use Rattle.std.specs.Prelude.{ℕ, List, [], ◌∷◌, codes, length, map, ◌&&◌, nat_lt, if◌then◌else◌, Option, Some, None, option_map}
 use Rattle.serde_json.specs.Data.{Data}
-use Rattle.serde_json.specs.Find.{as_array, as_number, as_u64}
+use Rattle.serde_json.specs.Find.{as_array, as_number, as_str, as_u64}
 use Rattle.apply_plan.specs.declared.script.diag.Diag.{Diag}
 use Rattle.apply_plan.specs.declared.script.ending.Ending.{Ending}
 use Rattle.apply_plan.specs.declared.script.ending.Ending.TheVariants.{Done, Failed}
 use Rattle.apply_plan.specs.declared.script.outcome.Outcome.{Outcome}
-use Rattle.apply_json.specs.Tree.{◌>>=◌, unless_empty, list_of, member_of, text_of, text_or}
+use Rattle.apply_plan.specs.declared.script.provisioner.Provisioner.{Provisioner}
+use Rattle.apply_plan.specs.Script.Outcome.{is_failed}
+use Rattle.apply_json.specs.Tree.{◌>>=◌, unless_empty, items_or_empty, list_of, member_of, non_empty_text_of, text_of, text_or}
 
 pub record Entry : Type 0 where
   pub address : List ℕ
@@ -36,15 +38,12 @@ ending_from None None (Some diag) = Some (Failed diag)
 ending_from None (Some warning) (Some diag) = None
 ending_from (Some id) warning (Some diag) = None
 
--- a step
-unfoldable pub step_from : Data → Option Outcome
-step_from d = do
-  seconds ← seconds_of d
+unfoldable pub ending_of : Data → Option Ending
+ending_of d = do
   id ← text_or [] (member_of (codes "id") d)
   warning ← diag_or_none (member_of (codes "warning") d)
   failed ← diag_or_none (member_of (codes "failed") d)
-  result ← ending_from (unless_empty id) warning failed
-  Some (record { seconds = seconds; result = result })
+  ending_from (unless_empty id) warning failed
 
 -- all values, where each is there
 abbrev pub all_some : {A : Type 0} → List (Option A) → Option (List A)
@@ -53,6 +52,36 @@ all_some (found ∷ others) = do
   x ← found
   xs ← all_some others
   Some (x ∷ xs)
+
+-- what the values of an array are, where each is one; an array that is absent has none
+abbrev pub each_of : {A : Type 0} → (Data → Option A) → Option Data → Option (List A)
+each_of part found = do
+  items ← items_or_empty found
+  all_some (map part (list_of items))
+
+-- a provisioner: its name, its seconds, why it fails, where it does, and what it puts out
+unfoldable pub provisioner_from : Data → Option Provisioner
+provisioner_from d = do
+  name ← non_empty_text_of (codes "provisioner") d
+  seconds ← seconds_of d
+  failed ← diag_or_none (member_of (codes "failed") d)
+  output ← each_of as_str (member_of (codes "output") d)
+  Some (record { name = name; seconds = seconds; output = output; failed = failed })
+
+-- a step with its provisioners; one whose provider fails has none
+abbrev pub with_provisioners : (seconds : ℕ) → Ending → List Provisioner → Option Outcome
+with_provisioners seconds result provisioners =
+    if is_failed result && nat_lt 0 (length provisioners)
+    then None
+    else Some (record { seconds = seconds; provisioners = provisioners; result = result })
+
+-- a step
+unfoldable pub step_from : Data → Option Outcome
+step_from d = do
+  seconds ← seconds_of d
+  result ← ending_of d
+  provisioners ← each_of provisioner_from (member_of (codes "provisioners") d)
+  with_provisioners seconds result provisioners
 
 -- the entry's members; none where one of them breaks its rule
 unfoldable pub entry_of : Data → Option Entry

@@ -1,5 +1,5 @@
 -- What a script says of the steps of a plan, or the first refusal (the script's own format).
-use Rattle.std.specs.Prelude.{ℕ, ◌≤◌, List, length, map, find, Bool, false, ◌&&◌, ◌==◌, codes, nat_lt, if◌then◌else◌, Option, Some, None, option_map, unwrap_or, IfSome, slice_get, Result, Ok, Err}
+use Rattle.std.specs.Prelude.{ℕ, List, length, map, find, Bool, false, ◌&&◌, ◌==◌, codes, if◌then◌else◌, Option, Some, None, option_map, unwrap_or, IfSome, slice_get, Result, Ok, Err}
 use Rattle.std.specs.List.{enumerate_from, list_any, range_with_len}
 use Rattle.std.specs.Option.{option_eq, option_map_or}
 use Rattle.std.specs.Str.{bytes_eq}
@@ -7,15 +7,16 @@ use Rattle.serde_json.specs.Data.{Data, Items}
 use Rattle.serde_json.specs.Find.{as_array}
 use Rattle.apply_plan.specs.declared.script.outcome.Outcome.{Outcome}
 use Rattle.apply_plan.specs.declared.script.script_error.ScriptError.{ScriptError}
-use Rattle.apply_plan.specs.declared.script.script_error.ScriptError.TheVariants.{TooLarge, NotJson, BadShape, UnknownChange, Duplicate, TooManySteps, SecondsRange}
+use Rattle.apply_plan.specs.declared.script.script_error.ScriptError.TheVariants.{TooLarge, NotJson, BadShape, UnknownChange, Duplicate}
 use Rattle.apply_json.specs.Tree as json
 use Rattle.apply_json.specs.Tree.{list_of, member_of}
 use Rattle.apply_plan.specs.Bytes.{of_bytes}
 use Rattle.apply_plan.specs.Plan.ResourceChange.{ResourceChange}
 use Rattle.apply_plan.specs.Plan.SavedPlan.{SavedPlan}
-use Rattle.apply_plan.specs.Results.{◌>>=◌, all_or_first, each_with_earlier, or_refuse}
+use Rattle.apply_plan.specs.Results.{◌>>=◌, all_or_first, each_with_earlier, or_refuse, unless_refused}
 use Rattle.apply_plan.specs.Script.Entry.{Entry, entry_of}
-use Rattle.apply_plan.specs.Script.Outcome.{default_outcome, is_too_long, max_seconds}
+use Rattle.apply_plan.specs.Script.Outcome.{IsBounded, default_outcome}
+use Rattle.apply_plan.specs.Script.Refusals.{fault_of_steps}
 
 -- for each change of a plan, by number, the outcomes of its first steps, or nothing
 abbrev pub Outcomes : Type 0
@@ -35,9 +36,9 @@ given_outcome script c k = json.◌>>=◌ (said_at script c) (λ outcomes. slice
 abbrev pub outcome_of : Outcomes → (c k : ℕ) → Outcome
 outcome_of script c k = unwrap_or (given_outcome script c k) default_outcome
 
--- no step takes longer than a day
+-- each step, with its provisioners, is within the limits
 abbrev pub IsInRange : Outcomes → Type 0
-IsInRange script = (c k : ℕ) → IfSome (given_outcome script c k) (λ outcome. outcome.seconds ≤ max_seconds)
+IsInRange script = (c k : ℕ) → IfSome (given_outcome script c k) IsBounded
 
 -- ---- entries
 
@@ -59,9 +60,7 @@ entry_at changes before d = do
   entry ← or_refuse (BadShape (Some (length before))) (entry_of d)
   found ← or_refuse (UnknownChange (length before)) (change_of_entry changes entry)
   if list_any (names_change found.1) before then Err (Duplicate (length before))
-      else if nat_lt (length found.1.steps) (length entry.steps) then Err (TooManySteps (length before))
-      else if list_any is_too_long entry.steps then Err (SecondsRange (length before))
-      else Ok (found.0, entry.steps)
+      else unless_refused (fault_of_steps (length before) found.1.steps entry.steps) (found.0, entry.steps)
 
 -- what the entries say of a change
 abbrev pub said_of : List (ℕ × List Outcome) → ℕ → Option (List Outcome)

@@ -10,10 +10,12 @@ use Rattle.apply_plan.specs.declared.script.diag.Diag.{Diag}
 use Rattle.apply_plan.specs.declared.script.ending.Ending.{Ending}
 use Rattle.apply_plan.specs.declared.script.ending.Ending.TheVariants as ending
 use Rattle.apply_plan.specs.declared.script.outcome.Outcome.{Outcome}
+use Rattle.apply_plan.specs.declared.script.provisioner.Provisioner.{Provisioner}
 use Rattle.apply_plan.specs.declared.script.tree_diag.TreeDiag.{TreeDiag}
 use Rattle.apply_plan.specs.declared.script.tree_ending.TreeEnding.{TreeEnding}
 use Rattle.apply_plan.specs.declared.script.tree_ending.TreeEnding.TheVariants as tree
 use Rattle.apply_plan.specs.declared.script.tree_entry.TreeEntry.{TreeEntry}
+use Rattle.apply_plan.specs.declared.script.tree_provisioner.TreeProvisioner.{TreeProvisioner}
 use Rattle.apply_plan.specs.declared.script.tree_step.TreeStep.{TreeStep}
 use Rattle.apply_json.specs.Tree.{◌>>=◌, member_of, text_of, text_or, unless_empty}
 use Rattle.apply_plan.specs.Script.Entry.{Entry}
@@ -25,8 +27,23 @@ abbrev pub ending_view : TreeEnding → Ending
 ending_view (tree.Done id warning) = ending.Done (option_copied id) (option_map diag_view warning)
 ending_view (tree.Failed diag) = ending.Failed (diag_view diag)
 
+abbrev pub texts_view : List (Bor (List ℕ)) → List (List ℕ)
+texts_view texts = map (λ text. text.now) texts
+
+abbrev pub provisioner_view : TreeProvisioner → Provisioner
+provisioner_view provisioner = record {
+  name = provisioner.name.now;
+  seconds = provisioner.seconds;
+  output = texts_view provisioner.output.items;
+  failed = option_map diag_view provisioner.failed;
+}
+
 abbrev pub step_view : TreeStep → Outcome
-step_view step = record { seconds = step.seconds; result = ending_view step.result }
+step_view step = record {
+  seconds = step.seconds;
+  provisioners = map provisioner_view step.provisioners.items;
+  result = ending_view step.result;
+}
 
 abbrev pub entry_view : TreeEntry → Entry
 entry_view entry = record {

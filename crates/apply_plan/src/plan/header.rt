@@ -2,12 +2,11 @@
 
 ghost use Rattle.std.specs.Prelude.{◌≡◌, nat_eq, codes, option_map};
 ghost use Rattle.std.specs.List.{starts_with};
-ghost use Rattle.serde_json.specs.View.{view, items_view};
+ghost use Rattle.serde_json.specs.View.{view};
 ghost use Rattle.apply_plan.specs.Plan.Header.{header_of};
 ghost use Rattle.apply_plan.specs.Plan.HeaderView.{header_view};
-ghost use Rattle.apply_json.specs.Tree.{items_or_empty, member_of};
 
-use apply_json::members::{member, text_member, text_member_or};
+use apply_json::members::{array_or_empty, member, text_member, text_member_or};
 use serde_json::Value;
 
 /// The version that stands for one that a plan does not give.
@@ -42,15 +41,4 @@ fn is_format_1(format: &str) -> bool
     ensures { result ≡ starts_with nat_eq format.now (codes "1.") }
 {
     format.starts_with("1.")
-}
-
-/// The values of an array, or no values where it is absent. `None` where it is no array.
-fn array_or_empty(found: Option<&Value>) -> Option<&[Value]>
-    ensures { option_map (λ items. items_view items.now) result
-        ≡ items_or_empty (option_map (λ value. view value.now) found.entry) }
-{
-    match found {
-        Some(value) => Some(value.as_array()?.as_slice()),
-        None => Some(&[]),
-    }
 }

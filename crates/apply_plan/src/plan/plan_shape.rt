@@ -49,11 +49,11 @@ impl Shape for PlanShape {
         }
     }
 
-    fn limit(self) -> usize {
+    fn limit(self) -> Option<usize> {
         match self {
-            PlanShape::Changes => MAX_CHANGES + 1,
-            PlanShape::Actions => 3,
-            _ => 0,
+            PlanShape::Changes => Some(MAX_CHANGES + 1),
+            PlanShape::Actions => Some(3),
+            _ => Some(0),
         }
     }
 }

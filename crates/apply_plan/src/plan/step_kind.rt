@@ -1,3 +1,6 @@
+ghost use Rattle.std.specs.Prelude.{◌≡◌};
+ghost use Rattle.apply_plan.specs.Plan.StepKind.{is_kind};
+
 /// What one step of a change does to the real object.
 ///
 /// These are the actions of the hook messages in Terraform's Machine-Readable UI.
@@ -11,4 +14,16 @@ pub enum StepKind {
     Delete,
     /// Reads a data source.
     Read,
+}
+
+impl StepKind {
+    /// Whether it is a create.
+    pub(crate) fn is_create(self) -> bool
+        ensures { result ≡ is_kind StepKind.Create self }
+    {
+        match self {
+            StepKind::Create => true,
+            StepKind::Update | StepKind::Delete | StepKind::Read => false,
+        }
+    }
 }

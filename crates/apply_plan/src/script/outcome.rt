@@ -1,34 +1,68 @@
-//! What a provider answers to a step.
+//! What a provider answers to a step, and the provisioners that run after it.
 
-ghost use Rattle.std.specs.Prelude.{◌≡◌, ◌≤◌, IfOk};
-ghost use Rattle.apply_plan.specs.Script.Outcome.{max_seconds};
+ghost use Rattle.std.specs.Prelude.{◌≡◌, ◌<◌, ◌^◌, IfOk};
+ghost use Rattle.std.specs.Option.{option_copied};
 ghost use Rattle.apply_plan.specs.Script.TreeView.{step_view};
 
+use crate::script::diag::Diag;
 use crate::script::ending::Ending;
+use crate::script::provisioners::Provisioners;
 use crate::script::tree_step::TreeStep;
 use std::alloc::{AllocError, Global};
 
-/// The greatest number of seconds that a step may take in a script: a day.
+/// The greatest number of seconds that a step may take in a script, with all its provisioners: a day.
 pub const MAX_SECONDS: u32 = 86_400;
 
-/// What a provider answers to a step: how long it takes, and how it ends.
+/// What a provider answers to a step: how long it takes, and how it ends. After a create provisioners may run.
 #[derive(Debug, Drop)]
 pub struct Outcome {
-    /// How long the step takes, in seconds. In a script 86,400 at most.
+    /// How long the provider takes, in seconds. In a script 86,400 at most, together with all provisioners.
     pub seconds: u32,
-    /// How it ends.
+    /// What runs after the provider is done. In a script only a create has provisioners, and one that the provider has
+    /// done.
+    pub provisioners: Provisioners,
+    /// How the provider ends.
     pub result: Ending,
 }
 
 impl Outcome {
+    ghost use Rattle.apply_plan.specs.Script.Outcome.{IsBounded, failure_of, fails, took};
+
     /// The outcome that stands in the tree, with copies of its texts.
-    pub(crate) fn new(alloc: Global, step: TreeStep<'_>) -> Result<Outcome, AllocError>
-        requires { step.seconds ≤ max_seconds }
-        ensures { IfOk result (λ copy. copy ≡ step_view step.entry) }
+    pub(crate) fn new(alloc: Global, step: &TreeStep<'_>) -> Result<Outcome, AllocError>
+        requires { IsBounded (step_view step.now) }
+        ensures { IfOk result (λ copy. copy ≡ step_view step.now) }
     {
         Ok(Outcome {
             seconds: step.seconds as u32,
+            provisioners: Provisioners::new(alloc, &step.provisioners)?,
             result: Ending::new(alloc, step.result)?,
         })
+    }
+
+    /// How long the step takes, in seconds: the provider, and the provisioners that run, which are those up to and with
+    /// the first that fails.
+    pub fn took(&self) -> u32
+        requires { took self.now < 2 ^ 32 }
+        ensures { result ≡ took self.now }
+    {
+        self.seconds + self.provisioners.seconds()
+    }
+
+    /// Whether the step fails: its provider does, or a provisioner.
+    pub fn fails(&self) -> bool
+        ensures { result ≡ fails self.now }
+    {
+        self.failure().is_some()
+    }
+
+    /// Why the step fails, where it does: what the provider says, or else the first provisioner that fails.
+    pub fn failure(&self) -> Option<&Diag>
+        ensures { option_copied result ≡ failure_of self.now }
+    {
+        match &self.result {
+            Ending::Failed { diag } => Some(diag),
+            Ending::Done { .. } => self.provisioners.first_failure(),
+        }
     }
 }

@@ -1,7 +1,7 @@
 //! Reading a script.
 
 ghost use Rattle.std.specs.Prelude.{◌≡◌, ◌<◌, ◌≤◌, [], find, length, option_map, IfOk};
-ghost use Rattle.std.specs.List.{enumerate_from, list_any};
+ghost use Rattle.std.specs.List.{enumerate_from};
 ghost use Rattle.serde_json.specs.View.{view, items_view};
 ghost use Rattle.apply_json.specs.Tree.{list_of};
 ghost use Rattle.apply_plan.specs.Bytes.{max_bytes};
@@ -9,9 +9,7 @@ ghost use Rattle.apply_plan.specs.Results.{Gives};
 ghost use Rattle.apply_plan.specs.Plan.SeenObjects.{is_of};
 ghost use Rattle.apply_plan.specs.Script.ChangeNumbers.{number_of};
 ghost use Rattle.apply_plan.specs.Script.NextEntry.{entry_beside};
-ghost use Rattle.apply_plan.specs.Script.Outcome.{is_too_long};
 ghost use Rattle.apply_plan.specs.Script.Outcomes.{by_number, elements_of, script_of, script_of_entries, script_of_tree};
-ghost use Rattle.apply_plan.specs.Script.TreeView.{step_view};
 
 use crate::bytes::MAX_BYTES;
 use crate::plan::Plan;
@@ -19,11 +17,11 @@ use crate::plan::object_id::ObjectId;
 use crate::script::Script;
 use crate::script::change_numbers::ChangeNumbers;
 use crate::script::script_error::ScriptError;
+use crate::script::script_shape::ScriptShape;
 use crate::script::step_outcomes::StepOutcomes;
 use crate::script::tree_entry::TreeEntry;
-use crate::script::tree_step::TreeStep;
 use apply_json::members::member;
-use apply_json::{JsonFault, parse};
+use apply_json::{JsonFault, Scratch, parse_trimmed};
 use serde_json::Value;
 use std::alloc::{AllocError, Global};
 
@@ -39,7 +37,8 @@ pub fn read_script(alloc: Global, bytes: &[u8], plan: &Plan) -> Result<Script, S
         (script_of plan.now bytes.now) }
     ensures memory { result ≡ Err ScriptError.Memory → length bytes.now ≤ max_bytes }
 {
-    match parse(alloc, bytes, MAX_BYTES) {
+    let mut scratch = Scratch::new(alloc);
+    match parse_trimmed(alloc, &mut scratch, bytes, MAX_BYTES, ScriptShape::Script) {
         Ok(tree) => script_of_value(alloc, &tree, plan),
         Err(JsonFault::TooLarge) => Err(ScriptError::TooLarge),
         Err(JsonFault::NotJson) => Err(ScriptError::NotJson),
@@ -83,7 +82,9 @@ fn script_of_entries<'a>(
         let (change, outcomes) = read_entry(alloc, number, value, plan, &numbers, &said)?;
         said[change as usize] = Some(outcomes);
     }
-    Ok(Script { changes: said })
+    Ok(Script {
+        changes: Some(said),
+    })
 }
 
 /// Nothing said of so many changes.
@@ -126,18 +127,8 @@ fn read_entry<'a>(
     if said[change as usize].is_some() {
         return Err(ScriptError::Duplicate(number));
     }
-    if entry.steps.len() > plan.change(change).steps().len() {
-        return Err(ScriptError::TooManySteps(number));
-    }
-    if is_any_too_long(&entry.steps) {
-        return Err(ScriptError::SecondsRange(number));
+    if let Some(fault) = entry.fault(number, plan.change(change).steps()) {
+        return Err(fault);
     }
     Ok((change, StepOutcomes::new(alloc, &entry.steps)?))
-}
-
-/// Whether a step takes longer than it may.
-fn is_any_too_long(steps: &[TreeStep<'_>]) -> bool
-    ensures { result ≡ list_any (λ step. is_too_long (step_view step)) steps.now }
-{
-    steps.iter().any(TreeStep::is_too_long)
 }

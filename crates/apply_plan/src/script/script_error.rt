@@ -19,8 +19,8 @@ pub enum ScriptError {
     /// The bytes are not JSON (RFC 8259) in UTF-8, or it nests more than 127 deep.
     #[error("the script is not JSON")]
     NotJson,
-    /// A member is missing or is not what it has to be, or a step that failed has an id or a warning beside it: at the top
-    /// level, or in the entry of that number.
+    /// A member is missing or is not what it has to be, or a step that failed has an id, a warning or a provisioner beside
+    /// it: at the top level, or in the entry of that number.
     #[error("{place} is malformed", place = Place(*.0))]
     BadShape(Option<u32>),
     /// The plan has no change with the entry's `address` and `deposed` key.
@@ -32,9 +32,18 @@ pub enum ScriptError {
     /// The entry has more steps than its change.
     #[error("script entry {0} has too many steps")]
     TooManySteps(u32),
-    /// A step of the entry takes more than 86,400 seconds.
+    /// A step of the entry takes more than 86,400 seconds, with all its provisioners.
     #[error("script entry {0} has a step over 86400 seconds")]
     SecondsRange(u32),
+    /// A step of the entry has more than 8 provisioners.
+    #[error("script entry {0} has a step with more than 8 provisioners")]
+    TooManyProvisioners(u32),
+    /// A provisioner of the entry has more than 100 outputs.
+    #[error("script entry {0} has a provisioner with more than 100 outputs")]
+    TooMuchOutput(u32),
+    /// A step of the entry that is no create has a provisioner.
+    #[error("script entry {0} has a provisioner on a step that is not a create")]
+    NotACreate(u32),
     /// Memory was refused. It comes where the growth stands, before the refusals that would be found later.
     #[error("out of memory")]
     Memory,

@@ -1,9 +1,8 @@
 //! The outcomes of the steps of one change.
 
-ghost use Rattle.std.specs.Prelude.{◌≡◌, ◌≤◌, IfOk, map, false, slice_get};
-ghost use Rattle.std.specs.List.{list_any};
+ghost use Rattle.std.specs.Prelude.{◌≡◌, All, IfOk, map, slice_get};
 ghost use Rattle.std.specs.Option.{option_copied};
-ghost use Rattle.apply_plan.specs.Script.Outcome.{is_too_long, max_seconds};
+ghost use Rattle.apply_plan.specs.Script.Outcome.{IsBounded};
 ghost use Rattle.apply_plan.specs.Script.TreeView.{step_view};
 
 use crate::script::outcome::Outcome;
@@ -29,12 +28,12 @@ impl Model for StepOutcomes {
 impl StepOutcomes {
     /// The outcomes that stand in the tree, with copies of their texts.
     pub fn new(alloc: Global, steps: &[TreeStep<'_>]) -> Result<StepOutcomes, AllocError>
-        requires { list_any (λ step. is_too_long (step_view step)) steps.now ≡ false }
+        requires { All IsBounded (map step_view steps.now) }
         ensures { IfOk result (λ outcomes. outcomes ≡ map step_view steps.now) }
     {
         let mut outcomes = Vec::with_capacity(alloc, steps.len())?;
         for step in steps {
-            outcomes.push(Outcome::new(alloc, *step)?)?;
+            outcomes.push(Outcome::new(alloc, step)?)?;
         }
         Ok(StepOutcomes { outcomes })
     }

@@ -2,10 +2,14 @@
 
 ghost use Rattle.std.specs.Prelude.{◌≡◌, option_map};
 ghost use Rattle.std.specs.Option.{option_copied};
-ghost use Rattle.apply_plan.specs.Script.Entry.{ending_from};
+ghost use Rattle.serde_json.specs.View.{view};
+ghost use Rattle.apply_plan.specs.Script.Entry.{ending_from, ending_of};
+ghost use Rattle.apply_plan.specs.Script.Outcome.{is_failed};
 ghost use Rattle.apply_plan.specs.Script.TreeView.{diag_view, ending_view};
 
 use crate::script::tree_diag::TreeDiag;
+use apply_json::members::{member, non_empty, text_member_or};
+use serde_json::Value;
 
 /// An ending that the tree holds.
 #[derive(Clone, Copy)]
@@ -20,8 +24,19 @@ pub enum TreeEnding<'a> {
 }
 
 impl<'a> TreeEnding<'a> {
+    /// The ending of the step that the value is. `None` where one of the members that tell it breaks its rule.
+    #[tactic(auto, unfolding(crate::specs::Script::Entry::ending_of))]
+    pub fn of_step(value: &'a Value) -> Option<TreeEnding<'a>>
+        ensures { option_map ending_view result ≡ ending_of (view value.now) }
+    {
+        let id = text_member_or(value, "id", "")?;
+        let warning = TreeDiag::of_member(member(value, "warning"))?;
+        let failed = TreeDiag::of_member(member(value, "failed"))?;
+        TreeEnding::of(non_empty(id), warning, failed)
+    }
+
     /// The ending that the members give. `None` where a step that failed has an id or a warning.
-    pub fn of(
+    fn of(
         id: Option<&'a str>,
         warning: Option<TreeDiag<'a>>,
         failed: Option<TreeDiag<'a>>,
@@ -37,6 +52,15 @@ impl<'a> TreeEnding<'a> {
                 }
                 Some(TreeEnding::Failed { diag })
             }
+        }
+    }
+    /// Whether the provider fails.
+    pub fn is_failed(self) -> bool
+        ensures { result ≡ is_failed (ending_view self.entry) }
+    {
+        match self {
+            TreeEnding::Done { .. } => false,
+            TreeEnding::Failed { .. } => true,
         }
     }
 }

@@ -1,11 +1,16 @@
 //! An entry of a script, as it stands in the tree.
 
-ghost use Rattle.std.specs.Prelude.{◌≡◌, IfOk, map, option_map};
+ghost use Rattle.std.specs.Prelude.{◌≡◌, ◌≤◌, length, IfOk, map, option_map};
+ghost use Rattle.std.specs.List.{list_any, zip};
 ghost use Rattle.serde_json.specs.View.{view, items_view};
 ghost use Rattle.apply_json.specs.Tree.{list_of};
 ghost use Rattle.apply_plan.specs.Script.Entry.{all_some, entry_of, step_from};
+ghost use Rattle.apply_plan.specs.Script.Outcome.{has_too_many_provisioners, has_too_much_output, is_too_long};
+ghost use Rattle.apply_plan.specs.Script.Refusals.{fault_of_steps, misplaces_provisioners};
 ghost use Rattle.apply_plan.specs.Script.TreeView.{entry_view, members_of, members_view, step_view};
 
+use crate::plan::step_kind::StepKind;
+use crate::script::script_error::ScriptError;
 use crate::script::tree_step::TreeStep;
 use apply_json::members::{member, non_empty, text_member, text_member_or};
 use serde_json::Value;
@@ -37,6 +42,60 @@ impl<'a> TreeEntry<'a> {
             steps,
         }))
     }
+
+    /// The first fault of the steps of the entry, which has that number, where they belong to steps of these kinds.
+    #[tactic(auto, unfolding(crate::specs::Script::Refusals::fault_of_steps))]
+    pub fn fault(&self, number: u32, kinds: &[StepKind]) -> Option<ScriptError>
+        ensures { result ≡ fault_of_steps number kinds.now (entry_view self.now).steps }
+    {
+        if self.steps.len() > kinds.len() {
+            Some(ScriptError::TooManySteps(number))
+        } else if is_any_too_long(&self.steps) {
+            Some(ScriptError::SecondsRange(number))
+        } else if has_any_too_many_provisioners(&self.steps) {
+            Some(ScriptError::TooManyProvisioners(number))
+        } else if has_any_too_much_output(&self.steps) {
+            Some(ScriptError::TooMuchOutput(number))
+        } else if misplaces_any_provisioners(kinds, &self.steps) {
+            Some(ScriptError::NotACreate(number))
+        } else {
+            None
+        }
+    }
+}
+
+/// Whether a step takes longer than it may.
+fn is_any_too_long(steps: &[TreeStep<'_>]) -> bool
+    ensures { result ≡ list_any (λ step. is_too_long (step_view step)) steps.now }
+{
+    steps.iter().any(TreeStep::is_too_long)
+}
+
+/// Whether a step has more provisioners than it may.
+fn has_any_too_many_provisioners(steps: &[TreeStep<'_>]) -> bool
+    ensures { result ≡ list_any (λ step. has_too_many_provisioners (step_view step)) steps.now }
+{
+    steps.iter().any(TreeStep::has_too_many_provisioners)
+}
+
+/// Whether a provisioner of a step puts out more than it may.
+fn has_any_too_much_output(steps: &[TreeStep<'_>]) -> bool
+    ensures { result ≡ list_any (λ step. has_too_much_output (step_view step)) steps.now }
+{
+    steps.iter().any(TreeStep::has_too_much_output)
+}
+
+/// Whether a step that is no create has provisioners.
+fn misplaces_any_provisioners(kinds: &[StepKind], steps: &[TreeStep<'_>]) -> bool
+    requires { length steps.now ≤ length kinds.now }
+    ensures { result ≡ list_any misplaces_provisioners (zip kinds.now (map step_view steps.now)) }
+{
+    for (number, step) in steps.iter().enumerate() {
+        if step.misplaces_provisioners(kinds[number]) {
+            return true;
+        }
+    }
+    false
 }
 
 /// The members of an entry, with its steps still as values.
@@ -56,7 +115,7 @@ fn steps(alloc: Global, values: &[Value]) -> Result<Option<Vec<TreeStep<'_>>>, A
 {
     let mut steps = Vec::with_capacity(alloc, values.len())?;
     for value in values {
-        let Some(step) = TreeStep::of(value) else {
+        let Some(step) = TreeStep::of(alloc, value)? else {
             return Ok(None);
         };
         steps.push(step)?;

@@ -1,50 +1,139 @@
 //! A step of a script, as it stands in the tree.
 
-ghost use Rattle.std.specs.Prelude.{◌≡◌, option_map};
+ghost use Rattle.std.specs.Prelude.{◌≡◌, IfOk, map, option_map};
+ghost use Rattle.std.specs.List.{list_any};
 ghost use Rattle.serde_json.specs.View.{view};
-ghost use Rattle.apply_plan.specs.Script.Entry.{seconds_of, step_from};
-ghost use Rattle.apply_plan.specs.Script.Outcome.{is_too_long};
-ghost use Rattle.apply_plan.specs.Script.TreeView.{step_view};
+ghost use Rattle.apply_plan.specs.Script.Entry.{each_of, provisioner_from, seconds_of, step_from, with_provisioners};
+ghost use Rattle.apply_plan.specs.Script.Outcome.{has_too_many_provisioners, has_too_much_output, is_too_long, puts_out_too_much};
+ghost use Rattle.apply_plan.specs.Script.Refusals.{misplaces_provisioners};
+ghost use Rattle.apply_plan.specs.Script.TreeView.{ending_view, provisioner_view, step_view};
 
+use crate::plan::step_kind::StepKind;
 use crate::script::outcome::MAX_SECONDS;
-use crate::script::tree_diag::TreeDiag;
+use crate::script::provisioners::MAX_PROVISIONERS;
 use crate::script::tree_ending::TreeEnding;
-use apply_json::members::{member, non_empty, text_member_or};
+use crate::script::tree_provisioner::TreeProvisioner;
+use apply_json::members::{array_or_empty, member};
 use serde_json::Value;
+use std::alloc::{AllocError, Global};
 
 /// A step that the tree holds, each of whose members obeys its rule.
-#[derive(Clone, Copy)]
+#[derive(Drop)]
 pub struct TreeStep<'a> {
     /// Any number of 64 bits: whether it is small enough is asked later.
     pub seconds: u64,
+    /// Any number of provisioners, likewise.
+    pub provisioners: Vec<TreeProvisioner<'a>>,
     pub result: TreeEnding<'a>,
 }
 
 impl<'a> TreeStep<'a> {
     /// The step that the value is. `None` where one of its members breaks its rule.
     #[tactic(auto, unfolding(crate::specs::Script::Entry::step_from))]
-    pub fn of(value: &'a Value) -> Option<TreeStep<'a>>
-        ensures { option_map step_view result ≡ step_from (view value.now) }
+    pub fn of(alloc: Global, value: &'a Value) -> Result<Option<TreeStep<'a>>, AllocError>
+        ensures { IfOk result (λ found. option_map step_view found ≡ step_from (view value.now)) }
     {
-        let seconds = seconds(value)?;
-        let id = text_member_or(value, "id", "")?;
-        let warning = TreeDiag::of_member(member(value, "warning"))?;
-        let failed = TreeDiag::of_member(member(value, "failed"))?;
-        let result = TreeEnding::of(non_empty(id), warning, failed)?;
-        Some(TreeStep { seconds, result })
+        let Some(seconds) = seconds(value) else {
+            return Ok(None);
+        };
+        let Some(ending) = TreeEnding::of_step(value) else {
+            return Ok(None);
+        };
+        let Some(provisioners) = provisioners(alloc, member(value, "provisioners"))? else {
+            return Ok(None);
+        };
+        Ok(TreeStep::with_provisioners(seconds, ending, provisioners))
     }
 
-    /// Whether the step takes longer than it may.
+    /// A step with its provisioners. `None` where its provider fails and it has some.
+    fn with_provisioners(
+        seconds: u64,
+        ending: TreeEnding<'a>,
+        provisioners: Vec<TreeProvisioner<'a>>,
+    ) -> Option<TreeStep<'a>>
+        ensures { option_map step_view result ≡ with_provisioners seconds (ending_view ending.entry)
+            (map provisioner_view provisioners.entry.items) }
+    {
+        if ending.is_failed() && !provisioners.is_empty() {
+            return None;
+        }
+        Some(TreeStep {
+            seconds,
+            provisioners,
+            result: ending,
+        })
+    }
+
+    /// Whether the step takes longer than it may, with all its provisioners.
     pub fn is_too_long(&self) -> bool
         ensures { result ≡ is_too_long (step_view self.now) }
     {
-        self.seconds > u64::from(MAX_SECONDS)
+        let Some(mut left) = u64::from(MAX_SECONDS).checked_sub(self.seconds) else {
+            return true;
+        };
+        for provisioner in &self.provisioners {
+            if provisioner.seconds > left {
+                return true;
+            }
+            left -= provisioner.seconds;
+        }
+        false
+    }
+
+    /// Whether the step has more provisioners than it may.
+    pub fn has_too_many_provisioners(&self) -> bool
+        ensures { result ≡ has_too_many_provisioners (step_view self.now) }
+    {
+        self.provisioners.len() > MAX_PROVISIONERS
+    }
+
+    /// Whether a provisioner of the step puts out more than it may.
+    pub fn has_too_much_output(&self) -> bool
+        ensures { result ≡ has_too_much_output (step_view self.now) }
+    {
+        puts_any_out_too_much(&self.provisioners)
+    }
+
+    /// Whether the step has provisioners, where it is of that kind and no create.
+    pub fn misplaces_provisioners(&self, kind: StepKind) -> bool
+        ensures { result ≡ misplaces_provisioners (kind, step_view self.now) }
+    {
+        !self.provisioners.is_empty() && !kind.is_create()
     }
 }
 
+/// Whether one of the provisioners puts out more than it may.
+fn puts_any_out_too_much(provisioners: &[TreeProvisioner<'_>]) -> bool
+    ensures { result
+        ≡ list_any (λ provisioner. puts_out_too_much (provisioner_view provisioner)) provisioners.now }
+{
+    provisioners.iter().any(TreeProvisioner::puts_out_too_much)
+}
+
 /// The whole number that the member `seconds` is.
-fn seconds(value: &Value) -> Option<u64>
+pub fn seconds(value: &Value) -> Option<u64>
     ensures { result ≡ seconds_of (view value.now) }
 {
     member(value, "seconds")?.as_u64()
+}
+
+/// The provisioners of an array, none where it is absent. `None` where it is no array, or holds something else.
+fn provisioners(
+    alloc: Global,
+    found: Option<&Value>,
+) -> Result<Option<Vec<TreeProvisioner<'_>>>, AllocError>
+    ensures { IfOk result (λ made. option_map (λ provisioners. map provisioner_view provisioners.items) made
+        ≡ each_of provisioner_from (option_map (λ value. view value.now) found.entry)) }
+{
+    let Some(values) = array_or_empty(found) else {
+        return Ok(None);
+    };
+    let mut provisioners = Vec::with_capacity(alloc, values.len())?;
+    for value in values {
+        let Some(provisioner) = TreeProvisioner::of(alloc, value)? else {
+            return Ok(None);
+        };
+        provisioners.push(provisioner)?;
+    }
+    Ok(Some(provisioners))
 }

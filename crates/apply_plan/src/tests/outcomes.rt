@@ -9,14 +9,14 @@ const FIVE_CHANGES: &str =
     r#"{"format_version":"1.2","resource_changes":[{"address":"a.a","mode":"managed","type":"a","name":"a","change":{"actions":["update"]}},{"address":"a.b","mode":"managed","type":"a","name":"b","change":{"actions":["delete","create"]}},{"address":"a.a","deposed":"00000001","mode":"managed","type":"a","name":"a","change":{"actions":["delete"]}},{"address":"a.c","mode":"managed","type":"a","name":"c","change":{"actions":["no-op"]}},{"address":"a.d","mode":"managed","type":"a","name":"d","change":{"actions":["create"]}}]}"#;
 
 /// Adds a blank, and what `Debug` prints of a text.
-fn push_printed(rt: &impl Abort, alloc: Global, shown: &mut String, text: &str) {
+pub fn push_printed(rt: &impl Abort, alloc: Global, shown: &mut String, text: &str) {
     let more = printed(rt, alloc, &text);
     push(rt, shown, " ");
     push(rt, shown, more.as_str());
 }
 
 /// Adds what it is called, and both texts of a diagnostic.
-fn push_diag(rt: &impl Abort, alloc: Global, shown: &mut String, name: &str, diag: &Diag) {
+pub fn push_diag(rt: &impl Abort, alloc: Global, shown: &mut String, name: &str, diag: &Diag) {
     push(rt, shown, name);
     push_printed(rt, alloc, shown, diag.summary.as_str());
     push_printed(rt, alloc, shown, diag.detail.as_str());
@@ -40,8 +40,9 @@ fn push_done(
     }
 }
 
-/// The outcome in one line: `SECONDS done, id "ID", warning "SUMMARY" "DETAIL"` or `SECONDS failed "SUMMARY" "DETAIL"`.
-fn line_of(rt: &impl Abort, alloc: Global, outcome: &Outcome) -> String {
+/// The outcome in one line: `SECONDS done, id "ID", warning "SUMMARY" "DETAIL"` or `SECONDS failed "SUMMARY" "DETAIL"`,
+/// without its provisioners.
+pub fn line_of(rt: &impl Abort, alloc: Global, outcome: &Outcome) -> String {
     let mut line = shown(rt, alloc, &outcome.seconds);
     match &outcome.result {
         Ending::Done { id, warning } => {
@@ -177,7 +178,7 @@ const NOTHING: &str = r#"
 #[test]
 fn an_empty_script_says_nothing(rt: HostRuntime) {
     let alloc = rt.alloc();
-    steps_are_said(&rt, alloc, &Script::empty(alloc), NOTHING);
+    steps_are_said(&rt, alloc, &Script::empty(), NOTHING);
     let read = script_of(&rt, alloc, FIVE_CHANGES, r#"{"changes":[]}"#);
     steps_are_said(&rt, alloc, &read, NOTHING);
 }

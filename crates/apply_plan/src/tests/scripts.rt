@@ -181,6 +181,9 @@ UnknownChange(4) => script entry 4 names an unknown change
 Duplicate(5) => script entry 5 repeats an earlier entry
 TooManySteps(6) => script entry 6 has too many steps
 SecondsRange(7) => script entry 7 has a step over 86400 seconds
+TooManyProvisioners(8) => script entry 8 has a step with more than 8 provisioners
+TooMuchOutput(9) => script entry 9 has a provisioner with more than 100 outputs
+NotACreate(10) => script entry 10 has a provisioner on a step that is not a create
 Memory => out of memory
 "#;
 
@@ -194,6 +197,9 @@ fn refusal_of(rt: &impl Abort, name: &str) -> ScriptError {
         "Duplicate(5)" => ScriptError::Duplicate(5),
         "TooManySteps(6)" => ScriptError::TooManySteps(6),
         "SecondsRange(7)" => ScriptError::SecondsRange(7),
+        "TooManyProvisioners(8)" => ScriptError::TooManyProvisioners(8),
+        "TooMuchOutput(9)" => ScriptError::TooMuchOutput(9),
+        "NotACreate(10)" => ScriptError::NotACreate(10),
         "Memory" => ScriptError::Memory,
         _ => panic!(rt; "no refusal is {name}"),
     }

@@ -3,21 +3,24 @@
 //!
 //! What differs by choice is taken away beforehand: the moments, the imports of the summary, and in the version message the
 //! version of this interface, which is `1.0` here. Terraform's messages stand change by change in the plan's order, with
-//! the members of each object in the byte order of their names.
+//! the members of each object in the byte order of their names, the outputs of a provisioner at its end, and a summary also
+//! where a provisioner failed; a diagnostic stands without the place in the configuration, behind the step that it explains.
 
 mod create_many_keys;
 mod create_one;
 mod data_read;
+mod deposed;
 mod destroy_command;
 mod mixed;
 mod modules_nested;
+mod progress_12s;
+mod provisioner_fails;
+mod provisioners_two;
 mod replace_create_delete;
+mod sensitive;
 mod update_in_place;
 
 use super::*;
-
-/// The moment of each line: no step takes any time.
-const MOMENT: &str = r#""@timestamp":"1970-01-01T00:00:00Z","#;
 
 /// A plan, the provider's answers as a script, what the apply was for, and what Terraform printed.
 struct Case {
@@ -25,6 +28,19 @@ struct Case {
     script: &'static str,
     operation: Operation,
     stream: &'static str,
+}
+
+/// The lines without their moments.
+fn without_moments(rt: &impl Abort, alloc: Global, text: &str) -> String {
+    let mut bare = String::new(alloc);
+    for line in text.lines() {
+        let (before, behind) = around_moment(line);
+        bare.push_str(before).expect(rt, "memory");
+        bare.push_str("\"").expect(rt, "memory");
+        bare.push_str(behind).expect(rt, "memory");
+        bare.push_str("\n").expect(rt, "memory");
+    }
+    bare
 }
 
 /// What so many workers write of the case, in their time, without the moments.
@@ -40,7 +56,7 @@ fn bare_stream<R: Threads + Wait + Sync + Abort>(
     let (sink, _report) = apply_plan(rt, alloc, plan, script, options, memory(alloc), &NoGate);
     let text = text_of(rt, &sink);
     moments_never_go_back(rt, text);
-    text.replace(alloc, MOMENT, "").expect(rt, "memory")
+    without_moments(rt, alloc, text)
 }
 
 /// Fails where so many workers write other lines of a change.
@@ -54,10 +70,19 @@ fn changes_are_as_of_terraform<R: Threads + Wait + Sync + Abort>(
     lines_are_of_changes(rt, bare.as_str(), case.stream);
 }
 
-/// Fails where one worker writes other lines, or the lines of a change are others where there are more workers.
-fn is_as_of_terraform<R: Threads + Wait + Sync + Abort>(rt: &R, alloc: Global, case: &Case) {
+/// Fails where one worker writes other lines.
+fn one_worker_is_as_of_terraform<R: Threads + Wait + Sync + Abort>(
+    rt: &R,
+    alloc: Global,
+    case: &Case,
+) {
     let bare = bare_stream(rt, alloc, case, 1);
     text_is(rt, "one worker", bare.as_str(), case.stream);
+}
+
+/// Fails where one worker writes other lines, or the lines of a change are others where there are more workers.
+fn is_as_of_terraform<R: Threads + Wait + Sync + Abort>(rt: &R, alloc: Global, case: &Case) {
+    one_worker_is_as_of_terraform(rt, alloc, case);
     changes_are_as_of_terraform(rt, alloc, case, 2);
     changes_are_as_of_terraform(rt, alloc, case, 8);
 }
@@ -77,6 +102,12 @@ fn real_terraform_data_read(rt: HostRuntime) {
     is_as_of_terraform(&rt, rt.alloc(), &data_read::CASE);
 }
 
+/// Its changes share addresses, by which lines are told apart, so that one worker alone applies it.
+#[test]
+fn real_terraform_deposed(rt: HostRuntime) {
+    one_worker_is_as_of_terraform(&rt, rt.alloc(), &deposed::CASE);
+}
+
 #[test]
 fn real_terraform_destroy_command(rt: HostRuntime) {
     is_as_of_terraform(&rt, rt.alloc(), &destroy_command::CASE);
@@ -93,8 +124,28 @@ fn real_terraform_modules_nested(rt: HostRuntime) {
 }
 
 #[test]
+fn real_terraform_progress_12s(rt: HostRuntime) {
+    is_as_of_terraform(&rt, rt.alloc(), &progress_12s::CASE);
+}
+
+#[test]
+fn real_terraform_provisioner_fails(rt: HostRuntime) {
+    is_as_of_terraform(&rt, rt.alloc(), &provisioner_fails::CASE);
+}
+
+#[test]
+fn real_terraform_provisioners_two(rt: HostRuntime) {
+    is_as_of_terraform(&rt, rt.alloc(), &provisioners_two::CASE);
+}
+
+#[test]
 fn real_terraform_replace_create_delete(rt: HostRuntime) {
     is_as_of_terraform(&rt, rt.alloc(), &replace_create_delete::CASE);
+}
+
+#[test]
+fn real_terraform_sensitive(rt: HostRuntime) {
+    is_as_of_terraform(&rt, rt.alloc(), &sensitive::CASE);
 }
 
 #[test]

@@ -1,4 +1,4 @@
-use Rattle.std.proofs.Common.{◌≡◌, ◌-◌, ◌<◌, ◌≤◌, [], ◌∷◌, length, Some, None, string_bytes, refl, sym, ap, ap₂, ◌∙◌, arith, rules}
+use Rattle.std.proofs.Common.{◌≡◌, ◌-◌, ◌<◌, ◌≤◌, [], ◌∷◌, length, Some, None, true, false, string_bytes, refl, sym, ap, ap₂, ◌∙◌, arith, rules}
 use Rattle.json.specs.Token.{Token}
 use Rattle.json.specs.Json.{parse_map, after_end_array, read_key, items, members, value}
 use Rattle.json.specs.Reads.{token_of}
@@ -8,8 +8,8 @@ use Rattle.serde_json.specs.Read.{of_json, of_items, converted}
 use Rattle.serde_json.specs.View.{view, number_view, members_view}
 use Rattle.serde_json.specs.declared.value.Value.{String, Number, Bool, Null, the_lemmas}
 use Rattle.serde_json.proofs.Views.{view-Array, view-Object, members_view-insert_entry}
-use Rattle.apply_json.specs.Trimmed.{trimmed, trimmed_items}
-use Rattle.apply_json.proofs.Trimmed.Items.{items_before, items_before-no_items, kept, passed, none_found, none_left}
+use Rattle.apply_json.specs.Trimmed.{is_within, trimmed, trimmed_items}
+use Rattle.apply_json.proofs.Trimmed.Items.{items_before, items_before-no_items, left, kept, passed, none_found, none_left}
 use Rattle.apply_json.proofs.Trimmed.Members.{put_in_order, put_known, put_unknown}
 use Rattle.apply_json.proofs.Turns.{converted-array, converted-object, item_read, item_refused, items_over, member_read, member_refused, key_refused, members_over, fused, none_before}
 use Rattle.apply_json.proofs.trimming.+read.Goals as goal
@@ -127,14 +127,14 @@ read_items-items-preserved-in-Continue-branch-2 g t c =
     let r = c.read.new.reader in
     let less : length r < length l.reader = rw (← going.1) done.shorter in
     let turn = item_read p n l.reader r d (omega (arith, l.invariant.1)) going.0 (rw (← going.1) done.ok.1) in
-    let below : length l.found.items < limit = omega arith in
+    let within : is_within limit (length l.found.items) ≡ true = search rules in
     let seen : view v ≡ trimmed g.S.Shape.selection shape d = done.ok.2 ∙ ap (λ s. trimmed g.S.Shape.selection s d) c.item.ensures in (
       n - 1,
       omega (arith, l.invariant.1),
       (λ ds. front (item d ds)),
       l.invariant.3 ∙ ap (parse_map front) turn ∙ fused front (item d) _,
-      (λ ds. l.invariant.4 (item d ds) ∙ kept g.S.Shape.selection shape limit l.found.items v d ds below seen
-          ∙ ap (λ vs. items_before vs (trimmed_items g.S.Shape.selection shape (limit - length vs) ds)) (sym c.in_ok-push.ensures.items)),
+      (λ ds. l.invariant.4 (item d ds) ∙ kept g.S.Shape.selection shape limit l.found.items v d ds within seen
+          ∙ ap (λ vs. items_before vs (trimmed_items g.S.Shape.selection shape (left limit (length vs)) ds)) (sym c.in_ok-push.ensures.items)),
       omega (arith, l.invariant.5),
     )
 
@@ -152,7 +152,7 @@ read_items-items-preserved g t c =
     let r = c.pass.new.reader in
     let less : length r < length l.reader = rw (← going.1) done.shorter in
     let turn = item_read p n l.reader r d (omega (arith, l.invariant.1)) going.0 (rw (← going.1) done.ok.1) in
-    let past : limit ≤ length l.found.items = omega arith in (
+    let past : is_within limit (length l.found.items) ≡ false = search rules in (
       n - 1,
       omega (arith, l.invariant.1),
       (λ ds. front (item d ds)),
@@ -177,7 +177,7 @@ read_items-returns-clause-ok g t c =
     let r = c.take_end_array.new.self in (
       l.invariant.2 no_items,
       l.invariant.3 ∙ ap (parse_map l.invariant.2) (items_over p n l.reader r l.invariant.1 (grind arith)),
-      sym (l.invariant.4 no_items ∙ ap (items_before l.found.items) (none_left g.S.Shape.selection (g.S.Shape.selection.item_shape c.args.shape) (g.S.Shape.selection.item_limit c.args.shape - length l.found.items)) ∙ items_before-no_items l.found.items),
+      sym (l.invariant.4 no_items ∙ ap (items_before l.found.items) (none_left g.S.Shape.selection (g.S.Shape.selection.item_shape c.args.shape) (left (g.S.Shape.selection.item_limit c.args.shape) (length l.found.items))) ∙ items_before-no_items l.found.items),
     )
 
 pub read_members-members-init : goal.read_members-members-init

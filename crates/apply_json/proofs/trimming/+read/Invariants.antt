@@ -4,7 +4,7 @@ use Rattle.serde_json.specs.Data.{Items, Members, no_members}
 use Rattle.serde_json.specs.Read.{of_items, of_members, converted}
 use Rattle.serde_json.specs.View.{members_view}
 use Rattle.apply_json.specs.Trimmed.{trimmed_items, trimmed_members}
-use Rattle.apply_json.proofs.Trimmed.Items.{items_before}
+use Rattle.apply_json.proofs.Trimmed.Items.{items_before, left}
 use Rattle.apply_json.proofs.Trimmed.Members.{AreInOrder}
 use Rattle.apply_json.proofs.trimming.+read.Given as goal
 
@@ -22,7 +22,7 @@ invariant-read_items-items g l =
     (n : ℕ) × (length l.reader ≤ n) × (front : Items → Items)
     × (converted of_items (items (value l.depth) (length l.initial.reader) l.initial.reader) ≡ parse_map front (converted of_items (items (value l.depth) n l.reader)))
     × ((ds : Items) → trimmed_items g.S.Shape.selection (g.S.Shape.selection.item_shape l.shape) (g.S.Shape.selection.item_limit l.shape) (front ds)
-    ≡ items_before l.found.items (trimmed_items g.S.Shape.selection (g.S.Shape.selection.item_shape l.shape) (g.S.Shape.selection.item_limit l.shape - length l.found.items) ds))
+    ≡ items_before l.found.items (trimmed_items g.S.Shape.selection (g.S.Shape.selection.item_shape l.shape) (left (g.S.Shape.selection.item_limit l.shape) (length l.found.items)) ds))
     × (length l.reader ≤ length l.initial.reader)
 
 abbrev pub decreases-read_items-items : goal.decreases-read_items-items

@@ -1,13 +1,13 @@
 use Rattle.std.proofs.Common.{ap, arith, length}
+use Rattle.apply_plan.specs.Script.Outcomes.{given_outcome}
 use Rattle.apply_events.specs.Step.{Work}
-use Rattle.apply_events.proofs.TimeLines.Few.{few_events, few_kinds}
+use Rattle.apply_events.proofs.TimeLines.Few.{bounded, few_events, few_kinds}
 use Rattle.apply_events.proofs.lanes.lane.has_few_events.Goals as goal
 
 pub returns : goal.returns
 returns c hooks worker at =
     let work : Work = record { plan = c.args.plan.now; script = c.args.script.now; hooks = hooks } in
-    let one = c.new-first.ensures.few in let first = c.new-first.ensures.seconds in
-    let two = c.new-second.ensures.few in let second = c.new-second.ensures.seconds in
     few_events work worker c.args.change at
     (few_kinds work.plan c.args.change c.change.result.now c.change.ensures (let same = ap length c.steps-steps.ensures.steps in let few = c.steps-steps.ensures.few in omega arith))
-    (omega arith) (omega arith)
+    (bounded (given_outcome c.args.script.now c.args.change 0) c.outcome-first.ensures.in_range)
+    (bounded (given_outcome c.args.script.now c.args.change 1) c.outcome-second.ensures.in_range)

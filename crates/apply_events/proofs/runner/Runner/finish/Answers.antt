@@ -8,12 +8,12 @@ use Rattle.apply_events.proofs.runner.Runner.finish.Goals as goal
 
 pub returns-in-Some-clause-next : goal.returns-in-Some-clause-next
 returns-in-Some-clause-next g c =
-    finish_halts c.args.self.now.worker (step_at_hand c.args.self.now c.args.kind) (rest_of c.args.self.now) (left_of c.args.self.now) c.args.self.now.at c.args.self.now.told c.in-Some.hook c.requires.step.step (cc)
+    finish_halts c.args.self.now.worker (step_at_hand c.args.self.now c.args.kind) (rest_of c.args.self.now) (left_of c.args.self.now) c.args.self.now.at c.in-Some.hook c.requires.step.step (cc)
 
 pub returns-in-None-2-clause-next : goal.returns-in-None-2-clause-next
 returns-in-None-2-clause-next g c =
     c.pass-in-None-2.ensures.next
-    ∙ finish_goes_on c.args.self.now.worker (step_at_hand c.args.self.now c.args.kind) (rest_of c.args.self.now) c.args.self.now.at c.args.self.now.told (cc) (cc)
+    ∙ finish_goes_on c.args.self.now.worker (step_at_hand c.args.self.now c.args.kind) (rest_of c.args.self.now) c.args.self.now.at (cc) (cc)
 
 pub pass-requires-in-None-2-clause-time : goal.pass-requires-in-None-2-clause-time
 pass-requires-in-None-2-clause-time g c =

@@ -1,4 +1,4 @@
-use Rattle.apply_plan.proofs.Texts.{stripped}
+use Rattle.apply_plan.proofs.Prefixes.{stripped}
 use Rattle.apply_plan.proofs.plan.address.strip.Goals as goal
 
 pub returns : goal.returns

@@ -1,8 +1,9 @@
-use Rattle.std.proofs.Common.{◌<◌, ◌≤◌, length, vec_len, ap, sym, ◌∙◌, arith}
+use Rattle.std.proofs.Common.{◌<◌, length, sym, ◌∙◌, arith}
 use Rattle.serde_json.specs.View.{view}
 use Rattle.apply_plan.specs.Script.TreeView.{entry_view}
 use Rattle.apply_plan.proofs.Scripts.Entries.{change_numbered, is_numbered, not_numbered, some_change}
-use Rattle.apply_plan.proofs.Scripts.OneEntry.{IsFound, accepted, entry_found, malformed, repeats, too_many, too_slow, unknown}
+use Rattle.apply_plan.proofs.Scripts.OneEntry.{IsFound, accepted, entry_found, malformed, refused, repeats, unknown}
+use Rattle.apply_plan.proofs.Scripts.Limits.{none_is_bounded}
 use Rattle.apply_plan.proofs.script.reading.read_entry.Goals as goal
 use Rattle.apply_plan.proofs.script.reading.read_entry.Goals.{After-change, In-Some-get}
 
@@ -52,24 +53,20 @@ returns-then-is_some-clause-defined c = λ memory.
     })
     (sym c.if-is_some.ensures)
 
-pub returns-then-len-steps-clause-defined : goal.returns-then-len-steps-clause-defined
-returns-then-len-steps-clause-defined c = λ memory.
-    let more : length c.change.result.now.steps < vec_len c.in-Some.entry.steps = omega (arith, ap length c.steps.ensures.steps) in
-    too_many c.args.plan.now.changes c.args.said.now c.args.number (view c.args.value.now) c.in-Some.entry c.in-Some-get.change c.change.result.now c.index-said-change.result
-    (found (goal.at.returns-then-len-steps-clause-defined c).After-change) (sym c.if-is_some.ensures) more
+pub new-requires : goal.new-requires
+new-requires c =
+    rw c.deref.ensures.value (none_is_bounded c.args.number c.steps.result.now (entry_view c.in-Some.entry).steps (sym c.fault.ensures ∙ c.in_default-fault.is))
 
-pub returns-then-is_any_too_long-clause-defined : goal.returns-then-is_any_too_long-clause-defined
-returns-then-is_any_too_long-clause-defined c = λ memory.
-    let few : vec_len c.in-Some.entry.steps ≤ length c.change.result.now.steps = omega (arith, ap length c.steps.ensures.steps) in
-    too_slow c.args.plan.now.changes c.args.said.now c.args.number (view c.args.value.now) c.in-Some.entry c.in-Some-get.change c.change.result.now c.index-said-change.result
-    (found (goal.at.returns-then-is_any_too_long-clause-defined c).After-change) (sym c.if-is_some.ensures) few (rw c.deref.ensures.value at (sym c.if-is_any_too_long.ensures))
+pub returns-in-Some-fault-clause-defined : goal.returns-in-Some-fault-clause-defined
+returns-in-Some-fault-clause-defined c = λ memory.
+    refused c.args.plan.now.changes c.args.said.now c.args.number (view c.args.value.now) c.in-Some.entry c.in-Some-get.change c.change.result.now c.index-said-change.result c.in-Some-fault.fault
+    (found (goal.at.returns-in-Some-fault-clause-defined c).After-change) (sym c.if-is_some.ensures) (rw c.steps.ensures.steps at c.in-Some-fault.ensures)
 
 pub returns-clause-defined : goal.returns-clause-defined
 returns-clause-defined c =
-    let few : vec_len c.in-Some.entry.steps ≤ length c.change.result.now.steps = omega (arith, ap length c.steps.ensures.steps) in
-    rw (c.in_ok-new.ensures, c.deref-2.ensures.value)
+    rw (c.in_ok-new.ensures, c.deref.ensures.value)
     (accepted c.args.plan.now.changes c.args.said.now c.args.number (view c.args.value.now) c.in-Some.entry c.in-Some-get.change c.change.result.now c.index-said-change.result
-    (found (goal.at.returns-clause-defined c).After-change) (sym c.if-is_some.ensures) few (rw c.deref.ensures.value at (sym c.if-is_any_too_long.ensures)))
+    (found (goal.at.returns-clause-defined c).After-change) (sym c.if-is_some.ensures) (rw c.steps.ensures.steps at c.in_default-fault.ensures))
 
 pub returns-clause-within : goal.returns-clause-within
 returns-clause-within c = let below = within (goal.at.returns-clause-within c).In-Some-get in omega (arith, below, c.requires.said)

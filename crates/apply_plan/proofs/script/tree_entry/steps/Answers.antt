@@ -1,7 +1,12 @@
-use Rattle.apply_plan.proofs.Scripts.Steps.{step_more}
+use Rattle.std.proofs.Common.{Option, option_map, ap, sym, ◌∙◌}
+use Rattle.apply_plan.specs.declared.script.tree_step.TreeStep.{TreeStep}
+use Rattle.apply_plan.specs.Script.Entry.{step_from}
+use Rattle.apply_plan.specs.Script.TreeView.{step_view}
+use Rattle.apply_plan.proofs.Scripts.Parts.{viewed_more}
 use Rattle.apply_plan.proofs.script.tree_entry.steps.Goals as goal
 
 pub loop-value-preserved : goal.loop-value-preserved
 loop-value-preserved c =
     rw c.in_ok-push.ensures.items
-    (step_more c.loop-value.steps.items c.args.values.now c.loop-value.value-index c.value-item.result c.in-Some.step _ c.loop-value-test.true c.value-item.is c.in-Some.ensures c.loop-value.invariant)
+    (viewed_more step_view step_from c.loop-value.steps.items c.args.values.now c.loop-value.value-index c.value-item.result c.in-Some.step _ c.loop-value-test.true c.value-item.is
+    (sym (ap (λ (o : Option TreeStep). option_map step_view o) c.in-Some.is) ∙ c.in_ok-step.ensures) c.loop-value.invariant)

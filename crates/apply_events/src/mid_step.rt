@@ -1,0 +1,131 @@
+//! How far a step is between its start and its end.
+
+ghost use Rattle.std.specs.Prelude.{◌≡◌, ◌+◌, ◌≤◌, ◌∷◌, [], ℕ, List, None, Some, IfNone, IfSome};
+ghost use Rattle.apply_plan.specs.declared.script.provisioner.Provisioner.{Provisioner};
+ghost use Rattle.apply_plan.specs.Script.Limits.{max_seconds};
+ghost use Rattle.apply_plan.specs.Script.Outcome.{ran, seconds_of_all, took};
+ghost use Rattle.apply_events.specs.Provisions.{provision_end};
+
+use crate::ran::{begin_of, that_ran};
+use crate::what::What;
+use apply_plan::{Outcome, Provisioner};
+
+/// How far a step is that has started and has not ended.
+#[derive(Clone, Copy, Debug)]
+pub struct MidStep {
+    /// Up to how many seconds its progress was told.
+    told: u32,
+    /// The provisioner at hand, counted from 0.
+    provisioner: u8,
+    /// How many of its outputs were told, if it has begun.
+    outputs: Option<u8>,
+}
+
+impl MidStep {
+    ghost use Rattle.apply_events.specs.Course.{GivesNext};
+    ghost use Rattle.apply_events.specs.MidStep.{left_of};
+    ghost use Rattle.apply_events.specs.Provisions.{along, times_within};
+
+    /// A step that has just started.
+    pub fn new() -> MidStep
+        ensures { (provider : ℕ) (provisioners : List Provisioner) → left_of provider provisioners result
+            ≡ along (provider + seconds_of_all provisioners) 0 0 provider provisioners }
+    {
+        MidStep {
+            told: 0,
+            provisioner: 0,
+            outputs: None,
+        }
+    }
+
+    /// What happens next, and after how many seconds. `None` where nothing more does before the step ends.
+    pub fn next(&mut self, outcome: &Outcome) -> Option<(u32, What)>
+        requires short { took outcome.now ≤ max_seconds }
+        ensures next { GivesNext (left_of outcome.now.seconds (ran outcome.now.provisioners) self.old) result
+            (left_of outcome.now.seconds (ran outcome.now.provisioners) self.new) }
+        ensures in_time { IfSome result (λ told. told.0 ≤ took outcome.now) }
+    {
+        match self.outputs {
+            None => self.begin(outcome),
+            Some(line) => self.run(outcome, line),
+        }
+    }
+
+    /// What happens next, where the provisioner at hand has not begun: progress, or that it begins.
+    fn begin(&mut self, outcome: &Outcome) -> Option<(u32, What)>
+        requires short { took outcome.now ≤ max_seconds }
+        requires outputs { self.old.outputs ≡ None }
+        ensures next { GivesNext (left_of outcome.now.seconds (ran outcome.now.provisioners) self.old) result
+            (left_of outcome.now.seconds (ran outcome.now.provisioners) self.new) }
+        ensures in_time { IfSome result (λ told. told.0 ≤ took outcome.now) }
+    {
+        let begin = begin_of(outcome, self.provisioner);
+        if let Some(time) = self.next_time(outcome.took(), begin) {
+            self.told = time;
+            return Some((time, What::Progress(time)));
+        }
+        if that_ran(outcome, self.provisioner).is_none() {
+            return None;
+        }
+        self.told = begin;
+        self.outputs = Some(0);
+        Some((begin, What::ProvisionStart(self.provisioner)))
+    }
+
+    /// What happens next, where the provisioner at hand has begun and told so many outputs: progress, an output, or its end.
+    fn run(&mut self, outcome: &Outcome, line: u8) -> Option<(u32, What)>
+        requires short { took outcome.now ≤ max_seconds }
+        requires outputs { self.old.outputs ≡ Some line }
+        ensures next { GivesNext (left_of outcome.now.seconds (ran outcome.now.provisioners) self.old) result
+            (left_of outcome.now.seconds (ran outcome.now.provisioners) self.new) }
+        ensures in_time { IfSome result (λ told. told.0 ≤ took outcome.now) }
+    {
+        let Some(provisioner) = that_ran(outcome, self.provisioner) else {
+            return None;
+        };
+        let end = begin_of(outcome, self.provisioner) + provisioner.seconds;
+        if let Some(time) = self.next_time(outcome.took(), end) {
+            self.told = time;
+            return Some((time, What::Progress(time)));
+        }
+        if line < provisioner.output.len() {
+            self.outputs = Some(line + 1);
+            let prov = self.provisioner;
+            return Some((end, What::ProvisionOutput { prov, line }));
+        }
+        let what = end_of(self.provisioner, provisioner);
+        self.provisioner += 1;
+        self.outputs = None;
+        Some((end, what))
+    }
+
+    /// The next progress of a step that takes `whole` seconds, if there is one no later than `until`.
+    fn next_time(&self, whole: u32, until: u32) -> Option<u32>
+        requires short { whole ≤ max_seconds }
+        ensures none { IfNone result (times_within whole self.now.told until ≡ []) }
+        ensures some { IfSome result
+            (λ time. times_within whole self.now.told until ≡ time ∷ times_within whole time until) }
+        ensures in_time { IfSome result (λ time. time ≤ until) }
+    {
+        if self.told >= whole {
+            return None;
+        }
+        let time = (self.told / 10 + 1) * 10;
+        if time < whole && time <= until {
+            Some(time)
+        } else {
+            None
+        }
+    }
+}
+
+/// How a provisioner of that number ends.
+fn end_of(number: u8, provisioner: &Provisioner) -> What
+    ensures { result ≡ provision_end number provisioner.now }
+{
+    if provisioner.failed.is_some() {
+        What::ProvisionErrored(number)
+    } else {
+        What::ProvisionComplete(number)
+    }
+}

@@ -1,0 +1,34 @@
+//! The provisioners of a step that run, and when.
+
+ghost use Rattle.std.specs.Prelude.{◌≡◌, ◌<◌, ◌≤◌, slice_get, IfSome};
+ghost use Rattle.std.specs.Option.{option_copied};
+ghost use Rattle.apply_plan.specs.Script.Limits.{max_provisioners, max_seconds};
+ghost use Rattle.apply_plan.specs.Script.Outcome.{ran, took};
+ghost use Rattle.apply_events.specs.MidStep.{since};
+
+use apply_plan::{Outcome, Provisioner};
+
+/// The provisioner of that number, where it runs.
+pub fn that_ran(outcome: &Outcome, number: u8) -> Option<&Provisioner>
+    ensures found { option_copied result ≡ slice_get (ran outcome.now.provisioners) number }
+    ensures few { IfSome result (λ _. number < max_provisioners) }
+{
+    let _few = outcome.provisioners.len();
+    if number < outcome.provisioners.count_that_run() {
+        Some(outcome.provisioners.get(number))
+    } else {
+        None
+    }
+}
+
+/// After how many seconds it begins: after those of the provider, and of the provisioners before it that run.
+pub fn begin_of(outcome: &Outcome, number: u8) -> u32
+    requires { took outcome.now ≤ max_seconds }
+    ensures { result ≡ since outcome.now.seconds (ran outcome.now.provisioners) number }
+{
+    let mut seconds = outcome.seconds;
+    for earlier in 0..number.min(outcome.provisioners.count_that_run()) {
+        seconds += outcome.provisioners.get(earlier).seconds;
+    }
+    seconds
+}

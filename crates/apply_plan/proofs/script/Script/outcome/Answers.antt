@@ -1,0 +1,6 @@
+use Rattle.apply_plan.specs.Script.Outcomes.{given_outcome}
+use Rattle.apply_plan.proofs.Scripts.Limits.{in_time}
+use Rattle.apply_plan.proofs.script.Script.outcome.Goals as goal
+
+pub returns-clause-in_time : goal.returns-clause-in_time
+returns-clause-in_time c = in_time (given_outcome c.args.self.now c.args.change c.args.step) (rw (← c.self.view_is) (c.self.invariant c.args.change c.args.step))

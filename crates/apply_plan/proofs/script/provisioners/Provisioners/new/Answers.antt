@@ -1,0 +1,7 @@
+use Rattle.apply_plan.specs.Script.Outcome.{IsSmall}
+use Rattle.apply_plan.specs.Script.TreeView.{provisioner_view}
+use Rattle.apply_plan.proofs.Scripts.Limits.{all_seen}
+use Rattle.apply_plan.proofs.script.provisioners.Provisioners.new.Goals as goal
+
+pub new-requires : goal.new-requires
+new-requires c = all_seen IsSmall provisioner_view c.args.tree.now c.loop-provisioner.provisioner-index c.provisioner-item.result c.requires.small c.loop-provisioner-test.true c.provisioner-item.is

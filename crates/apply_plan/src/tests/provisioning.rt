@@ -1,0 +1,138 @@
+//! What a script says of provisioners, and which of them run.
+
+use super::outcomes::{line_of, push_diag, push_printed};
+use super::table::{cells, compare, push, put, rows};
+use super::*;
+use crate::{Outcome, Provisioner};
+
+/// Adds what the provisioner is and puts out: `; "NAME" SECONDS "OUTPUT" ..`, and why it fails, where it does.
+fn push_provisioner(rt: &impl Abort, alloc: Global, line: &mut String, provisioner: &Provisioner) {
+    push(rt, line, ";");
+    push_printed(rt, alloc, line, provisioner.name.as_str());
+    push(rt, line, " ");
+    push(rt, line, shown(rt, alloc, &provisioner.seconds).as_str());
+    for number in 0..provisioner.output.len() {
+        push_printed(rt, alloc, line, provisioner.output.get(number).as_str());
+    }
+    if let Some(diag) = &provisioner.failed {
+        push_diag(rt, alloc, line, " failed", diag);
+    }
+}
+
+/// The outcome in one line, with its provisioners.
+fn whole_line(rt: &impl Abort, alloc: Global, outcome: &Outcome) -> String {
+    let mut line = line_of(rt, alloc, outcome);
+    for number in 0..outcome.provisioners.len() {
+        push_provisioner(rt, alloc, &mut line, outcome.provisioners.get(number));
+    }
+    line
+}
+
+/// How long the only step takes, with its provisioners.
+fn seconds_taken(rt: &impl Abort, script: &Script) -> u32 {
+    match script.outcome(0, 0) {
+        Some(outcome) => outcome.took(),
+        None => panic!(rt; "nothing is said of the step"),
+    }
+}
+
+/// What comes of the outcome: `, COUNT run`, and why it fails, where it does.
+fn result_line(rt: &impl Abort, alloc: Global, outcome: &Outcome) -> String {
+    let mut line = shown(rt, alloc, &", ");
+    let count = outcome.provisioners.count_that_run();
+    push(rt, &mut line, shown(rt, alloc, &count).as_str());
+    push(rt, &mut line, " run");
+    if let Some(diag) = outcome.failure() {
+        push_diag(rt, alloc, &mut line, ", failed", diag);
+    }
+    assert!(rt; outcome.fails() == outcome.failure().is_some());
+    line
+}
+
+/// Steps, and what is said of them.
+const SAID: &str = r#"
+"seconds":1 => 1 done
+"seconds":1,"provisioners":null => 1 done
+"seconds":1,"provisioners":[] => 1 done
+"seconds":4,"id":"7","provisioners":[{"provisioner":"local-exec","seconds":12,"output":["hi"]}] => 4 done, id "7"; "local-exec" 12 "hi"
+"seconds":0,"provisioners":[{"provisioner":"a","seconds":2,"output":null,"failed":{"summary":"boom"}},{"provisioner":"b","seconds":3,"output":["","x\ny","\u00e9\"\\"]}] => 0 done; "a" 2 failed "boom" ""; "b" 3 "" "x\ny" "é\"\\"
+"seconds":0,"provisioners":[{"provisioner":"a","seconds":86400,"output":[],"failed":{"summary":"","detail":"why"}}] => 0 done; "a" 86400 failed "" "why"
+"seconds":0,"provisioners":[{"provisioner":"a","provisioner":"b","seconds":1,"seconds":2,"output":["x"],"output":["y"]}] => 0 done; "b" 2 "y"
+"seconds":0,"provisioners":[{"provisioner":"a","seconds":1,"output":["x"],"output":null,"failed":{"summary":"boom"},"failed":null}] => 0 done; "a" 1
+"#;
+
+/// Steps, and what comes of them.
+const COMES: &str = r#"
+"seconds":1 => 1, 0 run
+"seconds":4,"failed":{"summary":"boom","detail":"why"} => 4, 0 run, failed "boom" "why"
+"seconds":4,"provisioners":[{"provisioner":"a","seconds":12}] => 16, 1 run
+"seconds":4,"provisioners":[{"provisioner":"a","seconds":0},{"provisioner":"b","seconds":7}] => 11, 2 run
+"seconds":1,"provisioners":[{"provisioner":"a","seconds":2,"failed":{"summary":"boom"}},{"provisioner":"b","seconds":3}] => 3, 1 run, failed "boom" ""
+"seconds":1,"provisioners":[{"provisioner":"a","seconds":2},{"provisioner":"b","seconds":3,"failed":{"summary":"","detail":"why"}}] => 6, 2 run, failed "" "why"
+"seconds":1,"provisioners":[{"provisioner":"a","seconds":2,"failed":{"summary":"first"}},{"provisioner":"b","seconds":3,"failed":{"summary":"second"}}] => 3, 1 run, failed "first" ""
+"seconds":1,"warning":{"summary":"slow"},"provisioners":[{"provisioner":"a","seconds":2},{"provisioner":"b","seconds":4,"failed":{"summary":"boom"}},{"provisioner":"c","seconds":8}] => 7, 2 run, failed "boom" ""
+"seconds":86400,"provisioners":[{"provisioner":"a","seconds":0}] => 86400, 1 run
+"#;
+
+/// The script whose only step has these members.
+fn script_with(rt: &impl Abort, alloc: Global, members: &str) -> Script {
+    let script = r#"{"changes":[{"address":"null_resource.a","steps":[{CELL}]}]}"#;
+    let text = put(rt, alloc, script, "CELL", members);
+    script_of(rt, alloc, ONE_CREATE, text.as_str())
+}
+
+#[test]
+fn a_step_says_what_its_provisioners_do(rt: HostRuntime) {
+    for row in rows(&rt, SAID) {
+        let (members, wanted) = cells(&rt, row);
+        let script = script_with(&rt, rt.alloc(), members);
+        let outcome = script.outcome(0, 0).expect(&rt, "an outcome");
+        let found = whole_line(&rt, rt.alloc(), outcome);
+        compare(&rt, members, found.as_str(), wanted);
+    }
+}
+
+#[test]
+fn provisioners_run_up_to_the_first_that_fails(rt: HostRuntime) {
+    for row in rows(&rt, COMES) {
+        let (members, wanted) = cells(&rt, row);
+        let script = script_with(&rt, rt.alloc(), members);
+        let outcome = script.outcome(0, 0).expect(&rt, "an outcome");
+        let mut found = shown(&rt, rt.alloc(), &seconds_taken(&rt, &script));
+        push(
+            &rt,
+            &mut found,
+            result_line(&rt, rt.alloc(), outcome).as_str(),
+        );
+        compare(&rt, members, found.as_str(), wanted);
+    }
+}
+
+/// Adds so many texts, each between quotes, with commas between them.
+fn push_quoted(rt: &impl Abort, text: &mut String, count: usize) {
+    for number in 0..count {
+        push(rt, text, if number > 0 { r#","hi""# } else { r#""hi""# });
+    }
+}
+
+/// As many provisioners as there may be, each of which puts out as much as it may.
+#[test]
+fn the_most_provisioners_are_kept(rt: HostRuntime) {
+    let alloc = rt.alloc();
+    let mut output = String::new(alloc);
+    push_quoted(&rt, &mut output, 100);
+    let one = r#"{"provisioner":"a","seconds":10800,"output":[CELL]}"#;
+    let one = put(&rt, alloc, one, "CELL", output.as_str());
+    let mut members = shown(&rt, alloc, &r#""seconds":0,"provisioners":["#);
+    for number in 0..8 {
+        push(&rt, &mut members, if number > 0 { "," } else { "" });
+        push(&rt, &mut members, one.as_str());
+    }
+    push(&rt, &mut members, "]");
+    let script = script_with(&rt, alloc, members.as_str());
+    let outcome = script.outcome(0, 0).expect(&rt, "an outcome");
+    assert!(rt; seconds_taken(&rt, &script) == 86_400);
+    assert!(rt; outcome.provisioners.len() == 8);
+    assert!(rt; outcome.provisioners.get(7).output.len() == 100);
+    assert!(rt; outcome.provisioners.get(7).output.get(99).as_str() == "hi");
+}
