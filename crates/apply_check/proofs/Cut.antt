@@ -7,7 +7,7 @@ use Rattle.std.proofs.BufReadLemmas.{drop_through-append}
 use Rattle.std.proofs.lemmas.Bool.{cases_Bool}
 use Rattle.std.proofs.lemmas.List.Elements.{All-append, All-head, All-tail}
 use Rattle.apply_check.specs.Cut.{first_of, lines_of, onto_first}
-use Rattle.apply_check.specs.Json.{max_bytes}
+use Rattle.apply_check.specs.Limits.{max_bytes}
 use Rattle.apply_check.specs.Reading.{Gives}
 use Rattle.apply_check.specs.declared.next.Next.TheVariants as next
 

@@ -3,6 +3,7 @@ pub mod Balance
 pub mod Continuing
 pub mod Cut
 pub mod Doubling
+pub mod Feeds
 pub mod Firsts
 pub mod FromReader
 pub mod Least
@@ -10,5 +11,5 @@ pub mod OneLine
 pub mod OpenSteps
 pub mod Held
 pub mod Summing
-pub mod Trees
+pub mod Trimmed
 pub mod WholeStream

@@ -3,13 +3,14 @@ pub mod Counted
 pub mod Course
 pub mod Cut
 pub mod Intents
-pub mod Json
 pub mod Laws
+pub mod Limits
 pub mod Lines
 pub mod Message
 pub mod MessageView
 pub mod Reading
 pub mod Results
+pub mod Selection
 pub mod Standing
 pub mod Telling
 pub mod Words

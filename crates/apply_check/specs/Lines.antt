@@ -12,7 +12,8 @@ use Rattle.apply_check.specs.declared.totals.Totals.{Totals}
 use Rattle.apply_check.specs.declared.whole.Whole.{Whole}
 use Rattle.apply_check.specs.declared.what.What.TheVariants.{Start, Progress, Complete, Errored}
 use Rattle.apply_check.specs.Intents.{creates, deletes, intent_of, updates}
-use Rattle.apply_check.specs.Json.{max_bytes, text_of, tree_of}
+use Rattle.apply_json.specs.Tree.{text_of, tree_of}
+use Rattle.apply_check.specs.Limits.{max_bytes}
 use Rattle.apply_check.specs.Message.{Message, version, step, provision, planned, plan_summary, summary, diagnostic, other, address_of, typed_message}
 use Rattle.apply_check.specs.Results.{◌>>=◌, or_refuse}
 use Rattle.apply_check.specs.Standing.{is_idle, provision_on, standing_of, step_on}

@@ -3,7 +3,7 @@ use Rattle.std.specs.Prelude.{◌≡◌, ◌≢◌, ◌<◌, ◌^◌, ◌++◌, 
 use Rattle.std.specs.Io.BufRead.{drop_through}
 use Rattle.std.specs.Io.KnownBytes.{Consumes, IsAtEnd}
 use Rattle.apply_check.specs.Cut.{first_of}
-use Rattle.apply_check.specs.Json.{max_bytes}
+use Rattle.apply_check.specs.Limits.{max_bytes}
 use Rattle.apply_check.specs.Lines.{verdict_of}
 use Rattle.apply_check.specs.declared.fault.Fault.{Fault}
 use Rattle.apply_check.specs.declared.fault.Fault.TheVariants.{Memory}

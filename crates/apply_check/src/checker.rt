@@ -11,8 +11,8 @@ use crate::action::Action;
 use crate::fault::Fault;
 use crate::finding::Finding;
 use crate::intent::Intent;
-use crate::json::members::text_member;
-use crate::json::parsing::{JsonFault, parse};
+use crate::limits::MAX_BYTES;
+use crate::line_shape::LineShape;
 use crate::message::Message;
 use crate::open_steps::OpenSteps;
 use crate::part::Part;
@@ -20,10 +20,13 @@ use crate::standing::{Standing, explained, provision_on, step_on};
 use crate::totals::{Totals, agree, counted, foretold};
 use crate::what::What;
 use crate::whole::Whole;
+use apply_json::members::text_member;
+use apply_json::{JsonFault, Scratch, parse_trimmed};
 use serde_json::Value;
 use std::alloc::Global;
 
-/// What is needed of the lines so far: it grows only with the number of addresses at which a step stands open.
+/// What is needed of the lines so far: it grows only with the number of addresses at which a step stands open, and with the
+/// longest line.
 #[derive(Drop)]
 pub struct Checker {
     pub(crate) lines: u64,
@@ -32,6 +35,8 @@ pub struct Checker {
     pub(crate) planned: Totals,
     pub(crate) is_summed: bool,
     pub(crate) has_failed: bool,
+    // Kept from line to line, so that reading one takes no memory of its own.
+    scratch: Scratch,
     ghost few: { lines < 2 ^ 33 },
     ghost added_few: { totals.added ≤ lines },
     ghost changed_few: { totals.changed ≤ lines },
@@ -67,6 +72,7 @@ impl Checker {
             },
             is_summed: false,
             has_failed: false,
+            scratch: Scratch::new(alloc),
         }
     }
 
@@ -76,7 +82,7 @@ impl Checker {
         requires { lines_read self.old < 2 ^ 32 }
         ensures { Continues self.old self.new (λ messages. read_line messages text.now) result }
     {
-        match parse(alloc, text) {
+        match parse_trimmed(alloc, &mut self.scratch, text, MAX_BYTES, LineShape::Line) {
             Ok(tree) => self.tree(alloc, &tree),
             Err(JsonFault::TooLarge) => Err(Fault::TooLong),
             Err(JsonFault::NotJson) => Err(Fault::NotAMessage),

@@ -9,9 +9,10 @@ mod fault;
 mod finding;
 mod form;
 mod intent;
-mod json;
 mod laws;
+mod limits;
 mod line_reader;
+mod line_shape;
 mod message;
 mod next;
 mod open_steps;
@@ -38,10 +39,10 @@ pub use command::{answer_usage, check_command, check_input, follow};
 pub use fault::Fault;
 pub use finding::Finding;
 pub use form::Form;
-pub use json::parsing::MAX_BYTES;
 pub use laws::{
     a_stream_without_errors_is_summed_up, each_step_ends_once, no_start_or_end_is_one_too_many,
 };
+pub use limits::MAX_BYTES;
 pub use pending::Pending;
 pub use read_fault::ReadFault;
 pub use reading::{check, check_with};

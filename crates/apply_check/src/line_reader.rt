@@ -4,10 +4,11 @@
 ghost use Rattle.std.specs.Prelude.{◌≡◌, ◌≢◌, ◌<◌, ◌≤◌, ◌++◌, ℕ, List, All, Some, IfErr, IfOk, IfSome, length, take, slice_get};
 ghost use Rattle.apply_check.specs.Reading.{Gives, IsNoAnswer, Shows};
 
-use crate::json::parsing::MAX_BYTES;
+use crate::limits::MAX_BYTES;
 use crate::next::Next;
 use crate::read_fault::ReadFault;
 use crate::shown::Shown;
+use memchr::memchr;
 use std::io::{BufRead, ErrorKind};
 
 /// Reads the next line, without its line feed. The line is read no further than it is seen to be too long.
@@ -72,12 +73,8 @@ fn len_before_feed(bytes: &[u8]) -> usize
     ensures before { All (λ byte. byte ≢ 10) (take result bytes.now) }
     ensures feed { result < length bytes.now → slice_get bytes.now result ≡ Some 10 }
 {
-    let mut len = 0;
-    while len < bytes.len() {
-        if bytes[len] == b'\n' {
-            return len;
-        }
-        len += 1;
+    match memchr(b'\n', bytes) {
+        Some(len) => len,
+        None => bytes.len(),
     }
-    len
 }

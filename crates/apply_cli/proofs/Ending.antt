@@ -8,7 +8,7 @@ use Rattle.std.proofs.lemmas.Bool.{lt-ltb}
 use mathlib.Core.List.{IsPrefix}
 use Rattle.apply_plan.specs.declared.plan.plan_error.PlanError.{PlanError}
 use Rattle.apply_plan.specs.declared.plan.plan_error.PlanError.TheVariants as plan_error
-use Rattle.apply_plan.specs.Json.{max_bytes}
+use Rattle.apply_plan.specs.Bytes.{max_bytes}
 use Rattle.apply_plan.specs.Plan.SavedPlan.{SavedPlan, plan_of}
 use Rattle.apply_plan.specs.Script.Outcomes.{Outcomes}
 use Rattle.apply_events.specs.declared.event.Event.{Event}

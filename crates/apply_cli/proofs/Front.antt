@@ -3,7 +3,7 @@ use Rattle.std.proofs.Common.{◌≡◌, ℕ, ◌+◌, ◌<◌, ◌≤◌, List,
 use Rattle.std.proofs.lemmas.List.{length-take}
 use Rattle.std.proofs.lemmas.Bool.{cases_lt, lt-ltb}
 use Rattle.apply_plan.specs.declared.plan.plan_error.PlanError.TheVariants.{TooLarge}
-use Rattle.apply_plan.specs.Json.{max_bytes}
+use Rattle.apply_plan.specs.Bytes.{max_bytes}
 use Rattle.apply_plan.specs.Plan.SavedPlan.{SavedPlan, plan_of}
 
 pub too_large : (bytes : List ℕ) → max_bytes < length bytes → plan_of bytes ≡ Err TooLarge

@@ -1,6 +1,6 @@
 -- From the bytes that were read to those of the input.
 use Rattle.std.proofs.Common.{◌≡◌, ℕ, ◌+◌, ◌≤◌, ◌⊎◌, inl, inr, ⊎_elim, List, take, Vec, Global, Option, IfSome, Result, Ok, Err, IfOk, IfErr, arith}
-use Rattle.apply_plan.specs.Json.{max_bytes}
+use Rattle.apply_plan.specs.Bytes.{max_bytes}
 use Rattle.apply_plan.specs.Plan.SavedPlan.{SavedPlan, plan_of}
 use Rattle.apply_cli.specs.Command.{OfInput}
 use Rattle.apply_cli.specs.declared.input_fault.InputFault.{InputFault}

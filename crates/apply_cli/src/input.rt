@@ -2,7 +2,7 @@
 
 ghost use Rattle.std.specs.Prelude.{◌≡◌, ◌<◌, ◌≤◌, ◌+◌, List, ℕ, ◌++◌, IfOk, IfSome, length, take};
 ghost use Rattle.std.specs.Io.KnownBytes.{Consumes, IsAtEnd};
-ghost use Rattle.apply_plan.specs.Json.{max_bytes};
+ghost use Rattle.apply_plan.specs.Bytes.{max_bytes};
 
 use crate::input_fault::InputFault;
 use apply_plan::MAX_BYTES;

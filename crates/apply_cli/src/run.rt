@@ -3,7 +3,7 @@
 ghost use Rattle.std.specs.Prelude.{◌≡◌, ◌<◌, ◌≤◌, ◌-◌, ◌^◌, ◌⊎◌, length, IfOk, IfErr, OnErr};
 ghost use Rattle.std.specs.Option.{option_copied};
 ghost use Rattle.std.specs.Io.KnownBytes.{Keeps};
-ghost use Rattle.apply_plan.specs.Json.{max_bytes};
+ghost use Rattle.apply_plan.specs.Bytes.{max_bytes};
 ghost use Rattle.apply_hooks.specs.Registry.{rules_of};
 ghost use Rattle.apply_run.specs.declared.refusal.Refusal.{Refusal};
 ghost use Rattle.apply_run.specs.Bytes.{WasRefused};

@@ -1,7 +1,7 @@
 //! The script's file.
 
 ghost use Rattle.std.specs.Prelude.{◌≡◌, ◌≤◌, ◌+◌, length, IfOk};
-ghost use Rattle.apply_plan.specs.Json.{max_bytes};
+ghost use Rattle.apply_plan.specs.Bytes.{max_bytes};
 ghost use Rattle.apply_cli.specs.Status.{input_status_of};
 
 use crate::input::read_all;

@@ -4,7 +4,4 @@ pub mod Plans
 pub mod Prefixes
 pub mod Results
 pub mod Scripts
-pub mod Trees
-pub mod Trimmed
-pub mod Turns
 pub mod WholeList

@@ -1,6 +1,6 @@
 -- Steps that may have no answer.
 use Rattle.std.proofs.Common.{◌≡◌, ℕ, List, [], ◌∷◌, Option, Some, None, refl}
-use Rattle.apply_plan.specs.Json.{◌>>=◌, unless_empty}
+use Rattle.apply_json.specs.Tree.{◌>>=◌, unless_empty}
 
 -- the value of a step that had an answer
 pub bind_some : {A B : Type 0} (o : Option A) (f : A → Option B) (y : B) → (o >>= f) ≡ Some y → (x : A) × (o ≡ Some x) × (f x ≡ Some y)

@@ -4,5 +4,6 @@ pub mod ActionLists
 pub mod Alike
 pub mod Relative
 pub mod Seen
+pub mod Trimmed
 pub mod WholeList
 pub mod WholePlan

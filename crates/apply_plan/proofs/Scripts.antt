@@ -6,5 +6,6 @@ pub mod OneEntry
 pub mod Parts
 pub mod Provisioners
 pub mod Refusals
+pub mod Trimmed
 pub mod TreeSteps
 pub mod WholeList

@@ -4,7 +4,7 @@ use Rattle.std.proofs.Common.{◌≡◌, ℕ, ◌+◌, List, [], ◌∷◌, ◌+
 use Rattle.std.specs.List.{enumerate_from}
 use Rattle.std.proofs.lemmas.List.{append-nil, length-append, take_at}
 use Rattle.serde_json.specs.Data.{Data, Items, no_items, item}
-use Rattle.apply_plan.specs.Json.{list_of}
+use Rattle.apply_json.specs.Tree.{list_of}
 use Rattle.apply_plan.specs.ListReading.{made_after}
 use Rattle.apply_plan.specs.Results.{◌>>=◌, all_or_first, each_with_earlier}
 use Rattle.apply_plan.proofs.Results.{done}

@@ -1,4 +1,4 @@
-pub mod Json
+pub mod Bytes
 pub mod ListReading
 pub mod Plan
 pub mod Results

@@ -11,5 +11,6 @@ pub mod PlannedView
 pub mod ResourceChange
 pub mod SavedPlan
 pub mod SeenObjects
+pub mod Selection
 pub mod StepKind
 pub mod Steps

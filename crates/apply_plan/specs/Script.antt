@@ -6,4 +6,5 @@ pub mod NextEntry
 pub mod Outcome
 pub mod Outcomes
 pub mod Refusals
+pub mod Selection
 pub mod TreeView

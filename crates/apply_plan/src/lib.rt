@@ -1,11 +1,12 @@
 //! Saved Terraform plans (JSON Output Format 1.x) and scripts of outcomes: what they are, and how they are read.
 #![tactic(auto)]
 
+mod bytes;
 mod plan;
 mod script;
 mod text;
-mod tree;
 
+pub use bytes::MAX_BYTES;
 pub use plan::Plan;
 pub use plan::change::Change;
 pub use plan::key::Key;
@@ -26,7 +27,6 @@ pub use script::reading::read_script;
 pub use script::script_error::ScriptError;
 pub use script::texts::{MAX_OUTPUTS, Texts};
 pub use text::Text;
-pub use tree::parsing::MAX_BYTES;
 
 #[cfg(test)]
 mod tests;

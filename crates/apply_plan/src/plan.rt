@@ -15,6 +15,7 @@ pub mod object_id;
 #[cfg(test)]
 pub mod plain;
 pub mod plan_error;
+pub mod plan_shape;
 pub mod planned;
 pub mod reading;
 pub mod seen_objects;

@@ -13,6 +13,7 @@ pub mod provisioner;
 pub mod provisioners;
 pub mod reading;
 pub mod script_error;
+pub mod script_shape;
 pub mod step_outcomes;
 pub mod texts;
 pub mod tree_diag;

@@ -14,8 +14,8 @@ mod trimming;
 
 use crate::plan::header::Header;
 use crate::plan::{plain, reading};
-use crate::tree::parsing::parse;
-use crate::{MAX_CHANGES, Plan, Script, Text, read_plan, read_script};
+use crate::{MAX_BYTES, MAX_CHANGES, Plan, Script, Text, read_plan, read_script};
+use apply_json::parse;
 use serde_json::Value;
 use std::alloc::Global;
 use std::fmt::{Debug, Display};
@@ -116,7 +116,7 @@ fn plan_reads_as_plainly(rt: &impl Abort, alloc: Global, text: &str) {
 /// The same, and for the elements of the plan, where the text has a plan's top level.
 fn reads_as_plainly(rt: &impl Abort, alloc: Global, text: &str) {
     plan_reads_as_plainly(rt, alloc, text);
-    if let Ok(tree) = parse(alloc, text.as_bytes()) {
+    if let Ok(tree) = parse(alloc, text.as_bytes(), MAX_BYTES) {
         if let Some(header) = Header::of(&tree) {
             elements_read_as_plainly(rt, alloc, text, header.elements);
         }

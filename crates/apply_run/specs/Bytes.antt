@@ -3,7 +3,7 @@ use Rattle.std.specs.Prelude.{◌≡◌, ◌≤◌, ◌⊎◌, ℕ, List, [], le
 use Rattle.apply_plan.specs.declared.plan.plan_error.PlanError.TheVariants as plan_error
 use Rattle.apply_plan.specs.declared.script.script_error.ScriptError.{ScriptError}
 use Rattle.apply_plan.specs.declared.script.script_error.ScriptError.TheVariants as script_error
-use Rattle.apply_plan.specs.Json.{max_bytes}
+use Rattle.apply_plan.specs.Bytes.{max_bytes}
 use Rattle.apply_plan.specs.Plan.SavedPlan.{SavedPlan, plan_of}
 use Rattle.apply_plan.specs.Script.Outcomes.{Outcomes, script_of}
 use Rattle.apply_hooks.specs.declared.rule.Rule.{Rule}

@@ -17,7 +17,8 @@ use Rattle.apply_plan.specs.ListReading.{made_after}
 use Rattle.apply_plan.specs.Plan.NextChange.{change_after}
 use Rattle.apply_plan.specs.Plan.ResourceChange.{ResourceChange, is_same_object}
 use Rattle.apply_plan.specs.Plan.Steps.{steps_of_actions}
-use Rattle.apply_plan.specs.Json.{list_of, max_bytes, tree_of}
+use Rattle.apply_json.specs.Tree.{list_of, tree_of}
+use Rattle.apply_plan.specs.Bytes.{max_bytes}
 use Rattle.apply_plan.specs.Results.{or_refuse}
 use Rattle.apply_plan.proofs.Plans.Relative.{relative_joins}
 use Rattle.apply_plan.proofs.Results.{bind_ok, done, guard_ok, ok_is, or_refuse_ok}

@@ -5,7 +5,7 @@ use Rattle.serde_json.specs.Data.{Data, Items, no_items, item}
 use Rattle.serde_json.specs.Events.{items_len}
 use Rattle.apply_plan.specs.declared.plan.plan_error.PlanError.{PlanError}
 use Rattle.apply_plan.specs.declared.plan.plan_error.PlanError.TheVariants.{NotAPlan, TooMany}
-use Rattle.apply_plan.specs.Json.{◌>>=◌, items_or_empty, list_of, member_of, non_empty_text_of, text_of, text_or}
+use Rattle.apply_json.specs.Tree.{◌>>=◌, items_or_empty, list_of, member_of, non_empty_text_of, text_of, text_or}
 use Rattle.apply_plan.specs.ListReading.{made_after}
 use Rattle.apply_plan.specs.Plan.Element.{element_of, planned_change_of, prior_id_of}
 use Rattle.apply_plan.specs.Plan.Header.{Header, header_of}

@@ -11,7 +11,7 @@ use denote.Ref.{Bor}
 use Rattle.apply_plan.specs.Plan.Address.{after_prefix, relative_address}
 use Rattle.apply_plan.specs.Plan.Laws.{HasRelativeAddress, IsJoined}
 use Rattle.apply_plan.specs.Plan.ResourceChange.{ResourceChange}
-use Rattle.apply_plan.specs.Json.{◌>>=◌, is_empty, unless_empty}
+use Rattle.apply_json.specs.Tree.{◌>>=◌, is_empty, unless_empty}
 use Rattle.apply_plan.proofs.Options.{bind_some, unless_empty_some}
 
 after_prefix_some : (prefix text found : List ℕ) → after_prefix prefix text ≡ Some found → drop (length prefix) text ≡ found

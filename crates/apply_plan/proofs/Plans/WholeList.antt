@@ -9,7 +9,7 @@ use Rattle.std.proofs.lemmas.List.Folds.{list_any-append}
 use Rattle.serde_json.specs.Data.{Data, Items}
 use Rattle.apply_plan.specs.declared.plan.plan_error.PlanError.{PlanError}
 use Rattle.apply_plan.specs.declared.plan.plan_error.PlanError.TheVariants.{BadChange, BadActions, BadAddress, Duplicate}
-use Rattle.apply_plan.specs.Json.{list_of}
+use Rattle.apply_json.specs.Tree.{list_of}
 use Rattle.apply_plan.specs.ListReading.{made_after}
 use Rattle.apply_plan.specs.Plan.Address.{relative_address}
 use Rattle.apply_plan.specs.Plan.Element.{Element, element_of}

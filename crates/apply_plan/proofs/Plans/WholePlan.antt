@@ -7,12 +7,12 @@ use Rattle.serde_json.specs.View.{items_view}
 use Rattle.apply_plan.specs.declared.plan.header.Header as in_tree
 use Rattle.apply_plan.specs.declared.plan.plan_error.PlanError.{PlanError}
 use Rattle.apply_plan.specs.declared.plan.plan_error.PlanError.TheVariants.{TooMany}
-use Rattle.apply_plan.specs.Json.{list_of}
+use Rattle.apply_json.specs.Tree.{list_of}
 use Rattle.apply_plan.specs.Plan.Header.{header_of}
 use Rattle.apply_plan.specs.Plan.HeaderView.{header_view}
 use Rattle.apply_plan.specs.Plan.ResourceChange.{ResourceChange}
 use Rattle.apply_plan.specs.Plan.SavedPlan.{changes_of, max_changes, plan_of_tree}
-use Rattle.apply_plan.proofs.Trees.{items_len-view}
+use Rattle.apply_json.proofs.Trees.{items_len-view}
 
 -- too many elements
 pub too_many : (tree : Data) (header : in_tree.Header) → Some (header_view header) ≡ header_of tree → max_changes < length header.elements.now → plan_of_tree tree ≡ Err TooMany

@@ -7,7 +7,7 @@ use Rattle.apply_plan.specs.declared.script.outcome.Outcome.{Outcome}
 use Rattle.apply_plan.specs.declared.script.script_error.ScriptError.{ScriptError}
 use Rattle.apply_plan.specs.declared.script.script_error.ScriptError.TheVariants.{BadShape, UnknownChange, Duplicate}
 use Rattle.apply_plan.specs.declared.script.tree_entry.TreeEntry.{TreeEntry}
-use Rattle.apply_plan.specs.Json.{◌>>=◌}
+use Rattle.apply_json.specs.Tree.{◌>>=◌}
 use Rattle.apply_plan.specs.Plan.ResourceChange.{ResourceChange}
 use Rattle.apply_plan.specs.Results.{unless_refused}
 use Rattle.apply_plan.specs.Script.Entry.{Entry, entry_of}

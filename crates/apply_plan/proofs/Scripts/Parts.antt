@@ -5,7 +5,7 @@ use Rattle.std.proofs.lemmas.List.{append-nil, drop_all, map-append}
 use Rattle.serde_json.specs.Data.{Data}
 use Rattle.serde_json.specs.View.{view, items_view}
 use Rattle.serde_json.specs.declared.value.Value.{Value}
-use Rattle.apply_plan.specs.Json.{◌>>=◌, list_of}
+use Rattle.apply_json.specs.Tree.{◌>>=◌, list_of}
 use Rattle.apply_plan.specs.Script.Entry.{all_some}
 
 -- the parts that the values are

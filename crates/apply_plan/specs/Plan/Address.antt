@@ -1,7 +1,7 @@
 -- Addresses of resources, and what is read off them.
 use Rattle.std.specs.Prelude.{ℕ, List, length, drop, codes, nat_eq, if◌then◌else◌, Option, Some, None, ◌==◌}
 use Rattle.std.specs.List.{starts_with, before_first}
-use Rattle.apply_plan.specs.Json.{◌>>=◌, is_empty, unless_empty}
+use Rattle.apply_json.specs.Tree.{◌>>=◌, is_empty, unless_empty}
 
 -- what follows the prefix in the text; none where the text does not begin with it
 abbrev pub after_prefix : List ℕ → List ℕ → Option (List ℕ)

@@ -8,7 +8,7 @@ use Rattle.apply_plan.specs.declared.plan.key.Key.{Key}
 use Rattle.apply_plan.specs.declared.plan.key.Key.TheVariants as key
 use Rattle.apply_plan.specs.declared.plan.mode.Mode.{Mode}
 use Rattle.apply_plan.specs.declared.plan.mode.Mode.TheVariants.{Managed, DataSource}
-use Rattle.apply_plan.specs.Json.{◌>>=◌, unless_empty, member_of, text_of, non_empty_text_of, text_or}
+use Rattle.apply_json.specs.Tree.{◌>>=◌, unless_empty, member_of, text_of, non_empty_text_of, text_or}
 
 pub record Element : Type 0 where
   pub address : List ℕ

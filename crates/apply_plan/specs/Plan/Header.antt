@@ -2,7 +2,7 @@
 use Rattle.std.specs.Prelude.{ℕ, List, codes, nat_eq, if◌then◌else◌, Option, Some, None}
 use Rattle.std.specs.List.{starts_with}
 use Rattle.serde_json.specs.Data.{Data, Items}
-use Rattle.apply_plan.specs.Json.{◌>>=◌, member_of, text_of, text_or, items_or_empty}
+use Rattle.apply_json.specs.Tree.{◌>>=◌, member_of, text_of, text_or, items_or_empty}
 
 pub record Header : Type 0 where
   -- the version of Terraform that made the plan

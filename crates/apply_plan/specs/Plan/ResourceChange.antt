@@ -5,7 +5,7 @@ use Rattle.std.specs.Str.{bytes_eq}
 use Rattle.apply_plan.specs.declared.plan.key.Key.{Key}
 use Rattle.apply_plan.specs.declared.plan.mode.Mode.{Mode}
 use Rattle.apply_plan.specs.declared.plan.step_kind.StepKind.{StepKind}
-use Rattle.apply_plan.specs.Json.{is_empty}
+use Rattle.apply_json.specs.Tree.{is_empty}
 
 pub record ResourceChange : Type 0 where
   pub address : List ℕ

@@ -14,8 +14,8 @@ use Rattle.apply_plan.specs.Plan.Header.{header_of}
 use Rattle.apply_plan.specs.Plan.ResourceChange.{ResourceChange}
 use Rattle.apply_plan.specs.Plan.Steps.{steps_of_actions}
 use Rattle.apply_plan.specs.Results.{◌>>=◌, all_or_first, each_with_earlier, or_refuse}
-use Rattle.apply_plan.specs.Json.{list_of}
-use Rattle.apply_plan.specs.Json.Reading.{of_bytes}
+use Rattle.apply_json.specs.Tree.{list_of}
+use Rattle.apply_plan.specs.Bytes.{of_bytes}
 
 pub record SavedPlan : Type 0 where
   -- the version of Terraform that made it

@@ -3,7 +3,7 @@ use Rattle.std.specs.Prelude.{List, [], ◌∷◌, codes, ◌&&◌, if◌then◌
 use Rattle.serde_json.specs.Data.{Data, Items, no_items, item}
 use Rattle.apply_plan.specs.declared.plan.step_kind.StepKind.{StepKind}
 use Rattle.apply_plan.specs.declared.plan.step_kind.StepKind.TheVariants.{Create, Update, Delete, Read}
-use Rattle.apply_plan.specs.Json.{is_word}
+use Rattle.apply_json.specs.Tree.{is_word}
 
 -- of a single action
 abbrev pub steps_alone : Data → Option (List StepKind)

@@ -8,7 +8,7 @@ use Rattle.apply_plan.specs.declared.script.ending.Ending.TheVariants.{Done, Fai
 use Rattle.apply_plan.specs.declared.script.outcome.Outcome.{Outcome}
 use Rattle.apply_plan.specs.declared.script.provisioner.Provisioner.{Provisioner}
 use Rattle.apply_plan.specs.Script.Outcome.{is_failed}
-use Rattle.apply_plan.specs.Json.{◌>>=◌, unless_empty, items_or_empty, list_of, member_of, non_empty_text_of, text_of, text_or}
+use Rattle.apply_json.specs.Tree.{◌>>=◌, unless_empty, items_or_empty, list_of, member_of, non_empty_text_of, text_of, text_or}
 
 pub record Entry : Type 0 where
   pub address : List ℕ

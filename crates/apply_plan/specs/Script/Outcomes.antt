@@ -8,9 +8,9 @@ use Rattle.serde_json.specs.Find.{as_array}
 use Rattle.apply_plan.specs.declared.script.outcome.Outcome.{Outcome}
 use Rattle.apply_plan.specs.declared.script.script_error.ScriptError.{ScriptError}
 use Rattle.apply_plan.specs.declared.script.script_error.ScriptError.TheVariants.{TooLarge, NotJson, BadShape, UnknownChange, Duplicate}
-use Rattle.apply_plan.specs.Json as json
-use Rattle.apply_plan.specs.Json.{list_of, member_of}
-use Rattle.apply_plan.specs.Json.Reading.{of_bytes}
+use Rattle.apply_json.specs.Tree as json
+use Rattle.apply_json.specs.Tree.{list_of, member_of}
+use Rattle.apply_plan.specs.Bytes.{of_bytes}
 use Rattle.apply_plan.specs.Plan.ResourceChange.{ResourceChange}
 use Rattle.apply_plan.specs.Plan.SavedPlan.{SavedPlan}
 use Rattle.apply_plan.specs.Results.{◌>>=◌, all_or_first, each_with_earlier, or_refuse, unless_refused}

@@ -17,7 +17,7 @@ use Rattle.apply_plan.specs.declared.script.tree_ending.TreeEnding.TheVariants a
 use Rattle.apply_plan.specs.declared.script.tree_entry.TreeEntry.{TreeEntry}
 use Rattle.apply_plan.specs.declared.script.tree_provisioner.TreeProvisioner.{TreeProvisioner}
 use Rattle.apply_plan.specs.declared.script.tree_step.TreeStep.{TreeStep}
-use Rattle.apply_plan.specs.Json.{◌>>=◌, member_of, text_of, text_or, unless_empty}
+use Rattle.apply_json.specs.Tree.{◌>>=◌, member_of, text_of, text_or, unless_empty}
 use Rattle.apply_plan.specs.Script.Entry.{Entry}
 
 abbrev pub diag_view : TreeDiag → Diag

@@ -6,7 +6,7 @@ ghost use Rattle.apply_plan.specs.Plan.Action.{steps_of_action};
 ghost use Rattle.apply_plan.specs.Plan.Steps.{steps_alone, steps_of_actions, steps_together};
 
 use crate::plan::step_kind::StepKind;
-use crate::tree::members::is_text;
+use apply_json::members::is_text;
 use serde_json::Value;
 
 /// What is to be done to an object (JSON Output Format, "Change Representation", `actions`).

@@ -5,10 +5,10 @@ ghost use Rattle.std.specs.Option.{option_copied};
 ghost use Rattle.serde_json.specs.View.{view};
 ghost use Rattle.apply_plan.specs.Plan.Element.{element_of, hides_id, is_true, key_of, mode_named, planned_change_of, prior_id_of};
 ghost use Rattle.apply_plan.specs.Plan.ElementView.{element_view, key_view, planned_view};
-ghost use Rattle.apply_plan.specs.Json.{member_of};
+ghost use Rattle.apply_json.specs.Tree.{member_of};
 
 use crate::plan::mode::Mode;
-use crate::tree::members::{member, non_empty, non_empty_text_member, text_member, text_member_or};
+use apply_json::members::{member, non_empty, non_empty_text_member, text_member, text_member_or};
 use serde_json::Value;
 
 /// An instance key that the tree holds.

@@ -6,7 +6,7 @@ ghost use Rattle.serde_json.specs.View.{view};
 ghost use Rattle.apply_plan.specs.Plan.Header.{header_of};
 ghost use Rattle.apply_plan.specs.Plan.HeaderView.{header_view};
 
-use crate::tree::members::{array_or_empty, member, text_member, text_member_or};
+use apply_json::members::{array_or_empty, member, text_member, text_member_or};
 use serde_json::Value;
 
 /// The version that stands for one that a plan does not give.

@@ -4,18 +4,19 @@
 ghost use Rattle.std.specs.Prelude.{◌≡◌, ◌≤◌, length, vec_len, IfOk};
 ghost use Rattle.std.specs.List.{list_any};
 ghost use Rattle.serde_json.specs.View.{items_view};
-ghost use Rattle.apply_plan.specs.Json.{list_of};
+ghost use Rattle.apply_json.specs.Tree.{list_of};
 ghost use Rattle.apply_plan.specs.Plan.SavedPlan.{changes_of, max_changes, plan_of};
 ghost use Rattle.apply_plan.specs.Plan.PlannedView.{planned_view};
 ghost use Rattle.apply_plan.specs.Plan.ResourceChange.{is_same_object};
 ghost use Rattle.apply_plan.specs.Results.{Gives};
 
+use crate::bytes::MAX_BYTES;
 use crate::plan::Plan;
 use crate::plan::change::Change;
 use crate::plan::plan_error::PlanError;
 use crate::plan::planned::Planned;
 use crate::plan::reading::plan_of_value;
-use crate::tree::parsing::{JsonFault, parse};
+use apply_json::{JsonFault, parse};
 use serde_json::Value;
 use std::alloc::Global;
 
@@ -55,7 +56,7 @@ pub fn changes_of(alloc: Global, elements: &[Value]) -> Result<Vec<Change>, Plan
 pub fn read_plan(alloc: Global, bytes: &[u8]) -> Result<Plan, PlanError>
     ensures { Gives PlanError.Memory (λ plan. plan) result (plan_of bytes.now) }
 {
-    match parse(alloc, bytes) {
+    match parse(alloc, bytes, MAX_BYTES) {
         Ok(tree) => plan_of_value(alloc, &tree),
         Err(JsonFault::TooLarge) => Err(PlanError::TooLarge),
         Err(JsonFault::NotJson) => Err(PlanError::NotJson),

@@ -3,21 +3,23 @@
 ghost use Rattle.std.specs.Prelude.{◌≡◌, ◌≤◌, length, vec_len, IfOk, Some};
 ghost use Rattle.serde_json.specs.Events.{items_len};
 ghost use Rattle.serde_json.specs.View.{view, items_view};
-ghost use Rattle.apply_plan.specs.Json.{list_of, max_bytes};
+ghost use Rattle.apply_json.specs.Tree.{list_of};
+ghost use Rattle.apply_plan.specs.Bytes.{max_bytes};
 ghost use Rattle.apply_plan.specs.Plan.Header.{Header as TopLevel, header_of};
 ghost use Rattle.apply_plan.specs.Plan.SavedPlan.{changes_of, max_changes, plan_of, plan_of_tree};
 ghost use Rattle.apply_plan.specs.Results.{Gives};
 
+use crate::bytes::MAX_BYTES;
 use crate::plan::Plan;
 use crate::plan::change::Change;
 use crate::plan::header::Header;
 use crate::plan::object_id::ObjectId;
 use crate::plan::plan_error::PlanError;
+use crate::plan::plan_shape::PlanShape;
 use crate::plan::planned::Planned;
 use crate::plan::seen_objects::SeenObjects;
 use crate::text::Text;
-use crate::tree::parsing::{JsonFault, parse_trimmed};
-use crate::tree::shape::Shape;
+use apply_json::{JsonFault, Scratch, parse_trimmed};
 use serde_json::Value;
 use std::alloc::Global;
 
@@ -73,7 +75,8 @@ pub fn read_plan(alloc: Global, bytes: &[u8]) -> Result<Plan, PlanError>
     ensures defined { Gives PlanError.Memory (λ plan. plan) result (plan_of bytes.now) }
     ensures memory { result ≡ Err PlanError.Memory → length bytes.now ≤ max_bytes }
 {
-    match parse_trimmed(alloc, bytes, Shape::Plan) {
+    let mut scratch = Scratch::new(alloc);
+    match parse_trimmed(alloc, &mut scratch, bytes, MAX_BYTES, PlanShape::Plan) {
         Ok(tree) => plan_of_value(alloc, &tree),
         Err(JsonFault::TooLarge) => Err(PlanError::TooLarge),
         Err(JsonFault::NotJson) => Err(PlanError::NotJson),

@@ -3,22 +3,25 @@
 ghost use Rattle.std.specs.Prelude.{◌≡◌, ◌<◌, ◌≤◌, [], find, length, option_map, IfOk};
 ghost use Rattle.std.specs.List.{enumerate_from};
 ghost use Rattle.serde_json.specs.View.{view, items_view};
-ghost use Rattle.apply_plan.specs.Json.{list_of, max_bytes};
+ghost use Rattle.apply_json.specs.Tree.{list_of};
+ghost use Rattle.apply_plan.specs.Bytes.{max_bytes};
 ghost use Rattle.apply_plan.specs.Results.{Gives};
 ghost use Rattle.apply_plan.specs.Plan.SeenObjects.{is_of};
 ghost use Rattle.apply_plan.specs.Script.ChangeNumbers.{number_of};
 ghost use Rattle.apply_plan.specs.Script.NextEntry.{entry_beside};
 ghost use Rattle.apply_plan.specs.Script.Outcomes.{by_number, elements_of, script_of, script_of_entries, script_of_tree};
 
+use crate::bytes::MAX_BYTES;
 use crate::plan::Plan;
 use crate::plan::object_id::ObjectId;
 use crate::script::Script;
 use crate::script::change_numbers::ChangeNumbers;
 use crate::script::script_error::ScriptError;
+use crate::script::script_shape::ScriptShape;
 use crate::script::step_outcomes::StepOutcomes;
 use crate::script::tree_entry::TreeEntry;
-use crate::tree::members::member;
-use crate::tree::parsing::{JsonFault, parse};
+use apply_json::members::member;
+use apply_json::{JsonFault, Scratch, parse_trimmed};
 use serde_json::Value;
 use std::alloc::{AllocError, Global};
 
@@ -34,7 +37,8 @@ pub fn read_script(alloc: Global, bytes: &[u8], plan: &Plan) -> Result<Script, S
         (script_of plan.now bytes.now) }
     ensures memory { result ≡ Err ScriptError.Memory → length bytes.now ≤ max_bytes }
 {
-    match parse(alloc, bytes) {
+    let mut scratch = Scratch::new(alloc);
+    match parse_trimmed(alloc, &mut scratch, bytes, MAX_BYTES, ScriptShape::Script) {
         Ok(tree) => script_of_value(alloc, &tree, plan),
         Err(JsonFault::TooLarge) => Err(ScriptError::TooLarge),
         Err(JsonFault::NotJson) => Err(ScriptError::NotJson),

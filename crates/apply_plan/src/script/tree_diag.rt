@@ -5,7 +5,7 @@ ghost use Rattle.serde_json.specs.View.{view};
 ghost use Rattle.apply_plan.specs.Script.Entry.{diag_from, diag_or_none};
 ghost use Rattle.apply_plan.specs.Script.TreeView.{diag_view};
 
-use crate::tree::members::{text_member, text_member_or};
+use apply_json::members::{text_member, text_member_or};
 use serde_json::Value;
 
 /// A diagnostic that the tree holds.

@@ -8,7 +8,7 @@ ghost use Rattle.apply_plan.specs.Script.Outcome.{is_failed};
 ghost use Rattle.apply_plan.specs.Script.TreeView.{diag_view, ending_view};
 
 use crate::script::tree_diag::TreeDiag;
-use crate::tree::members::{member, non_empty, text_member_or};
+use apply_json::members::{member, non_empty, text_member_or};
 use serde_json::Value;
 
 /// An ending that the tree holds.

@@ -10,7 +10,7 @@ ghost use Rattle.apply_plan.specs.Script.TreeView.{provisioner_view, texts_view}
 use crate::script::texts::MAX_OUTPUTS;
 use crate::script::tree_diag::TreeDiag;
 use crate::script::tree_step::seconds;
-use crate::tree::members::{array_or_empty, member, non_empty_text_member};
+use apply_json::members::{array_or_empty, member, non_empty_text_member};
 use serde_json::Value;
 use std::alloc::{AllocError, Global};
 

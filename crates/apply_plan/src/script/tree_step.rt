@@ -13,7 +13,7 @@ use crate::script::outcome::MAX_SECONDS;
 use crate::script::provisioners::MAX_PROVISIONERS;
 use crate::script::tree_ending::TreeEnding;
 use crate::script::tree_provisioner::TreeProvisioner;
-use crate::tree::members::{array_or_empty, member};
+use apply_json::members::{array_or_empty, member};
 use serde_json::Value;
 use std::alloc::{AllocError, Global};
 

@@ -1,6 +1,11 @@
-use Rattle.std.proofs.Common.{◌≢◌, rules}
-use Rattle.std.proofs.lemmas.List.Elements.{All-more}
+use Rattle.std.proofs.Common.{◌≤◌, length, arith, refl}
+use Rattle.apply_check.proofs.Feeds.{before_feed}
 use Rattle.apply_check.proofs.line_reader.len_before_feed.Goals as goal
 
-pub loop-len-preserved : goal.loop-len-preserved
-loop-len-preserved c = (search rules, All-more (λ byte. byte ≢ 10) _ _ 0 (search rules) c.loop-len.invariant.1 (search rules))
+pub returns-in-Some-clause-before : goal.returns-in-Some-clause-before
+returns-in-Some-clause-before c =
+    let found = c.in-Some.ensures in
+    before_feed c.args.bytes.now c.in-Some.len (omega (arith, found.0.high)) found.0.before
+
+pub returns-in-None-clause-before : goal.returns-in-None-clause-before
+returns-in-None-clause-before c = before_feed c.args.bytes.now (length c.args.bytes.now) (omega arith) c.in-None.ensures

@@ -1,6 +1,6 @@
 use Rattle.std.proofs.Common.{◌≡◌, drop, length}
 use Rattle.serde_json.specs.View.{items_view}
-use Rattle.apply_plan.specs.Json.{list_of}
+use Rattle.apply_json.specs.Tree.{list_of}
 use Rattle.apply_plan.specs.ListReading.{made_after}
 use Rattle.apply_plan.specs.Plan.NextChange.{change_after}
 use Rattle.apply_plan.specs.Plan.SavedPlan.{changes_of}

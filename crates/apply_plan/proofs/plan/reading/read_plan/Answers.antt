@@ -1,5 +1,5 @@
 use Rattle.serde_json.specs.View.{view}
-use Rattle.apply_plan.proofs.Trimmed.Plans.{of_trimmed}
+use Rattle.apply_plan.proofs.Plans.Trimmed.{of_trimmed}
 use Rattle.apply_plan.proofs.plan.reading.read_plan.Goals as goal
 
 pub returns-in-Ok-clause-defined : goal.returns-in-Ok-clause-defined

@@ -1,0 +1,22 @@
+-- What a parsed text says of its bytes.
+use Rattle.std.proofs.Common.{◌≡◌, ℕ, suc, true, false, List, [], ◌∷◌, length, Some, None, refl, ap, ⊎_elim}
+use Rattle.std.specs.Str.{IsUtf8, is_utf8}
+use Rattle.std.proofs.lemmas.Bool.{cases_Bool}
+use Rattle.std.proofs.lemmas.Str.{IsUtf8-from_is_utf8, is_utf8-from_IsUtf8}
+use Rattle.serde_json.specs.Data.{Data}
+use Rattle.serde_json.specs.Events.{items_len}
+use Rattle.serde_json.specs.Read.{read}
+use Rattle.serde_json.specs.View.{items_view}
+use Rattle.serde_json.specs.declared.value.Value.{Value}
+use Rattle.apply_json.specs.Tree.{tree_of}
+
+pub tree_is : (bytes : List ℕ) (tree : Data) → IsUtf8 bytes → read bytes ≡ Some tree → tree_of bytes ≡ Some tree
+tree_is bytes tree utf8 found = rw (is_utf8-from_IsUtf8 bytes utf8) found
+
+pub no_tree : (bytes : List ℕ) → (IsUtf8 bytes → read bytes ≡ None) → tree_of bytes ≡ None
+no_tree bytes refused =
+    ⊎_elim (λ (yes : is_utf8 bytes ≡ true). rw yes (refused (IsUtf8-from_is_utf8 bytes yes))) (λ (no : is_utf8 bytes ≡ false). rw no refl) (cases_Bool (is_utf8 bytes))
+
+pub items_len-view : (values : List Value) → items_len (items_view values) ≡ length values
+items_len-view [] = refl
+items_len-view (value ∷ values) = ap suc (items_len-view values)

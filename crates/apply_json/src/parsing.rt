@@ -1,0 +1,73 @@
+//! From bytes to a tree.
+
+ghost use Rattle.std.specs.Prelude.{◌≡◌, ◌≤◌, length, IfOk, IfErr, IsUtf8, Some};
+ghost use Rattle.serde_json.specs.View.{view};
+ghost use Rattle.apply_json.specs.Tree.{tree_of};
+ghost use Rattle.apply_json.specs.Parsed.{IsNoTree, IsTrimmedTree};
+
+use crate::json_fault::JsonFault;
+use crate::read_fault::ReadFault;
+use crate::shape::Shape;
+use crate::trimming::read_trimmed;
+use json::Scratch;
+use serde_json::Value;
+use simdutf8::basic::from_utf8;
+use std::alloc::Global;
+
+/// The text that the bytes are, of which there may be `most`.
+fn text_of(bytes: &[u8], most: usize) -> Result<&str, JsonFault>
+    ensures ok { IfOk result
+        (λ text. (text.now ≡ bytes.now) × (length bytes.now ≤ most) × IsUtf8 bytes.now) }
+    ensures err { IfErr result (λ fault. IsNoTree most fault bytes.now) }
+{
+    if bytes.len() > most {
+        return Err(JsonFault::TooLarge);
+    }
+    match from_utf8(bytes) {
+        Ok(text) => Ok(text),
+        Err(_) => Err(JsonFault::NotJson),
+    }
+}
+
+/// The tree that the bytes are, of which there may be `most`.
+///
+/// `Err` with `JsonFault::TooLarge` where there are more, else with `JsonFault::NotJson` where they are no JSON (RFC 8259)
+/// in UTF-8, or nest more than 127 deep; with `JsonFault::Memory` where memory is refused.
+pub fn parse(alloc: Global, bytes: &[u8], most: usize) -> Result<Value, JsonFault>
+    ensures ok { IfOk result
+        (λ tree. (length bytes.now ≤ most) × (tree_of bytes.now ≡ Some (view tree))) }
+    ensures err { IfErr result (λ fault. IsNoTree most fault bytes.now) }
+{
+    let text = text_of(bytes, most)?;
+    match Value::from_str(alloc, text) {
+        Ok(tree) => Ok(tree),
+        Err(error) => if error.is_memory() {
+            Err(JsonFault::Memory)
+        } else {
+            Err(JsonFault::NotJson)
+        },
+    }
+}
+
+/// The tree that the bytes are, without what nobody looks at in a value of that shape. It takes no memory for that, which is
+/// checked as the rest is. `scratch` grows to the length of the bytes, and may be lent to one read after the other. `Err` as
+/// `parse`.
+pub fn parse_trimmed<S: Shape>(
+    alloc: Global,
+    scratch: &mut Scratch,
+    bytes: &[u8],
+    most: usize,
+    shape: S,
+) -> Result<Value, JsonFault>
+    ensures ok { IfOk result
+        (λ tree. (length bytes.now ≤ most)
+        × IsTrimmedTree S.selection shape bytes.now (view tree)) }
+    ensures err { IfErr result (λ fault. IsNoTree most fault bytes.now) }
+{
+    let text = text_of(bytes, most)?;
+    match read_trimmed(alloc, scratch, text, shape) {
+        Ok(tree) => Ok(tree),
+        Err(ReadFault::NotJson) => Err(JsonFault::NotJson),
+        Err(ReadFault::Memory) => Err(JsonFault::Memory),
+    }
+}

@@ -1,5 +1,0 @@
--- Lemmas on trees without what nobody looks at.
-pub mod Items
-pub mod Lookups
-pub mod Members
-pub mod Plans

@@ -1,6 +1,0 @@
-use Rattle.std.proofs.Common.{rules}
-use Rattle.apply_plan.proofs.Trees.{no_tree}
-use Rattle.apply_plan.proofs.tree.parsing.text_of.Goals as goal
-
-pub returns-in-Err-clause-err : goal.returns-in-Err-clause-err
-returns-in-Err-clause-err c = (search rules, no_tree c.args.bytes.now (λ utf8. absurd (c.in-Err.ensures utf8)))
