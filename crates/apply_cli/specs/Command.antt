@@ -29,8 +29,8 @@ pub record HasApplied (given : Given) (options : Options) (before after : Sight)
   pub applied : WasApplied given options report before after
   pub alone : options.workers ≡ 1
       → applied.streamed.events ≡ worker_events
-        (record { plan = applied.plan; script = applied.script; hooks = given.hooks }) 0
-        (range_with_len 0 (length applied.plan.changes))
+      (record { plan = applied.plan; script = applied.script; hooks = given.hooks }) 0
+      (range_with_len 0 (length applied.plan.changes))
   pub told : (status ≡ 1) ↔ (0 < unfinished report.counts)
 
 -- all of the events, and a prefix of their stream

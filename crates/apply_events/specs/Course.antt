@@ -50,6 +50,7 @@ has_event_in events step = list_any (λ event. event.step == step.number) events
 abbrev pub time_in : Course → List Event → ℕ
 time_in course events = sum_by step_time (filter (has_event_in events) (begun (steps_of course.work course.change)))
 
--- when the change has ended so far: its begin and its span, less the times of the steps that still have an event to come
+-- when the change has ended so far: its begin and its span, less the times of the steps that still have an event to
+-- come
 abbrev pub ended_of : Course → List Event → ℕ
 ended_of course to_come = course.begin + span_of course.work course.change - time_in course to_come

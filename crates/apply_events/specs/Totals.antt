@@ -25,7 +25,8 @@ is_halted _ = false
 
 -- a step of that kind completes
 abbrev pub completes : SavedPlan → StepKind → Event → Bool
-completes plan kind event = is_complete event.what && option_map_or (is_kind kind) (slice_get (kinds_of plan event.change) event.step) false
+completes plan kind event =
+    is_complete event.what && option_map_or (is_kind kind) (slice_get (kinds_of plan event.change) event.step) false
 
 abbrev pub totals_of : SavedPlan → List Event → Counts
 totals_of plan events = record {

@@ -46,7 +46,8 @@ HasFailedInLanes Write work lanes start operation report before after =
     IsCutOffInLanes work lanes (stream_of work.plan work.script start operation) (before.failed + 1) report before after
 HasFailedInLanes Memory work lanes start operation report before after =
     DidNothing report before after
-    ⊎ IsCutOffInLanes work lanes (λ events. lines_of work.plan work.script start (as_written events)) before.failed report
+    ⊎ IsCutOffInLanes work lanes
+    (λ events. lines_of work.plan work.script start (as_written events)) before.failed report
     before after
 HasFailedInLanes Bus work lanes start operation report before after = ⊥
 HasFailedInLanes Workers work lanes start operation report before after = ⊥
@@ -65,7 +66,8 @@ pub record WasAppliedInLanes (given : Given) (lanes start : ℕ) (operation : Op
 
 -- the plan and the script are refused as they are with any options, else the number of lanes where it is out of range;
 -- the sink is as it was. Otherwise the run has ended in a fault
-abbrev pub WasRefusedInLanes : Given → (lanes start : ℕ) (operation : Operation) → Refusal → (before after : Sight) → Type 0
+abbrev pub WasRefusedInLanes : Given → (lanes start : ℕ) (operation : Operation) → Refusal
+    → (before after : Sight) → Type 0
 WasRefusedInLanes given lanes start operation (Plan refusal) before after =
     (options : Options) → WasRefused given options (Plan refusal) before after
 WasRefusedInLanes given lanes start operation (Script refusal) before after =

@@ -70,7 +70,8 @@ summary_text start latest operation counts = message_line (start + latest) (summ
 -- of events in the order in which they are written: the first line, and one for each, at the latest moment up to then
 abbrev pub lines_of : SavedPlan → Outcomes → (start : ℕ) → (written : List Event) → List ℕ
 lines_of plan script start written =
-    version_text plan start ++ flat_map (λ p. event_text plan script start (latest_of written (p.0 + 1)) p.1) (enumerate_from 0 written)
+    version_text plan start
+    ++ flat_map (λ p. event_text plan script start (latest_of written (p.0 + 1)) p.1) (enumerate_from 0 written)
 
 -- of events in the order in which they were taken: the lines of them as they are written, and the summary of what they
 -- completed, at the latest moment

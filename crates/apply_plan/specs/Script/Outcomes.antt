@@ -82,7 +82,8 @@ abbrev pub elements_of : Data → Option Items
 elements_of d = json.◌>>=◌ (member_of (codes "changes") d) as_array
 
 unfoldable pub script_of_tree : SavedPlan → Data → Result Outcomes ScriptError
-script_of_tree plan d = or_refuse (BadShape None) (elements_of d) >>= λ elements. script_of_entries plan (list_of elements)
+script_of_tree plan d =
+    or_refuse (BadShape None) (elements_of d) >>= λ elements. script_of_entries plan (list_of elements)
 
 -- the script that the bytes are, for the plan, or the first refusal
 unfoldable pub script_of : SavedPlan → List ℕ → Result Outcomes ScriptError

@@ -9,8 +9,8 @@ use Rattle.apply_bus.specs.Claims.{Drawing}
 use Rattle.apply_bus.specs.Items.{events}
 use Rattle.apply_run.specs.Stream.Fitting.{CanBeTold}
 
--- no number is left for the worker; the events taken of it are a prefix of what it reports for its numbers, and events of
--- the plan
+-- no number is left for the worker; the events taken of it are a prefix of what it reports for its numbers, and events
+-- of the plan
 pub record IsReconciled (work : Work) (taken : List Item) (worker : ℕ) (drawing : Drawing) : Type 0 where
   pub worker_is : drawing.worker ≡ worker
   pub met_none : drawing.met_none ≡ true

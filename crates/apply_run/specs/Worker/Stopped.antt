@@ -20,8 +20,8 @@ abbrev pub is_closed : SenderEnd → Bool
 is_closed (Closed closed) = true
 is_closed (Open tx) = false
 
--- the worker of these claims and of this bus has sent a prefix of the events of the changes that it drew, each an event of
--- the plan; where it closed its sender, it has met the end of the changes and sent all of their events
+-- the worker of these claims and of this bus has sent a prefix of the events of the changes that it drew, each an event
+-- of the plan; where it closed its sender, it has met the end of the changes and sent all of their events
 pub record IsStoppedWorker (work : Work) (claims : ClaimsName) (bus : bus.BusName) (worker : ℕ)
     (stopped : StoppedWorker) : Type 0 where
   pub drawer_claims : stopped.drawer.claims ≡ claims
