@@ -20,6 +20,10 @@ fn errors_warnings_and_halts_are_notes(rt: HostRuntime) {
     is_note(&rt, What::Progress(10), false);
     is_note(&rt, What::Complete(11), false);
     is_note(&rt, What::Errored(11), false);
+    is_note(&rt, What::ProvisionStart(0), false);
+    is_note(&rt, What::ProvisionOutput { prov: 0, line: 0 }, false);
+    is_note(&rt, What::ProvisionComplete(0), false);
+    is_note(&rt, What::ProvisionErrored(0), false);
     is_note(&rt, What::ErrorNote, true);
     is_note(&rt, What::WarnNote, true);
     let phase = Phase::Pre;
