@@ -4,9 +4,11 @@ mod Durations
 mod Feeds
 mod Heads
 mod Hooks
+mod KeptTexts
 mod Latest
 mod LinesAdded
 mod Moments
+mod Progress
 mod Sending
 mod Texts
 mod WrittenOrder

@@ -1,7 +1,8 @@
 -- What `jiff` prints for a moment is the moment's text.
-use Rattle.std.proofs.Common.{◌≡◌, ℕ, ◌+◌, ◌-◌, ◌*◌, ◌/◌, ◌%◌, ◌<◌, ◌≤◌, ◌++◌, codes, ℤ, pos, negsuc, ◌+ℤ◌, ◌*ℤ◌, Some, refl, sym, ap, ◌∙◌, subst, arith, ⊎_elim}
+use Rattle.std.proofs.Common.{◌≡◌, ℕ, ◌+◌, ◌-◌, ◌*◌, ◌/◌, ◌%◌, ◌<◌, ◌≤◌, ◌++◌, [], codes, ℤ, pos, negsuc, ◌+ℤ◌, ◌*ℤ◌, Some, refl, sym, ap, ◌∙◌, subst, arith, ⊎_elim}
 use Rattle.std.proofs.lemmas.Bool.{cases_lt}
-use Rattle.jiff.specs.Words.{iso_datetime_text}
+use Rattle.std.specs.Option.{option_map_or}
+use Rattle.jiff.specs.Words.{date_text as iso_date_text, iso_datetime_text}
 use Rattle.jiff_core.specs.declared.civil.date.Date.{Date}
 use Rattle.jiff_core.specs.declared.civil.datetime.DateTime.{DateTime}
 use Rattle.jiff_core.specs.Calendar.{IsCivilDate, day_count}
@@ -13,7 +14,7 @@ use Rattle.jiff_core.proofs.DateLemmas.{civil}
 use Rattle.jiff_core.proofs.DateTimeLemmas.{civil_nanos-parts, time_nanos_bound}
 use Rattle.jiff_core.proofs.SignedLemmas.{signed_arith}
 use Rattle.apply_text.specs.Calendar.{date_of_day}
-use Rattle.apply_text.specs.Moment.{moment_text}
+use Rattle.apply_text.specs.Moment.{date_text, moment_text}
 use Rattle.apply_text.proofs.Dates.{date_at}
 
 -- a day and the nanoseconds of it, of a number of nanoseconds
@@ -53,3 +54,10 @@ text_is dt seconds is =
     let minute : seconds % 86400 / 60 % 60 ≡ dt.time.minute = omega (arith, split) in
     let second : seconds % 86400 % 60 ≡ dt.time.second = omega (arith, split) in
     rw (days, date.2, hour, minute, second) (simp (date.1, whole))
+
+pub date_text_is : (dt : DateTime) (seconds : ℕ) → civil_nanos dt ≡ pos (seconds * 1000000000) → iso_date_text dt.date ≡ option_map_or date_text (date_of_day (seconds / 86400)) []
+date_text_is dt seconds is =
+    let day = parts (epoch_day dt.date) (time_nanos dt.time) (seconds * 1000000000) (sym is ∙ civil_nanos-parts dt) (time_nanos_bound dt.time) in
+    let date = date_is dt.date day.0 day.1 in
+    let days : seconds / 86400 ≡ day.0 = omega (arith, day.2, time_nanos_bound dt.time) in
+    rw (days, date.2) (simp date.1)

@@ -3,6 +3,7 @@
 
 mod applied_step;
 mod display;
+mod kept;
 mod laws;
 mod line_buffer;
 mod lines;

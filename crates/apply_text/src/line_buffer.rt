@@ -1,18 +1,21 @@
 //! A buffer of lines.
 
-ghost use Rattle.std.specs.Prelude.{◌≡◌, ◌≤◌, ◌∷◌, ◌++◌, [], length, take, string_bytes, IfOk, IsOk, OnOk, OnErr};
+ghost use Rattle.std.specs.Prelude.{◌≡◌, ◌≤◌, ◌+◌, ◌∷◌, ◌++◌, [], length, take, string_bytes, IfOk, IsOk, OnOk, OnErr};
 ghost use Rattle.std.specs.Str.{IsUtf8};
 ghost use Rattle.json.specs.Print.{print};
 ghost use Rattle.apply_events.specs.Fits.{HasStep, latest as last_moment};
-ghost use Rattle.apply_text.specs.Lines.{event_text, summary_text, version_text};
+ghost use Rattle.apply_text.specs.AppliedStep.{message_of};
+ghost use Rattle.apply_text.specs.Lines.{event_text, message_line, summary_text, version_text};
+ghost use Rattle.apply_text.specs.Message.{progress_message};
 
 use crate::applied_step::AppliedStep;
 use crate::display::moment::Moment;
+use crate::kept::frames::ProgressFrames;
 use crate::messages::{put_event, put_summary, put_version};
 use crate::operation::Operation;
 use crate::start::Start;
-use apply_events::{Counts, Event};
-use apply_plan::{Plan, Script};
+use apply_events::{Counts, Event, What};
+use apply_plan::{Change, Plan, Script, StepKind};
 use json::Writer;
 use std::alloc::{AllocError, Global};
 use std::marker::Model;
@@ -20,6 +23,9 @@ use std::mem::replace;
 
 /// How long a line is that needs no further growth.
 const LINE_LEN: usize = 1_024;
+
+/// When a step first reports progress, in seconds.
+const FIRST_PROGRESS: u32 = 10;
 
 /// How long the texts are that it may be put together of.
 const TEXT_LEN: usize = 256;
@@ -31,8 +37,10 @@ const TEXT_LEN: usize = 256;
 pub struct LineBuffer {
     alloc: Global,
     bytes: Vec<u8>,
-    // The texts that a message is put together of, one after the other.
+    // The texts that a message is put together of, one after the other, or a line of progress.
     scratch: String,
+    // What lines of progress have in common with those before them.
+    kept: ProgressFrames,
 }
 
 impl Model for LineBuffer {
@@ -55,6 +63,7 @@ impl LineBuffer {
             alloc,
             bytes: Vec::new(alloc),
             scratch: String::new(alloc),
+            kept: ProgressFrames::new(alloc),
         }
     }
 
@@ -67,6 +76,7 @@ impl LineBuffer {
             alloc,
             bytes: Vec::with_capacity(alloc, LINE_LEN)?,
             scratch: String::with_capacity(alloc, TEXT_LEN)?,
+            kept: ProgressFrames::new(alloc),
         })
     }
 
@@ -120,17 +130,13 @@ impl LineBuffer {
             (self.new ≡ self.old ++ event_text plan.now script.now start latest event.now) }
         ensures err { OnErr result (self.new ≡ self.old) }
     {
-        let moment = Moment::new(start, latest);
         let change = plan.change(event.change);
         let step = AppliedStep {
             change,
             kind: change.steps()[event.step as usize],
             outcome: script.outcome(event.change, event.step),
         };
-        let before = self.bytes.len();
-        let mut out = self.begin_line();
-        let written = put_event(&mut out, &mut self.scratch, &moment, step, event.what);
-        self.end_line(out, before, written)
+        self.push_step(start, latest, event.change, step, event.what)
     }
 
     /// Appends the last line of a stream: how much was completed (Machine-Readable UI, "Change Summary"). `Err` where
@@ -152,6 +158,71 @@ impl LineBuffer {
         let mut out = self.begin_line();
         let written = put_summary(&mut out, &mut self.scratch, &moment, operation, counts);
         self.end_line(out, before, written)
+    }
+
+    /// Appends the line of an event of a step of the change with that number. Of a line of progress that is not the step's
+    /// first, what it has in common with later ones is kept.
+    fn push_step(
+        &mut self,
+        start: Start,
+        latest: u64,
+        number: u32,
+        step: AppliedStep<'_>,
+        what: What,
+    ) -> Result<(), AllocError>
+        requires { latest ≤ last_moment }
+        ensures ok { OnOk result
+            (self.new ≡ self.old ++ message_line (start + latest) (message_of step.entry what)) }
+        ensures err { OnErr result (self.new ≡ self.old) }
+    {
+        match what {
+            What::Progress(seconds) if seconds > FIRST_PROGRESS => {
+                self.push_progress(start, latest, number, step.change, step.kind, seconds)
+            }
+            what => self.push_message(start, latest, step, what),
+        }
+    }
+
+    /// Appends the line of an event of a step, written token by token.
+    fn push_message(
+        &mut self,
+        start: Start,
+        latest: u64,
+        step: AppliedStep<'_>,
+        what: What,
+    ) -> Result<(), AllocError>
+        requires { latest ≤ last_moment }
+        ensures ok { OnOk result
+            (self.new ≡ self.old ++ message_line (start + latest) (message_of step.entry what)) }
+        ensures err { OnErr result (self.new ≡ self.old) }
+    {
+        let moment = Moment::new(start, latest);
+        let before = self.bytes.len();
+        let mut out = self.begin_line();
+        let written = put_event(&mut out, &mut self.scratch, &moment, step, what);
+        self.end_line(out, before, written)
+    }
+
+    /// Appends the line of a step's progress, put together of what is kept.
+    fn push_progress(
+        &mut self,
+        start: Start,
+        latest: u64,
+        number: u32,
+        change: &Change,
+        step: StepKind,
+        seconds: u32,
+    ) -> Result<(), AllocError>
+        requires { latest ≤ last_moment }
+        ensures ok { OnOk result (self.new
+            ≡ self.old ++ message_line (start + latest) (progress_message change.now step seconds)) }
+        ensures err { OnErr result (self.new ≡ self.old) }
+    {
+        let moment = start.seconds() + latest;
+        self.kept
+            .put_line(&mut self.scratch, change, step, number, moment, seconds)?;
+        self.bytes
+            .extend_from_slice(self.scratch.as_str().as_bytes())
     }
 
     /// A writer behind the lines, which it takes along.

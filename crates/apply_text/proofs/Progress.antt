@@ -1,0 +1,99 @@
+-- The pieces of a line that tells of a step's progress are its line.
+use Rattle.std.proofs.Common.{◌≡◌, ℕ, zero, suc, ◌<◌, List, [], ◌∷◌, ◌++◌, codes, decimal, Some, None, false, refl, sym, ap, ap₂, ◌∙◌, append_assoc, arith}
+use Rattle.std.specs.Fmt.{digit_glyph, digits, digits_onto}
+use Rattle.std.proofs.lemmas.Grind.{common_steps, flat_map-append}
+use Rattle.json.specs.Print.{escape, escape_byte, quoted}
+use Rattle.json.proofs.OnLiterals.{json_on_literals}
+use Rattle.serde_json.specs.Data.{Data}
+use Rattle.serde_json.specs.Written.{compact_text}
+use Rattle.apply_plan.specs.declared.plan.step_kind.StepKind.{StepKind}
+use Rattle.apply_plan.specs.declared.plan.step_kind.StepKind.TheVariants.{Create, Update, Delete, Read}
+use Rattle.apply_plan.specs.Plan.ResourceChange.{ResourceChange}
+use Rattle.apply_text.specs.Elapsed.{elapsed_of}
+use Rattle.apply_text.specs.Kept.{KeptStep, back_text, front_text, kept_step}
+use Rattle.apply_text.specs.Lines.{message_line, message_object, typed}
+use Rattle.apply_text.specs.Message.{progress_message}
+use Rattle.apply_text.specs.Moment.{moment_text}
+use Rattle.apply_text.specs.Objects.{hook_object, resource_object}
+use Rattle.apply_text.specs.Words.{action_word, still_word}
+
+joined : (xs ys : List ℕ) → escape (xs ++ ys) ≡ escape xs ++ escape ys
+joined xs ys = flat_map-append escape_byte xs ys
+
+-- ---- numbers and words stand as they are
+
+in_digit : (d : ℕ) → d < 10 → escape_byte (digit_glyph false d) ≡ digit_glyph false d ∷ []
+unfolding escape_byte
+in_digit d few = grind (arith, common_steps)
+
+in_digits : (k n : ℕ) (digits : List ℕ) → escape digits ≡ digits → escape (digits_onto k 10 false n digits) ≡ digits_onto k 10 false n digits
+in_digits zero n digits same = same
+in_digits (suc k) n digits same = grind (arith, common_steps, in_digits k, in_digit)
+
+in_decimal : (n : ℕ) → escape (decimal n) ≡ decimal n
+unfolding digits
+in_decimal n = in_digits 64 n [] refl
+
+in_action : (step : StepKind) → quoted (action_word step) ≡ 34 ∷ (action_word step ++ 34 ∷ [])
+unfolding json_on_literals
+in_action Create = refl
+in_action Update = refl
+in_action Delete = refl
+in_action Read = refl
+
+-- ---- objects
+
+-- the object `hook`, and what stands behind it
+hook_is : (change : ResourceChange) (step : StepKind) (seconds : ℕ) (rest : List ℕ)
+    → compact_text (hook_object change step (Some seconds) None) ++ rest
+    ≡ codes "{\"action\":" ++ (quoted (action_word step) ++ (codes ",\"elapsed_seconds\":" ++ (decimal seconds ++ (codes ",\"resource\":" ++ (compact_text (resource_object change) ++ (codes "}" ++ rest))))))
+unfolding hook_object json_on_literals
+hook_is change step seconds rest = simp append_assoc
+
+message_is : (text moment : List ℕ) (body : Data)
+    → compact_text (message_object (codes "info") text moment (typed (codes "hook") body (codes "apply_progress")))
+    ≡ codes "{\"@level\":\"info\",\"@message\":" ++ (quoted text ++ (codes ",\"@module\":\"terraform.ui\",\"@timestamp\":" ++ (quoted moment ++ (codes ",\"hook\":" ++ (compact_text body ++ codes ",\"type\":\"apply_progress\"}")))))
+unfolding message_object json_on_literals
+message_is text moment body = refl
+
+in_elapsed : (seconds : ℕ) → escape (elapsed_of seconds) ≡ elapsed_of seconds
+unfolding json_on_literals
+in_elapsed seconds = grind (arith, common_steps, joined, in_decimal)
+
+-- what is said
+said : (front elapsed text : List ℕ) → escape elapsed ≡ elapsed → text ≡ front ++ (elapsed ++ codes " elapsed]") → quoted text ≡ 34 ∷ (escape front ++ (elapsed ++ codes " elapsed]\""))
+unfolding json_on_literals
+said front elapsed text plain is =
+    ap quoted is
+    ∙ ap (λ t. 34 ∷ (t ++ 34 ∷ [])) (joined front (elapsed ++ codes " elapsed]") ∙ ap (λ t. escape front ++ t) (joined elapsed (codes " elapsed]") ∙ ap (λ e. e ++ codes " elapsed]") plain))
+    ∙ ap (λ t. 34 ∷ t) (append_assoc (escape front) (elapsed ++ codes " elapsed]") (34 ∷ []) ∙ ap (λ t. escape front ++ t) (append_assoc elapsed (codes " elapsed]") (34 ∷ [])))
+
+told : (address still elapsed : List ℕ) → address ++ codes ": " ++ (codes "Still " ++ still ++ codes "... [" ++ elapsed ++ codes " elapsed]") ≡ (address ++ (codes ": Still " ++ (still ++ codes "... ["))) ++ (elapsed ++ codes " elapsed]")
+told address still elapsed = simp append_assoc
+
+-- the pieces, one behind the other
+assembled : (front elapsed moment action seconds resource : List ℕ)
+    → (((codes "{\"@level\":\"info\",\"@message\":" ++ (34 ∷ front)) ++ (elapsed ++ codes " elapsed]\",\"@module\":\"terraform.ui\",\"@timestamp\":")) ++ moment) ++ (codes ",\"hook\":{\"action\":\"" ++ (action ++ (codes "\",\"elapsed_seconds\":" ++ (seconds ++ (codes "," ++ (codes "\"resource\":" ++ (resource ++ codes "},\"type\":\"apply_progress\"}\n")))))))
+    ≡ (codes "{\"@level\":\"info\",\"@message\":" ++ ((34 ∷ (front ++ (elapsed ++ codes " elapsed]\""))) ++ (codes ",\"@module\":\"terraform.ui\",\"@timestamp\":" ++ (moment ++ (codes ",\"hook\":" ++ (codes "{\"action\":" ++ ((34 ∷ (action ++ 34 ∷ [])) ++ (codes ",\"elapsed_seconds\":" ++ (seconds ++ (codes ",\"resource\":" ++ (resource ++ (codes "}" ++ codes ",\"type\":\"apply_progress\"}")))))))))))) ++ 10 ∷ []
+assembled front elapsed moment action seconds resource = simp append_assoc
+
+pub pieces_are : (change : ResourceChange) (step : StepKind) (moment seconds : ℕ)
+    → ((front_text change.address step ++ (elapsed_of seconds ++ codes " elapsed]\",\"@module\":\"terraform.ui\",\"@timestamp\":")) ++ quoted (moment_text moment)) ++ (codes ",\"hook\":{\"action\":\"" ++ (action_word step ++ (codes "\",\"elapsed_seconds\":" ++ (decimal seconds ++ (codes "," ++ back_text change)))))
+    ≡ message_line moment (progress_message change step seconds)
+unfolding front_text back_text
+pieces_are change step moment seconds =
+    let front = change.address ++ (codes ": Still " ++ (still_word step ++ codes "... [")) in
+    let elapsed = elapsed_of seconds in
+    let text = (progress_message change step seconds).text in
+    let body = hook_object change step (Some seconds) None in
+    let is : text ≡ front ++ (elapsed ++ codes " elapsed]") = told change.address (still_word step) elapsed in
+    let time = quoted (moment_text moment) in
+    assembled (escape front) elapsed time (action_word step) (decimal seconds) (compact_text (resource_object change))
+    ∙ sym (ap (λ t. t ++ 10 ∷ []) (message_is text (moment_text moment) body
+    ∙ ap (λ t. codes "{\"@level\":\"info\",\"@message\":" ++ t) (ap₂ (λ q b. q ++ (codes ",\"@module\":\"terraform.ui\",\"@timestamp\":" ++ (time ++ (codes ",\"hook\":" ++ b)))) (said front elapsed text (in_elapsed seconds) is)
+    (hook_is change step seconds (codes ",\"type\":\"apply_progress\"}") ∙ ap (λ a. codes "{\"action\":" ++ (a ++ (codes ",\"elapsed_seconds\":" ++ (decimal seconds ++ (codes ",\"resource\":" ++ (compact_text (resource_object change) ++ (codes "}" ++ codes ",\"type\":\"apply_progress\"}"))))))) (in_action step)))))
+
+-- what is kept of a change shows as the change does
+pub shown_line : (kept : KeptStep) (change : ResourceChange) (step : StepKind) (moment seconds : ℕ) → kept ≡ kept_step change step → message_line moment (progress_message kept.change kept.step seconds) ≡ message_line moment (progress_message change step seconds)
+unfolding hook_object resource_object
+shown_line kept change step moment seconds same = ap (λ (k : KeptStep). message_line moment (progress_message k.change k.step seconds)) same

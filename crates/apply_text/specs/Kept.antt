@@ -1,0 +1,63 @@
+-- Texts that stay the same from line to line, for private clauses.
+use Rattle.std.specs.Prelude.{ℕ, ◌/◌, ◌%◌, List, [], ◌∷◌, ◌++◌, codes, None}
+use Rattle.std.specs.Option.{option_map_or}
+use Rattle.json.specs.Print.{escape}
+use Rattle.serde_json.specs.Written.{compact_text}
+use Rattle.apply_plan.specs.declared.plan.key.Key.{Key}
+use Rattle.apply_plan.specs.declared.plan.mode.Mode.TheVariants.{Managed}
+use Rattle.apply_plan.specs.declared.plan.step_kind.StepKind.{StepKind}
+use Rattle.apply_plan.specs.Plan.ResourceChange.{ResourceChange}
+use Rattle.apply_text.specs.Calendar.{date_of_day}
+use Rattle.apply_text.specs.Moment.{date_text, two_digits}
+use Rattle.apply_text.specs.Objects.{resource_object}
+use Rattle.apply_text.specs.Words.{still_word}
+
+-- a text in JSON, but for the closing quote
+abbrev pub open_text : List ℕ → List ℕ
+open_text text = 34 ∷ escape text
+
+-- the date of a day, so many days after the start of 1970
+unfoldable pub open_date : ℕ → List ℕ
+open_date day = open_text (option_map_or date_text (date_of_day day) [])
+
+-- what stands behind the date of a moment at that second of its day, with the closing quote
+abbrev pub rest_of_day : ℕ → List ℕ
+rest_of_day second =
+    codes "T" ++ (two_digits (second / 3600) ++ (codes ":" ++ (two_digits (second / 60 % 60) ++ (codes ":" ++ (two_digits (second % 60) ++ codes "Z\"")))))
+
+-- ---- what the progress lines of a step have in common
+
+-- what a hook's message shows of a change
+abbrev pub shown : (address module_address kind_name name : List ℕ) → Key → ResourceChange
+shown address module_address kind_name name key = record {
+  address = address;
+  module_address = module_address;
+  mode = Managed;
+  kind_name = kind_name;
+  name = name;
+  key = key;
+  deposed = None;
+  prior_id = None;
+  steps = [];
+}
+
+-- a step, with what its messages show of its change
+pub record KeptStep : Type 0 where
+  pub change : ResourceChange
+  pub step : StepKind
+
+abbrev pub kept_step : ResourceChange → StepKind → KeptStep
+kept_step change step = record {
+  change = shown change.address change.module_address change.kind_name change.name change.key;
+  step = step;
+}
+
+-- a line up to the time in its message
+unfoldable pub front_text : (address : List ℕ) → StepKind → List ℕ
+front_text address step =
+    codes "{\"@level\":\"info\",\"@message\":" ++ open_text (address ++ (codes ": Still " ++ (still_word step ++ codes "... [")))
+
+-- a line from behind the seconds on
+unfoldable pub back_text : ResourceChange → List ℕ
+back_text change =
+    codes "\"resource\":" ++ (compact_text (resource_object change) ++ codes "},\"type\":\"apply_progress\"}\n")

@@ -1,0 +1,7 @@
+//! Texts that stay the same from line to line, so that a line is a few copies.
+
+pub mod frame;
+pub mod frames;
+pub mod kept_date;
+pub mod key;
+pub mod open_text;
