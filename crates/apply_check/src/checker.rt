@@ -25,8 +25,8 @@ use apply_json::{JsonFault, Scratch, parse_trimmed};
 use serde_json::Value;
 use std::alloc::Global;
 
-/// What is needed of the lines so far: it grows only with the number of addresses at which a step stands open, and with the
-/// longest line.
+/// What is needed of the lines so far: it grows only with the number of addresses at which a step stands open, and with
+/// the longest line.
 #[derive(Drop)]
 pub struct Checker {
     pub(crate) lines: u64,
