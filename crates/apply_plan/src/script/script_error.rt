@@ -19,8 +19,8 @@ pub enum ScriptError {
     /// The bytes are not JSON (RFC 8259) in UTF-8, or it nests more than 127 deep.
     #[error("the script is not JSON")]
     NotJson,
-    /// A member is missing or is not what it has to be, or a step that failed has an id, a warning or a provisioner beside
-    /// it: at the top level, or in the entry of that number.
+    /// A member is missing or is not what it has to be, or a step that failed has an id, a warning or a provisioner
+    /// beside it: at the top level, or in the entry of that number.
     #[error("{place} is malformed", place = Place(*.0))]
     BadShape(Option<u32>),
     /// The plan has no change with the entry's `address` and `deposed` key.

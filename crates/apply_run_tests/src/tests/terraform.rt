@@ -21,6 +21,7 @@ mod sensitive;
 mod update_in_place;
 
 use super::lanes::written_in_lanes;
+use super::lines::around_moment;
 use super::*;
 
 /// A plan, the provider's answers as a script, what the apply was for, and what Terraform printed.
