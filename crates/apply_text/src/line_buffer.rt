@@ -67,8 +67,8 @@ impl LineBuffer {
         }
     }
 
-    /// No line, and room for one of up to 1,024 bytes, whose texts have up to 256, without a further growth. `Err` where
-    /// memory is refused.
+    /// No line, and room for one of up to 1,024 bytes, whose texts have up to 256, without a further growth; only what lines
+    /// of progress have in common takes more, once for each step. `Err` where memory is refused.
     pub fn with_room(alloc: Global) -> Result<LineBuffer, AllocError>
         ensures { IfOk result (λ buffer. buffer ≡ []) }
     {
