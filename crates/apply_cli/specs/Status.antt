@@ -38,6 +38,9 @@ script_status_of (script.UnknownChange n) = 2
 script_status_of (script.Duplicate n) = 2
 script_status_of (script.TooManySteps n) = 2
 script_status_of (script.SecondsRange n) = 2
+script_status_of (script.TooManyProvisioners n) = 2
+script_status_of (script.TooMuchOutput n) = 2
+script_status_of (script.NotACreate n) = 2
 script_status_of script.Memory = 3
 
 abbrev pub refusal_status_of : Refusal → ℕ
