@@ -43,15 +43,15 @@ of_both [] es = refl
 of_both (d ∷ ds) es = ap (λ (l : List ℕ). line_of d ++ l) (of_both ds es) ∙ sym (append_assoc (line_of d) (flat_map line_of ds) (flat_map line_of es))
 
 one_event : (script : Outcomes) (seconds : ℕ) (e : Event) (found : Option ResourceChange)
-    → flat_map line_of (option_map_or (λ (change : ResourceChange). option_map_or (λ step. object_of seconds (event_message change step (outcome_of script e.change e.step).result e.what) ∷ []) (slice_get change.steps e.step) []) found [])
-    ≡ option_map_or (λ (change : ResourceChange). option_map_or (λ step. line_of (object_of seconds (event_message change step (outcome_of script e.change e.step).result e.what))) (slice_get change.steps e.step) []) found []
+    → flat_map line_of (option_map_or (λ (change : ResourceChange). option_map_or (λ step. object_of seconds (event_message change step (outcome_of script e.change e.step) e.what) ∷ []) (slice_get change.steps e.step) []) found [])
+    ≡ option_map_or (λ (change : ResourceChange). option_map_or (λ step. line_of (object_of seconds (event_message change step (outcome_of script e.change e.step) e.what))) (slice_get change.steps e.step) []) found []
 one_event script seconds e None = refl
 one_event script seconds e (Some change) = at (slice_get change.steps e.step)
   where
-    at : (step : Option StepKind) → flat_map line_of (option_map_or (λ step. object_of seconds (event_message change step (outcome_of script e.change e.step).result e.what) ∷ []) step [])
-        ≡ option_map_or (λ step. line_of (object_of seconds (event_message change step (outcome_of script e.change e.step).result e.what))) step []
+    at : (step : Option StepKind) → flat_map line_of (option_map_or (λ step. object_of seconds (event_message change step (outcome_of script e.change e.step) e.what) ∷ []) step [])
+        ≡ option_map_or (λ step. line_of (object_of seconds (event_message change step (outcome_of script e.change e.step) e.what))) step []
     at None = refl
-    at (Some step) = of_one (object_of seconds (event_message change step (outcome_of script e.change e.step).result e.what))
+    at (Some step) = of_one (object_of seconds (event_message change step (outcome_of script e.change e.step) e.what))
 
 all_events : (plan : SavedPlan) (script : Outcomes) (start : ℕ) (moments : ℕ → ℕ) (n : ℕ) (es : List Event)
     → flat_map line_of (flat_map (λ p. objects_of plan script (start + moments p.0) p.1) (enumerate_from n es)) ≡ flat_map (λ p. event_text plan script start (moments p.0) p.1) (enumerate_from n es)

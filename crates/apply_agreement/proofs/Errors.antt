@@ -1,11 +1,13 @@
 -- An error is told exactly where a step failed or was halted.
-use Rattle.std.proofs.Common.{◌≡◌, ℕ, zero, suc, ◌+◌, ◌<◌, ◌==◌, List, [], ◌∷◌, ◌++◌, map, filter, Bool, true, false, cond, not, Option, Some, None, refl, sym, ap, ◌∙◌, subst, slice_get, count_by, option_map, option_to_list, arith, eq-eqb, lt-ltb}
+use Rattle.std.proofs.Common.{All, ◌≡◌, ℕ, zero, suc, ◌+◌, ◌<◌, ◌==◌, List, [], ◌∷◌, ◌++◌, map, filter, Bool, true, false, cond, not, Option, Some, None, refl, sym, ap, ◌∙◌, subst, slice_get, count_by, option_map, option_to_list, arith, eq-eqb, lt-ltb}
 use Rattle.std.specs.Prelude.{◌||◌, is_some, nat_lt}
 use Rattle.std.specs.List.{list_any}
 use Rattle.std.specs.Option.{option_map_or}
+use Rattle.std.proofs.lemmas.List.Elements.{All-head, All-tail}
 use Rattle.std.proofs.lemmas.List.Sums.{sum_by-cons}
 use Rattle.apply_plan.specs.declared.plan.step_kind.StepKind.{StepKind}
 use Rattle.apply_plan.specs.Plan.SavedPlan.{SavedPlan}
+use Rattle.apply_plan.specs.Script.Outcome.{has_failed}
 use Rattle.apply_hooks.specs.declared.phase.Phase as asked
 use Rattle.apply_hooks.specs.declared.phase.Phase.TheVariants.{Pre}
 use Rattle.apply_check.specs.declared.action.Action.{Action}
@@ -13,13 +15,13 @@ use Rattle.apply_check.specs.Lines.{is_error}
 use Rattle.apply_check.specs.Message.{Message}
 use Rattle.apply_events.specs.declared.event.Event.{Event}
 use Rattle.apply_events.specs.declared.what.What.{What}
-use Rattle.apply_events.specs.declared.what.What.TheVariants.{Start, Progress, Complete, Errored, ErrorNote, WarnNote, Halted}
+use Rattle.apply_events.specs.declared.what.What.TheVariants.{Start, Progress, Complete, Errored, ErrorNote, WarnNote, Halted, ProvisionStart, ProvisionOutput, ProvisionComplete, ProvisionErrored}
 use Rattle.apply_events.specs.ChangeEvents.{begun, change_events, in_turn}
 use Rattle.apply_events.specs.Diagnostics.{is_note}
-use Rattle.apply_events.specs.ProgressTimes.{progress_times}
 use Rattle.apply_events.specs.Step.{Step, Work, address_of, kinds_of, steps_of}
-use Rattle.apply_events.specs.StepEvents.{end_of, endings, event, halts, notes, phase_after, started, step_events, step_time}
+use Rattle.apply_events.specs.StepEvents.{between, end_of, endings, event, halts, notes, phase_after, seconds_of, started, step_events, step_time}
 use Rattle.apply_events.specs.Totals.{is_errored, is_halted, totals_of}
+use Rattle.apply_events.proofs.Provisions.{all_along}
 use Rattle.apply_text.specs.Order.{as_written, hook_messages_of, notes_of}
 use Rattle.apply_agreement.specs.Told.{action_of, all_told, told}
 use Rattle.apply_agreement.proofs.Deeds.{with_change}
@@ -33,6 +35,10 @@ is_error_note (Errored seconds) = false
 is_error_note ErrorNote = true
 is_error_note WarnNote = false
 is_error_note (Halted phase hook) = false
+is_error_note (ProvisionStart i) = false
+is_error_note (ProvisionOutput i line) = false
+is_error_note (ProvisionComplete i) = false
+is_error_note (ProvisionErrored i) = false
 
 -- ---- tests of lists
 
@@ -127,11 +133,23 @@ noted e = is_error_note e.what
 abbrev failed : Event → Bool
 failed e = is_errored e.what
 
-progress_alike : (f : ℕ → Event) (ps : List ℕ) → ((p : ℕ) → noted (f p) ≡ failed (f p)) → Alike noted failed (map f ps)
-progress_alike f [] same = refl
-progress_alike f (p ∷ ps) same = ap (λ (b : Bool). b || list_any noted (map f ps)) (same p) ∙ ap (λ (b : Bool). failed (f p) || b) (progress_alike f ps same)
+-- nothing between the start and the end of a step is a failure, or explains one
+abbrev FailsNot : ℕ × What → Type 0
+FailsNot x = is_error_note x.1 ≡ is_errored x.1
+
+none_fails : (s : Step) → All FailsNot (between s)
+none_fails s =
+    all_along FailsNot (seconds_of s) 0 0 s.provider_seconds s.ran (λ t. refl) (λ i p since. refl) (λ i p j since. refl)
+    (λ i p since. elim (has_failed p) as (λ f. is_error_note (cond f (ProvisionErrored i) (ProvisionComplete i)) ≡ is_errored (cond f (ProvisionErrored i) (ProvisionComplete i))) [ true ↦ refl | false ↦ refl ])
 
 module _ (w : ℕ) (s : Step) where
+  between_alike : (at : ℕ) (xs : List (ℕ × What)) → All FailsNot xs → Alike noted failed (map (λ (x : ℕ × What). event w s (at + x.0) x.1) xs)
+  between_alike at [] none = refl
+  between_alike at (x ∷ xs) none =
+      let here : is_error_note x.1 ≡ is_errored x.1 = All-head FailsNot x xs none in
+      let later = map (λ (y : ℕ × What). event w s (at + y.0) y.1) xs in
+      ap (λ (b : Bool). b || list_any noted later) here ∙ ap (λ (b : Bool). is_errored x.1 || b) (between_alike at xs (All-tail FailsNot x xs none))
+
   ends_alike : (fails warns : Bool) (at end : ℕ) → Alike noted failed (map (λ what. event w s at what) (end_of fails end ∷ notes fails warns))
   ends_alike true warns at end = refl
   ends_alike false true at end = refl
@@ -148,13 +166,13 @@ module _ (w : ℕ) (s : Step) where
       either (Some hook) = refl
       either None =
           let start = event w s at Start ∷ [] in
-          let middle = map (λ p. event w s (at + p) (Progress p)) (progress_times s.seconds) in
-          let last = map (λ what. event w s (at + s.seconds) what) (endings s) in
-          alike_both noted failed (start ++ middle ++ last) (halts w s (phase_after s.fails) (at + s.seconds))
+          let middle = map (λ (x : ℕ × What). event w s (at + x.0) x.1) (between s) in
+          let last = map (λ what. event w s (at + seconds_of s) what) (endings s) in
+          alike_both noted failed (start ++ middle ++ last) (halts w s (phase_after s.fails) (at + seconds_of s))
           (alike_both noted failed (start ++ middle) last
-          (alike_both noted failed start middle refl (progress_alike (λ p. event w s (at + p) (Progress p)) (progress_times s.seconds) (λ p. refl)))
-          (ends_alike s.fails s.warns (at + s.seconds) s.seconds))
-          (halts_alike (phase_after s.fails) (at + s.seconds) (s.halts (phase_after s.fails)))
+          (alike_both noted failed start middle refl (between_alike at (between s) (none_fails s)))
+          (ends_alike s.fails s.warns (at + seconds_of s) (seconds_of s)))
+          (halts_alike (phase_after s.fails) (at + seconds_of s) (s.halts (phase_after s.fails)))
 
 steps_alike : (w : ℕ) (steps : List Step) (at : ℕ) → Alike noted failed (in_turn (step_events w) step_time steps at)
 steps_alike w [] at = refl
@@ -193,6 +211,10 @@ told_error a k (Errored seconds) = refl
 told_error a k ErrorNote = refl
 told_error a k WarnNote = refl
 told_error a k (Halted phase hook) = refl
+told_error a k (ProvisionStart i) = refl
+told_error a k (ProvisionOutput i line) = refl
+told_error a k (ProvisionComplete i) = refl
+told_error a k (ProvisionErrored i) = refl
 
 one_told : (plan : SavedPlan) (e : Event) (ms : List Message) (kind : StepKind) → slice_get (kinds_of plan e.change) e.step ≡ Some kind
     → list_any is_error (option_map_or (λ step. told (address_of plan e.change) (action_of step) e.what ∷ []) (slice_get (kinds_of plan e.change) e.step) [] ++ ms) ≡ ((is_error_note e.what || is_halted e.what) || list_any is_error ms)

@@ -1,5 +1,5 @@
 -- What stands open of an action at an address, beside what the changes have under way there.
-use Rattle.std.proofs.Common.{◌≡◌, ◌≢◌, ℕ, ◌+◌, ◌-◌, ◌<◌, ◌≤◌, cond, Option, Some, None, Result, Ok, Err, refl, sym, ap, ◌∙◌, ◌⊎◌, ⊎_elim, arith}
+use Rattle.std.proofs.Common.{◌≡◌, ◌≢◌, ℕ, ◌+◌, ◌-◌, ◌<◌, ◌≤◌, cond, Option, Some, None, true, is_some, Result, Ok, Err, refl, sym, ap, ◌∙◌, ◌⊎◌, ⊎_elim, arith}
 use Rattle.std.proofs.lemmas.Bool.{cases_eq, cases_lt, le-ltb, lt-ltb}
 use Rattle.std.proofs.lemmas.Option.{same_Some}
 use Rattle.apply_check.specs.declared.action.Action.{Action}
@@ -26,6 +26,10 @@ pub nothing_fits : (limit : ℕ) (k : Action) (h : ℕ → Option ℕ) (p : Opti
 nothing_fits limit k h None f none = refl
 nothing_fits limit k h (Some (One begin told)) f none = absurd (let one : counted h 0 limit ≡ 1 = f.0 in omega arith)
 nothing_fits limit k h (Some (Several begin count)) f none = absurd (let all : counted h 0 limit ≡ count = f.1 in let some : 1 ≤ count = f.2 in omega arith)
+
+pub something_open : (limit : ℕ) (k : Action) (h : ℕ → Option ℕ) (p : Option Pending) (c s : ℕ) → Fits limit k h p → c < limit → h c ≡ Some s → is_some p ≡ true
+something_open limit k h None c s f less is = absurd (let none : counted h 0 limit ≡ 0 = f in let one = one_at_least h c limit s less is in omega arith)
+something_open limit k h (Some p) c s f less is = refl
 
 -- the answer to a message, with what stands open then
 abbrev pub Answers : (limit : ℕ) → Action → (ℕ → Option ℕ) → Result (Option Pending) Fault → Type 0

@@ -3,16 +3,17 @@ use Rattle.std.proofs.Common.{◌≡◌, ℕ, List, codes, true, false, Option, 
 use Rattle.apply_plan.specs.declared.plan.step_kind.StepKind.{StepKind}
 use Rattle.apply_plan.specs.declared.plan.step_kind.StepKind.TheVariants.{Create, Update, Delete, Read}
 use Rattle.apply_plan.specs.declared.script.diag.Diag.{Diag}
-use Rattle.apply_plan.specs.declared.script.ending.Ending.{Ending}
+use Rattle.apply_plan.specs.declared.script.outcome.Outcome.{Outcome}
 use Rattle.apply_plan.specs.Plan.ResourceChange.{ResourceChange}
+use Rattle.apply_check.specs.declared.part.Part.TheVariants as part
 use Rattle.apply_check.specs.declared.what.What.TheVariants as heard
 use Rattle.apply_check.specs.Lines.{message_of_tree}
-use Rattle.apply_check.specs.Message.{step, diagnostic, typed_message, start_of, timed_of, diagnostic_of}
+use Rattle.apply_check.specs.Message.{step, provision, diagnostic, typed_message, start_of, timed_of, provision_of, diagnostic_of}
 use Rattle.apply_events.specs.declared.what.What.{What}
-use Rattle.apply_events.specs.declared.what.What.TheVariants.{Start, Progress, Complete, Errored, ErrorNote, WarnNote, Halted}
+use Rattle.apply_events.specs.declared.what.What.TheVariants.{Start, Progress, Complete, Errored, ErrorNote, WarnNote, Halted, ProvisionStart, ProvisionOutput, ProvisionComplete, ProvisionErrored}
 use Rattle.apply_text.specs.Lines.{message_object}
-use Rattle.apply_text.specs.Message.{end_id, error_message, event_message, failure_of, halt_of, hook_message, start_id, warning_message, warning_of}
-use Rattle.apply_text.specs.Objects.{diagnostic_object, hook_object, resource_object}
+use Rattle.apply_text.specs.Message.{end_id, error_message, event_message, halt_of, hook_message, name_of, output_of, provision_message, start_id, told_failure, warning_message, warning_of}
+use Rattle.apply_text.specs.Objects.{diagnostic_object, hook_object, provisioner_object, resource_object}
 use Rattle.apply_agreement.specs.Objects.{object_of}
 use Rattle.apply_agreement.specs.Told.{action_of, told}
 
@@ -64,12 +65,36 @@ warning_heard : (change : ResourceChange) (diag : Diag) (seconds : ℕ) → mess
 unfolding message_of_tree message_object typed_message diagnostic_of diagnostic_object
 warning_heard change diag seconds = refl
 
-pub event_heard : (change : ResourceChange) (kind : StepKind) (ending : Ending) (what : What) (seconds : ℕ)
-    → message_of_tree (object_of seconds (event_message change kind ending what)) ≡ Ok (told change.address (action_of kind) what)
-event_heard change kind ending Start seconds = start_heard change kind _ (start_id kind change) seconds
-event_heard change kind ending (Progress told) seconds = progress_heard change kind _ told seconds
-event_heard change kind ending (Complete told) seconds = complete_heard change kind _ told (end_id kind ending) seconds
-event_heard change kind ending (Errored told) seconds = errored_heard change kind _ told seconds
-event_heard change kind ending ErrorNote seconds = error_heard change (failure_of ending) seconds
-event_heard change kind ending WarnNote seconds = warning_heard change (warning_of ending) seconds
-event_heard change kind ending (Halted phase hook) seconds = error_heard change (halt_of kind phase hook) seconds
+provision_start_heard : (change : ResourceChange) (name text : List ℕ) (seconds : ℕ)
+    → message_of_tree (object_of seconds (provision_message change name text None (codes "provision_start"))) ≡ Ok (provision change.address part.Start)
+unfolding message_of_tree message_object typed_message provision_of provisioner_object resource_object
+provision_start_heard change name text seconds = refl
+
+provision_output_heard : (change : ResourceChange) (name text output : List ℕ) (seconds : ℕ)
+    → message_of_tree (object_of seconds (provision_message change name text (Some output) (codes "provision_progress"))) ≡ Ok (provision change.address part.Progress)
+unfolding message_of_tree message_object typed_message provision_of provisioner_object resource_object
+provision_output_heard change name text output seconds = refl
+
+provision_complete_heard : (change : ResourceChange) (name text : List ℕ) (seconds : ℕ)
+    → message_of_tree (object_of seconds (provision_message change name text None (codes "provision_complete"))) ≡ Ok (provision change.address part.Complete)
+unfolding message_of_tree message_object typed_message provision_of provisioner_object resource_object
+provision_complete_heard change name text seconds = refl
+
+provision_errored_heard : (change : ResourceChange) (name text : List ℕ) (seconds : ℕ)
+    → message_of_tree (object_of seconds (provision_message change name text None (codes "provision_errored"))) ≡ Ok (provision change.address part.Errored)
+unfolding message_of_tree message_object typed_message provision_of provisioner_object resource_object
+provision_errored_heard change name text seconds = refl
+
+pub event_heard : (change : ResourceChange) (kind : StepKind) (outcome : Outcome) (what : What) (seconds : ℕ)
+    → message_of_tree (object_of seconds (event_message change kind outcome what)) ≡ Ok (told change.address (action_of kind) what)
+event_heard change kind outcome Start seconds = start_heard change kind _ (start_id kind change) seconds
+event_heard change kind outcome (Progress told) seconds = progress_heard change kind _ told seconds
+event_heard change kind outcome (Complete told) seconds = complete_heard change kind _ told (end_id kind outcome.result) seconds
+event_heard change kind outcome (Errored told) seconds = errored_heard change kind _ told seconds
+event_heard change kind outcome ErrorNote seconds = error_heard change (told_failure outcome) seconds
+event_heard change kind outcome WarnNote seconds = warning_heard change (warning_of outcome.result) seconds
+event_heard change kind outcome (Halted phase hook) seconds = error_heard change (halt_of kind phase hook) seconds
+event_heard change kind outcome (ProvisionStart i) seconds = provision_start_heard change (name_of outcome i) _ seconds
+event_heard change kind outcome (ProvisionOutput i line) seconds = provision_output_heard change (name_of outcome i) _ (output_of outcome i line) seconds
+event_heard change kind outcome (ProvisionComplete i) seconds = provision_complete_heard change (name_of outcome i) _ seconds
+event_heard change kind outcome (ProvisionErrored i) seconds = provision_errored_heard change (name_of outcome i) _ seconds

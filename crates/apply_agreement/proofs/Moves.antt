@@ -5,27 +5,29 @@ use Rattle.std.proofs.lemmas.Bool.{both_ways, cases_Bool, cases_eq}
 use Rattle.std.proofs.lemmas.Option.{cond_some}
 use Rattle.std.proofs.lemmas.Slice.Eq.{bytes_eq-Decides}
 use Rattle.apply_check.specs.declared.action.Action.{Action}
-use Rattle.apply_check.specs.declared.action.Action.TheVariants.{Delete, Read}
+use Rattle.apply_check.specs.declared.action.Action.TheVariants.{Create, Delete, Read}
+use Rattle.apply_check.specs.declared.part.Part.{Part}
 use Rattle.apply_check.specs.declared.pending.Pending.{Pending}
 use Rattle.apply_check.specs.declared.standing.Standing.{Standing}
 use Rattle.apply_check.specs.declared.what.What as checked
 use Rattle.apply_check.specs.Course.{after}
 use Rattle.apply_check.specs.Lines.{is_summary, next}
-use Rattle.apply_check.specs.Message.{Message, step, diagnostic}
-use Rattle.apply_check.specs.Standing.{explained, pending_at, standing_of, step_on}
+use Rattle.apply_check.specs.Message.{Message, step, provision, diagnostic}
+use Rattle.apply_check.specs.Standing.{explained, pending_at, provision_on, standing_of, step_on}
 use Rattle.apply_check.specs.Words.{same_action}
-use Rattle.apply_agreement.specs.Told.{told}
 use Rattle.apply_agreement.proofs.Counting.{counted, none_or_some, same}
-use Rattle.apply_agreement.proofs.Fitting.{Fits, fits_same}
-use Rattle.apply_agreement.proofs.Phases.{Phase, between, under_way, unexplained, put, put_elsewhere, put_here, seconds_in, shown, shown_same}
-use Rattle.apply_agreement.proofs.Standings.{IsBegun, IsNoFailure, diagnostic_elsewhere, diagnostic_there, explained_other, next_diagnostic, next_step, owed_same, pending_other, pending_same, provisioner_same, same_is, same_itself, same_text, step_elsewhere, step_in, step_is, step_there}
+use Rattle.apply_agreement.proofs.Fitting.{Fits, fits_same, something_open}
+use Rattle.apply_agreement.proofs.Phases.{IsProvisioning, Phase, between, under_way, unexplained, put, put_elsewhere, put_here, seconds_in, shown, shown_same}
+use Rattle.apply_agreement.proofs.Standings.{IsBegun, IsNoFailure, diagnostic_elsewhere, diagnostic_there, explained_other, next_diagnostic, next_provision, next_step, owed_same, pending_other, pending_same, pending_still, provision_elsewhere, provision_there, provisioner_in, provisioner_same, same_is, same_itself, same_text, step_elsewhere, step_in, step_is, step_there}
 
 -- after the messages the checker stands, at each address of some, where the changes below the limit stand
 pub record Agrees (limit : ℕ) (addresses : ℕ → List ℕ) (Within : List ℕ → Type 0) (Does : ℕ → Action → Type 0) (phases : ℕ → Phase) (ms : List Message) : Type 0 where
   pub open_steps : (a : List ℕ) (k : Action) → Within a → Fits limit k (shown addresses phases a k) (pending_at k (standing_of a ms))
-  pub provisioners : (a : List ℕ) → Within a → (standing_of a ms).provisioner ≡ None
+  -- a provisioner is under way at an address exactly where it is in a change of that address
+  pub provisioners : (a : List ℕ) → Within a → is_some (standing_of a ms).provisioner ≡ true → (c : ℕ) × (c < limit) × (addresses c ≡ a) × IsProvisioning (phases c)
+  pub provisioning : (c : ℕ) → c < limit → Within (addresses c) → IsProvisioning (phases c) → is_some (standing_of (addresses c) ms).provisioner ≡ true
   pub owed : (a : List ℕ) → Within a → is_some (standing_of a ms).owed ≡ true → (c : ℕ) × (c < limit) × (addresses c ≡ a) × (phases c ≡ unexplained)
-  pub does : (c t : ℕ) (k : Action) → phases c ≡ under_way k t → Does c k
+  pub does : (c t : ℕ) (k : Action) (b : Bool) → phases c ≡ under_way k t b → Does c k
   pub begun : IsBegun ms
   pub unsummed : list_any is_summary ms ≡ false
 
@@ -38,34 +40,30 @@ Apart addresses Does = (b c : ℕ) (k : Action) → addresses b ≡ addresses c 
 by_address : (Q : List ℕ → Type 0) (a : List ℕ) → Q a → ((b : List ℕ) → bytes_eq a b ≡ false → Q b) → (b : List ℕ) → Q b
 by_address Q a here elsewhere b = ⊎_elim (λ yes. subst Q ((bytes_eq-Decides a b).0 yes) here) (λ no. elsewhere b no) (cases_Bool (bytes_eq a b))
 
-pub running : (k : Action) (t : ℕ) → seconds_in k (under_way k t) ≡ Some t
-running k t = ap (λ (b : Bool). cond b (some t) None) (same_itself k)
+pub running : (k : Action) (t : ℕ) (p : Bool) → seconds_in k (under_way k t p) ≡ Some t
+running k t p = ap (λ (b : Bool). cond b (some t) None) (same_itself k)
   where
     some : ℕ → Option ℕ
     some n = Some n
 
-pub not_running : (k l : Action) (t : ℕ) → same_action k l ≡ false → seconds_in l (under_way k t) ≡ None
-not_running k l t apart = ap (λ (b : Bool). cond b (some t) None) apart
+pub not_running : (k l : Action) (t : ℕ) (p : Bool) → same_action k l ≡ false → seconds_in l (under_way k t p) ≡ None
+not_running k l t p apart = ap (λ (b : Bool). cond b (some t) None) apart
   where
     some : ℕ → Option ℕ
     some n = Some n
 
-abbrev action_in : Action → Phase → Action
-action_in k between = k
-action_in k (under_way l told) = l
-action_in k unexplained = k
-
-seconds_are : (k : Action) (p : Phase) (x : ℕ) → seconds_in k p ≡ Some x → p ≡ under_way k x
+seconds_are : (k : Action) (p : Phase) (x : ℕ) → seconds_in k p ≡ Some x → (b : Bool) × (p ≡ under_way k x b)
 seconds_are k between x e = absurd cc
 seconds_are k unexplained x e = absurd cc
-seconds_are k (under_way l t) x e =
+seconds_are k (under_way l t b) x e =
     let found = cond_some (same_action l k) t x e in
-    ap (λ (m : Action). under_way m t) (same_is l k found.0) ∙ ap (λ (n : ℕ). under_way k n) found.1
+    (b, ap (λ (m : Action). under_way m t b) (same_is l k found.0) ∙ ap (λ (n : ℕ). under_way k n b) found.1)
 
-pub shown_is : (addresses : ℕ → List ℕ) (phases : ℕ → Phase) (a : List ℕ) (k : Action) (b x : ℕ) → shown addresses phases a k b ≡ Some x → (addresses b ≡ a) × (phases b ≡ under_way k x)
+pub shown_is : (addresses : ℕ → List ℕ) (phases : ℕ → Phase) (a : List ℕ) (k : Action) (b x : ℕ) → shown addresses phases a k b ≡ Some x → (addresses b ≡ a) × (t : Bool) × (phases b ≡ under_way k x t)
 shown_is addresses phases a k b x e =
     let found = guarded (bytes_eq (addresses b) a) (seconds_in k (phases b)) x e in
-    ((bytes_eq-Decides (addresses b) a).0 found.0, seconds_are k (phases b) x found.1)
+    let is = seconds_are k (phases b) x found.1 in
+    ((bytes_eq-Decides (addresses b) a).0 found.0, is.0, is.1)
   where
     guarded : (t : Bool) (o : Option ℕ) (x : ℕ) → cond t o None ≡ Some x → (t ≡ true) × (o ≡ Some x)
     guarded true o x e = (refl, e)
@@ -103,12 +101,12 @@ module _ (limit : ℕ) (addresses : ℕ → List ℕ) (Within : List ℕ → Typ
   abbrev pub Moves : (ℕ → Phase) → List Message → (c : ℕ) → Phase → Message → Type 0
   Moves phases ms c q m = (next ms m ≡ Ok (m ∷ ms)) × Agrees limit addresses Within Does (put phases c q) (m ∷ ms)
 
-  still_does : (phases : ℕ → Phase) (c : ℕ) (q : Phase) → ((b t : ℕ) (l : Action) → phases b ≡ under_way l t → Does b l) → ((t : ℕ) (l : Action) → q ≡ under_way l t → Does c l)
-      → (b t : ℕ) (l : Action) → put phases c q b ≡ under_way l t → Does b l
-  still_does phases c q old new b t l e =
+  still_does : (phases : ℕ → Phase) (c : ℕ) (q : Phase) → ((b t : ℕ) (l : Action) (p : Bool) → phases b ≡ under_way l t p → Does b l) → ((t : ℕ) (l : Action) (p : Bool) → q ≡ under_way l t p → Does c l)
+      → (b t : ℕ) (l : Action) (p : Bool) → put phases c q b ≡ under_way l t p → Does b l
+  still_does phases c q old new b t l p e =
       ⊎_elim
-      (λ (here : b ≡ c). subst (λ (x : ℕ). Does x l) (sym here) (new t l (sym (put_here phases c q) ∙ ap (put phases c q) (sym here) ∙ e)))
-      (λ elsewhere. old b t l (sym (put_elsewhere phases c q b elsewhere) ∙ e))
+      (λ (here : b ≡ c). subst (λ (x : ℕ). Does x l) (sym here) (new t l p (sym (put_here phases c q) ∙ ap (put phases c q) (sym here) ∙ e)))
+      (λ elsewhere. old b t l p (sym (put_elsewhere phases c q b elsewhere) ∙ e))
       (cases_eq b c)
 
   -- the failure of a change that stays unexplained
@@ -119,39 +117,74 @@ module _ (limit : ℕ) (addresses : ℕ → List ℕ) (Within : List ℕ → Typ
   other_address : (c b : ℕ) (a : List ℕ) → bytes_eq (addresses c) a ≡ false → addresses b ≡ a → b ≢ c
   other_address c b a away there e = both_ways (bytes_eq (addresses c) a) away ((bytes_eq-Decides (addresses c) a).1 (ap addresses (sym e) ∙ there))
 
+  -- a change of the address has a provisioner under way
+  abbrev pub Has : (ℕ → Phase) → List ℕ → Type 0
+  Has phases a = (d : ℕ) × (d < limit) × (addresses d ≡ a) × IsProvisioning (phases d)
+
+  still_has : (phases : ℕ → Phase) (c : ℕ) (q : Phase) (a : List ℕ) → (IsProvisioning (phases c) → IsProvisioning q) → Has phases a → Has (put phases c q) a
+  still_has phases c q a kept found = (
+    found.0,
+    found.1,
+    found.2,
+    ⊎_elim
+        (λ (here : found.0 ≡ c). subst IsProvisioning (sym (ap (put phases c q) here ∙ put_here phases c q)) (kept (subst IsProvisioning (ap phases here) found.3)))
+        (λ elsewhere. subst IsProvisioning (sym (put_elsewhere phases c q found.0 elsewhere)) found.3)
+        (cases_eq found.0 c),
+  )
+
+  had : (phases : ℕ → Phase) (c : ℕ) (q : Phase) (d : ℕ) → (IsProvisioning q → IsProvisioning (phases c)) → IsProvisioning (put phases c q d) → IsProvisioning (phases d)
+  had phases c q d back is =
+      ⊎_elim
+      (λ (here : d ≡ c). subst IsProvisioning (ap phases (sym here)) (back (subst IsProvisioning (ap (put phases c q) here ∙ put_here phases c q) is)))
+      (λ elsewhere. subst IsProvisioning (put_elsewhere phases c q d elsewhere) is)
+      (cases_eq d c)
+
+  -- then a create stands open there
+  create_open : (phases : ℕ → Phase) (a : List ℕ) (p : Option Pending) → Fits limit Create (shown addresses phases a Create) p → Has phases a → is_some p ≡ true
+  create_open phases a p fit found =
+      something_open limit Create (shown addresses phases a Create) p found.0 found.3.0 fit found.1
+      (ap (λ (x : List ℕ). shown addresses phases x Create found.0) (sym found.2) ∙ shown_here addresses phases Create found.0 ∙ ap (seconds_in Create) found.3.1 ∙ running Create found.3.0 true)
+
   pub stepped : (phases : ℕ → Phase) (ms : List Message) (c : ℕ) (k : Action) (what : checked.What) (q : Phase) (p : Option Pending)
       → Agrees limit addresses Within Does phases ms → c < limit → Within (addresses c)
       → after k what (length ms + 1) (pending_at k (standing_of (addresses c) ms)) ≡ Ok p
       → Fits limit k (shown addresses (put phases c q) (addresses c) k) p
       → ((l : Action) → same_action k l ≡ false → seconds_in l q ≡ seconds_in l (phases c))
-      → ((t : ℕ) (l : Action) → q ≡ under_way l t → Does c l)
+      → ((t : ℕ) (l : Action) (b : Bool) → q ≡ under_way l t b → Does c l)
       → (IsNoFailure what × (phases c ≢ unexplained)) ⊎ (q ≡ unexplained)
+      → (IsProvisioning (phases c) → IsProvisioning q) → (IsProvisioning q → IsProvisioning (phases c))
       → Moves phases ms c q (step (addresses c) k what)
-  stepped phases ms c k what q p agrees less within e fit kept does owes =
+  stepped phases ms c k what q p agrees less within e fit kept does owes on back =
       let a = addresses c in
       let s = standing_of a ms in
       let line = length ms + 1 in
-      let is : step_on k what line s ≡ Ok (step_in k what line p s) = step_is k what line p s (agrees.provisioners a within) e in
+      let fits : (l : Action) → Fits limit l (shown addresses (put phases c q) a l) (pending_at l (step_in k what line p s)) = λ l.
+      ⊎_elim
+      (λ yes.
+      let at_k : Fits limit k (shown addresses (put phases c q) a k) (pending_at k (step_in k what line p s)) = subst (Fits limit k (shown addresses (put phases c q) a k)) (sym (pending_same k what line p s)) fit in
+      subst (λ (m : Action). Fits limit m (shown addresses (put phases c q) a m) (pending_at m (step_in k what line p s))) (same_is k l yes) at_k)
+      (λ no.
+      subst (Fits limit l (shown addresses (put phases c q) a l)) (sym (pending_other k l what line p s no))
+      (fits_same limit l (shown addresses phases a l) (shown addresses (put phases c q) a l) (pending_at l s) (λ b _. shown_kept addresses phases c q a l (kept l no) b) (agrees.open_steps a l within)))
+      (cases_Bool (same_action k l)) in
+      let is : step_on k what line s ≡ Ok (step_in k what line p s) =
+      step_is k what line p s (λ some. create_open (put phases c q) a (pending_at Create (step_in k what line p s)) (fits Create) (still_has phases c q a on (agrees.provisioners a within some))) e in
       let there : standing_of a (step a k what ∷ ms) ≡ step_in k what line p s = step_there a k what (step_in k what line p s) ms is in (
         next_step a k what (step_in k what line p s) ms agrees.begun agrees.unsummed is,
         record {
           open_steps = λ b l w. by_address (λ b. Within b → Fits limit l (shown addresses (put phases c q) b l) (pending_at l (standing_of b (step a k what ∷ ms)))) a
-              (λ _. subst (λ (t : Standing). Fits limit l (shown addresses (put phases c q) a l) (pending_at l t)) (sym there)
-              (⊎_elim
-              (λ yes.
-              let at_k : Fits limit k (shown addresses (put phases c q) a k) (pending_at k (step_in k what line p s)) = subst (Fits limit k (shown addresses (put phases c q) a k)) (sym (pending_same k what line p s)) fit in
-              subst (λ (m : Action). Fits limit m (shown addresses (put phases c q) a m) (pending_at m (step_in k what line p s))) (same_is k l yes) at_k)
-              (λ no.
-              subst (Fits limit l (shown addresses (put phases c q) a l)) (sym (pending_other k l what line p s no))
-              (fits_same limit l (shown addresses phases a l) (shown addresses (put phases c q) a l) (pending_at l s) (λ b _. shown_kept addresses phases c q a l (kept l no) b) (agrees.open_steps a l within)))
-              (cases_Bool (same_action k l))))
+              (λ _. subst (λ (t : Standing). Fits limit l (shown addresses (put phases c q) a l) (pending_at l t)) (sym there) (fits l))
               (λ b no w.
               subst (λ (t : Standing). Fits limit l (shown addresses (put phases c q) b l) (pending_at l t)) (sym (step_elsewhere a k what ms b no))
               (fits_same limit l (shown addresses phases b l) (shown addresses (put phases c q) b l) (pending_at l (standing_of b ms)) (λ d _. shown_elsewhere addresses phases c q b l no d) (agrees.open_steps b l w)))
               b w;
-          provisioners = by_address (λ b. Within b → (standing_of b (step a k what ∷ ms)).provisioner ≡ None) a
-              (λ _. ap (λ (t : Standing). t.provisioner) there ∙ provisioner_same k what line p s ∙ agrees.provisioners a within)
-              (λ b no w. ap (λ (t : Standing). t.provisioner) (step_elsewhere a k what ms b no) ∙ agrees.provisioners b w);
+          provisioners = by_address (λ b. Within b → is_some (standing_of b (step a k what ∷ ms)).provisioner ≡ true → Has (put phases c q) b) a
+              (λ _ some. still_has phases c q a on (agrees.provisioners a within (sym (ap is_some (ap (λ (t : Standing). t.provisioner) there ∙ provisioner_same k what line p s)) ∙ some)))
+              (λ b no w some. still_has phases c q b on (agrees.provisioners b w (sym (ap is_some (ap (λ (t : Standing). t.provisioner) (step_elsewhere a k what ms b no))) ∙ some)));
+          provisioning = λ d l w provisions. by_address (λ b. is_some (standing_of b ms).provisioner ≡ true → is_some (standing_of b (step a k what ∷ ms)).provisioner ≡ true) a
+              (λ before. ap is_some (ap (λ (t : Standing). t.provisioner) there ∙ provisioner_same k what line p s) ∙ before)
+              (λ b no before. ap is_some (ap (λ (t : Standing). t.provisioner) (step_elsewhere a k what ms b no)) ∙ before)
+              (addresses d) (agrees.provisioning d l w (had phases c q d back provisions));
           owed = by_address (λ b. Within b → is_some (standing_of b (step a k what ∷ ms)).owed ≡ true → (d : ℕ) × (d < limit) × (addresses d ≡ b) × (put phases c q d ≡ unexplained)) a
               (λ _ some.
               ⊎_elim
@@ -169,9 +202,56 @@ module _ (limit : ℕ) (addresses : ℕ → List ℕ) (Within : List ℕ → Typ
         },
       )
 
+  -- a provisioner begins, goes on or ends
+  pub provisioned : (phases : ℕ → Phase) (ms : List Message) (c : ℕ) (part : Part) (q : Phase) (r : Option ℕ)
+      → Agrees limit addresses Within Does phases ms → c < limit → Within (addresses c)
+      → provision_on part (length ms + 1) (standing_of (addresses c) ms) ≡ Ok (provisioner_in r (standing_of (addresses c) ms))
+      → ((l : Action) → seconds_in l q ≡ seconds_in l (phases c))
+      → ((t : ℕ) (l : Action) (b : Bool) → q ≡ under_way l t b → Does c l)
+      → phases c ≢ unexplained
+      → (is_some r ≡ true → Has (put phases c q) (addresses c))
+      → ((d : ℕ) → addresses d ≡ addresses c → IsProvisioning (put phases c q d) → is_some r ≡ true)
+      → Moves phases ms c q (provision (addresses c) part)
+  provisioned phases ms c part q r agrees less within e kept does explained_before on back =
+      let a = addresses c in
+      let s = standing_of a ms in
+      let there : standing_of a (provision a part ∷ ms) ≡ provisioner_in r s = provision_there a part (provisioner_in r s) ms e in (
+        next_provision a part (provisioner_in r s) ms agrees.begun agrees.unsummed e,
+        record {
+          open_steps = λ b l w. by_address (λ b. Within b → Fits limit l (shown addresses (put phases c q) b l) (pending_at l (standing_of b (provision a part ∷ ms)))) a
+              (λ _. subst (Fits limit l (shown addresses (put phases c q) a l)) (sym (ap (pending_at l) there ∙ pending_still l r s))
+              (fits_same limit l (shown addresses phases a l) (shown addresses (put phases c q) a l) (pending_at l s) (λ d _. shown_kept addresses phases c q a l (kept l) d) (agrees.open_steps a l within)))
+              (λ b no w.
+              subst (λ (t : Standing). Fits limit l (shown addresses (put phases c q) b l) (pending_at l t)) (sym (provision_elsewhere a part ms b no))
+              (fits_same limit l (shown addresses phases b l) (shown addresses (put phases c q) b l) (pending_at l (standing_of b ms)) (λ d _. shown_elsewhere addresses phases c q b l no d) (agrees.open_steps b l w)))
+              b w;
+          provisioners = by_address (λ b. Within b → is_some (standing_of b (provision a part ∷ ms)).provisioner ≡ true → Has (put phases c q) b) a
+              (λ _ some. on (sym (ap is_some (ap (λ (t : Standing). t.provisioner) there)) ∙ some))
+              (λ b no w some.
+              let found = agrees.provisioners b w (sym (ap is_some (ap (λ (t : Standing). t.provisioner) (provision_elsewhere a part ms b no))) ∙ some) in
+              (found.0, found.1, found.2, subst IsProvisioning (sym (put_elsewhere phases c q found.0 (other_address c found.0 b no found.2))) found.3));
+          provisioning = λ d l w provisions. by_address (λ b. addresses d ≡ b → is_some (standing_of b (provision a part ∷ ms)).provisioner ≡ true) a
+              (λ same. ap is_some (ap (λ (t : Standing). t.provisioner) there) ∙ back d same provisions)
+              (λ b no same.
+              ap is_some (ap (λ (t : Standing). t.provisioner) (provision_elsewhere a part ms b no))
+              ∙ subst (λ (x : List ℕ). is_some (standing_of x ms).provisioner ≡ true) same (agrees.provisioning d l w (subst IsProvisioning (put_elsewhere phases c q d (other_address c d b no same)) provisions)))
+              (addresses d) refl;
+          owed = by_address (λ b. Within b → is_some (standing_of b (provision a part ∷ ms)).owed ≡ true → (d : ℕ) × (d < limit) × (addresses d ≡ b) × (put phases c q d ≡ unexplained)) a
+              (λ _ some.
+              let before : is_some s.owed ≡ true = sym (ap is_some (ap (λ (t : Standing). t.owed) there)) ∙ some in
+              still_owed phases c q a (agrees.owed a within before) (λ d _ u same. explained_before (ap phases (sym same) ∙ u)))
+              (λ b no w some.
+              let before : is_some (standing_of b ms).owed ≡ true = sym (ap is_some (ap (λ (t : Standing). t.owed) (provision_elsewhere a part ms b no))) ∙ some in
+              still_owed phases c q b (agrees.owed b w before) (λ d same u. other_address c d b no same));
+          does = still_does phases c q agrees.does does;
+          begun = tt;
+          unsummed = agrees.unsummed;
+        },
+      )
+
   -- a note comes where nothing is read, since it would end a read
   pub noted : (phases : ℕ → Phase) (ms : List Message) (c : ℕ) (e : Bool) (q : Phase)
-      → Agrees limit addresses Within Does phases ms → c < limit → Within (addresses c) → ((b x : ℕ) → b < limit → phases b ≢ under_way Read x)
+      → Agrees limit addresses Within Does phases ms → c < limit → Within (addresses c) → ((b x : ℕ) (p : Bool) → b < limit → phases b ≢ under_way Read x p)
       → ((l : Action) → seconds_in l q ≡ None) → ((l : Action) → seconds_in l (phases c) ≡ None)
       → (e ≡ true) ⊎ (q ≡ phases c)
       → Moves phases ms c q (diagnostic e (Some (addresses c)))
@@ -179,7 +259,9 @@ module _ (limit : ℕ) (addresses : ℕ → List ℕ) (Within : List ℕ → Typ
       let a = addresses c in
       let s = standing_of a ms in
       let there : standing_of a (diagnostic e (Some a) ∷ ms) ≡ explained e s = diagnostic_there a e ms in
-      let kept = λ (b : List ℕ) (l : Action). shown_kept addresses phases c q b l (after_none l ∙ sym (before_none l)) in (
+      let kept = λ (b : List ℕ) (l : Action). shown_kept addresses phases c q b l (after_none l ∙ sym (before_none l)) in
+      let on : IsProvisioning (phases c) → IsProvisioning q = λ p. absurd (let f : None ≡ Some p.0 = sym (before_none Create) ∙ ap (seconds_in Create) p.1 ∙ running Create p.0 true in cc) in
+      let back : IsProvisioning q → IsProvisioning (phases c) = λ p. absurd (let f : None ≡ Some p.0 = sym (after_none Create) ∙ ap (seconds_in Create) p.1 ∙ running Create p.0 true in cc) in (
         next_diagnostic a e ms agrees.begun,
         record {
           open_steps = λ b l w. by_address (λ b. Within b → Fits limit l (shown addresses (put phases c q) b l) (pending_at l (standing_of b (diagnostic e (Some a) ∷ ms)))) a
@@ -190,7 +272,8 @@ module _ (limit : ℕ) (addresses : ℕ → List ℕ) (Within : List ℕ → Typ
               same (shown addresses phases a Read) (shown addresses (put phases c q) a Read) 0 limit (λ b _ _. kept a Read b)
               ∙ ⊎_elim (λ none. none)
               (λ found.
-              absurd (unread found.0 found.1 (let l : found.0 < 0 + limit = found.2 in omega arith) (shown_is addresses phases a Read found.0 found.1 found.3).1))
+              let seen = shown_is addresses phases a Read found.0 found.1 found.3 in
+              absurd (unread found.0 found.1 seen.1 (let l : found.0 < 0 + limit = found.2 in omega arith) seen.2))
               (none_or_some (shown addresses phases a Read) 0 limit) in
               subst (λ (m : Action). Fits limit m (shown addresses (put phases c q) a m) (pending_at m (explained e s))) (same_is Read l yes) nobody)
               (λ no.
@@ -201,9 +284,13 @@ module _ (limit : ℕ) (addresses : ℕ → List ℕ) (Within : List ℕ → Typ
               subst (λ (t : Standing). Fits limit l (shown addresses (put phases c q) b l) (pending_at l t)) (sym (diagnostic_elsewhere a e ms b no))
               (fits_same limit l (shown addresses phases b l) (shown addresses (put phases c q) b l) (pending_at l (standing_of b ms)) (λ d _. kept b l d) (agrees.open_steps b l w)))
               b w;
-          provisioners = by_address (λ b. Within b → (standing_of b (diagnostic e (Some a) ∷ ms)).provisioner ≡ None) a
-              (λ _. ap (λ (t : Standing). t.provisioner) there ∙ agrees.provisioners a within)
-              (λ b no w. ap (λ (t : Standing). t.provisioner) (diagnostic_elsewhere a e ms b no) ∙ agrees.provisioners b w);
+          provisioners = by_address (λ b. Within b → is_some (standing_of b (diagnostic e (Some a) ∷ ms)).provisioner ≡ true → Has (put phases c q) b) a
+              (λ _ some. still_has phases c q a on (agrees.provisioners a within (sym (ap is_some (ap (λ (t : Standing). t.provisioner) there)) ∙ some)))
+              (λ b no w some. still_has phases c q b on (agrees.provisioners b w (sym (ap is_some (ap (λ (t : Standing). t.provisioner) (diagnostic_elsewhere a e ms b no))) ∙ some)));
+          provisioning = λ d l w provisions. by_address (λ b. is_some (standing_of b ms).provisioner ≡ true → is_some (standing_of b (diagnostic e (Some a) ∷ ms)).provisioner ≡ true) a
+              (λ before. ap is_some (ap (λ (t : Standing). t.provisioner) there) ∙ before)
+              (λ b no before. ap is_some (ap (λ (t : Standing). t.provisioner) (diagnostic_elsewhere a e ms b no)) ∙ before)
+              (addresses d) (agrees.provisioning d l w (had phases c q d back provisions));
           owed = by_address (λ b. Within b → is_some (standing_of b (diagnostic e (Some a) ∷ ms)).owed ≡ true → (d : ℕ) × (d < limit) × (addresses d ≡ b) × (put phases c q d ≡ unexplained)) a
               (λ _ some.
               let now : is_some (explained e s).owed ≡ true = sym (ap is_some (ap (λ (t : Standing). t.owed) there)) ∙ some in
@@ -211,7 +298,7 @@ module _ (limit : ℕ) (addresses : ℕ → List ℕ) (Within : List ℕ → Typ
               (λ b no w some.
               let before : is_some (standing_of b ms).owed ≡ true = sym (ap is_some (ap (λ (t : Standing). t.owed) (diagnostic_elsewhere a e ms b no))) ∙ some in
               still_owed phases c q b (agrees.owed b w before) (λ d there u. other_address c d b no there));
-          does = still_does phases c q agrees.does (λ t l is. absurd (let f : seconds_in l q ≡ Some t = ap (seconds_in l) is ∙ running l t in let g : None ≡ Some t = sym (after_none l) ∙ f in cc));
+          does = still_does phases c q agrees.does (λ t l b is. absurd (let f : seconds_in l q ≡ Some t = ap (seconds_in l) is ∙ running l t b in let g : None ≡ Some t = sym (after_none l) ∙ f in cc));
           begun = tt;
           unsummed = agrees.unsummed;
         },

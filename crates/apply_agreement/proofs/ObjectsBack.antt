@@ -11,7 +11,7 @@ use Rattle.apply_plan.specs.declared.plan.key.Key.{Key}
 use Rattle.apply_plan.specs.declared.plan.key.Key.TheVariants as key
 use Rattle.apply_plan.specs.declared.plan.step_kind.StepKind.{StepKind}
 use Rattle.apply_plan.specs.declared.script.diag.Diag.{Diag}
-use Rattle.apply_plan.specs.declared.script.ending.Ending.{Ending}
+use Rattle.apply_plan.specs.declared.script.outcome.Outcome.{Outcome}
 use Rattle.apply_plan.specs.Plan.ResourceChange.{ResourceChange}
 use Rattle.apply_plan.specs.Plan.SavedPlan.{SavedPlan}
 use Rattle.apply_plan.specs.Script.Outcomes.{Outcomes, outcome_of}
@@ -20,12 +20,12 @@ use Rattle.apply_events.specs.declared.counts.Counts.{Counts}
 use Rattle.apply_events.specs.declared.event.Event.{Event}
 use Rattle.apply_events.specs.Totals.{totals_of}
 use Rattle.apply_events.specs.declared.what.What.{What}
-use Rattle.apply_events.specs.declared.what.What.TheVariants.{Start, Progress, Complete, Errored, ErrorNote, WarnNote, Halted}
+use Rattle.apply_events.specs.declared.what.What.TheVariants.{Start, Progress, Complete, Errored, ErrorNote, WarnNote, Halted, ProvisionStart, ProvisionOutput, ProvisionComplete, ProvisionErrored}
 use Rattle.apply_text.specs.declared.operation.Operation.{Operation}
 use Rattle.apply_text.specs.Latest.{latest_of}
 use Rattle.apply_text.specs.Lines.{message_object, typed}
-use Rattle.apply_text.specs.Message.{end_id, event_message, hook_message, start_id, summary_message}
-use Rattle.apply_text.specs.Objects.{changes_object, diagnostic_object, hook_object, key_data, resource_object}
+use Rattle.apply_text.specs.Message.{end_id, event_message, hook_message, name_of, output_of, provision_message, start_id, summary_message}
+use Rattle.apply_text.specs.Objects.{changes_object, diagnostic_object, hook_object, key_data, provisioner_object, resource_object}
 use Rattle.apply_text.specs.Order.{as_written}
 use Rattle.apply_agreement.specs.Objects.{object_of, objects_of, stream_objects, version_object}
 use Rattle.apply_agreement.specs.Sound.{IsSound}
@@ -53,6 +53,11 @@ hook_back change step None None h = let r = resource_back change h.2.1 in (rw r.
 hook_back change step None (Some id) h = let r = resource_back change h.2.2.2.1 in (rw r.0 refl, omega (arith, r.1))
 hook_back change step (Some seconds) None h = let r = resource_back change h.2.2.1 in (rw (number_of-decimal seconds h.2.1, r.0) refl, omega (arith, r.1))
 hook_back change step (Some seconds) (Some id) h = let r = resource_back change h.2.2.2.2.1 in (rw (number_of-decimal seconds h.2.1, r.0) refl, omega (arith, r.1))
+
+provisioner_back : (change : ResourceChange) (name : List ℕ) (output : Option (List ℕ)) → IsSound (provisioner_object change name output) → IsInPlace 2 (provisioner_object change name output)
+unfolding provisioner_object
+provisioner_back change name None h = let r = resource_back change h.2.1 in (rw r.0 refl, omega (arith, r.1))
+provisioner_back change name (Some output) h = let r = resource_back change h.2.2.1 in (rw r.0 refl, omega (arith, r.1))
 
 diagnostic_back : (address severity : List ℕ) (diag : Diag) → IsInPlace 1 (diagnostic_object address severity diag)
 unfolding diagnostic_object
@@ -87,15 +92,23 @@ hook_in_place : (change : ResourceChange) (kind : StepKind) (text : List ℕ) (e
     → IsSound (object_of seconds (hook_message change kind text elapsed id type_name)) → IsInPlace 3 (object_of seconds (hook_message change kind text elapsed id type_name))
 hook_in_place change kind text elapsed id type_name seconds h = hook_line _ _ _ type_name _ (hook_back change kind elapsed id (body_sound _ _ _ (codes "hook") type_name (hook_object change kind elapsed id) h))
 
-event_in_place : (change : ResourceChange) (kind : StepKind) (ending : Ending) (what : What) (seconds : ℕ)
-    → IsSound (object_of seconds (event_message change kind ending what)) → IsInPlace 3 (object_of seconds (event_message change kind ending what))
-event_in_place change kind ending Start seconds h = hook_in_place change kind _ None (start_id kind change) (codes "apply_start") seconds h
-event_in_place change kind ending (Progress s) seconds h = hook_in_place change kind _ (Some s) None (codes "apply_progress") seconds h
-event_in_place change kind ending (Complete s) seconds h = hook_in_place change kind _ (Some s) (end_id kind ending) (codes "apply_complete") seconds h
-event_in_place change kind ending (Errored s) seconds h = hook_in_place change kind _ (Some s) None (codes "apply_errored") seconds h
-event_in_place change kind ending ErrorNote seconds h = diagnostic_line _ _ _ _ _ (diagnostic_back change.address _ _)
-event_in_place change kind ending WarnNote seconds h = diagnostic_line _ _ _ _ _ (diagnostic_back change.address _ _)
-event_in_place change kind ending (Halted phase hook) seconds h = diagnostic_line _ _ _ _ _ (diagnostic_back change.address _ _)
+provision_in_place : (change : ResourceChange) (name text : List ℕ) (output : Option (List ℕ)) (type_name : List ℕ) (seconds : ℕ)
+    → IsSound (object_of seconds (provision_message change name text output type_name)) → IsInPlace 3 (object_of seconds (provision_message change name text output type_name))
+provision_in_place change name text output type_name seconds h = hook_line _ _ _ type_name _ (provisioner_back change name output (body_sound _ _ _ (codes "hook") type_name (provisioner_object change name output) h))
+
+event_in_place : (change : ResourceChange) (kind : StepKind) (outcome : Outcome) (what : What) (seconds : ℕ)
+    → IsSound (object_of seconds (event_message change kind outcome what)) → IsInPlace 3 (object_of seconds (event_message change kind outcome what))
+event_in_place change kind outcome Start seconds h = hook_in_place change kind _ None (start_id kind change) (codes "apply_start") seconds h
+event_in_place change kind outcome (Progress s) seconds h = hook_in_place change kind _ (Some s) None (codes "apply_progress") seconds h
+event_in_place change kind outcome (Complete s) seconds h = hook_in_place change kind _ (Some s) (end_id kind outcome.result) (codes "apply_complete") seconds h
+event_in_place change kind outcome (Errored s) seconds h = hook_in_place change kind _ (Some s) None (codes "apply_errored") seconds h
+event_in_place change kind outcome ErrorNote seconds h = diagnostic_line _ _ _ _ _ (diagnostic_back change.address _ _)
+event_in_place change kind outcome WarnNote seconds h = diagnostic_line _ _ _ _ _ (diagnostic_back change.address _ _)
+event_in_place change kind outcome (Halted phase hook) seconds h = diagnostic_line _ _ _ _ _ (diagnostic_back change.address _ _)
+event_in_place change kind outcome (ProvisionStart i) seconds h = provision_in_place change (name_of outcome i) _ None (codes "provision_start") seconds h
+event_in_place change kind outcome (ProvisionOutput i line) seconds h = provision_in_place change (name_of outcome i) _ (Some (output_of outcome i line)) (codes "provision_progress") seconds h
+event_in_place change kind outcome (ProvisionComplete i) seconds h = provision_in_place change (name_of outcome i) _ None (codes "provision_complete") seconds h
+event_in_place change kind outcome (ProvisionErrored i) seconds h = provision_in_place change (name_of outcome i) _ None (codes "provision_errored") seconds h
 
 summary_in_place : (operation : Operation) (counts : Counts) (seconds : ℕ) → IsSound (object_of seconds (summary_message operation counts)) → IsInPlace 3 (object_of seconds (summary_message operation counts))
 summary_in_place operation counts seconds h = changes_line _ _ _ _ _ (changes_back operation counts (body_sound _ _ _ (codes "changes") _ (changes_object operation counts) h))
@@ -113,15 +126,15 @@ pub in_place_back : (d : Data) → IsSound d → IsInPlace 3 d → IsBack d
 in_place_back d sound is = tree_is d sound is.0 (omega (arith, is.1))
 
 one_back : (script : Outcomes) (seconds : ℕ) (e : Event) (found : Option ResourceChange) (ds : List Data) → (AllByRecursion IsSound ds → AllByRecursion IsBack ds)
-    → AllByRecursion IsSound (option_map_or (λ (change : ResourceChange). option_map_or (λ step. object_of seconds (event_message change step (outcome_of script e.change e.step).result e.what) ∷ []) (slice_get change.steps e.step) []) found [] ++ ds)
-    → AllByRecursion IsBack (option_map_or (λ (change : ResourceChange). option_map_or (λ step. object_of seconds (event_message change step (outcome_of script e.change e.step).result e.what) ∷ []) (slice_get change.steps e.step) []) found [] ++ ds)
+    → AllByRecursion IsSound (option_map_or (λ (change : ResourceChange). option_map_or (λ step. object_of seconds (event_message change step (outcome_of script e.change e.step) e.what) ∷ []) (slice_get change.steps e.step) []) found [] ++ ds)
+    → AllByRecursion IsBack (option_map_or (λ (change : ResourceChange). option_map_or (λ step. object_of seconds (event_message change step (outcome_of script e.change e.step) e.what) ∷ []) (slice_get change.steps e.step) []) found [] ++ ds)
 one_back script seconds e None ds rest sound = rest sound
 one_back script seconds e (Some change) ds rest sound = at (slice_get change.steps e.step) sound
   where
-    at : (step : Option StepKind) → AllByRecursion IsSound (option_map_or (λ step. object_of seconds (event_message change step (outcome_of script e.change e.step).result e.what) ∷ []) step [] ++ ds)
-        → AllByRecursion IsBack (option_map_or (λ step. object_of seconds (event_message change step (outcome_of script e.change e.step).result e.what) ∷ []) step [] ++ ds)
+    at : (step : Option StepKind) → AllByRecursion IsSound (option_map_or (λ step. object_of seconds (event_message change step (outcome_of script e.change e.step) e.what) ∷ []) step [] ++ ds)
+        → AllByRecursion IsBack (option_map_or (λ step. object_of seconds (event_message change step (outcome_of script e.change e.step) e.what) ∷ []) step [] ++ ds)
     at None s = rest s
-    at (Some step) s = (in_place_back _ s.0 (event_in_place change step (outcome_of script e.change e.step).result e.what seconds s.0), rest s.1)
+    at (Some step) s = (in_place_back _ s.0 (event_in_place change step (outcome_of script e.change e.step) e.what seconds s.0), rest s.1)
 
 events_back : (plan : SavedPlan) (script : Outcomes) (seconds : ℕ → ℕ) (n : ℕ) (es : List Event) (ds : List Data) → (AllByRecursion IsSound ds → AllByRecursion IsBack ds)
     → AllByRecursion IsSound (flat_map (λ p. objects_of plan script (seconds p.0) p.1) (enumerate_from n es) ++ ds) → AllByRecursion IsBack (flat_map (λ p. objects_of plan script (seconds p.0) p.1) (enumerate_from n es) ++ ds)

@@ -55,16 +55,16 @@ both d m ds ms is rest earlier =
 
 one_event : (script : Outcomes) (seconds : ℕ) (e : Event) (found : Option ResourceChange) (ds : List Data) (ms : List Message) → Same ds ms
     → Same
-    (option_map_or (λ (change : ResourceChange). option_map_or (λ step. object_of seconds (event_message change step (outcome_of script e.change e.step).result e.what) ∷ []) (slice_get change.steps e.step) []) found [] ++ ds)
+    (option_map_or (λ (change : ResourceChange). option_map_or (λ step. object_of seconds (event_message change step (outcome_of script e.change e.step) e.what) ∷ []) (slice_get change.steps e.step) []) found [] ++ ds)
     (option_map_or (λ step. told (option_map_or (λ (change : ResourceChange). change.address) found []) (action_of step) e.what ∷ []) (slice_get (option_map_or (λ (change : ResourceChange). change.steps) found []) e.step) [] ++ ms)
 one_event script seconds e None ds ms rest = rest
 one_event script seconds e (Some change) ds ms rest = at (slice_get change.steps e.step)
   where
     at : (step : Option StepKind) → Same
-        (option_map_or (λ step. object_of seconds (event_message change step (outcome_of script e.change e.step).result e.what) ∷ []) step [] ++ ds)
+        (option_map_or (λ step. object_of seconds (event_message change step (outcome_of script e.change e.step) e.what) ∷ []) step [] ++ ds)
         (option_map_or (λ step. told change.address (action_of step) e.what ∷ []) step [] ++ ms)
     at None = rest
-    at (Some step) = both _ _ ds ms (event_heard change step (outcome_of script e.change e.step).result e.what seconds) rest
+    at (Some step) = both _ _ ds ms (event_heard change step (outcome_of script e.change e.step) e.what seconds) rest
 
 all_events : (plan : SavedPlan) (script : Outcomes) (seconds : ℕ → ℕ) (n : ℕ) (es : List Event) (ds : List Data) (ms : List Message) → Same ds ms
     → Same (flat_map (λ p. objects_of plan script (seconds p.0) p.1) (enumerate_from n es) ++ ds) (all_told plan es ++ ms)

@@ -10,15 +10,14 @@ use Rattle.apply_plan.specs.declared.plan.step_kind.StepKind.{StepKind}
 use Rattle.apply_hooks.specs.declared.phase.Phase.TheVariants.{Pre}
 use Rattle.apply_events.specs.declared.event.Event.{Event}
 use Rattle.apply_events.specs.declared.what.What.{What}
-use Rattle.apply_events.specs.declared.what.What.TheVariants.{Start, Progress, Halted}
+use Rattle.apply_events.specs.declared.what.What.TheVariants.{Start, Halted}
 use Rattle.apply_events.specs.Diagnostics.{is_note}
 use Rattle.apply_events.specs.ChangeEvents.{begun, change_events, in_turn, span_of}
 use Rattle.apply_events.specs.Interleaving.{IsInterleaving}
 use Rattle.apply_events.specs.OfWorker.{of_worker}
 use Rattle.apply_events.specs.Partition.{IsPartition, count_of}
-use Rattle.apply_events.specs.ProgressTimes.{progress_times}
 use Rattle.apply_events.specs.Step.{Step, Work, kinds_of, step_of, steps_of}
-use Rattle.apply_events.specs.StepEvents.{endings, event, goes_on, halts, phase_after, started, step_events, step_time}
+use Rattle.apply_events.specs.StepEvents.{between, endings, event, goes_on, halts, phase_after, seconds_of, started, step_events, step_time}
 use Rattle.apply_events.specs.WorkerEvents.{worker_events}
 use Rattle.apply_text.specs.Order.{as_written, hook_messages_of, notes_of}
 use Rattle.apply_agreement.proofs.Deeds.{with_change}
@@ -56,13 +55,13 @@ each_of_step P w s at h = either (s.halts Pre)
     either (Some hook) = (h at (Halted Pre hook), tt)
     either None =
         let start = event w s at Start ∷ [] in
-        let middle = map (λ p. event w s (at + p) (Progress p)) (progress_times s.seconds) in
-        let last = map (λ what. event w s (at + s.seconds) what) (endings s) in
-        each_both P (start ++ middle ++ last) (halts w s (phase_after s.fails) (at + s.seconds))
+        let middle = map (λ (x : ℕ × What). event w s (at + x.0) x.1) (between s) in
+        let last = map (λ what. event w s (at + seconds_of s) what) (endings s) in
+        each_both P (start ++ middle ++ last) (halts w s (phase_after s.fails) (at + seconds_of s))
         (each_both P (start ++ middle) last
-        (each_both P start middle (h at Start, tt) (each_map P (λ p. event w s (at + p) (Progress p)) (progress_times s.seconds) (λ p. h (at + p) (Progress p))))
-        (each_map P (λ what. event w s (at + s.seconds) what) (endings s) (λ what. h (at + s.seconds) what)))
-        (each_found P (λ hook. event w s (at + s.seconds) (Halted (phase_after s.fails) hook)) (s.halts (phase_after s.fails)) (λ hook. h (at + s.seconds) (Halted (phase_after s.fails) hook)))
+        (each_both P start middle (h at Start, tt) (each_map P (λ (x : ℕ × What). event w s (at + x.0) x.1) (between s) (λ x. h (at + x.0) x.1)))
+        (each_map P (λ what. event w s (at + seconds_of s) what) (endings s) (λ what. h (at + seconds_of s) what)))
+        (each_found P (λ hook. event w s (at + seconds_of s) (Halted (phase_after s.fails) hook)) (s.halts (phase_after s.fails)) (λ hook. h (at + seconds_of s) (Halted (phase_after s.fails) hook)))
 
 abbrev AllSuit : (Event → Type 0) → (worker : ℕ) → List Step → Type 0
 AllSuit P w [] = Unit {0}

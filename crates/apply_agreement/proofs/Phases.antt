@@ -1,26 +1,31 @@
 -- The course of a change: what may happen to it, one event after another.
-use Rattle.std.proofs.Common.{◌≡◌, ◌≢◌, ℕ, ◌<◌, ◌≤◌, ◌==◌, List, [], ◌∷◌, cond, filter, Option, Some, None, refl, ap, bytes_eq, eq-eqb, ne_eqb}
+use Rattle.std.proofs.Common.{◌≡◌, ◌≢◌, ℕ, ◌<◌, ◌≤◌, ◌==◌, List, [], ◌∷◌, Bool, true, false, cond, filter, Option, Some, None, refl, ap, bytes_eq, eq-eqb, ne_eqb}
 use Rattle.apply_check.specs.declared.action.Action.{Action}
+use Rattle.apply_check.specs.declared.action.Action.TheVariants.{Create}
 use Rattle.apply_check.specs.Words.{same_action}
 use Rattle.apply_events.specs.declared.what.What.{What}
-use Rattle.apply_events.specs.declared.what.What.TheVariants.{Start, Progress, Complete, Errored, ErrorNote, WarnNote, Halted}
+use Rattle.apply_events.specs.declared.what.What.TheVariants.{Start, Progress, Complete, Errored, ErrorNote, WarnNote, Halted, ProvisionStart, ProvisionOutput, ProvisionComplete, ProvisionErrored}
 
--- where a change is: between two steps, in one that told so many seconds last, or behind one whose failure no error has
--- explained
+-- where a change is: between two steps, in one that told so many seconds last and has a provisioner under way or none,
+-- or behind one whose failure no error has explained
 pub data Phase : Type 0 where
   between : Phase
-  under_way : Action → (told : ℕ) → Phase
+  under_way : Action → (told : ℕ) → (provisions : Bool) → Phase
   unexplained : Phase
 
 -- what happens to a step with that action takes the change from the first phase to the other
 abbrev pub Turns : Phase → Action → What → Phase → Type 0
-Turns between k Start q = q ≡ under_way k 0
+Turns between k Start q = q ≡ under_way k 0 false
 Turns between k ErrorNote q = q ≡ between
 Turns between k WarnNote q = q ≡ between
 Turns between k (Halted phase hook) q = q ≡ between
-Turns (under_way l t) k (Progress s) q = (l ≡ k) × (t < s) × (q ≡ under_way k s)
-Turns (under_way l t) k (Complete s) q = (l ≡ k) × (t ≤ s) × (q ≡ between)
-Turns (under_way l t) k (Errored s) q = (l ≡ k) × (t ≤ s) × (q ≡ unexplained)
+Turns (under_way l t b) k (Progress s) q = (l ≡ k) × (t < s) × (q ≡ under_way k s b)
+Turns (under_way l t b) k (Complete s) q = (l ≡ k) × (b ≡ false) × (t ≤ s) × (q ≡ between)
+Turns (under_way l t b) k (Errored s) q = (l ≡ k) × (b ≡ false) × (t ≤ s) × (q ≡ unexplained)
+Turns (under_way l t b) k (ProvisionStart i) q = (l ≡ k) × (k ≡ Create) × (b ≡ false) × (q ≡ under_way k t true)
+Turns (under_way l t b) k (ProvisionOutput i line) q = (l ≡ k) × (k ≡ Create) × (b ≡ true) × (q ≡ under_way k t true)
+Turns (under_way l t b) k (ProvisionComplete i) q = (l ≡ k) × (k ≡ Create) × (b ≡ true) × (q ≡ under_way k t false)
+Turns (under_way l t b) k (ProvisionErrored i) q = (l ≡ k) × (k ≡ Create) × (b ≡ true) × (q ≡ under_way k t false)
 Turns unexplained k ErrorNote q = q ≡ between
 Turns unexplained k WarnNote q = q ≡ unexplained
 Turns unexplained k (Halted phase hook) q = q ≡ between
@@ -40,7 +45,7 @@ Follows p (d ∷ ds) r = (q : Phase) × Turns p d.action d.what q × Follows q d
 -- no step of the change is under way
 abbrev pub IsStill : Phase → Type 0
 IsStill between = Unit {0}
-IsStill (under_way k told) = ⊥
+IsStill (under_way k told b) = ⊥
 IsStill unexplained = Unit {0}
 
 -- what happens to one change
@@ -62,8 +67,12 @@ put_elsewhere phases c p b apart = ap (λ t. cond t p (phases b)) (ne_eqb b c ap
 -- the seconds that an action told last, if it is under way
 abbrev pub seconds_in : Action → Phase → Option ℕ
 seconds_in k between = None
-seconds_in k (under_way l told) = cond (same_action l k) (Some told) None
+seconds_in k (under_way l told b) = cond (same_action l k) (Some told) None
 seconds_in k unexplained = None
+
+-- a provisioner of a create is under way
+abbrev pub IsProvisioning : Phase → Type 0
+IsProvisioning p = (t : ℕ) × (p ≡ under_way Create t true)
 
 -- the seconds that the action on the object of the address told last, if change c has it under way
 abbrev pub shown : (addresses : ℕ → List ℕ) → (ℕ → Phase) → (a : List ℕ) → Action → (c : ℕ) → Option ℕ

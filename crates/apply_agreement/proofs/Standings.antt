@@ -1,20 +1,22 @@
 -- What stands open after one message more.
 use Rattle.std.proofs.Common.{◌≡◌, ◌≢◌, ℕ, ◌+◌, List, [], ◌∷◌, length, Bool, true, false, cond, Option, Some, None, Result, Ok, Err, refl, ap, ◌∙◌, bytes_eq}
+use Rattle.std.specs.Prelude.{◌||◌, is_some}
 use Rattle.std.specs.List.{list_any}
 use Rattle.std.proofs.lemmas.Slice.Eq.{bytes_eq-Decides}
 use Rattle.apply_check.specs.declared.action.Action.{Action}
 use Rattle.apply_check.specs.declared.action.Action.TheVariants.{Create, Update, Delete, Read}
 use Rattle.apply_check.specs.declared.fault.Fault.{Fault}
-use Rattle.apply_check.specs.declared.fault.Fault.TheVariants.{AfterSummary}
+use Rattle.apply_check.specs.declared.fault.Fault.TheVariants.{AfterSummary, LeavesProvisioner, NoStep}
+use Rattle.apply_check.specs.declared.part.Part.{Part}
 use Rattle.apply_check.specs.declared.pending.Pending.{Pending}
 use Rattle.apply_check.specs.declared.standing.Standing.{Standing}
 use Rattle.apply_check.specs.declared.what.What.{What}
 use Rattle.apply_check.specs.declared.what.What.TheVariants.{Start, Progress, Complete, Errored}
 use Rattle.apply_check.specs.Course.{after}
 use Rattle.apply_check.specs.Lines.{is_summary, next}
-use Rattle.apply_check.specs.Message.{Message, step, diagnostic}
+use Rattle.apply_check.specs.Message.{Message, step, provision, diagnostic}
 use Rattle.apply_check.specs.Results.{◌>>=◌}
-use Rattle.apply_check.specs.Standing.{explained, owing, pending_at, standing_of, step_on, unless_left, with_pending}
+use Rattle.apply_check.specs.Standing.{explained, may_provision, owing, pending_at, provision_on, provisioned, standing_of, step_on, unless_left, with_pending}
 use Rattle.apply_check.specs.Words.{same_action}
 
 pub same_text : (a : List ℕ) → bytes_eq a a ≡ true
@@ -26,10 +28,20 @@ same_text a = (bytes_eq-Decides a a).1 refl
 abbrev pub step_in : Action → What → (line : ℕ) → Option Pending → Standing → Standing
 step_in k what line q s = owing what line (with_pending k q s)
 
-pub step_is : (k : Action) (what : What) (line : ℕ) (q : Option Pending) (s : Standing) → s.provisioner ≡ None → after k what line (pending_at k s) ≡ Ok q → step_on k what line s ≡ Ok (step_in k what line q s)
-step_is k what line q s none e =
+-- it leaves no provisioner behind
+left_none : (o : Option ℕ) (s : Standing) → (is_some o ≡ true → is_some (pending_at Create s) ≡ true) → unless_left o s ≡ Ok s
+left_none None s within = refl
+left_none (Some begin) s within =
+    ap (λ (b : Bool). cond (b || is_some s.delete) (fine s) (Err (LeavesProvisioner begin))) (within refl)
+  where
+    fine : Standing → Result Standing Fault
+    fine x = Ok x
+
+pub step_is : (k : Action) (what : What) (line : ℕ) (q : Option Pending) (s : Standing) → (is_some s.provisioner ≡ true → is_some (pending_at Create (step_in k what line q s)) ≡ true) → after k what line (pending_at k s) ≡ Ok q
+    → step_on k what line s ≡ Ok (step_in k what line q s)
+step_is k what line q s within e =
     ap (λ (r : Result (Option Pending) Fault). r >>= λ pending. unless_left s.provisioner (owing what line (with_pending k pending s))) e
-    ∙ ap (λ (o : Option ℕ). unless_left o (step_in k what line q s)) none
+    ∙ left_none s.provisioner (step_in k what line q s) within
 
 pub step_there : (a : List ℕ) (k : Action) (what : What) (s : Standing) (ms : List Message) → step_on k what (length ms + 1) (standing_of a ms) ≡ Ok s → standing_of a (step a k what ∷ ms) ≡ s
 unfolding standing_of
@@ -134,6 +146,45 @@ owed_same k Start line q s n = with_owed k q s
 owed_same k (Progress seconds) line q s n = with_owed k q s
 owed_same k (Complete seconds) line q s n = with_owed k q s
 owed_same k (Errored seconds) line q s n = absurd n
+
+-- ---- a provisioner
+
+-- what stands open then
+abbrev pub provisioner_in : Option ℕ → Standing → Standing
+provisioner_in running s = record s { provisioner = running }
+
+pub provision_there : (a : List ℕ) (part : Part) (s : Standing) (ms : List Message) → provision_on part (length ms + 1) (standing_of a ms) ≡ Ok s → standing_of a (provision a part ∷ ms) ≡ s
+unfolding standing_of
+provision_there a part s ms e = rw (same_text a, e) refl
+
+pub provision_elsewhere : (a : List ℕ) (part : Part) (ms : List Message) (b : List ℕ) → bytes_eq a b ≡ false → standing_of b (provision a part ∷ ms) ≡ standing_of b ms
+unfolding standing_of
+provision_elsewhere a part ms b apart = rw apart refl
+
+pub next_provision : (a : List ℕ) (part : Part) (s : Standing) (ms : List Message) → IsBegun ms → list_any is_summary ms ≡ false
+    → provision_on part (length ms + 1) (standing_of a ms) ≡ Ok s → next ms (provision a part) ≡ Ok (provision a part ∷ ms)
+next_provision a part s [] begun before e = absurd begun
+next_provision a part s (m ∷ ms) begun before e =
+    ap (λ (b : Bool). cond b (Err AfterSummary) (provision_on part (length (m ∷ ms) + 1) (standing_of a (m ∷ ms)) >>= λ standing. fine (provision a part ∷ m ∷ ms))) before
+    ∙ ap (λ (r : Result Standing Fault). r >>= λ standing. fine (provision a part ∷ m ∷ ms)) e
+  where
+    fine : List Message → Result (List Message) Fault
+    fine later = Ok later
+
+pub provision_is : (part : Part) (line : ℕ) (s : Standing) (before running : Option ℕ) → may_provision s ≡ true → s.provisioner ≡ before → provisioned part line before ≡ Ok running → provision_on part line s ≡ Ok (provisioner_in running s)
+provision_is part line s before running may is e =
+    ap (λ (b : Bool). cond b (provisioned part line s.provisioner >>= λ r. fine (provisioner_in r s)) (Err NoStep)) may
+    ∙ ap (λ (o : Option ℕ). provisioned part line o >>= λ r. fine (provisioner_in r s)) is
+    ∙ ap (λ (x : Result (Option ℕ) Fault). x >>= λ r. fine (provisioner_in r s)) e
+  where
+    fine : Standing → Result Standing Fault
+    fine x = Ok x
+
+pub pending_still : (l : Action) (running : Option ℕ) (s : Standing) → pending_at l (provisioner_in running s) ≡ pending_at l s
+pending_still Create running s = refl
+pending_still Update running s = refl
+pending_still Delete running s = refl
+pending_still Read running s = refl
 
 -- ---- a diagnostic
 

@@ -19,7 +19,7 @@ use Rattle.apply_check.specs.Message.{Message, version, summary}
 use Rattle.apply_check.specs.Words.{same_action}
 use Rattle.apply_events.specs.declared.event.Event.{Event}
 use Rattle.apply_events.specs.declared.what.What.{What}
-use Rattle.apply_events.specs.declared.what.What.TheVariants.{Start, Progress, Complete, Errored, ErrorNote, WarnNote, Halted}
+use Rattle.apply_events.specs.declared.what.What.TheVariants.{Start, Progress, Complete, Errored, ErrorNote, WarnNote, Halted, ProvisionStart, ProvisionOutput, ProvisionComplete, ProvisionErrored}
 use Rattle.apply_events.specs.ChangeEvents.{change_events}
 use Rattle.apply_events.specs.Diagnostics.{is_note}
 use Rattle.apply_events.specs.Interleaving.{IsInterleaving}
@@ -31,7 +31,7 @@ use Rattle.apply_events.specs.WorkerEvents.{worker_events}
 use Rattle.apply_text.specs.Order.{as_written, hook_messages_of, notes_of}
 use Rattle.apply_agreement.specs.Accepted.{stream_told, totals_said, whole_stream}
 use Rattle.apply_agreement.specs.Passing.{verdict_on}
-use Rattle.apply_agreement.specs.Plans.{IsOrdinary}
+use Rattle.apply_agreement.specs.Plans.{IsOrdinary, ProvisionsCreates}
 use Rattle.apply_agreement.specs.Told.{action_of, all_told, told}
 use Rattle.apply_agreement.proofs.Deeds.{all_deeds, all_told_both, change_written, follows, hooks_are, notes_are, of_change_is, told_is}
 use Rattle.apply_agreement.proofs.Errors.{IsPlanned, errors_told}
@@ -69,6 +69,10 @@ told_completes kind step a (Errored seconds) = refl
 told_completes kind step a ErrorNote = refl
 told_completes kind step a WarnNote = refl
 told_completes kind step a (Halted phase hook) = refl
+told_completes kind step a (ProvisionStart i) = refl
+told_completes kind step a (ProvisionOutput i line) = refl
+told_completes kind step a (ProvisionComplete i) = refl
+told_completes kind step a (ProvisionErrored i) = refl
 
 and_false : (b : Bool) → (b && false) ≡ false
 and_false true = refl
@@ -157,10 +161,10 @@ whole_is plan es lines errors =
 is_within : (plan : SavedPlan) (e : Event) → IsPlanned plan e → e.change < length plan.changes
 is_within plan e is = let change = found (slice_get plan.changes e.change) e.step is.0 is.1 in slice_get_within plan.changes e.change change.0 change.1
 
-pub run_accepted : (work : Work) (workers : ℕ) (lists : List (List ℕ)) (events : List Event) → IsOrdinary work.plan → IsPartition workers (length work.plan.changes) lists
+pub run_accepted : (work : Work) (workers : ℕ) (lists : List (List ℕ)) (events : List Event) → IsOrdinary work.plan → ProvisionsCreates work.plan work.script → IsPartition workers (length work.plan.changes) lists
     → IsInterleaving workers (λ worker. worker_events work worker (slice_index_or lists worker [])) events
     → verdict_on (stream_told work.plan events) ≡ Ok (whole_stream work.plan events)
-run_accepted work workers lists events ordinary dealt told_so =
+run_accepted work workers lists events ordinary provisioned dealt told_so =
     let plan = work.plan in
     let limit = length plan.changes in
     let addresses = address_of plan in
@@ -171,7 +175,7 @@ run_accepted work workers lists events ordinary dealt told_so =
     (known plan (hook_messages_of events)) (hooks_are plan events) (known plan (notes_of events)) (notes_are plan events)
     (λ c less.
     let part = part_of_change work workers limit lists events dealt told_so c less in
-    let written = change_written work part.0 c part.1 in
+    let written = change_written work provisioned part.0 c part.1 in
     let first : of_change c hooks ≡ all_deeds plan (hook_messages_of (change_events work part.0 c part.1)) =
     of_change_is plan c (hook_messages_of events) ∙ ap (all_deeds plan) (part_of_kept c (λ e. not (is_note e.what)) events ∙ ap hook_messages_of part.2) in
     let second : of_change c notes ≡ all_deeds plan (notes_of (change_events work part.0 c part.1)) =

@@ -1,24 +1,29 @@
 -- What may happen to a change is accepted, whatever the other changes have under way.
-use Rattle.std.proofs.Common.{◌++◌, ◌≡◌, ◌≢◌, ℕ, ◌+◌, ◌<◌, ◌≤◌, List, [], ◌∷◌, length, map, Bool, true, false, cond, Some, None, Result, Ok, refl, sym, ap, ◌∙◌, subst, ◌⊎◌, inl, inr, ⊎_elim, eq-eqb, ne_eqb, Err}
+use Rattle.std.proofs.Common.{◌++◌, ◌≡◌, ◌≢◌, ℕ, ◌+◌, ◌<◌, ◌≤◌, List, [], ◌∷◌, length, map, is_some, Bool, true, false, cond, Option, Some, None, Result, Ok, refl, sym, ap, ◌∙◌, subst, ◌⊎◌, inl, inr, ⊎_elim, eq-eqb, ne_eqb, Err}
+use Rattle.std.specs.Prelude.{◌||◌}
 use Rattle.std.proofs.lemmas.Bool.{cases_eq}
 use Rattle.apply_check.specs.declared.action.Action.{Action}
-use Rattle.apply_check.specs.declared.action.Action.TheVariants.{Delete, Read}
+use Rattle.apply_check.specs.declared.action.Action.TheVariants.{Create, Delete, Read}
 use Rattle.apply_check.specs.declared.fault.Fault.{Fault}
+use Rattle.apply_check.specs.declared.part.Part.{Part}
+use Rattle.apply_check.specs.declared.part.Part.TheVariants as part
 use Rattle.apply_check.specs.declared.what.What.TheVariants as heard
 use Rattle.apply_check.specs.Course.{max_overlap}
 use Rattle.apply_check.specs.Lines.{next}
-use Rattle.apply_check.specs.Message.{Message, step, diagnostic}
+use Rattle.apply_check.specs.Message.{Message, step, provision, diagnostic}
 use Rattle.apply_check.specs.Results.{◌>>=◌}
-use Rattle.apply_check.specs.Standing.{pending_at, standing_of}
+use Rattle.apply_check.specs.Standing as standing
+use Rattle.apply_check.specs.Standing.{may_provision, pending_at, standing_of}
 use Rattle.apply_events.specs.declared.what.What.{What}
-use Rattle.apply_events.specs.declared.what.What.TheVariants.{Start, Progress, Complete, Errored, ErrorNote, WarnNote, Halted}
+use Rattle.apply_events.specs.declared.what.What.TheVariants.{Start, Progress, Complete, Errored, ErrorNote, WarnNote, Halted, ProvisionStart, ProvisionOutput, ProvisionComplete, ProvisionErrored}
 use Rattle.apply_events.specs.Diagnostics.{is_note}
 use Rattle.apply_agreement.specs.Passing.{with_all}
 use Rattle.apply_agreement.specs.Told.{told}
 use Rattle.apply_agreement.proofs.Counting.{counted, none_or_some}
-use Rattle.apply_agreement.proofs.Fitting.{begins, ends, tells}
-use Rattle.apply_agreement.proofs.Moves.{Agrees, Apart, Moves, noted, not_running, running, shown_here, shown_is, stepped}
-use Rattle.apply_agreement.proofs.Phases.{Deed, Follows, IsStill, Phase, between, under_way, unexplained, Turns, of_change, put, put_elsewhere, put_here, seconds_in, shown, shown_same}
+use Rattle.apply_agreement.proofs.Fitting.{begins, ends, something_open, tells}
+use Rattle.apply_agreement.proofs.Moves.{Agrees, Apart, Has, Moves, noted, not_running, provisioned, running, shown_here, shown_is, stepped}
+use Rattle.apply_agreement.proofs.Phases.{Deed, Follows, IsProvisioning, IsStill, Phase, between, under_way, unexplained, Turns, of_change, put, put_elsewhere, put_here, seconds_in, shown, shown_same}
+use Rattle.apply_agreement.proofs.Standings.{provision_is}
 
 -- the message of what happens to a change
 abbrev pub said : (ℕ → List ℕ) → Deed → Message
@@ -52,8 +57,22 @@ AllAre b (d ∷ ds) = (is_note d.what ≡ b) × AllAre b ds
 
 abbrev acts_as : Action → Phase → Action
 acts_as k between = k
-acts_as k (under_way l t) = l
+acts_as k (under_way l t b) = l
 acts_as k unexplained = k
+
+-- with other seconds
+abbrev later : ℕ → Phase → Phase
+later s between = between
+later s (under_way l t b) = under_way l s b
+later s unexplained = unexplained
+
+nothing : {X : Type 0} (o : Option X) → (is_some o ≡ true → ⊥) → o ≡ None
+nothing None h = refl
+nothing (Some x) h = absurd (h refl)
+
+something : {X : Type 0} (o : Option X) → is_some o ≡ true → (x : X) × (o ≡ Some x)
+something None e = absurd cc
+something (Some x) e = (x, refl)
 
 module _ (limit : ℕ) (addresses : ℕ → List ℕ) (Within : List ℕ → Type 0) (Does : ℕ → Action → Type 0) where
   -- each is of a change below the limit that does so, at one of the addresses
@@ -81,8 +100,8 @@ module _ (limit : ℕ) (addresses : ℕ → List ℕ) (Within : List ℕ → Typ
     now : (q : Phase) → shown addresses (put phases c q) (addresses c) k c ≡ seconds_in k q
     now q = shown_here addresses (put phases c q) k c ∙ ap (seconds_in k) (put_here phases c q)
 
-    does_then : (t : ℕ) (l : Action) (s : ℕ) → under_way k s ≡ under_way l t → Does c l
-    does_then t l s e = subst (Does c) (ap (acts_as k) e) does
+    does_then : (t : ℕ) (l : Action) (s : ℕ) (x y : Bool) → under_way k s x ≡ under_way l t y → Does c l
+    does_then t l s x y e = subst (Does c) (ap (acts_as k) e) does
 
     -- it may start: no other change has the action under way there, unless the action is a delete
     may_start : phases c ≡ between → (k ≡ Delete) ⊎ (counted (shown addresses phases (addresses c) k) 0 limit ≡ 0)
@@ -91,50 +110,123 @@ module _ (limit : ℕ) (addresses : ℕ → List ℕ) (Within : List ℕ → Typ
         (λ none. inr none)
         (λ found.
         let does_too = shown_is addresses phases (addresses c) k found.0 found.1 found.3 in
-        inl (apart found.0 c k does_too.0 (agrees.does found.0 found.1 k does_too.1) does
-        (λ same. absurd (let f : between ≡ under_way k found.1 = sym is ∙ ap phases (sym same) ∙ does_too.1 in cc))))
+        inl (apart found.0 c k does_too.0 (agrees.does found.0 found.1 k does_too.1 does_too.2) does
+        (λ same. absurd (let f : between ≡ under_way k found.1 does_too.1 = sym is ∙ ap phases (sym same) ∙ does_too.2 in cc))))
         (none_or_some (shown addresses phases (addresses c) k) 0 limit)
 
-    starts : phases c ≡ between → Goes (under_way k 0) (step (addresses c) k heard.Start)
+    starts : phases c ≡ between → Goes (under_way k 0 false) (step (addresses c) k heard.Start)
     starts is =
-        let answer = begins limit c k (shown addresses phases (addresses c) k) (shown addresses (put phases c (under_way k 0)) (addresses c) k) less (others (under_way k 0)) (length ms + 1) (pending_at k (standing_of (addresses c) ms)) few
-        (before between is) (now (under_way k 0) ∙ running k 0) (may_start is) (agrees.open_steps (addresses c) k within) in
-        stepped limit addresses Within Does phases ms c k heard.Start (under_way k 0) answer.0 agrees less within answer.1 answer.2
-        (λ l other. not_running k l 0 other ∙ sym (ap (seconds_in l) is))
-        (λ t l e. does_then t l 0 e)
+        let answer = begins limit c k (shown addresses phases (addresses c) k) (shown addresses (put phases c (under_way k 0 false)) (addresses c) k) less (others (under_way k 0 false)) (length ms + 1) (pending_at k (standing_of (addresses c) ms)) few
+        (before between is) (now (under_way k 0 false) ∙ running k 0 false) (may_start is) (agrees.open_steps (addresses c) k within) in
+        stepped limit addresses Within Does phases ms c k heard.Start (under_way k 0 false) answer.0 agrees less within answer.1 answer.2
+        (λ l other. not_running k l 0 false other ∙ sym (ap (seconds_in l) is))
+        (λ t l b e. does_then t l 0 false b e)
         (inl (tt, λ u. absurd (let f : between ≡ unexplained = sym is ∙ u in cc)))
+        (λ p. absurd (let f : between ≡ under_way Create p.0 true = sym is ∙ p.1 in cc))
+        (λ p. absurd (let f : under_way k 0 false ≡ under_way Create p.0 true = p.1 in cc))
 
-    goes_on : (t s : ℕ) → phases c ≡ under_way k t → t < s → Goes (under_way k s) (step (addresses c) k (heard.Progress s))
-    goes_on t s is more =
-        let answer = tells limit c k (shown addresses phases (addresses c) k) (shown addresses (put phases c (under_way k s)) (addresses c) k) less (others (under_way k s)) t s (pending_at k (standing_of (addresses c) ms))
-        (before (under_way k t) is ∙ running k t) more (now (under_way k s) ∙ running k s) (agrees.open_steps (addresses c) k within) in
-        stepped limit addresses Within Does phases ms c k (heard.Progress s) (under_way k s) answer.0 agrees less within answer.1 answer.2
-        (λ l other. not_running k l s other ∙ sym (ap (seconds_in l) is ∙ not_running k l t other))
-        (λ u l e. does_then u l s e)
-        (inl (tt, λ u. absurd (let f : under_way k t ≡ unexplained = sym is ∙ u in cc)))
+    goes_on : (t s : ℕ) (b : Bool) → phases c ≡ under_way k t b → t < s → Goes (under_way k s b) (step (addresses c) k (heard.Progress s))
+    goes_on t s b is more =
+        let answer = tells limit c k (shown addresses phases (addresses c) k) (shown addresses (put phases c (under_way k s b)) (addresses c) k) less (others (under_way k s b)) t s (pending_at k (standing_of (addresses c) ms))
+        (before (under_way k t b) is ∙ running k t b) more (now (under_way k s b) ∙ running k s b) (agrees.open_steps (addresses c) k within) in
+        stepped limit addresses Within Does phases ms c k (heard.Progress s) (under_way k s b) answer.0 agrees less within answer.1 answer.2
+        (λ l other. not_running k l s b other ∙ sym (ap (seconds_in l) is ∙ not_running k l t b other))
+        (λ u l d e. does_then u l s b d e)
+        (inl (tt, λ u. absurd (let f : under_way k t b ≡ unexplained = sym is ∙ u in cc)))
+        (λ p. (s, ap (later s) (let f : under_way k t b ≡ under_way Create p.0 true = sym is ∙ p.1 in f)))
+        (λ p. (t, is ∙ ap (later t) p.1))
 
-    completes : (t s : ℕ) → phases c ≡ under_way k t → t ≤ s → Goes between (step (addresses c) k (heard.Complete s))
+    completes : (t s : ℕ) → phases c ≡ under_way k t false → t ≤ s → Goes between (step (addresses c) k (heard.Complete s))
     completes t s is more =
         let answer = ends limit c k (shown addresses phases (addresses c) k) (shown addresses (put phases c between) (addresses c) k) less (others between) t s (pending_at k (standing_of (addresses c) ms))
-        (before (under_way k t) is ∙ running k t) more (now between) (agrees.open_steps (addresses c) k within) in
+        (before (under_way k t false) is ∙ running k t false) more (now between) (agrees.open_steps (addresses c) k within) in
         stepped limit addresses Within Does phases ms c k (heard.Complete s) between answer.0 agrees less within answer.1 answer.2
-        (λ l other. sym (ap (seconds_in l) is ∙ not_running k l t other))
-        (λ u l e. absurd cc)
-        (inl (tt, λ u. absurd (let f : under_way k t ≡ unexplained = sym is ∙ u in cc)))
+        (λ l other. sym (ap (seconds_in l) is ∙ not_running k l t false other))
+        (λ u l b e. absurd cc)
+        (inl (tt, λ u. absurd (let f : under_way k t false ≡ unexplained = sym is ∙ u in cc)))
+        (λ p. absurd (let f : under_way k t false ≡ under_way Create p.0 true = sym is ∙ p.1 in cc))
+        (λ p. absurd (let f : between ≡ under_way Create p.0 true = p.1 in cc))
 
-    fails : (t s : ℕ) → phases c ≡ under_way k t → t ≤ s → Goes unexplained (step (addresses c) k (heard.Errored s))
+    fails : (t s : ℕ) → phases c ≡ under_way k t false → t ≤ s → Goes unexplained (step (addresses c) k (heard.Errored s))
     fails t s is more =
         let answer = ends limit c k (shown addresses phases (addresses c) k) (shown addresses (put phases c unexplained) (addresses c) k) less (others unexplained) t s (pending_at k (standing_of (addresses c) ms))
-        (before (under_way k t) is ∙ running k t) more (now unexplained) (agrees.open_steps (addresses c) k within) in
+        (before (under_way k t false) is ∙ running k t false) more (now unexplained) (agrees.open_steps (addresses c) k within) in
         stepped limit addresses Within Does phases ms c k (heard.Errored s) unexplained answer.0 agrees less within answer.1 answer.2
-        (λ l other. sym (ap (seconds_in l) is ∙ not_running k l t other))
-        (λ u l e. absurd cc)
+        (λ l other. sym (ap (seconds_in l) is ∙ not_running k l t false other))
+        (λ u l b e. absurd cc)
         (inr refl)
+        (λ p. absurd (let f : under_way k t false ≡ under_way Create p.0 true = sym is ∙ p.1 in cc))
+        (λ p. absurd (let f : unexplained ≡ under_way Create p.0 true = p.1 in cc))
+
+    -- it is a create with a provisioner under way or not: no other change has one under way there
+    module _ (creates : k ≡ Create) where
+      alone : (d : ℕ) → d ≢ c → addresses d ≡ addresses c → IsProvisioning (phases d) → ⊥
+      alone d other there is = let e : Create ≡ Delete = apart d c Create there (agrees.does d is.0 Create true is.1) (subst (Does c) creates does) other in cc
+
+      provisions_may : (t : ℕ) (b : Bool) → phases c ≡ under_way k t b → may_provision (standing_of (addresses c) ms) ≡ true
+      provisions_may t b is =
+          let s = standing_of (addresses c) ms in
+          let open_at : is_some (pending_at k s) ≡ true = something_open limit k (shown addresses phases (addresses c) k) (pending_at k s) c t (agrees.open_steps (addresses c) k within) less (before (under_way k t b) is ∙ running k t b) in
+          let open_create : is_some s.create ≡ true = subst (λ (m : Action). is_some (pending_at m s) ≡ true) creates open_at in
+          ap (λ (x : Bool). x || is_some s.delete) open_create
+
+      none_runs : (t : ℕ) → phases c ≡ under_way k t false → (standing_of (addresses c) ms).provisioner ≡ None
+      none_runs t is = nothing (standing_of (addresses c) ms).provisioner (λ some.
+          let found = agrees.provisioners (addresses c) within some in
+          ⊎_elim
+          (λ (here : found.0 ≡ c). let f : under_way k t false ≡ under_way Create found.3.0 true = sym is ∙ ap phases (sym here) ∙ found.3.1 in cc)
+          (λ elsewhere. alone found.0 elsewhere found.2 found.3)
+          (cases_eq found.0 c))
+
+      one_runs : (t : ℕ) → phases c ≡ under_way k t true → (x : ℕ) × ((standing_of (addresses c) ms).provisioner ≡ Some x)
+      one_runs t is = something (standing_of (addresses c) ms).provisioner (agrees.provisioning c less within (t, is ∙ ap (λ (m : Action). under_way m t true) creates))
+
+      runs_then : (t : ℕ) → Has limit addresses Within Does (put phases c (under_way k t true)) (addresses c)
+      runs_then t = (c, less, refl, (t, put_here phases c (under_way k t true) ∙ ap (λ (m : Action). under_way m t true) creates))
+
+      provision_starts : (t : ℕ) → phases c ≡ under_way k t false → Goes (under_way k t true) (provision (addresses c) part.Start)
+      provision_starts t is =
+          let s = standing_of (addresses c) ms in
+          provisioned limit addresses Within Does phases ms c part.Start (under_way k t true) (Some (length ms + 1)) agrees less within
+          (provision_is part.Start (length ms + 1) s None (Some (length ms + 1)) (provisions_may t false is) (none_runs t is) refl)
+          (λ l. sym (ap (seconds_in l) is))
+          (λ u l b e. does_then u l t true b e)
+          (λ u. absurd (let f : under_way k t false ≡ unexplained = sym is ∙ u in cc))
+          (λ _. runs_then t)
+          (λ d there p. refl)
+
+      provision_goes_on : (t : ℕ) → phases c ≡ under_way k t true → Goes (under_way k t true) (provision (addresses c) part.Progress)
+      provision_goes_on t is =
+          let s = standing_of (addresses c) ms in
+          let one = one_runs t is in
+          provisioned limit addresses Within Does phases ms c part.Progress (under_way k t true) (Some one.0) agrees less within
+          (provision_is part.Progress (length ms + 1) s (Some one.0) (Some one.0) (provisions_may t true is) one.1 refl)
+          (λ l. sym (ap (seconds_in l) is))
+          (λ u l b e. does_then u l t true b e)
+          (λ u. absurd (let f : under_way k t true ≡ unexplained = sym is ∙ u in cc))
+          (λ _. runs_then t)
+          (λ d there p. refl)
+
+      provision_ends : (end : Part) → ((line x : ℕ) → standing.provisioned end line (Some x) ≡ Ok None) → (t : ℕ) → phases c ≡ under_way k t true → Goes (under_way k t false) (provision (addresses c) end)
+      provision_ends end is_end t is =
+          let s = standing_of (addresses c) ms in
+          let one = one_runs t is in
+          provisioned limit addresses Within Does phases ms c end (under_way k t false) None agrees less within
+          (provision_is end (length ms + 1) s (Some one.0) None (provisions_may t true is) one.1 (is_end (length ms + 1) one.0))
+          (λ l. sym (ap (seconds_in l) is))
+          (λ u l b e. does_then u l t false b e)
+          (λ u. absurd (let f : under_way k t true ≡ unexplained = sym is ∙ u in cc))
+          (λ none. absurd cc)
+          (λ d there p. absurd
+          (⊎_elim
+          (λ (here : d ≡ c). let f : under_way k t false ≡ under_way Create p.0 true = sym (put_here phases c (under_way k t false)) ∙ ap (put phases c (under_way k t false)) (sym here) ∙ p.1 in cc)
+          (λ elsewhere. alone d elsewhere there (subst IsProvisioning (put_elsewhere phases c (under_way k t false) d elsewhere) p))
+          (cases_eq d c)))
 
     -- nothing is under way
     module _ (still : (b : ℕ) → b < limit → IsStill (phases b)) where
-      no_reads : (b x : ℕ) → b < limit → phases b ≢ under_way Read x
-      no_reads b x l e = subst IsStill e (still b l)
+      no_reads : (b x : ℕ) (p : Bool) → b < limit → phases b ≢ under_way Read x p
+      no_reads b x p l e = subst IsStill e (still b l)
 
       tells_error : (p : Phase) → phases c ≡ p → ((l : Action) → seconds_in l p ≡ None) → Goes between (diagnostic true (Some (addresses c)))
       tells_error p is none =
@@ -151,28 +243,51 @@ module _ (limit : ℕ) (addresses : ℕ → List ℕ) (Within : List ℕ → Typ
       note_turns unexplained ErrorNote q note is turn = (subst (λ (x : Phase). Goes x (diagnostic true (Some (addresses c)))) (sym turn) (tells_error unexplained is (λ l. refl)), subst IsStill (sym turn) tt)
       note_turns unexplained WarnNote q note is turn = (subst (λ (x : Phase). Goes x (diagnostic false (Some (addresses c)))) (sym turn) (tells_warning unexplained is (λ l. refl)), subst IsStill (sym turn) tt)
       note_turns unexplained (Halted phase hook) q note is turn = (subst (λ (x : Phase). Goes x (diagnostic true (Some (addresses c)))) (sym turn) (tells_error unexplained is (λ l. refl)), subst IsStill (sym turn) tt)
-      note_turns (under_way l t) what q note is turn = absurd (subst IsStill is (still c less))
+      note_turns (under_way l t b) what q note is turn = absurd (subst IsStill is (still c less))
       note_turns p Start q note is turn = absurd cc
       note_turns p (Progress s) q note is turn = absurd cc
       note_turns p (Complete s) q note is turn = absurd cc
       note_turns p (Errored s) q note is turn = absurd cc
+      note_turns p (ProvisionStart i) q note is turn = absurd cc
+      note_turns p (ProvisionOutput i line) q note is turn = absurd cc
+      note_turns p (ProvisionComplete i) q note is turn = absurd cc
+      note_turns p (ProvisionErrored i) q note is turn = absurd cc
+
+    exactly : (l : Action) (t : ℕ) (b wanted : Bool) → phases c ≡ under_way l t b → l ≡ k → b ≡ wanted → phases c ≡ under_way k t wanted
+    exactly l t b wanted is same flag = is ∙ ap (λ (x : Action). under_way x t b) same ∙ ap (under_way k t) flag
 
     pub hook_turns : (p : Phase) (what : What) (q : Phase) → is_note what ≡ false → phases c ≡ p → Turns p k what q → Goes q (told (addresses c) k what)
     hook_turns between Start q hook is turn = subst (λ (x : Phase). Goes x (step (addresses c) k heard.Start)) (sym turn) (starts is)
-    hook_turns (under_way l t) (Progress s) q hook is turn =
-        subst (λ (x : Phase). Goes x (step (addresses c) k (heard.Progress s))) (sym turn.2) (goes_on t s (is ∙ ap (λ (x : Action). under_way x t) turn.0) turn.1)
-    hook_turns (under_way l t) (Complete s) q hook is turn =
-        subst (λ (x : Phase). Goes x (step (addresses c) k (heard.Complete s))) (sym turn.2) (completes t s (is ∙ ap (λ (x : Action). under_way x t) turn.0) turn.1)
-    hook_turns (under_way l t) (Errored s) q hook is turn =
-        subst (λ (x : Phase). Goes x (step (addresses c) k (heard.Errored s))) (sym turn.2) (fails t s (is ∙ ap (λ (x : Action). under_way x t) turn.0) turn.1)
+    hook_turns (under_way l t b) (Progress s) q hook is turn =
+        subst (λ (x : Phase). Goes x (step (addresses c) k (heard.Progress s))) (sym turn.2) (goes_on t s b (is ∙ ap (λ (x : Action). under_way x t b) turn.0) turn.1)
+    hook_turns (under_way l t b) (Complete s) q hook is turn =
+        subst (λ (x : Phase). Goes x (step (addresses c) k (heard.Complete s))) (sym turn.3) (completes t s (exactly l t b false is turn.0 turn.1) turn.2)
+    hook_turns (under_way l t b) (Errored s) q hook is turn =
+        subst (λ (x : Phase). Goes x (step (addresses c) k (heard.Errored s))) (sym turn.3) (fails t s (exactly l t b false is turn.0 turn.1) turn.2)
+    hook_turns (under_way l t b) (ProvisionStart i) q hook is turn =
+        subst (λ (x : Phase). Goes x (provision (addresses c) part.Start)) (sym turn.3) (provision_starts turn.1 t (exactly l t b false is turn.0 turn.2))
+    hook_turns (under_way l t b) (ProvisionOutput i line) q hook is turn =
+        subst (λ (x : Phase). Goes x (provision (addresses c) part.Progress)) (sym turn.3) (provision_goes_on turn.1 t (exactly l t b true is turn.0 turn.2))
+    hook_turns (under_way l t b) (ProvisionComplete i) q hook is turn =
+        subst (λ (x : Phase). Goes x (provision (addresses c) part.Complete)) (sym turn.3) (provision_ends turn.1 part.Complete (λ line x. refl) t (exactly l t b true is turn.0 turn.2))
+    hook_turns (under_way l t b) (ProvisionErrored i) q hook is turn =
+        subst (λ (x : Phase). Goes x (provision (addresses c) part.Errored)) (sym turn.3) (provision_ends turn.1 part.Errored (λ line x. refl) t (exactly l t b true is turn.0 turn.2))
     hook_turns between (Progress s) q hook is turn = absurd turn
     hook_turns between (Complete s) q hook is turn = absurd turn
     hook_turns between (Errored s) q hook is turn = absurd turn
-    hook_turns (under_way l t) Start q hook is turn = absurd turn
+    hook_turns between (ProvisionStart i) q hook is turn = absurd turn
+    hook_turns between (ProvisionOutput i line) q hook is turn = absurd turn
+    hook_turns between (ProvisionComplete i) q hook is turn = absurd turn
+    hook_turns between (ProvisionErrored i) q hook is turn = absurd turn
+    hook_turns (under_way l t b) Start q hook is turn = absurd turn
     hook_turns unexplained Start q hook is turn = absurd turn
     hook_turns unexplained (Progress s) q hook is turn = absurd turn
     hook_turns unexplained (Complete s) q hook is turn = absurd turn
     hook_turns unexplained (Errored s) q hook is turn = absurd turn
+    hook_turns unexplained (ProvisionStart i) q hook is turn = absurd turn
+    hook_turns unexplained (ProvisionOutput i line) q hook is turn = absurd turn
+    hook_turns unexplained (ProvisionComplete i) q hook is turn = absurd turn
+    hook_turns unexplained (ProvisionErrored i) q hook is turn = absurd turn
     hook_turns p ErrorNote q hook is turn = absurd cc
     hook_turns p WarnNote q hook is turn = absurd cc
     hook_turns p (Halted phase hook_number) q hook is turn = absurd cc

@@ -28,16 +28,18 @@ none_shown : (limit : ℕ) (addresses : ℕ → List ℕ) (phases : ℕ → Phas
 none_shown limit addresses phases a k rest =
     ⊎_elim
     (λ none. none)
-    (λ found. absurd (let e : between ≡ under_way k found.1 = sym (rest found.0 (let less : found.0 < 0 + limit = found.2 in omega arith)) ∙ (shown_is addresses phases a k found.0 found.1 found.3).1 in cc))
+    (λ found. let seen = shown_is addresses phases a k found.0 found.1 found.3 in
+    absurd (let e : between ≡ under_way k found.1 seen.1 = sym (rest found.0 (let less : found.0 < 0 + limit = found.2 in omega arith)) ∙ seen.2 in cc))
     (none_or_some (shown addresses phases a k) 0 limit)
 
 pub at_begin : (limit : ℕ) (addresses : ℕ → List ℕ) (Does : ℕ → Action → Type 0) → Agrees limit addresses Anywhere Does (λ c. between) (version ∷ [])
 unfolding standing_of
 at_begin limit addresses Does = record {
   open_steps = λ a k _. idle_at a k (none_shown limit addresses (λ c. between) a k (λ c less. refl));
-  provisioners = λ a _. refl;
+  provisioners = λ a _ some. absurd cc;
+  provisioning = λ c less _ is. absurd (let e : between ≡ under_way Create is.0 true = is.1 in cc);
   owed = λ a _ some. absurd cc;
-  does = λ c t k e. absurd cc;
+  does = λ c t k b e. absurd cc;
   begun = tt;
   unsummed = refl;
 }
@@ -61,7 +63,8 @@ pub idle_at_end : (limit : ℕ) (addresses : ℕ → List ℕ) (Does : ℕ → A
     → (a : List ℕ) → is_idle (standing_of a ms) ≡ true
 idle_at_end limit addresses Does phases ms agrees rest a =
     let none = λ (k : Action). nothing_fits limit k (shown addresses phases a k) (pending_at k (standing_of a ms)) (agrees.open_steps a k tt) (none_shown limit addresses phases a k rest) in
-    idle_from (standing_of a ms) (none Create) (none Update) (none Delete) (none Read) (agrees.provisioners a tt)
+    idle_from (standing_of a ms) (none Create) (none Update) (none Delete) (none Read)
+    (nothing (standing_of a ms).provisioner (λ some. let found = agrees.provisioners a tt some in let e : between ≡ under_way Create found.3.0 true = sym (rest found.0 found.1) ∙ found.3.1 in absurd cc))
     (nothing (standing_of a ms).owed (λ some. let found = agrees.owed a tt some in let e : between ≡ unexplained = sym (rest found.0 found.1) ∙ found.3 in absurd cc))
 
 none_unended : (all : List Message) → ((a : List ℕ) → is_idle (standing_of a all) ≡ true) → (o : Option (List ℕ)) → option_map_or (λ a. not (is_idle (standing_of a all))) o false ≡ false

@@ -30,7 +30,7 @@ abbrev pub objects_of : SavedPlan → Outcomes → (seconds : ℕ) → Event →
 objects_of plan script seconds event =
     option_map_or (λ change.
     option_map_or (λ step.
-    object_of seconds (event_message change step (outcome_of script event.change event.step).result event.what) ∷ [])
+    object_of seconds (event_message change step (outcome_of script event.change event.step) event.what) ∷ [])
     (slice_get change.steps event.step) []) (slice_get plan.changes event.change) []
 
 -- those of events, at the latest moment up to each

@@ -1,9 +1,13 @@
--- Plans as Terraform makes them: a deposed object may stand beside the current one of its address, and is only deleted.
-use Rattle.std.specs.Prelude.{◌≡◌, ◌≤◌, ℕ, All, Some, is_some, slice_get, true, length}
-use Rattle.apply_plan.specs.declared.plan.step_kind.StepKind.TheVariants.{Delete}
+-- Plans as Terraform makes them, and scripts as they are read for them: a deposed object may stand beside the current
+-- one of its address, and is only deleted, and only creates have provisioners.
+use Rattle.std.specs.Prelude.{◌≡◌, ◌≢◌, ◌≤◌, ℕ, All, [], Some, is_some, slice_get, true, length}
+use Rattle.apply_plan.specs.declared.plan.step_kind.StepKind.{StepKind}
+use Rattle.apply_plan.specs.declared.plan.step_kind.StepKind.TheVariants.{Create, Delete}
 use Rattle.apply_plan.specs.Plan.Laws.{NamesEachObjectOnce}
 use Rattle.apply_plan.specs.Plan.ResourceChange.{ResourceChange}
 use Rattle.apply_plan.specs.Plan.SavedPlan.{SavedPlan, max_changes}
+use Rattle.apply_plan.specs.Script.Outcomes.{Outcomes, outcome_of}
+use Rattle.apply_events.specs.Step.{kinds_of}
 
 -- the plan has the change at that number
 abbrev pub IsChange : SavedPlan → ℕ → ResourceChange → Type 0
@@ -15,3 +19,9 @@ pub record IsOrdinary (plan : SavedPlan) : Type 0 where
   pub once : NamesEachObjectOnce plan.changes
   pub deleted : (c : ℕ) (change : ResourceChange) → IsChange plan c change → is_some change.deposed ≡ true
       → All (λ kind. kind ≡ Delete) change.steps
+
+-- a step that is no create has no provisioner
+abbrev pub ProvisionsCreates : SavedPlan → Outcomes → Type 0
+ProvisionsCreates plan script =
+    (c k : ℕ) (kind : StepKind) → slice_get (kinds_of plan c) k ≡ Some kind → kind ≢ Create
+    → (outcome_of script c k).provisioners ≡ []

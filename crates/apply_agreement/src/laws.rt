@@ -2,7 +2,7 @@
 
 ghost use Rattle.std.specs.Prelude.{◌≡◌, ◌<◌, ℕ, List, [], length, slice_index_or, Ok};
 ghost use Rattle.apply_plan.specs.declared.plan.step_kind.StepKind.{StepKind};
-ghost use Rattle.apply_plan.specs.declared.script.ending.Ending.{Ending};
+ghost use Rattle.apply_plan.specs.declared.script.outcome.Outcome.{Outcome};
 ghost use Rattle.apply_plan.specs.Plan.ResourceChange.{ResourceChange};
 ghost use Rattle.apply_check.specs.Cut.{lines_of};
 ghost use Rattle.apply_check.specs.Lines.{message_of_tree, verdict_of};
@@ -19,7 +19,7 @@ ghost use Rattle.apply_text.specs.Message.{event_message};
 ghost use Rattle.apply_agreement.specs.Accepted.{stream_told, whole_stream};
 ghost use Rattle.apply_agreement.specs.Objects.{object_of, stream_objects};
 ghost use Rattle.apply_agreement.specs.Passing.{verdict_on, verdict_on_objects};
-ghost use Rattle.apply_agreement.specs.Plans.{IsOrdinary};
+ghost use Rattle.apply_agreement.specs.Plans.{IsOrdinary, ProvisionsCreates};
 ghost use Rattle.apply_agreement.specs.Sound.{CanBeRead};
 ghost use Rattle.apply_agreement.specs.Told.{action_of, told};
 
@@ -29,8 +29,8 @@ use apply_text::a_line_has_one_line_feed;
 /// The object of an event's message says to a checker what happens to which object: the address, the action and the
 /// seconds are read as they were written, whenever it was.
 pub fn an_event_is_heard()
-    ensures { (change : ResourceChange) (kind : StepKind) (ending : Ending) (what : What) (seconds : ℕ)
-        → message_of_tree (object_of seconds (event_message change kind ending what))
+    ensures { (change : ResourceChange) (kind : StepKind) (outcome : Outcome) (what : What) (seconds : ℕ)
+        → message_of_tree (object_of seconds (event_message change kind outcome what))
         ≡ Ok (told change.address (action_of kind) what) }
 {}
 
@@ -40,6 +40,7 @@ pub fn an_event_is_heard()
 /// plan it is asked that no object is changed twice and that a deposed object is only deleted.
 pub fn every_run_is_accepted()
     ensures { (work : Work) (workers : ℕ) (lists : List (List ℕ)) (events : List Event) → IsOrdinary work.plan
+        → ProvisionsCreates work.plan work.script
         → IsPartition workers (length work.plan.changes) lists
         → IsInterleaving workers (λ worker. worker_events work worker (slice_index_or lists worker [])) events
         → verdict_on (stream_told work.plan events) ≡ Ok (whole_stream work.plan events) }
@@ -48,7 +49,7 @@ pub fn every_run_is_accepted()
 /// So it accepts the objects that the stream of such a run is made of, whenever it began, of an apply and of a destroy.
 pub fn every_stream_of_objects_is_accepted()
     ensures { (work : Work) (workers start : ℕ) (lists : List (List ℕ)) (events : List Event) (operation : Operation)
-        → IsOrdinary work.plan
+        → IsOrdinary work.plan → ProvisionsCreates work.plan work.script
         → IsPartition workers (length work.plan.changes) lists
         → IsInterleaving workers (λ worker. worker_events work worker (slice_index_or lists worker [])) events
         → verdict_on_objects (stream_objects work.plan work.script start operation events)
@@ -59,7 +60,7 @@ pub fn every_stream_of_objects_is_accepted()
 /// number is beyond 64 bits and no line is longer than 64 MiB.
 pub fn every_stream_is_accepted()
     ensures { (work : Work) (workers start : ℕ) (lists : List (List ℕ)) (events : List Event) (operation : Operation)
-        → IsOrdinary work.plan
+        → IsOrdinary work.plan → ProvisionsCreates work.plan work.script
         → IsPartition workers (length work.plan.changes) lists
         → IsInterleaving workers (λ worker. worker_events work worker (slice_index_or lists worker [])) events
         → CanBeRead (stream_objects work.plan work.script start operation events)
@@ -72,7 +73,7 @@ pub fn every_stream_is_accepted()
 /// The same of the stream of a time line, of as many changes under way at once as there are lanes.
 pub fn every_stream_in_lanes_is_accepted()
     ensures { (work : Work) (n start : ℕ) (events : List Event) (operation : Operation)
-        → IsOrdinary work.plan → 0 < n → IsTimeLine work n events
+        → IsOrdinary work.plan → ProvisionsCreates work.plan work.script → 0 < n → IsTimeLine work n events
         → CanBeRead (stream_objects work.plan work.script start operation events)
         → verdict_of (lines_of (stream_of work.plan work.script start operation events))
         ≡ Ok (whole_stream work.plan events) }

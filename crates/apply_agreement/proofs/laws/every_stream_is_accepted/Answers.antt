@@ -6,6 +6,6 @@ use Rattle.apply_agreement.specs.Accepted.{whole_stream}
 use Rattle.apply_agreement.proofs.laws.every_stream_is_accepted.Goals as goal
 
 pub returns : goal.returns
-returns c work workers start lists events operation ordinary dealt told read =
+returns c work workers start lists events operation ordinary provisioned dealt told read =
     stream_accepted c.a_line_has_one_line_feed.ensures work.plan work.script start operation events (whole_stream work.plan events) read
-    (objects_heard work.plan work.script start operation events ∙ run_accepted work workers lists events ordinary dealt told)
+    (objects_heard work.plan work.script start operation events ∙ run_accepted work workers lists events ordinary provisioned dealt told)

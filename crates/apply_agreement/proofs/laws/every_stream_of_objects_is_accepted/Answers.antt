@@ -4,5 +4,5 @@ use Rattle.apply_agreement.proofs.Tallies.{run_accepted}
 use Rattle.apply_agreement.proofs.laws.every_stream_of_objects_is_accepted.Goals as goal
 
 pub returns : goal.returns
-returns c work workers start lists events operation ordinary dealt told =
-    objects_heard work.plan work.script start operation events ∙ run_accepted work workers lists events ordinary dealt told
+returns c work workers start lists events operation ordinary provisioned dealt told =
+    objects_heard work.plan work.script start operation events ∙ run_accepted work workers lists events ordinary provisioned dealt told
