@@ -11,6 +11,7 @@ pub mod Ordinary
 pub mod Parts
 pub mod Phases
 pub mod ReadBack
+pub mod Scripts
 pub mod Standings
 pub mod Tallies
 pub mod Turning

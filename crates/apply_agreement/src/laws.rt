@@ -4,6 +4,8 @@ ghost use Rattle.std.specs.Prelude.{◌≡◌, ◌<◌, ℕ, List, [], length, s
 ghost use Rattle.apply_plan.specs.declared.plan.step_kind.StepKind.{StepKind};
 ghost use Rattle.apply_plan.specs.declared.script.outcome.Outcome.{Outcome};
 ghost use Rattle.apply_plan.specs.Plan.ResourceChange.{ResourceChange};
+ghost use Rattle.apply_plan.specs.Plan.SavedPlan.{SavedPlan};
+ghost use Rattle.apply_plan.specs.Script.Outcomes.{Outcomes, script_of};
 ghost use Rattle.apply_check.specs.Cut.{lines_of};
 ghost use Rattle.apply_check.specs.Lines.{message_of_tree, verdict_of};
 ghost use Rattle.apply_events.specs.declared.event.Event.{Event};
@@ -34,10 +36,19 @@ pub fn an_event_is_heard()
         ≡ Ok (told change.address (action_of kind) what) }
 {}
 
+/// Of a script that was read for a plan no step but a create has provisioners, and so it is of a script that says
+/// nothing: what the laws below ask of a script.
+pub fn a_script_provisions_creates()
+    ensures read { (plan : SavedPlan) (bytes : List ℕ) (script : Outcomes)
+        → script_of plan bytes ≡ Ok script → ProvisionsCreates plan script }
+    ensures empty { (plan : SavedPlan) → ProvisionsCreates plan [] }
+{}
+
 /// Whatever the script and the hooks, however the changes are dealt out to workers, and in whatever order the workers'
 /// events come: a checker accepts what their messages tell, in the order in which they are written, between the version
 /// and the summary. Its totals are theirs, and it tells of an error exactly where a step failed or was halted. Of the
-/// plan it is asked that no object is changed twice and that a deposed object is only deleted.
+/// plan it is asked that no object is changed twice and that a deposed object is only deleted, and of the script that
+/// only creates have provisioners.
 pub fn every_run_is_accepted()
     ensures { (work : Work) (workers : ℕ) (lists : List (List ℕ)) (events : List Event) → IsOrdinary work.plan
         → ProvisionsCreates work.plan work.script

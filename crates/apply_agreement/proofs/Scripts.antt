@@ -1,0 +1,220 @@
+-- A script that was read has provisioners at creates alone.
+use Rattle.std.proofs.Common.{◌≡◌, ◌≢◌, ℕ, zero, suc, ◌+◌, ◌==◌, List, [], ◌∷◌, length, map, find, Bool, true, false, cond, Option, Some, None, Result, Ok, Err, refl, sym, ap, ◌∙◌, subst, ◌⊎◌, inl, inr, ⊎_elim, slice_get, unwrap_or, option_map, take, arith}
+use Rattle.std.specs.Prelude.{◌&&◌, ◌||◌, nat_lt}
+use Rattle.std.specs.List.{AllByRecursion, enumerate_from, list_any, range_with_len, zip}
+use Rattle.std.specs.Option.{option_map_or}
+use Rattle.std.proofs.lemmas.Bool.{both_ways, lt-ltb}
+use Rattle.std.proofs.lemmas.Bool.Decides.{eqb_tells}
+use Rattle.std.proofs.lemmas.Option.{same_Some}
+use Rattle.serde_json.specs.Data.{Data, Items}
+use Rattle.apply_plan.specs.declared.plan.step_kind.StepKind.{StepKind}
+use Rattle.apply_plan.specs.declared.plan.step_kind.StepKind.TheVariants.{Create, Update, Delete, Read}
+use Rattle.apply_plan.specs.declared.script.outcome.Outcome.{Outcome}
+use Rattle.apply_plan.specs.declared.script.provisioner.Provisioner.{Provisioner}
+use Rattle.apply_plan.specs.declared.script.script_error.ScriptError.{ScriptError}
+use Rattle.apply_plan.specs.declared.script.script_error.ScriptError.TheVariants.{TooLarge, NotJson, BadShape, UnknownChange, Duplicate, TooManySteps, SecondsRange, TooManyProvisioners, TooMuchOutput, NotACreate}
+use Rattle.apply_plan.specs.Json as json
+use Rattle.apply_plan.specs.Json.{list_of, max_bytes, tree_of}
+use Rattle.apply_plan.specs.Plan.ResourceChange.{ResourceChange}
+use Rattle.apply_plan.specs.Plan.SavedPlan.{SavedPlan}
+use Rattle.apply_plan.specs.Results.{◌>>=◌, all_or_first, each_with_earlier, or_refuse, unless_refused}
+use Rattle.apply_plan.specs.Script.Entry.{Entry, entry_of}
+use Rattle.apply_plan.specs.Script.Outcome.{default_outcome, has_too_many_provisioners, has_too_much_output, is_too_long}
+use Rattle.apply_plan.specs.Script.Outcomes.{Outcomes, by_number, change_of_entry, elements_of, entry_at, is_about, names_change, said_of, script_of, script_of_entries, script_of_tree}
+use Rattle.apply_plan.specs.Script.Refusals.{fault_of_steps, misplaces_provisioners}
+use Rattle.apply_events.specs.Step.{kinds_of}
+use Rattle.apply_agreement.specs.Plans.{ProvisionsCreates}
+
+-- ---- one entry
+
+-- it is about a change with its number, whose steps have no fault
+record Suits (changes : List ResourceChange) (one : ℕ × List Outcome) : Type 0 where
+  change : ResourceChange
+  place : slice_get changes one.0 ≡ Some change
+  number : ℕ
+  fine : fault_of_steps number change.steps one.1 ≡ None
+
+found_at : {X : Type 0} (test : X → Bool) (n : ℕ) (xs : List X) (found : ℕ × X) → find (λ (p : ℕ × X). test p.1) (enumerate_from n xs) ≡ Some found → (i : ℕ) × (found.0 ≡ n + i) × (slice_get xs i ≡ Some found.1)
+found_at test n [] found e = absurd cc
+found_at {X} test n (x ∷ xs) found e = either (test x) (found_at test (n + 1) xs found) e
+  where
+    either : (b : Bool) → (find (λ (p : ℕ × X). test p.1) (enumerate_from (n + 1) xs) ≡ Some found → (i : ℕ) × (found.0 ≡ n + 1 + i) × (slice_get xs i ≡ Some found.1))
+        → cond b (Some (n, x)) (find (λ (p : ℕ × X). test p.1) (enumerate_from (n + 1) xs)) ≡ Some found → (i : ℕ) × (found.0 ≡ n + i) × (slice_get (x ∷ xs) i ≡ Some found.1)
+    either true rest e =
+        let same = same_Some (n, x) found e in
+        (0, (let number : n ≡ found.0 = ap (λ (p : ℕ × X). p.0) same in omega arith), ap (λ (p : ℕ × X). Some p.1) same)
+    either false rest e =
+        let later = rest e in
+        (suc later.0, (let number : found.0 ≡ n + 1 + later.0 = later.1 in omega arith), later.2)
+
+module _ (changes : List ResourceChange) (n : ℕ) (one : ℕ × List Outcome) where
+  of_fault : (found : ℕ × ResourceChange) (steps : List Outcome) (again : Bool) (fault : Option ScriptError) → fault_of_steps n found.1.steps steps ≡ fault → slice_get changes found.0 ≡ Some found.1
+      → cond again (Err (Duplicate n)) (unless_refused fault (found.0, steps)) ≡ Ok one → Suits changes one
+  of_fault found steps true fault is place e = absurd cc
+  of_fault found steps false (Some fault) is place e = absurd cc
+  of_fault found steps false None is place e =
+      let number : found.0 ≡ one.0 = cc in
+      let outcomes : steps ≡ one.1 = cc in
+      record {
+        change = found.1;
+        place = ap (slice_get changes) (sym number) ∙ place;
+        number = n;
+        fine = ap (fault_of_steps n found.1.steps) (sym outcomes) ∙ is;
+      }
+
+  of_found : (twice : ResourceChange → Bool) (steps : List Outcome) (o : Option (ℕ × ResourceChange)) → ((found : ℕ × ResourceChange) → o ≡ Some found → slice_get changes found.0 ≡ Some found.1)
+      → (or_refuse (UnknownChange n) o >>= λ found. cond (twice found.1) (Err (Duplicate n)) (unless_refused (fault_of_steps n found.1.steps steps) (found.0, steps))) ≡ Ok one → Suits changes one
+  of_found twice steps None place e = absurd cc
+  of_found twice steps (Some found) place e = of_fault found steps (twice found.1) (fault_of_steps n found.1.steps steps) refl (place found refl) e
+
+  place_of : (entry : Entry) (found : ℕ × ResourceChange) → change_of_entry changes entry ≡ Some found → slice_get changes found.0 ≡ Some found.1
+  place_of entry found e =
+      let there = found_at (λ (change : ResourceChange). is_about change entry) 0 changes found e in
+      let number : found.0 ≡ there.0 = (let zero_on : found.0 ≡ 0 + there.0 = there.1 in omega arith) in
+      ap (slice_get changes) number ∙ there.2
+
+entry_suits : (changes : List ResourceChange) (before : List Data) (d : Data) (one : ℕ × List Outcome) → entry_at changes before d ≡ Ok one → Suits changes one
+unfolding entry_at
+entry_suits changes before d one e = of_entry (entry_of d) e
+  where
+    of_entry : (o : Option Entry)
+        → (or_refuse (BadShape (Some (length before))) o
+        >>= λ entry. or_refuse (UnknownChange (length before)) (change_of_entry changes entry)
+        >>= λ found. cond (list_any (names_change found.1) before) (Err (Duplicate (length before))) (unless_refused (fault_of_steps (length before) found.1.steps entry.steps) (found.0, entry.steps))) ≡ Ok one
+        → Suits changes one
+    of_entry None e = absurd cc
+    of_entry (Some entry) e = of_found changes (length before) one (λ change. list_any (names_change change) before) entry.steps (change_of_entry changes entry) (λ found is. place_of changes (length before) one entry found is) e
+
+-- ---- all entries
+
+all_hold : {X Y F : Type 0} (P : Y → Type 0) (f : X → Result Y F) (xs : List X) (ys : List Y) → ((x : X) (y : Y) → f x ≡ Ok y → P y) → all_or_first (map f xs) ≡ Ok ys → AllByRecursion P ys
+all_hold {X} {Y} {F} P f [] ys holds e = subst (AllByRecursion P) (let same : [] ≡ ys = cc in same) tt
+all_hold {X} {Y} {F} P f (x ∷ xs) ys holds e = first (f x) refl (all_or_first (map f xs)) (λ rest. all_hold P f xs rest holds) e
+  where
+    fine : List Y → Result (List Y) F
+    fine l = Ok l
+
+    first : (r : Result Y F) → f x ≡ r → (later : Result (List Y) F) → ((rest : List Y) → later ≡ Ok rest → AllByRecursion P rest) → (r >>= λ y. later >>= λ rest. fine (y ∷ rest)) ≡ Ok ys → AllByRecursion P ys
+    first (Err refusal) is later hold e = absurd cc
+    first (Ok y) is (Err refusal) hold e = absurd cc
+    first (Ok y) is (Ok rest) hold e = subst (AllByRecursion P) (let same : y ∷ rest ≡ ys = cc in same) (holds x y is, hold rest refl)
+
+said_suits : (changes : List ResourceChange) (entries : List (ℕ × List Outcome)) (c : ℕ) (outcomes : List Outcome) → AllByRecursion (Suits changes) entries → said_of entries c ≡ Some outcomes
+    → (one : ℕ × List Outcome) × Suits changes one × (one.0 ≡ c) × (one.1 ≡ outcomes)
+said_suits changes [] c outcomes suit e = absurd cc
+said_suits changes (x ∷ entries) c outcomes suit e = ⊎_elim
+    (λ (same : ((x.0 == c) ≡ true) × (x.0 ≡ c)).
+    (x, suit.0, same.1, same_Some x.1 outcomes (sym (ap (λ (b : Bool). option_map (λ (y : ℕ × List Outcome). y.1) (cond b (Some x) (find (λ (y : ℕ × List Outcome). y.0 == c) entries))) same.0) ∙ e)))
+    (λ (other : ((x.0 == c) ≡ false) × (x.0 ≢ c)).
+    said_suits changes entries c outcomes suit.1 (sym (ap (λ (b : Bool). option_map (λ (y : ℕ × List Outcome). y.1) (cond b (Some x) (find (λ (y : ℕ × List Outcome). y.0 == c) entries))) other.0) ∙ e))
+    (eqb_tells x.0 c)
+
+-- ---- the steps of a change
+
+not_refused : (b : Bool) (refusal : ScriptError) (o : Option ScriptError) → cond b (Some refusal) o ≡ None → (b ≡ false) × (o ≡ None)
+not_refused true refusal o e = absurd cc
+not_refused false refusal o e = (refl, e)
+
+none_misplaced : (n : ℕ) (kinds : List StepKind) (steps : List Outcome) → fault_of_steps n kinds steps ≡ None → list_any misplaces_provisioners (zip kinds steps) ≡ false
+unfolding fault_of_steps
+none_misplaced n kinds steps e =
+    let many = not_refused (nat_lt (length kinds) (length steps)) (TooManySteps n) _ e in
+    let long = not_refused (list_any is_too_long steps) (SecondsRange n) _ many.1 in
+    let wide = not_refused (list_any has_too_many_provisioners steps) (TooManyProvisioners n) _ long.1 in
+    let loud = not_refused (list_any has_too_much_output steps) (TooMuchOutput n) _ wide.1 in
+    (not_refused (list_any misplaces_provisioners (zip kinds steps)) (NotACreate n) _ loud.1).0
+
+are_none : (ps : List Provisioner) → (nat_lt 0 (length ps) && true) ≡ false → ps ≡ []
+are_none [] e = refl
+are_none (p ∷ ps) e = absurd (both_ways (nat_lt 0 (length (p ∷ ps)) && true) e (ap (λ (b : Bool). b && true) (lt-ltb 0 (length (p ∷ ps)) (omega arith))))
+
+no_provisioner : (kind : StepKind) (outcome : Outcome) → misplaces_provisioners (kind, outcome) ≡ false → kind ≢ Create → outcome.provisioners ≡ []
+no_provisioner Create outcome e other = absurd (other refl)
+no_provisioner Update outcome e other = are_none outcome.provisioners e
+no_provisioner Delete outcome e other = are_none outcome.provisioners e
+no_provisioner Read outcome e other = are_none outcome.provisioners e
+
+-- its step that is no create has no provisioner, whatever is said of it
+step_has_none : (kinds : List StepKind) (steps : List Outcome) (k : ℕ) (kind : StepKind) → list_any misplaces_provisioners (zip kinds steps) ≡ false → slice_get kinds k ≡ Some kind → kind ≢ Create
+    → (unwrap_or (slice_get steps k) default_outcome).provisioners ≡ []
+step_has_none kinds [] k kind e at other = refl
+step_has_none [] (x ∷ steps) k kind e at other = absurd cc
+step_has_none (y ∷ kinds) (x ∷ steps) k kind e at other =
+    let both = neither (misplaces_provisioners (y, x)) (list_any misplaces_provisioners (zip kinds steps)) e in
+    at_number k both.0 at (λ j is. step_has_none kinds steps j kind both.1 is other)
+  where
+    neither : (a b : Bool) → (a || b) ≡ false → (a ≡ false) × (b ≡ false)
+    neither true b e = absurd cc
+    neither false b e = (refl, e)
+
+    at_number : (k : ℕ) → misplaces_provisioners (y, x) ≡ false → slice_get (y ∷ kinds) k ≡ Some kind
+        → ((j : ℕ) → slice_get kinds j ≡ Some kind → (unwrap_or (slice_get steps j) default_outcome).provisioners ≡ []) → (unwrap_or (slice_get (x ∷ steps) k) default_outcome).provisioners ≡ []
+    at_number zero fine at rest = no_provisioner y x fine (λ is. other (sym (same_Some y kind at) ∙ is))
+    at_number (suc j) fine at rest = rest j at
+
+-- ---- the whole script
+
+number_at : {X : Type 0} (g : ℕ → X) (low n c : ℕ) → (slice_get (map g (range_with_len low n)) c ≡ None) ⊎ (slice_get (map g (range_with_len low n)) c ≡ Some (g (low + c)))
+number_at g low zero c = inl refl
+number_at g low (suc n) zero = inr (let here : low ≡ low + 0 = omega arith in ap (λ (x : ℕ). Some (g x)) here)
+number_at {X} g low (suc n) (suc c) =
+    let next : low + 1 + c ≡ low + suc c = omega arith in
+    subst (λ (x : ℕ). (slice_get (map g (range_with_len (low + 1) n)) c ≡ None) ⊎ (slice_get (map g (range_with_len (low + 1) n)) c ≡ Some (g x))) next (number_at g (low + 1) n c)
+
+-- the step's outcome, by what stands at the change's number
+abbrev outcome_at : Option (Option (List Outcome)) → ℕ → Outcome
+outcome_at o k = unwrap_or (json.◌>>=◌ (json.◌>>=◌ o (λ said. said)) (λ outcomes. slice_get outcomes k)) default_outcome
+
+said_has_none : (plan : SavedPlan) (entries : List (ℕ × List Outcome)) (c k : ℕ) (kind : StepKind) (said : Option (List Outcome)) → AllByRecursion (Suits plan.changes) entries → said_of entries c ≡ said
+    → slice_get (kinds_of plan c) k ≡ Some kind → kind ≢ Create → (outcome_at (Some said) k).provisioners ≡ []
+said_has_none plan entries c k kind None suit is at other = refl
+said_has_none plan entries c k kind (Some outcomes) suit is at other =
+    let found = said_suits plan.changes entries c outcomes suit is in
+    let suits = found.1 in
+    let place : slice_get plan.changes c ≡ Some suits.change = ap (slice_get plan.changes) (sym found.2) ∙ suits.place in
+    let kinds : slice_get suits.change.steps k ≡ Some kind = sym (ap (λ (o : Option ResourceChange). slice_get (option_map_or (λ (change : ResourceChange). change.steps) o []) k) place) ∙ at in
+    let fine : fault_of_steps suits.number suits.change.steps outcomes ≡ None = ap (fault_of_steps suits.number suits.change.steps) (sym found.3) ∙ suits.fine in
+    step_has_none suits.change.steps outcomes k kind (none_misplaced suits.number suits.change.steps outcomes fine) kinds other
+
+numbered_has_none : (plan : SavedPlan) (entries : List (ℕ × List Outcome)) → AllByRecursion (Suits plan.changes) entries → ProvisionsCreates plan (by_number (length plan.changes) entries)
+numbered_has_none plan entries suit c k kind at other = ⊎_elim
+    (λ (none : slice_get (by_number (length plan.changes) entries) c ≡ None). ap (λ (o : Option (Option (List Outcome))). (outcome_at o k).provisioners) none)
+    (λ (some : slice_get (by_number (length plan.changes) entries) c ≡ Some (said_of entries (0 + c))).
+    let number : 0 + c ≡ c = omega arith in
+    ap (λ (o : Option (Option (List Outcome))). (outcome_at o k).provisioners) (some ∙ ap (λ (x : ℕ). Some (said_of entries x)) number)
+    ∙ said_has_none plan entries c k kind (said_of entries c) suit refl at other)
+    (number_at (said_of entries) 0 (length plan.changes) c)
+
+entries_have : (plan : SavedPlan) (elements : List Data) (script : Outcomes) → script_of_entries plan elements ≡ Ok script → ProvisionsCreates plan script
+unfolding script_of_entries
+entries_have plan elements script e =
+    of_entries (all_or_first (each_with_earlier (entry_at plan.changes) elements))
+    (λ entries is. all_hold (Suits plan.changes) (λ (p : ℕ × Data). entry_at plan.changes (take p.0 elements) p.1) (enumerate_from 0 elements) entries (λ p one. entry_suits plan.changes (take p.0 elements) p.1 one) is) e
+  where
+    fine : Outcomes → Result Outcomes ScriptError
+    fine s = Ok s
+
+    of_entries : (r : Result (List (ℕ × List Outcome)) ScriptError) → ((entries : List (ℕ × List Outcome)) → r ≡ Ok entries → AllByRecursion (Suits plan.changes) entries)
+        → (r >>= λ entries. fine (by_number (length plan.changes) entries)) ≡ Ok script → ProvisionsCreates plan script
+    of_entries (Err refusal) suit e = absurd cc
+    of_entries (Ok entries) suit e = subst (ProvisionsCreates plan) (let same : by_number (length plan.changes) entries ≡ script = cc in same) (numbered_has_none plan entries (suit entries refl))
+
+tree_has : (plan : SavedPlan) (d : Data) (script : Outcomes) → script_of_tree plan d ≡ Ok script → ProvisionsCreates plan script
+unfolding script_of_tree
+tree_has plan d script e = of_elements (elements_of d) e
+  where
+    of_elements : (o : Option Items) → (or_refuse (BadShape None) o >>= λ elements. script_of_entries plan (list_of elements)) ≡ Ok script → ProvisionsCreates plan script
+    of_elements None e = absurd cc
+    of_elements (Some elements) e = entries_have plan (list_of elements) script e
+
+pub read_has : (plan : SavedPlan) (bytes : List ℕ) (script : Outcomes) → script_of plan bytes ≡ Ok script → ProvisionsCreates plan script
+unfolding script_of
+read_has plan bytes script e = of_size (nat_lt max_bytes (length bytes)) (tree_of bytes) e
+  where
+    of_size : (b : Bool) (o : Option Data) → cond b (Err TooLarge) (or_refuse NotJson o >>= script_of_tree plan) ≡ Ok script → ProvisionsCreates plan script
+    of_size true o e = absurd cc
+    of_size false None e = absurd cc
+    of_size false (Some d) e = tree_has plan d script e
+
+pub none_has : (plan : SavedPlan) → ProvisionsCreates plan []
+none_has plan c k kind at other = refl
