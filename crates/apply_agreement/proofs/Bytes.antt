@@ -16,7 +16,8 @@ use Rattle.apply_check.specs.declared.finding.Finding.{Finding}
 use Rattle.apply_check.specs.declared.whole.Whole.{Whole}
 use Rattle.apply_check.specs.Cut as cut
 use Rattle.apply_check.specs.Cut.{onto_first}
-use Rattle.apply_check.specs.Json.{max_bytes, tree_of}
+use Rattle.apply_json.specs.Tree.{tree_of}
+use Rattle.apply_check.specs.Limits.{max_bytes}
 use Rattle.apply_check.specs.Lines.{at_line, end_of, message_of, message_of_tree, next, read_line, read_tree, verdict_behind, verdict_of}
 use Rattle.apply_check.specs.Message.{Message}
 use Rattle.apply_check.specs.Results.{◌>>=◌, or_refuse}

@@ -15,7 +15,7 @@ use Rattle.serde_json.specs.Data.{Num, unsigned, negative, float, Data, null, bo
 use Rattle.serde_json.specs.Read.{max_depth, of_json, read}
 use Rattle.serde_json.specs.Written.{comma_if, compact_text, items_outline, items_text, members_outline, members_text, number_text, outline}
 use Rattle.serde_json.proofs.Texts.{print-outline}
-use Rattle.apply_check.specs.Json.{tree_of}
+use Rattle.apply_json.specs.Tree.{tree_of}
 use Rattle.apply_agreement.specs.Sound.{AreSoundItems, AreSoundMembers, FitsBits, IsSound}
 
 -- ---- UTF-8
