@@ -117,7 +117,7 @@ fn one_lane_is_one_worker(rt: HostRuntime) {
 fn a_plan_that_was_read_in_lanes(rt: HostRuntime) {
     let alloc = rt.alloc();
     let plan = plan_of(&rt, alloc, ONE_CREATE);
-    let script = Script::empty(alloc);
+    let script = Script::empty();
     let registry = Registry::new(alloc);
     let (sink, result) = apply_in_lanes(
         alloc,
