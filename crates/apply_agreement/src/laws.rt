@@ -28,8 +28,8 @@ ghost use Rattle.apply_agreement.specs.Told.{action_of, told};
 use apply_events::lanes_deal_out_the_changes;
 use apply_text::a_line_has_one_line_feed;
 
-/// The object of an event's message says to a checker what happens to which object: the address, the action and the
-/// seconds are read as they were written, whenever it was.
+/// The object of an event's message says to a checker what happens to which object: the address, the action, the
+/// seconds, and what becomes of a provisioner, are read as they were written, whenever it was.
 pub fn an_event_is_heard()
     ensures { (change : ResourceChange) (kind : StepKind) (outcome : Outcome) (what : What) (seconds : ℕ)
         → message_of_tree (object_of seconds (event_message change kind outcome what))
