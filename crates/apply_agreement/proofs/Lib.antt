@@ -12,6 +12,8 @@ pub mod Parts
 pub mod Phases
 pub mod ReadBack
 pub mod Scripts
+pub mod SoundObjects
+pub mod Sounds
 pub mod Standings
 pub mod Tallies
 pub mod Turning

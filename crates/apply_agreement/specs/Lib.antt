@@ -3,4 +3,5 @@ pub mod Objects
 pub mod Passing
 pub mod Plans
 pub mod Sound
+pub mod Texts
 pub mod Told

@@ -28,7 +28,11 @@ abbrev mutual
   AreSoundMembers no_members = ⊤
   AreSoundMembers (member k d ms) = IsUtf8 k × IsSound d × AreSoundMembers ms
 
+-- its line is no longer than a line may be
+abbrev pub IsShort : Data → Type 0
+IsShort d = length (compact_text d) ≤ max_bytes
+
 -- the texts of the objects are read back: no text is damaged, no number too great, and no line too long
 pub record CanBeRead (objects : List Data) : Type 0 where
   pub sound : AllByRecursion IsSound objects
-  pub short : AllByRecursion (λ (d : Data). length (compact_text d) ≤ max_bytes) objects
+  pub short : AllByRecursion IsShort objects

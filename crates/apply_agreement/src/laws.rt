@@ -1,6 +1,7 @@
 //! Laws of streams that are written here and checked there. Each function does nothing; its contract is the law.
 
 ghost use Rattle.std.specs.Prelude.{◌≡◌, ◌<◌, ℕ, List, [], length, slice_index_or, Ok};
+ghost use Rattle.std.specs.List.{AllByRecursion};
 ghost use Rattle.apply_plan.specs.declared.plan.step_kind.StepKind.{StepKind};
 ghost use Rattle.apply_plan.specs.declared.script.outcome.Outcome.{Outcome};
 ghost use Rattle.apply_plan.specs.Plan.ResourceChange.{ResourceChange};
@@ -22,7 +23,8 @@ ghost use Rattle.apply_agreement.specs.Accepted.{stream_told, whole_stream};
 ghost use Rattle.apply_agreement.specs.Objects.{object_of, stream_objects};
 ghost use Rattle.apply_agreement.specs.Passing.{verdict_on, verdict_on_objects};
 ghost use Rattle.apply_agreement.specs.Plans.{IsOrdinary, ProvisionsCreates};
-ghost use Rattle.apply_agreement.specs.Sound.{CanBeRead};
+ghost use Rattle.apply_agreement.specs.Sound.{CanBeRead, IsShort};
+ghost use Rattle.apply_agreement.specs.Texts.{FitBits, HasTexts};
 ghost use Rattle.apply_agreement.specs.Told.{action_of, told};
 
 use apply_events::lanes_deal_out_the_changes;
@@ -65,6 +67,16 @@ pub fn every_stream_of_objects_is_accepted()
         → IsInterleaving workers (λ worker. worker_events work worker (slice_index_or lists worker [])) events
         → verdict_on_objects (stream_objects work.plan work.script start operation events)
         ≡ Ok (whole_stream work.plan events) }
+{}
+
+/// The texts of a stream's objects are read back, where those of the plan and the script are UTF-8, the numbers of the
+/// events and their totals fit 64 bits, and no line is longer than 64 MiB: moments, lengths of time and the words of
+/// messages are ASCII, whatever they tell of.
+pub fn a_stream_of_texts_can_be_read()
+    ensures { (plan : SavedPlan) (script : Outcomes) (start : ℕ) (operation : Operation) (events : List Event)
+        → HasTexts plan script → FitBits plan events
+        → AllByRecursion IsShort (stream_objects plan script start operation events)
+        → CanBeRead (stream_objects plan script start operation events) }
 {}
 
 /// And so it accepts the bytes of the stream of such a run, cut at their line feeds, where no text is damaged, no
