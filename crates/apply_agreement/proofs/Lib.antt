@@ -12,6 +12,7 @@ pub mod Parts
 pub mod Phases
 pub mod ReadBack
 pub mod Scripts
+pub mod SmallNumbers
 pub mod SoundObjects
 pub mod Sounds
 pub mod Standings

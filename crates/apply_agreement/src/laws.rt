@@ -1,16 +1,17 @@
 //! Laws of streams that are written here and checked there. Each function does nothing; its contract is the law.
 
-ghost use Rattle.std.specs.Prelude.{◌≡◌, ◌<◌, ℕ, List, [], length, slice_index_or, Ok};
+ghost use Rattle.std.specs.Prelude.{◌≡◌, ◌<◌, ◌^◌, ℕ, All, List, [], length, slice_index_or, Ok};
 ghost use Rattle.std.specs.List.{AllByRecursion};
 ghost use Rattle.apply_plan.specs.declared.plan.step_kind.StepKind.{StepKind};
 ghost use Rattle.apply_plan.specs.declared.script.outcome.Outcome.{Outcome};
 ghost use Rattle.apply_plan.specs.Plan.ResourceChange.{ResourceChange};
 ghost use Rattle.apply_plan.specs.Plan.SavedPlan.{SavedPlan};
-ghost use Rattle.apply_plan.specs.Script.Outcomes.{Outcomes, script_of};
+ghost use Rattle.apply_plan.specs.Script.Outcomes.{IsInRange, Outcomes, script_of};
 ghost use Rattle.apply_check.specs.Cut.{lines_of};
 ghost use Rattle.apply_check.specs.Lines.{message_of_tree, verdict_of};
 ghost use Rattle.apply_events.specs.declared.event.Event.{Event};
 ghost use Rattle.apply_events.specs.declared.what.What.{What};
+ghost use Rattle.apply_events.specs.Fits.{Fits};
 ghost use Rattle.apply_events.specs.Interleaving.{IsInterleaving};
 ghost use Rattle.apply_events.specs.Lanes.TimeLine.{IsTimeLine};
 ghost use Rattle.apply_events.specs.Partition.{IsPartition};
@@ -77,6 +78,13 @@ pub fn a_stream_of_texts_can_be_read()
         → HasTexts plan script → FitBits plan events
         → AllByRecursion IsShort (stream_objects plan script start operation events)
         → CanBeRead (stream_objects plan script start operation events) }
+{}
+
+/// The numbers of events that can happen fit 64 bits, and so do their totals, with a script that was read, where there
+/// are fewer than 2^64 events.
+pub fn events_that_can_happen_fit_bits()
+    ensures { (plan : SavedPlan) (script : Outcomes) (events : List Event) → IsInRange script
+        → All (Fits plan script) events → length events < 2 ^ 64 → FitBits plan events }
 {}
 
 /// And so it accepts the bytes of the stream of such a run, cut at their line feeds, where no text is damaged, no

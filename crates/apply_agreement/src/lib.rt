@@ -6,6 +6,6 @@ mod laws;
 
 pub use laws::{
     a_script_provisions_creates, a_stream_of_texts_can_be_read, an_event_is_heard,
-    every_run_is_accepted, every_stream_in_lanes_is_accepted, every_stream_is_accepted,
-    every_stream_of_objects_is_accepted,
+    events_that_can_happen_fit_bits, every_run_is_accepted, every_stream_in_lanes_is_accepted,
+    every_stream_is_accepted, every_stream_of_objects_is_accepted,
 };
