@@ -1,5 +1,5 @@
 -- Bytes before a line feed.
-use Rattle.std.proofs.Common.{◌≡◌, ◌≢◌, ◌≤◌, ◌<◌, ℕ, zero, suc, List, All, length, take, get_or, refl, arith, add-one}
+use Rattle.std.proofs.Common.{◌≢◌, ◌≤◌, ℕ, zero, suc, List, All, length, take, get_or, refl, arith, add-one}
 use Rattle.std.proofs.lemmas.List.Elements.{All-more, All-nil}
 use Rattle.memchr.specs.Find.{Nowhere, Passes, is_byte}
 

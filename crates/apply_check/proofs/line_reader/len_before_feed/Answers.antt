@@ -1,4 +1,4 @@
-use Rattle.std.proofs.Common.{◌≤◌, length, arith, refl}
+use Rattle.std.proofs.Common.{length, arith}
 use Rattle.apply_check.proofs.Feeds.{before_feed}
 use Rattle.apply_check.proofs.line_reader.len_before_feed.Goals as goal
 
