@@ -30,7 +30,8 @@ const FIRST_PROGRESS: u32 = 10;
 /// How long the texts are that it may be put together of.
 const TEXT_LEN: usize = 256;
 
-/// Lines of a stream, one behind the other. Room that was made once is kept, so that further lines cost no growth.
+/// Lines of a stream, one behind the other. Room that was made once is kept, so that a further line costs no growth, but
+/// where a line of progress keeps what it has in common with those behind it.
 ///
 /// Contracts see the bytes of the lines.
 #[derive(Drop)]
