@@ -43,55 +43,42 @@ fn outcome_is(rt: &impl Abort, outcome: &Outcome, status: u8, printed: &str, sai
     assert_eq!(rt; outcome.status, status);
 }
 
-#[test]
-fn texts(rt: HostRuntime) {
-    let alloc = rt.alloc();
-    outcome_is(
-        &rt,
-        &checked(alloc, Form::Text, FAILED),
-        1,
-        "the stream is whole: 0 added, 0 changed, 0 destroyed, with errors\n",
-        "",
-    );
-    outcome_is(
-        &rt,
-        &checked(alloc, Form::Text, CUT_OFF),
-        2,
-        "",
-        "applystream: line 3 comes before all has ended and each failure is explained: create of b[\"x\"] since line 2\n",
-    );
-    outcome_is(
-        &rt,
-        &checked(alloc, Form::Text, "x"),
-        2,
-        "",
-        "applystream: line 1 is not a message\n",
-    );
+/// Fails where the check of the stream ends with another status or tells something else, as text or as an object. The text
+/// on a stream that is not whole stands where faults do.
+fn told_is(rt: &impl Abort, alloc: Global, stream: &str, status: u8, text: &str, object: &str) {
+    let (printed, said) = if status < 2 { (text, "") } else { ("", text) };
+    let told = checked(alloc, Form::Text, stream);
+    outcome_is(rt, &told, status, printed, said);
+    let told = checked(alloc, Form::Json, stream);
+    outcome_is(rt, &told, status, object, "");
 }
 
 #[test]
-fn objects(rt: HostRuntime) {
+fn verdicts_as_text_and_as_objects(rt: HostRuntime) {
     let alloc = rt.alloc();
-    outcome_is(
+    told_is(
         &rt,
-        &checked(alloc, Form::Json, FAILED),
+        alloc,
+        FAILED,
         1,
+        "the stream is whole: 0 added, 0 changed, 0 destroyed, with errors\n",
         "{\"add\":0,\"change\":0,\"errors\":true,\"lines\":4,\"remove\":0,\"whole\":true}\n",
-        "",
     );
-    outcome_is(
+    told_is(
         &rt,
-        &checked(alloc, Form::Json, CUT_OFF),
+        alloc,
+        CUT_OFF,
         2,
+        "applystream: line 3 comes before all has ended and each failure is explained: create of b[\"x\"] since line 2\n",
         "{\"address\":\"b[\\\"x\\\"]\",\"fault\":\"unended\",\"line\":3,\"open\":\"create\",\"other\":2,\"whole\":false}\n",
-        "",
     );
-    outcome_is(
+    told_is(
         &rt,
-        &checked(alloc, Form::Json, "x"),
+        alloc,
+        "x",
         2,
+        "applystream: line 1 is not a message\n",
         "{\"fault\":\"not_a_message\",\"line\":1,\"whole\":false}\n",
-        "",
     );
 }
 
