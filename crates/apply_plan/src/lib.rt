@@ -27,6 +27,3 @@ pub use script::reading::read_script;
 pub use script::script_error::ScriptError;
 pub use script::texts::{MAX_OUTPUTS, Texts};
 pub use text::Text;
-
-#[cfg(test)]
-mod tests;

@@ -12,8 +12,6 @@ pub mod key;
 pub mod laws;
 pub mod mode;
 pub mod object_id;
-#[cfg(test)]
-pub mod plain;
 pub mod plan_error;
 pub mod plan_shape;
 pub mod planned;

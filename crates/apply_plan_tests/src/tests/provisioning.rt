@@ -3,7 +3,7 @@
 use super::outcomes::{line_of, push_diag, push_printed};
 use super::table::{cells, compare, push, put, rows};
 use super::*;
-use crate::{Outcome, Provisioner};
+use apply_plan::{Outcome, Provisioner};
 
 /// Adds what the provisioner is and puts out: `; "NAME" SECONDS "OUTPUT" ..`, and why it fails, where it does.
 fn push_provisioner(rt: &impl Abort, alloc: Global, line: &mut String, provisioner: &Provisioner) {

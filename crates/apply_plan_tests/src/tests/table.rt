@@ -4,6 +4,7 @@
 //! It also takes long where many values are dropped at many places, so these functions are short and keep little, and end
 //! the test at once where memory is refused.
 
+use super::plain::reads_as_plainly;
 use super::*;
 use std::str::Lines;
 
@@ -48,7 +49,7 @@ pub fn put(rt: &impl Abort, alloc: Global, text: &str, mark: &str, other: &str) 
 }
 
 /// The text that the table has for the name.
-fn named<'a>(rt: &impl Abort, texts: &'a str, name: &str) -> &'a str {
+pub fn named<'a>(rt: &impl Abort, texts: &'a str, name: &str) -> &'a str {
     for row in rows(rt, texts) {
         let (known, text) = cells(rt, row);
         if known == name {

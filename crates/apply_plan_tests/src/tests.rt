@@ -4,6 +4,7 @@ mod accepted;
 mod elements;
 mod limits;
 mod outcomes;
+mod plain;
 mod plans;
 mod provisioners;
 mod provisioning;
@@ -12,11 +13,8 @@ mod scripts;
 mod table;
 mod trimming;
 
-use crate::plan::header::Header;
-use crate::plan::{plain, reading};
-use crate::{MAX_BYTES, MAX_CHANGES, Plan, Script, Text, read_plan, read_script};
-use apply_json::parse;
-use serde_json::Value;
+use self::table::named;
+use apply_plan::{Plan, Script, Text, read_plan, read_script};
 use std::alloc::Global;
 use std::fmt::{Debug, Display};
 use std::process::Abort;
@@ -84,43 +82,11 @@ fn script_is_answered(rt: &impl Abort, alloc: Global, plan: &str, bytes: &[u8], 
     assert_eq!(rt; found.as_str(), wanted);
 }
 
-/// Fails where the error has another text.
-fn is_told(rt: &impl Abort, alloc: Global, error: &impl Display, wanted: &str) {
+/// Fails where the error has another text than the table has for what `Debug` prints of it.
+fn is_told(rt: &impl Abort, alloc: Global, error: &(impl Debug + Display), texts: &str) {
+    let name = printed(rt, alloc, error);
     let text = shown(rt, alloc, error);
-    assert_eq!(rt; text.as_str(), wanted);
-}
-
-/// Fails where the changes that the reader and the plain reader give for these elements are not printed alike. Neither is
-/// asked for more than a plan may have.
-fn elements_read_as_plainly(rt: &impl Abort, alloc: Global, case: &str, elements: &[Value]) {
-    if elements.len() <= MAX_CHANGES {
-        let fast = printed(rt, alloc, &reading::changes_of(alloc, elements));
-        let plain = printed(rt, alloc, &plain::changes_of(alloc, elements));
-        assert!(rt;
-            fast.as_str() == plain.as_str(),
-            "at {case}: {fast} and not {plain}"
-        );
-    }
-}
-
-/// Fails where the reader and the plain reader answer these bytes as a plan otherwise.
-fn plan_reads_as_plainly(rt: &impl Abort, alloc: Global, text: &str) {
-    let fast = printed(rt, alloc, &read_plan(alloc, text.as_bytes()));
-    let plain = printed(rt, alloc, &plain::read_plan(alloc, text.as_bytes()));
-    assert!(rt;
-        fast.as_str() == plain.as_str(),
-        "at {text}: {fast} and not {plain}"
-    );
-}
-
-/// The same, and for the elements of the plan, where the text has a plan's top level.
-fn reads_as_plainly(rt: &impl Abort, alloc: Global, text: &str) {
-    plan_reads_as_plainly(rt, alloc, text);
-    if let Ok(tree) = parse(alloc, text.as_bytes(), MAX_BYTES) {
-        if let Some(header) = Header::of(&tree) {
-            elements_read_as_plainly(rt, alloc, text, header.elements);
-        }
-    }
+    assert_eq!(rt; text.as_str(), named(rt, texts, name.as_str()));
 }
 
 #[test]

@@ -1,7 +1,7 @@
 use super::scripts::ONE_DELETE;
 use super::table::{cells, compare, push, put, rows};
 use super::*;
-use crate::{Diag, Ending, Outcome};
+use apply_plan::{Diag, Ending, Outcome};
 
 /// Five changes: an update, a replacement, a deposed object at the address of the update, a change of nothing, and a
 /// create.

@@ -1,7 +1,7 @@
 use super::accepted::{QUOTED_PLAN, plans_tell};
-use super::table::{cells, plans_are_answered, rows, with_end};
+use super::table::{plans_are_answered, with_end};
 use super::*;
-use crate::PlanError;
+use apply_plan::PlanError;
 
 const REFUSED: &str = r#"
 [] => the plan is not a plan of format 1.x
@@ -71,7 +71,7 @@ fn bytes_that_are_no_json_are_refused(rt: HostRuntime) {
     plan_is_answered(&rt, alloc, no_number, refused);
 }
 
-/// Each refusal, and its text.
+/// Each refusal as `Debug` prints it, and its text.
 const TEXTS: &str = r#"
 TooLarge => the plan is larger than 67108864 bytes
 NotJson => the plan is not JSON
@@ -84,25 +84,20 @@ Duplicate(6) => change 6 repeats an earlier change
 Memory => out of memory
 "#;
 
-fn refusal_of(rt: &impl Abort, name: &str) -> PlanError {
-    match name {
-        "TooLarge" => PlanError::TooLarge,
-        "NotJson" => PlanError::NotJson,
-        "NotAPlan" => PlanError::NotAPlan,
-        "TooMany" => PlanError::TooMany,
-        "BadChange(3)" => PlanError::BadChange(3),
-        "BadActions(4)" => PlanError::BadActions(4),
-        "BadAddress(5)" => PlanError::BadAddress(5),
-        "Duplicate(6)" => PlanError::Duplicate(6),
-        "Memory" => PlanError::Memory,
-        _ => panic!(rt; "no refusal is {name}"),
-    }
-}
-
 #[test]
 fn refusals_have_their_texts(rt: HostRuntime) {
-    for row in rows(&rt, TEXTS) {
-        let (name, wanted) = cells(&rt, row);
-        is_told(&rt, rt.alloc(), &refusal_of(&rt, name), wanted);
+    let refusals = [
+        PlanError::TooLarge,
+        PlanError::NotJson,
+        PlanError::NotAPlan,
+        PlanError::TooMany,
+        PlanError::BadChange(3),
+        PlanError::BadActions(4),
+        PlanError::BadAddress(5),
+        PlanError::Duplicate(6),
+        PlanError::Memory,
+    ];
+    for refusal in refusals {
+        is_told(&rt, rt.alloc(), &refusal, TEXTS);
     }
 }

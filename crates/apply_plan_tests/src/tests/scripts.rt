@@ -1,6 +1,6 @@
 use super::table::{cells, put, rows, scripts_are_answered, spelled_rows, with_end};
 use super::*;
-use crate::ScriptError;
+use apply_plan::ScriptError;
 
 /// A plan of one change, which replaces `null_resource.a`.
 const ONE_REPLACEMENT: &str =
@@ -171,7 +171,7 @@ fn each_change_has_one_entry(rt: HostRuntime) {
     scripts_are_answered(&rt, alloc, THREE_CHANGES, ENTRIES, table.as_str());
 }
 
-/// Each refusal, and its text.
+/// Each refusal as `Debug` prints it, and its text.
 const TEXTS: &str = r#"
 TooLarge => the script is larger than 67108864 bytes
 NotJson => the script is not JSON
@@ -187,28 +187,23 @@ NotACreate(10) => script entry 10 has a provisioner on a step that is not a crea
 Memory => out of memory
 "#;
 
-fn refusal_of(rt: &impl Abort, name: &str) -> ScriptError {
-    match name {
-        "TooLarge" => ScriptError::TooLarge,
-        "NotJson" => ScriptError::NotJson,
-        "BadShape(None)" => ScriptError::BadShape(None),
-        "BadShape(Some(3))" => ScriptError::BadShape(Some(3)),
-        "UnknownChange(4)" => ScriptError::UnknownChange(4),
-        "Duplicate(5)" => ScriptError::Duplicate(5),
-        "TooManySteps(6)" => ScriptError::TooManySteps(6),
-        "SecondsRange(7)" => ScriptError::SecondsRange(7),
-        "TooManyProvisioners(8)" => ScriptError::TooManyProvisioners(8),
-        "TooMuchOutput(9)" => ScriptError::TooMuchOutput(9),
-        "NotACreate(10)" => ScriptError::NotACreate(10),
-        "Memory" => ScriptError::Memory,
-        _ => panic!(rt; "no refusal is {name}"),
-    }
-}
-
 #[test]
 fn script_refusals_have_their_texts(rt: HostRuntime) {
-    for row in rows(&rt, TEXTS) {
-        let (name, wanted) = cells(&rt, row);
-        is_told(&rt, rt.alloc(), &refusal_of(&rt, name), wanted);
+    let refusals = [
+        ScriptError::TooLarge,
+        ScriptError::NotJson,
+        ScriptError::BadShape(None),
+        ScriptError::BadShape(Some(3)),
+        ScriptError::UnknownChange(4),
+        ScriptError::Duplicate(5),
+        ScriptError::TooManySteps(6),
+        ScriptError::SecondsRange(7),
+        ScriptError::TooManyProvisioners(8),
+        ScriptError::TooMuchOutput(9),
+        ScriptError::NotACreate(10),
+        ScriptError::Memory,
+    ];
+    for refusal in refusals {
+        is_told(&rt, rt.alloc(), &refusal, TEXTS);
     }
 }

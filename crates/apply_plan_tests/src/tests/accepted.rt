@@ -1,6 +1,7 @@
+use super::plain::reads_as_plainly;
 use super::table::{cells, compare, plans_are_answered, push, put, rows, spelled, spelled_rows};
 use super::*;
-use crate::Change;
+use apply_plan::Change;
 
 /// A module's address with a dot in its key, and an index with a quotation mark.
 pub const QUOTED_PLAN: &str =
