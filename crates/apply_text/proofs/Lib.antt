@@ -2,7 +2,6 @@ mod Completions
 mod Dates
 mod Durations
 mod Feeds
-mod Heads
 mod Hooks
 mod KeptTexts
 mod Latest

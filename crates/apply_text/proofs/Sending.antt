@@ -5,7 +5,7 @@ use Rattle.std.proofs.lemmas.Result.{on_ok_weaker}
 use Rattle.json.specs.Token.{Token}
 use Rattle.json.specs.Written.{Written, Writes}
 use Rattle.serde_json.specs.Data.{string}
-use Rattle.apply_text.specs.Sending.{Sends, member_tokens}
+use Rattle.apply_text.specs.Sending.{Sends, head_tokens, member_tokens}
 
 -- the same tokens
 pub said : {E : Type 0} {r : Result (Unit {0}) E} {old new : Written} {tokens wanted : List Token} → tokens ≡ wanted → Sends r old new tokens → Sends r old new wanted
@@ -33,3 +33,7 @@ then_said first wanted rest same sent h = then wanted rest (said same sent) h
 -- a member with a text that is the one that was wanted, and then others
 pub then_text : {E : Type 0} {r : Result (Unit {0}) E} {old mid new : Written} (name text wanted : List ℕ) (rest : List Token) → text ≡ wanted → Sends {E = E} (Ok tt) old mid (member_tokens name (string text)) → Sends r mid new rest → Sends r old new (member_tokens name (string wanted) ++ rest)
 then_text name text wanted rest same sent h = then_said _ _ rest (ap (λ t. member_tokens name (string t)) same) sent h
+
+-- the same level and the same text
+pub same_head : (level text moment level₂ text₂ : List ℕ) → level ≡ level₂ → text ≡ text₂ → head_tokens level text moment ≡ head_tokens level₂ text₂ moment
+same_head level text moment level₂ text₂ levels texts = ap (λ l. head_tokens l text moment) levels ∙ ap (λ t. head_tokens level₂ t moment) texts

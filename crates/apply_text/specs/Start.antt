@@ -1,12 +1,17 @@
 -- The moment at which an apply starts.
-use Rattle.std.specs.Prelude.{ℕ, ◌/◌, ◌*◌, ℤ, pos, negsuc, nat_lt, if◌then◌else◌, List, Result, Ok, Err}
+use Rattle.std.specs.Prelude.{ℕ, ◌+◌, ◌/◌, ◌*◌, ℤ, pos, negsuc, nat_lt, if◌then◌else◌, List, Result, Ok, Err}
 use Rattle.jiff.specs.Words.{Error, parse_timestamp}
+use Rattle.apply_events.specs.Fits.{latest}
 use Rattle.apply_text.specs.declared.moment_error.MomentError.{MomentError}
 use Rattle.apply_text.specs.declared.moment_error.MomentError.TheVariants.{NotAMoment, OutOfRange}
 
 -- the first second that is no start: 9000-01-01T00:00:00Z, in seconds after the start of 1970
 abbrev pub end_of_starts : ℕ
 end_of_starts = 221845392000
+
+-- no line tells of a later second, after the start of 1970
+abbrev pub last_second : ℕ
+last_second = end_of_starts + latest
 
 -- the whole seconds of an instant in nanoseconds, where it lies in the range
 abbrev pub start_at : ℤ → Result ℕ MomentError

@@ -176,27 +176,11 @@ impl LineBuffer {
             (self.new ≡ self.old ++ message_line (start + latest) (message_of step.entry what)) }
         ensures err { OnErr result (self.new ≡ self.old) }
     {
-        match what {
-            What::Progress(seconds) if seconds > FIRST_PROGRESS => {
-                self.push_progress(start, latest, number, step.change, step.kind, seconds)
+        if let What::Progress(seconds) = what {
+            if seconds > FIRST_PROGRESS {
+                return self.push_progress(start, latest, number, step.change, step.kind, seconds);
             }
-            what => self.push_message(start, latest, step, what),
         }
-    }
-
-    /// Appends the line of an event of a step, written token by token.
-    fn push_message(
-        &mut self,
-        start: Start,
-        latest: u64,
-        step: AppliedStep<'_>,
-        what: What,
-    ) -> Result<(), AllocError>
-        requires { latest ≤ last_moment }
-        ensures ok { OnOk result
-            (self.new ≡ self.old ++ message_line (start + latest) (message_of step.entry what)) }
-        ensures err { OnErr result (self.new ≡ self.old) }
-    {
         let moment = Moment::new(start, latest);
         let before = self.bytes.len();
         let mut out = self.begin_line();

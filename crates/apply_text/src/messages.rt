@@ -1,7 +1,8 @@
 //! The messages, written token by token into the buffer of a line. Each takes `scratch` for the texts that it puts together.
 
 ghost use Rattle.std.specs.Prelude.{◌≡◌, ◌++◌, codes, string_bytes, OnOk};
-ghost use Rattle.apply_text.specs.AppliedStep.{level_of, message_of, type_of};
+ghost use Rattle.apply_text.specs.declared.applied_step.AppliedStep.{AppliedStep};
+ghost use Rattle.apply_text.specs.AppliedStep.{message_of};
 ghost use Rattle.apply_text.specs.Lines.{message_object, version_members};
 ghost use Rattle.apply_text.specs.Message as messages;
 ghost use Rattle.apply_text.specs.Sending.{Sends, data_tokens, member_tokens, message_tokens};
@@ -152,7 +153,7 @@ fn say_event(scratch: &mut String, step: AppliedStep<'_>, what: What) -> Result<
 
 /// The level of the message of an event.
 fn level(what: What) -> &'static str
-    ensures { result.now ≡ level_of what }
+    ensures { (step : AppliedStep) → result.now ≡ (message_of step what).level }
 {
     match what {
         What::Start | What::Progress(_) | What::Complete(_) | What::Errored(_) => "info",
@@ -165,7 +166,7 @@ fn level(what: What) -> &'static str
 
 /// The type of the message of an event.
 fn type_name(what: What) -> &'static str
-    ensures { result.now ≡ type_of what }
+    ensures { (step : AppliedStep) → result.now ≡ (message_of step what).type_name }
 {
     match what {
         What::Start => "apply_start",

@@ -4,6 +4,7 @@ ghost use Rattle.std.specs.Prelude.{◌≡◌, ◌/◌, ◌<◌, ◌≤◌, leng
 ghost use Rattle.apply_text.specs.Kept.{kept_step};
 ghost use Rattle.apply_text.specs.Lines.{message_line};
 ghost use Rattle.apply_text.specs.Message.{progress_message};
+ghost use Rattle.apply_text.specs.Start.{last_second};
 
 use crate::kept::frame::ProgressFrame;
 use crate::kept::kept_date::KeptDate;
@@ -42,7 +43,7 @@ impl ProgressFrames {
         moment: u64,
         seconds: u32,
     ) -> Result<(), AllocError>
-        requires { moment < 223573392001 }
+        requires { moment ≤ last_second }
         ensures { OnOk result
             (string_bytes line.new ≡ message_line moment (progress_message change.now step seconds)) }
     {
@@ -125,7 +126,7 @@ fn keep_frame(
 
 /// Sees that the date is that of the moment. `Err` where memory is refused.
 fn keep_date(alloc: Global, place: &mut Option<KeptDate>, moment: u64) -> Result<(), AllocError>
-    requires { moment < 223573392001 }
+    requires { moment ≤ last_second }
     ensures { OnOk result (place.new ≡ Some (moment / 86400)) }
 {
     if let Some(date) = place {

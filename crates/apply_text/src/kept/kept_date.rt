@@ -4,6 +4,7 @@ ghost use Rattle.std.specs.Prelude.{◌≡◌, ◌≤◌, ◌<◌, ◌/◌, ◌+
 ghost use Rattle.json.specs.Print.{quoted};
 ghost use Rattle.apply_text.specs.Kept.{open_date, rest_of_day};
 ghost use Rattle.apply_text.specs.Moment.{moment_text, two_digits};
+ghost use Rattle.apply_text.specs.Start.{last_second};
 
 use crate::kept::open_text::open_text;
 use jiff::Timestamp;
@@ -38,7 +39,7 @@ impl Model for KeptDate {
 impl KeptDate {
     /// That of a moment, so many seconds after the start of 1970. `Err` where memory is refused.
     pub fn new(alloc: Global, seconds: u64) -> Result<KeptDate, AllocError>
-        requires { seconds < 223573392001 }
+        requires { seconds ≤ last_second }
         ensures { IfOk result (λ kept. kept ≡ seconds / 86400) }
     {
         let instant = Timestamp::from_second(seconds as i64).unwrap();

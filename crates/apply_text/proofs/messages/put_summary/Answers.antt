@@ -1,7 +1,6 @@
 use Rattle.std.proofs.Common.{refl}
 use Rattle.apply_text.specs.Lines.{message_object}
-use Rattle.apply_text.proofs.Heads.{same_head}
-use Rattle.apply_text.proofs.Sending.{then, then_said}
+use Rattle.apply_text.proofs.Sending.{same_head, then, then_said}
 use Rattle.apply_text.proofs.messages.put_summary.Goals as goal
 
 pub returns : goal.returns

@@ -1,7 +1,6 @@
 use Rattle.std.proofs.Common.{codes, refl, ap, ◌∙◌, ◌++◌}
 use Rattle.apply_text.specs.Lines.{message_object}
-use Rattle.apply_text.proofs.Heads.{same_head}
-use Rattle.apply_text.proofs.Sending.{one, then, then_said}
+use Rattle.apply_text.proofs.Sending.{one, same_head, then, then_said}
 use Rattle.apply_text.proofs.messages.put_version.Goals as goal
 
 pub returns : goal.returns

@@ -1,8 +1,0 @@
-use Rattle.std.proofs.Common.{◌∙◌}
-use Rattle.apply_text.proofs.LinesAdded.{line_added, message_is}
-use Rattle.apply_text.proofs.line_buffer.LineBuffer.push_message.Goals as goal
-
-pub returns-clause-ok : goal.returns-clause-ok
-returns-clause-ok c =
-    line_added c.end_line.result _ _ _ _ _ _ _ _ (c.put_event-written.ensures.before ∙ c.begin_line-out.ensures.before) c.begin_line-out.ensures.tokens c.put_event-written.ensures.ok c.end_line.ensures.ok
-    (message_is _ _ _ c.new-moment.ensures)
