@@ -7,6 +7,7 @@ ghost use Rattle.apply_events.specs.Fits.{HasStep};
 
 mod escapes;
 mod events;
+mod kept;
 mod moments;
 mod provisioners;
 mod streams;

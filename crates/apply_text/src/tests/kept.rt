@@ -1,0 +1,259 @@
+//! Lines of progress through one buffer. Whatever it told before, each is as one that is made by itself.
+
+use super::*;
+use crate::LineBuffer;
+
+/// That a step of a change goes on.
+fn progress_of(change: u32, step: u8, seconds: u32) -> Event {
+    Event {
+        worker: 0,
+        change,
+        step,
+        what: What::Progress(seconds),
+        at: 0,
+    }
+}
+
+/// Adds the line of an event that the plan has to have.
+fn add(
+    rt: &impl Abort,
+    buffer: &mut LineBuffer,
+    plan: &Plan,
+    start: Start,
+    latest: u64,
+    event: &Event,
+) {
+    check_step(rt, plan, event);
+    assert!(rt; latest <= LATEST);
+    buffer
+        .push_event(plan, &Script::empty(), start, latest, event)
+        .expect(rt, "memory");
+}
+
+/// Fails where the line of an event is another, by itself or as the only one that a used buffer holds.
+fn is_told(
+    rt: &impl Abort,
+    alloc: Global,
+    buffer: &mut LineBuffer,
+    plan: &Plan,
+    start: Start,
+    latest: u64,
+    event: &Event,
+    wanted: &str,
+) {
+    let alone = line_of(rt, alloc, plan, &Script::empty(), start, latest, event);
+    compare_line(rt, "a line by itself", alone.as_str(), wanted);
+    buffer.clear();
+    add(rt, buffer, plan, start, latest, event);
+    holds(rt, wanted, buffer, alone.as_str());
+}
+
+/// Fails where a buffer holds other lines at the case.
+fn holds(rt: &impl Abort, case: &str, buffer: &LineBuffer, wanted: &str) {
+    assert!(rt;
+        buffer.as_bytes() == wanted.as_bytes(),
+        "other lines at {case}"
+    );
+}
+
+/// A case, a plan of one change, and its line after 20 seconds. Each change shows something else, or takes another step.
+const CHANGES: &str =
+    r#"the first => {"format_version":"1.2","terraform_version":"1.9.0","resource_changes":[{"address":"module.a.module.b.t_u.n","module_address":"module.a","mode":"managed","type":"t_u","name":"n","change":{"actions":["update"]}}]} => {"@level":"info","@message":"module.a.module.b.t_u.n: Still modifying... [20s elapsed]","@module":"terraform.ui","@timestamp":"1970-01-01T00:00:20Z","hook":{"action":"update","elapsed_seconds":20,"resource":{"addr":"module.a.module.b.t_u.n","implied_provider":"t","module":"module.a","resource":"module.b.t_u.n","resource_key":null,"resource_name":"n","resource_type":"t_u"}},"type":"apply_progress"}
+another address => {"format_version":"1.2","terraform_version":"1.9.0","resource_changes":[{"address":"module.a.module.c.t_u.n","module_address":"module.a","mode":"managed","type":"t_u","name":"n","change":{"actions":["update"]}}]} => {"@level":"info","@message":"module.a.module.c.t_u.n: Still modifying... [20s elapsed]","@module":"terraform.ui","@timestamp":"1970-01-01T00:00:20Z","hook":{"action":"update","elapsed_seconds":20,"resource":{"addr":"module.a.module.c.t_u.n","implied_provider":"t","module":"module.a","resource":"module.c.t_u.n","resource_key":null,"resource_name":"n","resource_type":"t_u"}},"type":"apply_progress"}
+another module => {"format_version":"1.2","terraform_version":"1.9.0","resource_changes":[{"address":"module.a.module.b.t_u.n","module_address":"module.a.module.b","mode":"managed","type":"t_u","name":"n","change":{"actions":["update"]}}]} => {"@level":"info","@message":"module.a.module.b.t_u.n: Still modifying... [20s elapsed]","@module":"terraform.ui","@timestamp":"1970-01-01T00:00:20Z","hook":{"action":"update","elapsed_seconds":20,"resource":{"addr":"module.a.module.b.t_u.n","implied_provider":"t","module":"module.a.module.b","resource":"t_u.n","resource_key":null,"resource_name":"n","resource_type":"t_u"}},"type":"apply_progress"}
+another type => {"format_version":"1.2","terraform_version":"1.9.0","resource_changes":[{"address":"module.a.module.b.t_u.n","module_address":"module.a","mode":"managed","type":"t_v","name":"n","change":{"actions":["update"]}}]} => {"@level":"info","@message":"module.a.module.b.t_u.n: Still modifying... [20s elapsed]","@module":"terraform.ui","@timestamp":"1970-01-01T00:00:20Z","hook":{"action":"update","elapsed_seconds":20,"resource":{"addr":"module.a.module.b.t_u.n","implied_provider":"t","module":"module.a","resource":"module.b.t_u.n","resource_key":null,"resource_name":"n","resource_type":"t_v"}},"type":"apply_progress"}
+another name => {"format_version":"1.2","terraform_version":"1.9.0","resource_changes":[{"address":"module.a.module.b.t_u.n","module_address":"module.a","mode":"managed","type":"t_u","name":"m","change":{"actions":["update"]}}]} => {"@level":"info","@message":"module.a.module.b.t_u.n: Still modifying... [20s elapsed]","@module":"terraform.ui","@timestamp":"1970-01-01T00:00:20Z","hook":{"action":"update","elapsed_seconds":20,"resource":{"addr":"module.a.module.b.t_u.n","implied_provider":"t","module":"module.a","resource":"module.b.t_u.n","resource_key":null,"resource_name":"m","resource_type":"t_u"}},"type":"apply_progress"}
+a number => {"format_version":"1.2","terraform_version":"1.9.0","resource_changes":[{"address":"module.a.module.b.t_u.n","module_address":"module.a","mode":"managed","type":"t_u","name":"n","index":0,"change":{"actions":["update"]}}]} => {"@level":"info","@message":"module.a.module.b.t_u.n: Still modifying... [20s elapsed]","@module":"terraform.ui","@timestamp":"1970-01-01T00:00:20Z","hook":{"action":"update","elapsed_seconds":20,"resource":{"addr":"module.a.module.b.t_u.n","implied_provider":"t","module":"module.a","resource":"module.b.t_u.n","resource_key":0,"resource_name":"n","resource_type":"t_u"}},"type":"apply_progress"}
+another number => {"format_version":"1.2","terraform_version":"1.9.0","resource_changes":[{"address":"module.a.module.b.t_u.n","module_address":"module.a","mode":"managed","type":"t_u","name":"n","index":-1,"change":{"actions":["update"]}}]} => {"@level":"info","@message":"module.a.module.b.t_u.n: Still modifying... [20s elapsed]","@module":"terraform.ui","@timestamp":"1970-01-01T00:00:20Z","hook":{"action":"update","elapsed_seconds":20,"resource":{"addr":"module.a.module.b.t_u.n","implied_provider":"t","module":"module.a","resource":"module.b.t_u.n","resource_key":-1,"resource_name":"n","resource_type":"t_u"}},"type":"apply_progress"}
+a name that reads as the number => {"format_version":"1.2","terraform_version":"1.9.0","resource_changes":[{"address":"module.a.module.b.t_u.n","module_address":"module.a","mode":"managed","type":"t_u","name":"n","index":"0","change":{"actions":["update"]}}]} => {"@level":"info","@message":"module.a.module.b.t_u.n: Still modifying... [20s elapsed]","@module":"terraform.ui","@timestamp":"1970-01-01T00:00:20Z","hook":{"action":"update","elapsed_seconds":20,"resource":{"addr":"module.a.module.b.t_u.n","implied_provider":"t","module":"module.a","resource":"module.b.t_u.n","resource_key":"0","resource_name":"n","resource_type":"t_u"}},"type":"apply_progress"}
+a name that reads as no key => {"format_version":"1.2","terraform_version":"1.9.0","resource_changes":[{"address":"module.a.module.b.t_u.n","module_address":"module.a","mode":"managed","type":"t_u","name":"n","index":"null","change":{"actions":["update"]}}]} => {"@level":"info","@message":"module.a.module.b.t_u.n: Still modifying... [20s elapsed]","@module":"terraform.ui","@timestamp":"1970-01-01T00:00:20Z","hook":{"action":"update","elapsed_seconds":20,"resource":{"addr":"module.a.module.b.t_u.n","implied_provider":"t","module":"module.a","resource":"module.b.t_u.n","resource_key":"null","resource_name":"n","resource_type":"t_u"}},"type":"apply_progress"}
+an empty name => {"format_version":"1.2","terraform_version":"1.9.0","resource_changes":[{"address":"module.a.module.b.t_u.n","module_address":"module.a","mode":"managed","type":"t_u","name":"n","index":"","change":{"actions":["update"]}}]} => {"@level":"info","@message":"module.a.module.b.t_u.n: Still modifying... [20s elapsed]","@module":"terraform.ui","@timestamp":"1970-01-01T00:00:20Z","hook":{"action":"update","elapsed_seconds":20,"resource":{"addr":"module.a.module.b.t_u.n","implied_provider":"t","module":"module.a","resource":"module.b.t_u.n","resource_key":"","resource_name":"n","resource_type":"t_u"}},"type":"apply_progress"}
+a create => {"format_version":"1.2","terraform_version":"1.9.0","resource_changes":[{"address":"module.a.module.b.t_u.n","module_address":"module.a","mode":"managed","type":"t_u","name":"n","change":{"actions":["create"]}}]} => {"@level":"info","@message":"module.a.module.b.t_u.n: Still creating... [20s elapsed]","@module":"terraform.ui","@timestamp":"1970-01-01T00:00:20Z","hook":{"action":"create","elapsed_seconds":20,"resource":{"addr":"module.a.module.b.t_u.n","implied_provider":"t","module":"module.a","resource":"module.b.t_u.n","resource_key":null,"resource_name":"n","resource_type":"t_u"}},"type":"apply_progress"}
+a delete => {"format_version":"1.2","terraform_version":"1.9.0","resource_changes":[{"address":"module.a.module.b.t_u.n","module_address":"module.a","mode":"managed","type":"t_u","name":"n","change":{"actions":["delete"]}}]} => {"@level":"info","@message":"module.a.module.b.t_u.n: Still destroying... [20s elapsed]","@module":"terraform.ui","@timestamp":"1970-01-01T00:00:20Z","hook":{"action":"delete","elapsed_seconds":20,"resource":{"addr":"module.a.module.b.t_u.n","implied_provider":"t","module":"module.a","resource":"module.b.t_u.n","resource_key":null,"resource_name":"n","resource_type":"t_u"}},"type":"apply_progress"}
+a name with a quotation mark => {"format_version":"1.2","terraform_version":"1.9.0","resource_changes":[{"address":"module.a.module.b.t_u.n[\"\\é\n\"]","module_address":"module.a","mode":"managed","type":"t_u","name":"n","index":"\\é\n\"","change":{"actions":["update"]}}]} => {"@level":"info","@message":"module.a.module.b.t_u.n[\"\\é\n\"]: Still modifying... [20s elapsed]","@module":"terraform.ui","@timestamp":"1970-01-01T00:00:20Z","hook":{"action":"update","elapsed_seconds":20,"resource":{"addr":"module.a.module.b.t_u.n[\"\\é\n\"]","implied_provider":"t","module":"module.a","resource":"module.b.t_u.n[\"\\é\n\"]","resource_key":"\\é\n\"","resource_name":"n","resource_type":"t_u"}},"type":"apply_progress"}"#;
+
+/// Fails where the first step of the row's only change is told as another.
+fn is_shown(rt: &impl Abort, alloc: Global, buffer: &mut LineBuffer, row: &str) {
+    let (_, rest) = parted(rt, row, " => ");
+    let (plan, wanted) = parted(rt, rest, " => ");
+    let plan = plan_of(rt, alloc, plan);
+    let event = progress_of(0, 0, 20);
+    is_told(rt, alloc, buffer, &plan, Start::zero(), 20, &event, wanted);
+}
+
+/// Fails where the change of a row is told as another, before or behind one of another row.
+fn is_shown_beside_each(rt: &impl Abort, alloc: Global, buffer: &mut LineBuffer, row: &str) {
+    for other in CHANGES.lines() {
+        is_shown(rt, alloc, buffer, row);
+        is_shown(rt, alloc, buffer, other);
+    }
+}
+
+/// Each behind each, and behind itself.
+#[test]
+fn changes_of_one_number_are_told_apart(rt: HostRuntime) {
+    let mut buffer = LineBuffer::new(rt.alloc());
+    for row in CHANGES.lines() {
+        is_shown_beside_each(&rt, rt.alloc(), &mut buffer, row);
+    }
+}
+
+/// A change of many, with its number in place of the percent sign.
+const UPDATE: &str =
+    r#"{"address":"a.b%","mode":"managed","type":"a","name":"b%","change":{"actions":["update"]}}"#;
+
+/// Its line, after so many seconds.
+const UPDATE_LINE: &str =
+    r#"{"@level":"info","@message":"a.b%: Still modifying... [#s elapsed]","@module":"terraform.ui","@timestamp":"1970-01-01T00:00:00Z","hook":{"action":"update","elapsed_seconds":#,"resource":{"addr":"a.b%","implied_provider":"a","module":"","resource":"a.b%","resource_key":null,"resource_name":"b%","resource_type":"a"}},"type":"apply_progress"}"#;
+
+/// So many updates.
+fn updates(rt: &impl Abort, alloc: Global, count: u32) -> Plan {
+    let mut text = String::new(alloc);
+    push(
+        rt,
+        &mut text,
+        r#"{"format_version":"1.2","resource_changes":["#,
+    );
+    for number in 0..count {
+        let number = shown(rt, alloc, &number);
+        let change = put(rt, alloc, UPDATE, "%", number.as_str());
+        if number.as_str() != "0" {
+            push(rt, &mut text, ",");
+        }
+        push(rt, &mut text, change.as_str());
+    }
+    push(rt, &mut text, "]}");
+    plan_of(rt, alloc, text.as_str())
+}
+
+/// Numbers of changes, and after how many seconds they are told: the same place, once and again, and others beside it.
+const PLACES: &str = "0 20
+64 20
+128 20
+0 30
+64 30
+0 40
+128 30
+63 20
+127 20
+63 30
+65 20
+1 20
+65 30
+0 50";
+
+#[test]
+fn changes_that_share_a_place_are_told_in_turn(rt: HostRuntime) {
+    let alloc = rt.alloc();
+    let plan = updates(&rt, alloc, 129);
+    let mut buffer = LineBuffer::new(alloc);
+    for row in PLACES.lines() {
+        let (number, seconds) = parted(&rt, row, " ");
+        let line = put(&rt, alloc, UPDATE_LINE, "%", number);
+        let line = put(&rt, alloc, line.as_str(), "#", seconds);
+        let event = progress_of(index_of(&rt, number), 0, index_of(&rt, seconds));
+        is_told(
+            &rt,
+            alloc,
+            &mut buffer,
+            &plan,
+            Start::zero(),
+            0,
+            &event,
+            line.as_str(),
+        );
+    }
+}
+
+/// A small number.
+fn index_of(rt: &impl Abort, text: &str) -> u32 {
+    let number = number_of(rt, text);
+    assert!(rt; number < 1_000_000);
+    number as u32
+}
+
+/// A replacement that destroys first.
+const REPLACEMENT: &str =
+    r#"{"format_version":"1.2","terraform_version":"1.9.0","resource_changes":[{"address":"a.b","mode":"managed","type":"a","name":"b","change":{"actions":["delete","create"]}}]}"#;
+
+/// Its steps and after how many seconds they are told, and their lines.
+const STEPS: &str =
+    r#"0 20 => {"@level":"info","@message":"a.b: Still destroying... [20s elapsed]","@module":"terraform.ui","@timestamp":"1970-01-01T00:00:00Z","hook":{"action":"delete","elapsed_seconds":20,"resource":{"addr":"a.b","implied_provider":"a","module":"","resource":"a.b","resource_key":null,"resource_name":"b","resource_type":"a"}},"type":"apply_progress"}
+0 30 => {"@level":"info","@message":"a.b: Still destroying... [30s elapsed]","@module":"terraform.ui","@timestamp":"1970-01-01T00:00:00Z","hook":{"action":"delete","elapsed_seconds":30,"resource":{"addr":"a.b","implied_provider":"a","module":"","resource":"a.b","resource_key":null,"resource_name":"b","resource_type":"a"}},"type":"apply_progress"}
+1 20 => {"@level":"info","@message":"a.b: Still creating... [20s elapsed]","@module":"terraform.ui","@timestamp":"1970-01-01T00:00:00Z","hook":{"action":"create","elapsed_seconds":20,"resource":{"addr":"a.b","implied_provider":"a","module":"","resource":"a.b","resource_key":null,"resource_name":"b","resource_type":"a"}},"type":"apply_progress"}
+0 3600 => {"@level":"info","@message":"a.b: Still destroying... [1h0m0s elapsed]","@module":"terraform.ui","@timestamp":"1970-01-01T00:00:00Z","hook":{"action":"delete","elapsed_seconds":3600,"resource":{"addr":"a.b","implied_provider":"a","module":"","resource":"a.b","resource_key":null,"resource_name":"b","resource_type":"a"}},"type":"apply_progress"}
+1 30 => {"@level":"info","@message":"a.b: Still creating... [30s elapsed]","@module":"terraform.ui","@timestamp":"1970-01-01T00:00:00Z","hook":{"action":"create","elapsed_seconds":30,"resource":{"addr":"a.b","implied_provider":"a","module":"","resource":"a.b","resource_key":null,"resource_name":"b","resource_type":"a"}},"type":"apply_progress"}
+1 86390 => {"@level":"info","@message":"a.b: Still creating... [23h59m50s elapsed]","@module":"terraform.ui","@timestamp":"1970-01-01T00:00:00Z","hook":{"action":"create","elapsed_seconds":86390,"resource":{"addr":"a.b","implied_provider":"a","module":"","resource":"a.b","resource_key":null,"resource_name":"b","resource_type":"a"}},"type":"apply_progress"}"#;
+
+/// Adds the line of a row to a buffer, and to the lines that are wanted.
+fn add_step(rt: &impl Abort, buffer: &mut LineBuffer, wanted: &mut String, plan: &Plan, row: &str) {
+    let (numbers, line) = parted(rt, row, " => ");
+    let (step, seconds) = parted(rt, numbers, " ");
+    let event = progress_of(0, if step == "0" { 0 } else { 1 }, index_of(rt, seconds));
+    add(rt, buffer, plan, Start::zero(), 0, &event);
+    push(rt, wanted, line);
+    push(rt, wanted, "\n");
+}
+
+/// Fails where a buffer that is cleared holds other lines of the replacement then.
+fn is_told_again(rt: &impl Abort, alloc: Global, buffer: &mut LineBuffer, plan: &Plan) {
+    let mut wanted = String::new(alloc);
+    buffer.clear();
+    for row in STEPS.lines() {
+        add_step(rt, buffer, &mut wanted, plan, row);
+    }
+    holds(rt, "a replacement", buffer, wanted.as_str());
+}
+
+/// Step by step, and once more when the lines are dropped.
+#[test]
+fn steps_of_one_change_are_told_apart(rt: HostRuntime) {
+    let alloc = rt.alloc();
+    let plan = plan_of(&rt, alloc, REPLACEMENT);
+    let mut buffer = LineBuffer::new(alloc);
+    is_told_again(&rt, alloc, &mut buffer, &plan);
+    is_told_again(&rt, alloc, &mut buffer, &plan);
+}
+
+/// A start and the seconds after it, and the moment that is: within a day, at its ends, and of a day before.
+const DAYS: &str = "1970-01-01T00:00:00Z 0 => 1970-01-01T00:00:00Z
+1970-01-01T23:59:50Z 9 => 1970-01-01T23:59:59Z
+1970-01-01T23:59:50Z 10 => 1970-01-02T00:00:00Z
+1970-01-01T00:00:00Z 3661 => 1970-01-01T01:01:01Z
+2024-02-28T12:34:56Z 0 => 2024-02-28T12:34:56Z
+2024-02-28T23:59:59Z 1 => 2024-02-29T00:00:00Z
+2024-02-28T23:59:59Z 86400 => 2024-02-29T23:59:59Z
+2024-02-28T23:59:59Z 86401 => 2024-03-01T00:00:00Z
+2024-02-28T12:34:56Z 4 => 2024-02-28T12:35:00Z
+8999-12-31T23:59:59Z 1728000000 => 9054-10-04T23:59:59Z
+8999-12-31T23:59:59Z 0 => 8999-12-31T23:59:59Z
+1970-01-01T00:00:00Z 1728000000 => 2024-10-04T00:00:00Z
+1970-01-02T00:00:00Z 0 => 1970-01-02T00:00:00Z";
+
+/// The line of a delete, with its moment in place of the percent sign.
+const DAY_LINE: &str =
+    r#"{"@level":"info","@message":"a.b: Still destroying... [20s elapsed]","@module":"terraform.ui","@timestamp":"%","hook":{"action":"delete","elapsed_seconds":20,"resource":{"addr":"a.b","implied_provider":"a","module":"","resource":"a.b","resource_key":null,"resource_name":"b","resource_type":"a"}},"type":"apply_progress"}"#;
+
+#[test]
+fn each_line_has_its_own_day(rt: HostRuntime) {
+    let alloc = rt.alloc();
+    let plan = plan_of(&rt, alloc, REPLACEMENT);
+    let event = progress_of(0, 0, 20);
+    let mut buffer = LineBuffer::new(alloc);
+    for row in DAYS.lines() {
+        let (moment, wanted) = parted(&rt, row, " => ");
+        let (start, seconds) = parted(&rt, moment, " ");
+        let (start, seconds) = (start_of(&rt, start), number_of(&rt, seconds));
+        let line = put(&rt, alloc, DAY_LINE, "%", wanted);
+        is_told(
+            &rt,
+            alloc,
+            &mut buffer,
+            &plan,
+            start,
+            seconds,
+            &event,
+            line.as_str(),
+        );
+    }
+}
