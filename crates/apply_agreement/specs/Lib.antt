@@ -1,4 +1,5 @@
 pub mod Accepted
+pub mod Applied
 pub mod Objects
 pub mod Passing
 pub mod Plans

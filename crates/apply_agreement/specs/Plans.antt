@@ -13,12 +13,17 @@ use Rattle.apply_events.specs.Step.{kinds_of}
 abbrev pub IsChange : SavedPlan → ℕ → ResourceChange → Type 0
 IsChange plan c change = slice_get plan.changes c ≡ Some change
 
+-- a deposed object is only deleted
+abbrev pub DeletesDeposed : SavedPlan → Type 0
+DeletesDeposed plan =
+    (c : ℕ) (change : ResourceChange) → IsChange plan c change → is_some change.deposed ≡ true
+    → All (λ kind. kind ≡ Delete) change.steps
+
 -- no object is changed twice, and a deposed object is only deleted
 pub record IsOrdinary (plan : SavedPlan) : Type 0 where
   pub few : length plan.changes ≤ max_changes
   pub once : NamesEachObjectOnce plan.changes
-  pub deleted : (c : ℕ) (change : ResourceChange) → IsChange plan c change → is_some change.deposed ≡ true
-      → All (λ kind. kind ≡ Delete) change.steps
+  pub deleted : DeletesDeposed plan
 
 -- a step that is no create has no provisioner
 abbrev pub ProvisionsCreates : SavedPlan → Outcomes → Type 0

@@ -2,8 +2,13 @@
 //! `apply_check` defines. Nothing here runs.
 #![tactic(auto)]
 
+mod applied;
 mod laws;
 
+pub use applied::{
+    a_plan_that_was_read_is_ordinary, a_run_has_few_events, every_event_of_a_run_fits,
+    texts_that_were_read_are_utf8, what_was_read_is_within_limits,
+};
 pub use laws::{
     a_script_provisions_creates, a_stream_of_texts_can_be_read, an_event_is_heard,
     events_that_can_happen_fit_bits, every_run_is_accepted, every_stream_in_lanes_is_accepted,

@@ -1,0 +1,76 @@
+-- What messages say of a plan and a script that were read is UTF-8.
+use Rattle.std.proofs.Common.{ℕ, List, [], ◌∷◌, IsUtf8, slice_get, unwrap_or, Option, Some, None}
+use Rattle.std.specs.Prelude.{IfSome}
+use Rattle.std.specs.List.{AllByRecursion}
+use Rattle.std.specs.Option.{option_map_or}
+use Rattle.std.proofs.lemmas.Str.{IsUtf8-nil}
+use Rattle.apply_plan.specs.declared.script.ending.Ending.{Ending}
+use Rattle.apply_plan.specs.declared.script.ending.Ending.TheVariants.{Done, Failed}
+use Rattle.apply_plan.specs.declared.script.outcome.Outcome.{Outcome}
+use Rattle.apply_plan.specs.declared.script.provisioner.Provisioner.{Provisioner}
+use Rattle.apply_plan.specs.Plan.Laws.{HasRelativeAddress}
+use Rattle.apply_plan.specs.Plan.SavedPlan.{SavedPlan}
+use Rattle.apply_plan.specs.Script.Outcome.{default_outcome, diag_of_ending, failure_of, first_diag}
+use Rattle.apply_plan.specs.Script.Outcomes.{Outcomes, given_outcome}
+use Rattle.apply_text.specs.Message.{no_diag, told_id, warning_of}
+use Rattle.apply_agreement.specs.Texts.{HasDiagTexts, HasOutcomeTexts, HasTexts}
+use Rattle.apply_agreement.proofs.Given.{first_of_two, held_at, is_given, unwrapped}
+use Rattle.apply_agreement.proofs.PlanTexts.{IsReadable, IsReadablePlan, change_texts}
+use Rattle.apply_agreement.proofs.ScriptTexts.{HasEndingTexts, HasProvisionerTexts, HasStepTexts, IsReadableScript, IsSaid, MayHaveDiag}
+
+-- ---- a step
+
+nothing : HasDiagTexts no_diag
+nothing = record { summary = IsUtf8-nil; detail = IsUtf8-nil }
+
+why_it_ended : (result : Ending) → HasEndingTexts result → MayHaveDiag (diag_of_ending result)
+why_it_ended (Done id warning) h = tt
+why_it_ended (Failed diag) h = h
+
+why_first : (provisioners : List Provisioner) → AllByRecursion HasProvisionerTexts provisioners → MayHaveDiag (first_diag provisioners)
+why_first [] h = tt
+why_first (p ∷ ps) h = first_of_two HasDiagTexts p.failed (first_diag ps) h.0.failed (why_first ps h.1)
+
+id_of : (result : Ending) → HasEndingTexts result → IfSome (told_id result) IsUtf8
+id_of (Done id warning) h = h.0
+id_of (Failed diag) h = tt
+
+warned : (result : Ending) → HasEndingTexts result → HasDiagTexts (warning_of result)
+warned (Done id warning) h = unwrapped HasDiagTexts warning no_diag h.1 nothing
+warned (Failed diag) h = nothing
+
+name_at : (found : Option Provisioner) → IfSome found HasProvisionerTexts → IsUtf8 (option_map_or (λ (provisioner : Provisioner). provisioner.name) found [])
+name_at None h = IsUtf8-nil
+name_at (Some provisioner) h = h.name
+
+output_at : (line : ℕ) (found : Option Provisioner) → IfSome found HasProvisionerTexts → IsUtf8 (option_map_or (λ (provisioner : Provisioner). unwrap_or (slice_get provisioner.output line) []) found [])
+output_at line None h = IsUtf8-nil
+output_at line (Some provisioner) h = unwrapped IsUtf8 (slice_get provisioner.output line) [] (held_at IsUtf8 provisioner.output line h.output) IsUtf8-nil
+
+outcome_texts : (outcome : Outcome) → HasStepTexts outcome → HasOutcomeTexts outcome
+outcome_texts outcome has = record {
+  id = id_of outcome.result has.result;
+  failure = unwrapped HasDiagTexts (failure_of outcome) no_diag
+      (first_of_two HasDiagTexts (diag_of_ending outcome.result) (first_diag outcome.provisioners) (why_it_ended outcome.result has.result) (why_first outcome.provisioners has.provisioners)) nothing;
+  warning = warned outcome.result has.result;
+  names = λ i. name_at (slice_get outcome.provisioners i) (held_at HasProvisionerTexts outcome.provisioners i has.provisioners);
+  outputs = λ i line. output_at line (slice_get outcome.provisioners i) (held_at HasProvisionerTexts outcome.provisioners i has.provisioners);
+}
+
+default_texts : HasStepTexts default_outcome
+default_texts = record { result = (tt, tt); provisioners = tt }
+
+given_texts : (found : Option Outcome) → IfSome found IsSaid → HasOutcomeTexts (unwrap_or found default_outcome)
+given_texts None h = outcome_texts default_outcome default_texts
+given_texts (Some outcome) h = outcome_texts outcome h.texts
+
+-- ---- the plan and the script
+
+pub read_texts : (plan : SavedPlan) (script : Outcomes) → IsReadablePlan plan → AllByRecursion HasRelativeAddress plan.changes → IsReadableScript script → HasTexts plan script
+read_texts plan script readable relative said = record {
+  version = readable.version;
+  changes = λ c change is.
+      change_texts change (is_given IsReadable (slice_get plan.changes c) change (held_at IsReadable plan.changes c readable.changes) is)
+      (is_given HasRelativeAddress (slice_get plan.changes c) change (held_at HasRelativeAddress plan.changes c relative) is);
+  outcomes = λ c k. given_texts (given_outcome script c k) (said c k);
+}

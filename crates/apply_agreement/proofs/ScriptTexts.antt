@@ -1,0 +1,193 @@
+-- The texts of a script that was read are UTF-8, and its steps are within the limits.
+use Rattle.std.proofs.Common.{◌≡◌, ℕ, zero, suc, ◌+◌, ◌==◌, List, [], ◌∷◌, IsUtf8, codes, cond, find, length, map, nat_lt, slice_get, Bool, true, false, Option, Some, None, Ok, Err, refl}
+use Rattle.std.specs.Prelude.{◌&&◌, IfOk, IfSome, option_map}
+use Rattle.std.specs.List.{AllByRecursion, list_any, range_with_len}
+use Rattle.std.proofs.lemmas.Str.{IsUtf8-nil}
+use Rattle.serde_json.specs.Data.{Data}
+use Rattle.serde_json.specs.Find.{as_array, as_str}
+use Rattle.apply_json.specs.Tree.{items_or_empty, list_of, member_of, non_empty_text_of, text_of, text_or, unless_empty}
+use Rattle.apply_plan.specs.declared.script.diag.Diag.{Diag}
+use Rattle.apply_plan.specs.declared.script.ending.Ending.{Ending}
+use Rattle.apply_plan.specs.declared.script.ending.Ending.TheVariants.{Done, Failed}
+use Rattle.apply_plan.specs.declared.script.outcome.Outcome.{Outcome}
+use Rattle.apply_plan.specs.declared.script.provisioner.Provisioner.{Provisioner}
+use Rattle.apply_plan.specs.declared.script.script_error.ScriptError.{ScriptError}
+use Rattle.apply_plan.specs.declared.script.script_error.ScriptError.TheVariants.{TooLarge, NotJson, BadShape, UnknownChange, Duplicate}
+use Rattle.apply_plan.specs.Bytes.{of_bytes}
+use Rattle.apply_plan.specs.Plan.ResourceChange.{ResourceChange}
+use Rattle.apply_plan.specs.Plan.SavedPlan.{SavedPlan}
+use Rattle.apply_plan.specs.Results.{all_or_first, each_with_earlier, or_refuse, unless_refused}
+use Rattle.apply_plan.specs.Script.Entry.{Entry, all_some, diag_from, diag_or_none, each_of, ending_from, ending_of, entry_of, provisioner_from, seconds_of, step_from}
+use Rattle.apply_plan.specs.Script.Outcome.{IsBounded, is_failed}
+use Rattle.apply_plan.specs.Script.Outcomes.{Outcomes, by_number, change_of_entry, elements_of, entry_at, given_outcome, names_change, said_at, said_of, script_of, script_of_entries, script_of_tree}
+use Rattle.apply_plan.specs.Script.Refusals.{fault_of_steps}
+use Rattle.apply_plan.proofs.Scripts.Limits.{none_is_bounded}
+use Rattle.apply_agreement.specs.Texts.{HasDiagTexts}
+use Rattle.apply_agreement.proofs.Given.{AreAnswers, all_given, any_given, each_answered, each_held, held_at, is_answered, mapped, next_of, refused_or, then_of}
+use Rattle.apply_agreement.proofs.Legible.{AreLegible, IsLegible}
+use Rattle.apply_agreement.proofs.LookUps.{array_legible, filled_utf8, items_legible, list_legible, member_legible, non_empty_utf8, str_utf8, text_or_utf8, text_utf8}
+use Rattle.apply_agreement.proofs.ReadBytes.{made_of_bytes}
+
+-- ---- how a step ends
+
+diag_texts : (d : Data) → IsLegible d → IfSome (diag_from d) HasDiagTexts
+diag_texts d h =
+    next_of IsUtf8 HasDiagTexts (text_of (codes "summary") d) _ (text_utf8 (codes "summary") d h)
+    (λ summary summary_is. next_of IsUtf8 HasDiagTexts (text_or [] (member_of (codes "detail") d)) _ (text_or_utf8 [] (member_of (codes "detail") d) IsUtf8-nil (member_legible (codes "detail") d h))
+    (λ detail detail_is. record { summary = summary_is; detail = detail_is }))
+
+-- where there is a diagnostic
+abbrev pub MayHaveDiag : Option Diag → Type 0
+MayHaveDiag diag = IfSome diag HasDiagTexts
+
+some_diag : (found : Option Data) → IfSome found IsLegible → IfSome (diag_or_none found) MayHaveDiag
+some_diag None h = tt
+some_diag (Some d) h = mapped HasDiagTexts MayHaveDiag Some (diag_from d) (λ diag texts. texts) (diag_texts d h)
+
+abbrev pub HasEndingTexts : Ending → Type 0
+HasEndingTexts (Done id warning) = IfSome id IsUtf8 × MayHaveDiag warning
+HasEndingTexts (Failed diag) = HasDiagTexts diag
+
+ended : (id : Option (List ℕ)) (warning failed : Option Diag) → IfSome id IsUtf8 → MayHaveDiag warning → MayHaveDiag failed → IfSome (ending_from id warning failed) HasEndingTexts
+ended id warning None named warned why = (named, warned)
+ended None None (Some diag) named warned why = why
+ended None (Some warning) (Some diag) named warned why = tt
+ended (Some id) warning (Some diag) named warned why = tt
+
+ending_texts : (d : Data) → IsLegible d → IfSome (ending_of d) HasEndingTexts
+unfolding ending_of
+ending_texts d h =
+    next_of IsUtf8 HasEndingTexts (text_or [] (member_of (codes "id") d)) _ (text_or_utf8 [] (member_of (codes "id") d) IsUtf8-nil (member_legible (codes "id") d h))
+    (λ id id_is. next_of MayHaveDiag HasEndingTexts (diag_or_none (member_of (codes "warning") d)) _ (some_diag (member_of (codes "warning") d) (member_legible (codes "warning") d h))
+    (λ warning warned. next_of MayHaveDiag HasEndingTexts (diag_or_none (member_of (codes "failed") d)) _ (some_diag (member_of (codes "failed") d) (member_legible (codes "failed") d h))
+    (λ failed why. ended (unless_empty id) warning failed (filled_utf8 id id_is) warned why)))
+
+-- ---- provisioners
+
+each_legible : {A : Type 0} (P : A → Type 0) (part : Data → Option A) (found : Option Data) → ((d : Data) → IsLegible d → IfSome (part d) P) → IfSome found IsLegible → IfSome (each_of part found) (AllByRecursion P)
+each_legible P part found step h =
+    next_of AreLegible (AllByRecursion P) (items_or_empty found) _ (items_legible found h) (λ items legible. all_given IsLegible P part (list_of items) step (list_legible items legible))
+
+pub record HasProvisionerTexts (provisioner : Provisioner) : Type 0 where
+  pub name : IsUtf8 provisioner.name
+  pub output : AllByRecursion IsUtf8 provisioner.output
+  pub failed : MayHaveDiag provisioner.failed
+
+provisioner_texts : (d : Data) → IsLegible d → IfSome (provisioner_from d) HasProvisionerTexts
+unfolding provisioner_from
+provisioner_texts d h =
+    next_of IsUtf8 HasProvisionerTexts (non_empty_text_of (codes "provisioner") d) _ (non_empty_utf8 (codes "provisioner") d h)
+    (λ name name_is. next_of (λ _. Unit {0}) HasProvisionerTexts (seconds_of d) _ (any_given (seconds_of d))
+    (λ seconds u. next_of MayHaveDiag HasProvisionerTexts (diag_or_none (member_of (codes "failed") d)) _ (some_diag (member_of (codes "failed") d) (member_legible (codes "failed") d h))
+    (λ failed why. next_of (AllByRecursion IsUtf8) HasProvisionerTexts (each_of as_str (member_of (codes "output") d)) _ (each_legible IsUtf8 as_str (member_of (codes "output") d) str_utf8 (member_legible (codes "output") d h))
+    (λ output output_is. record { name = name_is; output = output_is; failed = why }))))
+
+-- ---- a step
+
+pub record HasStepTexts (outcome : Outcome) : Type 0 where
+  pub result : HasEndingTexts outcome.result
+  pub provisioners : AllByRecursion HasProvisionerTexts outcome.provisioners
+
+step_texts : (d : Data) → IsLegible d → IfSome (step_from d) HasStepTexts
+unfolding step_from
+step_texts d h =
+    next_of (λ _. Unit {0}) HasStepTexts (seconds_of d) _ (any_given (seconds_of d))
+    (λ seconds u. next_of HasEndingTexts HasStepTexts (ending_of d) _ (ending_texts d h)
+    (λ result ends. next_of (AllByRecursion HasProvisionerTexts) HasStepTexts (each_of provisioner_from (member_of (codes "provisioners") d)) _
+    (each_legible HasProvisionerTexts provisioner_from (member_of (codes "provisioners") d) provisioner_texts (member_legible (codes "provisioners") d h))
+    (λ provisioners all. of_test (record { seconds = seconds; provisioners = provisioners; result = result }) (record { result = ends; provisioners = all }) (is_failed result && nat_lt 0 (length provisioners)))))
+  where
+    of_test : (outcome : Outcome) → HasStepTexts outcome → (b : Bool) → IfSome (cond b None (Some outcome)) HasStepTexts
+    of_test outcome has true = tt
+    of_test outcome has false = has
+
+entry_texts : (d : Data) → IsLegible d → IfSome (entry_of d) (λ entry. AllByRecursion HasStepTexts entry.steps)
+unfolding entry_of
+entry_texts d h =
+    let Q = λ (entry : Entry). AllByRecursion HasStepTexts entry.steps in
+    next_of (λ _. Unit {0}) Q (text_of (codes "address") d) _ (any_given (text_of (codes "address") d))
+    (λ address u. next_of (λ _. Unit {0}) Q (text_or [] (member_of (codes "deposed") d)) _ (any_given (text_or [] (member_of (codes "deposed") d)))
+    (λ deposed u. next_of IsLegible Q (member_of (codes "steps") d) _ (member_legible (codes "steps") d h)
+    (λ list legible. next_of AreLegible Q (as_array list) _ (array_legible list legible)
+    (λ items all. next_of (AllByRecursion HasStepTexts) Q (all_some (map step_from (list_of items))) _ (all_given IsLegible HasStepTexts step_from (list_of items) step_texts (list_legible items all)) (λ steps has. has)))))
+
+-- ---- the entries
+
+-- what is said of a step
+pub record IsSaid (outcome : Outcome) : Type 0 where
+  pub texts : HasStepTexts outcome
+  pub bounded : IsBounded outcome
+
+-- what an entry says
+abbrev pub AreSaid : ℕ × List Outcome → Type 0
+AreSaid one = AllByRecursion IsSaid one.1
+
+both_held : (steps : List Outcome) → AllByRecursion HasStepTexts steps → AllByRecursion IsBounded steps → AllByRecursion IsSaid steps
+both_held [] has bounded = tt
+both_held (x ∷ steps) has bounded = (record { texts = has.0; bounded = bounded.0 }, both_held steps has.1 bounded.1)
+
+entry_said : (changes : List ResourceChange) (before : List Data) (d : Data) → IsLegible d → IfOk (entry_at changes before d) AreSaid
+unfolding entry_at
+entry_said changes before d h =
+    then_of (λ entry. AllByRecursion HasStepTexts entry.steps) AreSaid (or_refuse (BadShape (Some n)) (entry_of d)) _
+    (refused_or (λ entry. AllByRecursion HasStepTexts entry.steps) (BadShape (Some n)) (entry_of d) (entry_texts d h))
+    (λ entry has. then_of (λ _. Unit {0}) AreSaid (or_refuse (UnknownChange n) (change_of_entry changes entry)) _ (refused_or (λ _. Unit {0}) (UnknownChange n) (change_of_entry changes entry) (any_given (change_of_entry changes entry)))
+    (λ found u. of_tests found.0 found.1.steps entry.steps has (list_any (names_change found.1) before) (fault_of_steps n found.1.steps entry.steps) refl))
+  where
+    n : ℕ
+    n = length before
+
+    of_tests : (number : ℕ) (kinds : List _) (steps : List Outcome) → AllByRecursion HasStepTexts steps → (b : Bool) (fault : Option ScriptError) → fault_of_steps n kinds steps ≡ fault
+        → IfOk (cond b (Err (Duplicate n)) (unless_refused fault (number, steps))) AreSaid
+    of_tests number kinds steps has true fault is = tt
+    of_tests number kinds steps has false (Some fault) is = tt
+    of_tests number kinds steps has false None is = both_held steps has (each_held IsBounded steps (none_is_bounded n kinds steps is))
+
+-- ---- the script
+
+said_by : (entries : List (ℕ × List Outcome)) (c : ℕ) → AllByRecursion AreSaid entries → IfSome (said_of entries c) (AllByRecursion IsSaid)
+said_by [] c h = tt
+said_by (x ∷ entries) c h = of_test (x.0 == c) (said_by entries c h.1)
+  where
+    of_test : (b : Bool) → IfSome (said_of entries c) (AllByRecursion IsSaid)
+        → IfSome (option_map (λ (entry : ℕ × List Outcome). entry.1) (cond b (Some x) (find (λ (entry : ℕ × List Outcome). entry.0 == c) entries))) (AllByRecursion IsSaid)
+    of_test true rest = h.0
+    of_test false rest = rest
+
+-- each outcome that is given
+abbrev pub IsReadableScript : Outcomes → Type 0
+IsReadableScript script = (c k : ℕ) → IfSome (given_outcome script c k) IsSaid
+
+by_number_said : (low n c : ℕ) (entries : List (ℕ × List Outcome)) → AllByRecursion AreSaid entries → AllByRecursion (λ said. IfSome said (AllByRecursion IsSaid)) (map (said_of entries) (range_with_len low n))
+by_number_said low zero c entries h = tt
+by_number_said low (suc n) c entries h = (said_by entries low h, by_number_said (low + 1) n c entries h)
+
+entries_readable : (count : ℕ) (entries : List (ℕ × List Outcome)) → AllByRecursion AreSaid entries → IsReadableScript (by_number count entries)
+entries_readable count entries h c k =
+    let script = by_number count entries in
+    next_of (AllByRecursion IsSaid) IsSaid (said_at script c) _
+    (next_of (λ said. IfSome said (AllByRecursion IsSaid)) (AllByRecursion IsSaid) (slice_get script c) (λ said. said)
+    (held_at (λ said. IfSome said (AllByRecursion IsSaid)) script c (by_number_said 0 count c entries h)) (λ said all. all))
+    (λ outcomes all. held_at IsSaid outcomes k all)
+
+all_entries : (plan : SavedPlan) (elements : List Data) → AllByRecursion IsLegible elements → IfOk (script_of_entries plan elements) IsReadableScript
+unfolding script_of_entries
+all_entries plan elements h =
+    then_of (AreAnswers AreSaid elements) IsReadableScript (all_or_first (each_with_earlier (entry_at plan.changes) elements)) _ (each_answered IsLegible AreSaid (entry_at plan.changes) elements (entry_said plan.changes) h)
+    (λ entries said. entries_readable (length plan.changes) entries said.0)
+
+tree_readable : (plan : SavedPlan) (d : Data) → IsLegible d → IfOk (script_of_tree plan d) IsReadableScript
+unfolding script_of_tree
+tree_readable plan d h =
+    then_of AreLegible IsReadableScript (or_refuse (BadShape None) (elements_of d)) (λ elements. script_of_entries plan (list_of elements))
+    (refused_or AreLegible (BadShape None) (elements_of d) (next_of IsLegible AreLegible (member_of (codes "changes") d) as_array (member_legible (codes "changes") d h) array_legible))
+    (λ elements legible. all_entries plan (list_of elements) (list_legible elements legible))
+
+pub script_readable : (plan : SavedPlan) (bytes : List ℕ) (script : Outcomes) → script_of plan bytes ≡ Ok script → IsReadableScript script
+unfolding script_of
+script_readable plan bytes script e =
+    is_answered IsReadableScript (of_bytes TooLarge NotJson (script_of_tree plan) bytes) script (made_of_bytes IsReadableScript TooLarge NotJson (script_of_tree plan) bytes (tree_readable plan)) e
+
+-- a script that says nothing
+pub nothing_readable : IsReadableScript []
+nothing_readable c k = tt

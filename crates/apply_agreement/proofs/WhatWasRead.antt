@@ -1,0 +1,49 @@
+-- What holds of a plan and a script that were read from bytes.
+use Rattle.std.proofs.Common.{◌≡◌, ℕ, ◌≤◌, List, [], length, slice_get, Option, Some, None, Ok, subst, arith}
+use Rattle.std.specs.Prelude.{IfSome}
+use Rattle.std.specs.Option.{option_map_or}
+use Rattle.apply_plan.specs.declared.script.outcome.Outcome.{Outcome}
+use Rattle.apply_plan.specs.Plan.ResourceChange.{ResourceChange}
+use Rattle.apply_plan.specs.Plan.SavedPlan.{SavedPlan}
+use Rattle.apply_plan.specs.Script.Outcome.{IsBounded}
+use Rattle.apply_plan.specs.Script.Outcomes.{Outcomes, given_outcome}
+use Rattle.apply_events.specs.Laws.{IsWithinLimits}
+use Rattle.apply_run.specs.Bytes.{Given, IsRead, given_script}
+use Rattle.apply_agreement.specs.Plans.{ProvisionsCreates}
+use Rattle.apply_agreement.proofs.Given.{held_at}
+use Rattle.apply_agreement.proofs.PlanTexts.{IsReadable, IsReadablePlan, plan_readable}
+use Rattle.apply_agreement.proofs.Scripts.{none_has, read_has}
+use Rattle.apply_agreement.proofs.ScriptTexts.{IsReadableScript, IsSaid, nothing_readable, script_readable}
+
+given_readable : (plan : SavedPlan) (bytes : Option (List ℕ)) (script : Outcomes) → given_script plan bytes ≡ Ok script → IsReadableScript script
+given_readable plan None script e = subst IsReadableScript (let same : [] ≡ script = cc in same) nothing_readable
+given_readable plan (Some bytes) script e = script_readable plan bytes script e
+
+given_provisions : (plan : SavedPlan) (bytes : Option (List ℕ)) (script : Outcomes) → given_script plan bytes ≡ Ok script → ProvisionsCreates plan script
+given_provisions plan None script e = subst (ProvisionsCreates plan) (let same : [] ≡ script = cc in same) (none_has plan)
+given_provisions plan (Some bytes) script e = read_has plan bytes script e
+
+few_kinds : (found : Option ResourceChange) → IfSome found IsReadable → length (option_map_or (λ (change : ResourceChange). change.steps) found []) ≤ 2
+few_kinds None h = omega arith
+few_kinds (Some change) h = h.few_steps
+
+bounded : (found : Option Outcome) → IfSome found IsSaid → IfSome found IsBounded
+bounded None h = tt
+bounded (Some outcome) h = h.bounded
+
+module _ (given : Given) (plan : SavedPlan) (script : Outcomes) (read : IsRead given plan script) where
+  pub the_plan : IsReadablePlan plan
+  the_plan = plan_readable given.plan plan read.plan_is
+
+  pub the_script : IsReadableScript script
+  the_script = given_readable plan given.script script read.script_is
+
+  pub provisions : ProvisionsCreates plan script
+  provisions = given_provisions plan given.script script read.script_is
+
+  pub within_limits : IsWithinLimits (record { plan = plan; script = script; hooks = given.hooks })
+  within_limits = record {
+    few_changes = the_plan.few;
+    few_steps = λ c. few_kinds (slice_get plan.changes c) (held_at IsReadable plan.changes c the_plan.changes);
+    short_steps = λ c k. bounded (given_outcome script c k) (the_script c k);
+  }

@@ -1,0 +1,86 @@
+//! Laws of plans and scripts that were read from bytes, and of the streams of their runs. Each function only calls the
+//! laws that its own follows from.
+
+ghost use Rattle.std.specs.Prelude.{◌≡◌, ◌≤◌, ◌*◌, ℕ, List, [], Some, length, slice_index_or, Ok};
+ghost use Rattle.apply_plan.specs.Plan.SavedPlan.{SavedPlan};
+ghost use Rattle.apply_plan.specs.Script.Outcomes.{Outcomes};
+ghost use Rattle.apply_hooks.specs.Hooks.{max_hooks};
+ghost use Rattle.apply_check.specs.Cut.{lines_of};
+ghost use Rattle.apply_check.specs.Lines.{verdict_of};
+ghost use Rattle.apply_events.specs.declared.event.Event.{Event};
+ghost use Rattle.apply_events.specs.Interleaving.{IsInterleaving};
+ghost use Rattle.apply_events.specs.Laws.{AllFit, IsWithinLimits};
+ghost use Rattle.apply_events.specs.Partition.{IsPartition};
+ghost use Rattle.apply_events.specs.Step.{Work};
+ghost use Rattle.apply_events.specs.WorkerEvents.{worker_events};
+ghost use Rattle.apply_text.specs.declared.operation.Operation.{Operation};
+ghost use Rattle.apply_text.specs.Lines.{stream_of};
+ghost use Rattle.apply_run.specs.declared.options.Options.{Options};
+ghost use Rattle.apply_run.specs.declared.report.Report.{Report};
+ghost use Rattle.apply_run.specs.Bytes.{Given, IsRead, WasApplied};
+ghost use Rattle.apply_run.specs.Lanes.{WasAppliedInLanes};
+ghost use Rattle.apply_run.specs.Run.{Sight};
+ghost use Rattle.apply_agreement.specs.Accepted.{whole_stream};
+ghost use Rattle.apply_agreement.specs.Applied.{HasShortLines, whole_reported};
+ghost use Rattle.apply_agreement.specs.Plans.{DeletesDeposed, IsOrdinary, ProvisionsCreates};
+ghost use Rattle.apply_agreement.specs.Texts.{HasTexts};
+
+use crate::laws::{
+    a_stream_of_texts_can_be_read, events_that_can_happen_fit_bits, every_stream_is_accepted,
+};
+use apply_events::{
+    a_list_of_a_partition_names_each_number_once, a_rising_list_fits_below_its_limit,
+    an_interleaving_has_the_summed_length, every_event_fits, lanes_deal_out_the_changes,
+};
+use apply_plan::{each_object_is_named_once, relative_addresses_join_their_module};
+use apply_text::a_line_has_one_line_feed;
+
+/// Each text that messages tell of a plan and a script that were read is UTF-8, as the bytes are that they were read
+/// from, and an instance key that is a number fits 64 bits.
+pub fn texts_that_were_read_are_utf8()
+    ensures { (given : Given) (plan : SavedPlan) (script : Outcomes) → IsRead given plan script → HasTexts plan script }
+{
+    relative_addresses_join_their_module();
+}
+
+/// A plan that was read has at most 10,000 changes of two steps each, and each step of a script that was read takes a
+/// day at most.
+pub fn what_was_read_is_within_limits()
+    ensures { (given : Given) (plan : SavedPlan) (script : Outcomes) → IsRead given plan script
+        → IsWithinLimits (record { plan = plan; script = script; hooks = given.hooks }) }
+{}
+
+/// A plan that was read names each object once, and of a script that was read only creates have provisioners: all that
+/// is asked of a plan beside is that a deposed object is only deleted.
+pub fn a_plan_that_was_read_is_ordinary()
+    ensures plan { (given : Given) (plan : SavedPlan) (script : Outcomes) → IsRead given plan script
+        → DeletesDeposed plan → IsOrdinary plan }
+    ensures script { (given : Given) (plan : SavedPlan) (script : Outcomes) → IsRead given plan script
+        → ProvisionsCreates plan script }
+{
+    each_object_is_named_once();
+}
+
+/// A run of a plan and a script within the limits has at most 200,000,000 events for each worker, whatever the hooks.
+pub fn a_run_has_few_events()
+    ensures { (work : Work) (workers : ℕ) (lists : List (List ℕ)) (events : List Event) → IsWithinLimits work
+        → IsPartition workers (length work.plan.changes) lists
+        → IsInterleaving workers (λ worker. worker_events work worker (slice_index_or lists worker [])) events
+        → length events ≤ workers * 200000000 }
+{
+    a_list_of_a_partition_names_each_number_once();
+    a_rising_list_fits_below_its_limit();
+    an_interleaving_has_the_summed_length();
+}
+
+/// With at most 32 hooks each of its events can happen.
+pub fn every_event_of_a_run_fits()
+    ensures { (work : Work) (workers : ℕ) (lists : List (List ℕ)) (events : List Event) → IsWithinLimits work
+        → length work.hooks ≤ max_hooks
+        → IsPartition workers (length work.plan.changes) lists
+        → IsInterleaving workers (λ worker. worker_events work worker (slice_index_or lists worker [])) events
+        → AllFit work events }
+{
+    a_list_of_a_partition_names_each_number_once();
+    every_event_fits();
+}
