@@ -18,7 +18,7 @@ use crate::objects::member::put_text;
 use crate::objects::message_object::{begin_message, end_message};
 use crate::objects::provisioner_object::put_provisioner;
 use crate::operation::Operation;
-use crate::step_words::{action_word, noun_word, phase_words, start_word, still_word};
+use crate::step_words::{StepWords, phase_words};
 use apply_events::{Counts, What};
 use json::Writer;
 use std::alloc::AllocError;
@@ -100,25 +100,25 @@ fn say_event(scratch: &mut String, step: AppliedStep<'_>, what: What) -> Result<
     scratch.clear();
     match what {
         What::Start => {
-            let word = start_word(step.kind);
+            let word = StepWords::new(step.kind).start;
             let note = IdNote {
                 id: step.start_id(),
             };
             write!(scratch, "{address}: {word}...{note}")
         }
         What::Progress(seconds) => {
-            let word = still_word(step.kind);
+            let word = StepWords::new(step.kind).still;
             let elapsed = Elapsed { seconds };
             write!(scratch, "{address}: Still {word}... [{elapsed} elapsed]")
         }
         What::Complete(seconds) => {
-            let noun = noun_word(step.kind);
+            let noun = StepWords::new(step.kind).noun;
             let elapsed = Elapsed { seconds };
             let note = IdNote { id: step.end_id() };
             write!(scratch, "{address}: {noun} complete after {elapsed}{note}")
         }
         What::Errored(seconds) => {
-            let noun = noun_word(step.kind);
+            let noun = StepWords::new(step.kind).noun;
             let elapsed = Elapsed { seconds };
             write!(scratch, "{address}: {noun} errored after {elapsed}")
         }
@@ -207,7 +207,7 @@ fn put_body(
         }
         What::Halted { phase, hook } => {
             let words = phase_words(phase);
-            let action = action_word(kind);
+            let action = StepWords::new(kind).action;
             scratch.clear();
             write!(scratch, "Hook {hook} answered Halt {words} {action}.")?;
             let detail = scratch.as_str();

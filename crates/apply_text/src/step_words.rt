@@ -1,4 +1,4 @@
-//! The words that a message has for a step.
+//! The words that messages have for a step and for the phase of a hook.
 
 ghost use Rattle.std.specs.Prelude.{◌≡◌};
 ghost use Rattle.apply_text.specs.Words as words;
@@ -6,51 +6,39 @@ ghost use Rattle.apply_text.specs.Words as words;
 use apply_hooks::Phase;
 use apply_plan::StepKind;
 
-/// The member `action` of a hook.
-pub fn action_word(step: StepKind) -> &'static str
-    ensures { result.now ≡ words.action_word step }
-{
-    match step {
-        StepKind::Create => "create",
-        StepKind::Update => "update",
-        StepKind::Delete => "delete",
-        StepKind::Read => "read",
-    }
+/// The words that messages have for a step.
+#[derive(Clone, Copy, Drop)]
+pub struct StepWords {
+    /// The member `action` of a hook.
+    pub action: &'static str,
+    /// What the step is doing when it starts.
+    pub start: &'static str,
+    /// What it is still doing.
+    pub still: &'static str,
+    /// What is complete, or has failed, when it ends.
+    pub noun: &'static str,
 }
 
-/// What a step is doing when it starts.
-pub fn start_word(step: StepKind) -> &'static str
-    ensures { result.now ≡ words.start_word step }
-{
-    match step {
-        StepKind::Create => "Creating",
-        StepKind::Update => "Modifying",
-        StepKind::Delete => "Destroying",
-        StepKind::Read => "Refreshing",
-    }
-}
-
-/// What it is still doing.
-pub fn still_word(step: StepKind) -> &'static str
-    ensures { result.now ≡ words.still_word step }
-{
-    match step {
-        StepKind::Create => "creating",
-        StepKind::Update => "modifying",
-        StepKind::Delete => "destroying",
-        StepKind::Read => "refreshing",
-    }
-}
-
-/// What is complete, or has failed, when a step ends.
-pub fn noun_word(step: StepKind) -> &'static str
-    ensures { result.now ≡ words.noun_word step }
-{
-    match step {
-        StepKind::Create => "Creation",
-        StepKind::Update => "Modifications",
-        StepKind::Delete => "Destruction",
-        StepKind::Read => "Refresh",
+impl StepWords {
+    /// Those for a step.
+    pub fn new(step: StepKind) -> StepWords
+        ensures action { result.action.now ≡ words.action_word step }
+        ensures start { result.start.now ≡ words.start_word step }
+        ensures still { result.still.now ≡ words.still_word step }
+        ensures noun { result.noun.now ≡ words.noun_word step }
+    {
+        let (action, start, still, noun) = match step {
+            StepKind::Create => ("create", "Creating", "creating", "Creation"),
+            StepKind::Update => ("update", "Modifying", "modifying", "Modifications"),
+            StepKind::Delete => ("delete", "Destroying", "destroying", "Destruction"),
+            StepKind::Read => ("read", "Refreshing", "refreshing", "Refresh"),
+        };
+        StepWords {
+            action,
+            start,
+            still,
+            noun,
+        }
     }
 }
 

@@ -3,13 +3,13 @@
 ghost use Rattle.std.specs.Prelude.{◌≡◌, ◌++◌, codes, decimal, string_bytes, IfOk, IsTrue, OnOk};
 ghost use Rattle.apply_text.specs.Elapsed.{elapsed_of};
 ghost use Rattle.apply_text.specs.Kept.{back_text, front_text, kept_step};
-ghost use Rattle.apply_text.specs.Words.{action_word as action_word_of};
+ghost use Rattle.apply_text.specs.Words.{action_word};
 
 use crate::display::elapsed::Elapsed;
 use crate::kept::key::{copy_of, is_same};
 use crate::kept::open_text::open_text;
 use crate::objects::resource_object::put_resource;
-use crate::step_words::{action_word, still_word};
+use crate::step_words::StepWords;
 use apply_plan::{Change, Key, StepKind, Text};
 use json::Writer;
 use std::alloc::{AllocError, Global};
@@ -95,10 +95,10 @@ impl ProgressFrame {
     /// Appends a line from behind its moment on. `Err` where memory is refused.
     pub fn push_back(&self, line: &mut String, seconds: u32) -> Result<(), AllocError>
         ensures { OnOk result (string_bytes line.new ≡ string_bytes line.old
-            ++ (codes ",\"hook\":{\"action\":\"" ++ (action_word_of self.now.step
+            ++ (codes ",\"hook\":{\"action\":\"" ++ (action_word self.now.step
             ++ (codes "\",\"elapsed_seconds\":" ++ (decimal seconds ++ (codes "," ++ back_text self.now.change)))))) }
     {
-        let action = action_word(self.step);
+        let action = StepWords::new(self.step).action;
         let back = self.back.as_str();
         write!(
             line,
@@ -111,7 +111,7 @@ impl ProgressFrame {
 fn front_of(alloc: Global, address: &str, step: StepKind) -> Result<String, AllocError>
     ensures { IfOk result (λ front. string_bytes front ≡ front_text address.now step) }
 {
-    let word = still_word(step);
+    let word = StepWords::new(step).still;
     let text = format!(in alloc; "{address}: Still {word}... [")?;
     let open = open_text(alloc, text.as_str())?;
     let mut front = String::from_str(alloc, "{\"@level\":\"info\",\"@message\":")?;

@@ -7,7 +7,7 @@ ghost use Rattle.apply_text.specs.Sending.{Sends, elapsed_tokens, id_tokens, mem
 
 use crate::objects::member::{put_number, put_text};
 use crate::objects::resource_object::put_resource;
-use crate::step_words::action_word;
+use crate::step_words::StepWords;
 use apply_plan::{Change, StepKind};
 use json::Writer;
 use std::alloc::AllocError;
@@ -26,7 +26,7 @@ pub fn put_hook(
 {
     out.key("hook")?;
     out.begin_object()?;
-    put_text(out, "action", action_word(step))?;
+    put_text(out, "action", StepWords::new(step).action)?;
     put_elapsed(out, elapsed)?;
     put_id(out, id)?;
     put_resource(out, change)?;

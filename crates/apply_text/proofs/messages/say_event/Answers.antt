@@ -4,7 +4,7 @@ use Rattle.apply_text.proofs.Texts.{cleared, complete_text, provision_complete_t
 use Rattle.apply_text.proofs.messages.say_event.Goals as goal
 
 pub returns-in-Complete : goal.returns-in-Complete
-returns-in-Complete c = rw c.in-Complete.is (on_ok_weaker c.write-in-Complete.result (λ e. cleared _ _ _ c.clear.ensures.bytes e ∙ complete_text c.args.step.change.now c.args.step.kind c.in-Complete.seconds _ _ _ _ c.address-address.ensures c.noun_word-noun.ensures c.end_id.ensures) c.write-in-Complete.ensures.bytes)
+returns-in-Complete c = rw c.in-Complete.is (on_ok_weaker c.write-in-Complete.result (λ e. cleared _ _ _ c.clear.ensures.bytes e ∙ complete_text c.args.step.change.now c.args.step.kind c.in-Complete.seconds _ _ _ _ c.address-address.ensures c.new-in-Complete.ensures.noun c.end_id.ensures) c.write-in-Complete.ensures.bytes)
 
 pub returns-in-ProvisionComplete : goal.returns-in-ProvisionComplete
 returns-in-ProvisionComplete c = rw c.in-ProvisionComplete.is (on_ok_weaker c.write-in-ProvisionComplete.result (λ e. cleared _ _ _ c.clear.ensures.bytes e ∙ provision_complete_text c.args.step.change.now _ _ _ c.address-address.ensures c.provisioner_name-name-in-ProvisionComplete.ensures) c.write-in-ProvisionComplete.ensures.bytes)

@@ -15,7 +15,7 @@ returns c =
     said (ap (λ tokens. key (codes "hook") ∷ begin_object ∷ key (codes "action") ∷ string (action_word c.args.step) ∷ tokens) (members_first c.args.elapsed (option_copied c.args.id) resource))
     (then_one _ _ c.in_ok-key.ensures
     (then_one _ _ c.in_ok-begin_object.ensures
-    (then_text _ _ _ _ c.action_word.ensures c.in_ok-put_text.ensures
+    (then_text _ _ _ _ c.new.ensures.action c.in_ok-put_text.ensures
     (then _ _ c.in_ok-put_elapsed.ensures
     (then _ _ c.in_ok-put_id.ensures
     (then _ _ c.in_ok-put_resource.ensures
