@@ -17,7 +17,7 @@ use Rattle.apply_events.specs.declared.event.Event.{Event}
 use Rattle.apply_events.specs.declared.what.What.{What}
 use Rattle.apply_events.specs.declared.what.What.TheVariants.{Halted}
 use Rattle.apply_events.specs.ChangeEvents.{begun, change_events, in_turn, span_of}
-use Rattle.apply_events.specs.Fits.{latest}
+use Rattle.apply_events.specs.Fits.{latest, max_span}
 use Rattle.apply_events.specs.Laws.{IsWithinLimits, NamesEachOnce}
 use Rattle.apply_events.specs.Step.{Step, Work, kinds_of, step_of, steps_of}
 use Rattle.apply_events.specs.StepEvents.{between, endings, event, goes_on, halts, phase_after, seconds_of, started, step_events, step_time}
@@ -119,18 +119,18 @@ length-planned : (work : Work) (c n : ℕ) (kinds : List StepKind) → length (m
 length-planned work c n [] = refl
 length-planned work c n (kind ∷ kinds) = ap suc (length-planned work c (n + 1) kinds)
 
-pub span_short : (work : Work) (c : ℕ) → IsWithinLimits work → span_of work c ≤ 172800
+pub span_short : (work : Work) (c : ℕ) → IsWithinLimits work → span_of work c ≤ max_span
 span_short work c read =
     let few : length (kinds_of work.plan c) ≤ 2 = read.few_steps c in
     let same : length (steps_of work c) ≡ length (kinds_of work.plan c) = length-planned work c 0 (kinds_of work.plan c) in
     let time : span_of work c ≤ 86400 * length (steps_of work c) = begun_time (steps_of work c) (planned_short work c 0 (kinds_of work.plan c) read.short_steps) in
     omega arith
 
-spans_short : (work : Work) (changes : List ℕ) → IsWithinLimits work → sum_by (span_of work) changes ≤ 172800 * length changes
+spans_short : (work : Work) (changes : List ℕ) → IsWithinLimits work → sum_by (span_of work) changes ≤ max_span * length changes
 spans_short work [] read = omega arith
 spans_short work (c ∷ changes) read =
-    let first : span_of work c ≤ 172800 = span_short work c read in
-    let rest : sum_by (span_of work) changes ≤ 172800 * length changes = spans_short work changes read in
+    let first : span_of work c ≤ max_span = span_short work c read in
+    let rest : sum_by (span_of work) changes ≤ max_span * length changes = spans_short work changes read in
     let e : sum_by (span_of work) (c ∷ changes) ≡ span_of work c + sum_by (span_of work) changes = sum_by-cons (span_of work) c changes in
     omega arith
 
@@ -144,7 +144,7 @@ below (x ∷ xs) n q all h =
 
 pub worker_in_time : (work : Work) (w : ℕ) (changes : List ℕ) → IsWithinLimits work → NamesEachOnce work changes → All (λ e. e.at ≤ latest) (worker_events work w changes)
 worker_in_time work w changes read named =
-    let spans : sum_by (span_of work) changes ≤ 172800 * length changes = spans_short work changes read in
+    let spans : sum_by (span_of work) changes ≤ max_span * length changes = spans_short work changes read in
     let many : length changes ≤ length work.plan.changes = length-le_from_distinct_below changes (length work.plan.changes) named.once (λ q h. below changes (length work.plan.changes) q named.known h) in
     let few : length work.plan.changes ≤ 10000 = read.few_changes in
     Rises-at_most moment_of 0 latest (worker_events work w changes)

@@ -43,6 +43,3 @@ pub use partition::{
 };
 pub use runner::Runner;
 pub use what::What;
-
-#[cfg(test)]
-mod tests;

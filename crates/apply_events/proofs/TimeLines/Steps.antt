@@ -10,7 +10,7 @@ use Rattle.apply_events.specs.declared.event.Event.{Event}
 use Rattle.apply_events.specs.ChangeEvents.{change_events, span_of}
 use Rattle.apply_events.specs.declared.runner.Runner.{Runner}
 use Rattle.apply_events.specs.Course.{Course, GivesNext}
-use Rattle.apply_events.specs.Fits.{HasStep, latest}
+use Rattle.apply_events.specs.Fits.{HasStep, latest, max_span}
 use Rattle.apply_events.specs.Runner.{course_of}
 use Rattle.apply_events.specs.Step.{Work}
 use Rattle.apply_events.specs.declared.lanes.lane.Lane.{Lane}
@@ -76,7 +76,7 @@ pub later : {a b : _} {g : _} (plan : SavedPlan) (begun : ℕ) (lane : Lane a b 
 later plan begun (Free at) h = omega arith
 later plan begun (Busy busy) h = (h.0, (let le = h.1 in omega arith), h.2)
 
-free_is : {a b : _} {g : _} (plan : SavedPlan) (begun : ℕ) (lane : Lane a b g) (at : ℕ) → IsSound plan begun lane → Some at ≡ free_in (state_of lane).events (state_of lane).free → at ≤ 172800 * begun
+free_is : {a b : _} {g : _} (plan : SavedPlan) (begun : ℕ) (lane : Lane a b g) (at : ℕ) → IsSound plan begun lane → Some at ≡ free_in (state_of lane).events (state_of lane).free → at ≤ max_span * begun
 free_is plan begun (Free x) at h is = let same : at ≡ x = cc in omega arith
 free_is plan begun (Busy busy) at h is = absurd (idle_not at is)
   where
@@ -84,7 +84,7 @@ free_is plan begun (Busy busy) at h is = absurd (idle_not at is)
     idle_not at h = cc
 
 pub free_in_time : {a b : _} {g : _} (plan : SavedPlan) (begun : ℕ) (items : List (Lane a b g)) (w at : ℕ) → w < length items → All (λ lane. IsSound plan begun lane) items
-    → Some at ≡ free_in (get_or (map state_of items) w unused).events (get_or (map state_of items) w unused).free → at ≤ 172800 * begun
+    → Some at ≡ free_in (get_or (map state_of items) w unused).events (get_or (map state_of items) w unused).free → at ≤ max_span * begun
 free_in_time plan begun [] w at lt all is = absurd (omega arith)
 free_in_time plan begun (x ∷ xs) zero at lt all is = free_is plan begun x at (All-head (λ lane. IsSound plan begun lane) x xs all) is
 free_in_time plan begun (x ∷ xs) (suc w) at lt all is = free_in_time plan begun xs w at (omega arith) (All-tail (λ lane. IsSound plan begun lane) x xs all) is
@@ -237,11 +237,11 @@ sound_at plan begun items w old lt is all = subst (IsSound plan begun) (sym is) 
 
 -- the runner goes on to its next event
 pub sound_on : {a b : _} {g : _} (plan : SavedPlan) (begun : ℕ) (old new : Runner a b g) (next : Event)
-    → (course_of old).begin + 172800 ≤ 172800 * begun → ((c k : ℕ) → HasStep (course_of old).work.plan c k → HasStep plan c k)
+    → (course_of old).begin + max_span ≤ max_span * begun → ((c k : ℕ) → HasStep (course_of old).work.plan c k → HasStep plan c k)
     → HasStep (course_of old).work.plan next.change next.step → next.at ≤ latest → course_of new ≡ course_of old
-    → IsOf plan next × ((course_of new).begin + 172800 ≤ 172800 * begun) × ((c k : ℕ) → HasStep (course_of new).work.plan c k → HasStep plan c k)
+    → IsOf plan next × ((course_of new).begin + max_span ≤ max_span * begun) × ((c k : ℕ) → HasStep (course_of new).work.plan c k → HasStep plan c k)
 sound_on plan begun old new next soon known has early same = (
   (known next.change next.step has, early),
-  subst (λ (course : Course). course.begin + 172800 ≤ 172800 * begun) (sym same) soon,
+  subst (λ (course : Course). course.begin + max_span ≤ max_span * begun) (sym same) soon,
   subst (λ (course : Course). (c k : ℕ) → HasStep course.work.plan c k → HasStep plan c k) (sym same) known,
 )

@@ -3,7 +3,7 @@ use Rattle.std.specs.Prelude.{◌≡◌, ℕ, ◌+◌, ◌*◌, ◌≤◌, List,
 use Rattle.apply_events.specs.ChangeEvents.{span_of}
 use Rattle.apply_events.specs.declared.event.Event.{Event}
 use Rattle.apply_events.specs.Course.{GivesNext}
-use Rattle.apply_events.specs.Fits.{HasStep}
+use Rattle.apply_events.specs.Fits.{HasStep, max_span}
 use Rattle.apply_events.specs.Runner.{course_of, to_come}
 use Rattle.apply_plan.specs.Plan.SavedPlan.{SavedPlan}
 use Rattle.apply_events.specs.declared.lanes.lane.Lane.{Lane}
@@ -20,8 +20,8 @@ state_of (Busy busy) = record {
 -- so many changes of the plan were begun, each of which takes two days at most; the next event is of a step of the
 -- plan, and in time
 abbrev pub IsSound : {a b : _} {g : _} → (plan : SavedPlan) → (begun : ℕ) → Lane a b g → Type 0
-IsSound plan begun (Free at) = at ≤ 172800 * begun
-IsSound plan begun (Busy busy) = IsOf plan busy.ahead × ((course_of busy.behind).begin + 172800 ≤ 172800 * begun)
+IsSound plan begun (Free at) = at ≤ max_span * begun
+IsSound plan begun (Busy busy) = IsOf plan busy.ahead × ((course_of busy.behind).begin + max_span ≤ max_span * begun)
     × ((c k : ℕ) → HasStep (course_of busy.behind).work.plan c k → HasStep plan c k)
 
 -- the lane tells its next event, if it has one, and the others stay as they are

@@ -34,6 +34,7 @@ impl<'a> Lane<'a> {
     ghost use Rattle.apply_plan.specs.Plan.SavedPlan.{SavedPlan, max_changes};
     ghost use Rattle.apply_events.specs.ChangeEvents.{span_of};
     ghost use Rattle.apply_events.specs.Course.{GivesNext};
+    ghost use Rattle.apply_events.specs.Fits.{max_span};
     ghost use Rattle.apply_events.specs.Step.{Work};
     ghost use Rattle.apply_events.specs.Lanes.Lane.{IsSound, state_of};
     ghost use Rattle.apply_events.specs.Lanes.LaneState.{IsOf, moment_of};
@@ -49,7 +50,7 @@ impl<'a> Lane<'a> {
     ) -> Lane<'a>
         requires change { change < length plan.now.changes }
         requires few { length plan.now.changes ≤ max_changes }
-        requires in_time { at ≤ 172800 * change }
+        requires in_time { at ≤ max_span * change }
         ensures events { (state_of result).events ≡ change_events (record { plan = plan.now; script = script.now; hooks = rules_of registry.now }) worker change at }
         ensures free { (state_of result).free ≡ at + span_of (record { plan = plan.now; script = script.now; hooks = rules_of registry.now }) change }
         ensures few { length (state_of result).events ≤ max_of_change }

@@ -21,7 +21,7 @@ fn worked_provisioners(rt: HostRuntime) {
     let alloc = rt.alloc();
     let registry = Registry::new(alloc);
     for row in WORKED.lines() {
-        let (steps, wanted) = row.split_once(" => ").expect(&rt, "steps");
+        let (steps, wanted) = parted(&rt, row);
         tells(&rt, alloc, CREATE, steps, &registry, wanted);
     }
 }
@@ -52,56 +52,50 @@ const ONE_FAILS: &str =
 
 /// The events of either up to the provisioner's end.
 const UP_TO_THE_END: &str =
-    "0 step 0 Start; 1 step 0 ProvisionStart(0); 3 step 0 ProvisionOutput { prov: 0, line: 0 };";
+    "0 step 0 Start; 1 step 0 ProvisionStart(0); 3 step 0 ProvisionOutput { prov: 0, line: 0 }; ";
 
 /// Fails where the create with these steps does not end so, behind the provisioner's output.
 fn ends_in(rt: &impl Abort, alloc: Global, steps: &str, registry: &Registry, end: &str) {
-    let wanted = format!(in alloc; "{UP_TO_THE_END} {end}").expect(rt, "memory");
+    let mut wanted = String::new(alloc);
+    push(rt, &mut wanted, UP_TO_THE_END);
+    push(rt, &mut wanted, end);
     tells(rt, alloc, CREATE, steps, registry, wanted.as_str());
 }
 
 /// A hook that halts completed creates is asked behind the provisioners, and not where one of them fails.
 #[test]
-fn hooks_are_asked_behind_provisioners(rt: HostRuntime) -> Result<(), Fail> {
+fn hooks_are_asked_behind_provisioners(rt: HostRuntime) {
     let alloc = rt.alloc();
     let mut registry = Registry::new(alloc);
-    let rules = halt_in(alloc, Phase::PostDone, Some(StepKind::Create))?;
+    let rules = halting(&rt, alloc, Phase::PostDone, Some(StepKind::Create));
     let answer: HookClosure = Box::new(alloc, |call: &HookCall<'_>| {
-        if call.phase == Phase::PostDone && call.kind == StepKind::Create {
-            Verdict::Halt
-        } else {
-            Verdict::Continue
-        }
-    })?;
-    assert!(rt; registry.add(FnHook::new(rules, answer)).is_ok());
+        halts(call, Phase::PostDone, Some(StepKind::Create))
+    })
+    .expect(&rt, "memory");
+    add_hook(&rt, &mut registry, rules, answer);
     let halts =
         "3 step 0 ProvisionComplete(0); 3 step 0 Complete(3); 3 step 0 Halted { phase: PostDone, hook: 0 };";
     ends_in(&rt, alloc, ONE, &registry, halts);
     let fails = "3 step 0 ProvisionErrored(0); 3 step 0 Errored(3); 3 step 0 ErrorNote;";
     ends_in(&rt, alloc, ONE_FAILS, &registry, fails);
-    Ok(())
 }
 
 /// Where a provisioner fails, hooks are asked as behind a step that failed.
 #[test]
-fn hooks_halt_after_a_failed_provisioner(rt: HostRuntime) -> Result<(), Fail> {
+fn hooks_halt_after_a_failed_provisioner(rt: HostRuntime) {
     let alloc = rt.alloc();
     let mut registry = Registry::new(alloc);
-    let rules = halt_in(alloc, Phase::PostFailed, None)?;
+    let rules = halting(&rt, alloc, Phase::PostFailed, None);
     let answer: HookClosure = Box::new(alloc, |call: &HookCall<'_>| {
-        if call.phase == Phase::PostFailed {
-            Verdict::Halt
-        } else {
-            Verdict::Continue
-        }
-    })?;
-    assert!(rt; registry.add(FnHook::new(rules, answer)).is_ok());
+        halts(call, Phase::PostFailed, None)
+    })
+    .expect(&rt, "memory");
+    add_hook(&rt, &mut registry, rules, answer);
     let halts =
         "3 step 0 ProvisionErrored(0); 3 step 0 Errored(3); 3 step 0 ErrorNote; 3 step 0 Halted { phase: PostFailed, hook: 0 };";
     ends_in(&rt, alloc, ONE_FAILS, &registry, halts);
     let done = "3 step 0 ProvisionComplete(0); 3 step 0 Complete(3);";
     ends_in(&rt, alloc, ONE, &registry, done);
-    Ok(())
 }
 
 /// No hook is asked between two events of a step, also where a provisioner begins; and the change has ended where the step

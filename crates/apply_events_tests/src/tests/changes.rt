@@ -20,8 +20,8 @@ fn worked_changes(rt: HostRuntime) {
     let alloc = rt.alloc();
     let registry = Registry::new(alloc);
     for row in WORKED.lines() {
-        let (actions, rest) = row.split_once(" => ").expect(&rt, "actions");
-        let (steps, wanted) = rest.split_once(" => ").expect(&rt, "steps");
+        let (actions, rest) = parted(&rt, row);
+        let (steps, wanted) = parted(&rt, rest);
         tells(&rt, alloc, actions, steps, &registry, wanted);
     }
 }
@@ -32,24 +32,27 @@ fn progress_of(rt: &impl Abort, events: &[Event]) -> u32 {
     for event in events {
         if let What::Progress(seconds) = event.what {
             told = told.wrapping_add(1);
-            assert!(rt; seconds == told.wrapping_mul(10), "{event:?}");
-            assert!(rt; event.at == seconds as u64, "{event:?}");
+            number_is(
+                rt,
+                "the seconds",
+                seconds as u64,
+                told.wrapping_mul(10) as u64,
+            );
+            number_is(rt, "the moment", event.at, seconds as u64);
         }
     }
     told
 }
 
 /// Fails where an update with these steps has another number of events, or of those that tell progress.
-fn progress_is(rt: &impl Abort, alloc: Global, steps: &str, events: usize, progress: u32) {
+fn progress_is(rt: &impl Abort, alloc: Global, steps: &str, events: u64, progress: u64) {
     let registry = Registry::new(alloc);
     let plan = plan_of(rt, alloc, r#"["update"]"#);
     let script = script_of(rt, alloc, &plan, steps);
     assert!(rt; plan.len() == 1);
     let all = all_events(rt, alloc, Runner::start(&plan, &script, &registry, 0, 0, 0));
-    let found = all.len();
-    assert!(rt; found == events, "{steps}: {found} events");
-    let found = progress_of(rt, &all);
-    assert!(rt; found == progress, "{steps}: {found} times");
+    number_is(rt, steps, all.len() as u64, events);
+    number_is(rt, steps, progress_of(rt, &all) as u64, progress);
 }
 
 #[test]
@@ -58,11 +61,8 @@ fn hour_of_progress(rt: HostRuntime) {
     progress_is(&rt, rt.alloc(), r#"[{"seconds":86400}]"#, 8_641, 8_639);
 }
 
-/// The last moment at which a change may begin.
-const LAST_BEGIN: u64 = LATEST - 172_800;
-
-/// Fails where the next event of worker 7 is not this one, at the last begin.
-fn next_is(rt: &impl Abort, runner: &mut Runner<'_>, step: u8, what: What) {
+/// Fails where another event was found than this one of worker 7, at the last begin.
+fn late_is(rt: &impl Abort, found: Option<Event>, step: u8, what: What) {
     let wanted = Event {
         worker: 7,
         change: 0,
@@ -70,7 +70,7 @@ fn next_is(rt: &impl Abort, runner: &mut Runner<'_>, step: u8, what: What) {
         what,
         at: LAST_BEGIN,
     };
-    assert_eq!(rt; runner.next(), Some(wanted));
+    assert!(rt; found == Some(wanted), "another event at the last begin");
 }
 
 #[test]
@@ -81,28 +81,19 @@ fn a_default_script_and_a_late_begin(rt: HostRuntime) {
     let script = Script::empty();
     assert!(rt; plan.len() == 1);
     let mut runner = Runner::start(&plan, &script, &registry, 7, 0, LAST_BEGIN);
-    next_is(&rt, &mut runner, 0, What::Start);
-    next_is(&rt, &mut runner, 0, What::Complete(0));
-    next_is(&rt, &mut runner, 1, What::Start);
-    next_is(&rt, &mut runner, 1, What::Complete(0));
+    late_is(&rt, runner.next(), 0, What::Start);
+    late_is(&rt, runner.next(), 0, What::Complete(0));
+    late_is(&rt, runner.next(), 1, What::Start);
+    late_is(&rt, runner.next(), 1, What::Complete(0));
     assert!(rt; runner.next().is_none());
-    assert!(rt; runner.ended_at() == LAST_BEGIN);
+    number_is(&rt, "the end", runner.ended_at(), LAST_BEGIN);
 }
 
-/// Fails where something else happens next, another step begins after it, or the change has ended at another time by
-/// then.
-fn next_leaves(
-    rt: &impl Abort,
-    name: &str,
-    runner: &mut Runner<'_>,
-    at: u64,
-    what: What,
-    begins: Option<u8>,
-    ended_at: u64,
-) {
-    let event = runner.next().expect(rt, "an event");
-    assert!(rt; event.at == at && event.what == what, "{name}: {event:?}");
-    stands(rt, name, runner, begins, ended_at);
+/// Fails where something else was found to happen, or at another moment.
+fn event_is(rt: &impl Abort, found: Option<Event>, at: u64, what: What) {
+    let event = found.expect(rt, "an event");
+    number_is(rt, "the moment", event.at, at);
+    assert!(rt; event.what == what, "at {at}: something else");
 }
 
 /// Between all events: which step begins next, and when the change has ended so far.
@@ -115,29 +106,18 @@ fn between_the_events_of_a_replacement(rt: HostRuntime) {
     assert!(rt; plan.len() == 1);
     let mut runner = Runner::start(&plan, &script, &registry, 0, 0, 5);
     stands(&rt, "nothing", &runner, Some(0), 5);
-    let first_end = What::Complete(11);
-    next_leaves(&rt, "start", &mut runner, 5, What::Start, None, 5);
-    next_leaves(
-        &rt,
-        "progress",
-        &mut runner,
-        15,
-        What::Progress(10),
-        None,
-        5,
-    );
-    next_leaves(&rt, "end", &mut runner, 16, first_end, Some(1), 16);
-    next_leaves(&rt, "next start", &mut runner, 16, What::Start, None, 16);
-    next_leaves(
-        &rt,
-        "next end",
-        &mut runner,
-        18,
-        What::Complete(2),
-        None,
-        16,
-    );
-    next_leaves(&rt, "warning", &mut runner, 18, What::WarnNote, None, 18);
+    event_is(&rt, runner.next(), 5, What::Start);
+    stands(&rt, "start", &runner, None, 5);
+    event_is(&rt, runner.next(), 15, What::Progress(10));
+    stands(&rt, "progress", &runner, None, 5);
+    event_is(&rt, runner.next(), 16, What::Complete(11));
+    stands(&rt, "end", &runner, Some(1), 16);
+    event_is(&rt, runner.next(), 16, What::Start);
+    stands(&rt, "next start", &runner, None, 16);
+    event_is(&rt, runner.next(), 18, What::Complete(2));
+    stands(&rt, "next end", &runner, None, 16);
+    event_is(&rt, runner.next(), 18, What::WarnNote);
+    stands(&rt, "warning", &runner, None, 18);
     assert!(rt; runner.next().is_none());
     stands(&rt, "all", &runner, None, 18);
 }

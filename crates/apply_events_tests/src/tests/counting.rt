@@ -21,9 +21,14 @@ const NOTHING: Counts = Counts {
     halted: 0,
 };
 
+/// Fails where other counts were found.
+fn counted_is(rt: &impl Abort, case: &str, found: &Counts, wanted: &Counts) {
+    assert!(rt; *found == *wanted, "{case}: other counts");
+}
+
 /// Counts one more event. The counts of a test are small.
 fn count(rt: &impl Abort, counted: &mut Counts, plan: &Plan, script: &Script, event: &Event) {
-    assert!(rt; fits(plan, script, event), "{event:?}");
+    assert!(rt; fits(plan, script, event), "an event that cannot happen");
     assert!(rt; counted.added < 9 && counted.changed < 9 && counted.removed < 9);
     assert!(rt; counted.failed < 9 && counted.halted < 9);
     counted.count(plan, event);
@@ -43,14 +48,14 @@ fn counts_are(
     let script = script_of(rt, alloc, &plan, steps);
     assert!(rt; plan.len() == 1);
     let mut counted = Counts::new();
-    assert!(rt; counted == NOTHING);
+    counted_is(rt, "at first", &counted, &NOTHING);
     for event in &all_events(rt, alloc, Runner::start(&plan, &script, &registry, 0, 0, 0)) {
         if event.step == 1 && event.what == What::Start {
-            assert!(rt; counted == between, "{actions}: {counted:?}");
+            counted_is(rt, actions, &counted, &between);
         }
         count(rt, &mut counted, &plan, &script, event);
     }
-    assert!(rt; counted == wanted, "{actions}: {counted:?}");
+    counted_is(rt, actions, &counted, &wanted);
 }
 
 #[test]
@@ -100,5 +105,5 @@ fn a_halt_is_counted(rt: HostRuntime) {
     assert!(rt; fits(&plan, &Script::empty(), &event));
     let mut counted = Counts::new();
     counted.count(&plan, &event);
-    assert!(rt; counted == counts(0, 0, 0, 0, 1), "{counted:?}");
+    counted_is(&rt, "a halt", &counted, &counts(0, 0, 0, 0, 1));
 }

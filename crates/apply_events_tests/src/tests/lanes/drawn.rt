@@ -71,24 +71,35 @@ const WITH_PROVISIONERS: [&str; 4] = [
     r#"{"seconds":1,"provisioners":[{"provisioner":"a","seconds":1,"failed":{"summary":"x"}}]}"#,
 ];
 
+/// What the script says of the first step of a change with these actions.
+fn drawn_step(draws: &mut Draws, actions: &str) -> &'static str {
+    if actions == CREATE && draws.next() < 4 {
+        WITH_PROVISIONERS[draws.next() / 4]
+    } else {
+        STEPS[draws.next()]
+    }
+}
+
+/// Adds a change, with its steps.
+fn push_drawn(rt: &impl Abort, changes: &mut String, draws: &mut Draws) {
+    let actions = ACTIONS[draws.next()];
+    let first = drawn_step(draws, actions);
+    let second = STEPS[draws.next()];
+    push(rt, changes, actions);
+    push(rt, changes, " => [");
+    push(rt, changes, first);
+    if actions == REPLACEMENT || actions == CREATES_FIRST {
+        push(rt, changes, ",");
+        push(rt, changes, second);
+    }
+    push(rt, changes, "]\n");
+}
+
 /// Up to fifteen changes, with their steps.
 fn drawn(rt: &impl Abort, alloc: Global, draws: &mut Draws) -> String {
     let mut changes = String::new(alloc);
     for _ in 0..draws.next() {
-        let actions = ACTIONS[draws.next()];
-        let first = if actions == CREATE && draws.next() < 4 {
-            WITH_PROVISIONERS[draws.next() / 4]
-        } else {
-            STEPS[draws.next()]
-        };
-        let second = STEPS[draws.next()];
-        let change = if actions == REPLACEMENT || actions == CREATES_FIRST {
-            format!(in alloc; "{actions} => [{first},{second}]\n")
-        } else {
-            format!(in alloc; "{actions} => [{first}]\n")
-        };
-        let change = change.expect(rt, "memory");
-        changes.push_str(change.as_str()).expect(rt, "memory");
+        push_drawn(rt, &mut changes, draws);
     }
     changes
 }

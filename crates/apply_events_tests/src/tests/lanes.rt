@@ -6,7 +6,6 @@ mod drawn;
 mod plain;
 
 use super::*;
-use crate::Lanes;
 use drawn::drawn_changes_agree;
 use plain::plain_events;
 
@@ -60,33 +59,47 @@ const ENTRY: &str = r#"{"address":"null_resource.rNUMBER","steps":CELL}"#;
 /// Adds the text, with a number and a cell in their places, to a list.
 fn add(rt: &impl Abort, alloc: Global, list: &mut String, text: &str, number: u32, cell: &str) {
     if !list.is_empty() {
-        list.push_str(",").expect(rt, "memory");
+        push(rt, list, ",");
     }
     let text = put(rt, alloc, text, cell);
-    let number = format!(in alloc; "{number}").expect(rt, "memory");
+    let number = printed(rt, alloc, &number);
     let text = text.replace(alloc, "NUMBER", number.as_str());
-    let text = text.expect(rt, "memory");
-    list.push_str(text.as_str()).expect(rt, "memory");
+    push(rt, list, text.expect(rt, "memory").as_str());
 }
 
-/// A plan of the changes, `null_resource.r0` and so on, and a script for it.
-fn work_of(rt: &impl Abort, alloc: Global, changes: &str) -> (Plan, Script) {
+/// A plan of the changes, `null_resource.r0` and so on.
+fn plan_of_all(rt: &impl Abort, alloc: Global, changes: &str) -> Plan {
     let mut planned = String::new(alloc);
+    let mut number: u32 = 0;
+    for change in changes.lines() {
+        let (actions, _) = parted(rt, change);
+        add(rt, alloc, &mut planned, CHANGE, number, actions);
+        number = number.wrapping_add(1);
+    }
+    plan_in(
+        rt,
+        alloc,
+        put(rt, alloc, CHANGES, planned.as_str()).as_str(),
+    )
+}
+
+/// A script for it.
+fn script_of_all(rt: &impl Abort, alloc: Global, plan: &Plan, changes: &str) -> Script {
     let mut scripted = String::new(alloc);
     let mut number: u32 = 0;
     for change in changes.lines() {
-        let (actions, steps) = change.split_once(" => ").expect(rt, "actions and steps");
-        add(rt, alloc, &mut planned, CHANGE, number, actions);
+        let (actions, steps) = parted(rt, change);
         if actions != NO_OP {
             add(rt, alloc, &mut scripted, ENTRY, number, steps);
         }
         number = number.wrapping_add(1);
     }
-    let text = put(rt, alloc, CHANGES, planned.as_str());
-    let plan = read_plan(alloc, text.as_bytes()).ok().expect(rt, "a plan");
-    let text = put(rt, alloc, ENTRIES, scripted.as_str());
-    let script = read_script(alloc, text.as_bytes(), &plan);
-    (plan, script.ok().expect(rt, "a script"))
+    script_in(
+        rt,
+        alloc,
+        plan,
+        put(rt, alloc, ENTRIES, scripted.as_str()).as_str(),
+    )
 }
 
 /// The actions of a change without steps.
@@ -112,16 +125,25 @@ fn lane_events(
     events
 }
 
+/// Adds the moment, the lane, the change with its step, and what happens.
+fn push_event(rt: &impl Abort, alloc: Global, text: &mut String, event: &Event) {
+    push(rt, text, printed(rt, alloc, &event.at).as_str());
+    push(rt, text, " ");
+    push(rt, text, printed(rt, alloc, &event.worker).as_str());
+    push(rt, text, " ");
+    push(rt, text, printed(rt, alloc, &event.change).as_str());
+    push(rt, text, ".");
+    push(rt, text, printed(rt, alloc, &event.step).as_str());
+    push(rt, text, " ");
+    push(rt, text, printed(rt, alloc, &event.what).as_str());
+    push(rt, text, "; ");
+}
+
 /// Of each event the moment, the lane, the change with its step, and what happens.
 fn text_of(rt: &impl Abort, alloc: Global, events: &[Event]) -> String {
     let mut text = String::new(alloc);
     for event in events {
-        let piece = format!(in alloc;
-            "{} {} {}.{} {:?}; ",
-            event.at, event.worker, event.change, event.step, event.what
-        );
-        let piece = piece.expect(rt, "memory");
-        text.push_str(piece.as_str()).expect(rt, "memory");
+        push_event(rt, alloc, &mut text, event);
     }
     text
 }
@@ -135,15 +157,13 @@ fn reported(
     count: u8,
 ) -> String {
     assert!(rt; 0 < count && count <= 64);
-    let (plan, script) = work_of(rt, alloc, changes);
+    let plan = plan_of_all(rt, alloc, changes);
+    let script = script_of_all(rt, alloc, &plan, changes);
     let events = lane_events(rt, alloc, &plan, &script, registry, count);
     let found = text_of(rt, alloc, events.as_slice());
     let events = plain_events(rt, alloc, &plan, &script, registry, count);
     let plain = text_of(rt, alloc, events.as_slice());
-    assert!(rt;
-        found == plain,
-        "{changes} in {count} lanes: {found} plainly: {plain}"
-    );
+    text_is(rt, changes, found.as_str(), plain.as_str());
     found
 }
 
@@ -157,8 +177,12 @@ fn lanes_report(
     wanted: &str,
 ) {
     let found = reported(rt, alloc, changes, registry, count);
-    let found = found.as_str().trim_end();
-    assert!(rt; found == wanted, "{changes} in {count} lanes: {found}");
+    text_is(rt, changes, found.as_str().trim_end(), wanted);
+}
+
+/// The same where there are no hooks.
+fn lanes_give(rt: &impl Abort, alloc: Global, changes: &str, count: u8, wanted: &str) {
+    lanes_report(rt, alloc, changes, &Registry::new(alloc), count, wanted);
 }
 
 /// Three starts, three beats and three ends, each at one moment.
@@ -180,16 +204,11 @@ const PAIRS: &str =
 #[test]
 fn creates_in_lanes(rt: HostRuntime) {
     let alloc = rt.alloc();
-    let registry = Registry::new(alloc);
-    for (changes, count, wanted) in [
-        (TWELVE_EACH, 1, IN_TURN),
-        (TWELVE_EACH, 2, TWO_AND_ONE),
-        (TWELVE_EACH, 3, ALL_AT_ONCE),
-        (TWELVE_EACH, 64, ALL_AT_ONCE),
-        (ENDS_IN_PAIRS, 2, PAIRS),
-    ] {
-        lanes_report(&rt, alloc, changes, &registry, count, wanted);
-    }
+    lanes_give(&rt, alloc, TWELVE_EACH, 1, IN_TURN);
+    lanes_give(&rt, alloc, TWELVE_EACH, 2, TWO_AND_ONE);
+    lanes_give(&rt, alloc, TWELVE_EACH, 3, ALL_AT_ONCE);
+    lanes_give(&rt, alloc, TWELVE_EACH, 64, ALL_AT_ONCE);
+    lanes_give(&rt, alloc, ENDS_IN_PAIRS, 2, PAIRS);
 }
 
 /// The third change begins where the first has ended, in its lane.
@@ -211,16 +230,11 @@ const IN_ONE_LANE: &str =
 #[test]
 fn changes_of_other_lengths_in_lanes(rt: HostRuntime) {
     let alloc = rt.alloc();
-    let registry = Registry::new(alloc);
-    for (changes, count, wanted) in [
-        (REPLACED, 2, BESIDE_A_LONG_ONE),
-        (FAILED, 2, BESIDE_A_FAILURE),
-        (PROVISIONED, 2, BESIDE_A_PROVISIONER),
-        (AT_ONCE, 2, IN_ONE_LANE),
-        (AT_ONCE, 64, IN_ONE_LANE),
-    ] {
-        lanes_report(&rt, alloc, changes, &registry, count, wanted);
-    }
+    lanes_give(&rt, alloc, REPLACED, 2, BESIDE_A_LONG_ONE);
+    lanes_give(&rt, alloc, FAILED, 2, BESIDE_A_FAILURE);
+    lanes_give(&rt, alloc, PROVISIONED, 2, BESIDE_A_PROVISIONER);
+    lanes_give(&rt, alloc, AT_ONCE, 2, IN_ONE_LANE);
+    lanes_give(&rt, alloc, AT_ONCE, 64, IN_ONE_LANE);
 }
 
 /// The halted change takes no time, so that the other two begin at once.
@@ -229,19 +243,15 @@ const BESIDE_A_HALT: &str =
 
 /// A hook halts each delete before it starts.
 #[test]
-fn halted_changes_beside_others(rt: HostRuntime) -> Result<(), Fail> {
+fn halted_changes_beside_others(rt: HostRuntime) {
     let alloc = rt.alloc();
     let mut registry = Registry::new(alloc);
-    let rules = halt_in(alloc, Phase::Pre, Some(StepKind::Delete))?;
+    let rules = halting(&rt, alloc, Phase::Pre, Some(StepKind::Delete));
     let answer: HookClosure = Box::new(alloc, |call: &HookCall<'_>| {
-        if call.phase == Phase::Pre && call.kind == StepKind::Delete {
-            Verdict::Halt
-        } else {
-            Verdict::Continue
-        }
-    })?;
-    assert!(rt; registry.add(FnHook::new(rules, answer)).is_ok());
+        halts(call, Phase::Pre, Some(StepKind::Delete))
+    })
+    .expect(&rt, "memory");
+    add_hook(&rt, &mut registry, rules, answer);
     lanes_report(&rt, alloc, REPLACED, &registry, 2, BESIDE_A_HALT);
     drawn_changes_agree(&rt, alloc, &registry);
-    Ok(())
 }

@@ -36,8 +36,10 @@ fn push_fitting(
     what: What,
 ) {
     if fits(plan, script, &event(0, step, what, 0)) {
-        let piece = format!(in alloc; "{step} {what:?}; ").expect(rt, "memory");
-        text.push_str(piece.as_str()).expect(rt, "memory");
+        push(rt, text, printed(rt, alloc, &step).as_str());
+        push(rt, text, " ");
+        push(rt, text, printed(rt, alloc, &what).as_str());
+        push(rt, text, "; ");
     }
 }
 
@@ -147,19 +149,25 @@ fn events_that_can_happen(rt: HostRuntime) {
     let alloc = rt.alloc();
     let plan = plan_of(&rt, alloc, REPLACEMENT);
     for row in FITTING.lines() {
-        let (steps, wanted) = row.split_once(" => ").expect(&rt, "steps");
+        let (steps, wanted) = parted(&rt, row);
         let script = script_of(&rt, alloc, &plan, steps);
         let found = fitting(&rt, alloc, &plan, &script);
-        assert!(rt; found.as_str().trim_end() == wanted, "{steps}: {found}");
+        text_is(&rt, steps, found.as_str().trim_end(), wanted);
     }
+}
+
+/// Fails where the start of a step of that change at that moment can happen under an empty script and should not, or the
+/// other way round.
+fn start_fits(rt: &impl Abort, plan: &Plan, change: u32, at: u64, wanted: bool) {
+    let found = fits(plan, &Script::empty(), &event(change, 0, What::Start, at));
+    assert!(rt; found == wanted, "change {change} at {at}");
 }
 
 #[test]
 fn events_happen_in_time_to_changes_of_the_plan(rt: HostRuntime) {
     let alloc = rt.alloc();
     let plan = plan_of(&rt, alloc, CREATE);
-    let script = Script::empty();
-    assert!(rt; fits(&plan, &script, &event(0, 0, What::Start, LATEST)));
-    assert!(rt; !fits(&plan, &script, &event(0, 0, What::Start, 1_728_000_001)));
-    assert!(rt; !fits(&plan, &script, &event(1, 0, What::Start, 0)));
+    start_fits(&rt, &plan, 0, LATEST, true);
+    start_fits(&rt, &plan, 0, 1_728_000_001, false);
+    start_fits(&rt, &plan, 1, 0, false);
 }
