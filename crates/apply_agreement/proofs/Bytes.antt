@@ -1,5 +1,5 @@
 -- The bytes of a stream, its lines, and the verdict on them.
-use Rattle.std.proofs.Common.{◌≡◌, ℕ, ◌+◌, ◌≤◌, ◌==◌, List, [], ◌∷◌, ◌++◌, length, map, Bool, true, false, cond, Option, Some, None, Result, Ok, Err, refl, sym, ap, ◌∙◌, append_assoc, append-nil, ⊎_elim, slice_get, flat_map, arith, le-ltb}
+use Rattle.std.proofs.Common.{◌≡◌, ℕ, ◌+◌, ◌≤◌, ◌==◌, List, [], ◌∷◌, ◌++◌, length, map, Bool, true, false, cond, Option, Some, None, Result, Ok, Err, refl, sym, ap, ◌∙◌, subst, append_assoc, append-nil, ⊎_elim, slice_get, flat_map, arith, le-ltb}
 use Rattle.std.specs.List.{AllByRecursion, enumerate_from}
 use Rattle.std.specs.Option.{option_map_or}
 use Rattle.std.proofs.lemmas.Bool.{cases_Bool}
@@ -29,9 +29,10 @@ use Rattle.apply_text.specs.Laws.{line_feeds}
 use Rattle.apply_text.specs.Lines.{event_text, line_of, stream_of, summary_text, version_text}
 use Rattle.apply_text.specs.Message.{event_message}
 use Rattle.apply_text.specs.Order.{as_written}
+use Rattle.apply_agreement.specs.Applied.{HasShortLines}
 use Rattle.apply_agreement.specs.Objects.{event_objects, object_of, objects_of, stream_objects}
 use Rattle.apply_agreement.specs.Passing.{verdict_on_objects, with_objects}
-use Rattle.apply_agreement.specs.Sound.{CanBeRead}
+use Rattle.apply_agreement.specs.Sound.{CanBeRead, IsShort}
 use Rattle.apply_agreement.proofs.ObjectsBack.{IsBack, stream_back}
 
 -- ---- a stream is the lines of its objects
@@ -89,6 +90,10 @@ cut_off (x ∷ xs) rest none =
     ∙ ap (onto_first x) (cut_off xs rest (omega arith)))
     (cases_Bool (x == 10))
 
+each_text : (ds : List Data) → AllByRecursion (λ (line : List ℕ). length line ≤ max_bytes) (map compact_text ds) → AllByRecursion IsShort ds
+each_text [] h = tt
+each_text (d ∷ ds) h = (h.0, each_text ds h.1)
+
 module _ (one_feed : (d : Data) → line_feeds (line_of d) ≡ 1) where
   no_feed : (d : Data) → line_feeds (compact_text d) ≡ 0
   no_feed d =
@@ -103,6 +108,13 @@ module _ (one_feed : (d : Data) → line_feeds (line_of d) ≡ 1) where
       ap cut.lines_of (append_assoc (compact_text d) (10 ∷ []) (flat_map line_of ds))
       ∙ cut_off (compact_text d) (flat_map line_of ds) (no_feed d)
       ∙ ap (λ (l : List (List ℕ)). compact_text d ∷ l) (lines_are ds)
+
+  -- where the lines are short, the objects are
+  pub short_objects : (plan : SavedPlan) (script : Outcomes) (start : ℕ) (operation : Operation) (taken : List Event) → HasShortLines (stream_of plan script start operation taken)
+      → AllByRecursion IsShort (stream_objects plan script start operation taken)
+  short_objects plan script start operation taken short =
+      let objects = stream_objects plan script start operation taken in
+      each_text objects (subst (AllByRecursion (λ (line : List ℕ). length line ≤ max_bytes)) (ap cut.lines_of (sym (stream_is plan script start operation taken)) ∙ lines_are objects) short)
 
 -- ---- the verdict
 

@@ -3,6 +3,7 @@ pub mod Content
 pub mod Counting
 pub mod Cuts
 pub mod Deeds
+pub mod Delivered
 pub mod Errors
 pub mod Fitting
 pub mod Given

@@ -8,6 +8,7 @@ use Rattle.apply_plan.specs.Plan.SavedPlan.{SavedPlan}
 use Rattle.apply_plan.specs.Script.Outcome.{IsBounded}
 use Rattle.apply_plan.specs.Script.Outcomes.{Outcomes, given_outcome}
 use Rattle.apply_events.specs.Laws.{IsWithinLimits}
+use Rattle.apply_events.specs.Step.{Work}
 use Rattle.apply_run.specs.Bytes.{Given, IsRead, given_script}
 use Rattle.apply_agreement.specs.Plans.{ProvisionsCreates}
 use Rattle.apply_agreement.proofs.Given.{held_at}
@@ -41,9 +42,12 @@ module _ (given : Given) (plan : SavedPlan) (script : Outcomes) (read : IsRead g
   pub provisions : ProvisionsCreates plan script
   provisions = given_provisions plan given.script script read.script_is
 
-  pub within_limits : IsWithinLimits (record { plan = plan; script = script; hooks = given.hooks })
-  within_limits = record {
-    few_changes = the_plan.few;
-    few_steps = λ c. few_kinds (slice_get plan.changes c) (held_at IsReadable plan.changes c the_plan.changes);
-    short_steps = λ c k. bounded (given_outcome script c k) (the_script c k);
-  }
+pub within_limits : (given : Given) (work : Work) → IsRead given work.plan work.script → IsWithinLimits work
+within_limits given work read =
+    let readable = the_plan given work.plan work.script read in
+    let said = the_script given work.plan work.script read in
+    record {
+      few_changes = readable.few;
+      few_steps = λ c. few_kinds (slice_get work.plan.changes c) (held_at IsReadable work.plan.changes c readable.changes);
+      short_steps = λ c k. bounded (given_outcome work.script c k) (said c k);
+    }

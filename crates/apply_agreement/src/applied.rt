@@ -46,8 +46,7 @@ pub fn texts_that_were_read_are_utf8()
 /// A plan that was read has at most 10,000 changes of two steps each, and each step of a script that was read takes a
 /// day at most.
 pub fn what_was_read_is_within_limits()
-    ensures { (given : Given) (plan : SavedPlan) (script : Outcomes) → IsRead given plan script
-        → IsWithinLimits (record { plan = plan; script = script; hooks = given.hooks }) }
+    ensures { (given : Given) (work : Work) → IsRead given work.plan work.script → IsWithinLimits work }
 {}
 
 /// A plan that was read names each object once, and of a script that was read only creates have provisioners: all that
@@ -83,4 +82,66 @@ pub fn every_event_of_a_run_fits()
 {
     a_list_of_a_partition_names_each_number_once();
     every_event_fits();
+}
+
+/// A checker accepts the bytes of the stream of a run of a plan and a script that were read, by 64 workers at most and
+/// with 32 hooks at most, whatever the hooks: no more is asked than that deposed objects are only deleted and that no
+/// line of the stream is longer than 64 MiB.
+pub fn every_stream_of_what_was_read_is_accepted()
+    ensures { (given : Given) (work : Work) (workers start : ℕ) (lists : List (List ℕ)) (events : List Event)
+        (operation : Operation) → IsRead given work.plan work.script → DeletesDeposed work.plan
+        → workers ≤ 64 → length work.hooks ≤ max_hooks
+        → IsPartition workers (length work.plan.changes) lists
+        → IsInterleaving workers (λ worker. worker_events work worker (slice_index_or lists worker [])) events
+        → HasShortLines (stream_of work.plan work.script start operation events)
+        → verdict_of (lines_of (stream_of work.plan work.script start operation events))
+        ≡ Ok (whole_stream work.plan events) }
+{
+    a_line_has_one_line_feed();
+    texts_that_were_read_are_utf8();
+    what_was_read_is_within_limits();
+    a_plan_that_was_read_is_ordinary();
+    a_run_has_few_events();
+    every_event_of_a_run_fits();
+    events_that_can_happen_fit_bits();
+    a_stream_of_texts_can_be_read();
+    every_stream_is_accepted();
+}
+
+/// What `apply_bytes` of `apply_run` writes, a checker accepts, and it says of it what the report says: the same totals,
+/// an error exactly where a step failed or was halted, a line for each event taken. It is asked that the plan only
+/// deletes deposed objects, that there are no more hooks than a registry holds, and that no line is longer than 64 MiB.
+/// Of a sink that tells its bytes and had none they are those bytes.
+pub fn every_applied_stream_is_accepted()
+    ensures stream { (given : Given) (options : Options) (report : Report) (before after : Sight)
+        (applied : WasApplied given options report before after)
+        → DeletesDeposed applied.plan → length given.hooks ≤ max_hooks
+        → HasShortLines (stream_of applied.plan applied.script options.start options.operation applied.streamed.events)
+        → verdict_of (lines_of (stream_of applied.plan applied.script options.start options.operation
+        applied.streamed.events)) ≡ Ok (whole_reported report) }
+    ensures bytes { (given : Given) (options : Options) (report : Report) (before after : Sight) (bytes : List ℕ)
+        (applied : WasApplied given options report before after)
+        → DeletesDeposed applied.plan → length given.hooks ≤ max_hooks
+        → before.bytes ≡ Some [] → after.bytes ≡ Some bytes → HasShortLines bytes
+        → verdict_of (lines_of bytes) ≡ Ok (whole_reported report) }
+{
+    every_stream_of_what_was_read_is_accepted();
+}
+
+/// The same of what `apply_bytes_in_lanes` writes.
+pub fn every_stream_applied_in_lanes_is_accepted()
+    ensures stream { (given : Given) (lanes start : ℕ) (operation : Operation) (report : Report) (before after : Sight)
+        (applied : WasAppliedInLanes given lanes start operation report before after)
+        → DeletesDeposed applied.plan → length given.hooks ≤ max_hooks
+        → HasShortLines (stream_of applied.plan applied.script start operation applied.streamed.events)
+        → verdict_of (lines_of (stream_of applied.plan applied.script start operation applied.streamed.events))
+        ≡ Ok (whole_reported report) }
+    ensures bytes { (given : Given) (lanes start : ℕ) (operation : Operation) (report : Report) (before after : Sight)
+        (bytes : List ℕ) (applied : WasAppliedInLanes given lanes start operation report before after)
+        → DeletesDeposed applied.plan → length given.hooks ≤ max_hooks
+        → before.bytes ≡ Some [] → after.bytes ≡ Some bytes → HasShortLines bytes
+        → verdict_of (lines_of bytes) ≡ Ok (whole_reported report) }
+{
+    lanes_deal_out_the_changes();
+    every_stream_of_what_was_read_is_accepted();
 }

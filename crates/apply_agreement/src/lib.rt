@@ -6,8 +6,10 @@ mod applied;
 mod laws;
 
 pub use applied::{
-    a_plan_that_was_read_is_ordinary, a_run_has_few_events, every_event_of_a_run_fits,
-    texts_that_were_read_are_utf8, what_was_read_is_within_limits,
+    a_plan_that_was_read_is_ordinary, a_run_has_few_events, every_applied_stream_is_accepted,
+    every_event_of_a_run_fits, every_stream_applied_in_lanes_is_accepted,
+    every_stream_of_what_was_read_is_accepted, texts_that_were_read_are_utf8,
+    what_was_read_is_within_limits,
 };
 pub use laws::{
     a_script_provisions_creates, a_stream_of_texts_can_be_read, an_event_is_heard,

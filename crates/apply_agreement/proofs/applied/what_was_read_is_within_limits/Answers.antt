@@ -2,4 +2,4 @@ use Rattle.apply_agreement.proofs.WhatWasRead.{within_limits}
 use Rattle.apply_agreement.proofs.applied.what_was_read_is_within_limits.Goals as goal
 
 pub returns : goal.returns
-returns c given plan script read = within_limits given plan script read
+returns c given work read = within_limits given work read
