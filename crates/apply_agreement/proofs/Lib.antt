@@ -1,4 +1,6 @@
+pub mod BetweenSteps
 pub mod Bytes
+pub mod ChangeDeeds
 pub mod Content
 pub mod Counting
 pub mod Cuts
@@ -28,6 +30,7 @@ pub mod SmallNumbers
 pub mod SoundObjects
 pub mod Sounds
 pub mod Standings
+pub mod StepDeeds
 pub mod Tallies
 pub mod Tokens
 pub mod Turning

@@ -33,7 +33,8 @@ use Rattle.apply_agreement.specs.Accepted.{stream_told, totals_said, whole_strea
 use Rattle.apply_agreement.specs.Passing.{verdict_on}
 use Rattle.apply_agreement.specs.Plans.{IsOrdinary, ProvisionsCreates}
 use Rattle.apply_agreement.specs.Told.{action_of, all_told, told}
-use Rattle.apply_agreement.proofs.Deeds.{all_deeds, all_told_both, change_written, follows, hooks_are, notes_are, of_change_is, told_is}
+use Rattle.apply_agreement.proofs.ChangeDeeds.{change_written}
+use Rattle.apply_agreement.proofs.Deeds.{all_deeds, all_told_both, follows, hooks_are, notes_are, of_change_is, told_is}
 use Rattle.apply_agreement.proofs.Errors.{IsPlanned, errors_told}
 use Rattle.apply_agreement.proofs.Ordinary.{Anywhere, Does, apart, found, known}
 use Rattle.apply_agreement.proofs.Parts.{Each, IsListed, all_listed, each_weaker, each_written, part_of_change, part_of_kept}
