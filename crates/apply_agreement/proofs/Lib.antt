@@ -28,6 +28,7 @@ pub mod ScriptTexts
 pub mod Scripts
 pub mod SmallNumbers
 pub mod SoundObjects
+pub mod SoundParts
 pub mod Sounds
 pub mod Standings
 pub mod StepDeeds

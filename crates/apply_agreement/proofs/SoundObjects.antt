@@ -3,7 +3,6 @@ use Rattle.std.proofs.Common.{◌≡◌, ℕ, ◌+◌, ◌<◌, ◌^◌, List, [
 use Rattle.std.specs.Prelude.{IfSome}
 use Rattle.std.specs.List.{AllByRecursion, enumerate_from}
 use Rattle.std.specs.Option.{option_map_or}
-use Rattle.std.proofs.lemmas.Str.{IsUtf8-append, IsUtf8-nil}
 use Rattle.json.proofs.Printed.Utf8.{IsUtf8-are_ascii}
 use Rattle.serde_json.specs.Data.{Data}
 use Rattle.apply_plan.specs.declared.plan.step_kind.StepKind.{StepKind}
@@ -14,7 +13,6 @@ use Rattle.apply_plan.specs.Plan.ResourceChange.{ResourceChange}
 use Rattle.apply_plan.specs.Plan.SavedPlan.{SavedPlan}
 use Rattle.apply_plan.specs.Script.Outcomes.{Outcomes, outcome_of}
 use Rattle.apply_hooks.specs.declared.phase.Phase.{Phase}
-use Rattle.apply_hooks.specs.declared.phase.Phase.TheVariants.{Pre, PostDone, PostFailed}
 use Rattle.apply_events.specs.declared.counts.Counts.{Counts}
 use Rattle.apply_events.specs.declared.event.Event.{Event}
 use Rattle.apply_events.specs.declared.what.What.{What}
@@ -28,155 +26,14 @@ use Rattle.apply_text.specs.Latest.{latest_of}
 use Rattle.apply_text.specs.Lines.{message_object, typed}
 use Rattle.apply_text.specs.Message.{diagnostic_message, end_id, event_message, halt_of, hook_message, id_note, name_of, output_of, provision_message, start_id, summary_message, told_failure, totals_text, warning_of}
 use Rattle.apply_text.specs.Moment.{moment_text}
-use Rattle.apply_text.specs.Objects.{changes_object, diagnostic_object, hook_object, operation_word, provisioner_object, resource_object}
+use Rattle.apply_text.specs.Objects.{changes_object, diagnostic_object, hook_object, provisioner_object}
 use Rattle.apply_text.specs.Order.{as_written, hook_messages_of, notes_of}
 use Rattle.apply_text.specs.Words.{action_word, noun_word, phase_words, start_word, still_word}
 use Rattle.apply_agreement.specs.Objects.{object_of, objects_of, stream_objects, version_object}
 use Rattle.apply_agreement.specs.Sound.{IsSound}
 use Rattle.apply_agreement.specs.Texts.{AreSmall, FitBits, HasChangeTexts, HasDiagTexts, HasOutcomeTexts, HasTexts, IsSmall}
 use Rattle.apply_agreement.proofs.Sounds.{elapsed_utf8, moment_utf8, number_utf8}
-
--- two texts, and three
-two : (a b : List ℕ) → IsUtf8 a → IsUtf8 b → IsUtf8 (a ++ b)
-two a b first second = IsUtf8-append a b first second
-
-three : (a b c : List ℕ) → IsUtf8 a → IsUtf8 b → IsUtf8 c → IsUtf8 (a ++ b ++ c)
-three a b c first second third = IsUtf8-append (a ++ b) c (IsUtf8-append a b first second) third
-
--- ---- words
-
-action_utf8 : (kind : StepKind) → IsUtf8 (action_word kind)
-action_utf8 Create = IsUtf8-are_ascii (action_word Create) refl
-action_utf8 Update = IsUtf8-are_ascii (action_word Update) refl
-action_utf8 Delete = IsUtf8-are_ascii (action_word Delete) refl
-action_utf8 Read = IsUtf8-are_ascii (action_word Read) refl
-
-start_utf8 : (kind : StepKind) → IsUtf8 (start_word kind)
-start_utf8 Create = IsUtf8-are_ascii (start_word Create) refl
-start_utf8 Update = IsUtf8-are_ascii (start_word Update) refl
-start_utf8 Delete = IsUtf8-are_ascii (start_word Delete) refl
-start_utf8 Read = IsUtf8-are_ascii (start_word Read) refl
-
-still_utf8 : (kind : StepKind) → IsUtf8 (still_word kind)
-still_utf8 Create = IsUtf8-are_ascii (still_word Create) refl
-still_utf8 Update = IsUtf8-are_ascii (still_word Update) refl
-still_utf8 Delete = IsUtf8-are_ascii (still_word Delete) refl
-still_utf8 Read = IsUtf8-are_ascii (still_word Read) refl
-
-noun_utf8 : (kind : StepKind) → IsUtf8 (noun_word kind)
-noun_utf8 Create = IsUtf8-are_ascii (noun_word Create) refl
-noun_utf8 Update = IsUtf8-are_ascii (noun_word Update) refl
-noun_utf8 Delete = IsUtf8-are_ascii (noun_word Delete) refl
-noun_utf8 Read = IsUtf8-are_ascii (noun_word Read) refl
-
-phase_utf8 : (phase : Phase) → IsUtf8 (phase_words phase)
-phase_utf8 Pre = IsUtf8-are_ascii (phase_words Pre) refl
-phase_utf8 PostDone = IsUtf8-are_ascii (phase_words PostDone) refl
-phase_utf8 PostFailed = IsUtf8-are_ascii (phase_words PostFailed) refl
-
-note_utf8 : (id : Option (List ℕ)) → IfSome id IsUtf8 → IsUtf8 (id_note id)
-note_utf8 None h = IsUtf8-nil
-note_utf8 (Some id) h = three (codes " [id=") id (codes "]") (IsUtf8-are_ascii (codes " [id=") refl) h (IsUtf8-are_ascii (codes "]") refl)
-
--- ---- the objects in messages
-
-resource_sound : (change : ResourceChange) → HasChangeTexts change → IsSound (resource_object change)
-unfolding resource_object
-resource_sound change has = (
-  IsUtf8-are_ascii (codes "addr") refl,
-  has.address,
-  (
-    IsUtf8-are_ascii (codes "implied_provider") refl,
-    has.provider,
-    (
-      IsUtf8-are_ascii (codes "module") refl,
-      has.module_address,
-      (
-        IsUtf8-are_ascii (codes "resource") refl,
-        has.resource,
-        (
-          IsUtf8-are_ascii (codes "resource_key") refl,
-          has.key,
-          (
-            IsUtf8-are_ascii (codes "resource_name") refl,
-            has.name,
-            (IsUtf8-are_ascii (codes "resource_type") refl, has.kind_name, tt),
-          ),
-        ),
-      ),
-    ),
-  ),
-)
-
-hook_sound : (change : ResourceChange) (kind : StepKind) (elapsed : Option ℕ) (id : Option (List ℕ)) → HasChangeTexts change → IfSome elapsed (λ n. n < 2 ^ 64) → IfSome id IsUtf8 → IsSound (hook_object change kind elapsed id)
-unfolding hook_object
-hook_sound change kind None None has small text =
-    (IsUtf8-are_ascii (codes "action") refl, action_utf8 kind, (IsUtf8-are_ascii (codes "resource") refl, resource_sound change has, tt))
-hook_sound change kind None (Some id) has small text = (
-  IsUtf8-are_ascii (codes "action") refl,
-  action_utf8 kind,
-  (
-    IsUtf8-are_ascii (codes "id_key") refl,
-    IsUtf8-are_ascii (codes "id") refl,
-    (IsUtf8-are_ascii (codes "id_value") refl, text, (IsUtf8-are_ascii (codes "resource") refl, resource_sound change has, tt)),
-  ),
-)
-hook_sound change kind (Some seconds) None has small text = (
-  IsUtf8-are_ascii (codes "action") refl,
-  action_utf8 kind,
-  (IsUtf8-are_ascii (codes "elapsed_seconds") refl, small, (IsUtf8-are_ascii (codes "resource") refl, resource_sound change has, tt)),
-)
-hook_sound change kind (Some seconds) (Some id) has small text = (
-  IsUtf8-are_ascii (codes "action") refl,
-  action_utf8 kind,
-  (
-    IsUtf8-are_ascii (codes "elapsed_seconds") refl,
-    small,
-    (
-      IsUtf8-are_ascii (codes "id_key") refl,
-      IsUtf8-are_ascii (codes "id") refl,
-      (IsUtf8-are_ascii (codes "id_value") refl, text, (IsUtf8-are_ascii (codes "resource") refl, resource_sound change has, tt)),
-    ),
-  ),
-)
-
-provisioner_sound : (change : ResourceChange) (name : List ℕ) (output : Option (List ℕ)) → HasChangeTexts change → IsUtf8 name → IfSome output IsUtf8 → IsSound (provisioner_object change name output)
-unfolding provisioner_object
-provisioner_sound change name None has named text =
-    (IsUtf8-are_ascii (codes "provisioner") refl, named, (IsUtf8-are_ascii (codes "resource") refl, resource_sound change has, tt))
-provisioner_sound change name (Some output) has named text = (
-  IsUtf8-are_ascii (codes "output") refl,
-  text,
-  (IsUtf8-are_ascii (codes "provisioner") refl, named, (IsUtf8-are_ascii (codes "resource") refl, resource_sound change has, tt)),
-)
-
-diagnostic_sound : (address severity : List ℕ) (diag : Diag) → IsUtf8 address → IsUtf8 severity → HasDiagTexts diag → IsSound (diagnostic_object address severity diag)
-unfolding diagnostic_object
-diagnostic_sound address severity diag where_is how has = (
-  IsUtf8-are_ascii (codes "address") refl,
-  where_is,
-  (
-    IsUtf8-are_ascii (codes "detail") refl,
-    has.detail,
-    (IsUtf8-are_ascii (codes "severity") refl, how, (IsUtf8-are_ascii (codes "summary") refl, has.summary, tt)),
-  ),
-)
-
-operation_utf8 : (operation : Operation) → IsUtf8 (operation_word operation)
-operation_utf8 Apply = IsUtf8-are_ascii (operation_word Apply) refl
-operation_utf8 Destroy = IsUtf8-are_ascii (operation_word Destroy) refl
-
-changes_sound : (operation : Operation) (counts : Counts) → AreSmall counts → IsSound (changes_object operation counts)
-unfolding changes_object
-changes_sound operation counts small = (
-  IsUtf8-are_ascii (codes "add") refl,
-  small.added,
-  (
-    IsUtf8-are_ascii (codes "change") refl,
-    small.changed,
-    (IsUtf8-are_ascii (codes "operation") refl, operation_utf8 operation, (IsUtf8-are_ascii (codes "remove") refl, small.removed, tt)),
-  ),
-)
+use Rattle.apply_agreement.proofs.SoundParts.{action_utf8, changes_sound, diagnostic_sound, hook_sound, note_utf8, noun_utf8, phase_utf8, provisioner_sound, start_utf8, still_utf8, three, two}
 
 -- ---- messages
 

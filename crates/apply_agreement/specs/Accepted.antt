@@ -19,8 +19,8 @@ abbrev pub stream_told : SavedPlan → (taken : List Event) → List Message
 stream_told plan taken =
     version ∷ (all_told plan (as_written taken) ++ summary (totals_said (totals_of plan taken)) ∷ [])
 
--- the stream is whole: the totals are the events', it tells of an error where a step failed or was halted, and the lines
--- are those of the events, the version and the summary
+-- the stream is whole: the totals are the events', it tells of an error where a step failed or was halted, and the
+-- lines are those of the events, the version and the summary
 abbrev pub whole_stream : SavedPlan → (taken : List Event) → Whole
 whole_stream plan taken = record {
   totals = totals_said (totals_of plan taken);

@@ -43,8 +43,8 @@ pub fn texts_that_were_read_are_utf8()
     relative_addresses_join_their_module();
 }
 
-/// A plan that was read has at most 10,000 changes of two steps each, and each step of a script that was read takes a
-/// day at most.
+/// A plan that was read has at most 10,000 changes of at most two steps each, and each step of a script that was read
+/// takes a day at most, with few provisioners and little output.
 pub fn what_was_read_is_within_limits()
     ensures { (given : Given) (work : Work) → IsRead given work.plan work.script → IsWithinLimits work }
 {}
@@ -108,10 +108,10 @@ pub fn every_stream_of_what_was_read_is_accepted()
     every_stream_is_accepted();
 }
 
-/// What `apply_bytes` of `apply_run` writes, a checker accepts, and it says of it what the report says: the same totals,
-/// an error exactly where a step failed or was halted, a line for each event taken. It is asked that the plan only
+/// What `apply_bytes` of `apply_run` writes a checker accepts, and says of it what the report says: the same totals, an
+/// error exactly where a step failed or was halted, a line for each event that was taken. It is asked that the plan only
 /// deletes deposed objects, that there are no more hooks than a registry holds, and that no line is longer than 64 MiB.
-/// Of a sink that tells its bytes and had none they are those bytes.
+/// Where a sink tells its bytes and had none before, it is those bytes that are accepted.
 pub fn every_applied_stream_is_accepted()
     ensures stream { (given : Given) (options : Options) (report : Report) (before after : Sight)
         (applied : WasApplied given options report before after)
