@@ -109,7 +109,7 @@ pub fn every_stream_of_what_was_read_is_accepted()
 }
 
 /// What `apply_bytes` of `apply_run` writes a checker accepts, and says of it what the report says: the same totals, an
-/// error exactly where a step failed or was halted, a line for each event that was taken. It is asked that the plan only
+/// error exactly where a step failed or was halted, and a line for each event taken. It is asked that the plan only
 /// deletes deposed objects, that there are no more hooks than a registry holds, and that no line is longer than 64 MiB.
 /// Where a sink tells its bytes and had none before, it is those bytes that are accepted.
 pub fn every_applied_stream_is_accepted()
