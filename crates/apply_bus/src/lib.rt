@@ -37,6 +37,3 @@ pub use shared::{Shared, finish};
 pub use taken::Taken;
 pub use tx::Tx;
 pub use undelivered::Undelivered;
-
-#[cfg(test)]
-mod tests;

@@ -1,5 +1,5 @@
 use Rattle.std.proofs.Common.{◌≡◌}
-use Rattle.apply_bus.proofs.tests.drawing.draw_all.Given as goal
+use Rattle.apply_bus_tests.proofs.tests.drawing.draw_all.Given as goal
 
 -- The drawer stays one of these claims, and the same worker's.
 abbrev pub invariant-loop : goal.invariant-loop

@@ -5,7 +5,7 @@ ghost use Rattle.std.specs.Prelude.{◌≡◌};
 mod bus;
 mod drawing;
 
-use crate::{
+use apply_bus::{
     BusError, Claims, Closed, Drawer, Item, Lost, MAX_TAKEN, Rx, Taken, Tx, Undelivered, finish,
     open, salvage, settle,
 };

@@ -62,7 +62,7 @@ fn left_is(rt: &impl Abort, after: &str, rx: &Rx, wanted: u8)
 #[test]
 fn bus_by_hand(rt: HostRuntime) {
     let alloc = rt.alloc();
-    let (mut tx, mut rx) = bus_of_one(&rt, alloc, 4);
+    let (mut tx, mut rx) = bus_of_one(&rt, alloc, 8);
     assert_eq!(rt; tx.worker(), 0);
     assert_eq!(rt; tx.send(&rt, event(0, 0)), Ok(()));
     assert_eq!(rt; tx.send(&rt, event(0, 1)), Ok(()));
@@ -124,19 +124,24 @@ fn send_all<R: Wait>(rt: &R, mut tx: Tx, events: u32) -> bool {
     tx.close(rt).is_ok()
 }
 
+/// What stands at the place of the worker.
+fn place_of<'a>(rt: &impl Abort, places: &'a mut [u32], worker: u8) -> &'a mut u32 {
+    places.get_mut(usize::from(worker)).expect(rt, "a worker")
+}
+
 /// Fails where the event is not the next of its worker, or the close comes before or after that many of them.
-fn note_item(rt: &impl Abort, next: &mut [u32; 8], item: Item, events: u32) {
+fn note_item(rt: &impl Abort, next: &mut [u32], item: Item, events: u32) {
     match item {
         Item::Event(event) => {
-            assert!(rt; event.worker < 8);
-            let place = usize::from(event.worker);
-            assert!(rt; event.change == next[place], "{event:?}");
-            next[place] = event.change.wrapping_add(1);
+            let next = place_of(rt, next, event.worker);
+            assert_eq!(rt; event.change, *next, "of worker {}", event.worker);
+            *next = event.change.wrapping_add(1);
         }
-        Item::Close(worker) => {
-            assert!(rt; worker < 8);
-            assert!(rt; next[usize::from(worker)] == events, "{worker} closes");
-        }
+        Item::Close(worker) => assert_eq!(rt;
+            *place_of(rt, next, worker),
+            events,
+            "of worker {worker}"
+        ),
     }
 }
 

@@ -1,7 +1,7 @@
 use Rattle.std.proofs.Common.{◌≡◌, All, [], sym, subst}
 use Rattle.std.proofs.lemmas.List.Elements.{All-cons, All-nil}
 use Rattle.apply_bus.specs.Bus.{Sender}
-use Rattle.apply_bus.proofs.tests.bus.settle_one.Goals as goal
+use Rattle.apply_bus_tests.proofs.tests.bus.settle_one.Goals as goal
 
 pub settle-settled-requires-clause-bus : goal.settle-settled-requires-clause-bus
 settle-settled-requires-clause-bus c =

@@ -1,7 +1,7 @@
 use Rattle.std.proofs.Common.{◌≡◌, ◌∷◌, All, [], sym, subst}
 use Rattle.std.proofs.lemmas.List.Elements.{All-cons, All-nil}
 use Rattle.apply_bus.specs.Bus.{Sender}
-use Rattle.apply_bus.proofs.tests.bus.salvage_two.Goals as goal
+use Rattle.apply_bus_tests.proofs.tests.bus.salvage_two.Goals as goal
 
 pub salvage-salvaged-requires-clause-not_closed : goal.salvage-salvaged-requires-clause-not_closed
 salvage-salvaged-requires-clause-not_closed c =
