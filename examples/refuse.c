@@ -3,6 +3,7 @@
 
    REFUSED_MEMORY  the allocation of that number, and all behind it where AND_ALL_BEHIND is set
    REFUSED_THREAD  the thread of that number, after a twentieth of a second, in which the threads before it may run
+   HELD_THREAD     the thread of that number is started fifteen seconds late, in which the threads before it wait
    REFUSED_WRITE   that write on standard output, with the error number WRITE_ERROR (no room, where there is none)
    REFUSED_FAULTS  that write on standard error
    SHORT_WRITES    a write on standard output takes no more than so many bytes
@@ -33,7 +34,7 @@ extern void *__libc_memalign(size_t alignment, size_t size);
 typedef int start_thread(pthread_t *, const pthread_attr_t *, void *(*)(void *), void *);
 
 static start_thread *real_pthread_create;
-static long refused_memory, refused_thread, refused_write, refused_read;
+static long refused_memory, refused_thread, held_thread, refused_write, refused_read;
 static long short_writes, full_at, held_write, write_error, read_error, refused_faults, told;
 static int all_behind;
 static atomic_long allocations, threads, writes, reads, faults, written;
@@ -48,6 +49,7 @@ static long number(const char *name, long otherwise) {
 __attribute__((constructor)) static void read_environment(void) {
   real_pthread_create = (start_thread *)dlsym(RTLD_NEXT, "pthread_create");
   refused_thread = number("REFUSED_THREAD", 0);
+  held_thread = number("HELD_THREAD", 0);
   refused_write = number("REFUSED_WRITE", 0);
   refused_read = number("REFUSED_READ", 0);
   refused_faults = number("REFUSED_FAULTS", 0);
@@ -105,6 +107,8 @@ int pthread_create(pthread_t *thread, const pthread_attr_t *attributes, void *(*
     tell("thread", at, 0);
     return EAGAIN;
   }
+  if (at == held_thread)
+    sleep(15);
   if (refused_memory != 0)
     tell("starts", at, atomic_load(&allocations));
   starts = 1;
