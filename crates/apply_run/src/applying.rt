@@ -32,7 +32,8 @@ use std::thread::Threads;
 /// - `Why::Bus` where an event or a close was lost between a worker and this thread: a take failed, or a send came
 ///   back. No clause rules that out. Each event taken is one of the plan, so that no run ends so because of an event
 ///   that does not fit.
-/// - `Why::Workers` where a thread was refused: no worker has begun, and nothing was written.
+/// - `Why::Workers` where a thread was refused: nothing was taken or written. That no worker has begun rests on the word
+///   that they read first, of which no clause speaks.
 /// - `Why::Memory` where memory was refused. Before the threads: nothing was taken or written. For a line, or to keep
 ///   what a diagnostic tells: all events were taken all the same, and that line and all later ones, with the summary,
 ///   were not written.

@@ -32,7 +32,7 @@ use std::sync::Wait;
 use std::thread;
 use std::thread::{Scope, Threads};
 
-/// A run that did not begin: no worker has begun, and nothing was told or written.
+/// A run that was given up before anything was taken: nothing was told or written.
 #[derive(Drop)]
 pub(crate) struct NotBegun<'a, S: Drop> {
     pub stream: StreamWriter<'a, S>,
@@ -63,8 +63,8 @@ pub(crate) struct FinishedRun<'a, S: Drop> {
 
 /// Lets workers apply the plan in threads while this thread collects what they send, and tells what all of them have done.
 ///
-/// `Err` where no worker has begun: with `Why::Workers` where a thread was refused, and with `Why::Memory` where memory
-/// was refused for the list of the threads. Then the stream is as before.
+/// `Err` with `Why::Workers` where a thread was refused, and with `Why::Memory` where memory was refused for the list of the
+/// threads. Then the stream is as before. That no worker has begun then rests on `signal`, of which no clause speaks.
 pub(crate) fn run_workers<
     'a,
     K: RunName + Send + Sync + 'static,
@@ -104,7 +104,7 @@ pub(crate) fn run_workers<
 }
 
 /// Runs the workers, with a list for their threads, and reconciles them with what was taken. `Err` only where a thread was
-/// refused: then no worker has begun, and the stream is as before.
+/// refused: then the stream is as before.
 fn run_threads<
     'a,
     K: RunName + Send + Sync + 'static,
