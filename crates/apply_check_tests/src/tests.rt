@@ -2,11 +2,13 @@
 //! fail, and that calls succeed with ample memory.
 
 mod commands;
+mod faults;
 mod limits;
 mod reading;
 
 use apply_check::{
-    Checker, Fault, Finding, Form, ReadFault, Whole, check, check_command, check_lines, follow,
+    Checker, Fault, Finding, Form, ReadFault, Whole, check, check_command, check_input,
+    check_lines, follow,
 };
 use std::alloc::Global;
 use std::io;

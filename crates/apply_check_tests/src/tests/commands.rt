@@ -17,14 +17,14 @@ const CUT_OFF: &str = r#"{"type":"version"}
 
 /// What the command has done.
 #[derive(Drop)]
-struct Outcome {
+pub(super) struct Outcome {
     status: u8,
     printed: Vec<u8>,
     said: Vec<u8>,
 }
 
 /// Checks the stream.
-fn checked(alloc: Global, form: Form, stream: &str) -> Outcome {
+pub(super) fn checked(alloc: Global, form: Form, stream: &str) -> Outcome {
     let mut printed = Vec::new(alloc);
     let mut said = Vec::new(alloc);
     let mut reader = stream.as_bytes();
@@ -36,8 +36,26 @@ fn checked(alloc: Global, form: Form, stream: &str) -> Outcome {
     }
 }
 
+/// Checks what the input gives.
+pub(super) fn checked_input<R: Read + Drop>(alloc: Global, form: Form, input: R) -> Outcome {
+    let mut printed = Vec::new(alloc);
+    let mut said = Vec::new(alloc);
+    let status = check_input(alloc, form, input, &mut printed, &mut said);
+    Outcome {
+        status,
+        printed,
+        said,
+    }
+}
+
 /// Fails where something else was done.
-fn outcome_is(rt: &impl Abort, outcome: &Outcome, status: u8, printed: &str, said: &str) {
+pub(super) fn outcome_is(
+    rt: &impl Abort,
+    outcome: &Outcome,
+    status: u8,
+    printed: &str,
+    said: &str,
+) {
     assert_eq!(rt; outcome.printed.as_slice(), printed.as_bytes());
     assert_eq!(rt; outcome.said.as_slice(), said.as_bytes());
     assert_eq!(rt; outcome.status, status);

@@ -1,5 +1,6 @@
 //! Streams that a reader gives.
 
+use super::commands::{checked_input, outcome_is};
 use super::*;
 
 /// A whole stream.
@@ -115,6 +116,22 @@ fn reader_fails(rt: HostRuntime) {
     let mut reader = BufReader::new(alloc, broken).expect(&rt, "memory");
     let answer = found(&rt, alloc, &mut reader);
     assert_eq!(rt; answer.as_str(), "the stream could not be read");
+}
+
+/// That is no verdict, and so no object.
+#[test]
+fn reader_fails_where_objects_are_wanted(rt: HostRuntime) {
+    let broken = Broken {
+        bytes: WHOLE.as_bytes(),
+        is_interrupted: false,
+    };
+    outcome_is(
+        &rt,
+        &checked_input(rt.alloc(), Form::Json, broken),
+        2,
+        "",
+        "applystream: the stream could not be read\n",
+    );
 }
 
 /// What is wrong is told before the reader fails behind it.
