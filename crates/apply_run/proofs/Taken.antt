@@ -1,20 +1,22 @@
 -- The events among items, and one item more.
-use Rattle.std.proofs.Common.{◌≡◌, ℕ, List, [], ◌∷◌, ◌++◌, All, Option, length, sym, ap, ◌∙◌, subst}
+use Rattle.std.proofs.Common.{◌≡◌, ℕ, ◌+◌, ◌-◌, ◌<◌, ◌≤◌, ◌↔◌, Bool, true, false, IsTrue, List, [], ◌∷◌, ◌++◌, All, Option, length, length-append, sym, refl, ap, ◌∙◌, subst, arith}
 use Rattle.std.proofs.Math.Seq.{take-append_seam, drop-append_seam}
-use Rattle.std.proofs.lemmas.List.Elements.{All-append, All-drop, All-take, filter_map-append}
+use Rattle.std.proofs.lemmas.List.Elements.{All-append, All-drop, All-nil, All-take, filter_map-append}
 use Rattle.apply_plan.specs.Plan.SavedPlan.{SavedPlan}
 use Rattle.apply_plan.specs.Script.Outcomes.{Outcomes}
 use Rattle.apply_events.specs.declared.event.Event.{Event}
 use Rattle.apply_bus.specs.declared.item.Item.{Item}
-use Rattle.apply_bus.specs.Items.{event_of, events}
+use Rattle.apply_bus.specs.Items.{event_of, events, max_taken}
 use Rattle.apply_run.specs.Stream.Fitting.{CanBeTold}
+use Rattle.apply_run.specs.Stream.Room.{max_told}
 use Rattle.apply_run.specs.Stream.Telling.{HasTold, Telling}
+use Rattle.apply_run.proofs.Runs.Headline.{same_of}
 
 events_more : (taken new : List Item) (item : Item) → new ≡ taken ++ item ∷ [] → events new ≡ events taken ++ events (item ∷ [])
 events_more taken new item is = ap events is ∙ filter_map-append event_of taken (item ∷ [])
 
 -- what holds of the events, and of one item more
-pub all_more : (P : Event → Type 0) (taken new : List Item) (item : Item) → new ≡ taken ++ item ∷ [] → All P (events taken) → All P (events (item ∷ [])) → All P (events new)
+all_more : (P : Event → Type 0) (taken new : List Item) (item : Item) → new ≡ taken ++ item ∷ [] → All P (events taken) → All P (events (item ∷ [])) → All P (events new)
 all_more P taken new item is so_far more = subst (All P) (sym (events_more taken new item is)) (All-append P (events taken) (events (item ∷ [])) so_far more)
 
 front : (P : Event → Type 0) (xs ys : List Event) → All P (xs ++ ys) → All P xs
@@ -23,20 +25,64 @@ front P xs ys all = subst (All P) (take-append_seam xs ys) (All-take P (length x
 back : (P : Event → Type 0) (xs ys : List Event) → All P (xs ++ ys) → All P ys
 back P xs ys all = subst (All P) (drop-append_seam xs ys) (All-drop P (length xs) (xs ++ ys) all)
 
--- the items were told, and so is one item more
-pub told_more_items : (plan : SavedPlan) (script : Outcomes) (start : ℕ) (before : Option (List ℕ)) (failures : ℕ) (taken new : List Item) (item : Item) (old now : Telling)
-    → new ≡ taken ++ item ∷ []
-    → (All (CanBeTold plan) (events taken) → HasTold plan script start before failures (events taken) old)
-    → (All (CanBeTold plan) (events (item ∷ [])) → HasTold plan script start before failures (events taken) old → HasTold plan script start before failures (events taken ++ events (item ∷ [])) now)
-    → All (CanBeTold plan) (events new) → HasTold plan script start before failures (events new) now
-told_more_items plan script start before failures taken new item old now is so_far step all =
-    let joined = events_more taken new item is in
-    let both : All (CanBeTold plan) (events taken ++ events (item ∷ [])) = subst (All (CanBeTold plan)) joined all in
-    subst (λ es. HasTold plan script start before failures es now) (sym joined)
-    (step (back (CanBeTold plan) (events taken) (events (item ∷ [])) both) (so_far (front (CanBeTold plan) (events taken) (events (item ∷ [])) both)))
+-- no item was taken: nothing had to be told
+pub told_no_items : (plan : SavedPlan) (script : Outcomes) (start : ℕ) (before : Option (List ℕ)) (failures : ℕ) (taken : List Item) (now : Telling)
+    → taken ≡ [] → HasTold plan script start before failures [] now
+    → All (CanBeTold plan) (events taken) → HasTold plan script start before failures (events taken) now
+told_no_items plan script start before failures taken now none told all =
+    subst (λ items. HasTold plan script start before failures (events items) now) (sym none) told
 
-pub all_before : (P : Event → Type 0) (taken new : List Item) (item : Item) → new ≡ taken ++ item ∷ [] → All P (events new) → All P (events taken)
+-- the items were told, and so is one item more
+pub told_more_items : (plan plan' : SavedPlan) (script script' : Outcomes) (start start' : ℕ) (before : Option (List ℕ)) (failures : ℕ) (taken new : List Item) (item : Item) (old now : Telling)
+    → plan' ≡ plan → script' ≡ script → start' ≡ start → new ≡ taken ++ item ∷ []
+    → (All (CanBeTold plan) (events taken) → HasTold plan script start before failures (events taken) old)
+    → (All (CanBeTold plan') (events (item ∷ [])) → HasTold plan' script' start' before failures (events taken) old → HasTold plan' script' start' before failures (events taken ++ events (item ∷ [])) now)
+    → All (CanBeTold plan) (events new) → HasTold plan script start before failures (events new) now
+told_more_items plan plan' script script' start start' before failures taken new item old now e f g is so_far step all =
+    let one = events (item ∷ []) in
+    let joined = events_more taken new item is in
+    let both : All (CanBeTold plan) (events taken ++ one) = subst (All (CanBeTold plan)) joined all in
+    let on = same_of (λ p s t. All (CanBeTold p) one → HasTold p s t before failures (events taken) old → HasTold p s t before failures (events taken ++ one) now) plan' plan script' script start' start e f g step in
+    subst (λ es. HasTold plan script start before failures es now) (sym joined)
+    (on (back (CanBeTold plan) (events taken) one both) (so_far (front (CanBeTold plan) (events taken) one both)))
+
+all_before : (P : Event → Type 0) (taken new : List Item) (item : Item) → new ≡ taken ++ item ∷ [] → All P (events new) → All P (events taken)
 all_before P taken new item is all = front P (events taken) (events (item ∷ [])) (subst (All P) (events_more taken new item is) all)
 
-pub all_here : (P : Event → Type 0) (taken new : List Item) (item : Item) → new ≡ taken ++ item ∷ [] → All P (events new) → All P (events (item ∷ []))
+all_here : (P : Event → Type 0) (taken new : List Item) (item : Item) → new ≡ taken ++ item ∷ [] → All P (events new) → All P (events (item ∷ []))
 all_here P taken new item is all = back P (events taken) (events (item ∷ [])) (subst (All P) (events_more taken new item is) all)
+
+-- ---- whether each event is of the plan
+
+pub no_misfit : (P : Event → Type 0) (taken : List Item) → taken ≡ [] → (false ≡ false) ↔ All P (events taken)
+no_misfit P taken none = (λ _. subst (λ items. All P (events items)) (sym none) (All-nil P), λ _. refl)
+
+pub one_misfit : (plan plan' : SavedPlan) (fits : Bool) (taken new : List Item) (item : Item) → plan' ≡ plan → new ≡ taken ++ item ∷ []
+    → IsTrue fits ↔ All (CanBeTold plan') (events (item ∷ [])) → fits ≡ false → (true ≡ false) ↔ All (CanBeTold plan) (events new)
+one_misfit plan plan' fits taken new item same is tested failed =
+    (λ e. absurd cc, λ all. let passed : fits ≡ true = tested.1 (subst (λ p. All (CanBeTold p) (events (item ∷ []))) (sym same) (all_here (CanBeTold plan) taken new item is all)) in absurd cc)
+
+pub no_misfit_more : (plan plan' : SavedPlan) (fits misfit : Bool) (taken new : List Item) (item : Item) → plan' ≡ plan → new ≡ taken ++ item ∷ []
+    → IsTrue fits ↔ All (CanBeTold plan') (events (item ∷ [])) → fits ≡ true → (misfit ≡ false) ↔ All (CanBeTold plan) (events taken) → (misfit ≡ false) ↔ All (CanBeTold plan) (events new)
+no_misfit_more plan plan' fits misfit taken new item same is tested passed so_far = (
+  λ e. all_more (CanBeTold plan) taken new item is (so_far.0 e) (subst (λ p. All (CanBeTold p) (events (item ∷ []))) same (tested.0 passed)),
+  λ all. so_far.1 (all_before (CanBeTold plan) taken new item is all),
+)
+
+-- ---- counts
+
+longer : (taken new : List Item) (item : Item) → new ≡ taken ++ item ∷ [] → length new ≡ length taken + 1
+longer taken new item is = ap length is ∙ length-append taken (item ∷ [])
+
+pub count_more : (count count' : ℕ) (taken new : List Item) (item : Item) → new ≡ taken ++ item ∷ [] → count' ≤ count + 1 → count ≤ length taken → count' ≤ length new
+count_more count count' taken new item is more few = let long = longer taken new item is in omega arith
+
+pub room_to_tell : (count : ℕ) (taken new : List Item) (item : Item) → new ≡ taken ++ item ∷ [] → length new ≤ max_taken → count ≤ length taken → count < max_told
+room_to_tell count taken new item is few told = let long = longer taken new item is in omega arith
+
+-- a take more is less to do, be it lost or not
+pub fewer_to_take : (lost : ℕ) (taken new : List Item) (item : Item) → new ≡ taken ++ item ∷ [] → length new ≤ max_taken → (max_taken - length new) + (1000 - lost) < (max_taken - length taken) + (1000 - lost)
+fewer_to_take lost taken new item is few = let long = longer taken new item is in omega arith
+
+pub fewer_to_lose : (lost : ℕ) (taken new : List Item) → new ≡ taken → lost < 1000 → (max_taken - length new) + (1000 - (lost + 1)) < (max_taken - length taken) + (1000 - lost)
+fewer_to_lose lost taken new is few = let same = ap length is in omega arith

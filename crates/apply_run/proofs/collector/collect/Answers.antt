@@ -1,16 +1,40 @@
-use Rattle.std.proofs.Common.{◌∙◌, ◌∷◌, [], length, length-append, ap, arith}
+use Rattle.std.proofs.Common.{◌≡◌, ◌≤◌, ◌↔◌, ◌∙◌, All, false, length, refl, sym, ap, subst, subst₂, arith}
+use Rattle.apply_bus.specs.Bus.{Account, NamesWorkersBelow}
+use Rattle.apply_bus.specs.Items.{events}
 use Rattle.apply_run.specs.Stream.Fitting.{CanBeTold}
-use Rattle.apply_run.specs.Stream.Telling.{telling_of}
-use Rattle.apply_run.proofs.Taken.{all_before, all_here, all_more, told_more_items}
+use Rattle.apply_run.specs.Stream.Telling.{HasTold, telling_of}
+use Rattle.apply_run.proofs.Taken.{count_more, fewer_to_lose, fewer_to_take, no_misfit, no_misfit_more, one_misfit, room_to_tell, told_more_items, told_no_items}
 use Rattle.apply_run.proofs.collector.collect.Goals as goal
+
+pub loop-rx-init : goal.loop-rx-init
+loop-rx-init g c =
+    let w = c.write_version.ensures in
+    record {
+      bus = refl;
+      workers = refl;
+      plan = w.same.plan;
+      script = w.same.script;
+      start = w.same.start;
+      room = w.room;
+      few = let none = w.none in omega (arith, none);
+      told = told_no_items _ _ _ _ _ c.args.rx.taken (telling_of g.S.Sink.bytes g.S.Sink.failed c.write_version.new.self) c.requires.none w.told;
+      fits = no_misfit (CanBeTold c.args.stream.plan.now) c.args.rx.taken c.requires.none;
+      lost = omega arith;
+    }
+
+pub note-requires-clause-few : goal.note-requires-clause-few
+note-requires-clause-few g c = room_to_tell _ c.loop-rx.rx.taken c.take.new.self.taken c.in-Ok.item (ap (λ rx. rx.taken) c.in-Ok.ensures.ok) c.take.ensures.few c.loop-rx.invariant.few
+
+pub loop-rx-smaller-then-not-note : goal.loop-rx-smaller-then-not-note
+loop-rx-smaller-then-not-note g c = fewer_to_take _ c.loop-rx.rx.taken c.take.new.self.taken c.in-Ok.item (ap (λ rx. rx.taken) c.in-Ok.ensures.ok) c.take.ensures.few
 
 pub loop-rx-preserved-then-not-note : goal.loop-rx-preserved-then-not-note
 loop-rx-preserved-then-not-note g c =
     let i = c.loop-rx.invariant in
     let n = c.note.ensures in
+    let taken = c.loop-rx.rx.taken in
+    let new = c.take.new.self.taken in
     let is = ap (λ rx. rx.taken) c.in-Ok.ensures.ok in
-    let told = rw (i.plan, i.script, i.start) at n.told in
-    let fits = rw i.plan at n.fits in
     record {
       bus = ap (λ rx. rx.bus) c.in-Ok.ensures.ok ∙ i.bus;
       workers = ap (λ rx. rx.workers) c.in-Ok.ensures.ok ∙ i.workers;
@@ -18,20 +42,22 @@ loop-rx-preserved-then-not-note g c =
       script = n.same.script ∙ i.script;
       start = n.same.start ∙ i.start;
       room = n.room;
-      few = let longer = ap length is in omega (arith, longer, length-append c.loop-rx.rx.taken (c.in-Ok.item ∷ []));
-      told = told_more_items _ _ _ _ _ c.loop-rx.rx.taken c.take.new.self.taken c.in-Ok.item (telling_of g.S.Sink.bytes g.S.Sink.failed c.loop-rx.stream) _ is i.told (told _ _ _);
-      fits = (λ e. absurd cc, λ all. let noted = fits.1 (all_here (CanBeTold c.args.stream.plan.now) c.loop-rx.rx.taken c.take.new.self.taken c.in-Ok.item is all) in absurd cc);
+      few = count_more _ _ taken new c.in-Ok.item is n.one_more i.few;
+      told = told_more_items _ _ _ _ _ _ _ _ taken new c.in-Ok.item (telling_of g.S.Sink.bytes g.S.Sink.failed c.loop-rx.stream) _ i.plan i.script i.start is i.told (n.told _ _ _);
+      fits = one_misfit _ _ c.note.result taken new c.in-Ok.item i.plan is n.fits c.if-not-note.true;
       lost = i.lost;
     }
+
+pub loop-rx-smaller-else-not-note : goal.loop-rx-smaller-else-not-note
+loop-rx-smaller-else-not-note g c = fewer_to_take _ c.loop-rx.rx.taken c.take.new.self.taken c.in-Ok.item (ap (λ rx. rx.taken) c.in-Ok.ensures.ok) c.take.ensures.few
 
 pub loop-rx-preserved-else-not-note : goal.loop-rx-preserved-else-not-note
 loop-rx-preserved-else-not-note g c =
     let i = c.loop-rx.invariant in
     let n = c.note.ensures in
+    let taken = c.loop-rx.rx.taken in
+    let new = c.take.new.self.taken in
     let is = ap (λ rx. rx.taken) c.in-Ok.ensures.ok in
-    let told = rw (i.plan, i.script, i.start) at n.told in
-    let noted = c.if-not-note.false in
-    let fits = rw i.plan at n.fits in
     record {
       bus = ap (λ rx. rx.bus) c.in-Ok.ensures.ok ∙ i.bus;
       workers = ap (λ rx. rx.workers) c.in-Ok.ensures.ok ∙ i.workers;
@@ -39,11 +65,50 @@ loop-rx-preserved-else-not-note g c =
       script = n.same.script ∙ i.script;
       start = n.same.start ∙ i.start;
       room = n.room;
-      few = let longer = ap length is in omega (arith, longer, length-append c.loop-rx.rx.taken (c.in-Ok.item ∷ []));
-      told = told_more_items _ _ _ _ _ c.loop-rx.rx.taken c.take.new.self.taken c.in-Ok.item (telling_of g.S.Sink.bytes g.S.Sink.failed c.loop-rx.stream) _ is i.told (told _ _ _);
-      fits = (
-        λ e. all_more (CanBeTold c.args.stream.plan.now) c.loop-rx.rx.taken c.take.new.self.taken c.in-Ok.item is (i.fits.0 e) (fits.0 noted),
-        λ all. i.fits.1 (all_before (CanBeTold c.args.stream.plan.now) c.loop-rx.rx.taken c.take.new.self.taken c.in-Ok.item is all),
-      );
+      few = count_more _ _ taken new c.in-Ok.item is n.one_more i.few;
+      told = told_more_items _ _ _ _ _ _ _ _ taken new c.in-Ok.item (telling_of g.S.Sink.bytes g.S.Sink.failed c.loop-rx.stream) _ i.plan i.script i.start is i.told (n.told _ _ _);
+      fits = no_misfit_more _ _ c.note.result c.loop-rx.misfit taken new c.in-Ok.item i.plan is n.fits c.if-not-note.false i.fits;
       lost = i.lost;
     }
+
+pub loop-rx-smaller : goal.loop-rx-smaller
+loop-rx-smaller g c = fewer_to_lose _ c.loop-rx.rx.taken c.take.new.self.taken (ap (λ rx. rx.taken) c.in-Err.ensures.err) c.if-lost_takes-lt-MAX_LOST.true
+
+pub loop-rx-preserved : goal.loop-rx-preserved
+loop-rx-preserved g c =
+    let i = c.loop-rx.invariant in
+    let s = c.args.stream in
+    let same = c.in-Err.ensures.err in
+    let is = sym (ap (λ rx. rx.taken) same) in
+    record {
+      bus = ap (λ rx. rx.bus) same ∙ i.bus;
+      workers = ap (λ rx. rx.workers) same ∙ i.workers;
+      plan = i.plan;
+      script = i.script;
+      start = i.start;
+      room = i.room;
+      few = subst (λ items. c.loop-rx.stream.taken ≤ length items) is i.few;
+      told = subst (λ items. All (CanBeTold s.plan.now) (events items) → HasTold s.plan.now s.script.now s.start (g.S.Sink.bytes s.output.sink) (g.S.Sink.failed s.output.sink) (events items) (telling_of g.S.Sink.bytes g.S.Sink.failed c.loop-rx.stream)) is i.told;
+      fits = subst (λ items. (c.loop-rx.misfit ≡ false) ↔ All (CanBeTold s.plan.now) (events items)) is i.fits;
+      lost = let low = c.if-lost_takes-lt-MAX_LOST.true in omega (arith, low);
+    }
+
+pub returns-clause-bus : goal.returns-clause-bus
+returns-clause-bus g c =
+    let i = c.loop-rx.invariant in
+    let is = c.give_up.ensures.taken in
+    (ap (λ (a : Account). a.bus) is ∙ i.bus, ap (λ (a : Account). a.workers) is ∙ i.workers, ap (λ (a : Account). a.sent_lists) is)
+
+pub returns-clause-named : goal.returns-clause-named
+returns-clause-named g c = subst₂ NamesWorkersBelow c.loop-rx.invariant.workers (sym (ap (λ (a : Account). a.taken) c.give_up.ensures.taken)) c.give_up.ensures.named
+
+pub returns-clause-same : goal.returns-clause-same
+returns-clause-same g c = let i = c.loop-rx.invariant in record { plan = i.plan; script = i.script; start = i.start }
+
+pub returns-clause-told : goal.returns-clause-told
+returns-clause-told g c =
+    let s = c.args.stream in
+    subst (λ items. All (CanBeTold s.plan.now) (events items) → HasTold s.plan.now s.script.now s.start (g.S.Sink.bytes s.output.sink) (g.S.Sink.failed s.output.sink) (events items) (telling_of g.S.Sink.bytes g.S.Sink.failed c.loop-rx.stream)) (sym (ap (λ (a : Account). a.taken) c.give_up.ensures.taken)) c.loop-rx.invariant.told
+
+pub returns-clause-room : goal.returns-clause-room
+returns-clause-room g c = c.loop-rx.invariant.room
