@@ -15,6 +15,27 @@ const CUT_OFF: &str = r#"{"type":"version"}
 {"type":"apply_start","hook":{"action":"update","resource":{"addr":"c"}}}
 "#;
 
+/// What is said of an option that the command doesn't have.
+const UNKNOWN_OPTION: &str = "error: unexpected argument '--jsonl' found
+
+  tip: a similar argument exists: '--json'
+
+Usage: applystream check --json [FILE]
+
+For more information, try '--help'.
+";
+
+/// What is said of a second file.
+const SECOND_FILE: &str = "error: unexpected argument 'b.jsonl' found
+
+Usage: applystream check [OPTIONS] [FILE]
+
+For more information, try '--help'.
+";
+
+/// What is said of a file that is not there.
+const NO_FILE: &str = "applystream: the file could not be opened\n";
+
 /// What the command has done.
 #[derive(Drop)]
 pub(super) struct Outcome {
@@ -152,14 +173,24 @@ fn words(rt: HostRuntime) {
         &followed(&rt, &rt, alloc, "no_such_file.jsonl", FAILED),
         2,
         "",
-        "applystream: the file could not be opened\n",
+        NO_FILE,
     );
     let help = followed(&rt, &rt, alloc, "--help", "");
     assert_eq!(rt; help.status, 0);
     assert!(rt; help.said.is_empty());
-    let wrong = followed(&rt, &rt, alloc, "--jsonl", "");
-    assert_eq!(rt; wrong.status, 2);
-    assert!(rt; wrong.printed.is_empty());
+}
+
+/// Fails where the words are not refused, or something else is said of them.
+fn refused_is<F: Files>(rt: &impl Abort, files: &F, alloc: Global, words: &str, said: &str) {
+    outcome_is(rt, &followed(rt, files, alloc, words, FAILED), 2, "", said);
+}
+
+#[test]
+fn words_refused(rt: HostRuntime) {
+    let alloc = rt.alloc();
+    refused_is(&rt, &rt, alloc, "--jsonl", UNKNOWN_OPTION);
+    refused_is(&rt, &rt, alloc, "a.jsonl b.jsonl", SECOND_FILE);
+    refused_is(&rt, &rt, alloc, "--json no_such_file.jsonl", NO_FILE);
 }
 
 /// A writer that fails.
