@@ -5,3 +5,4 @@ pub mod Halt
 pub mod Invocation
 pub mod Settings
 pub mod Status
+pub mod Version

@@ -1,13 +1,14 @@
 //! What the words behind the program's name say is done, from their settings to the exit status.
 
-ghost use Rattle.std.specs.Prelude.{◌≡◌, ◌<◌, ◌≤◌, ◌-◌, ◌^◌, ◌⊎◌, is_some, IfOk};
-ghost use Rattle.std.specs.Io.KnownBytes.{Keeps};
+ghost use Rattle.std.specs.Prelude.{◌≡◌, ◌<◌, ◌≤◌, ◌-◌, ◌^◌, ◌⊎◌, is_some, map, string_bytes, IfOk};
+ghost use Rattle.std.specs.Io.KnownBytes.{Appends, Keeps};
 ghost use Rattle.std.specs.Option.{option_copied};
 ghost use Rattle.apply_hooks.specs.Registry.{rules_of};
 ghost use Rattle.apply_cli.specs.Command.{HasApplied, HasBegun, OfFile, OfInput, sight_of};
 ghost use Rattle.apply_cli.specs.Halt.{hooks_of_halts, rules_of_halt};
 ghost use Rattle.apply_cli.specs.Invocation.{WasApplied, WasBegun};
 ghost use Rattle.apply_cli.specs.Settings.{options_of};
+ghost use Rattle.apply_cli.specs.Version.{AskForVersion, version_line};
 
 use crate::answer::{answer_usage, report_hook};
 use crate::halt::Halt;
@@ -18,6 +19,7 @@ use crate::run::run_command;
 use crate::script_file::{read_file, report_script};
 use crate::settings::Settings;
 use crate::usage::Usage;
+use crate::version::{answer_version, ask_for_version};
 use apply_hooks::{FnHook, Hook, HookCall, HookClosure, HookError, Registry, Rules};
 use apply_plan::Text;
 use apply_run::StdSink;
@@ -41,7 +43,8 @@ pub fn given_words<R: Env + AllocGlobal>(rt: &R) -> Result<Vec<String>, Usage> {
 
 /// Does what the words behind the program's name say, and answers the exit status. The output comes back.
 ///
-/// Words that say nothing that is done are answered as `answer_usage` does, all others as `follow_invocation` does.
+/// Words that ask for the version are answered as `answer_version` does, words that say nothing that is done as `answer_usage`
+/// does, and all others as `follow_invocation` does.
 pub fn follow<F: Files, R: Read + Drop, W: Write + Drop, E: Write, T: Threads + Wait + Sync>(
     rt: &T,
     files: &F,
@@ -51,9 +54,15 @@ pub fn follow<F: Files, R: Read + Drop, W: Write + Drop, E: Write, T: Threads + 
     mut output: W,
     faults: &mut E,
 ) -> (W, u8)
+    ensures version { AskForVersion (map string_bytes words.now)
+        → ((result.1 ≡ 0) × Appends (W.contents output) (W.contents result.0) version_line) ⊎ (result.1 ≡ 3) }
     ensures refused { result.1 ≡ 2 → Keeps (W.contents output) (W.contents result.0) }
     ensures statuses { result.1 ≤ 3 }
 {
+    if ask_for_version(words) {
+        let status = answer_version(&mut output, faults);
+        return (output, status);
+    }
     match read_invocation(alloc, words) {
         Ok(
             Invocation {

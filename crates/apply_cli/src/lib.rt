@@ -13,6 +13,7 @@ mod script_file;
 mod settings;
 mod status;
 mod usage;
+mod version;
 mod words;
 
 pub use answer::answer_usage;
@@ -27,4 +28,5 @@ pub use script_file::{read_file, report_script};
 pub use settings::Settings;
 pub use status::{counts_status, input_status, refusal_status};
 pub use usage::Usage;
+pub use version::{VERSION, answer_version, ask_for_version};
 pub use words::read_words;

@@ -32,7 +32,8 @@ Standard input: the plan in JSON, as `terraform show -json PLANFILE` prints it, 
 Standard output: the messages, one JSON object a line.
 Standard error: what went wrong, if anything did.
 
-`applystream check` says whether a stream that was written is whole: applystream check --help explains it.";
+`applystream check` says whether a stream that was written is whole: applystream check --help explains it.
+`applystream --version` prints the version of this program.";
 
 const AFTER: &str = r#"Example, with two workers, a start, and no deletes:
   terraform show -json tfplan | applystream --workers 2 --at 2024-05-01T12:00:00Z --halt-before delete
@@ -42,7 +43,7 @@ Example of a script, for --script: one step takes 12 seconds and tells an id, on
               {"address":"null_resource.b","steps":[{"seconds":4,"failed":{"summary":"boom"}}]}]}
 
 Exit status:
-  0  all messages were written, and no step failed or was halted; or help was asked for
+  0  all messages were written, and no step failed or was halted; or help or the version was asked for
   1  all messages were written, and some step failed or was halted
   2  the options, the plan or the script were refused or could not be read: no message was written
   3  memory or a thread was refused, or the output could not be written: a part of the messages may have been written"#;

@@ -1,5 +1,6 @@
 //! What is done with the words, from the first to the exit status.
 
+use super::faults::{UNWRITTEN, with_room};
 use super::*;
 
 /// A replacement that destroys first.
@@ -118,6 +119,44 @@ fn help_is_printed(rt: HostRuntime) {
     status_is(&rt, "help", &outcome, 0);
     is_text(&rt, "help", &outcome.said, "");
     assert!(rt; text_of(&rt, &outcome.printed).contains("Exit status:"));
+}
+
+/// Fails where the version has another status over this output, or other texts are printed or said.
+fn version_is<T: Threads + Wait + Sync + Abort, F: Files>(
+    rt: &T,
+    files: &F,
+    alloc: Global,
+    output: FailingWriter,
+    status: u8,
+    printed: &str,
+    said: &str,
+) {
+    let words = words_with_blanks(rt, alloc, "--version");
+    let mut found = Vec::new(alloc);
+    let input = b"".as_slice();
+    let (output, ended) = follow(rt, files, alloc, &words, input, output, &mut found);
+    let outcome = Outcome {
+        status: ended,
+        printed: output.taken,
+        said: found,
+    };
+    outcome_is(rt, printed, &outcome, status, printed, said);
+}
+
+#[test]
+fn the_version_is_printed(rt: HostRuntime) {
+    let alloc = rt.alloc();
+    let line = format!(in alloc; "applystream {VERSION}\n").expect(&rt, "memory");
+    let bytes = line.as_bytes();
+    for room in 0..bytes.len() {
+        let front = text_of(&rt, &bytes[..room]);
+        let output = with_room(alloc, 7, room);
+        version_is(&rt, &rt, alloc, output, 3, front, UNWRITTEN);
+    }
+    let room = bytes.len();
+    let whole = text_of(&rt, bytes);
+    version_is(&rt, &rt, alloc, with_room(alloc, 7, room), 0, whole, "");
+    version_is(&rt, &rt, alloc, unflushed(alloc, room), 3, whole, UNWRITTEN);
 }
 
 /// Settings that no words say, with a halt more than there may be hooks.

@@ -147,6 +147,7 @@ Standard output
 --halt-before <KIND>
 [possible values: create, update, delete, read]
 --halt-in <PREFIX>
+--version
 Example
 {"changes":[{"address":"null_resource.a","steps":[{"seconds":12,"id":"7"}]},
 {"address":"null_resource.b","steps":[{"seconds":4,"failed":{"summary":"boom"}}]}]}

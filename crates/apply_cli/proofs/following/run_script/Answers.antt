@@ -1,4 +1,3 @@
-use Rattle.std.proofs.Common.{◌≡◌}
 use Rattle.apply_cli.specs.Invocation.{WasApplied, WasBegun}
 use Rattle.apply_cli.proofs.following.run_script.Goals as goal
 
