@@ -1,5 +1,5 @@
 -- Facts of each item of a list and its place.
-use Rattle.std.proofs.Common.{◌≡◌, ℕ, zero, suc, List, [], ◌∷◌, ◌++◌, length, sym, subst, ◌∙◌, arith}
+use Rattle.std.proofs.Common.{◌≡◌, ℕ, ◌+◌, ◌≤◌, zero, suc, List, [], ◌∷◌, ◌++◌, length, length-append, get_or, sym, ap, subst, ◌∙◌, arith}
 use Rattle.std.proofs.lemmas.List.{append-nil}
 use Rattle.apply_run.specs.Run.Threads.{EachAt}
 
@@ -30,3 +30,14 @@ each_head F x xs h = h 0 x (omega arith)
 pub all_seen : {X : Type 0} → (seen rest all : List X) (left : ℕ) → seen ++ rest ≡ all → left ≡ length rest → left ≡ 0 → seen ≡ all
 all_seen seen [] all left e count none = sym (append-nil seen) ∙ e
 all_seen seen (x ∷ rest) all left e count none = absurd (omega arith)
+
+-- of those that were seen no more were made
+pub made_few : {X Y : Type 0} → (seen rest all : List X) (made : List Y) → seen ++ rest ≡ all → length made ≡ length seen → length made ≤ length all
+made_few seen rest all made e count = let joined = sym (length-append seen rest) ∙ ap length e in omega arith
+
+-- where none was made, the places behind those that were made are all places
+pub each_behind_none : {X Y : Type 0} → (F : ℕ → X → Type 0) (made : List Y) (xs all : List X) → made ≡ [] → xs ≡ all → EachAt F all → EachAt (λ k. F (length made + k)) xs
+each_behind_none F made xs all none same h k x low =
+    let zero_made = ap length none in
+    let here : k ≡ length made + k = omega arith in
+    subst (λ n. F n (get_or xs k x)) here (subst (EachAt F) (sym same) h k x low)

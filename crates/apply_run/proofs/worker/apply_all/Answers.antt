@@ -1,13 +1,31 @@
-use Rattle.std.proofs.Common.{◌+◌, ◌++◌, ◌∷◌, [], All, length, length-append, sum_by, sym, ap, ◌∙◌, subst, arith}
-use Rattle.std.proofs.lemmas.List.Elements.{All-append}
+use Rattle.std.proofs.Common.{◌+◌, ◌++◌, ◌∷◌, [], All, length, length-append, sum_by, refl, true≢false, sym, ap, ◌∙◌, subst, subst₂, arith}
+use mathlib.Core.List.{IsPrefix}
+use Rattle.std.proofs.lemmas.List.Elements.{All-append, All-nil}
 use Rattle.std.proofs.lemmas.List.Sums.{sum_by_push}
 use Rattle.apply_events.specs.ChangeEvents.{change_events, span_of}
 use Rattle.apply_events.specs.WorkerEvents.{worker_events}
 use Rattle.apply_bus.specs.Claims.{Drawing}
 use Rattle.apply_run.specs.Stream.Fitting.{CanBeTold}
+use Rattle.apply_run.specs.Worker.Drawn.{IsDrawn}
 use Rattle.apply_run.specs.Worker.Job.{work_of}
-use Rattle.apply_run.proofs.Workers.Drawing.{drawn_on, room_left}
+use Rattle.apply_run.proofs.Workers.Drawing.{drawn_on, none_drawn, room_left}
+use Rattle.apply_run.proofs.Workers.Prefixes.{prefix_behind}
 use Rattle.apply_run.proofs.worker.apply_all.Goals as goal
+
+pub loop-change-init : goal.loop-change-init
+loop-change-init g c =
+    let none = sym c.requires.fresh.0 in
+    record {
+      bus = refl;
+      sender = refl;
+      claims = refl;
+      drawer = refl;
+      drawn = subst (IsDrawn c.args.job.now.claims.now.limit) none (none_drawn c.args.job.now.claims.now.limit);
+      sent = c.requires.fresh.1 ∙ ap (worker_events (work_of c.args.job.now) c.args.tx.now.worker) none;
+      fits = subst (All (CanBeTold c.args.job.now.plan.now)) (sym c.requires.fresh.1) (All-nil (CanBeTold c.args.job.now.plan.now));
+      time = ap (sum_by (span_of (work_of c.args.job.now))) none;
+      soon = omega arith;
+    }
 
 pub apply_change-requires-clause-in_time : goal.apply_change-requires-clause-in_time
 apply_change-requires-clause-in_time g c =
@@ -54,3 +72,23 @@ pub returns-in-None-clause-fits : goal.returns-in-None-clause-fits
 returns-in-None-clause-fits g c =
     let i = c.loop-change.invariant in let part = c.apply_change.ensures.part in
     subst (All (CanBeTold c.args.job.now.plan.now)) (sym part.1) (All-append (CanBeTold c.args.job.now.plan.now) c.loop-change.tx.sent part.0 i.fits part.3)
+
+pub returns-in-None-clause-whole : goal.returns-in-None-clause-whole
+returns-in-None-clause-whole g c all = absurd (true≢false (sym all))
+
+pub returns-in-None-clause-part : goal.returns-in-None-clause-part
+returns-in-None-clause-part g c =
+    let i = c.loop-change.invariant in let change = c.in-Some.change in let part = c.apply_change.ensures.part in
+    let work = work_of c.args.job.now in let w = c.args.tx.now.worker in
+    let before = c.loop-change.drawer.drawn in let at = c.loop-change.at in
+    let sent = worker_events work w before in
+    let drawn = ap (λ (d : Drawing). d.drawn) c.in-Some.ensures.some in
+    subst₂ IsPrefix (ap (λ l. l ++ part.0) (sym i.sent) ∙ sym part.1)
+    (ap (λ v. sent ++ change_events work v change at) i.sender ∙ ap (λ n. sent ++ change_events work w change n) i.time
+    ∙ sym (c.a_further_change_comes_behind.ensures work w change before) ∙ ap (worker_events work w) (sym drawn))
+    (prefix_behind sent part.0 (change_events work c.loop-change.tx.worker change at) part.2)
+
+pub returns-in-None-clause-sender : goal.returns-in-None-clause-sender
+returns-in-None-clause-sender g c =
+    let i = c.loop-change.invariant in let kept = c.apply_change.ensures.sender in
+    (kept.0 ∙ i.bus, kept.1 ∙ i.sender)
