@@ -1,5 +1,5 @@
 -- Facts of each item of a list and its place.
-use Rattle.std.proofs.Common.{◌≡◌, ℕ, ◌+◌, ◌≤◌, zero, suc, List, [], ◌∷◌, ◌++◌, length, length-append, get_or, sym, ap, subst, ◌∙◌, arith}
+use Rattle.std.proofs.Common.{◌≡◌, ℕ, ◌+◌, ◌<◌, ◌≤◌, zero, suc, List, [], ◌∷◌, ◌++◌, length, length-append, get_or, sym, ap, subst, ◌∙◌, arith}
 use Rattle.std.proofs.lemmas.List.{append-nil}
 use Rattle.apply_run.specs.Run.Threads.{EachAt}
 
@@ -41,3 +41,7 @@ each_behind_none F made xs all none same h k x low =
     let zero_made = ap length none in
     let here : k ≡ length made + k = omega arith in
     subst (λ n. F n (get_or xs k x)) here (subst (EachAt F) (sym same) h k x low)
+
+-- without its first item a list is shorter
+pub one_fewer : {X : Type 0} → (xs rest : List X) (x : X) → xs ≡ x ∷ rest → length rest < length xs
+one_fewer xs rest x is = let longer = ap length is in omega arith

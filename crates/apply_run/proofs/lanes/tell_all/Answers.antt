@@ -1,6 +1,23 @@
-use Rattle.std.proofs.Common.{◌∙◌, ◌+◌, ◌++◌, ◌∷◌, [], ap, append_assoc, sym}
+use Rattle.std.proofs.Common.{◌∙◌, ◌+◌, ◌++◌, ◌∷◌, [], ap, append_assoc, refl, sym}
 use Rattle.apply_events.specs.Lanes.ToCome.{to_come}
+use Rattle.apply_run.proofs.Runs.Places.{one_fewer}
 use Rattle.apply_run.proofs.lanes.tell_all.Goals as goal
+
+pub loop-event-init : goal.loop-event-init
+loop-event-init g c =
+    let w = c.write_version.ensures in
+    record {
+      work = refl;
+      plan = w.same.plan;
+      script = w.same.script;
+      start = w.same.start;
+      count = w.none ∙ sym c.requires.none_told;
+      room = w.room;
+      told = ([], refl, w.told);
+    }
+
+pub loop-event-smaller : goal.loop-event-smaller
+loop-event-smaller g c = one_fewer (to_come c.loop-event.lanes) (to_come c.next.new.self) c.in-Some.event c.in-Some.ensures.next
 
 pub loop-event-preserved : goal.loop-event-preserved
 loop-event-preserved g c =
@@ -22,3 +39,6 @@ loop-event-preserved g c =
         told _ _ _ i.told.2,
       );
     }
+
+pub returns-clause-same : goal.returns-clause-same
+returns-clause-same g c = let i = c.loop-event.invariant in record { plan = i.plan; script = i.script; start = i.start }

@@ -1,0 +1,22 @@
+use Rattle.std.proofs.Common.{All, true≢false, sym, ap, ◌∙◌, subst}
+use Rattle.apply_events.specs.Step.{Work}
+use Rattle.apply_bus.specs.Items.{events as events_of}
+use Rattle.apply_run.specs.Stream.Fitting.{CanBeTold}
+use Rattle.apply_run.proofs.run.run_threads.Goals as goal
+use Rattle.apply_run.proofs.run.run_threads.Goals.{then-whole, else-whole}
+
+pub returns-after-whole-clause-finished : goal.returns-after-whole-clause-finished
+returns-after-whole-clause-finished g c =
+    let joined = c.in-Ok.ensures.1.0 in let reconciled = c.reconcile-whole.ensures in let taken = c.in-Ok.field-0.taken.taken in
+    record {
+      lists = reconciled.applied.0;
+      events = events_of taken;
+      part = reconciled.applied.1;
+      whole = λ all. elim c.if-whole.branch [
+        | then-whole w ↦ reconciled.applied.2 w.if-whole.true
+        | else-whole w ↦ absurd (true≢false (sym all ∙ w.result-is ∙ w.if-whole.false))
+      ];
+      same = joined.same;
+      room = joined.room;
+      told = joined.told (subst (λ p. All (CanBeTold p) (events_of taken)) (sym (c.requires.plan ∙ ap (λ (work : Work). work.plan) c.requires.run.work_is)) reconciled.fits);
+    }

@@ -1,0 +1,23 @@
+use Rattle.std.proofs.Common.{◌≡◌, ◌∙◌, ap, refl, sym, subst}
+use Rattle.std.specs.Prelude.{OnOk}
+use Rattle.apply_run.specs.Stream.Outlet.{Writes, failed_writes, outlet_of}
+use Rattle.apply_run.proofs.stream.StreamWriter.write_built.Goals as goal
+
+pub returns-in-Ok-clause-written : goal.returns-in-Ok-clause-written
+returns-in-Ok-clause-written g c line built =
+    let s = c.args.self.now in
+    let is : s.buffer ≡ line = subst (λ r. OnOk r (s.buffer ≡ line)) c.in-Ok.is built in
+    subst (Writes (outlet_of g.S.Sink.bytes g.S.Sink.failed s.output) (outlet_of g.S.Sink.bytes g.S.Sink.failed c.write.new.self)) (c.as_bytes.ensures ∙ is) c.write.ensures.written
+
+pub returns-in-Ok-clause-memory : goal.returns-in-Ok-clause-memory
+returns-in-Ok-clause-memory g c ends =
+    let same = c.write.ensures.memory ends in
+    record {
+      none_failed = ap failed_writes (sym (ap (λ output. output.stop) same) ∙ ends);
+      bytes = ap (λ output. g.S.Sink.bytes output.sink) same;
+      failures = ap (λ output. g.S.Sink.failed output.sink) same;
+      written = ap (λ output. output.written) same;
+    }
+
+pub returns-in-Err-clause-written : goal.returns-in-Err-clause-written
+returns-in-Err-clause-written g c line _ = c.stop_for_memory.ensures.written line
