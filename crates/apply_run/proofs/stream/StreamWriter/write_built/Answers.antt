@@ -18,6 +18,3 @@ returns-in-Ok-clause-memory g c ends =
       failures = ap (λ output. g.S.Sink.failed output.sink) same;
       written = ap (λ output. output.written) same;
     }
-
-pub returns-in-Err-clause-written : goal.returns-in-Err-clause-written
-returns-in-Err-clause-written g c line _ = c.stop_for_memory.ensures.written line
