@@ -1,4 +1,5 @@
 mod Ending
+mod Followed
 mod Front
 mod InLanes
 mod Options

@@ -9,9 +9,10 @@ use Rattle.apply_run.specs.Lanes.{AreLanes}
 use Rattle.apply_run.specs.Run.{Sight}
 use Rattle.apply_cli.specs.declared.invocation.Invocation.{Invocation}
 use Rattle.apply_cli.specs.declared.settings.Settings.{Settings}
-use Rattle.apply_cli.specs.Command.{HasApplied, HasBegun}
+use Rattle.apply_cli.specs.Command.{HasApplied, HasBegun, OfFile, OfInput}
 use Rattle.apply_cli.specs.CommandInLanes.{HasAppliedInLanes, HasBegunInLanes}
 use Rattle.apply_cli.specs.CommandLine.{AreSaid, IsOneOf, IsOptionalNumber, command_line, kind_words, option_named}
+use Rattle.apply_cli.specs.Halt.{hooks_of_halts}
 use Rattle.apply_cli.specs.Settings.{AreInRange, options_of}
 
 -- a run takes them
@@ -53,3 +54,35 @@ unfoldable pub WasBegun : Given → Settings → (parallelism : Option ℕ) → 
 WasBegun given settings None before after = HasBegun given (options_of settings) before after
 WasBegun given settings (Some lanes) before after =
     HasBegunInLanes given lanes settings.at settings.operation before after
+
+-- ---- from the words
+
+-- the settings and the parallelism are those that the words say, and a run takes them
+pub record IsOfWords (words : List Text) (invocation : Invocation) : Type 0 where
+  pub said : HaveInvoked words invocation
+  pub in_range : IsInRange invocation
+
+-- what the run of these settings is given: the bytes of a plan, those of a script or none, and a hook for each halt
+abbrev pub given_of : Settings → (plan : List ℕ) → (script : Option (List ℕ)) → Given
+given_of settings plan script =
+    record { plan = plan; script = script; hooks = hooks_of_halts settings.halts.items }
+
+-- an output with these bytes, where it tells them, to which no write has failed
+abbrev pub unfailed : Option (List ℕ) → Sight
+unfailed bytes = record { bytes = bytes; failed = 0 }
+
+-- with what the words say, the plan of the input was applied, by the script of the file that they name, where they name
+-- one, and the output has all of its stream behind the bytes that it had
+pub record WereApplied (words : List Text) (input before after : Option (List ℕ)) (status : ℕ) : Type 0 where
+  pub invocation : Invocation
+  pub is_said : IsOfWords words invocation
+  pub applied : OfInput input (λ plan. OfFile invocation.settings.script (λ script.
+      WasApplied (given_of invocation.settings plan script) invocation.settings invocation.parallelism
+      (unfailed before) (unfailed after) status))
+
+-- so it was, but the output has a front of the stream
+pub record WereBegun (words : List Text) (input before after : Option (List ℕ)) : Type 0 where
+  pub invocation : Invocation
+  pub is_said : IsOfWords words invocation
+  pub begun : OfInput input (λ plan. OfFile invocation.settings.script (λ script.
+      WasBegun (given_of invocation.settings plan script) invocation.settings invocation.parallelism before after))

@@ -6,7 +6,7 @@ ghost use Rattle.std.specs.Option.{option_copied};
 ghost use Rattle.apply_hooks.specs.Registry.{rules_of};
 ghost use Rattle.apply_cli.specs.Command.{HasApplied, HasBegun, OfFile, OfInput, sight_of};
 ghost use Rattle.apply_cli.specs.Halt.{hooks_of_halts, rules_of_halt};
-ghost use Rattle.apply_cli.specs.Invocation.{WasApplied, WasBegun};
+ghost use Rattle.apply_cli.specs.Invocation.{WasApplied, WasBegun, WereApplied, WereBegun};
 ghost use Rattle.apply_cli.specs.Settings.{options_of};
 ghost use Rattle.apply_cli.specs.Version.{AskForVersion, version_line};
 
@@ -14,7 +14,7 @@ use crate::answer::{answer_usage, report_hook};
 use crate::halt::Halt;
 use crate::in_lanes::run_in_lanes;
 use crate::input_fault::InputFault;
-use crate::invocation::{Invocation, read_invocation};
+use crate::invocation::read_invocation;
 use crate::run::run_command;
 use crate::script_file::{read_file, report_script};
 use crate::settings::Settings;
@@ -56,7 +56,17 @@ pub fn follow<F: Files, R: Read + Drop, W: Write + Drop, E: Write, T: Threads + 
 ) -> (W, u8)
     ensures version { AskForVersion (map string_bytes words.now)
         → ((result.1 ≡ 0) × Appends (W.contents output) (W.contents result.0) version_line) ⊎ (result.1 ≡ 3) }
+
+    // Status 0 is also that of the version and of help; which words ask for help, `clap` does not state of options that
+    // exclude each other.
+    ensures applied { result.1 ≤ 1 →
+        WereApplied (map string_bytes words.now) (R.remaining input) (W.contents output) (W.contents result.0) result.1
+        ⊎ (result.1 ≡ 0) }
     ensures refused { result.1 ≡ 2 → Keeps (W.contents output) (W.contents result.0) }
+    ensures cut_off { result.1 ≡ 3 → Keeps (W.contents output) (W.contents result.0)
+        ⊎ (WereBegun (map string_bytes words.now) (R.remaining input) (W.contents output) (W.contents result.0)
+        ⊎ AskForVersion (map string_bytes words.now)) }
+    ensures quiet { result.1 ≤ 1 → Keeps (E.contents faults.old) (E.contents faults.new) }
     ensures statuses { result.1 ≤ 3 }
 {
     if ask_for_version(words) {
@@ -64,19 +74,14 @@ pub fn follow<F: Files, R: Read + Drop, W: Write + Drop, E: Write, T: Threads + 
         return (output, status);
     }
     match read_invocation(alloc, words) {
-        Ok(
-            Invocation {
-                settings,
-                parallelism,
-            },
-        ) => {
+        Ok(invocation) => {
             let output = StdSink::new(output);
             let (output, status) = follow_invocation(
                 rt,
                 files,
                 alloc,
-                &settings,
-                parallelism,
+                &invocation.settings,
+                invocation.parallelism,
                 input,
                 output,
                 faults,
