@@ -185,7 +185,12 @@ fn said_of<D: Display + Drop>(alloc: Global, fault: D) -> Counting {
 }
 
 /// Fails where the fault has another text, or goes out in another number of writes.
-fn goes_out_at_once<D: Display + Drop>(rt: &impl Abort, alloc: Global, fault: D, wanted: &str) {
+pub(super) fn goes_out_at_once<D: Display + Drop>(
+    rt: &impl Abort,
+    alloc: Global,
+    fault: D,
+    wanted: &str,
+) {
     let said = said_of(alloc, fault);
     says(rt, wanted, &said.taken, wanted);
     assert_eq!(rt; said.writes, 1, "{wanted}");

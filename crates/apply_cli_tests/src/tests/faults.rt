@@ -1,5 +1,6 @@
 //! Plans that are refused, and inputs and outputs that fail.
 
+use super::failing_outputs::goes_out_at_once;
 use super::*;
 
 /// A plan with one create.
@@ -81,17 +82,20 @@ fn update(rt: &impl Abort, alloc: Global, number: u32) -> String {
         .expect(rt, "memory")
 }
 
+/// The last line where ten thousand updates were applied.
+const TEN_THOUSAND: &str =
+    r#"{"@level":"info","@message":"Apply complete! Resources: 0 added, 10000 changed, 0 destroyed.","@module":"terraform.ui","@timestamp":"1970-01-01T00:00:00Z","changes":{"add":0,"change":10000,"operation":"apply","remove":0},"type":"change_summary"}
+"#;
+
 /// Fails where ten thousand updates were not applied.
 fn ten_thousand_are_applied(rt: &impl Abort, outcome: &Outcome) {
-    assert_eq!(rt; outcome.status, 0);
+    outcome_ends(rt, "10,000 updates", outcome, 0, TEN_THOUSAND);
     let lines = outcome
         .printed
         .iter()
         .filter(|byte| **byte == b'\n')
         .count();
     assert_eq!(rt; lines, 20_002);
-    let printed = text_of(rt, &outcome.printed);
-    assert!(rt; printed.contains("Resources: 0 added, 10000 changed, 0 destroyed."));
 }
 
 #[test]
@@ -184,16 +188,10 @@ fn an_output_that_fails_is_said_so(rt: HostRuntime) {
     let bytes = outcome.printed.as_slice();
     for room in 0..bytes.len() {
         let front = text_of(&rt, &bytes[..room]);
-        is_written(&rt, alloc, with_room(alloc, 1, room), 3, front, UNWRITTEN);
-        is_written(&rt, alloc, with_room(alloc, 7, room), 3, front, UNWRITTEN);
-        is_written(
-            &rt,
-            alloc,
-            with_room(alloc, 4096, room),
-            3,
-            front,
-            UNWRITTEN,
-        );
+        for per_write in [1, 7, 4096] {
+            let output = with_room(alloc, per_write, room);
+            is_written(&rt, alloc, output, 3, front, UNWRITTEN);
+        }
     }
     let whole = text_of(&rt, bytes);
     let room = bytes.len();
@@ -238,10 +236,8 @@ fn input_fails<T: Threads + Wait + Sync + Abort>(
 
 /// Fails where the refusal has another status, or another text.
 fn refusal_fails(rt: &impl Abort, alloc: Global, refusal: Refusal, status: u8, fault: &str) {
-    let mut said = Vec::new(alloc);
-    report(&mut said, refusal);
     assert_eq!(rt; refusal_status(refusal), status, "{fault}");
-    says(rt, fault, &said, fault);
+    goes_out_at_once(rt, alloc, refusal, fault);
 }
 
 #[test]
