@@ -1,7 +1,7 @@
 //! What no clause says: that the definitions are the ones that were meant, and that calls succeed with ample memory.
 
 use crate::members::{
-    is_text, member, non_empty, non_empty_text_member, text_member, text_member_or,
+    array_or_empty, is_text, member, non_empty, non_empty_text_member, text_member, text_member_or,
 };
 use crate::{JsonFault, Scratch, Shape, parse, parse_trimmed};
 use serde_json::Value;
@@ -119,4 +119,23 @@ fn members_are_found(rt: HostRuntime) {
     assert_eq!(rt; non_empty_text_member(&tree, "empty"), None);
     assert_eq!(rt; non_empty("a"), Some("a"));
     assert!(rt; is_text(&tree["a"], "b") && !is_text(&tree["number"], "5"));
+}
+
+/// Fails where the member is no list of so many items.
+fn has_items(rt: &impl Abort, tree: &Value, name: &str, wanted: Option<usize>) {
+    assert_eq!(rt;
+        array_or_empty(member(tree, name)).map(|items| items.len()),
+        wanted
+    );
+}
+
+#[test]
+fn a_list_may_be_absent(rt: HostRuntime) {
+    let bytes = br#"{"list":[1,2,3],"none":null,"empty":[],"number":5}"#;
+    let tree = parse(rt.alloc(), bytes, bytes.len()).expect(&rt, "a tree");
+    has_items(&rt, &tree, "list", Some(3));
+    has_items(&rt, &tree, "empty", Some(0));
+    has_items(&rt, &tree, "none", Some(0));
+    has_items(&rt, &tree, "absent", Some(0));
+    has_items(&rt, &tree, "number", None);
 }
