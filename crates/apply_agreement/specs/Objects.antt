@@ -25,7 +25,7 @@ version_object plan start =
     message_object (codes "info") (codes "Terraform " ++ plan.version) (moment_text start)
     (version_members plan.version)
 
--- that of an event; none where the plan has no such step
+-- the object of an event; none where the plan has no such step
 abbrev pub objects_of : SavedPlan → Outcomes → (seconds : ℕ) → Event → List Data
 objects_of plan script seconds event =
     option_map_or (λ change.
@@ -33,7 +33,7 @@ objects_of plan script seconds event =
     object_of seconds (event_message change step (outcome_of script event.change event.step) event.what) ∷ [])
     (slice_get change.steps event.step) []) (slice_get plan.changes event.change) []
 
--- those of events, at the latest moment up to each
+-- the objects of events, each at the latest moment up to it
 abbrev pub event_objects : SavedPlan → Outcomes → (start : ℕ) → List Event → List Data
 event_objects plan script start events =
     flat_map (λ p. objects_of plan script (start + latest_of events (p.0 + 1)) p.1) (enumerate_from 0 events)

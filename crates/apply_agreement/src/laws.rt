@@ -101,7 +101,7 @@ pub fn every_stream_is_accepted()
     a_line_has_one_line_feed();
 }
 
-/// The same of the stream of a time line, of as many changes under way at once as there are lanes.
+/// It accepts the bytes of the stream of a time line too, of as many changes under way at once as there are lanes.
 pub fn every_stream_in_lanes_is_accepted()
     ensures { (work : Work) (n start : ℕ) (events : List Event) (operation : Operation)
         → IsOrdinary work.plan → ProvisionsCreates work.plan work.script → 0 < n → IsTimeLine work n events

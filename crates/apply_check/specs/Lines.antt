@@ -153,11 +153,11 @@ abbrev pub next : List Message → Message → Result (List Message) Fault
 next [] message = as_first message
 next (latest ∷ earlier) message = behind (latest ∷ earlier) message
 
--- the messages with that of one more tree, or its first fault
+-- the messages with the message of one more tree, or its first fault
 abbrev pub read_tree : List Message → Data → Result (List Message) Fault
 read_tree earlier d = message_of_tree d >>= next earlier
 
--- the messages with that of one more line, or the line's first fault
+-- the messages with the message of one more line, or the line's first fault
 unfoldable pub read_line : List Message → List ℕ → Result (List Message) Fault
 read_line earlier text = message_of text >>= next earlier
 

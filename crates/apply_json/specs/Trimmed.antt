@@ -24,17 +24,20 @@ abbrev mutual
   trimmed selection shape (boolean b) = boolean b
   trimmed selection shape (number n) = number n
   trimmed selection shape (string s) = string s
-  trimmed selection shape (array ds) = array (trimmed_items selection (selection.item_shape shape) (selection.item_limit shape) ds)
+  trimmed selection shape (array ds) =
+      array (trimmed_items selection (selection.item_shape shape) (selection.item_limit shape) ds)
   trimmed selection shape (object ms) = object (trimmed_members selection shape ms)
 
   -- the first items, as many as the number says, or all
   pub trimmed_items : {S : Type 0} → Selection S → S → Option ℕ → Items → Items
   trimmed_items selection shape limit no_items = no_items
   trimmed_items selection shape (Some zero) (item d ds) = no_items
-  trimmed_items selection shape (Some (suc count)) (item d ds) = item (trimmed selection shape d) (trimmed_items selection shape (Some count) ds)
+  trimmed_items selection shape (Some (suc count)) (item d ds) =
+      item (trimmed selection shape d) (trimmed_items selection shape (Some count) ds)
   trimmed_items selection shape None (item d ds) = item (trimmed selection shape d) (trimmed_items selection shape None ds)
 
   pub trimmed_members : {S : Type 0} → Selection S → S → Members → Members
   trimmed_members selection shape no_members = no_members
   trimmed_members selection shape (member name d ms) =
-      option_map_or (λ known. member name (trimmed selection known d) (trimmed_members selection shape ms)) (selection.member_shape shape name) (trimmed_members selection shape ms)
+      option_map_or (λ known. member name (trimmed selection known d) (trimmed_members selection shape ms))
+      (selection.member_shape shape name) (trimmed_members selection shape ms)

@@ -15,7 +15,7 @@ pub record IsApplied (work : Work) (workers : ℕ) (lists : List (List ℕ)) (ev
   pub dealt_out : IsPartition workers (length work.plan.changes) lists
   pub told : IsInterleaving workers (reports_of work lists) events
 
--- the same of a prefix of what each reports
+-- the changes were dealt out to the workers, and the events are an interleaving of prefixes of what they report
 pub record IsAppliedInPart (work : Work) (workers : ℕ) (lists : List (List ℕ)) (events : List Event) : Type 0 where
   pub dealt_out : IsPartition workers (length work.plan.changes) lists
   pub told : IsInterleavingOfPrefixes workers (reports_of work lists) events

@@ -24,7 +24,7 @@ pub struct DiagTexts<'a> {
 }
 
 impl<'a> DiagTexts<'a> {
-    /// Those of a diagnostic, or empty ones where there is none.
+    /// The texts of a diagnostic, or empty ones where there is none.
     fn new(diag: Option<&'a Diag>) -> DiagTexts<'a>
         ensures { diag_view result ≡ unwrap_or (option_copied diag.entry) no_diag }
     {

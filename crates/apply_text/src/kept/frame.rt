@@ -48,7 +48,7 @@ impl Model for ProgressFrame {
 }
 
 impl ProgressFrame {
-    /// That of a step of the change. `Err` where memory is refused.
+    /// The frame of a step of the change. `Err` where memory is refused.
     pub fn new(alloc: Global, change: &Change, step: StepKind) -> Result<ProgressFrame, AllocError>
         ensures { IfOk result (λ frame. frame ≡ kept_step change.now step) }
     {
@@ -66,7 +66,7 @@ impl ProgressFrame {
         })
     }
 
-    /// Whether it is that of such a step of a change that shows as this one does.
+    /// Whether it is the frame of such a step, and of a change that shows as this one does.
     pub fn is_of(&self, change: &Change, step: StepKind) -> bool
         ensures { IsTrue result → self.now ≡ kept_step change.now step }
     {

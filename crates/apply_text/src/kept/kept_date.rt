@@ -37,7 +37,7 @@ impl Model for KeptDate {
 }
 
 impl KeptDate {
-    /// That of a moment, so many seconds after the start of 1970. `Err` where memory is refused.
+    /// The date of a moment, so many seconds after the start of 1970. `Err` where memory is refused.
     pub fn new(alloc: Global, seconds: u64) -> Result<KeptDate, AllocError>
         requires { seconds ≤ last_second }
         ensures { IfOk result (λ kept. kept ≡ seconds / 86400) }
