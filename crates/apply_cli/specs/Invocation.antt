@@ -71,8 +71,8 @@ given_of settings plan script =
 abbrev pub unfailed : Option (List ℕ) → Sight
 unfailed bytes = record { bytes = bytes; failed = 0 }
 
--- with what the words say, the plan of the input was applied, by the script of the file that they name, where they name
--- one, and the output has all of its stream behind the bytes that it had
+-- with what the words say, the plan of the input was applied, with some bytes of a script exactly where they name its
+-- file, and the output has all of the stream behind the bytes that it had
 pub record WereApplied (words : List Text) (input before after : Option (List ℕ)) (status : ℕ) : Type 0 where
   pub invocation : Invocation
   pub is_said : IsOfWords words invocation
