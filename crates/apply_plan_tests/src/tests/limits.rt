@@ -90,17 +90,34 @@ fn most_changes(rt: &impl Abort, alloc: Global) -> String {
     put(rt, alloc, plan, "CELL", elements.as_str())
 }
 
+/// Fails where the plan has another number of changes.
+fn has_changes(rt: &impl Abort, alloc: Global, plan: &str, count: u32) {
+    assert!(rt; plan_of(rt, alloc, plan).len() == count);
+}
+
+/// Fails where the plan with another text in the place of the mark is answered otherwise.
+fn is_answered_with(
+    rt: &impl Abort,
+    alloc: Global,
+    plan: &str,
+    mark: &str,
+    other: &str,
+    wanted: &str,
+) {
+    let plan = put(rt, alloc, plan, mark, other);
+    plan_is_answered(rt, alloc, plan.as_bytes(), wanted);
+}
+
 #[test]
 fn a_plan_has_at_most_10000_changes(rt: HostRuntime) {
     let alloc = rt.alloc();
     let text = most_changes(&rt, alloc);
-    assert!(rt; plan_of(&rt, alloc, text.as_str()).len() == 10_000);
+    has_changes(&rt, alloc, text.as_str(), 10_000);
     let more = put(&rt, alloc, text.as_str(), "[{", "[5,{");
     let too_many = "the plan has more than 10000 changes";
     plan_is_answered(&rt, alloc, more.as_bytes(), too_many);
-    let other = put(&rt, alloc, more.as_str(), r#""1.2""#, r#""2.0""#);
     let no_plan = "the plan is not a plan of format 1.x";
-    plan_is_answered(&rt, alloc, other.as_bytes(), no_plan);
+    is_answered_with(&rt, alloc, more.as_str(), r#""1.2""#, r#""2.0""#, no_plan);
 }
 
 /// An entry for the change of that number, which takes as many seconds.

@@ -122,15 +122,26 @@ pub fn plan_is(rt: &impl Abort, alloc: Global, plan: &Plan, plain: &PlainPlan) {
     }
 }
 
+/// Fails where the plain reader reads another plan in the text, or none.
+fn is_read_plainly(rt: &impl Abort, alloc: Global, text: &str, plan: &Plan) {
+    match read_plan_plainly(rt, alloc, text) {
+        Ok(plain) => plan_is(rt, alloc, plan, &plain),
+        Err(error) => panic!(rt; "not refused, though {error}: {text}"),
+    }
+}
+
+/// Fails where the plain reader refuses the text otherwise, or reads it.
+fn is_refused_plainly(rt: &impl Abort, alloc: Global, text: &str, found: &PlanError) {
+    match read_plan_plainly(rt, alloc, text) {
+        Ok(_) => panic!(rt; "{found}: {text}"),
+        Err(wanted) => assert!(rt; *found == wanted, "{found}, not {wanted}: {text}"),
+    }
+}
+
 /// Fails where the reader and the plain reader answer the text as a plan otherwise.
 pub fn reads_as_plainly(rt: &impl Abort, alloc: Global, text: &str) {
-    match (
-        read_plan(alloc, text.as_bytes()),
-        read_plan_plainly(rt, alloc, text),
-    ) {
-        (Ok(plan), Ok(plain)) => plan_is(rt, alloc, &plan, &plain),
-        (Err(found), Err(wanted)) => assert_eq!(rt; found, wanted, "at {text}"),
-        (Ok(_), Err(error)) => panic!(rt; "not refused, though {error}: {text}"),
-        (Err(error), Ok(_)) => panic!(rt; "{error}: {text}"),
+    match read_plan(alloc, text.as_bytes()) {
+        Ok(plan) => is_read_plainly(rt, alloc, text, &plan),
+        Err(error) => is_refused_plainly(rt, alloc, text, &error),
     }
 }

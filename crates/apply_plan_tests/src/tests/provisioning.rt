@@ -36,6 +36,14 @@ fn seconds_taken(rt: &impl Abort, script: &Script) -> u32 {
     }
 }
 
+/// What is said of the only step.
+fn only_outcome<'a>(rt: &impl Abort, script: &'a Script) -> &'a Outcome {
+    match script.outcome(0, 0) {
+        Some(outcome) => outcome,
+        None => panic!(rt; "nothing is said of the step"),
+    }
+}
+
 /// What comes of the outcome: `, COUNT run`, and why it fails, where it does.
 fn result_line(rt: &impl Abort, alloc: Global, outcome: &Outcome) -> String {
     let mut line = shown(rt, alloc, &", ");
@@ -81,58 +89,83 @@ fn script_with(rt: &impl Abort, alloc: Global, members: &str) -> Script {
     script_of(rt, alloc, ONE_CREATE, text.as_str())
 }
 
+/// What the script with these members says of the step.
+fn said_with(rt: &impl Abort, alloc: Global, members: &str) -> String {
+    let script = script_with(rt, alloc, members);
+    whole_line(rt, alloc, only_outcome(rt, &script))
+}
+
 #[test]
 fn a_step_says_what_its_provisioners_do(rt: HostRuntime) {
     for row in rows(&rt, SAID) {
         let (members, wanted) = cells(&rt, row);
-        let script = script_with(&rt, rt.alloc(), members);
-        let outcome = script.outcome(0, 0).expect(&rt, "an outcome");
-        let found = whole_line(&rt, rt.alloc(), outcome);
+        let found = said_with(&rt, rt.alloc(), members);
         compare(&rt, members, found.as_str(), wanted);
     }
+}
+
+/// What comes of the step with these members.
+fn come_with(rt: &impl Abort, alloc: Global, members: &str) -> String {
+    let script = script_with(rt, alloc, members);
+    let mut found = shown(rt, alloc, &seconds_taken(rt, &script));
+    let result = result_line(rt, alloc, only_outcome(rt, &script));
+    push(rt, &mut found, result.as_str());
+    found
 }
 
 #[test]
 fn provisioners_run_up_to_the_first_that_fails(rt: HostRuntime) {
     for row in rows(&rt, COMES) {
         let (members, wanted) = cells(&rt, row);
-        let script = script_with(&rt, rt.alloc(), members);
-        let outcome = script.outcome(0, 0).expect(&rt, "an outcome");
-        let mut found = shown(&rt, rt.alloc(), &seconds_taken(&rt, &script));
-        push(
-            &rt,
-            &mut found,
-            result_line(&rt, rt.alloc(), outcome).as_str(),
-        );
+        let found = come_with(&rt, rt.alloc(), members);
         compare(&rt, members, found.as_str(), wanted);
     }
 }
 
-/// Adds so many texts, each between quotes, with commas between them.
-fn push_quoted(rt: &impl Abort, text: &mut String, count: usize) {
+/// Adds the text so often, with commas between.
+fn push_often(rt: &impl Abort, text: &mut String, more: &str, count: u32) {
     for number in 0..count {
-        push(rt, text, if number > 0 { r#","hi""# } else { r#""hi""# });
+        push(rt, text, if number > 0 { "," } else { "" });
+        push(rt, text, more);
     }
+}
+
+/// A provisioner that puts out as much as it may.
+fn longest_provisioner(rt: &impl Abort, alloc: Global) -> String {
+    let mut output = String::new(alloc);
+    push_often(rt, &mut output, r#""hi""#, 100);
+    let one = r#"{"provisioner":"a","seconds":10800,"output":[CELL]}"#;
+    put(rt, alloc, one, "CELL", output.as_str())
+}
+
+/// The members of a step with as many provisioners as there may be.
+fn most_provisioners(rt: &impl Abort, alloc: Global) -> String {
+    let one = longest_provisioner(rt, alloc);
+    let mut members = shown(rt, alloc, &r#""seconds":0,"provisioners":["#);
+    push_often(rt, &mut members, one.as_str(), 8);
+    push(rt, &mut members, "]");
+    members
+}
+
+/// Fails where the provisioner has another number of outputs, or another last one.
+fn puts_out(rt: &impl Abort, provisioner: &Provisioner, count: u8, last: &str) {
+    let output = &provisioner.output;
+    assert!(rt; count > 0 && output.len() == count);
+    assert!(rt; output.get(count - 1).as_str() == last);
+}
+
+/// Fails where the only step has not the most provisioners.
+fn has_the_most(rt: &impl Abort, script: &Script) {
+    let outcome = only_outcome(rt, script);
+    assert!(rt; seconds_taken(rt, script) == 86_400);
+    assert!(rt; outcome.provisioners.len() == 8);
+    puts_out(rt, outcome.provisioners.get(7), 100, "hi");
 }
 
 /// As many provisioners as there may be, each of which puts out as much as it may.
 #[test]
 fn the_most_provisioners_are_kept(rt: HostRuntime) {
-    let alloc = rt.alloc();
-    let mut output = String::new(alloc);
-    push_quoted(&rt, &mut output, 100);
-    let one = r#"{"provisioner":"a","seconds":10800,"output":[CELL]}"#;
-    let one = put(&rt, alloc, one, "CELL", output.as_str());
-    let mut members = shown(&rt, alloc, &r#""seconds":0,"provisioners":["#);
-    for number in 0..8 {
-        push(&rt, &mut members, if number > 0 { "," } else { "" });
-        push(&rt, &mut members, one.as_str());
-    }
-    push(&rt, &mut members, "]");
-    let script = script_with(&rt, alloc, members.as_str());
-    let outcome = script.outcome(0, 0).expect(&rt, "an outcome");
-    assert!(rt; seconds_taken(&rt, &script) == 86_400);
-    assert!(rt; outcome.provisioners.len() == 8);
-    assert!(rt; outcome.provisioners.get(7).output.len() == 100);
-    assert!(rt; outcome.provisioners.get(7).output.get(99).as_str() == "hi");
+    let members = most_provisioners(&rt, rt.alloc());
+    let script = script_with(&rt, rt.alloc(), members.as_str());
+    has_the_most(&rt, &script);
 }
