@@ -31,6 +31,9 @@ const PLAN: &str =
 /// A script of that change, with the steps in the place of `CELL`.
 const SCRIPT: &str = r#"{"changes":[{"address":"null_resource.a","steps":CELL}]}"#;
 
+/// Stands in a table where there is no script.
+const NO_SCRIPT: &str = "no script";
+
 /// The actions of a create.
 const CREATE: &str = r#"["create"]"#;
 
@@ -45,6 +48,11 @@ const ELEVEN_AND_TWO: &str = r#"[{"seconds":11},{"seconds":2,"warning":{"summary
 
 /// The last moment at which a change may begin.
 const LAST_BEGIN: u64 = LATEST - 172_800;
+
+/// Fails where it is not so.
+fn holds(rt: &impl Abort, case: &str, is_so: bool) {
+    assert!(rt; is_so, "{case}");
+}
 
 /// Fails where another text was found.
 fn text_is(rt: &impl Abort, case: &str, found: &str, wanted: &str) {
@@ -93,22 +101,33 @@ fn plan_of(rt: &impl Abort, alloc: Global, actions: &str) -> Plan {
     plan_in(rt, alloc, put(rt, alloc, PLAN, actions).as_str())
 }
 
-/// The script with those steps.
+/// The script with those steps, or the empty one.
 fn script_of(rt: &impl Abort, alloc: Global, plan: &Plan, steps: &str) -> Script {
+    if steps == NO_SCRIPT {
+        return Script::empty();
+    }
     script_in(rt, alloc, plan, put(rt, alloc, SCRIPT, steps).as_str())
 }
 
-/// All events that a runner gives.
-fn all_events(rt: &impl Abort, alloc: Global, mut runner: Runner<'_>) -> Vec<Event> {
-    let mut all = Vec::new(alloc);
+/// Adds all events that a runner gives. When its change has ended.
+fn add_events(rt: &impl Abort, all: &mut Vec<Event>, mut runner: Runner<'_>) -> u64 {
     while let Some(event) = runner.next() {
         all.push(event).ok().expect(rt, "memory");
     }
+    runner.ended_at()
+}
+
+/// All events that a runner gives.
+fn all_events(rt: &impl Abort, alloc: Global, runner: Runner<'_>) -> Vec<Event> {
+    let mut all = Vec::new(alloc);
+    let _ended_at = add_events(rt, &mut all, runner);
     all
 }
 
-/// Adds when and in which step what happens.
+/// Adds when and in which step what happens to the first change. Fails where another worker than 3 tells it.
 fn push_event(rt: &impl Abort, alloc: Global, text: &mut String, event: &Event) {
+    number_is(rt, "worker", event.worker as u64, 3);
+    number_is(rt, "change", event.change as u64, 0);
     push(rt, text, printed(rt, alloc, &event.at).as_str());
     push(rt, text, " step ");
     push(rt, text, printed(rt, alloc, &event.step).as_str());
@@ -128,27 +147,12 @@ fn told(
     assert!(rt; plan.len() > 0);
     let mut text = String::new(alloc);
     for event in &all_events(rt, alloc, Runner::start(plan, script, registry, 3, 0, 0)) {
-        assert!(rt; event.worker == 3 && event.change == 0);
         push_event(rt, alloc, &mut text, event);
     }
     text
 }
 
-/// Fails where the first change has other events.
-fn events_are(
-    rt: &impl Abort,
-    alloc: Global,
-    case: &str,
-    plan: &Plan,
-    script: &Script,
-    registry: &Registry,
-    wanted: &str,
-) {
-    let found = told(rt, alloc, plan, script, registry);
-    text_is(rt, case, found.as_str().trim_end(), wanted);
-}
-
-/// The same of the change with those actions, whose steps the script tells so.
+/// Fails where the change with those actions, whose steps the script tells so, has other events.
 fn tells(
     rt: &impl Abort,
     alloc: Global,
@@ -159,16 +163,61 @@ fn tells(
 ) {
     let plan = plan_of(rt, alloc, actions);
     let script = script_of(rt, alloc, &plan, steps);
-    events_are(rt, alloc, steps, &plan, &script, registry, wanted);
+    let found = told(rt, alloc, &plan, &script, registry);
+    text_is(rt, steps, found.as_str().trim_end(), wanted);
 }
 
-/// Fails where another step begins next, or the change has ended at another time so far.
-fn stands(rt: &impl Abort, after: &str, runner: &Runner<'_>, begins: Option<u8>, ended_at: u64) {
-    assert!(rt;
-        runner.begins() == begins,
-        "after {after}: another step begins"
-    );
-    number_is(rt, after, runner.ended_at(), ended_at);
+/// The same of each row of a table: the actions, the steps, and the events.
+fn rows_are_told(rt: &impl Abort, alloc: Global, registry: &Registry, table: &str) {
+    for row in table.lines() {
+        let (actions, rest) = parted(rt, row);
+        let (steps, wanted) = parted(rt, rest);
+        tells(rt, alloc, actions, steps, registry, wanted);
+    }
+}
+
+/// Adds which step begins next, if any, and when the change has ended so far.
+fn push_stand(rt: &impl Abort, alloc: Global, text: &mut String, runner: &Runner<'_>) {
+    if let Some(step) = runner.begins() {
+        push(rt, text, "begins ");
+        push(rt, text, printed(rt, alloc, &step).as_str());
+        push(rt, text, " ");
+    }
+    push(rt, text, "ended ");
+    push(rt, text, printed(rt, alloc, &runner.ended_at()).as_str());
+    push(rt, text, "\n");
+}
+
+/// How it stands before, between and behind the events of a change, a line for each: the moment, the worker, the change
+/// with its step and what happens, and then how it stands.
+fn stands_of(rt: &impl Abort, alloc: Global, mut runner: Runner<'_>) -> String {
+    let mut text = String::new(alloc);
+    push_stand(rt, alloc, &mut text, &runner);
+    while let Some(event) = runner.next() {
+        lanes::push_event(rt, alloc, &mut text, &event);
+        push_stand(rt, alloc, &mut text, &runner);
+    }
+    holds(rt, "nothing behind the last event", runner.next().is_none());
+    push_stand(rt, alloc, &mut text, &runner);
+    text
+}
+
+/// Fails where it stands otherwise with the change that has those actions and steps, which worker 7 begins at that moment.
+fn stands(
+    rt: &impl Abort,
+    alloc: Global,
+    actions: &str,
+    steps: &str,
+    registry: &Registry,
+    at: u64,
+    wanted: &str,
+) {
+    let plan = plan_of(rt, alloc, actions);
+    let script = script_of(rt, alloc, &plan, steps);
+    assert!(rt; plan.len() == 1);
+    assert!(rt; at <= LAST_BEGIN);
+    let runner = Runner::start(&plan, &script, registry, 7, 0, at);
+    text_is(rt, steps, stands_of(rt, alloc, runner).as_str(), wanted);
 }
 
 /// A list of one rule, which halts steps of that kind in that phase, or of each kind.
@@ -198,5 +247,35 @@ fn add_hook(rt: &impl Abort, registry: &mut Registry, rules: Rules, answer: Hook
     requires { AnswersAs (pre answer) (post answer) rules }
 {
     let added = registry.add(FnHook::new(rules, answer));
-    assert!(rt; added.is_ok(), "a hook was not added");
+    holds(rt, "a hook was added", added.is_ok());
+}
+
+/// Hooks, of which so many have no rules and so many behind them halt steps of that kind in that phase.
+#[derive(Drop)]
+struct Hooks {
+    quiet: u8,
+    halting: u8,
+    phase: Phase,
+    kind: Option<StepKind>,
+}
+
+/// Fails where a row of the table is told otherwise under the hooks.
+fn rows_are_told_under(rt: &impl Abort, alloc: Global, hooks: &Hooks, table: &str) {
+    let mut registry = Registry::new(alloc);
+    let (phase, kind) = (hooks.phase, hooks.kind);
+    for _ in 0..hooks.quiet {
+        let answer: HookClosure = Box::new(alloc, |_call: &HookCall<'_>| Verdict::Continue).expect(
+            rt, "memory",
+        );
+        add_hook(rt, &mut registry, Rules::new(alloc), answer);
+    }
+    for _ in 0..hooks.halting {
+        let rules = halting(rt, alloc, phase, kind);
+        let answer: HookClosure = Box::new(alloc, move |call: &HookCall<'_>| {
+            halts(call, phase, kind)
+        })
+        .expect(rt, "memory");
+        add_hook(rt, &mut registry, rules, answer);
+    }
+    rows_are_told(rt, alloc, &registry, table);
 }

@@ -2,75 +2,44 @@
 
 use super::*;
 
-/// Fails where the change with those actions has other events under an empty script.
-fn tells_by_default(
-    rt: &impl Abort,
-    alloc: Global,
-    actions: &str,
-    registry: &Registry,
-    wanted: &str,
-) {
-    let plan = plan_of(rt, alloc, actions);
-    let script = Script::empty();
-    events_are(rt, alloc, actions, &plan, &script, registry, wanted);
-}
+/// Under three hooks, of which the second and the third halt deletes before they start: the second is told.
+const BEFORE: &str = r#"["delete","create"] => no script => 0 step 0 Halted { phase: Pre, hook: 1 };
+["create","delete"] => no script => 0 step 0 Start; 0 step 0 Complete(0); 0 step 1 Halted { phase: Pre, hook: 1 };"#;
 
-/// Three hooks, of which the second and the third halt deletes before they start: the second is told.
 #[test]
 fn hooks_halt_before_a_step(rt: HostRuntime) {
-    let alloc = rt.alloc();
-    let mut registry = Registry::new(alloc);
-    let answer: HookClosure = Box::new(alloc, |_call: &HookCall<'_>| Verdict::Continue).expect(
-        &rt, "memory",
-    );
-    add_hook(&rt, &mut registry, Rules::new(alloc), answer);
-    for _ in 1..3 {
-        let rules = halting(&rt, alloc, Phase::Pre, Some(StepKind::Delete));
-        let answer: HookClosure = Box::new(alloc, |call: &HookCall<'_>| {
-            halts(call, Phase::Pre, Some(StepKind::Delete))
-        })
-        .expect(&rt, "memory");
-        add_hook(&rt, &mut registry, rules, answer);
-    }
-    let before = "0 step 0 Halted { phase: Pre, hook: 1 };";
-    tells_by_default(&rt, alloc, REPLACEMENT, &registry, before);
-    let between = "0 step 0 Start; 0 step 0 Complete(0); 0 step 1 Halted { phase: Pre, hook: 1 };";
-    tells_by_default(&rt, alloc, CREATES_FIRST, &registry, between);
+    let hooks = Hooks {
+        quiet: 1,
+        halting: 2,
+        phase: Phase::Pre,
+        kind: Some(StepKind::Delete),
+    };
+    rows_are_told_under(&rt, rt.alloc(), &hooks, BEFORE);
 }
+
+/// Under a hook that halts what has failed.
+const AFTER_A_FAILURE: &str =
+    r#"["create"] => [{"seconds":5,"failed":{"summary":"boom"}}] => 0 step 0 Start; 5 step 0 Errored(5); 5 step 0 ErrorNote; 5 step 0 Halted { phase: PostFailed, hook: 0 };
+["create"] => [{"seconds":5}] => 0 step 0 Start; 5 step 0 Complete(5);"#;
 
 #[test]
 fn hooks_halt_after_a_failed_step(rt: HostRuntime) {
-    let alloc = rt.alloc();
-    let mut registry = Registry::new(alloc);
-    let rules = halting(&rt, alloc, Phase::PostFailed, None);
-    let answer: HookClosure = Box::new(alloc, |call: &HookCall<'_>| {
-        halts(call, Phase::PostFailed, None)
-    })
-    .expect(&rt, "memory");
-    add_hook(&rt, &mut registry, rules, answer);
-    let fails = r#"[{"seconds":5,"failed":{"summary":"boom"}}]"#;
-    let halted =
-        "0 step 0 Start; 5 step 0 Errored(5); 5 step 0 ErrorNote; 5 step 0 Halted { phase: PostFailed, hook: 0 };";
-    tells(&rt, alloc, CREATE, fails, &registry, halted);
-    let done = "0 step 0 Start; 5 step 0 Complete(5);";
-    tells(&rt, alloc, CREATE, r#"[{"seconds":5}]"#, &registry, done);
+    let hooks = Hooks {
+        quiet: 0,
+        halting: 1,
+        phase: Phase::PostFailed,
+        kind: None,
+    };
+    rows_are_told_under(&rt, rt.alloc(), &hooks, AFTER_A_FAILURE);
 }
 
-/// Fails where it stands otherwise between the events of a replacement whose first step takes a second, and is halted
-/// after it.
-fn stands_before_the_halt(rt: &impl Abort, plan: &Plan, script: &Script, registry: &Registry) {
-    assert!(rt; plan.len() == 1);
-    let mut runner = Runner::start(plan, script, registry, 0, 0, 0);
-    stands(rt, "nothing", &runner, Some(0), 0);
-    let _start = runner.next();
-    stands(rt, "the start", &runner, None, 0);
-    let _complete = runner.next();
-    stands(rt, "the completion", &runner, None, 0);
-    let _halted = runner.next();
-    stands(rt, "the halt", &runner, None, 1);
-    let _none = runner.next();
-    stands(rt, "the end", &runner, None, 1);
-}
+/// How it stands between the events of a replacement whose first step takes a second, and is halted after it.
+const BEFORE_THE_HALT: &str = "begins 0 ended 0
+0 7 0.0 Start; ended 0
+1 7 0.0 Complete(1); ended 0
+1 7 0.0 Halted { phase: PostDone, hook: 0 }; ended 1
+ended 1
+";
 
 #[test]
 fn hooks_halt_between_the_steps_of_a_replacement(rt: HostRuntime) {
@@ -82,13 +51,16 @@ fn hooks_halt_between_the_steps_of_a_replacement(rt: HostRuntime) {
     })
     .expect(&rt, "memory");
     add_hook(&rt, &mut registry, rules, answer);
-    let halted =
-        "0 step 0 Start; 1 step 0 Complete(1); 1 step 0 Halted { phase: PostDone, hook: 0 };";
     let steps = r#"[{"seconds":1},{"seconds":2}]"#;
-    tells(&rt, alloc, REPLACEMENT, steps, &registry, halted);
-    let plan = plan_of(&rt, alloc, REPLACEMENT);
-    let script = script_of(&rt, alloc, &plan, steps);
-    stands_before_the_halt(&rt, &plan, &script, &registry);
+    stands(
+        &rt,
+        alloc,
+        REPLACEMENT,
+        steps,
+        &registry,
+        0,
+        BEFORE_THE_HALT,
+    );
 }
 
 /// Fails where the closure was asked another number of times so far, before looking at the runner or after.

@@ -18,28 +18,26 @@ const WORKED: &str =
 #[test]
 fn worked_changes(rt: HostRuntime) {
     let alloc = rt.alloc();
-    let registry = Registry::new(alloc);
-    for row in WORKED.lines() {
-        let (actions, rest) = parted(&rt, row);
-        let (steps, wanted) = parted(&rt, rest);
-        tells(&rt, alloc, actions, steps, &registry, wanted);
-    }
+    rows_are_told(&rt, alloc, &Registry::new(alloc), WORKED);
 }
 
-/// How much progress the events tell. Fails where it is not told each ten seconds, when it has come.
-fn progress_of(rt: &impl Abort, events: &[Event]) -> u32 {
-    let mut told: u32 = 0;
+/// How much progress is told behind the event, of which so much was told before. Fails where it is not told each ten
+/// seconds, when it has come.
+fn told_behind(rt: &impl Abort, event: &Event, told: u64) -> u64 {
+    let What::Progress(seconds) = event.what else {
+        return told;
+    };
+    let told = told.wrapping_add(1);
+    number_is(rt, "the seconds", seconds as u64, told.wrapping_mul(10));
+    number_is(rt, "the moment", event.at, seconds as u64);
+    told
+}
+
+/// How much progress the events tell.
+fn progress_of(rt: &impl Abort, events: &[Event]) -> u64 {
+    let mut told = 0;
     for event in events {
-        if let What::Progress(seconds) = event.what {
-            told = told.wrapping_add(1);
-            number_is(
-                rt,
-                "the seconds",
-                seconds as u64,
-                told.wrapping_mul(10) as u64,
-            );
-            number_is(rt, "the moment", event.at, seconds as u64);
-        }
+        told = told_behind(rt, event, told);
     }
     told
 }
@@ -52,7 +50,7 @@ fn progress_is(rt: &impl Abort, alloc: Global, steps: &str, events: u64, progres
     assert!(rt; plan.len() == 1);
     let all = all_events(rt, alloc, Runner::start(&plan, &script, &registry, 0, 0, 0));
     number_is(rt, steps, all.len() as u64, events);
-    number_is(rt, steps, progress_of(rt, &all) as u64, progress);
+    number_is(rt, steps, progress_of(rt, &all), progress);
 }
 
 #[test]
@@ -61,63 +59,52 @@ fn hour_of_progress(rt: HostRuntime) {
     progress_is(&rt, rt.alloc(), r#"[{"seconds":86400}]"#, 8_641, 8_639);
 }
 
-/// Fails where another event was found than this one of worker 7, at the last begin.
-fn late_is(rt: &impl Abort, found: Option<Event>, step: u8, what: What) {
-    let wanted = Event {
-        worker: 7,
-        change: 0,
-        step,
-        what,
-        at: LAST_BEGIN,
-    };
-    assert!(rt; found == Some(wanted), "another event at the last begin");
-}
+/// Worker 7 applies a replacement under an empty script at the last begin.
+const LATE: &str = "begins 0 ended 1727827200
+1727827200 7 0.0 Start; ended 1727827200
+1727827200 7 0.0 Complete(0); begins 1 ended 1727827200
+1727827200 7 0.1 Start; ended 1727827200
+1727827200 7 0.1 Complete(0); ended 1727827200
+ended 1727827200
+";
 
 #[test]
 fn a_default_script_and_a_late_begin(rt: HostRuntime) {
     let alloc = rt.alloc();
     let registry = Registry::new(alloc);
-    let plan = plan_of(&rt, alloc, REPLACEMENT);
-    let script = Script::empty();
-    assert!(rt; plan.len() == 1);
-    let mut runner = Runner::start(&plan, &script, &registry, 7, 0, LAST_BEGIN);
-    late_is(&rt, runner.next(), 0, What::Start);
-    late_is(&rt, runner.next(), 0, What::Complete(0));
-    late_is(&rt, runner.next(), 1, What::Start);
-    late_is(&rt, runner.next(), 1, What::Complete(0));
-    assert!(rt; runner.next().is_none());
-    number_is(&rt, "the end", runner.ended_at(), LAST_BEGIN);
+    stands(
+        &rt,
+        alloc,
+        REPLACEMENT,
+        NO_SCRIPT,
+        &registry,
+        LAST_BEGIN,
+        LATE,
+    );
 }
 
-/// Fails where something else was found to happen, or at another moment.
-fn event_is(rt: &impl Abort, found: Option<Event>, at: u64, what: What) {
-    let event = found.expect(rt, "an event");
-    number_is(rt, "the moment", event.at, at);
-    assert!(rt; event.what == what, "at {at}: something else");
-}
+/// Between all events of a replacement that begins at 5: which step begins next, and when the change has ended so far.
+const BETWEEN: &str = "begins 0 ended 5
+5 7 0.0 Start; ended 5
+15 7 0.0 Progress(10); ended 5
+16 7 0.0 Complete(11); begins 1 ended 16
+16 7 0.1 Start; ended 16
+18 7 0.1 Complete(2); ended 16
+18 7 0.1 WarnNote; ended 18
+ended 18
+";
 
-/// Between all events: which step begins next, and when the change has ended so far.
 #[test]
 fn between_the_events_of_a_replacement(rt: HostRuntime) {
     let alloc = rt.alloc();
     let registry = Registry::new(alloc);
-    let plan = plan_of(&rt, alloc, REPLACEMENT);
-    let script = script_of(&rt, alloc, &plan, ELEVEN_AND_TWO);
-    assert!(rt; plan.len() == 1);
-    let mut runner = Runner::start(&plan, &script, &registry, 0, 0, 5);
-    stands(&rt, "nothing", &runner, Some(0), 5);
-    event_is(&rt, runner.next(), 5, What::Start);
-    stands(&rt, "start", &runner, None, 5);
-    event_is(&rt, runner.next(), 15, What::Progress(10));
-    stands(&rt, "progress", &runner, None, 5);
-    event_is(&rt, runner.next(), 16, What::Complete(11));
-    stands(&rt, "end", &runner, Some(1), 16);
-    event_is(&rt, runner.next(), 16, What::Start);
-    stands(&rt, "next start", &runner, None, 16);
-    event_is(&rt, runner.next(), 18, What::Complete(2));
-    stands(&rt, "next end", &runner, None, 16);
-    event_is(&rt, runner.next(), 18, What::WarnNote);
-    stands(&rt, "warning", &runner, None, 18);
-    assert!(rt; runner.next().is_none());
-    stands(&rt, "all", &runner, None, 18);
+    stands(
+        &rt,
+        alloc,
+        REPLACEMENT,
+        ELEVEN_AND_TWO,
+        &registry,
+        5,
+        BETWEEN,
+    );
 }

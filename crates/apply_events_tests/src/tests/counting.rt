@@ -23,15 +23,26 @@ const NOTHING: Counts = Counts {
 
 /// Fails where other counts were found.
 fn counted_is(rt: &impl Abort, case: &str, found: &Counts, wanted: &Counts) {
-    assert!(rt; *found == *wanted, "{case}: other counts");
+    holds(rt, case, *found == *wanted);
 }
 
 /// Counts one more event. The counts of a test are small.
 fn count(rt: &impl Abort, counted: &mut Counts, plan: &Plan, script: &Script, event: &Event) {
-    assert!(rt; fits(plan, script, event), "an event that cannot happen");
-    assert!(rt; counted.added < 9 && counted.changed < 9 && counted.removed < 9);
-    assert!(rt; counted.failed < 9 && counted.halted < 9);
+    assert!(rt; fits(plan, script, event));
+    assert!(rt; counted.added < 9);
+    assert!(rt; counted.changed < 9);
+    assert!(rt; counted.removed < 9);
+    assert!(rt; counted.failed < 9);
+    assert!(rt; counted.halted < 9);
     counted.count(plan, event);
+}
+
+/// Whether a second step starts.
+fn starts_second(event: &Event) -> bool {
+    match event.what {
+        What::Start => event.step == 1,
+        _ => false,
+    }
 }
 
 /// Fails where the change with those actions and steps is counted otherwise, at the end or where its second step starts.
@@ -50,7 +61,7 @@ fn counts_are(
     let mut counted = Counts::new();
     counted_is(rt, "at first", &counted, &NOTHING);
     for event in &all_events(rt, alloc, Runner::start(&plan, &script, &registry, 0, 0, 0)) {
-        if event.step == 1 && event.what == What::Start {
+        if starts_second(event) {
             counted_is(rt, actions, &counted, &between);
         }
         count(rt, &mut counted, &plan, &script, event);

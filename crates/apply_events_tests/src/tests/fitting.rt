@@ -25,7 +25,15 @@ fn event(change: u32, step: u8, what: What, at: u64) -> Event {
     }
 }
 
-/// Adds the step and what happens to it, where that can happen.
+/// Adds the step and what happens to it.
+fn push_what(rt: &impl Abort, alloc: Global, text: &mut String, step: u8, what: What) {
+    push(rt, text, printed(rt, alloc, &step).as_str());
+    push(rt, text, " ");
+    push(rt, text, printed(rt, alloc, &what).as_str());
+    push(rt, text, "; ");
+}
+
+/// The same where that can happen.
 fn push_fitting(
     rt: &impl Abort,
     alloc: Global,
@@ -36,10 +44,7 @@ fn push_fitting(
     what: What,
 ) {
     if fits(plan, script, &event(0, step, what, 0)) {
-        push(rt, text, printed(rt, alloc, &step).as_str());
-        push(rt, text, " ");
-        push(rt, text, printed(rt, alloc, &what).as_str());
-        push(rt, text, "; ");
+        push_what(rt, alloc, text, step, what);
     }
 }
 
@@ -160,7 +165,7 @@ fn events_that_can_happen(rt: HostRuntime) {
 /// other way round.
 fn start_fits(rt: &impl Abort, plan: &Plan, change: u32, at: u64, wanted: bool) {
     let found = fits(plan, &Script::empty(), &event(change, 0, What::Start, at));
-    assert!(rt; found == wanted, "change {change} at {at}");
+    assert!(rt; found == wanted);
 }
 
 #[test]

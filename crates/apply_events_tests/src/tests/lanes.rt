@@ -67,15 +67,27 @@ fn add(rt: &impl Abort, alloc: Global, list: &mut String, text: &str, number: u3
     push(rt, list, text.expect(rt, "memory").as_str());
 }
 
-/// A plan of the changes, `null_resource.r0` and so on.
-fn plan_of_all(rt: &impl Abort, alloc: Global, changes: &str) -> Plan {
+/// The changes, `null_resource.r0` and so on, for a plan.
+fn planned(rt: &impl Abort, alloc: Global, changes: &str) -> String {
     let mut planned = String::new(alloc);
     let mut number: u32 = 0;
     for change in changes.lines() {
-        let (actions, _) = parted(rt, change);
-        add(rt, alloc, &mut planned, CHANGE, number, actions);
+        add(
+            rt,
+            alloc,
+            &mut planned,
+            CHANGE,
+            number,
+            parted(rt, change).0,
+        );
         number = number.wrapping_add(1);
     }
+    planned
+}
+
+/// A plan of them.
+fn plan_of_all(rt: &impl Abort, alloc: Global, changes: &str) -> Plan {
+    let planned = planned(rt, alloc, changes);
     plan_in(
         rt,
         alloc,
@@ -83,8 +95,8 @@ fn plan_of_all(rt: &impl Abort, alloc: Global, changes: &str) -> Plan {
     )
 }
 
-/// A script for it.
-fn script_of_all(rt: &impl Abort, alloc: Global, plan: &Plan, changes: &str) -> Script {
+/// The entries of those that have steps, for a script.
+fn scripted(rt: &impl Abort, alloc: Global, changes: &str) -> String {
     let mut scripted = String::new(alloc);
     let mut number: u32 = 0;
     for change in changes.lines() {
@@ -94,6 +106,12 @@ fn script_of_all(rt: &impl Abort, alloc: Global, plan: &Plan, changes: &str) -> 
         }
         number = number.wrapping_add(1);
     }
+    scripted
+}
+
+/// A script of them.
+fn script_of_all(rt: &impl Abort, alloc: Global, plan: &Plan, changes: &str) -> Script {
+    let scripted = scripted(rt, alloc, changes);
     script_in(
         rt,
         alloc,
@@ -126,7 +144,7 @@ fn lane_events(
 }
 
 /// Adds the moment, the lane, the change with its step, and what happens.
-fn push_event(rt: &impl Abort, alloc: Global, text: &mut String, event: &Event) {
+pub(super) fn push_event(rt: &impl Abort, alloc: Global, text: &mut String, event: &Event) {
     push(rt, text, printed(rt, alloc, &event.at).as_str());
     push(rt, text, " ");
     push(rt, text, printed(rt, alloc, &event.worker).as_str());

@@ -73,7 +73,10 @@ const WITH_PROVISIONERS: [&str; 4] = [
 
 /// What the script says of the first step of a change with these actions.
 fn drawn_step(draws: &mut Draws, actions: &str) -> &'static str {
-    if actions == CREATE && draws.next() < 4 {
+    if actions != CREATE {
+        return STEPS[draws.next()];
+    }
+    if draws.next() < 4 {
         WITH_PROVISIONERS[draws.next() / 4]
     } else {
         STEPS[draws.next()]

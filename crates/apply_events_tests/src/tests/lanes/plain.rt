@@ -2,14 +2,6 @@
 
 use super::*;
 
-/// Adds all events of a change. When it ends.
-fn add_events(rt: &impl Abort, all: &mut Vec<Event>, mut runner: Runner<'_>) -> u64 {
-    while let Some(event) = runner.next() {
-        all.push(event).ok().expect(rt, "memory");
-    }
-    runner.ended_at()
-}
-
 /// All events: each change begins in the lane that is free first, and what it reports is made at once. In the end all
 /// is sorted by moment and lane; what a lane reports at one moment keeps its order.
 pub(super) fn plain_events(
