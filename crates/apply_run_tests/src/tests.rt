@@ -105,18 +105,12 @@ fn options(workers: u8, capacity: u16) -> Options {
 
 /// What stands before the first mark, and what behind it.
 fn parted<'a>(rt: &impl Abort, text: &'a str, mark: &str) -> (&'a str, &'a str) {
-    match text.split_once(mark) {
-        Some(parts) => parts,
-        None => panic!(rt; "no {mark:?} in {text}"),
-    }
+    text.split_once(mark).expect(rt, mark)
 }
 
 /// A plan that has to be accepted.
 fn plan_of(rt: &impl Abort, alloc: Global, text: &str) -> Plan {
-    match read_plan(alloc, text.as_bytes()) {
-        Ok(plan) => plan,
-        Err(error) => panic!(rt; "{text}: {error}"),
-    }
+    read_plan(alloc, text.as_bytes()).ok().expect(rt, text)
 }
 
 /// A script that has to be accepted, or the empty one.
@@ -124,10 +118,8 @@ fn script_of(rt: &impl Abort, alloc: Global, text: &str, plan: &Plan) -> Script 
     if text == NO_SCRIPT {
         return Script::empty();
     }
-    match read_script(alloc, text.as_bytes(), plan) {
-        Ok(script) => script,
-        Err(error) => panic!(rt; "{text}: {error}"),
-    }
+    let script = read_script(alloc, text.as_bytes(), plan);
+    script.ok().expect(rt, text)
 }
 
 /// A sink with room for whatever comes.
@@ -139,10 +131,7 @@ fn memory(alloc: Global) -> MemorySink
 
 /// What the sink has, as text.
 fn text_of<'a>(rt: &impl Abort, sink: &'a MemorySink) -> &'a str {
-    match str::from_utf8(sink.bytes()) {
-        Ok(text) => text,
-        Err(_) => panic!(rt; "the stream is no text"),
-    }
+    str::from_utf8(sink.bytes()).ok().expect(rt, "a text")
 }
 
 /// The bytes of a script, where there is one.
@@ -178,17 +167,15 @@ fn applied<R: Threads + Wait + Sync + Abort>(
 ) -> MemorySink {
     let script = script_bytes(script);
     let (sink, result) = apply_into_memory(rt, alloc, plan, script, registry, options);
-    match result {
-        Ok(report) => has_taken(rt, &sink, report.written),
-        Err(refusal) => panic!(rt; "{plan}: {refusal}"),
-    }
+    let report = result.ok().expect(rt, plan);
+    has_taken(rt, &sink, report.written);
     number_is(rt, "failed writes", sink.failures(), 0);
     sink
 }
 
 /// Fails where the sink has not as many bytes as are told.
 fn has_taken(rt: &impl Abort, sink: &MemorySink, written: u128) {
-    assert_eq!(rt; written, sink.bytes().len() as u128);
+    assert!(rt; written == sink.bytes().len() as u128);
 }
 
 /// Fails where the stream of both texts under the hooks is not these lines.
@@ -204,6 +191,21 @@ fn stream_is<R: Threads + Wait + Sync + Abort>(
 ) {
     let sink = applied(rt, alloc, plan, script, registry, options);
     lines_are(rt, name, text_of(rt, &sink), wanted);
+}
+
+/// The same of the whole text, without hooks.
+fn writes<R: Threads + Wait + Sync + Abort>(
+    rt: &R,
+    alloc: Global,
+    name: &str,
+    plan: &str,
+    script: &str,
+    options: Options,
+    wanted: &str,
+) {
+    let registry = Registry::new(alloc);
+    let sink = applied(rt, alloc, plan, script, &registry, options);
+    text_is(rt, name, text_of(rt, &sink), wanted);
 }
 
 /// Reads both texts and applies them, without hooks.
@@ -283,7 +285,7 @@ fn passes_of<R: Threads + Wait + Sync + Abort>(rt: &R, alloc: Global, registry: 
         memory(alloc),
         &gate,
     );
-    assert!(rt; result.is_ok());
+    holds(rt, "an end that is well", result.is_ok());
     gate.passes.load(Ordering::SeqCst)
 }
 
@@ -291,27 +293,32 @@ fn passes_of<R: Threads + Wait + Sync + Abort>(rt: &R, alloc: Global, registry: 
 fn number_is(rt: &impl Abort, name: &str, found: u64, wanted: u64)
     ensures { found ≡ wanted }
 {
-    assert_eq!(rt; found, wanted, "{name}");
+    assert!(rt; found == wanted, "{name}: {found}, not {wanted}");
+}
+
+/// Fails where it is not so.
+fn holds(rt: &impl Abort, name: &str, is_so: bool) {
+    assert!(rt; is_so, "{name}");
 }
 
 /// Fails where the text is another.
 fn text_is(rt: &impl Abort, name: &str, found: &str, wanted: &str) {
-    assert_eq!(rt; found, wanted, "{name}");
+    assert!(rt; found == wanted, "{name}: {found}");
 }
 
 /// Fails where the bytes are others.
 fn bytes_are(rt: &impl Abort, found: &[u8], wanted: &[u8]) {
-    assert_eq!(rt; found, wanted);
+    assert!(rt; found == wanted);
 }
 
 /// Fails where other steps were counted.
 fn counts_are(rt: &impl Abort, found: Counts, wanted: Counts) {
-    assert_eq!(rt; found, wanted);
+    assert!(rt; found == wanted, "{found:?}");
 }
 
 /// Fails where a flush ended otherwise.
 fn flush_is(rt: &impl Abort, found: Result<(), SinkFault>, wanted: Result<(), SinkFault>) {
-    assert_eq!(rt; found, wanted);
+    assert!(rt; found == wanted);
 }
 
 /// Counts of steps, none of them halted.

@@ -1,21 +1,18 @@
 //! Diagnostics: they stand behind all other lines, before the summary, in the order in which they were taken.
 
-use super::lines::contains;
 use super::*;
 
 #[test]
 fn a_failure_is_told_behind_what_goes_on(rt: HostRuntime) {
-    let alloc = rt.alloc();
-    let registry = Registry::new(alloc);
-    let sink = applied(
+    writes(
         &rt,
-        alloc,
+        rt.alloc(),
+        "first fails",
         TWO_CREATES,
         FIRST_FAILS,
-        &registry,
         options(1, 64),
+        FIRST_FAILS_STREAM,
     );
-    text_is(&rt, "first fails", text_of(&rt, &sink), FIRST_FAILS_STREAM);
 }
 
 /// A replacement that destroys first.
@@ -39,17 +36,15 @@ const FIRST_WARNS_STREAM: &str =
 
 #[test]
 fn a_warning_is_told_behind_the_next_step(rt: HostRuntime) {
-    let alloc = rt.alloc();
-    let registry = Registry::new(alloc);
-    let sink = applied(
+    writes(
         &rt,
-        alloc,
+        rt.alloc(),
+        "first warns",
         REPLACEMENT,
         FIRST_WARNS,
-        &registry,
         options(1, 64),
+        FIRST_WARNS_STREAM,
     );
-    text_is(&rt, "first warns", text_of(&rt, &sink), FIRST_WARNS_STREAM);
 }
 
 /// Eight replacements.
@@ -70,12 +65,18 @@ fn diagnostics_of(text: &str) -> u64 {
     text.lines().filter(|line| is_diagnostic(line)).count() as u64
 }
 
+/// Fails where the line is neither a diagnostic nor the summary, and stands behind a diagnostic.
+fn may_stand_behind(rt: &impl Abort, above: &str, line: &str) {
+    if is_diagnostic(above) {
+        let is_summary = line.contains(r#""type":"change_summary""#);
+        holds(rt, line, is_diagnostic(line) || is_summary);
+    }
+}
+
 /// Fails where another line than the summary stands behind a diagnostic.
 fn diagnostics_stand_last(rt: &impl Abort, text: &str) {
     for (above, line) in text.lines().zip(text.lines().skip(1)) {
-        if is_diagnostic(above) && !is_diagnostic(line) {
-            contains(rt, line, r#""type":"change_summary""#);
-        }
+        may_stand_behind(rt, above, line);
     }
 }
 

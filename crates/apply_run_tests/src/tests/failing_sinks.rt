@@ -22,9 +22,22 @@ fn failed(counts: Counts, taken: u64, written: usize) -> Result<Report, Fault> {
     })
 }
 
-/// Fails where the run ended otherwise.
-fn end_is(rt: &impl Abort, found: Result<Report, Fault>, wanted: Result<Report, Fault>) {
-    assert_eq!(rt; found, wanted);
+/// Fails where the bytes are not the first ones of the stream, so many.
+pub(super) fn is_cut_off(rt: &impl Abort, found: &[u8], stream: &str, room: usize) {
+    assert!(rt;
+        Some(found) == stream.as_bytes().get(..room),
+        "{room} bytes"
+    );
+}
+
+/// Fails where the run into a sink with room for so many bytes ended otherwise.
+fn end_is(
+    rt: &impl Abort,
+    room: usize,
+    found: Result<Report, Fault>,
+    wanted: Result<Report, Fault>,
+) {
+    assert!(rt; found == wanted, "{room} bytes");
 }
 
 /// Applies one create into the sink.
@@ -61,10 +74,10 @@ fn short_and_full_sinks(rt: HostRuntime) {
     let alloc = rt.alloc();
     let short = MemorySink::new(alloc, 7, None);
     let result = create_into_memory(&rt, alloc, short, ONE_CREATE_STREAM, 0);
-    assert!(rt; result.is_ok());
+    holds(&rt, "an end that is well", result.is_ok());
     let full = MemorySink::new(alloc, 1000, Some(100));
     let result = create_into_memory(&rt, alloc, full, A_HUNDRED_BYTES, 1);
-    end_is(&rt, result, failed(counts(1, 0, 0, 0), 2, 100));
+    end_is(&rt, 100, result, failed(counts(1, 0, 0, 0), 2, 100));
 }
 
 /// Says that it took nothing.
@@ -84,7 +97,7 @@ impl Write for Idle {
 #[test]
 fn ok_of_nothing(rt: HostRuntime) {
     let (sink, result) = create_into(&rt, rt.alloc(), 1, StdSink::new(Idle));
-    end_is(&rt, result, failed(counts(1, 0, 0, 0), 2, 0));
+    end_is(&rt, 0, result, failed(counts(1, 0, 0, 0), 2, 0));
     number_is(&rt, "failed writes", sink.failures(), 1);
 }
 
@@ -92,7 +105,7 @@ fn ok_of_nothing(rt: HostRuntime) {
 fn into_a_writer(rt: HostRuntime) {
     let sink = StdSink::new(Vec::new(rt.alloc()));
     let (mut sink, result) = create_into(&rt, rt.alloc(), 8, sink);
-    assert!(rt; result.is_ok());
+    holds(&rt, "an end that is well", result.is_ok());
     number_is(&rt, "failed writes", sink.failures(), 0);
     flush_is(&rt, sink.flush(), Ok(()));
     let bytes = sink.into_inner();
@@ -232,14 +245,8 @@ fn takes_so_many<R: Threads + Wait + Sync + Abort>(
     let sink = MemorySink::new(alloc, per_write, Some(room));
     let options = options(workers, 64);
     let (sink, result) = apply_texts(rt, alloc, run.plan, run.script, options, sink, &NoGate);
-    is_cut_off(rt, run, sink.bytes(), room);
+    is_cut_off(rt, sink.bytes(), run.stream, room);
     fails_once_cut_off(rt, run, result, sink.failures(), room);
-}
-
-/// Fails where the bytes are not the first ones of the stream, so many.
-fn is_cut_off(rt: &impl Abort, run: &Run, found: &[u8], room: usize) {
-    let whole = run.stream.as_bytes();
-    assert!(rt; Some(found) == whole.get(..room), "{room} bytes");
 }
 
 /// Fails where a run with room for so many bytes ended otherwise than it has to, or other writes failed.
@@ -251,10 +258,10 @@ fn fails_once_cut_off(
     room: usize,
 ) {
     if room < run.stream.len() {
-        end_is(rt, end, failed(run.counts, run.taken, room));
+        end_is(rt, room, end, failed(run.counts, run.taken, room));
         assert!(rt; failures == 1, "{room} bytes, {failures} failed writes");
     } else {
-        assert!(rt; end.is_ok());
+        assert!(rt; end.is_ok(), "{room} bytes");
         number_is(rt, "failed writes", failures, 0);
     }
 }

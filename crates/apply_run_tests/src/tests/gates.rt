@@ -78,14 +78,18 @@ fn begin_of(passed: u64, change: u32) -> usize {
     }
 }
 
-/// The moment of the line of the stream that has the part, and of the line above it.
+/// How the moment ends at which its worker has ended them.
+fn own_begin_of(passed: u64, change: u32) -> &'static str {
+    let begin = begin_of(passed, change);
+    DIGITS.split_whitespace().nth(begin).unwrap_or("")
+}
+
+/// The moment of the first line of the stream that has the part, and of the line above it: a line has its moment behind its
+/// message.
 fn moments_at<'a>(rt: &impl Abort, text: &'a str, part: &str) -> (&'a str, &'a str) {
-    for (above, line) in text.lines().zip(text.lines().skip(1)) {
-        if line.contains(part) {
-            return (moment_of(rt, above), moment_of(rt, line));
-        }
-    }
-    panic!(rt; "no line with {part}");
+    let (above, line) = parted(rt, text, part);
+    let (_, rest) = above.rsplit_once(r#""@timestamp":""#).expect(rt, part);
+    (parted(rt, rest, r#"",""#).0, moment_of(rt, line))
 }
 
 /// The seconds of a moment in the first minute of 1970.
@@ -105,10 +109,7 @@ fn was_begun_by_its_worker(
 ) {
     let worker = worker_of(passed, change);
     assert!(rt; 1 <= worker && worker <= workers, "{message} {passed:x}");
-    let own = DIGITS
-        .split_whitespace()
-        .nth(begin_of(passed, change))
-        .unwrap_or("");
+    let own = own_begin_of(passed, change);
     let (above, found) = moments_at(rt, text, message);
     let (above, found) = (seconds_of(rt, above), seconds_of(rt, found));
     let wanted = if own < above { above } else { own };

@@ -1,107 +1,210 @@
-//! Hooks that halt steps.
+//! Hooks that halt steps: whole streams, what is told of the run, and which steps pass the gate.
 
+ghost use Rattle.std.specs.Prelude.{◌≡◌};
+ghost use Rattle.apply_hooks.specs.HookCall.{call_of};
+ghost use Rattle.apply_hooks.specs.HookClosure.{AnswersAs};
+ghost use Rattle.apply_hooks.specs.Rules.{verdict_of};
+ghost use Rattle.apply_run_tests.specs.Halting.{halting};
+
+use super::reports::{report_is, whole};
 use super::*;
 use apply_hooks::{FnHook, HookCall, HookClosure, Phase, Rules, Verdict};
 use apply_plan::StepKind;
 
 /// A replacement that destroys first.
-pub(super) const REPLACEMENT: &str =
+const REPLACEMENT: &str =
     r#"{"format_version":"1.2","terraform_version":"1.9.0","resource_changes":[{"address":"null_resource.a","mode":"managed","type":"null_resource","name":"a","change":{"actions":["delete","create"]}}]}"#;
 
 /// Its stream where the second of three hooks is the first to halt it.
-pub(super) const HALTED_REPLACEMENT: &str =
+const HALTED_REPLACEMENT: &str =
     r#"{"@level":"info","@message":"Terraform 1.9.0","@module":"terraform.ui","@timestamp":"1970-01-01T00:00:00Z","terraform":"1.9.0","type":"version","ui":"1.0"}
 {"@level":"error","@message":"Error: execution halted","@module":"terraform.ui","@timestamp":"1970-01-01T00:00:00Z","diagnostic":{"address":"null_resource.a","detail":"Hook 1 answered Halt before delete.","severity":"error","summary":"execution halted"},"type":"diagnostic"}
-{"@level":"info","@message":"Apply complete! Resources: 0 added, 0 changed, 0 destroyed.","@module":"terraform.ui","@timestamp":"1970-01-01T00:00:00Z","changes":{"add":0,"change":0,"operation":"apply","remove":0},"type":"change_summary"}"#;
+{"@level":"info","@message":"Apply complete! Resources: 0 added, 0 changed, 0 destroyed.","@module":"terraform.ui","@timestamp":"1970-01-01T00:00:00Z","changes":{"add":0,"change":0,"operation":"apply","remove":0},"type":"change_summary"}
+"#;
 
 /// A create.
-pub(super) const CREATE: &str =
+const CREATE: &str =
     r#"{"format_version":"1.2","terraform_version":"1.9.0","resource_changes":[{"address":"null_resource.a","mode":"managed","type":"null_resource","name":"a","change":{"actions":["create"]}}]}"#;
 
 /// It fails after 5 seconds.
-pub(super) const FAILS: &str =
+const FAILS: &str =
     r#"{"changes":[{"address":"null_resource.a","steps":[{"seconds":5,"failed":{"summary":"boom"}}]}]}"#;
 
 /// Its stream where a hook halts what has failed.
-pub(super) const HALTED_CREATE: &str =
+const HALTED_CREATE: &str =
     r#"{"@level":"info","@message":"Terraform 1.9.0","@module":"terraform.ui","@timestamp":"1970-01-01T00:00:00Z","terraform":"1.9.0","type":"version","ui":"1.0"}
 {"@level":"info","@message":"null_resource.a: Creating...","@module":"terraform.ui","@timestamp":"1970-01-01T00:00:00Z","hook":{"action":"create","resource":{"addr":"null_resource.a","implied_provider":"null","module":"","resource":"null_resource.a","resource_key":null,"resource_name":"a","resource_type":"null_resource"}},"type":"apply_start"}
 {"@level":"info","@message":"null_resource.a: Creation errored after 5s","@module":"terraform.ui","@timestamp":"1970-01-01T00:00:05Z","hook":{"action":"create","elapsed_seconds":5,"resource":{"addr":"null_resource.a","implied_provider":"null","module":"","resource":"null_resource.a","resource_key":null,"resource_name":"a","resource_type":"null_resource"}},"type":"apply_errored"}
 {"@level":"error","@message":"Error: boom","@module":"terraform.ui","@timestamp":"1970-01-01T00:00:05Z","diagnostic":{"address":"null_resource.a","detail":"","severity":"error","summary":"boom"},"type":"diagnostic"}
 {"@level":"error","@message":"Error: execution halted","@module":"terraform.ui","@timestamp":"1970-01-01T00:00:05Z","diagnostic":{"address":"null_resource.a","detail":"Hook 0 answered Halt after failed create.","severity":"error","summary":"execution halted"},"type":"diagnostic"}
-{"@level":"info","@message":"Apply complete! Resources: 0 added, 0 changed, 0 destroyed.","@module":"terraform.ui","@timestamp":"1970-01-01T00:00:05Z","changes":{"add":0,"change":0,"operation":"apply","remove":0},"type":"change_summary"}"#;
+{"@level":"info","@message":"Apply complete! Resources: 0 added, 0 changed, 0 destroyed.","@module":"terraform.ui","@timestamp":"1970-01-01T00:00:05Z","changes":{"add":0,"change":0,"operation":"apply","remove":0},"type":"change_summary"}
+"#;
 
-/// Two hooks halt each delete before it begins. The one in front of them has no rules.
-#[test]
-fn hooks_halt(rt: HostRuntime) -> Result<(), Fail> {
-    let alloc = rt.alloc();
-    let mut registry = Registry::new(alloc);
-    let answer: HookClosure = Box::new(alloc, |_call: &HookCall<'_>| Verdict::Continue)?;
-    assert!(rt; registry.add(FnHook::new(Rules::new(alloc), answer)).is_ok());
-    for _ in 1..3 {
-        let rules = Rules::halting(alloc, Some(Phase::Pre), Some(StepKind::Delete), "")?;
-        let answer: HookClosure = Box::new(alloc, |call: &HookCall<'_>| {
-            if call.phase == Phase::Pre && call.kind == StepKind::Delete {
-                Verdict::Halt
-            } else {
-                Verdict::Continue
-            }
-        })?;
-        assert!(rt; registry.add(FnHook::new(rules, answer)).is_ok());
+/// A run under hooks, of which so many have no rules and so many behind them halt steps of that kind in that phase, and
+/// what comes of it.
+#[derive(Drop)]
+struct Case {
+    quiet: u8,
+    halting: u8,
+    phase: Phase,
+    kind: Option<StepKind>,
+    plan: &'static str,
+    script: &'static str,
+    stream: &'static str,
+    counts: Counts,
+    taken: u64,
+    passes: u64,
+}
+
+/// A list of one rule, which halts steps of that kind in that phase, or of each kind.
+fn halting(rt: &impl Abort, alloc: Global, phase: Phase, kind: Option<StepKind>) -> Rules
+    ensures { result ≡ halting phase kind }
+{
+    Rules::halting(alloc, Some(phase), kind, "").expect(rt, "memory")
+}
+
+/// What the closure of a hook with that rule answers.
+fn halts(call: &HookCall<'_>, phase: Phase, kind: Option<StepKind>) -> Verdict
+    ensures { result ≡ verdict_of (halting phase kind) (call_of call.now) }
+{
+    let of_kind = match kind {
+        Some(kind) => call.kind == kind,
+        None => true,
+    };
+    if call.phase == phase && of_kind {
+        Verdict::Halt
+    } else {
+        Verdict::Continue
     }
-    stream_is(
-        &rt,
-        alloc,
-        REPLACEMENT,
-        REPLACEMENT,
-        NO_SCRIPT,
-        &registry,
-        options(1, 64),
-        HALTED_REPLACEMENT,
-    );
-    Ok(())
 }
 
-/// A step passes the gate before a hook halts it, and the next step of that change never does.
-#[test]
-fn halted_steps_pass_the_gate(rt: HostRuntime) -> Result<(), Fail> {
-    let alloc = rt.alloc();
-    let mut registry = Registry::new(alloc);
-    let rules = Rules::halting(alloc, Some(Phase::Pre), Some(StepKind::Delete), "")?;
-    let answer: HookClosure = Box::new(alloc, |call: &HookCall<'_>| {
-        if call.phase == Phase::Pre && call.kind == StepKind::Delete {
-            Verdict::Halt
-        } else {
-            Verdict::Continue
-        }
-    })?;
-    assert!(rt; registry.add(FnHook::new(rules, answer)).is_ok());
-    number_is(&rt, "passes", passes_of(&rt, alloc, &registry), 0x13);
-    Ok(())
+/// Adds a hook of that closure, which answers as the rules do.
+fn add_hook(rt: &impl Abort, registry: &mut Registry, rules: Rules, answer: HookClosure)
+    requires { AnswersAs (pre answer) (post answer) rules }
+{
+    let added = registry.add(FnHook::new(rules, answer));
+    holds(rt, "a hook was added", added.is_ok());
 }
 
-#[test]
-fn hooks_halt_what_has_failed(rt: HostRuntime) -> Result<(), Fail> {
-    let alloc = rt.alloc();
+/// Fails where one worker writes another text under the hooks, or tells otherwise of the run, or where other steps pass
+/// the gate while it applies the replacement and the create.
+fn ends_so<R: Threads + Wait + Sync + Abort>(
+    rt: &R,
+    alloc: Global,
+    registry: &Registry,
+    case: &Case,
+) {
+    let script = script_bytes(case.script);
+    let options = options(1, 64);
+    let (sink, found) = apply_into_memory(rt, alloc, case.plan, script, registry, options);
+    text_is(rt, case.plan, text_of(rt, &sink), case.stream);
+    number_is(rt, "failed writes", sink.failures(), 0);
+    let wanted = whole(case.counts, case.taken, case.stream.len());
+    report_is(rt, case.plan, found, wanted);
+    number_is(rt, "passes", passes_of(rt, alloc, registry), case.passes);
+}
+
+/// The same with the hooks of the case.
+fn halts_so<R: Threads + Wait + Sync + Abort>(rt: &R, alloc: Global, case: &Case) {
     let mut registry = Registry::new(alloc);
-    let rules = Rules::halting(alloc, Some(Phase::PostFailed), None, "")?;
-    let answer: HookClosure = Box::new(alloc, |call: &HookCall<'_>| {
-        if call.phase == Phase::PostFailed {
-            Verdict::Halt
-        } else {
-            Verdict::Continue
-        }
-    })?;
-    assert!(rt; registry.add(FnHook::new(rules, answer)).is_ok());
-    stream_is(
-        &rt,
-        alloc,
-        CREATE,
-        CREATE,
-        FAILS,
-        &registry,
-        options(1, 64),
-        HALTED_CREATE,
-    );
-    Ok(())
+    let (phase, kind) = (case.phase, case.kind);
+    for _ in 0..case.quiet {
+        let answer: HookClosure = Box::new(alloc, |_call: &HookCall<'_>| Verdict::Continue).expect(
+            rt, "memory",
+        );
+        add_hook(rt, &mut registry, Rules::new(alloc), answer);
+    }
+    for _ in 0..case.halting {
+        let rules = halting(rt, alloc, phase, kind);
+        let answer: HookClosure = Box::new(alloc, move |call: &HookCall<'_>| {
+            halts(call, phase, kind)
+        })
+        .expect(rt, "memory");
+        add_hook(rt, &mut registry, rules, answer);
+    }
+    ends_so(rt, alloc, &registry, case);
+}
+
+/// Counts of steps that failed, and one halt.
+fn halted(failed: u64) -> Counts {
+    Counts {
+        added: 0,
+        changed: 0,
+        removed: 0,
+        failed,
+        halted: 1,
+    }
+}
+
+/// Two hooks halt each delete before it begins. The one in front of them has no rules. The halt is the only event.
+#[test]
+fn hooks_halt(rt: HostRuntime) {
+    let case = Case {
+        quiet: 1,
+        halting: 2,
+        phase: Phase::Pre,
+        kind: Some(StepKind::Delete),
+        plan: REPLACEMENT,
+        script: NO_SCRIPT,
+        stream: HALTED_REPLACEMENT,
+        counts: halted(0),
+        taken: 1,
+        passes: 0x13,
+    };
+    halts_so(&rt, rt.alloc(), &case);
+}
+
+/// A hook halts each step before it begins.
+#[test]
+fn report_of_a_halt(rt: HostRuntime) {
+    let case = Case {
+        quiet: 1,
+        halting: 1,
+        phase: Phase::Pre,
+        kind: None,
+        plan: REPLACEMENT,
+        script: NO_SCRIPT,
+        stream: HALTED_REPLACEMENT,
+        counts: halted(0),
+        taken: 1,
+        passes: 0x13,
+    };
+    halts_so(&rt, rt.alloc(), &case);
+}
+
+/// A step passes the gate before a hook halts it, and the next step of that change never does. A create goes on.
+#[test]
+fn halted_steps_pass_the_gate(rt: HostRuntime) {
+    let case = Case {
+        quiet: 0,
+        halting: 1,
+        phase: Phase::Pre,
+        kind: Some(StepKind::Delete),
+        plan: ONE_CREATE,
+        script: NO_SCRIPT,
+        stream: ONE_CREATE_STREAM,
+        counts: counts(1, 0, 0, 0),
+        taken: 2,
+        passes: 0x13,
+    };
+    halts_so(&rt, rt.alloc(), &case);
+}
+
+/// A hook halts what has failed: the start, the failure with its diagnostic, and the halt. Where nothing fails, all steps
+/// pass the gate.
+#[test]
+fn hooks_halt_what_has_failed(rt: HostRuntime) {
+    let case = Case {
+        quiet: 0,
+        halting: 1,
+        phase: Phase::PostFailed,
+        kind: None,
+        plan: CREATE,
+        script: FAILS,
+        stream: HALTED_CREATE,
+        counts: halted(1),
+        taken: 4,
+        passes: 0x123,
+    };
+    halts_so(&rt, rt.alloc(), &case);
 }

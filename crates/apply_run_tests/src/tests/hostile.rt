@@ -64,7 +64,7 @@ fn is_answered<R: Threads + Wait + Sync + Abort>(
     let options = options(2, 1);
     let (sink, result) = apply_bytes(rt, alloc, plan, script, &registry, options, sink, &NoGate);
     match result {
-        Ok(_) => assert_eq!(rt; "applied", wanted),
+        Ok(_) => text_is(rt, "answer", "applied", wanted),
         Err(refusal) => is_refused(rt, alloc, refusal, sink.bytes(), wanted),
     }
 }
@@ -72,39 +72,47 @@ fn is_answered<R: Threads + Wait + Sync + Abort>(
 /// Fails where the refusal has another text, or something was written.
 fn is_refused(rt: &impl Abort, alloc: Global, refusal: Refusal, written: &[u8], wanted: &str) {
     let text = refusal.to_string(alloc).expect(rt, "memory");
-    assert_eq!(rt; text.as_str(), wanted);
-    assert!(rt; written.is_empty(), "{wanted}");
+    text_is(rt, "answer", text.as_str(), wanted);
+    holds(rt, wanted, written.is_empty());
 }
 
-/// Fails where a row's plan is answered otherwise.
-fn plans_are_answered<R: Threads + Wait + Sync + Abort>(
+/// Fails where both texts, with the cell of the row in its place, are answered otherwise.
+fn row_is_answered<R: Threads + Wait + Sync + Abort>(
     rt: &R,
     alloc: Global,
     plan: &str,
+    script: &str,
+    row: &str,
+) {
+    let (cell, wanted) = parted(rt, row, " => ");
+    let plan = with_cell(rt, alloc, plan, cell);
+    let script = with_cell(rt, alloc, script, cell);
+    let script = script_bytes(script.as_str());
+    is_answered(rt, alloc, plan.as_bytes(), script, wanted);
+}
+
+/// Fails where a row of the table is answered otherwise.
+fn rows_are_answered<R: Threads + Wait + Sync + Abort>(
+    rt: &R,
+    alloc: Global,
+    plan: &str,
+    script: &str,
     table: &str,
 ) {
     for row in table.lines() {
-        let (cell, wanted) = parted(rt, row, " => ");
-        let text = with_cell(rt, alloc, plan, cell);
-        is_answered(rt, alloc, text.as_bytes(), None, wanted);
+        row_is_answered(rt, alloc, plan, script, row);
     }
 }
 
 #[test]
 fn hostile_plans_are_answered(rt: HostRuntime) {
-    plans_are_answered(&rt, rt.alloc(), TOP, TOPS);
-    plans_are_answered(&rt, rt.alloc(), NAMED, NAMES);
+    rows_are_answered(&rt, rt.alloc(), TOP, NO_SCRIPT, TOPS);
+    rows_are_answered(&rt, rt.alloc(), NAMED, NO_SCRIPT, NAMES);
 }
 
 #[test]
 fn hostile_scripts_are_answered(rt: HostRuntime) {
-    let alloc = rt.alloc();
-    for row in STEPS.lines() {
-        let (cell, wanted) = parted(&rt, row, " => ");
-        let script = with_cell(&rt, alloc, STEP, cell);
-        let script = Some(script.as_bytes());
-        is_answered(&rt, alloc, ONE_CREATE.as_bytes(), script, wanted);
-    }
+    rows_are_answered(&rt, rt.alloc(), ONE_CREATE, STEP, STEPS);
 }
 
 #[test]

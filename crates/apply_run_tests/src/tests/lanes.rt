@@ -2,6 +2,8 @@
 
 ghost use Rattle.std.specs.Prelude.{◌<◌, ◌≤◌, ◌-◌, ◌^◌};
 
+use super::failing_sinks::is_cut_off;
+use super::refusals::{is_untouched, refusal_is};
 use super::*;
 
 /// Applies what both texts say in so many lanes.
@@ -41,10 +43,8 @@ pub(super) fn written_in_lanes(
 ) -> MemorySink {
     let sink = memory(alloc);
     let (sink, result) = apply_texts_in_lanes(alloc, plan, script, lanes, operation, sink);
-    match result {
-        Ok(report) => has_taken(rt, &sink, report.written),
-        Err(refusal) => panic!(rt; "{plan}: {refusal}"),
-    }
+    let report = result.ok().expect(rt, plan);
+    has_taken(rt, &sink, report.written);
     number_is(rt, "failed writes", sink.failures(), 0);
     sink
 }
@@ -74,21 +74,37 @@ fn tells(rt: &impl Abort, line: &str, wanted: &str) {
     let (_, time) = parted(rt, moment_of(rt, line), "T");
     let (_, rest) = parted(rt, line, r#""@message":""#);
     let (message, _) = parted(rt, rest, r#"","@module""#);
-    assert!(rt;
-        parted(rt, wanted, " ") == (time, message),
-        "{line} and not {wanted}"
-    );
+    let (wanted_time, wanted_message) = parted(rt, wanted, " ");
+    text_is(rt, line, time, wanted_time);
+    text_is(rt, line, message, wanted_message);
+}
+
+/// Fails where a line of the text has another time of the day, or another message.
+fn all_tell(rt: &impl Abort, text: &str, wanted: &str) {
+    number_is(rt, "lines", lines_of(text), lines_of(wanted));
+    for (line, wanted) in text.lines().zip(wanted.lines()) {
+        tells(rt, line, wanted);
+    }
 }
 
 #[test]
 fn lines_have_the_moments_of_their_events(rt: HostRuntime) {
     let (plan, script) = (THREE_CREATES, TWELVE_AND_THREE);
     let sink = written_in_lanes(&rt, rt.alloc(), plan, script, 2, Operation::Apply);
-    let text = text_of(&rt, &sink);
-    number_is(&rt, "lines", lines_of(text), lines_of(TWO_LANES));
-    for (line, wanted) in text.lines().zip(TWO_LANES.lines()) {
-        tells(&rt, line, wanted);
-    }
+    all_tell(&rt, text_of(&rt, &sink), TWO_LANES);
+}
+
+/// Fails where one lane writes another text.
+fn one_lane_writes(
+    rt: &impl Abort,
+    alloc: Global,
+    plan: &str,
+    script: &str,
+    operation: Operation,
+    wanted: &str,
+) {
+    let sink = written_in_lanes(rt, alloc, plan, script, 1, operation);
+    text_is(rt, "one lane", text_of(rt, &sink), wanted);
 }
 
 /// One lane writes what one worker does.
@@ -96,39 +112,36 @@ fn lines_have_the_moments_of_their_events(rt: HostRuntime) {
 fn one_lane_is_one_worker(rt: HostRuntime) {
     let alloc = rt.alloc();
     let (plan, script) = (FAILED_DESTROY, FAILED_DESTROY_SCRIPT);
-    let sink = written_in_lanes(&rt, alloc, plan, script, 1, Operation::Apply);
-    text_is(&rt, "one lane", text_of(&rt, &sink), FAILED_DESTROY_STREAM);
+    let operation = Operation::Apply;
+    one_lane_writes(&rt, alloc, plan, script, operation, FAILED_DESTROY_STREAM);
     let (plan, script) = (THREE_CREATES, TWELVE_AND_THREE);
-    let sink = written_in_lanes(&rt, alloc, plan, script, 1, Operation::Destroy);
-    let registry = Registry::new(alloc);
     let mut options = options(1, 64);
     options.operation = Operation::Destroy;
-    let wanted = applied(&rt, alloc, plan, script, &registry, options);
-    text_is(
-        &rt,
-        "one worker",
-        text_of(&rt, &sink),
-        text_of(&rt, &wanted),
-    );
+    let sink = applied(&rt, alloc, plan, script, &Registry::new(alloc), options);
+    let (operation, wanted) = (Operation::Destroy, text_of(&rt, &sink));
+    one_lane_writes(&rt, alloc, plan, script, operation, wanted);
 }
 
-/// A plan and a script that were read, and what was done.
-#[test]
-fn a_plan_that_was_read_in_lanes(rt: HostRuntime) {
-    let alloc = rt.alloc();
-    let plan = plan_of(&rt, alloc, ONE_CREATE);
-    let script = Script::empty();
-    let registry = Registry::new(alloc);
-    let (sink, result) = apply_in_lanes(
+/// What 64 lanes make of a plan that was read, without a script.
+fn applied_in_lanes(alloc: Global, plan: &Plan) -> (MemorySink, Result<Report, Fault>) {
+    let (script, registry) = (Script::empty(), Registry::new(alloc));
+    apply_in_lanes(
         alloc,
-        &plan,
+        plan,
         &script,
         &registry,
         64,
         Start::zero(),
         Operation::Apply,
         memory(alloc),
-    );
+    )
+}
+
+/// A plan and a script that were read, and what was done.
+#[test]
+fn a_plan_that_was_read_in_lanes(rt: HostRuntime) {
+    let alloc = rt.alloc();
+    let (sink, result) = applied_in_lanes(alloc, &plan_of(&rt, alloc, ONE_CREATE));
     text_is(&rt, "64 lanes", text_of(&rt, &sink), ONE_CREATE_STREAM);
     let report = report_of(&rt, result);
     counts_are(&rt, report.counts, counts(1, 0, 0, 0));
@@ -147,8 +160,8 @@ fn lanes_refuse(
 ) {
     let sink = memory(alloc);
     let (sink, result) = apply_texts_in_lanes(alloc, plan, script, lanes, Operation::Apply, sink);
-    assert_eq!(rt; result, Err(wanted), "{plan} {script} in {lanes} lanes");
-    assert!(rt; sink.bytes().is_empty(), "{plan} {script} in {lanes} lanes");
+    assert!(rt; result == Err(wanted), "{plan} {script} in {lanes} lanes");
+    is_untouched(rt, plan, script, &sink);
 }
 
 /// The plan is refused before the script, and the script before the number of lanes.
@@ -178,15 +191,17 @@ fn is_cut_off_in_lanes(rt: &impl Abort, alloc: Global, room: usize) {
     let sink = MemorySink::new(alloc, 7, Some(room));
     let (plan, script) = (FAILED_DESTROY, FAILED_DESTROY_SCRIPT);
     let (sink, result) = apply_texts_in_lanes(alloc, plan, script, 10, Operation::Apply, sink);
-    let whole = FAILED_DESTROY_STREAM.as_bytes();
-    assert!(rt; Some(sink.bytes()) == whole.get(..room), "{room} bytes");
-    assert!(rt; sink.failures() == 1, "{room} bytes");
+    is_cut_off(rt, sink.bytes(), FAILED_DESTROY_STREAM, room);
     let report = Report {
         counts: counts(1, 0, 0, 1),
         taken: 5,
         written: room as u128,
     };
     let why = Why::Write;
-    let wanted = Err(Refusal::Fault(Fault { why, report }));
-    assert_eq!(rt; result, wanted, "{room} bytes");
+    let wanted = Refusal::Fault(Fault { why, report });
+    let failures = sink.failures();
+    assert!(rt;
+        result == Err(wanted) && failures == 1,
+        "{room} bytes, {failures} failed writes"
+    );
 }

@@ -1,12 +1,13 @@
 //! Lines of streams: what they tell, their moments, and the lines of a change.
 
-use super::{number_is, parted, text_is};
+use super::{holds, number_is, parted, text_is};
 use std::process::Abort;
 use std::str::Lines;
 
 /// Fails where the text is not these lines, each with its line feed. The last of those that are wanted has none.
 pub(super) fn lines_are(rt: &impl Abort, name: &str, found: &str, wanted: &str) {
-    assert_eq!(rt; found.strip_suffix("\n"), Some(wanted), "{name}");
+    let lines = found.strip_suffix("\n").expect(rt, name);
+    text_is(rt, name, lines, wanted);
 }
 
 /// The line's moment.
@@ -28,7 +29,7 @@ pub(super) fn around_moment(line: &str) -> (&str, &str) {
 
 /// Fails where the line's moment is before that one.
 pub(super) fn not_before(rt: &impl Abort, line: &str, moment: &str) {
-    assert!(rt; moment_of(rt, line) >= moment, "{line}");
+    holds(rt, line, moment_of(rt, line) >= moment);
 }
 
 /// Fails where the moment of a line is before that of the line above it.
@@ -67,10 +68,10 @@ pub(super) fn lines_of_address_are(rt: &impl Abort, address: &str, found: &str, 
 
 /// Fails where the line is another; its moment may be.
 pub(super) fn line_is(rt: &impl Abort, found: &str, wanted: &str) {
-    assert!(rt;
-        around_moment(found) == around_moment(wanted),
-        "{found} and not {wanted}"
-    );
+    let (before, behind) = around_moment(wanted);
+    let (found_before, found_behind) = around_moment(found);
+    text_is(rt, wanted, found_before, before);
+    text_is(rt, wanted, found_behind, behind);
 }
 
 /// The next of the lines that tells the address; empty where none is left.
@@ -103,5 +104,5 @@ pub(super) fn lines_of(text: &str) -> u64 {
 
 /// Fails where the line has no such part.
 pub(super) fn contains(rt: &impl Abort, line: &str, part: &str) {
-    assert!(rt; line.contains(part), "no {part} in {line}");
+    holds(rt, line, line.contains(part));
 }

@@ -3,16 +3,6 @@
 use super::streams::options_of;
 use super::*;
 
-/// Fails where the line does not stand in the text.
-fn has_line(rt: &impl Abort, text: &str, wanted: &str) {
-    for line in text.lines() {
-        if line == wanted {
-            return;
-        }
-    }
-    panic!(rt; "no such line: {wanted}");
-}
-
 /// A plan with one update.
 const ONE_UPDATE: &str =
     r#"{"format_version":"1.2","terraform_version":"1.9.0","resource_changes":[{"address":"null_resource.a","mode":"managed","type":"null_resource","name":"a","change":{"actions":["update"]}}]}"#;
@@ -21,24 +11,18 @@ const ONE_UPDATE: &str =
 const AN_HOUR: &str = r#"{"changes":[{"address":"null_resource.a","steps":[{"seconds":3605}]}]}"#;
 
 /// The last two lines of its progress, and those behind them.
-const LINES_OF_AN_HOUR: &str =
-    r#"{"@level":"info","@message":"null_resource.a: Still modifying... [59m50s elapsed]","@module":"terraform.ui","@timestamp":"1970-01-01T00:59:50Z","hook":{"action":"update","elapsed_seconds":3590,"resource":{"addr":"null_resource.a","implied_provider":"null","module":"","resource":"null_resource.a","resource_key":null,"resource_name":"a","resource_type":"null_resource"}},"type":"apply_progress"}
+const LINES_OF_AN_HOUR: &str = r#"
+{"@level":"info","@message":"null_resource.a: Still modifying... [59m50s elapsed]","@module":"terraform.ui","@timestamp":"1970-01-01T00:59:50Z","hook":{"action":"update","elapsed_seconds":3590,"resource":{"addr":"null_resource.a","implied_provider":"null","module":"","resource":"null_resource.a","resource_key":null,"resource_name":"a","resource_type":"null_resource"}},"type":"apply_progress"}
 {"@level":"info","@message":"null_resource.a: Still modifying... [1h0m0s elapsed]","@module":"terraform.ui","@timestamp":"1970-01-01T01:00:00Z","hook":{"action":"update","elapsed_seconds":3600,"resource":{"addr":"null_resource.a","implied_provider":"null","module":"","resource":"null_resource.a","resource_key":null,"resource_name":"a","resource_type":"null_resource"}},"type":"apply_progress"}
 {"@level":"info","@message":"null_resource.a: Modifications complete after 1h0m5s","@module":"terraform.ui","@timestamp":"1970-01-01T01:00:05Z","hook":{"action":"update","elapsed_seconds":3605,"resource":{"addr":"null_resource.a","implied_provider":"null","module":"","resource":"null_resource.a","resource_key":null,"resource_name":"a","resource_type":"null_resource"}},"type":"apply_complete"}
-{"@level":"info","@message":"Apply complete! Resources: 0 added, 1 changed, 0 destroyed.","@module":"terraform.ui","@timestamp":"1970-01-01T01:00:05Z","changes":{"add":0,"change":1,"operation":"apply","remove":0},"type":"change_summary"}"#;
+{"@level":"info","@message":"Apply complete! Resources: 0 added, 1 changed, 0 destroyed.","@module":"terraform.ui","@timestamp":"1970-01-01T01:00:05Z","changes":{"add":0,"change":1,"operation":"apply","remove":0},"type":"change_summary"}
+"#;
 
 /// How many lines tell of progress.
 fn progress_of(text: &str) -> u64 {
     text.lines()
         .filter(|line| line.contains(r#","type":"apply_progress"}"#))
         .count() as u64
-}
-
-/// Fails where one of the lines does not stand in the text.
-fn has_lines(rt: &impl Abort, text: &str, wanted: &str) {
-    for line in wanted.lines() {
-        has_line(rt, text, line);
-    }
 }
 
 /// Its first two lines.
@@ -155,14 +139,6 @@ fn add_lines(
     }
 }
 
-/// Fails where the text is another: at its first line that is, or as a whole.
-fn whole_text_is(rt: &impl Abort, name: &str, found: &str, wanted: &str) {
-    for (line, other) in found.lines().zip(wanted.lines()) {
-        text_is(rt, name, line, other);
-    }
-    assert!(rt; found == wanted, "{name}: other lines behind, or none");
-}
-
 /// An hour's lines of progress, and four others.
 fn an_hour(rt: &impl Abort, alloc: Global) -> String {
     let mut text = String::from_str(alloc, BEGIN_OF_AN_HOUR).expect(rt, "memory");
@@ -179,8 +155,8 @@ fn hour_of_progress(rt: HostRuntime) {
     let text = text_of(&rt, &sink);
     number_is(&rt, "lines of progress", progress_of(text), 360);
     number_is(&rt, "lines", lines_of(text), 364);
-    has_lines(&rt, text, LINES_OF_AN_HOUR);
-    whole_text_is(&rt, "an hour", text, an_hour(&rt, alloc).as_str());
+    holds(&rt, "an end", text.ends_with(LINES_OF_AN_HOUR));
+    holds(&rt, "an hour", text == an_hour(&rt, alloc).as_str());
 }
 
 /// A plan with one create.
@@ -218,6 +194,6 @@ fn moments(rt: HostRuntime) {
     let options = options_of(&rt, "apply 8999-12-31T23:59:59Z");
     let sink = applied(&rt, alloc, NULL_CREATE, A_DAY, &registry, options);
     let text = text_of(&rt, &sink);
-    assert!(rt; text.ends_with(LINES_OF_A_DAY));
-    whole_text_is(&rt, "a day", text, a_day(&rt, alloc).as_str());
+    holds(&rt, "an end", text.ends_with(LINES_OF_A_DAY));
+    holds(&rt, "a day", text == a_day(&rt, alloc).as_str());
 }

@@ -22,7 +22,7 @@ fn script_error(rt: &impl Abort, name: &str) -> ScriptError {
         "BadShape(Some(0))" => ScriptError::BadShape(Some(0)),
         "BadShape(None)" => ScriptError::BadShape(None),
         "NotJson" => ScriptError::NotJson,
-        _ => panic!(rt; "no refusal: {name}"),
+        _ => rt.panic(name),
     }
 }
 
@@ -55,21 +55,26 @@ fn refuses_bytes<R: Threads + Wait + Sync + Abort>(
     is_untouched(rt, plan, script, &sink);
 }
 
+/// Fails where it is not so of a plan and a script.
+fn of_both(rt: &impl Abort, plan: &str, script: &str, is_so: bool) {
+    assert!(rt; is_so, "{plan} {script}");
+}
+
 /// Fails where the answer is not that refusal.
-fn refusal_is(
+pub(super) fn refusal_is(
     rt: &impl Abort,
     plan: &str,
     script: &str,
     found: Result<Report, Refusal>,
     wanted: Refusal,
 ) {
-    assert_eq!(rt; found, Err(wanted), "{plan} {script}");
+    of_both(rt, plan, script, found == Err(wanted));
 }
 
 /// Fails where the sink took anything, or failed.
-fn is_untouched(rt: &impl Abort, plan: &str, script: &str, sink: &MemorySink) {
-    assert!(rt; sink.bytes().is_empty(), "{plan} {script}");
-    assert_eq!(rt; sink.failures(), 0, "{plan} {script}");
+pub(super) fn is_untouched(rt: &impl Abort, plan: &str, script: &str, sink: &MemorySink) {
+    of_both(rt, plan, script, sink.bytes().is_empty());
+    of_both(rt, plan, script, sink.failures() == 0);
 }
 
 #[test]
@@ -152,22 +157,9 @@ const SIZES: &str = "0 64 out
 9 1025 out";
 
 fn sizes_of(rt: &impl Abort, workers: &str, capacity: &str) -> Options {
-    match (workers.parse::<u8>(), capacity.parse::<u16>()) {
-        (Ok(workers), Ok(capacity)) => options(workers, capacity),
-        _ => panic!(rt; "no sizes: {workers} {capacity}"),
-    }
-}
-
-/// Fails where one create has another stream at those sizes.
-fn creates<R: Threads + Wait + Sync + Abort>(rt: &R, alloc: Global, name: &str, options: Options) {
-    let registry = Registry::new(alloc);
-    let sink = applied(rt, alloc, ONE_CREATE, NO_SCRIPT, &registry, options);
-    text_is(rt, name, text_of(rt, &sink), ONE_CREATE_STREAM);
-}
-
-/// Fails where the sizes of the line are in range and should not be, or the other way.
-fn range_is(rt: &impl Abort, line: &str, found: bool, wanted: bool) {
-    assert_eq!(rt; found, wanted, "{line}");
+    let workers = workers.parse::<u8>().ok().expect(rt, workers);
+    let capacity = capacity.parse::<u16>().ok().expect(rt, capacity);
+    options(workers, capacity)
 }
 
 /// Fails where the sizes of the line are taken for others, or one create does not end so.
@@ -175,9 +167,17 @@ fn sizes_are<R: Threads + Wait + Sync + Abort>(rt: &R, alloc: Global, line: &str
     let (workers, rest) = parted(rt, line, " ");
     let (capacity, wanted) = parted(rt, rest, " ");
     let options = sizes_of(rt, workers, capacity);
-    range_is(rt, line, options.in_range(), wanted == "in");
+    holds(rt, line, options.in_range() == (wanted == "in"));
     if wanted == "in" {
-        creates(rt, alloc, line, options);
+        writes(
+            rt,
+            alloc,
+            line,
+            ONE_CREATE,
+            NO_SCRIPT,
+            options,
+            ONE_CREATE_STREAM,
+        );
     } else {
         refuses(rt, alloc, ONE_CREATE, NO_SCRIPT, options, Refusal::Size);
     }
@@ -230,9 +230,9 @@ fn sizes_and_limits_of_plans(rt: HostRuntime) -> Result<(), Fail> {
 }
 
 /// Fails where the error has another text.
-fn shows<E: Display>(rt: &impl Abort, alloc: Global, error: &E, wanted: &str) {
+pub(super) fn shows<E: Display>(rt: &impl Abort, alloc: Global, error: &E, wanted: &str) {
     let text = error.to_string(alloc).expect(rt, "memory");
-    assert_eq!(rt; text.as_str(), wanted);
+    text_is(rt, "error", text.as_str(), wanted);
 }
 
 fn fault(why: Why) -> Fault {

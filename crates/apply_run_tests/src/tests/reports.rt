@@ -1,11 +1,9 @@
 //! What is told of runs that ended well: the steps, the events and the bytes.
 
-use super::hooks::{CREATE, FAILS, HALTED_CREATE, HALTED_REPLACEMENT, REPLACEMENT};
 use super::*;
-use apply_hooks::{FnHook, HookCall, HookClosure, Phase, Rules, Verdict};
 
 /// What was done and written of a whole stream.
-fn whole(counts: Counts, taken: u64, written: usize) -> Result<Report, Refusal> {
+pub(super) fn whole(counts: Counts, taken: u64, written: usize) -> Result<Report, Refusal> {
     Ok(Report {
         counts,
         taken,
@@ -13,22 +11,18 @@ fn whole(counts: Counts, taken: u64, written: usize) -> Result<Report, Refusal> 
     })
 }
 
-/// Fails where the run of both texts by one worker is told otherwise.
-fn report_is<R: Threads + Wait + Sync + Abort>(
-    rt: &R,
-    alloc: Global,
+/// Fails where something else is told of a run of the plan.
+pub(super) fn report_is(
+    rt: &impl Abort,
     plan: &str,
-    script: &str,
-    registry: &Registry,
+    found: Result<Report, Refusal>,
     wanted: Result<Report, Refusal>,
 ) {
-    let script = script_bytes(script);
-    let (_sink, found) = apply_into_memory(rt, alloc, plan, script, registry, options(1, 64));
-    assert_eq!(rt; found, wanted, "{plan}");
+    holds(rt, plan, found == wanted);
 }
 
-/// The same without hooks.
-fn plain_report_is<R: Threads + Wait + Sync + Abort>(
+/// Fails where something else is told of the run of both texts by one worker, without hooks.
+fn run_is_told<R: Threads + Wait + Sync + Abort>(
     rt: &R,
     alloc: Global,
     plan: &str,
@@ -36,7 +30,9 @@ fn plain_report_is<R: Threads + Wait + Sync + Abort>(
     wanted: Result<Report, Refusal>,
 ) {
     let registry = Registry::new(alloc);
-    report_is(rt, alloc, plan, script, &registry, wanted);
+    let script = script_bytes(script);
+    let (_sink, found) = apply_into_memory(rt, alloc, plan, script, &registry, options(1, 64));
+    report_is(rt, plan, found, wanted);
 }
 
 /// A plan without changes.
@@ -52,69 +48,15 @@ const EMPTY_STREAM: &str =
 #[test]
 fn reports_of_whole_runs(rt: HostRuntime) {
     let nothing = whole(counts(0, 0, 0, 0), 0, EMPTY_STREAM.len());
-    plain_report_is(&rt, rt.alloc(), EMPTY, NO_SCRIPT, nothing);
+    run_is_told(&rt, rt.alloc(), EMPTY, NO_SCRIPT, nothing);
     let create = whole(counts(1, 0, 0, 0), 2, ONE_CREATE_STREAM.len());
-    plain_report_is(&rt, rt.alloc(), ONE_CREATE, NO_SCRIPT, create);
+    run_is_told(&rt, rt.alloc(), ONE_CREATE, NO_SCRIPT, create);
     let failed = whole(counts(1, 0, 0, 1), 5, FAILED_DESTROY_STREAM.len());
-    plain_report_is(
+    run_is_told(
         &rt,
         rt.alloc(),
         FAILED_DESTROY,
         FAILED_DESTROY_SCRIPT,
         failed,
     );
-}
-
-/// Counts of steps that failed, and one halt.
-fn halted(failed: u64) -> Counts {
-    Counts {
-        added: 0,
-        changed: 0,
-        removed: 0,
-        failed,
-        halted: 1,
-    }
-}
-
-/// A hook halts the replacement before its first step: that is the only event. The stream has one line feed more than the
-/// text has.
-#[test]
-fn report_of_a_halt(rt: HostRuntime) -> Result<(), Fail> {
-    let alloc = rt.alloc();
-    let mut registry = Registry::new(alloc);
-    let answer: HookClosure = Box::new(alloc, |_call: &HookCall<'_>| Verdict::Continue)?;
-    assert!(rt; registry.add(FnHook::new(Rules::new(alloc), answer)).is_ok());
-    let rules = Rules::halting(alloc, Some(Phase::Pre), None, "")?;
-    let answer: HookClosure = Box::new(alloc, |call: &HookCall<'_>| {
-        if call.phase == Phase::Pre {
-            Verdict::Halt
-        } else {
-            Verdict::Continue
-        }
-    })?;
-    assert!(rt; registry.add(FnHook::new(rules, answer)).is_ok());
-    let length = HALTED_REPLACEMENT.len().saturating_add(1);
-    let wanted = whole(halted(0), 1, length);
-    report_is(&rt, alloc, REPLACEMENT, NO_SCRIPT, &registry, wanted);
-    Ok(())
-}
-
-/// A hook halts what has failed: the start, the failure with its diagnostic, and the halt.
-#[test]
-fn report_of_a_halt_of_what_has_failed(rt: HostRuntime) -> Result<(), Fail> {
-    let alloc = rt.alloc();
-    let mut registry = Registry::new(alloc);
-    let rules = Rules::halting(alloc, Some(Phase::PostFailed), None, "")?;
-    let answer: HookClosure = Box::new(alloc, |call: &HookCall<'_>| {
-        if call.phase == Phase::PostFailed {
-            Verdict::Halt
-        } else {
-            Verdict::Continue
-        }
-    })?;
-    assert!(rt; registry.add(FnHook::new(rules, answer)).is_ok());
-    let length = HALTED_CREATE.len().saturating_add(1);
-    let wanted = whole(halted(1), 4, length);
-    report_is(&rt, alloc, CREATE, FAILS, &registry, wanted);
-    Ok(())
 }

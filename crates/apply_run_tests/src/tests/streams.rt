@@ -151,16 +151,13 @@ fn operation_of(rt: &impl Abort, name: &str) -> Operation {
     match name {
         "apply" => Operation::Apply,
         "destroy" => Operation::Destroy,
-        _ => panic!(rt; "no operation: {name}"),
+        _ => rt.panic(name),
     }
 }
 
 /// The start that the text is.
 fn start_of(rt: &impl Abort, text: &str) -> Start {
-    match Start::read(text) {
-        Ok(start) => start,
-        Err(error) => panic!(rt; "{text}: {error}"),
-    }
+    Start::read(text).ok().expect(rt, text)
 }
 
 /// The options of a case, for one worker.

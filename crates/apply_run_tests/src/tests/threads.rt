@@ -279,8 +279,8 @@ fn lines_while_workers_run_into_a_slow_sink(rt: HostRuntime) {
         sink,
         &gate,
     );
-    assert!(rt; sink.held);
-    assert!(rt; !sink.begun_meanwhile);
+    holds(&rt, "held", sink.held);
+    holds(&rt, "not begun meanwhile", !sink.begun_meanwhile);
     word_is(&rt, "begun", &begun, 1);
     counts_are(&rt, report.counts, counts(3, 0, 0, 0));
 }

@@ -1,0 +1,10 @@
+-- The rules of the hooks that halt.
+use Rattle.std.specs.Prelude.{List, [], ◌∷◌, Option, Some}
+use Rattle.apply_plan.specs.declared.plan.step_kind.StepKind.{StepKind}
+use Rattle.apply_hooks.specs.declared.phase.Phase.{Phase}
+use Rattle.apply_hooks.specs.declared.rule.Rule.{Rule}
+use Rattle.apply_hooks.specs.declared.verdict.Verdict.TheVariants.{Halt}
+
+-- one rule, which halts steps of that kind in that phase, or of each kind
+abbrev pub halting : Phase → Option StepKind → List Rule
+halting phase kind = record { phase = Some phase; kind = kind; address_begins = []; verdict = Halt } ∷ []
