@@ -1,7 +1,7 @@
 //! The command: its input, its words, and all of it.
 
 use crate::readers::ONE_CREATE;
-use apply_cli::{Settings, read_all, read_words, run_command};
+use apply_cli::{Settings, read_all, read_invocation, run_command};
 use apply_hooks::Registry;
 use apply_run::StdSink;
 use apply_text::{Operation, Start};
@@ -30,7 +30,7 @@ pub fn words(rt: &impl Print, alloc: Global) -> io::Result<()> {
         words.push(String::from_str(alloc, word)?)?;
     }
     println!(rt; "call")?;
-    println!(rt; "{:?}", read_words(alloc, &words))
+    println!(rt; "{:?}", read_invocation(alloc, &words))
 }
 
 /// Runs the command on one create. What it says of faults stands before the answer.

@@ -36,19 +36,24 @@ pub fn summary(rt: &impl Print, alloc: Global) -> io::Result<()> {
 /// Makes the line of the plan's first event.
 pub fn event(rt: &impl Print, alloc: Global) -> io::Result<()> {
     let plan = plan(alloc)?;
-    let script = Script::empty();
     let registry = Registry::new(alloc);
+    event_of(rt, alloc, &plan, &registry)
+}
+
+/// Makes the line of the first event of that plan.
+fn event_of(rt: &impl Print, alloc: Global, plan: &Plan, registry: &Registry) -> io::Result<()> {
+    let script = Script::empty();
     if plan.len() == 0 {
         return Err(io::Error::from(ErrorKind::InvalidData));
     }
-    let mut runner = Runner::start(&plan, &script, &registry, 0, 0, 0);
+    let mut runner = Runner::start(plan, &script, registry, 0, 0, 0);
     let Some(event) = runner.next() else {
         return Err(io::Error::from(ErrorKind::InvalidData));
     };
     println!(rt; "call")?;
     println!(rt;
         "{:?}",
-        event_line(alloc, &plan, &script, Start::zero(), event.at, &event)
+        event_line(alloc, plan, &script, Start::zero(), event.at, &event)
     )
 }
 
@@ -81,34 +86,54 @@ fn tell_pushed(
 pub fn pushed_version(rt: &impl Print, alloc: Global) -> io::Result<()> {
     let plan = plan(alloc)?;
     let mut buffer = begun(alloc, &plan)?;
-    tell(rt, "call", &buffer)?;
-    let pushed = buffer.push_version(&plan, Start::zero());
-    tell_pushed(rt, pushed, &buffer)
+    push_version_of(rt, &plan, &mut buffer)
+}
+
+/// Adds the version line of that plan.
+fn push_version_of(rt: &impl Print, plan: &Plan, buffer: &mut LineBuffer) -> io::Result<()> {
+    tell(rt, "call", buffer)?;
+    let pushed = buffer.push_version(plan, Start::zero());
+    tell_pushed(rt, pushed, buffer)
 }
 
 /// Adds the summary to a buffer.
 pub fn pushed_summary(rt: &impl Print, alloc: Global) -> io::Result<()> {
     let plan = plan(alloc)?;
     let mut buffer = begun(alloc, &plan)?;
-    tell(rt, "call", &buffer)?;
+    push_summary(rt, &mut buffer)
+}
+
+/// Adds the summary.
+fn push_summary(rt: &impl Print, buffer: &mut LineBuffer) -> io::Result<()> {
+    tell(rt, "call", buffer)?;
     let pushed = buffer.push_summary(Start::zero(), 0, Operation::Apply, &Counts::new());
-    tell_pushed(rt, pushed, &buffer)
+    tell_pushed(rt, pushed, buffer)
 }
 
 /// Adds the line of the plan's first event to a buffer.
 pub fn pushed_event(rt: &impl Print, alloc: Global) -> io::Result<()> {
     let plan = plan(alloc)?;
-    let script = Script::empty();
     let registry = Registry::new(alloc);
     let mut buffer = begun(alloc, &plan)?;
+    push_event_of(rt, &plan, &registry, &mut buffer)
+}
+
+/// Adds the line of the first event of that plan.
+fn push_event_of(
+    rt: &impl Print,
+    plan: &Plan,
+    registry: &Registry,
+    buffer: &mut LineBuffer,
+) -> io::Result<()> {
+    let script = Script::empty();
     if plan.len() == 0 {
         return Err(io::Error::from(ErrorKind::InvalidData));
     }
-    let mut runner = Runner::start(&plan, &script, &registry, 0, 0, 0);
+    let mut runner = Runner::start(plan, &script, registry, 0, 0, 0);
     let Some(event) = runner.next() else {
         return Err(io::Error::from(ErrorKind::InvalidData));
     };
-    tell(rt, "call", &buffer)?;
-    let pushed = buffer.push_event(&plan, &script, Start::zero(), event.at, &event);
-    tell_pushed(rt, pushed, &buffer)
+    tell(rt, "call", buffer)?;
+    let pushed = buffer.push_event(plan, &script, Start::zero(), event.at, &event);
+    tell_pushed(rt, pushed, buffer)
 }

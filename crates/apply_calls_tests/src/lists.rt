@@ -14,6 +14,11 @@ pub fn rules_push(rt: &impl Print, alloc: Global) -> io::Result<()> {
         address_begins: Text::new(alloc, "module.a")?,
         verdict: Verdict::Halt,
     };
+    push_rule(rt, &mut rules, rule)
+}
+
+/// Adds that rule to those rules.
+fn push_rule(rt: &impl Print, rules: &mut Rules, rule: Rule) -> io::Result<()> {
     println!(rt; "call {rule:?} {rules:?}")?;
     match rules.push(rule) {
         Ok(()) => println!(rt; "Ok {rules:?}"),

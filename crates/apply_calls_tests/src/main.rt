@@ -59,7 +59,7 @@ fn answer_of<R: Print + Threads + Wait + Sync>(
         "open" => opening::bus(rt, alloc),
         "claims_open" => opening::claims(rt, alloc),
         "read_all" => command::all_bytes(rt, alloc),
-        "read_words" => command::words(rt, alloc),
+        "read_invocation" => command::words(rt, alloc),
         "run_command" => command::whole(rt, alloc),
         "apply_bytes" => runs::by_one(rt, alloc),
         "apply_bytes_by_eight" => runs::by_eight(rt, alloc),

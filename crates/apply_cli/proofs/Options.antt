@@ -1,12 +1,15 @@
 -- What the matches hold of an option.
-use Rattle.std.proofs.Common.{◌≡◌, ◌∙◌, [], ap, Bor, ◌<◌, ◌^◌, ℕ, List, Option, Some, None, Result, Ok, Err, arith, refl}
-use Rattle.std.specs.Prelude.{IfSome, max, min, option_map, unwrap_or}
+use Rattle.std.proofs.Common.{◌≡◌, ◌∙◌, [], ap, Bor, ◌<◌, ◌^◌, ℕ, List, Option, Some, None, Result, Ok, Err, arith, refl, sym}
+use Rattle.std.specs.Prelude.{IfSome, find, max, min, option_and_then, option_map, unwrap_or}
+use Rattle.std.specs.Str.{bytes_eq}
 use Rattle.std.specs.Str.Parse.{ParsesUnsigned, digits_value, without_leading_plus}
 use Rattle.clap.specs.Matches.{ReadsOne}
 use Rattle.clap.specs.Matches.{matched_of, raw_values}
-use Rattle.clap.specs.Walk.{Text, all_of, rows_of, texts}
+use Rattle.clap.specs.Facts.{Entry}
+use Rattle.clap.specs.Walk.{Row, Text, all_of, row_of, rows_of, texts}
 use Rattle.clap.specs.declared.parser.matches.Found.{Found}
-use Rattle.clap.proofs.WalkLemmas.{raw_values-rows}
+use Rattle.clap.specs.declared.parser.matches.MatchedArg.{MatchedArg}
+use Rattle.clap.proofs.WalkLemmas.{find_row, raw_values-rows}
 use Rattle.apply_cli.specs.CommandLine.{IsNumber, IsOptionalNumber}
 
 number_read : (E : Type 0) (gives : Text → Result ℕ E → Type 0) (width most otherwise : ℕ) (read : Option ℕ) (n : ℕ) (text : Text)
@@ -58,3 +61,12 @@ values_are found id lent none values is empty given =
     inside : (o : Option (Bor (List (Bor Text)))) → texts (unwrap_or o none).now ≡ unwrap_or (option_map (λ s. texts s.now) o) []
     inside None = ap texts empty
     inside (Some s) = refl
+
+-- where the value of an option came from
+pub source-rows : (f : Found) (id : Text) → option_and_then (λ (a : MatchedArg). a.source) (matched_of f id)
+    ≡ option_and_then (λ (r : Row). r.source) (find (λ (r : Row). bytes_eq r.id id) (rows_of f))
+source-rows f id = go (find (λ e. bytes_eq e.0.now id) f.entries.items) ∙ ap (option_and_then (λ (r : Row). r.source)) (sym (find_row f.entries.items id))
+  where
+    go : (o : Option Entry) → option_and_then (λ (a : MatchedArg). a.source) (option_map (λ e. e.1) o) ≡ option_and_then (λ (r : Row). r.source) (option_map row_of o)
+    go None = refl
+    go (Some e) = refl

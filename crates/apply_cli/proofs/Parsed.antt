@@ -1,9 +1,9 @@
 -- From the words to what the matches say, and to why they are refused.
-use Rattle.std.proofs.Common.{◌≡◌, ◌∙◌, ◌<◌, ℕ, Bool, List, [], ◌∷◌, Option, Result, Ok, Err, true, ap, arith, inl, inr, length, refl, subst, sym}
+use Rattle.std.proofs.Common.{◌≡◌, ◌∙◌, ◌≤◌, ◌⊎◌, ℕ, List, [], ◌∷◌, Result, Ok, Err, true, ap, arith, inl, inr, refl, subst, sym}
 use Rattle.std.proofs.lemmas.Result.{IfErr-weaker, IfOk-weaker}
 use Rattle.std.specs.Prelude.{IfErr, IfOk}
 use Rattle.clap.specs.Faults.{fault_of, is_simple_and_free}
-use Rattle.clap.specs.Kinds.{FailsBy, HasKind, IsAmong, Kinds}
+use Rattle.clap.specs.Kinds.{FailsBy, HasKind, IsAmong}
 use Rattle.clap.specs.Matches.{found_of}
 use Rattle.clap.specs.Simple.{App, HasMatchesOf, app_of, is_simple, matches_of}
 use Rattle.clap.specs.Values.{kind_of}
@@ -15,9 +15,10 @@ use Rattle.clap.specs.declared.error.kind.ErrorKind.{ErrorKind}
 use Rattle.clap.specs.declared.error.kind.ErrorKind.TheVariants.{DisplayHelp, OutOfMemory}
 use Rattle.clap.specs.declared.parser.matches.ArgMatches.{ArgMatches}
 use Rattle.clap.proofs.OnLiterals.{clap_on_literals}
-use Rattle.apply_cli.specs.CommandLine.{Answers, AreSaid, HaveSaid, IsOneOf, IsSaidWrong, WereRefused, command_line, kind_words}
-use Rattle.apply_cli.specs.Invocation.{HaveInvoked, IsSaid, invocation_line}
-use Rattle.apply_cli.specs.declared.settings.Settings.{Settings}
+use Rattle.apply_cli.specs.CommandLine.{Answers, AskForHelp, AskForHelpAlone, IsOneOf, IsSaidWrong, WereRefused, command_line, kind_words}
+use Rattle.apply_cli.specs.Invocation.{HaveInvoked, IsInvoked}
+use Rattle.apply_cli.specs.Status.{usage_status_of}
+use Rattle.apply_cli.specs.declared.invocation.Invocation.{Invocation}
 use Rattle.apply_cli.specs.declared.usage.Usage.{Usage}
 use Rattle.apply_cli.specs.declared.usage.Usage.TheVariants as usage
 
@@ -48,59 +49,36 @@ rows_are : (command : Command) (kinds : ValueParser) (words : List Text) (matche
 rows_are command kinds words matches line has =
     (has (ap is_simple line ∙ line_is_simple kinds)).0 ∙ ap (λ (app : App). matches_of app words) line
 
-invocation_is_simple : (kinds : ValueParser) (free : Bool) → is_simple (invocation_line kinds free) ≡ true
-unfolding clap_on_literals
-invocation_is_simple kinds free = refl
-
--- what the matches of an invocation say, its words say
-pub have_invoked : (command : Command) (kinds : ValueParser) (free : Bool) (words : List Text) (matches : ArgMatches) (settings : Settings) (parallelism : Option ℕ)
-    → IsOneOf kind_words kinds → app_of command ≡ invocation_line kinds free → HasMatchesOf (app_of command) words matches
-    → AreSaid (rows_of (found_of matches)) settings → IsSaid (rows_of (found_of matches)) parallelism
-    → HaveInvoked words (record { settings = settings; parallelism = parallelism })
-have_invoked command kinds free words matches settings parallelism are line has said invoked =
-    let rows : rows_of (found_of matches) ≡ matches_of (invocation_line kinds free) words =
-    (has (ap is_simple line ∙ invocation_is_simple kinds free)).0 ∙ ap (λ (app : App). matches_of app words) line in
-    record {
-      kinds = kinds;
-      are_kinds = are;
-      free = free;
-      settings = subst (λ (r : List Row). AreSaid r settings) rows said;
-      parallelism = subst (λ (r : List Row). IsSaid r parallelism) rows invoked;
-    }
-
--- settings that the matches say are those that the words say
-pub have_said : (command : Command) (kinds : ValueParser) (words : List Text) (parse : Result ArgMatches Error) (matches : ArgMatches) (settings : Result Settings Usage)
+-- an invocation that the matches say is the one that the words say
+pub have_invoked : (command : Command) (kinds : ValueParser) (words : List Text) (parse : Result ArgMatches Error) (matches : ArgMatches) (invocation : Result Invocation Usage)
     → IsParse command kinds words parse → parse ≡ Ok matches → HasMatchesOf (app_of command) words matches
-    → IfOk settings (AreSaid (rows_of (found_of matches))) → IfOk settings (HaveSaid words)
-have_said command kinds words parse matches settings is ok has =
-    IfOk-weaker settings (AreSaid (rows_of (found_of matches))) (HaveSaid words) (λ s said. record {
+    → IfOk invocation (IsInvoked (rows_of (found_of matches))) → IfOk invocation (HaveInvoked words)
+have_invoked command kinds words parse matches invocation is ok has =
+    IfOk-weaker invocation (IsInvoked (rows_of (found_of matches))) (HaveInvoked words) (λ i said. record {
       kinds = kinds;
       are_kinds = is.are_kinds;
       taken = faults_are command kinds words parse (Ok matches) is ok;
-      said = subst (λ (rows : List Row). AreSaid rows s) (rows_are command kinds words matches is.line has) said;
+      invoked = subst (λ (rows : List Row). IsInvoked rows i) (rows_are command kinds words matches is.line has) said;
     })
 
--- words that were taken, and say no settings
-pub are_wrong : (command : Command) (kinds : ValueParser) (words : List Text) (parse : Result ArgMatches Error) (matches : ArgMatches) (settings : Result Settings Usage)
+-- words that were taken, and say no invocation
+pub are_wrong : (command : Command) (kinds : ValueParser) (words : List Text) (parse : Result ArgMatches Error) (matches : ArgMatches) (invocation : Result Invocation Usage)
     → IsParse command kinds words parse → parse ≡ Ok matches → HasMatchesOf (app_of command) words matches
-    → IfErr settings (IsSaidWrong (rows_of (found_of matches))) → IfErr settings (WereRefused words)
-are_wrong command kinds words parse matches settings is ok has =
-    IfErr-weaker settings (IsSaidWrong (rows_of (found_of matches))) (WereRefused words)
+    → IfErr invocation (IsSaidWrong (rows_of (found_of matches))) → IfErr invocation (WereRefused words)
+are_wrong command kinds words parse matches invocation is ok has =
+    IfErr-weaker invocation (IsSaidWrong (rows_of (found_of matches))) (WereRefused words)
     (λ why wrong. cause why (subst (λ (rows : List Row). IsSaidWrong rows why) (rows_are command kinds words matches is.line has) wrong))
   where
     taken : fault_of (command_line kinds) words ≡ []
     taken = faults_are command kinds words parse (Ok matches) is ok
 
     cause : (why : Usage) → IsSaidWrong (matches_of (command_line kinds) words) why → WereRefused words why
-    cause (usage.Help text) wrong = absurd wrong
-    cause (usage.Words text) wrong = absurd wrong
+    cause (usage.Help text) wrong = absurd wrong.1
+    cause (usage.Words text) wrong = absurd wrong.1
+    cause usage.Beside wrong = inr (kinds, is.are_kinds, (taken, wrong))
     cause (usage.Moment error) wrong = inr (kinds, is.are_kinds, (taken, wrong))
     cause usage.Hooks wrong = inr (kinds, is.are_kinds, (taken, wrong))
     cause usage.Memory wrong = inl refl
-
-some_kind : (kind : ErrorKind) (kinds : Kinds) → IsAmong kind kinds → 0 < length kinds
-some_kind kind [] among = absurd among
-some_kind kind (k ∷ ks) among = omega arith
 
 -- words that were not taken
 pub are_refused : (command : Command) (kinds : ValueParser) (words : List Text) (parse : Result ArgMatches Error) (error : Error) (why : Usage)
@@ -113,8 +91,53 @@ are_refused command kinds words parse error why is failed = cause why (faults_ar
         cc
     cause (usage.Help text) (inr among) help =
         inr (kinds, is.are_kinds, subst (λ (kind : ErrorKind). IsAmong kind (fault_of (command_line kinds) words)) help among)
-    cause (usage.Words text) (inl memory) other = absurd (other memory)
-    cause (usage.Words text) (inr among) other = inr (kinds, is.are_kinds, some_kind (kind_of error) (fault_of (command_line kinds) words) among)
+    cause (usage.Words text) (inl memory) other = absurd (other.0 memory)
+    cause (usage.Words text) (inr among) other = inr (kinds, is.are_kinds, (kind_of error, other.1, among))
+    cause usage.Beside has answers = absurd answers
     cause (usage.Moment wrong) has answers = absurd answers
     cause usage.Hooks has answers = absurd answers
     cause usage.Memory has answers = inl refl
+
+-- of words that are answered and not followed, status 0 is that of help that was asked for
+pub asked_for_help : (words : List Text) (why : Usage) (status : ℕ)
+    → status ≡ usage_status_of why → status ≤ 1 → WereRefused words why → (status ≡ 0) × AskForHelp words
+asked_for_help words (usage.Help text) status is good (inl memory) = cc
+asked_for_help words (usage.Help text) status is good (inr cause) = (is, cause)
+asked_for_help words (usage.Words text) status is good why = absurd (omega (arith, is, good))
+asked_for_help words usage.Beside status is good why = absurd (omega (arith, is, good))
+asked_for_help words (usage.Moment error) status is good why = absurd (omega (arith, is, good))
+asked_for_help words usage.Hooks status is good why = absurd (omega (arith, is, good))
+asked_for_help words usage.Memory status is good why = absurd (omega (arith, is, good))
+
+-- words that are a call for help alone are not followed
+pub help_is_not_followed : (words : List Text) (invocation : Invocation) → AskForHelpAlone words → HaveInvoked words invocation → ⊥
+help_is_not_followed words invocation alone said =
+    let bad : DisplayHelp ∷ [] ≡ [] = sym (alone said.kinds said.are_kinds) ∙ said.taken in
+    cc
+
+only_help : (kind : ErrorKind) → (kind ≡ DisplayHelp) ⊎ ⊥ → (kind ≡ DisplayHelp → ⊥) → ⊥
+only_help kind (inl help) other = other help
+only_help kind (inr none) other = none
+
+-- and they are answered by help, or by want of memory
+pub help_is_answered : (words : List Text) (why : Usage) (status : ℕ)
+    → status ≡ usage_status_of why → AskForHelpAlone words → WereRefused words why → (status ≡ 0) ⊎ (status ≡ 3)
+help_is_answered words why status is alone refused = cause why is refused
+  where
+    bad : {P : Type 0} (kinds : ValueParser) → IsOneOf kind_words kinds → fault_of (command_line kinds) words ≡ [] → P
+    bad kinds are taken =
+        let none : DisplayHelp ∷ [] ≡ [] = sym (alone kinds are) ∙ taken in
+        cc
+
+    cause : (u : Usage) → status ≡ usage_status_of u → WereRefused words u → (status ≡ 0) ⊎ (status ≡ 3)
+    cause (usage.Help text) same any = inl same
+    cause (usage.Words text) same (inl memory) = cc
+    cause (usage.Words text) same (inr found) =
+        absurd (only_help found.2.0 (subst (IsAmong found.2.0) (alone found.0 found.1) found.2.2) found.2.1)
+    cause usage.Beside same (inl memory) = cc
+    cause usage.Beside same (inr found) = bad found.0 found.1 found.2.0
+    cause (usage.Moment error) same (inl memory) = cc
+    cause (usage.Moment error) same (inr found) = bad found.0 found.1 found.2.0
+    cause usage.Hooks same (inl memory) = cc
+    cause usage.Hooks same (inr found) = bad found.0 found.1 found.2.0
+    cause usage.Memory same any = inr same

@@ -1,6 +1,6 @@
 -- What the words of the command line say: the options that there are, as `clap` takes them, and which of them
 -- gives which setting.
-use Rattle.std.specs.Prelude.{◌≡◌, ◌≤◌, ◌<◌, ◌++◌, ◌⊎◌, ⊤, ℕ, List, [], ◌∷◌, Option, Some, IfSome, Ok, Err, true, codes, length, map, pos, unwrap_or, if◌then◌else◌}
+use Rattle.std.specs.Prelude.{◌≡◌, ◌≤◌, ◌<◌, ◌++◌, ◌⊎◌, ◌&&◌, ◌||◌, ⊤, ℕ, Bool, List, [], ◌∷◌, Option, Some, None, IfSome, IsOk, Ok, Err, true, false, codes, find, length, map, option_and_then, pos, unwrap_or, if◌then◌else◌}
 use Rattle.std.specs.Borrow.{Bor}
 use Rattle.std.specs.Option.{option_map_or}
 use Rattle.std.specs.Str.{bytes_eq}
@@ -14,6 +14,8 @@ use Rattle.clap.specs.declared.builder.value_parser.ValueParser.{ValueParser}
 use Rattle.clap.specs.declared.builder.value_parser.ValueParser.TheVariants as values
 use Rattle.clap.specs.declared.error.kind.ErrorKind.{ErrorKind}
 use Rattle.clap.specs.declared.error.kind.ErrorKind.TheVariants.{DisplayHelp, OutOfMemory}
+use Rattle.clap.specs.declared.parser.matches.ValueSource.{ValueSource}
+use Rattle.clap.specs.declared.parser.matches.ValueSource.TheVariants as source
 use Rattle.apply_plan.specs.declared.plan.step_kind.StepKind.{StepKind}
 use Rattle.apply_plan.specs.declared.plan.step_kind.StepKind.TheVariants.{Create, Update, Delete, Read}
 use Rattle.apply_hooks.specs.Hooks.{max_hooks}
@@ -52,6 +54,11 @@ kind_words = codes "create" ∷ codes "update" ∷ codes "delete" ∷ codes "rea
 abbrev pub IsOneOf : List Text → ValueParser → Type 0
 IsOneOf words parser = (names : Bor (List (Bor Text))) × (texts names.now ≡ words) × (parser ≡ values.Names names)
 
+-- the option of a parallelism; nothing stands for none
+abbrev pub parallelism_rule : Rule
+parallelism_rule =
+    record (option_named (codes "parallelism")) { parser = Some (values.Signed (pos 1) (pos 64)) }
+
 abbrev pub options : (kinds : ValueParser) → List Rule
 options kinds =
     record (option_named (codes "at")) { defaults = codes "1970-01-01T00:00:00Z" ∷ [] }
@@ -61,6 +68,7 @@ options kinds =
     ∷ flag_named (codes "destroy")
     ∷ record (list_named (codes "halt-before")) { parser = Some kinds }
     ∷ list_named (codes "halt-in")
+    ∷ parallelism_rule
     ∷ []
 
 -- the command, whose words are those behind the program's name
@@ -106,38 +114,70 @@ pub record AreSaid (rows : List Row) (settings : Settings) : Type 0 where
   pub apply : one_of (codes "destroy") rows ≡ Some (codes "false") → settings.operation ≡ Apply
   pub halts : settings.halts.items ≡ halts_said rows
 
--- the words were taken, and the settings are what they say
-pub record HaveSaid (words : List Text) (settings : Settings) : Type 0 where
-  pub kinds : ValueParser
-  pub are_kinds : IsOneOf kind_words kinds
-  pub taken : fault_of (command_line kinds) words ≡ []
-  pub said : AreSaid (matches_of (command_line kinds) words) settings
+-- there is a parallelism where the option is given, and then the number that it says
+pub record IsParallelism (rows : List Row) (parallelism : Option ℕ) : Type 0 where
+  pub none : one_of (codes "parallelism") rows ≡ None → parallelism ≡ None
+  pub some : IfSome (one_of (codes "parallelism") rows) (λ text. IsOptionalNumber 64 text parallelism)
+
+-- the value comes from the words, and is not one that stands for none
+abbrev pub is_of_words : Option ValueSource → Bool
+is_of_words (Some source.CommandLine) = true
+is_of_words (Some source.DefaultValue) = false
+is_of_words None = false
+
+-- the option stands among the words
+abbrev pub is_given : (name : Text) → List Row → Bool
+is_given name rows = is_of_words (option_and_then (λ r. r.source) (find (λ r. bytes_eq r.id name) rows))
+
+-- a parallelism stands beside workers or a queue
+abbrev pub is_beside : List Row → Bool
+is_beside rows =
+    is_given (codes "parallelism") rows && (is_given (codes "workers") rows || is_given (codes "queue") rows)
 
 -- ---- why they are refused
 
 -- the options that were taken say no settings
+abbrev pub AreSaidWrong : List Row → Usage → Type 0
+AreSaidWrong rows (usage.Help text) = ⊥
+AreSaidWrong rows (usage.Words text) = ⊥
+AreSaidWrong rows usage.Beside = ⊥
+AreSaidWrong rows (usage.Moment error) = option_map_or start_of (first_of (codes "at") rows) (Ok 0) ≡ Err error
+AreSaidWrong rows usage.Hooks =
+    IsOk (option_map_or start_of (first_of (codes "at") rows) (Ok 0)) × (max_hooks < length (halts_said rows))
+AreSaidWrong rows usage.Memory = ⊤
+
+-- they say no invocation: a parallelism stands where it may not, or they say no settings
 abbrev pub IsSaidWrong : List Row → Usage → Type 0
-IsSaidWrong rows (usage.Help text) = ⊥
-IsSaidWrong rows (usage.Words text) = ⊥
-IsSaidWrong rows (usage.Moment error) = option_map_or start_of (first_of (codes "at") rows) (Ok 0) ≡ Err error
-IsSaidWrong rows usage.Hooks = max_hooks < length (halts_said rows)
-IsSaidWrong rows usage.Memory = ⊤
+IsSaidWrong rows usage.Beside = is_beside rows ≡ true
+IsSaidWrong rows why = (is_beside rows ≡ false) × AreSaidWrong rows why
 
 -- what is answered to an error of that kind: help where help was asked for
 abbrev pub Answers : ErrorKind → Usage → Type 0
 Answers kind (usage.Help text) = kind ≡ DisplayHelp
-Answers kind (usage.Words text) = kind ≡ OutOfMemory → ⊥
+Answers kind (usage.Words text) = (kind ≡ OutOfMemory → ⊥) × (kind ≡ DisplayHelp → ⊥)
+Answers kind usage.Beside = ⊥
 Answers kind (usage.Moment error) = ⊥
 Answers kind usage.Hooks = ⊥
 Answers kind usage.Memory = ⊤
 
--- the words are a call for help; or they are none of these options; or they were taken, and say no settings
+-- the words are a call for help; or they are none of these options; or they were taken, and say no invocation
 abbrev pub IsCause : App → List Text → Usage → Type 0
 IsCause app words (usage.Help text) = IsAmong DisplayHelp (fault_of app words)
-IsCause app words (usage.Words text) = 0 < length (fault_of app words)
+IsCause app words (usage.Words text) =
+    (kind : ErrorKind) × (kind ≡ DisplayHelp → ⊥) × IsAmong kind (fault_of app words)
 IsCause app words why = (fault_of app words ≡ []) × IsSaidWrong (matches_of app words) why
 
 -- memory was refused, or there is a cause for it
 abbrev pub WereRefused : List Text → Usage → Type 0
 WereRefused words why =
     (why ≡ usage.Memory) ⊎ ((kinds : ValueParser) × IsOneOf kind_words kinds × IsCause (command_line kinds) words why)
+
+-- the words are a call for help, among whatever else
+abbrev pub AskForHelp : List Text → Type 0
+AskForHelp words =
+    (kinds : ValueParser) × IsOneOf kind_words kinds × IsAmong DisplayHelp (fault_of (command_line kinds) words)
+
+-- the words are a call for help, and nothing else is wrong with them
+abbrev pub AskForHelpAlone : List Text → Type 0
+AskForHelpAlone words =
+    (kinds : ValueParser) → IsOneOf kind_words kinds → fault_of (command_line kinds) words ≡ DisplayHelp ∷ []

@@ -1,4 +1,4 @@
-//! What is answered to words that say no settings.
+//! What is answered to words that say no invocation.
 
 ghost use Rattle.std.specs.Prelude.{◌≡◌, ◌≤◌};
 ghost use Rattle.std.specs.Io.KnownBytes.{Keeps};
@@ -27,6 +27,13 @@ pub fn answer_usage<W: Write, E: Write>(usage: &Usage, out: &mut W, faults: &mut
         }
         Usage::Words(text) => {
             let _ = faults.write_all(text.as_str().as_bytes());
+            REFUSED
+        }
+        Usage::Beside => {
+            report(
+                faults,
+                "--parallelism takes no --workers and no --queue beside it",
+            );
             REFUSED
         }
         Usage::Moment(error) => {

@@ -1,13 +1,13 @@
-//! What the words behind the program's name say is done, from their settings to the exit status.
+//! What the words behind the program's name say is done, from the words to the exit status.
 
 ghost use Rattle.std.specs.Prelude.{◌≡◌, ◌<◌, ◌≤◌, ◌-◌, ◌^◌, ◌⊎◌, is_some, map, string_bytes, IfOk};
 ghost use Rattle.std.specs.Io.KnownBytes.{Appends, Keeps};
 ghost use Rattle.std.specs.Option.{option_copied};
 ghost use Rattle.apply_hooks.specs.Registry.{rules_of};
-ghost use Rattle.apply_cli.specs.Command.{HasApplied, HasBegun, OfFile, OfInput, sight_of};
+ghost use Rattle.apply_cli.specs.Command.{OfFile, OfInput, sight_of};
+ghost use Rattle.apply_cli.specs.CommandLine.{AskForHelp, AskForHelpAlone};
 ghost use Rattle.apply_cli.specs.Halt.{hooks_of_halts, rules_of_halt};
 ghost use Rattle.apply_cli.specs.Invocation.{WasApplied, WasBegun, WereApplied, WereBegun};
-ghost use Rattle.apply_cli.specs.Settings.{options_of};
 ghost use Rattle.apply_cli.specs.Version.{AskForVersion, version_line};
 
 use crate::answer::{answer_usage, report_hook};
@@ -31,6 +31,9 @@ use std::sync::Wait;
 use std::thread::Threads;
 
 /// The words of the command line, with the program's name.
+///
+/// `Err` with `Usage::Words` where one is not UTF-8, and with `Usage::Memory` where memory is refused, or they could not
+/// be had.
 pub fn given_words<R: Env + AllocGlobal>(rt: &R) -> Result<Vec<String>, Usage> {
     match std::env::args(rt) {
         Ok(words) => Ok(words.collect(rt.alloc())?),
@@ -43,7 +46,7 @@ pub fn given_words<R: Env + AllocGlobal>(rt: &R) -> Result<Vec<String>, Usage> {
 
 /// Does what the words behind the program's name say, and answers the exit status. The output comes back.
 ///
-/// Words that ask for the version are answered as `answer_version` does, words that say nothing that is done as `answer_usage`
+/// Words that ask for the version are answered as `answer_version` does, words that `read_invocation` refuses as `answer_usage`
 /// does, and all others as `follow_invocation` does.
 pub fn follow<F: Files, R: Read + Drop, W: Write + Drop, E: Write, T: Threads + Wait + Sync>(
     rt: &T,
@@ -57,11 +60,10 @@ pub fn follow<F: Files, R: Read + Drop, W: Write + Drop, E: Write, T: Threads + 
     ensures version { AskForVersion (map string_bytes words.now)
         → ((result.1 ≡ 0) × Appends (W.contents output) (W.contents result.0) version_line) ⊎ (result.1 ≡ 3) }
 
-    // Status 0 is also that of the version and of help; which words ask for help, `clap` does not state of options that
-    // exclude each other.
     ensures applied { result.1 ≤ 1 →
         WereApplied (map string_bytes words.now) (R.remaining input) (W.contents output) (W.contents result.0) result.1
-        ⊎ (result.1 ≡ 0) }
+        ⊎ ((result.1 ≡ 0) × (AskForVersion (map string_bytes words.now) ⊎ AskForHelp (map string_bytes words.now))) }
+    ensures help { AskForHelpAlone (map string_bytes words.now) → (result.1 ≡ 0) ⊎ (result.1 ≡ 3) }
     ensures refused { result.1 ≡ 2 → Keeps (W.contents output) (W.contents result.0) }
     ensures cut_off { result.1 ≡ 3 → Keeps (W.contents output) (W.contents result.0)
         ⊎ (WereBegun (map string_bytes words.now) (R.remaining input) (W.contents output) (W.contents result.0)
@@ -95,43 +97,12 @@ pub fn follow<F: Files, R: Read + Drop, W: Write + Drop, E: Write, T: Threads + 
     }
 }
 
-/// Reads the script's file, where the settings name one, and runs the command with a hook for each halt, in their order. The
+/// Reads the script's file, where the settings name one, and runs the command with a hook for each halt, in their order:
+/// by workers, or with so many changes under way at once in the stream's own time, where a parallelism is asked for. The
 /// output comes back.
 ///
-/// The exit status is that of `run_command`; before that it is 2 where the script's file could not be read, and 3 where
-/// memory was refused, and nothing was written then.
-pub fn follow_settings<
-    F: Files,
-    R: Read + Drop,
-    W: Write + Drop,
-    E: Write,
-    T: Threads + Wait + Sync,
->(
-    rt: &T,
-    files: &F,
-    alloc: Global,
-    settings: &Settings,
-    input: R,
-    output: StdSink<W>,
-    faults: &mut E,
-) -> (StdSink<W>, u8)
-    requires { output.failures < 2 ^ 64 - 1 }
-    ensures applied { result.1 ≤ 1 → OfInput (R.remaining input) (λ plan. OfFile settings.now.script (λ script.
-        HasApplied (record { plan = plan; script = script; hooks = hooks_of_halts settings.now.halts.items })
-        (options_of settings.now) (sight_of W.contents output) (sight_of W.contents result.0) result.1)) }
-    ensures refused { result.1 ≡ 2 → Keeps (W.contents output.writer) (W.contents result.0.writer) }
-    ensures cut_off { result.1 ≡ 3 → Keeps (W.contents output.writer) (W.contents result.0.writer)
-        ⊎ OfInput (R.remaining input) (λ plan. OfFile settings.now.script (λ script.
-        HasBegun (record { plan = plan; script = script; hooks = hooks_of_halts settings.now.halts.items })
-        (options_of settings.now) (W.contents output.writer) (W.contents result.0.writer))) }
-    ensures quiet { result.1 ≤ 1 → Keeps (E.contents faults.old) (E.contents faults.new) }
-    ensures statuses { result.1 ≤ 3 }
-{
-    follow_invocation(rt, files, alloc, settings, None, input, output, faults)
-}
-
-/// Does what `follow_settings` does, with so many changes under way at once in the stream's own time, where a parallelism is
-/// asked for: then the run is that of `run_in_lanes`.
+/// The exit status is that of `run_command` or `run_in_lanes`; before that it is 2 where there are more than 32 halts or
+/// the script's file could not be read, and 3 where memory was refused, and nothing was written then.
 pub fn follow_invocation<
     F: Files,
     R: Read + Drop,

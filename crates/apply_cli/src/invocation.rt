@@ -1,17 +1,18 @@
 //! All that the words of the command line say.
 
-ghost use Rattle.std.specs.Prelude.{◌≡◌, Bool, false, IfOk, IfSome, map, string_bytes};
+ghost use Rattle.std.specs.Prelude.{IfOk, IfErr, IfSome, map, string_bytes};
 ghost use Rattle.clap.specs.Matches.{found_of};
-ghost use Rattle.clap.specs.Walk.{rows_of, rule_of};
+ghost use Rattle.clap.specs.Walk.{rows_of};
 ghost use Rattle.apply_run.specs.Lanes.{AreLanes};
-ghost use Rattle.apply_cli.specs.Invocation.{HaveInvoked, IsInRange, IsSaid, parallelism_rule};
+ghost use Rattle.apply_cli.specs.CommandLine.{IsParallelism, IsSaidWrong, WereRefused};
+ghost use Rattle.apply_cli.specs.Invocation.{HaveInvoked, IsInRange, IsInvoked};
 
 use crate::settings::Settings;
 use crate::usage::Usage;
-use crate::words::{command, settings_of, usage_of};
+use crate::words::{command, is_beside, settings_of, usage_of};
 use apply_run::MAX_LANES;
-use clap::{Arg, ArgMatches, value_parser};
-use std::alloc::{AllocError, Global};
+use clap::ArgMatches;
+use std::alloc::Global;
 
 /// All that the words of the command line say.
 #[derive(Debug, Drop)]
@@ -23,42 +24,47 @@ pub struct Invocation {
     pub parallelism: Option<u8>,
 }
 
-/// All that the words behind the program's name say: the settings, as [`read_words`](crate::read_words) has them, and a
-/// parallelism, where they ask for one.
+/// All that the words behind the program's name say.
 ///
-/// `Err` as there; and with `Usage::Words` where a parallelism stands beside workers or a queue.
+/// `Err` with `Usage::Help` where they ask for help, else with `Usage::Words` where they are none of this program, else
+/// with `Usage::Beside` where a parallelism stands beside workers or a queue, else with `Usage::Moment` where the start is
+/// no moment, else with `Usage::Hooks` where there are more than 32 halts. `Err` with `Usage::Memory` where memory is
+/// refused.
 pub fn read_invocation(alloc: Global, words: &[String]) -> Result<Invocation, Usage>
     ensures in_range { IfOk result IsInRange }
     ensures said { IfOk result (HaveInvoked (map string_bytes words.now)) }
+    ensures refused { IfErr result (WereRefused (map string_bytes words.now)) }
 {
-    let command = command(alloc)?.arg(parallelism(alloc)?)?;
+    let command = command(alloc)?;
     match command.try_get_matches_from(words) {
-        Ok(matches) => Ok(Invocation {
-            settings: settings_of(alloc, &matches)?,
-            parallelism: parallelism_of(&matches),
-        }),
+        Ok(matches) => invocation_of(alloc, &matches),
         Err(error) => Err(usage_of(alloc, &error)?),
     }
 }
 
-fn parallelism<'a>(alloc: Global) -> Result<Arg<'a>, AllocError>
-    ensures { IfOk result (λ arg. (free : Bool) × (rule_of arg ≡ parallelism_rule free) × (arg.global ≡ false)) }
+/// What the matches say.
+fn invocation_of(alloc: Global, matches: &ArgMatches<'_>) -> Result<Invocation, Usage>
+    ensures in_range { IfOk result IsInRange }
+    ensures said { IfOk result (IsInvoked (rows_of (found_of matches.now))) }
+    ensures refused { IfErr result (IsSaidWrong (rows_of (found_of matches.now))) }
 {
-    let arg = Arg::new(alloc, "parallelism")
-        .long("parallelism")
-        .value_name("N")
-        .value_parser(value_parser!(u8).range(1..=64))
-        .help(
-            "How many changes are under way at once in the stream's own time, as `terraform apply -parallelism=N` has it: the same input gives the same messages. Not together with --workers or --queue. 1 to 64",
-        );
-    arg.conflicts_with("workers")?.conflicts_with("queue")
+    if is_beside(matches) {
+        return Err(Usage::Beside);
+    }
+    match settings_of(alloc, matches) {
+        Ok(settings) => Ok(Invocation {
+            settings,
+            parallelism: parallelism_of(matches),
+        }),
+        Err(usage) => Err(usage),
+    }
 }
 
 /// How many changes are under way at once, where it is said. The parser has tested the number, so that the bounds here do not
 /// change it.
 fn parallelism_of(matches: &ArgMatches<'_>) -> Option<u8>
     ensures in_range { IfSome result AreLanes }
-    ensures said { IsSaid (rows_of (found_of matches.now)) result }
+    ensures said { IsParallelism (rows_of (found_of matches.now)) result }
 {
     match matches.get_one::<u8>("parallelism") {
         Some(lanes) => Some(lanes.clamp(1, MAX_LANES)),

@@ -17,7 +17,7 @@ mod version;
 mod words;
 
 pub use answer::answer_usage;
-pub use following::{follow, follow_invocation, follow_settings, given_words};
+pub use following::{follow, follow_invocation, given_words};
 pub use halt::Halt;
 pub use in_lanes::run_in_lanes;
 pub use input::read_all;
@@ -29,4 +29,3 @@ pub use settings::Settings;
 pub use status::{counts_status, input_status, refusal_status};
 pub use usage::Usage;
 pub use version::{VERSION, answer_version, ask_for_version};
-pub use words::read_words;

@@ -7,13 +7,15 @@ use apply_plan::Text;
 use apply_text::MomentError;
 use std::alloc::{AllocError, AllocFailed};
 
-/// Why the words say no settings. The variants are tested in this order, but for `Memory`.
+/// Why the words say no invocation. The variants are tested in this order, but for `Memory`.
 #[derive(Debug, Drop)]
 pub enum Usage {
     /// They ask for help, which is this text.
     Help(Text),
     /// They are none of this program. The text says why, and how the words go.
     Words(Text),
+    /// They ask for a parallelism beside workers or a queue.
+    Beside,
     /// The start is no moment.
     Moment(MomentError),
     /// There are more than 32 halts.

@@ -1,13 +1,13 @@
 //! The words of the command line.
 
-ghost use Rattle.std.specs.Prelude.{◌≡◌, ◌≤◌, ◌∷◌, [], Some, false, Ok, IfOk, IfErr, IfSome, codes, map, string_bytes};
+ghost use Rattle.std.specs.Prelude.{◌≡◌, ◌≤◌, ◌∷◌, [], Some, false, Ok, IfOk, IfErr, IfSome, codes};
 ghost use Rattle.std.specs.Option.{option_map_or};
 ghost use Rattle.clap.specs.Matches.{found_of};
 ghost use Rattle.clap.specs.Simple.{app_of};
 ghost use Rattle.clap.specs.Values.{kind_of};
 ghost use Rattle.clap.specs.Walk.{first_of, one_of, rows_of, rule_of};
 ghost use Rattle.apply_cli.specs.CommandLine as said;
-ghost use Rattle.apply_cli.specs.CommandLine.{Answers, AreSaid, HaveSaid, IsNumber, IsOneOf, IsSaidWrong, WereRefused};
+ghost use Rattle.apply_cli.specs.CommandLine.{Answers, AreSaid, IsNumber, IsOneOf, AreSaidWrong};
 ghost use Rattle.apply_cli.specs.CommandLine.{halts_said, kind_of_word};
 ghost use Rattle.apply_text.specs.Start.{start_of as start_said};
 ghost use Rattle.apply_cli.specs.Settings.{AreInRange};
@@ -19,6 +19,7 @@ use apply_hooks::MAX_HOOKS;
 use apply_plan::{StepKind, Text};
 use apply_text::{MomentError, Operation, Start};
 use clap::error::ErrorKind;
+use clap::parser::ValueSource;
 use clap::{Arg, ArgAction, ArgMatches, Command, value_parser};
 use std::alloc::{AllocError, Global};
 
@@ -48,23 +49,6 @@ Exit status:
   2  the options, the plan or the script were refused or could not be read: no message was written
   3  memory or a thread was refused, or the output could not be written: a part of the messages may have been written"#;
 
-/// The settings that the words behind the program's name say.
-///
-/// `Err` with `Usage::Help` where they ask for help, else with `Usage::Words` where they are none of this program, else
-/// with `Usage::Moment` where the start is no moment, else with `Usage::Hooks` where there are more than 32 halts. `Err`
-/// with `Usage::Memory` where memory is refused.
-pub fn read_words(alloc: Global, words: &[String]) -> Result<Settings, Usage>
-    ensures in_range { IfOk result AreInRange }
-    ensures said { IfOk result (HaveSaid (map string_bytes words.now)) }
-    ensures refused { IfErr result (WereRefused (map string_bytes words.now)) }
-{
-    let command = command(alloc)?;
-    match command.try_get_matches_from(words) {
-        Ok(matches) => settings_of(alloc, &matches),
-        Err(error) => Err(usage_of(alloc, &error)?),
-    }
-}
-
 /// The options, and their help.
 pub(crate) fn command<'a>(alloc: Global) -> Result<Command<'a>, AllocError>
     ensures { IfOk result (λ command. (kinds : _) × IsOneOf said.kind_words kinds
@@ -80,7 +64,8 @@ pub(crate) fn command<'a>(alloc: Global) -> Result<Command<'a>, AllocError>
         .arg(queue(alloc))?
         .arg(destroy(alloc))?
         .arg(halt_before(alloc))?
-        .arg(halt_in(alloc))
+        .arg(halt_in(alloc))?
+        .arg(parallelism(alloc))
 }
 
 fn at<'a>(alloc: Global) -> Arg<'a>
@@ -162,11 +147,41 @@ fn halt_in<'a>(alloc: Global) -> Arg<'a>
         )
 }
 
+fn parallelism<'a>(alloc: Global) -> Arg<'a>
+    ensures { (rule_of result ≡ said.parallelism_rule) × (result.global ≡ false) }
+{
+    Arg::new(alloc, "parallelism")
+        .long("parallelism")
+        .value_name("N")
+        .value_parser(value_parser!(u8).range(1..=64))
+        .help(
+            "How many changes are under way at once in the stream's own time, as `terraform apply -parallelism=N` has it: the same input gives the same messages. Not together with --workers or --queue. 1 to 64",
+        )
+}
+
+/// Whether a parallelism stands beside workers or a queue.
+pub(crate) fn is_beside(matches: &ArgMatches<'_>) -> bool
+    ensures { result ≡ said.is_beside (rows_of (found_of matches.now)) }
+{
+    is_given(matches, "parallelism") && (is_given(matches, "workers") || is_given(matches, "queue"))
+}
+
+/// Whether the option stands among the words.
+fn is_given(matches: &ArgMatches<'_>, option: &str) -> bool
+    ensures { result ≡ said.is_given option.now (rows_of (found_of matches.now)) }
+{
+    match matches.value_source(option) {
+        Some(ValueSource::CommandLine) => true,
+        Some(ValueSource::DefaultValue) => false,
+        None => false,
+    }
+}
+
 /// What the matches say.
 pub(crate) fn settings_of(alloc: Global, matches: &ArgMatches<'_>) -> Result<Settings, Usage>
     ensures in_range { IfOk result AreInRange }
     ensures said { IfOk result (AreSaid (rows_of (found_of matches.now))) }
-    ensures refused { IfErr result (IsSaidWrong (rows_of (found_of matches.now))) }
+    ensures refused { IfErr result (AreSaidWrong (rows_of (found_of matches.now))) }
 {
     let at = match start_of(matches) {
         Ok(start) => start,

@@ -13,8 +13,8 @@ mod streams;
 mod words;
 
 use apply_cli::{
-    Halt, InputFault, Invocation, Settings, Usage, VERSION, answer_usage, follow, follow_settings,
-    read_all, read_invocation, read_words, refusal_status, report, run_command, run_input,
+    Halt, InputFault, Invocation, Settings, Usage, VERSION, answer_usage, follow,
+    follow_invocation, read_all, read_invocation, refusal_status, report, run_command, run_input,
 };
 use apply_hooks::Registry;
 use apply_plan::{PlanError, ScriptError, StepKind, Text};

@@ -25,6 +25,3 @@ pub use lines::{event_line, summary_line, version_line};
 pub use moment_error::MomentError;
 pub use operation::Operation;
 pub use start::Start;
-
-#[cfg(test)]
-mod tests;

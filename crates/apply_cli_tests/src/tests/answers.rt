@@ -33,6 +33,8 @@ fn each_usage_has_its_answer(rt: HostRuntime) {
     answer_is(&rt, alloc, help, 0, "how it goes\n", "");
     let words = Usage::Words(text(&rt, alloc, "error: no\n"));
     answer_is(&rt, alloc, words, 2, "", "error: no\n");
+    let said = "applystream: --parallelism takes no --workers and no --queue beside it\n";
+    answer_is(&rt, alloc, Usage::Beside, 2, "", said);
     let moment = Usage::Moment(MomentError::NotAMoment);
     let said = "applystream: the moment is not a moment\n";
     answer_is(&rt, alloc, moment, 2, "", said);

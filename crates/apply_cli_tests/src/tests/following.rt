@@ -27,6 +27,7 @@ const TABLE: &str = "--workers 2 --halt-before delete => 1 =>
 --halt-before read => 0 =>
 --script no_such_file.json => 2 => applystream: the script file could not be read
 --script . => 2 => applystream: the script file could not be read
+--parallelism 2 --workers 2 --at x => 2 => applystream: --parallelism takes no --workers and no --queue beside it
 --at x => 2 => applystream: the moment is not a moment
 --at 1969-12-31T23:59:59Z --script no_such_file.json => 2 => applystream: the moment is out of range";
 
@@ -170,11 +171,12 @@ fn more_halts_than_hooks_are_refused(rt: HostRuntime) {
     }
     let mut said = Vec::new(alloc);
     let input = REPLACEMENT.as_bytes();
-    let (output, status) = follow_settings(
+    let (output, status) = follow_invocation(
         &rt,
         &rt,
         alloc,
         &settings,
+        None,
         input,
         empty(alloc),
         &mut said,

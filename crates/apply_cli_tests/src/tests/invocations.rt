@@ -16,9 +16,13 @@ const TABLE: &str = r#" => None
 --parallelism -1 => Words
 --parallelism => Words
 --parallelism 2 --parallelism 2 => Words
---parallelism 2 --workers 2 => Words
---workers 1 --parallelism 2 => Words
---parallelism 2 --queue 64 => Words
+--parallelism 2 --workers 2 => Beside
+--workers 1 --parallelism 2 => Beside
+--parallelism 2 --queue 64 => Beside
+--queue=1 --workers=8 --parallelism=64 => Beside
+--parallelism 2 --workers 2 --at x => Beside
+--parallelism 2 --workers 9 => Words
+--parallelism 2 --workers 2 --help => Help
 --workers 2 --queue 1 => None
 --parallelism 2 --at x => Moment
 --help => Help"#;
@@ -35,6 +39,7 @@ fn shown(alloc: Global, read: &Result<Invocation, Usage>) -> Result<String, Allo
         Ok(invocation) => format!(in alloc; "{:?}", invocation.parallelism),
         Err(Usage::Help(_)) => String::from_str(alloc, "Help"),
         Err(Usage::Words(_)) => String::from_str(alloc, "Words"),
+        Err(Usage::Beside) => String::from_str(alloc, "Beside"),
         Err(Usage::Moment(_)) => String::from_str(alloc, "Moment"),
         Err(Usage::Hooks) => String::from_str(alloc, "Hooks"),
         Err(Usage::Memory) => String::from_str(alloc, "Memory"),
@@ -48,13 +53,6 @@ fn words_ask_for_a_parallelism(rt: HostRuntime) {
         let answer = answer_to(&rt, rt.alloc(), words);
         assert_eq!(rt; answer.as_str(), wanted, "{words}");
     }
-}
-
-#[test]
-fn settings_have_no_parallelism(rt: HostRuntime) {
-    let words = words_of(&rt, rt.alloc(), "--parallelism 2");
-    let read = read_words(rt.alloc(), &words);
-    assert!(rt; matches!(read, Err(Usage::Words(_))));
 }
 
 #[test]

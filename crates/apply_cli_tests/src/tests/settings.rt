@@ -36,8 +36,8 @@ const DESTROYED: &str =
 
 /// The settings of words that say some.
 fn settings_of(rt: &impl Abort, alloc: Global, words: &str) -> Settings {
-    match read_words(alloc, &words_of(rt, alloc, words)) {
-        Ok(settings) => settings,
+    match read_invocation(alloc, &words_of(rt, alloc, words)) {
+        Ok(invocation) => invocation.settings,
         Err(usage) => panic!(rt; "{usage:?}"),
     }
 }

@@ -65,15 +65,16 @@ plan.json => Words
 /// What the words are answered.
 fn answer_to(rt: &impl Abort, alloc: Global, text: &str) -> String {
     let words = words_of(rt, alloc, text);
-    shown(alloc, &read_words(alloc, &words)).expect(rt, "memory")
+    shown(alloc, &read_invocation(alloc, &words)).expect(rt, "memory")
 }
 
 /// The settings, the fault of a moment, or the name of any other usage.
-fn shown(alloc: Global, read: &Result<Settings, Usage>) -> Result<String, AllocError> {
+fn shown(alloc: Global, read: &Result<Invocation, Usage>) -> Result<String, AllocError> {
     match read {
-        Ok(settings) => format!(in alloc; "{settings:?}"),
+        Ok(invocation) => format!(in alloc; "{:?}", invocation.settings),
         Err(Usage::Help(_)) => String::from_str(alloc, "Help"),
         Err(Usage::Words(_)) => String::from_str(alloc, "Words"),
+        Err(Usage::Beside) => String::from_str(alloc, "Beside"),
         Err(Usage::Moment(error)) => format!(in alloc; "{error:?}"),
         Err(Usage::Hooks) => String::from_str(alloc, "Hooks"),
         Err(Usage::Memory) => String::from_str(alloc, "Memory"),
@@ -159,7 +160,7 @@ Exit status:
 
 /// The help.
 fn help(rt: &impl Abort, alloc: Global) -> Text {
-    match read_words(alloc, &words_of(rt, alloc, "--help")) {
+    match read_invocation(alloc, &words_of(rt, alloc, "--help")) {
         Err(Usage::Help(help)) => help,
         _ => panic!(rt; "no help"),
     }

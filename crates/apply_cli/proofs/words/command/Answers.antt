@@ -19,4 +19,5 @@ returns c =
     let destroy = c.in_ok-arg-5.ensures.shape c.destroy.ensures.1 ∙ ap₂ with_rule queue c.destroy.ensures.0 in
     let kinds = c.halt_before.ensures in
     let before = c.in_ok-arg-6.ensures.shape kinds.3 ∙ ap₂ with_rule destroy kinds.2 in
-    IfOk-weaker c.arg-7.result _ _ (λ command added. (kinds.0, kinds.1, added.shape c.halt_in.ensures.1 ∙ ap₂ with_rule before c.halt_in.ensures.0)) c.arg-7.ensures
+    let inside = c.in_ok-arg-7.ensures.shape c.halt_in.ensures.1 ∙ ap₂ with_rule before c.halt_in.ensures.0 in
+    IfOk-weaker c.arg-8.result _ _ (λ command added. (kinds.0, kinds.1, added.shape c.parallelism.ensures.1 ∙ ap₂ with_rule inside c.parallelism.ensures.0)) c.arg-8.ensures

@@ -80,18 +80,23 @@ const UNSAID: &str =
 1 0 => {"changes":[{"address":"null_resource.a","steps":[{"seconds":0,"provisioners":[{"provisioner":"a","seconds":0,"output":["x"]}]}]}]} => {"@level":"info","@message":"null_resource.a: (): ","@module":"terraform.ui","@timestamp":"1970-01-01T00:00:00Z","hook":{"output":"","provisioner":"","resource":{"addr":"null_resource.a","implied_provider":"null","module":"","resource":"null_resource.a","resource_key":null,"resource_name":"a","resource_type":"null_resource"}},"type":"provision_progress"}
 0 1 => {"changes":[{"address":"null_resource.a","steps":[{"seconds":0,"provisioners":[{"provisioner":"a","seconds":0,"output":["x"]}]}]}]} => {"@level":"info","@message":"null_resource.a: (a): ","@module":"terraform.ui","@timestamp":"1970-01-01T00:00:00Z","hook":{"output":"","provisioner":"a","resource":{"addr":"null_resource.a","implied_provider":"null","module":"","resource":"null_resource.a","resource_key":null,"resource_name":"a","resource_type":"null_resource"}},"type":"provision_progress"}"##;
 
+/// Fails where the row's output is told otherwise.
+fn is_empty(rt: &impl Abort, alloc: Global, plan: &Plan, row: &str) {
+    let (numbers, rest) = parted(rt, row, " => ");
+    let (script, wanted) = parted(rt, rest, " => ");
+    let script = script_of(rt, alloc, script, plan);
+    let event = output_of(rt, numbers);
+    let written = line_of(rt, alloc, plan, &script, Start::zero(), 0, &event);
+    compare_line(rt, numbers, written.as_str(), wanted);
+}
+
 /// Texts that the script does not have are empty.
 #[test]
 fn what_is_not_said_of_provisioners_is_empty(rt: HostRuntime) {
     let alloc = rt.alloc();
     let plan = plan_of(&rt, alloc, ONE_CREATE);
     for row in UNSAID.lines() {
-        let (numbers, rest) = parted(&rt, row, " => ");
-        let (script, wanted) = parted(&rt, rest, " => ");
-        let script = script_of(&rt, alloc, script, &plan);
-        let event = output_of(&rt, numbers);
-        let written = line_of(&rt, alloc, &plan, &script, Start::zero(), 0, &event);
-        compare_line(&rt, numbers, written.as_str(), wanted);
+        is_empty(&rt, alloc, &plan, row);
     }
 }
 

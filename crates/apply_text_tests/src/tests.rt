@@ -12,10 +12,12 @@ mod moments;
 mod provisioners;
 mod streams;
 
-use crate::{Operation, Start, elapsed_text, event_line, summary_line, version_line};
 use apply_events::{Counts, Event, LATEST, Runner, What};
 use apply_hooks::{Phase, Registry};
 use apply_plan::{Plan, Script, read_plan, read_script};
+use apply_text::{
+    LineBuffer, Operation, Start, elapsed_text, event_line, summary_line, version_line,
+};
 use std::alloc::Global;
 use std::fmt::Display;
 use std::process::Abort;
@@ -31,8 +33,8 @@ fn parted<'a>(rt: &impl Abort, text: &'a str, mark: &str) -> (&'a str, &'a str) 
     }
 }
 
-fn number_of(rt: &impl Abort, text: &str) -> u64 {
-    match text.parse::<u64>() {
+fn number_of(rt: &impl Abort, text: &str) -> u32 {
+    match text.parse::<u32>() {
         Ok(number) => number,
         Err(_) => panic!(rt; "no number: {text}"),
     }
@@ -100,9 +102,10 @@ fn line_of(
     latest: u64,
     event: &Event,
 ) -> String {
-    check_step(rt, plan, event);
     assert!(rt; latest <= LATEST);
-    event_line(alloc, plan, script, start, latest, event).expect(rt, "memory")
+    check_step(rt, plan, event);
+    let line = event_line(alloc, plan, script, start, latest, event);
+    line.expect(rt, "memory")
 }
 
 /// Counts an event that the plan has to have, where there is room.
@@ -121,16 +124,17 @@ fn check_step(rt: &impl Abort, plan: &Plan, event: &Event)
     assert!(rt; (event.step as usize) < plan.change(event.change).steps().len());
 }
 
-/// The summary of these counts.
+/// The summary of these counts, so many seconds after a start.
 fn summary_of(
     rt: &impl Abort,
     alloc: Global,
+    start: Start,
     latest: u64,
     operation: Operation,
     counts: &Counts,
 ) -> String {
     assert!(rt; latest <= LATEST);
-    summary_line(alloc, Start::zero(), latest, operation, counts).expect(rt, "memory")
+    summary_line(alloc, start, latest, operation, counts).expect(rt, "memory")
 }
 
 /// Adds the lines of a change that begins at a moment, each made by itself, and counts its events. Returns when it ends.
@@ -179,7 +183,7 @@ fn push_changes(rt: &impl Abort, alloc: Global, text: &mut String, plan: &Plan, 
     for number in 0..plan.len() {
         at = push_change(rt, alloc, text, &mut counts, plan, script, number, at);
     }
-    let line = summary_of(rt, alloc, at, Operation::Apply, &counts);
+    let line = summary_of(rt, alloc, Start::zero(), at, Operation::Apply, &counts);
     push(rt, text, line.as_str());
 }
 

@@ -180,7 +180,14 @@ fn destroy(rt: HostRuntime) {
         failed: 4,
         halted: 5,
     };
-    let summary = summary_of(&rt, rt.alloc(), 0, Operation::Destroy, &counts);
+    let summary = summary_of(
+        &rt,
+        rt.alloc(),
+        Start::zero(),
+        0,
+        Operation::Destroy,
+        &counts,
+    );
     compare_line(&rt, "a destroy", summary.as_str(), DESTROYED);
 }
 
@@ -205,6 +212,13 @@ fn two_deletes(rt: &impl Abort, alloc: Global) -> Counts {
 #[test]
 fn two_deletes_are_summed_up(rt: HostRuntime) {
     let counts = two_deletes(&rt, rt.alloc());
-    let summary = summary_of(&rt, rt.alloc(), 0, Operation::Destroy, &counts);
+    let summary = summary_of(
+        &rt,
+        rt.alloc(),
+        Start::zero(),
+        0,
+        Operation::Destroy,
+        &counts,
+    );
     compare_line(&rt, "two deletes", summary.as_str(), TWO_DESTROYED);
 }

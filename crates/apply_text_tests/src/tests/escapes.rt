@@ -124,13 +124,9 @@ fn reads_back(rt: &impl Abort, alloc: Global, written: &str, plan: &Plan) {
 
 /// Fails where the line, read as JSON, has another text at the pointer.
 fn reads_as(rt: &impl Abort, alloc: Global, line: Option<&str>, pointer: &str, wanted: &str) {
-    let value = json_of(rt, alloc, line.unwrap_or(""));
-    compare(rt, pointer, text_at(rt, &value, pointer), wanted);
-}
-
-fn json_of(rt: &impl Abort, alloc: Global, line: &str) -> Value {
+    let line = line.unwrap_or("");
     match Value::from_str(alloc, line) {
-        Ok(value) => value,
+        Ok(value) => compare(rt, pointer, text_at(rt, &value, pointer), wanted),
         Err(_) => panic!(rt; "no JSON: {line}"),
     }
 }

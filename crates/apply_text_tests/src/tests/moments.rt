@@ -1,18 +1,17 @@
 //! Moments and durations, as text.
 
 use super::*;
-use crate::display::moment::Moment;
 
-/// A text, and the seconds of the start that it says, or why it says none.
-const STARTS: &str = r#"1970-01-01T00:00:00Z => 0
-1970-01-01T00:00:01Z => 1
-1970-01-01T00:00:00.999999999Z => 0
+/// A text, and the start that it says, or why it says none.
+const STARTS: &str = r#"1970-01-01T00:00:00Z => Start { seconds: 0 }
+1970-01-01T00:00:01Z => Start { seconds: 1 }
+1970-01-01T00:00:00.999999999Z => Start { seconds: 0 }
 1969-12-31T23:59:59Z => the moment is out of range
 1969-12-31T23:59:59.5Z => the moment is out of range
 1969-12-31T23:59:59.999999999Z => the moment is out of range
 9000-01-01T00:00:00Z => the moment is out of range
-8999-12-31T23:59:59Z => 221845391999
-8999-12-31T23:59:59.999999999Z => 221845391999
+8999-12-31T23:59:59Z => Start { seconds: 221845391999 }
+8999-12-31T23:59:59.999999999Z => Start { seconds: 221845391999 }
 9999-12-30T22:00:00Z => the moment is out of range
 -000001-01-01T00:00:00Z => the moment is out of range
 not a time => the moment is not a moment
@@ -22,11 +21,11 @@ not a time => the moment is not a moment
 2021-02-29T00:00:00Z => the moment is not a moment
 2021-05-25T13:32:41Zx => the moment is not a moment
  2021-05-25T13:32:41Z => the moment is not a moment
-2021-05-25T13:32:41.275359-04:00 => 1621963961
-2021-05-25T17:32:41+00:00 => 1621963961
-2021-05-25t17:32:41z => 1621963961
-2020-02-29T23:59:59Z => 1583020799
-1970-01-01T01:00:00+01:00 => 0
+2021-05-25T13:32:41.275359-04:00 => Start { seconds: 1621963961 }
+2021-05-25T17:32:41+00:00 => Start { seconds: 1621963961 }
+2021-05-25t17:32:41z => Start { seconds: 1621963961 }
+2020-02-29T23:59:59Z => Start { seconds: 1583020799 }
+1970-01-01T01:00:00+01:00 => Start { seconds: 0 }
 1970-01-01T00:59:59+01:00 => the moment is out of range
 8999-12-31T23:59:59-00:01 => the moment is out of range"#;
 
@@ -105,10 +104,10 @@ const DURATIONS: &str = r#"0 => 0s
 90061 => 25h1m1s
 4294967295 => 1193046h28m15s"#;
 
-/// What the text is read as: the seconds of a start, or why it is none.
+/// What the text is read as: a start, or why it is none.
 fn start_read(rt: &impl Abort, alloc: Global, text: &str) -> String {
     match Start::read(text) {
-        Ok(start) => shown(rt, alloc, &start.seconds()),
+        Ok(start) => format!(in alloc; "{start:?}").expect(rt, "memory"),
         Err(error) => shown(rt, alloc, &error),
     }
 }
@@ -122,29 +121,31 @@ fn starts_are_read(rt: HostRuntime) {
     }
 }
 
-/// The moment so many seconds after a start, as it is printed.
-fn moment_after(rt: &impl Abort, alloc: Global, start: Start, seconds: u64) -> String {
-    assert!(rt; seconds <= LATEST);
-    shown(rt, alloc, &Moment::new(start, seconds))
+/// The summary of an apply that did nothing, with its moment in place of the percent sign.
+const NOTHING_DONE: &str =
+    r#"{"@level":"info","@message":"Apply complete! Resources: 0 added, 0 changed, 0 destroyed.","@module":"terraform.ui","@timestamp":"%","changes":{"add":0,"change":0,"operation":"apply","remove":0},"type":"change_summary"}"#;
+
+/// Fails where the summary so many seconds after a start has another moment.
+fn is_printed(rt: &impl Abort, alloc: Global, moment: &str, wanted: &str) {
+    let (start, seconds) = parted(rt, moment, " ");
+    let (start, seconds) = (start_of(rt, start), number_of(rt, seconds) as u64);
+    let counts = Counts::new();
+    let found = summary_of(rt, alloc, start, seconds, Operation::Apply, &counts);
+    let wanted = put(rt, alloc, NOTHING_DONE, "%", wanted);
+    compare_line(rt, moment, found.as_str(), wanted.as_str());
 }
 
 #[test]
 fn moments_are_printed(rt: HostRuntime) {
     for row in MOMENTS.lines() {
-        let (numbers, wanted) = parted(&rt, row, " => ");
-        let (start, seconds) = parted(&rt, numbers, " ");
-        let start = start_of(&rt, start);
-        let found = moment_after(&rt, rt.alloc(), start, number_of(&rt, seconds));
-        compare(&rt, numbers, found.as_str(), wanted);
+        let (moment, wanted) = parted(&rt, row, " => ");
+        is_printed(&rt, rt.alloc(), moment, wanted);
     }
 }
 
 /// The duration of so many seconds.
 fn duration_of(rt: &impl Abort, alloc: Global, seconds: &str) -> String {
-    match seconds.parse::<u32>() {
-        Ok(seconds) => elapsed_text(alloc, seconds).expect(rt, "memory"),
-        Err(_) => panic!(rt; "no duration: {seconds}"),
-    }
+    elapsed_text(alloc, number_of(rt, seconds)).expect(rt, "memory")
 }
 
 #[test]

@@ -1,7 +1,6 @@
 //! Lines of progress through one buffer. Whatever it told before, each is as one that is made by itself.
 
 use super::*;
-use crate::LineBuffer;
 
 /// That a step of a change goes on.
 fn progress_of(change: u32, step: u8, seconds: u32) -> Event {
@@ -151,7 +150,7 @@ fn changes_that_share_a_place_are_told_in_turn(rt: HostRuntime) {
         let (number, seconds) = parted(&rt, row, " ");
         let line = put(&rt, alloc, UPDATE_LINE, "%", number);
         let line = put(&rt, alloc, line.as_str(), "#", seconds);
-        let event = progress_of(index_of(&rt, number), 0, index_of(&rt, seconds));
+        let event = progress_of(number_of(&rt, number), 0, number_of(&rt, seconds));
         is_told(
             &rt,
             alloc,
@@ -163,13 +162,6 @@ fn changes_that_share_a_place_are_told_in_turn(rt: HostRuntime) {
             line.as_str(),
         );
     }
-}
-
-/// A small number.
-fn index_of(rt: &impl Abort, text: &str) -> u32 {
-    let number = number_of(rt, text);
-    assert!(rt; number < 1_000_000);
-    number as u32
 }
 
 /// A replacement that destroys first.
@@ -189,7 +181,7 @@ const STEPS: &str =
 fn add_step(rt: &impl Abort, buffer: &mut LineBuffer, wanted: &mut String, plan: &Plan, row: &str) {
     let (numbers, line) = parted(rt, row, " => ");
     let (step, seconds) = parted(rt, numbers, " ");
-    let event = progress_of(0, if step == "0" { 0 } else { 1 }, index_of(rt, seconds));
+    let event = progress_of(0, if step == "0" { 0 } else { 1 }, number_of(rt, seconds));
     add(rt, buffer, plan, Start::zero(), 0, &event);
     push(rt, wanted, line);
     push(rt, wanted, "\n");
@@ -234,26 +226,23 @@ const DAYS: &str = "1970-01-01T00:00:00Z 0 => 1970-01-01T00:00:00Z
 const DAY_LINE: &str =
     r#"{"@level":"info","@message":"a.b: Still destroying... [20s elapsed]","@module":"terraform.ui","@timestamp":"%","hook":{"action":"delete","elapsed_seconds":20,"resource":{"addr":"a.b","implied_provider":"a","module":"","resource":"a.b","resource_key":null,"resource_name":"b","resource_type":"a"}},"type":"apply_progress"}"#;
 
+/// Fails where the delete is told with another moment than the row's.
+fn has_its_day(rt: &impl Abort, alloc: Global, buffer: &mut LineBuffer, plan: &Plan, row: &str) {
+    let (moment, wanted) = parted(rt, row, " => ");
+    let (start, seconds) = parted(rt, moment, " ");
+    let (start, seconds) = (start_of(rt, start), number_of(rt, seconds) as u64);
+    let line = put(rt, alloc, DAY_LINE, "%", wanted);
+    let event = progress_of(0, 0, 20);
+    let line = line.as_str();
+    is_told(rt, alloc, buffer, plan, start, seconds, &event, line);
+}
+
 #[test]
 fn each_line_has_its_own_day(rt: HostRuntime) {
     let alloc = rt.alloc();
     let plan = plan_of(&rt, alloc, REPLACEMENT);
-    let event = progress_of(0, 0, 20);
     let mut buffer = LineBuffer::new(alloc);
     for row in DAYS.lines() {
-        let (moment, wanted) = parted(&rt, row, " => ");
-        let (start, seconds) = parted(&rt, moment, " ");
-        let (start, seconds) = (start_of(&rt, start), number_of(&rt, seconds));
-        let line = put(&rt, alloc, DAY_LINE, "%", wanted);
-        is_told(
-            &rt,
-            alloc,
-            &mut buffer,
-            &plan,
-            start,
-            seconds,
-            &event,
-            line.as_str(),
-        );
+        has_its_day(&rt, alloc, &mut buffer, &plan, row);
     }
 }
