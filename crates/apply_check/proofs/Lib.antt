@@ -9,6 +9,7 @@ pub mod FromReader
 pub mod Least
 pub mod OneLine
 pub mod OpenSteps
+pub mod Parsed
 pub mod Held
 pub mod Summing
 pub mod Trimmed

@@ -1,4 +1,5 @@
 pub mod Checking
+pub mod CommandLine
 pub mod Counted
 pub mod Course
 pub mod Cut

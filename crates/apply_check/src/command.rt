@@ -1,10 +1,13 @@
 //! The command `check`, from its words to its exit status, over any files and streams.
 
-ghost use Rattle.std.specs.Prelude.{◌≡◌, ◌≤◌, ◌++◌, ◌∷◌, [], true, IfSome, Ok, Err, Result};
+ghost use Rattle.std.specs.Prelude.{◌≡◌, ◌≤◌, ◌⊎◌, ◌++◌, ◌∷◌, [], true, IfSome, Ok, Err, Result, map, string_bytes};
 ghost use Rattle.std.specs.Io.KnownBytes.{Appends, Keeps};
+ghost use Rattle.clap.specs.Faults.{fault_of};
+ghost use Rattle.clap.specs.declared.error.kind.ErrorKind.TheVariants.{DisplayHelp};
+ghost use Rattle.apply_check.specs.CommandLine.{WasChecked, WasNotChecked, command_line};
 ghost use Rattle.apply_check.specs.Cut.{lines_of};
 ghost use Rattle.apply_check.specs.Reading.{IsAnswer};
-ghost use Rattle.apply_check.specs.Telling.{IsTold, fault_status_of, usage_status_of};
+ghost use Rattle.apply_check.specs.Telling.{IsTold, MayStandOpen, fault_status_of, usage_status_of};
 ghost use Rattle.apply_check.specs.declared.read_fault.ReadFault.{ReadFault as fault_type};
 ghost use Rattle.apply_check.specs.declared.whole.Whole.{Whole as whole_type};
 
@@ -16,7 +19,7 @@ use crate::place::Place;
 use crate::placed_finding::PlacedFinding;
 use crate::read_fault::ReadFault;
 use crate::reading::check_with;
-use crate::telling::{finding_object, whole_line};
+use crate::telling::{finding_line, whole_line};
 use crate::usage::Usage;
 use crate::whole::Whole;
 use crate::words::read_words;
@@ -51,7 +54,11 @@ pub fn follow<F: Files, R: Read + Drop, W: Write, E: Write>(
     out: &mut W,
     faults: &mut E,
 ) -> u8
-    ensures { result ≤ 3 }
+    ensures told { WasChecked (map string_bytes words.now) (R.remaining input) (W.contents out.old) (W.contents out.new) result
+        ⊎ WasNotChecked (map string_bytes words.now) (W.contents out.old) (W.contents out.new) result }
+    ensures help { fault_of command_line (map string_bytes words.now) ≡ DisplayHelp ∷ [] → (result ≡ 0) ⊎ (result ≡ 3) }
+    ensures quiet { result ≤ 1 → Keeps (E.contents faults.old) (E.contents faults.new) }
+    ensures statuses { result ≤ 3 }
 {
     let settings = match read_words(alloc, words) {
         Ok(settings) => settings,
@@ -77,7 +84,11 @@ pub fn check_input<R: Read + Drop, W: Write, E: Write>(
     out: &mut W,
     faults: &mut E,
 ) -> u8
-    ensures { result ≤ 3 }
+    ensures told { (answer : Result whole_type fault_type)
+        × IfSome (R.remaining input) (λ bytes. IsAnswer (lines_of bytes) answer)
+        × IsTold form answer result (W.contents out.old) (W.contents out.new) }
+    ensures quiet { result ≤ 1 → Keeps (E.contents faults.old) (E.contents faults.new) }
+    ensures statuses { result ≤ 3 }
 {
     match BufReader::with_capacity(alloc, BUFFER_LEN, input) {
         Ok(mut reader) => check_command(alloc, form, &mut reader, out, faults),
@@ -162,7 +173,7 @@ fn tell_finding<W: Write, E: Write>(
             REFUSED
         }
         Form::Json => {
-            let Ok(text) = finding_object(alloc, finding, place) else {
+            let Ok(text) = finding_line(alloc, finding, place) else {
                 return refuse(faults, ReadFault::Memory);
             };
             if write_line(out, text.as_str()) {
@@ -176,7 +187,9 @@ fn tell_finding<W: Write, E: Write>(
 }
 
 /// What stands open, where that is the fault.
-fn place_of<'a>(checker: &'a Checker, fault: Fault) -> Option<Place<'a>> {
+fn place_of<'a>(checker: &'a Checker, fault: Fault) -> Option<Place<'a>>
+    ensures { MayStandOpen fault result }
+{
     match fault {
         Fault::Unended => {
             let (address, standing) = checker.unended()?;

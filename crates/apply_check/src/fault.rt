@@ -1,6 +1,7 @@
 //! What is wrong with a line, or with the end of a stream.
 
 ghost use Rattle.std.specs.Prelude.{◌≡◌};
+ghost use Rattle.apply_check.specs.Telling.{other_of, word_of};
 ghost use Rattle.apply_check.specs.declared.fault.Fault.TheVariants.{Memory};
 
 use std::alloc::{AllocError, AllocFailed};
@@ -67,7 +68,9 @@ pub enum Fault {
 
 impl Fault {
     /// The fault in a word, for programs.
-    pub fn word(self) -> &'static str {
+    pub fn word(self) -> &'static str
+        ensures { result.now ≡ word_of self }
+    {
         match self {
             Fault::TooLong => "too_long",
             Fault::NotAMessage => "not_a_message",
@@ -91,7 +94,9 @@ impl Fault {
     }
 
     /// The line that the faulty one contradicts, counted from 1, where the fault names one.
-    pub fn other(self) -> Option<u64> {
+    pub fn other(self) -> Option<u64>
+        ensures { result ≡ other_of self }
+    {
         match self {
             Fault::StartsAgain(line)
             | Fault::TooMany(line)

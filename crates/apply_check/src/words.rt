@@ -1,5 +1,13 @@
 //! The words of the command line.
 
+ghost use Rattle.std.specs.Prelude.{◌≡◌, Some, false, IfOk, IfErr, codes, map, option_map, string_bytes};
+ghost use Rattle.clap.specs.Matches.{found_of};
+ghost use Rattle.clap.specs.Simple.{app_of};
+ghost use Rattle.clap.specs.Values.{kind_of};
+ghost use Rattle.clap.specs.Walk.{first_of, one_of, rows_of, rule_of};
+ghost use Rattle.apply_check.specs.CommandLine.{Answers, AreSaid, HaveSaid, WereRefused, command_line, file_rule, json_rule};
+ghost use Rattle.apply_check.specs.declared.form.Form.TheVariants as forms;
+
 use crate::form::Form;
 use crate::settings::Settings;
 use crate::usage::Usage;
@@ -29,7 +37,10 @@ Exit status:
 
 /// The settings that the words behind `check` say. `Err` with `Usage::Help` where they ask for help, with
 /// `Usage::Words` where they are none of this command, and with `Usage::Memory` where memory is refused.
-pub fn read_words(alloc: Global, words: &[String]) -> Result<Settings, Usage> {
+pub fn read_words(alloc: Global, words: &[String]) -> Result<Settings, Usage>
+    ensures said { IfOk result (HaveSaid (map string_bytes words.now)) }
+    ensures refused { IfErr result (WereRefused (map string_bytes words.now)) }
+{
     let command = command(alloc)?;
     match command.try_get_matches_from(words) {
         Ok(matches) => Ok(settings_of(alloc, &matches)?),
@@ -38,40 +49,71 @@ pub fn read_words(alloc: Global, words: &[String]) -> Result<Settings, Usage> {
 }
 
 /// The options, and their help.
-fn command<'a>(alloc: Global) -> Result<Command<'a>, AllocError> {
+fn command<'a>(alloc: Global) -> Result<Command<'a>, AllocError>
+    ensures { IfOk result (λ command. app_of command ≡ command_line) }
+{
     Command::new(alloc, "applystream check")
         .no_binary_name(true)
         .about(ABOUT)
         .after_help(AFTER)
-        .arg(
-            Arg::new(alloc, "json")
-                .long("json")
-                .action(ArgAction::SetTrue)
-                .help("Says the verdict as a JSON object, on standard output"),
-        )?
-        .arg(
-            Arg::new(alloc, "file")
-                .value_name("FILE")
-                .help("The file with the stream"),
-        )
+        .arg(json(alloc))?
+        .arg(file(alloc))
+}
+
+fn json<'a>(alloc: Global) -> Arg<'a>
+    ensures { (rule_of result ≡ json_rule) × (result.global ≡ false) }
+{
+    Arg::new(alloc, "json")
+        .long("json")
+        .action(ArgAction::SetTrue)
+        .help("Says the verdict as a JSON object, on standard output")
+}
+
+fn file<'a>(alloc: Global) -> Arg<'a>
+    ensures { (rule_of result ≡ file_rule) × (result.global ≡ false) }
+{
+    Arg::new(alloc, "file")
+        .value_name("FILE")
+        .help("The file with the stream")
 }
 
 /// What the matches say.
-fn settings_of(alloc: Global, matches: &ArgMatches<'_>) -> Result<Settings, AllocError> {
-    let file = match matches.get_str("file") {
-        Some(file) => Some(String::from_str(alloc, file)?),
-        None => None,
-    };
-    let form = if matches.get_flag("json") {
+fn settings_of(alloc: Global, matches: &ArgMatches<'_>) -> Result<Settings, AllocError>
+    ensures { IfOk result (AreSaid (rows_of (found_of matches.now))) }
+{
+    let file = file_of(alloc, matches)?;
+    Ok(Settings {
+        form: form_of(matches),
+        file,
+    })
+}
+
+/// The file of the stream, where one is named.
+fn file_of(alloc: Global, matches: &ArgMatches<'_>) -> Result<Option<String>, AllocError>
+    ensures { IfOk result (λ file. option_map string_bytes file ≡ first_of (codes "file") (rows_of (found_of matches.now))) }
+{
+    match matches.get_str("file") {
+        Some(file) => Ok(Some(String::from_str(alloc, file)?)),
+        None => Ok(None),
+    }
+}
+
+/// How the verdict is said.
+fn form_of(matches: &ArgMatches<'_>) -> Form
+    ensures json { one_of (codes "json") (rows_of (found_of matches.now)) ≡ Some (codes "true") → result ≡ forms.Json }
+    ensures text { one_of (codes "json") (rows_of (found_of matches.now)) ≡ Some (codes "false") → result ≡ forms.Text }
+{
+    if matches.get_flag("json") {
         Form::Json
     } else {
         Form::Text
-    };
-    Ok(Settings { form, file })
+    }
 }
 
 /// What is answered where the parser gives no matches.
-fn usage_of(alloc: Global, error: &clap::Error) -> Result<Usage, AllocError> {
+fn usage_of(alloc: Global, error: &clap::Error) -> Result<Usage, AllocError>
+    ensures { IfOk result (Answers (kind_of error.now)) }
+{
     if error.kind() == ErrorKind::OutOfMemory {
         return Ok(Usage::Memory);
     }

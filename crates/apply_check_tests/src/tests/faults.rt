@@ -1,6 +1,6 @@
 //! Each fault, as the line and as the object that the command tells it by.
 
-use super::commands::{checked, checked_input, outcome_is};
+use super::commands::{Outcome, checked, checked_input, outcome_is};
 use super::*;
 
 /// Names of lines, and the line that the command says of them.
@@ -71,68 +71,66 @@ fn stream_of(rt: &impl Abort, alloc: Global, names: &str) -> String {
     stream
 }
 
+/// Fails where the command ended otherwise than with status 2 and that line, on the output where objects are wanted and
+/// else on the place for faults.
+fn is_told(rt: &impl Abort, form: Form, told: &Outcome, line: &str) {
+    match form {
+        Form::Text => outcome_is(rt, told, 2, "", line),
+        Form::Json => outcome_is(rt, told, 2, line, ""),
+    }
+}
+
+/// Fails where something else is told of the lines of that row than the row says.
+fn row_is_told(rt: &impl Abort, alloc: Global, form: Form, row: &str) {
+    let (names, said) = cells(rt, row);
+    let stream = stream_of(rt, alloc, names);
+    let line = format!(in alloc; "{said}\n").expect(rt, "memory");
+    let told = checked(alloc, form, stream.as_str());
+    is_told(rt, form, &told, line.as_str());
+}
+
 #[test]
 fn faults_as_text(rt: HostRuntime) {
-    let alloc = rt.alloc();
     for row in TEXTS.trim().lines() {
-        let (names, line) = cells(&rt, row);
-        let stream = stream_of(&rt, alloc, names);
-        let line = format!(in alloc; "{line}\n").expect(&rt, "memory");
-        let told = checked(alloc, Form::Text, stream.as_str());
-        outcome_is(&rt, &told, 2, "", line.as_str());
+        row_is_told(&rt, rt.alloc(), Form::Text, row);
     }
 }
 
 #[test]
 fn faults_as_objects(rt: HostRuntime) {
-    let alloc = rt.alloc();
     for row in OBJECTS.trim().lines() {
-        let (names, object) = cells(&rt, row);
-        let stream = stream_of(&rt, alloc, names);
-        let object = format!(in alloc; "{object}\n").expect(&rt, "memory");
-        let told = checked(alloc, Form::Json, stream.as_str());
-        outcome_is(&rt, &told, 2, object.as_str(), "");
+        row_is_told(&rt, rt.alloc(), Form::Json, row);
     }
 }
 
-/// Fails where the command tells something else of that stream, as the line or as the object.
-fn fault_is(rt: &impl Abort, alloc: Global, stream: &str, line: &str, object: &str) {
-    outcome_is(rt, &checked(alloc, Form::Text, stream), 2, "", line);
-    outcome_is(rt, &checked(alloc, Form::Json, stream), 2, object, "");
+/// The version, and one delete more than may overlap.
+fn overlapping_deletes(rt: &impl Abort, alloc: Global) -> String {
+    let version = line_named(rt, LINES, "V");
+    let start = format!(in alloc; "\n{}", line_named(rt, LINES, "Sd")).expect(rt, "memory");
+    let starts = start.repeat(alloc, 10_001).expect(rt, "memory");
+    format!(in alloc; "{version}{starts}").expect(rt, "memory")
 }
 
 #[test]
 fn deletes_that_are_too_many(rt: HostRuntime) {
     let alloc = rt.alloc();
-    let version = line_named(&rt, LINES, "V");
-    let start = format!(in alloc; "\n{}", line_named(&rt, LINES, "Sd")).expect(&rt, "memory");
-    let starts = start.repeat(alloc, 10_001).expect(&rt, "memory");
-    let stream = format!(in alloc; "{version}{starts}").expect(&rt, "memory");
-    fault_is(
-        &rt,
-        alloc,
-        stream.as_str(),
-        "applystream: line 10002 is one of more than 10000 that overlap since line 2\n",
-        "{\"fault\":\"too_many\",\"line\":10002,\"other\":2,\"whole\":false}\n",
-    );
+    let stream = overlapping_deletes(&rt, alloc);
+    let line = "applystream: line 10002 is one of more than 10000 that overlap since line 2\n";
+    let told = checked(alloc, Form::Text, stream.as_str());
+    is_told(&rt, Form::Text, &told, line);
+    let object = "{\"fault\":\"too_many\",\"line\":10002,\"other\":2,\"whole\":false}\n";
+    let told = checked(alloc, Form::Json, stream.as_str());
+    is_told(&rt, Form::Json, &told, object);
 }
 
 /// A line that never ends is read no further than it is seen to be too long.
 #[test]
 fn a_line_without_end(rt: HostRuntime) {
     let alloc = rt.alloc();
-    outcome_is(
-        &rt,
-        &checked_input(alloc, Form::Text, io::repeat(b' ')),
-        2,
-        "",
-        "applystream: line 1 is longer than 67108864 bytes\n",
-    );
-    outcome_is(
-        &rt,
-        &checked_input(alloc, Form::Json, io::repeat(b' ')),
-        2,
-        "{\"fault\":\"too_long\",\"line\":1,\"whole\":false}\n",
-        "",
-    );
+    let line = "applystream: line 1 is longer than 67108864 bytes\n";
+    let told = checked_input(alloc, Form::Text, io::repeat(b' '));
+    is_told(&rt, Form::Text, &told, line);
+    let object = "{\"fault\":\"too_long\",\"line\":1,\"whole\":false}\n";
+    let told = checked_input(alloc, Form::Json, io::repeat(b' '));
+    is_told(&rt, Form::Json, &told, object);
 }

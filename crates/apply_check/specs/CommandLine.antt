@@ -1,0 +1,85 @@
+-- What the words behind `check` say, and what is done: the options that there are, as `clap` takes them, and which of
+-- them gives which setting.
+use Rattle.std.specs.Prelude.{◌≡◌, ◌≤◌, ◌⊎◌, ⊤, ℕ, List, [], ◌∷◌, Option, Some, None, IfSome, Result, true, codes, option_map, string_bytes}
+use Rattle.std.specs.Io.KnownBytes.{Keeps}
+use Rattle.clap.specs.Faults.{fault_of}
+use Rattle.clap.specs.Kinds.{IsAmong}
+use Rattle.clap.specs.Simple.{App, matches_of, new_rule, new_shape}
+use Rattle.clap.specs.Walk.{Row, Rule, Text, first_of, one_of}
+use Rattle.clap.specs.declared.builder.action.ArgAction.TheVariants.{SetTrue}
+use Rattle.clap.specs.declared.error.kind.ErrorKind.{ErrorKind}
+use Rattle.clap.specs.declared.error.kind.ErrorKind.TheVariants.{DisplayHelp, OutOfMemory}
+use Rattle.apply_check.specs.Cut.{lines_of}
+use Rattle.apply_check.specs.Reading.{IsAnswer}
+use Rattle.apply_check.specs.Telling.{IsTold}
+use Rattle.apply_check.specs.declared.form.Form.TheVariants as form
+use Rattle.apply_check.specs.declared.read_fault.ReadFault.{ReadFault}
+use Rattle.apply_check.specs.declared.settings.Settings.{Settings}
+use Rattle.apply_check.specs.declared.usage.Usage.{Usage}
+use Rattle.apply_check.specs.declared.usage.Usage.TheVariants as usage
+use Rattle.apply_check.specs.declared.whole.Whole.{Whole}
+
+-- ---- the options
+
+-- `--json`
+abbrev pub json_rule : Rule
+json_rule = record (new_rule (codes "json")) { long = Some (codes "json"); action = Some SetTrue }
+
+-- `FILE`
+abbrev pub file_rule : Rule
+file_rule = record (new_rule (codes "file")) { value_names = 1 }
+
+-- the command, whose words are those behind `check`
+abbrev pub command_line : App
+command_line = record {
+  top = record (new_shape (codes "applystream check")) { no_binary_name = true; rules = json_rule ∷ file_rule ∷ [] };
+  subs = [];
+}
+
+-- ---- what they say
+
+-- each setting is what its own option says
+pub record AreSaid (rows : List Row) (settings : Settings) : Type 0 where
+  pub file : option_map string_bytes settings.file ≡ first_of (codes "file") rows
+  pub json : one_of (codes "json") rows ≡ Some (codes "true") → settings.form ≡ form.Json
+  pub text : one_of (codes "json") rows ≡ Some (codes "false") → settings.form ≡ form.Text
+
+-- the words were taken, and the settings are what they say
+pub record HaveSaid (words : List Text) (settings : Settings) : Type 0 where
+  pub taken : fault_of command_line words ≡ []
+  pub said : AreSaid (matches_of command_line words) settings
+
+-- ---- why they are refused
+
+-- what is answered to an error of that kind: help where help was asked for
+abbrev pub Answers : ErrorKind → Usage → Type 0
+Answers kind (usage.Help text) = kind ≡ DisplayHelp
+Answers kind (usage.Words text) = (kind ≡ OutOfMemory → ⊥) × (kind ≡ DisplayHelp → ⊥)
+Answers kind usage.Memory = ⊤
+
+-- the words are a call for help
+abbrev pub AskForHelp : List Text → Type 0
+AskForHelp words = IsAmong DisplayHelp (fault_of command_line words)
+
+-- they are a call for help, or none of these options, or memory was refused
+abbrev pub WereRefused : List Text → Usage → Type 0
+WereRefused words (usage.Help text) = AskForHelp words
+WereRefused words (usage.Words text) =
+    (kind : ErrorKind) × (kind ≡ DisplayHelp → ⊥) × IsAmong kind (fault_of command_line words)
+WereRefused words usage.Memory = ⊤
+
+-- ---- what is done
+
+-- a stream was checked as the words say, the one of the input where they name no file, and the answer is told
+pub record WasChecked (words : List Text) (input before after : Option (List ℕ)) (status : ℕ) : Type 0 where
+  pub settings : Settings
+  pub said : HaveSaid words settings
+  pub answer : Result Whole ReadFault
+  pub of_input : settings.file ≡ None → IfSome input (λ bytes. IsAnswer (lines_of bytes) answer)
+  pub told : IsTold settings.form answer status before after
+
+-- no stream was checked: help was asked for, with status 0; or the status is 2 or more and the output as it was, for
+-- whatever cause
+abbrev pub WasNotChecked : (words : List Text) → (before after : Option (List ℕ)) → (status : ℕ) → Type 0
+WasNotChecked words before after status =
+    ((status ≡ 0) × AskForHelp words) ⊎ ((2 ≤ status) × Keeps before after)
