@@ -128,8 +128,8 @@ pub fn every_applied_stream_is_accepted()
     every_stream_of_what_was_read_is_accepted();
 }
 
-/// What `apply_bytes_in_lanes` of `apply_run` writes a checker accepts as well, with the same two conditions, and says of
-/// it what the report says.
+/// What `apply_bytes_in_lanes` of `apply_run` writes a checker accepts as well, on the same three conditions, and says of it
+/// what the report says.
 pub fn every_stream_applied_in_lanes_is_accepted()
     ensures stream { (given : Given) (lanes start : ℕ) (operation : Operation) (report : Report) (before after : Sight)
         (applied : WasAppliedInLanes given lanes start operation report before after)
