@@ -179,3 +179,28 @@ fn nothing_is_no_stream(rt: HostRuntime) {
         })
     );
 }
+
+/// Adds the line of that name.
+fn add_line(rt: &impl Abort, alloc: Global, lines: &mut Vec<Vec<u8>>, name: &str) {
+    let mut line = Vec::new(alloc);
+    line.extend_from_slice(line_named(rt, LINES, name).as_bytes())
+        .expect(rt, "memory");
+    lines.push(line).expect(rt, "memory");
+}
+
+/// Fails where the lines have another finding.
+fn finding_is(rt: &impl Abort, alloc: Global, lines: &[Vec<u8>], line: u64, fault: Fault) {
+    assert!(rt; lines.len() < 1 << 32);
+    assert_eq!(rt; check_lines(alloc, lines), Err(Finding { line, fault }));
+}
+
+/// From 1 on; what is missing is found at the last line.
+#[test]
+fn lines_have_numbers(rt: HostRuntime) {
+    let alloc = rt.alloc();
+    let mut lines = Vec::new(alloc);
+    add_line(&rt, alloc, &mut lines, "V");
+    finding_is(&rt, alloc, &lines, 1, Fault::NoEnd);
+    add_line(&rt, alloc, &mut lines, "?");
+    finding_is(&rt, alloc, &lines, 2, Fault::NotAMessage);
+}

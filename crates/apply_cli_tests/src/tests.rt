@@ -30,10 +30,15 @@ use std::thread::Threads;
 
 /// What no words say.
 fn defaults(alloc: Global) -> Settings {
+    with_workers(alloc, 1)
+}
+
+/// What no words say, but for the workers.
+fn with_workers(alloc: Global, workers: u8) -> Settings {
     Settings {
         at: Start::zero(),
         script: None,
-        workers: 1,
+        workers,
         queue: 64,
         operation: Operation::Apply,
         halts: Vec::new(alloc),

@@ -178,6 +178,12 @@ fn words(rt: HostRuntime) {
     let help = followed(&rt, &rt, alloc, "--help", "");
     assert_eq!(rt; help.status, 0);
     assert!(rt; help.said.is_empty());
+    assert!(rt; text_of(&rt, &help.printed).contains("Exit status:"));
+}
+
+/// The bytes as text.
+fn text_of<'a>(rt: &impl Abort, bytes: &'a [u8]) -> &'a str {
+    std::str::from_utf8(bytes).expect(rt, "UTF-8")
 }
 
 /// Fails where the words are not refused, or something else is said of them.

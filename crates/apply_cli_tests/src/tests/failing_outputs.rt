@@ -32,13 +32,13 @@ fn run_to_failure<E: Write, T: Threads + Wait + Sync>(
     output: FailingWriter,
     said: &mut E,
 ) -> (FailingWriter, u8) {
-    let mut settings = defaults(alloc);
-    settings.workers = workers;
+    let settings = with_workers(alloc, workers);
     let registry = Registry::new(alloc);
     let script = Some(FAILED_DESTROY_SCRIPT.as_bytes());
-    let (plan, output) = (FAILED_DESTROY.as_bytes(), StdSink::new(output));
-    let (output, status) = run_command(rt, alloc, &settings, &registry, script, plan, output, said);
-    (output.into_inner(), status)
+    let plan = FAILED_DESTROY.as_bytes();
+    let sink = StdSink::new(output);
+    let (sink, status) = run_command(rt, alloc, &settings, &registry, script, plan, sink, said);
+    (sink.into_inner(), status)
 }
 
 /// Fails where an output with room for so many bytes gets others, or the status or what is said is another.

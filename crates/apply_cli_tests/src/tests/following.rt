@@ -59,14 +59,29 @@ fn words_with_blanks(rt: &impl Abort, alloc: Global, text: &str) -> Vec<String> 
     words
 }
 
+/// Follows the words of a text, with the replacement as the input.
+fn answered<T: Threads + Wait + Sync + Abort, F: Files>(
+    rt: &T,
+    files: &F,
+    alloc: Global,
+    words: &str,
+) -> Outcome {
+    let words = words_with_blanks(rt, alloc, words);
+    followed(rt, files, alloc, &words, REPLACEMENT)
+}
+
+/// Fails where the number has another text.
+fn is_number(rt: &impl Abort, alloc: Global, row: &str, number: u8, wanted: &str) {
+    let text = format!(in alloc; "{number}").expect(rt, "memory");
+    assert_eq!(rt; text.as_str(), wanted, "{row}");
+}
+
 /// Fails where the words of the row have another status, or another fault is said.
 fn row_is<T: Threads + Wait + Sync + Abort, F: Files>(rt: &T, files: &F, alloc: Global, row: &str) {
     let (words, rest) = parted(rt, row, " => ");
     let (status, said) = parted(rt, rest, " =>");
-    let words = words_with_blanks(rt, alloc, words);
-    let outcome = followed(rt, files, alloc, &words, REPLACEMENT);
-    let found = format!(in alloc; "{}", outcome.status).expect(rt, "memory");
-    assert_eq!(rt; found.as_str(), status, "{row}");
+    let outcome = answered(rt, files, alloc, words);
+    is_number(rt, alloc, row, outcome.status, status);
     assert_eq!(rt; text_of(rt, &outcome.said).trim(), said.trim(), "{row}");
 }
 
@@ -86,8 +101,7 @@ fn stream_is<T: Threads + Wait + Sync + Abort, F: Files>(
     status: u8,
     stream: &str,
 ) {
-    let given = words_with_blanks(rt, alloc, words);
-    let outcome = followed(rt, files, alloc, &given, REPLACEMENT);
+    let outcome = answered(rt, files, alloc, words);
     outcome_is(rt, words, &outcome, status, stream, "");
 }
 
@@ -99,27 +113,45 @@ fn a_hook_halts_beside_two_workers(rt: HostRuntime) {
     stream_is(&rt, &rt, rt.alloc(), words, 1, HALTED);
 }
 
+/// Fails where nothing printed has this text.
+fn prints(rt: &impl Abort, outcome: &Outcome, text: &str) {
+    let printed = text_of(rt, &outcome.printed);
+    assert!(rt; printed.contains(text), "{printed}");
+}
+
 /// The hooks of `--halt-before` are asked first, each kind in its order: the third one halts the delete.
 #[test]
 fn hooks_are_asked_in_their_order(rt: HostRuntime) {
     let words = "--halt-in null --halt-before read --halt-before create --halt-before delete";
-    let given = words_with_blanks(&rt, rt.alloc(), words);
-    let outcome = followed(&rt, &rt, rt.alloc(), &given, REPLACEMENT);
+    let outcome = answered(&rt, &rt, rt.alloc(), words);
     status_is(&rt, words, &outcome, 1);
-    let printed = text_of(&rt, &outcome.printed);
-    assert!(rt;
-        printed.contains("Hook 2 answered Halt before delete."),
-        "{printed}"
-    );
+    prints(&rt, &outcome, "Hook 2 answered Halt before delete.");
 }
 
 #[test]
 fn help_is_printed(rt: HostRuntime) {
-    let given = words_with_blanks(&rt, rt.alloc(), "--help");
-    let outcome = followed(&rt, &rt, rt.alloc(), &given, "");
+    let outcome = answered(&rt, &rt, rt.alloc(), "--help");
     status_is(&rt, "help", &outcome, 0);
     is_text(&rt, "help", &outcome.said, "");
-    assert!(rt; text_of(&rt, &outcome.printed).contains("Exit status:"));
+    prints(&rt, &outcome, "Exit status:");
+}
+
+/// Asks for the version over this output.
+fn versioned<T: Threads + Wait + Sync + Abort, F: Files>(
+    rt: &T,
+    files: &F,
+    alloc: Global,
+    output: FailingWriter,
+) -> Outcome {
+    let words = words_with_blanks(rt, alloc, "--version");
+    let mut said = Vec::new(alloc);
+    let input = b"".as_slice();
+    let (output, status) = follow(rt, files, alloc, &words, input, output, &mut said);
+    Outcome {
+        status,
+        printed: output.taken,
+        said,
+    }
 }
 
 /// Fails where the version has another status over this output, or other texts are printed or said.
@@ -132,15 +164,7 @@ fn version_is<T: Threads + Wait + Sync + Abort, F: Files>(
     printed: &str,
     said: &str,
 ) {
-    let words = words_with_blanks(rt, alloc, "--version");
-    let mut found = Vec::new(alloc);
-    let input = b"".as_slice();
-    let (output, ended) = follow(rt, files, alloc, &words, input, output, &mut found);
-    let outcome = Outcome {
-        status: ended,
-        printed: output.taken,
-        said: found,
-    };
+    let outcome = versioned(rt, files, alloc, output);
     outcome_is(rt, printed, &outcome, status, printed, said);
 }
 
@@ -160,31 +184,38 @@ fn the_version_is_printed(rt: HostRuntime) {
     version_is(&rt, &rt, alloc, unflushed(alloc, room), 3, whole, UNWRITTEN);
 }
 
-/// Settings that no words say, with a halt more than there may be hooks.
-#[test]
-fn more_halts_than_hooks_are_refused(rt: HostRuntime) {
-    let alloc = rt.alloc();
-    let mut settings = defaults(alloc);
-    for _ in 0..33 {
-        let halt = Halt::Before(StepKind::Read);
-        settings.halts.push(halt).expect(&rt, "memory");
-    }
+/// Follows settings, with the replacement as the input.
+fn invoked<T: Threads + Wait + Sync, F: Files>(
+    rt: &T,
+    files: &F,
+    alloc: Global,
+    settings: &Settings,
+) -> Outcome {
     let mut said = Vec::new(alloc);
-    let input = REPLACEMENT.as_bytes();
+    let (input, output) = (REPLACEMENT.as_bytes(), empty(alloc));
     let (output, status) = follow_invocation(
-        &rt,
-        &rt,
-        alloc,
-        &settings,
-        None,
-        input,
-        empty(alloc),
-        &mut said,
+        rt, files, alloc, settings, None, input, output, &mut said,
     );
-    let outcome = Outcome {
+    Outcome {
         status,
         printed: output.into_inner(),
         said,
-    };
+    }
+}
+
+/// Settings that no words say, with a halt more than there may be hooks.
+fn with_33_halts(rt: &impl Abort, alloc: Global) -> Settings {
+    let mut settings = defaults(alloc);
+    for _ in 0..33 {
+        let halt = Halt::Before(StepKind::Read);
+        settings.halts.push(halt).expect(rt, "memory");
+    }
+    settings
+}
+
+#[test]
+fn more_halts_than_hooks_are_refused(rt: HostRuntime) {
+    let settings = with_33_halts(&rt, rt.alloc());
+    let outcome = invoked(&rt, &rt, rt.alloc(), &settings);
     outcome_fails(&rt, "33 halts", &outcome, 2, "more than 32 hooks");
 }
