@@ -136,14 +136,19 @@ fn halted(failed: u64) -> Counts {
     }
 }
 
-/// Two hooks halt each delete before it begins. The one in front of them has no rules. The halt is the only event.
-#[test]
-fn hooks_halt(rt: HostRuntime) {
+/// A hook without rules, and behind it so many that halt each step of the kind before it begins, or each where none is
+/// given: the halt of a replacement's first step is the only event.
+fn replacement_is_halted<R: Threads + Wait + Sync + Abort>(
+    rt: &R,
+    alloc: Global,
+    halting: u8,
+    kind: Option<StepKind>,
+) {
     let case = Case {
         quiet: 1,
-        halting: 2,
+        halting,
         phase: Phase::Pre,
-        kind: Some(StepKind::Delete),
+        kind,
         plan: REPLACEMENT,
         script: NO_SCRIPT,
         stream: HALTED_REPLACEMENT,
@@ -151,25 +156,17 @@ fn hooks_halt(rt: HostRuntime) {
         taken: 1,
         passes: 0x13,
     };
-    halts_so(&rt, rt.alloc(), &case);
+    halts_so(rt, alloc, &case);
 }
 
-/// A hook halts each step before it begins.
 #[test]
-fn report_of_a_halt(rt: HostRuntime) {
-    let case = Case {
-        quiet: 1,
-        halting: 1,
-        phase: Phase::Pre,
-        kind: None,
-        plan: REPLACEMENT,
-        script: NO_SCRIPT,
-        stream: HALTED_REPLACEMENT,
-        counts: halted(0),
-        taken: 1,
-        passes: 0x13,
-    };
-    halts_so(&rt, rt.alloc(), &case);
+fn each_delete_is_halted(rt: HostRuntime) {
+    replacement_is_halted(&rt, rt.alloc(), 2, Some(StepKind::Delete));
+}
+
+#[test]
+fn each_step_is_halted(rt: HostRuntime) {
+    replacement_is_halted(&rt, rt.alloc(), 1, None);
 }
 
 /// A step passes the gate before a hook halts it, and the next step of that change never does. A create goes on.
