@@ -4,8 +4,9 @@ use Rattle.std.specs.Prelude.{IfSome, OnSome}
 use Rattle.std.specs.Io.BufRead.{drop_through}
 use Rattle.std.specs.Io.KnownBytes.{Consumes, IsAtEnd}
 use Rattle.std.proofs.BufReadLemmas.{drop_through-append}
+use Rattle.std.proofs.KnownBytes.{Consumes-nil}
 use Rattle.std.proofs.lemmas.Bool.{cases_Bool}
-use Rattle.std.proofs.lemmas.List.Elements.{All-append, All-head, All-tail}
+use Rattle.std.proofs.lemmas.List.Elements.{All-append, All-head, All-nil, All-tail}
 use Rattle.apply_check.specs.Cut.{first_of, lines_of, onto_first}
 use Rattle.apply_check.specs.Limits.{max_bytes}
 use Rattle.apply_check.specs.Reading.{Gives}
@@ -99,6 +100,10 @@ still_no_feed a b c old piece new p = subst (All (λ byte. byte ≢ 10)) (sym p.
 
 still_taken : (a b c : Option (List ℕ)) (old piece new : List ℕ) → Parts a b c old piece new → Consumes b c piece → Consumes a c new
 still_taken a b c old piece new p k = subst (Consumes a c) (sym p.grown) (consumes_on a b c old piece p.taken k)
+
+-- before the first part
+pub starts : (a : Option (List ℕ)) (new : List ℕ) → new ≡ [] → All (λ byte. byte ≢ 10) new × Consumes a a new
+starts a new none = subst (λ (l : List ℕ). All (λ byte. byte ≢ 10) l × Consumes a a l) (sym none) (All-nil (λ byte. byte ≢ 10), Consumes-nil a)
 
 pub goes_further : (a b c : Option (List ℕ)) (old piece new : List ℕ) → Parts a b c old piece new → Consumes b c piece → All (λ byte. byte ≢ 10) new × Consumes a c new
 goes_further a b c old piece new p k = (still_no_feed a b c old piece new p, still_taken a b c old piece new p k)

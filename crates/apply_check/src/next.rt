@@ -1,7 +1,7 @@
 //! What comes next in a stream of lines.
 
 /// What comes next.
-#[derive(Clone, Copy, Debug, PartialEq, Eq)]
+#[derive(Clone, Copy)]
 pub enum Next {
     /// A line.
     Line,

@@ -1,7 +1,7 @@
 //! What a reader showed of a line.
 
 /// What a reader showed of a line.
-#[derive(Clone, Copy, Debug, PartialEq, Eq)]
+#[derive(Clone, Copy)]
 pub enum Shown {
     /// A part of it, behind which it goes on or ends.
     Part,

@@ -1,7 +1,8 @@
 //! Verdicts as lines of text and as JSON objects.
 
-ghost use Rattle.std.specs.Prelude.{◌≡◌, IfOk, string_bytes};
-ghost use Rattle.serde_json.specs.View.{view};
+ghost use Rattle.std.specs.Prelude.{◌≡◌, [], IfOk, OnOk, string_bytes};
+ghost use Rattle.serde_json.specs.Data.{object};
+ghost use Rattle.serde_json.specs.View.{members_view, view};
 ghost use Rattle.serde_json.specs.Written.{compact_text};
 ghost use Rattle.apply_check.specs.Telling as telling;
 ghost use Rattle.apply_check.specs.Telling.{whole_said};
@@ -10,7 +11,7 @@ use crate::finding::Finding;
 use crate::form::Form;
 use crate::place::Place;
 use crate::whole::Whole;
-use serde_json::{Value, json};
+use serde_json::{Map, Value, put};
 use std::alloc::{AllocError, Global};
 
 /// What is said of a whole stream, in that form.
@@ -27,19 +28,27 @@ pub fn whole_line(alloc: Global, form: Form, whole: &Whole) -> Result<String, Al
 fn whole_object(alloc: Global, whole: &Whole) -> Result<Value, AllocError>
     ensures { IfOk result (λ value. view value ≡ telling.whole_object whole.now) }
 {
-    let added = whole.totals.added;
-    let changed = whole.totals.changed;
-    let removed = whole.totals.removed;
-    let has_errors = whole.has_errors;
-    let lines = whole.lines;
-    json!(in alloc; {
-        "add": added,
-        "change": changed,
-        "errors": has_errors,
-        "lines": lines,
-        "remove": removed,
-        "whole": true
-    })
+    let mut members = Map::new(alloc);
+    put_whole(alloc, &mut members, whole)?;
+    Ok(Value::Object(members))
+}
+
+/// Puts what a whole stream tells. The members are the caller's, as with the other `put_` functions, so that no way out
+/// has any to drop.
+fn put_whole(
+    alloc: Global,
+    members: &mut Map<String, Value>,
+    whole: &Whole,
+) -> Result<(), AllocError>
+    requires { members.old.entries ≡ [] }
+    ensures { OnOk result (object (members_view members.new.entries) ≡ telling.whole_object whole.now) }
+{
+    put(members, alloc, "add", Value::from(whole.totals.added))?;
+    put(members, alloc, "change", Value::from(whole.totals.changed))?;
+    put(members, alloc, "errors", Value::from(whole.has_errors))?;
+    put(members, alloc, "lines", Value::from(whole.lines))?;
+    put(members, alloc, "remove", Value::from(whole.totals.removed))?;
+    put(members, alloc, "whole", Value::from(true))
 }
 
 /// What is wrong with a stream, with what stands open where that is the fault, as an object's text.
@@ -61,55 +70,70 @@ fn finding_object(
 ) -> Result<Value, AllocError>
     ensures { IfOk result (λ value. view value ≡ telling.finding_object finding.now place.entry) }
 {
+    let mut members = Map::new(alloc);
+    put_finding(alloc, &mut members, finding, place)?;
+    Ok(Value::Object(members))
+}
+
+/// Puts what is wrong with a stream.
+fn put_finding(
+    alloc: Global,
+    members: &mut Map<String, Value>,
+    finding: &Finding,
+    place: Option<Place<'_>>,
+) -> Result<(), AllocError>
+    requires { members.old.entries ≡ [] }
+    ensures { OnOk result (object (members_view members.new.entries) ≡ telling.finding_object finding.now place.entry) }
+{
     match (place, finding.fault.other()) {
-        (Some(place), _) => placed_object(alloc, finding, place),
-        (None, Some(other)) => other_object(alloc, finding, other),
-        (None, None) => plain_object(alloc, finding),
+        (Some(place), _) => put_placed(alloc, members, finding, place),
+        (None, Some(other)) => put_other(alloc, members, finding, other),
+        (None, None) => put_plain(alloc, members, finding),
     }
 }
 
-/// What is wrong, with what stands open, as an object.
-fn placed_object(alloc: Global, finding: &Finding, place: Place<'_>) -> Result<Value, AllocError>
-    ensures { IfOk result (λ value. view value ≡ telling.placed_object finding.now place.entry) }
+/// Puts what is wrong, with what stands open.
+fn put_placed(
+    alloc: Global,
+    members: &mut Map<String, Value>,
+    finding: &Finding,
+    place: Place<'_>,
+) -> Result<(), AllocError>
+    requires { members.old.entries ≡ [] }
+    ensures { OnOk result (object (members_view members.new.entries) ≡ telling.placed_object finding.now place.entry) }
 {
-    let fault = finding.fault.word();
-    let line = finding.line;
-    let address = place.address;
-    let open = place.what;
-    let since = place.since;
-    json!(in alloc; {
-        "address": address,
-        "fault": fault,
-        "line": line,
-        "open": open,
-        "other": since,
-        "whole": false
-    })
+    put_other(alloc, members, finding, place.since)?;
+    let address = Value::try_from_str(alloc, place.address)?;
+    put(members, alloc, "address", address)?;
+    let open = Value::try_from_str(alloc, place.what)?;
+    put(members, alloc, "open", open)
 }
 
-/// What is wrong, with the line that the faulty one contradicts, as an object.
-fn other_object(alloc: Global, finding: &Finding, other: u64) -> Result<Value, AllocError>
-    ensures { IfOk result (λ value. view value ≡ telling.other_object finding.now other) }
+/// Puts what is wrong, with the line that the faulty one contradicts or since which something stands open.
+fn put_other(
+    alloc: Global,
+    members: &mut Map<String, Value>,
+    finding: &Finding,
+    other: u64,
+) -> Result<(), AllocError>
+    requires { members.old.entries ≡ [] }
+    ensures { OnOk result (object (members_view members.new.entries) ≡ telling.other_object finding.now other) }
 {
-    let fault = finding.fault.word();
-    let line = finding.line;
-    json!(in alloc; {
-        "fault": fault,
-        "line": line,
-        "other": other,
-        "whole": false
-    })
+    put_plain(alloc, members, finding)?;
+    put(members, alloc, "other", Value::from(other))
 }
 
-/// What is wrong, with neither of them, as an object.
-fn plain_object(alloc: Global, finding: &Finding) -> Result<Value, AllocError>
-    ensures { IfOk result (λ value. view value ≡ telling.plain_object finding.now) }
+/// Puts what is wrong, with neither of them.
+fn put_plain(
+    alloc: Global,
+    members: &mut Map<String, Value>,
+    finding: &Finding,
+) -> Result<(), AllocError>
+    requires { members.old.entries ≡ [] }
+    ensures { OnOk result (object (members_view members.new.entries) ≡ telling.plain_object finding.now) }
 {
-    let fault = finding.fault.word();
-    let line = finding.line;
-    json!(in alloc; {
-        "fault": fault,
-        "line": line,
-        "whole": false
-    })
+    let fault = Value::try_from_str(alloc, finding.fault.word())?;
+    put(members, alloc, "fault", fault)?;
+    put(members, alloc, "line", Value::from(finding.line))?;
+    put(members, alloc, "whole", Value::from(false))
 }
