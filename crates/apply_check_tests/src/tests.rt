@@ -132,39 +132,69 @@ fn line_named<'a>(rt: &impl Abort, lines: &'a str, name: &str) -> &'a str {
 /// What is found in the lines of those names.
 fn verdict(rt: &impl Abort, alloc: Global, names: &str) -> String {
     let mut checker = Checker::new(alloc);
+    let (count, taken) = take_lines(rt, alloc, &mut checker, names);
+    match taken {
+        Ok(()) => end_said(rt, alloc, &checker, count),
+        Err(fault) => fault_said(rt, alloc, count, fault),
+    }
+}
+
+/// Takes the lines of those names up to the first with a fault, and counts them.
+fn take_lines(
+    rt: &impl Abort,
+    alloc: Global,
+    checker: &mut Checker,
+    names: &str,
+) -> (u64, Result<(), Fault>) {
     let mut count = 0u64;
     for name in names.split(' ') {
         assert!(rt; !checker.is_full());
         count = count.wrapping_add(1);
-        match checker.line(alloc, line_named(rt, LINES, name).as_bytes()) {
-            Ok(()) => {}
-            Err(fault) => return format!(in alloc; "{count} {fault}").expect(rt, "memory"),
+        let taken = checker.line(alloc, line_named(rt, LINES, name).as_bytes());
+        if taken.is_err() {
+            return (count, taken);
         }
     }
+    (count, Ok(()))
+}
+
+/// What is found at the end of so many lines.
+fn end_said(rt: &impl Abort, alloc: Global, checker: &Checker, count: u64) -> String {
     match checker.end() {
         Ok(whole) => {
-            let added = whole.totals.added;
-            let changed = whole.totals.changed;
-            let removed = whole.totals.removed;
-            let errors = if checker.has_failed() {
-                " with errors"
-            } else {
-                ""
-            };
             assert_eq!(rt; whole.has_errors, checker.has_failed());
             assert_eq!(rt; whole.lines, count);
-            format!(in alloc; "ok {added} {changed} {removed}{errors}").expect(rt, "memory")
+            whole_said(rt, alloc, &whole)
         }
-        Err(fault) => format!(in alloc; "{count} {fault}").expect(rt, "memory"),
+        Err(fault) => fault_said(rt, alloc, count, fault),
     }
+}
+
+/// The totals of a stream, and whether there was an error.
+fn whole_said(rt: &impl Abort, alloc: Global, whole: &Whole) -> String {
+    let added = whole.totals.added;
+    let changed = whole.totals.changed;
+    let removed = whole.totals.removed;
+    let errors = if whole.has_errors { " with errors" } else { "" };
+    format!(in alloc; "ok {added} {changed} {removed}{errors}").expect(rt, "memory")
+}
+
+/// A fault, and its line.
+fn fault_said(rt: &impl Abort, alloc: Global, line: u64, fault: Fault) -> String {
+    format!(in alloc; "{line} {fault}").expect(rt, "memory")
+}
+
+/// Fails where something else is found in the lines of that row than the row says.
+fn row_is_found(rt: &impl Abort, alloc: Global, row: &str) {
+    let (names, wanted) = cells(rt, row);
+    let found = verdict(rt, alloc, names);
+    assert_eq!(rt; found.as_str(), wanted, "{names}");
 }
 
 #[test]
 fn verdicts(rt: HostRuntime) {
     for row in VERDICTS.trim().lines() {
-        let (names, wanted) = cells(&rt, row);
-        let found = verdict(&rt, rt.alloc(), names);
-        assert_eq!(rt; found.as_str(), wanted, "{names}");
+        row_is_found(&rt, rt.alloc(), row);
     }
 }
 

@@ -77,9 +77,14 @@ pub(super) fn outcome_is(
     printed: &str,
     said: &str,
 ) {
-    assert_eq!(rt; outcome.printed.as_slice(), printed.as_bytes());
-    assert_eq!(rt; outcome.said.as_slice(), said.as_bytes());
+    bytes_are(rt, &outcome.printed, printed);
+    bytes_are(rt, &outcome.said, said);
     assert_eq!(rt; outcome.status, status);
+}
+
+/// Fails where the bytes are another text.
+fn bytes_are(rt: &impl Abort, found: &[u8], text: &str) {
+    assert_eq!(rt; found, text.as_bytes());
 }
 
 /// Fails where the check of the stream ends with another status or tells something else, as text or as an object. The text
@@ -151,31 +156,34 @@ fn followed<F: Files>(
     }
 }
 
+/// Fails where the words do something else with the stream of a failed step.
+fn followed_is<F: Files>(
+    rt: &impl Abort,
+    files: &F,
+    alloc: Global,
+    words: &str,
+    status: u8,
+    printed: &str,
+    said: &str,
+) {
+    let outcome = followed(rt, files, alloc, words, FAILED);
+    outcome_is(rt, &outcome, status, printed, said);
+}
+
 #[test]
 fn words(rt: HostRuntime) {
     let alloc = rt.alloc();
-    outcome_is(
-        &rt,
-        &followed(&rt, &rt, alloc, "", FAILED),
-        1,
-        "the stream is whole: 0 added, 0 changed, 0 destroyed, with errors\n",
-        "",
-    );
-    outcome_is(
-        &rt,
-        &followed(&rt, &rt, alloc, "--json", FAILED),
-        1,
-        "{\"add\":0,\"change\":0,\"errors\":true,\"lines\":4,\"remove\":0,\"whole\":true}\n",
-        "",
-    );
-    outcome_is(
-        &rt,
-        &followed(&rt, &rt, alloc, "no_such_file.jsonl", FAILED),
-        2,
-        "",
-        NO_FILE,
-    );
-    let help = followed(&rt, &rt, alloc, "--help", "");
+    let text = "the stream is whole: 0 added, 0 changed, 0 destroyed, with errors\n";
+    followed_is(&rt, &rt, alloc, "", 1, text, "");
+    let object =
+        "{\"add\":0,\"change\":0,\"errors\":true,\"lines\":4,\"remove\":0,\"whole\":true}\n";
+    followed_is(&rt, &rt, alloc, "--json", 1, object, "");
+    followed_is(&rt, &rt, alloc, "no_such_file.jsonl", 2, "", NO_FILE);
+}
+
+#[test]
+fn help(rt: HostRuntime) {
+    let help = followed(&rt, &rt, rt.alloc(), "--help", "");
     assert_eq!(rt; help.status, 0);
     assert!(rt; help.said.is_empty());
     assert!(rt; text_of(&rt, &help.printed).contains("Exit status:"));
@@ -186,17 +194,12 @@ fn text_of<'a>(rt: &impl Abort, bytes: &'a [u8]) -> &'a str {
     std::str::from_utf8(bytes).expect(rt, "UTF-8")
 }
 
-/// Fails where the words are not refused, or something else is said of them.
-fn refused_is<F: Files>(rt: &impl Abort, files: &F, alloc: Global, words: &str, said: &str) {
-    outcome_is(rt, &followed(rt, files, alloc, words, FAILED), 2, "", said);
-}
-
 #[test]
 fn words_refused(rt: HostRuntime) {
     let alloc = rt.alloc();
-    refused_is(&rt, &rt, alloc, "--jsonl", UNKNOWN_OPTION);
-    refused_is(&rt, &rt, alloc, "a.jsonl b.jsonl", SECOND_FILE);
-    refused_is(&rt, &rt, alloc, "--json no_such_file.jsonl", NO_FILE);
+    followed_is(&rt, &rt, alloc, "--jsonl", 2, "", UNKNOWN_OPTION);
+    followed_is(&rt, &rt, alloc, "a.jsonl b.jsonl", 2, "", SECOND_FILE);
+    followed_is(&rt, &rt, alloc, "--json no_such_file.jsonl", 2, "", NO_FILE);
 }
 
 /// A writer that fails.
@@ -213,25 +216,26 @@ impl Write for Full {
     }
 }
 
+/// Fails where the check of the stream ends with another status, at an output that fails.
+fn full_is<E: Write>(
+    rt: &impl Abort,
+    alloc: Global,
+    form: Form,
+    stream: &str,
+    faults: &mut E,
+    status: u8,
+) {
+    let mut reader = stream.as_bytes();
+    let found = check_command(alloc, form, &mut reader, &mut Full, faults);
+    assert_eq!(rt; found, status);
+}
+
 #[test]
 fn output_fails(rt: HostRuntime) {
     let alloc = rt.alloc();
     let mut said = Vec::new(alloc);
-    let mut reader = FAILED.as_bytes();
-    let status = check_command(alloc, Form::Text, &mut reader, &mut Full, &mut said);
-    assert_eq!(rt; status, 3);
-    assert_eq!(rt;
-        said.as_slice(),
-        b"applystream: the output could not be written\n".as_slice()
-    );
-    let mut reader = CUT_OFF.as_bytes();
-    assert_eq!(rt;
-        check_command(alloc, Form::Text, &mut reader, &mut Full, &mut Full),
-        2
-    );
-    let mut reader = CUT_OFF.as_bytes();
-    assert_eq!(rt;
-        check_command(alloc, Form::Json, &mut reader, &mut Full, &mut Full),
-        3
-    );
+    full_is(&rt, alloc, Form::Text, FAILED, &mut said, 3);
+    bytes_are(&rt, &said, "applystream: the output could not be written\n");
+    full_is(&rt, alloc, Form::Text, CUT_OFF, &mut Full, 2);
+    full_is(&rt, alloc, Form::Json, CUT_OFF, &mut Full, 3);
 }

@@ -12,20 +12,27 @@ const START: &[u8] =
 /// How many deletes of one address may overlap.
 const MAX_OVERLAP: u64 = 10_000;
 
+/// Fails where the checker answers the line otherwise.
+fn line_gives(
+    rt: &impl Abort,
+    alloc: Global,
+    checker: &mut Checker,
+    line: &[u8],
+    wanted: Result<(), Fault>,
+) {
+    assert!(rt; !checker.is_full());
+    assert_eq!(rt; checker.line(alloc, line), wanted);
+}
+
 #[test]
 fn overlaps(rt: HostRuntime) {
     let alloc = rt.alloc();
     let mut checker = Checker::new(alloc);
-    assert_eq!(rt; checker.line(alloc, VERSION), Ok(()));
+    line_gives(&rt, alloc, &mut checker, VERSION, Ok(()));
     for _ in 0..MAX_OVERLAP {
-        if checker.is_full() {
-            return;
-        }
-        assert_eq!(rt; checker.line(alloc, START), Ok(()));
+        line_gives(&rt, alloc, &mut checker, START, Ok(()));
     }
-    if !checker.is_full() {
-        assert_eq!(rt; checker.line(alloc, START), Err(Fault::TooMany(2)));
-    }
+    line_gives(&rt, alloc, &mut checker, START, Err(Fault::TooMany(2)));
     assert_eq!(rt; checker.count(), 10_001);
 }
 
@@ -49,12 +56,8 @@ fn nesting(rt: HostRuntime) {
     let alloc = rt.alloc();
     let mut checker = Checker::new(alloc);
     let deep = nested(&rt, alloc, 127);
-    assert_eq!(rt;
-        checker.line(alloc, deep.as_bytes()),
-        Err(Fault::NotAMessage)
-    );
+    let fault = Err(Fault::NotAMessage);
+    line_gives(&rt, alloc, &mut checker, deep.as_bytes(), fault);
     let shallow = nested(&rt, alloc, 126);
-    if !checker.is_full() {
-        assert_eq!(rt; checker.line(alloc, shallow.as_bytes()), Ok(()));
-    }
+    line_gives(&rt, alloc, &mut checker, shallow.as_bytes(), Ok(()));
 }

@@ -42,15 +42,24 @@ fn found<R: BufRead>(rt: &impl Abort, alloc: Global, reader: &mut R) -> String {
     }
 }
 
+/// Fails where something else is found in what the reader gives.
+fn found_is<R: BufRead>(rt: &impl Abort, alloc: Global, reader: &mut R, wanted: &str) {
+    let answer = found(rt, alloc, reader);
+    assert_eq!(rt; answer.as_str(), wanted);
+}
+
+/// Fails where something else is found in the stream of that row than the row says.
+fn stream_is_found(rt: &impl Abort, alloc: Global, row: &str) {
+    let (stream, wanted) = cells(rt, row);
+    let stream = stream.replace(alloc, "|", "\n").expect(rt, "memory");
+    let stream = stream.replace(alloc, "~", "\r").expect(rt, "memory");
+    found_is(rt, alloc, &mut stream.as_bytes(), wanted);
+}
+
 #[test]
 fn streams(rt: HostRuntime) {
-    let alloc = rt.alloc();
     for row in TABLE.trim().lines() {
-        let (stream, wanted) = cells(&rt, row);
-        let stream = stream.replace(alloc, "|", "\n").expect(&rt, "memory");
-        let stream = stream.replace(alloc, "~", "\r").expect(&rt, "memory");
-        let answer = found(&rt, alloc, &mut stream.as_bytes());
-        assert_eq!(rt; answer.as_str(), wanted, "{row}");
+        stream_is_found(&rt, rt.alloc(), row);
     }
 }
 
@@ -58,15 +67,18 @@ fn streams(rt: HostRuntime) {
 fn no_bytes(rt: HostRuntime) {
     let none: &[u8] = b"";
     let mut reader = none;
-    let answer = found(&rt, rt.alloc(), &mut reader);
-    assert_eq!(rt; answer.as_str(), "line 0 is the last, and no summary came");
+    found_is(
+        &rt,
+        rt.alloc(),
+        &mut reader,
+        "line 0 is the last, and no summary came",
+    );
 }
 
 #[test]
 fn byte_order_mark(rt: HostRuntime) {
     let mut reader: &[u8] = b"\xef\xbb\xbf{\"type\":\"version\"}\n";
-    let answer = found(&rt, rt.alloc(), &mut reader);
-    assert_eq!(rt; answer.as_str(), "line 1 is not a message");
+    found_is(&rt, rt.alloc(), &mut reader, "line 1 is not a message");
 }
 
 /// Through a buffer of any size the answer is the same, so that lines are put together well.
@@ -77,8 +89,7 @@ fn buffers(rt: HostRuntime) {
         let mut reader = BufReader::with_capacity(alloc, capacity, WHOLE.as_bytes()).expect(
             &rt, "memory",
         );
-        let answer = found(&rt, alloc, &mut reader);
-        assert_eq!(rt; answer.as_str(), "1 0 0 in 4 lines");
+        found_is(&rt, alloc, &mut reader, "1 0 0 in 4 lines");
     }
 }
 
@@ -106,16 +117,20 @@ impl Read for Broken<'_> {
     }
 }
 
-#[test]
-fn reader_fails(rt: HostRuntime) {
-    let alloc = rt.alloc();
+/// Fails where something else is found in those bytes, behind which the reader fails.
+fn broken_is_found(rt: &impl Abort, alloc: Global, bytes: &[u8], wanted: &str) {
     let broken = Broken {
-        bytes: WHOLE.as_bytes(),
+        bytes,
         is_interrupted: false,
     };
-    let mut reader = BufReader::new(alloc, broken).expect(&rt, "memory");
-    let answer = found(&rt, alloc, &mut reader);
-    assert_eq!(rt; answer.as_str(), "the stream could not be read");
+    let mut reader = BufReader::new(alloc, broken).expect(rt, "memory");
+    found_is(rt, alloc, &mut reader, wanted);
+}
+
+#[test]
+fn reader_fails(rt: HostRuntime) {
+    let bytes = WHOLE.as_bytes();
+    broken_is_found(&rt, rt.alloc(), bytes, "the stream could not be read");
 }
 
 /// That is no verdict, and so no object.
@@ -137,12 +152,6 @@ fn reader_fails_where_objects_are_wanted(rt: HostRuntime) {
 /// What is wrong is told before the reader fails behind it.
 #[test]
 fn finding_comes_first(rt: HostRuntime) {
-    let alloc = rt.alloc();
-    let broken = Broken {
-        bytes: b"{\"type\":\"log\"}\n",
-        is_interrupted: false,
-    };
-    let mut reader = BufReader::new(alloc, broken).expect(&rt, "memory");
-    let answer = found(&rt, alloc, &mut reader);
-    assert_eq!(rt; answer.as_str(), "line 1 comes before the version");
+    let bytes = b"{\"type\":\"log\"}\n";
+    broken_is_found(&rt, rt.alloc(), bytes, "line 1 comes before the version");
 }
