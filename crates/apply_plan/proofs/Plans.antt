@@ -2,6 +2,7 @@
 pub mod AcceptedPlans
 pub mod ActionLists
 pub mod Alike
+pub mod Elements
 pub mod Relative
 pub mod Seen
 pub mod Trimmed

@@ -1,12 +1,12 @@
 -- The values of an array, one by one, where each has to be of some kind.
-use Rattle.std.proofs.Common.{◌≡◌, ℕ, suc, ◌+◌, ◌<◌, ◌≤◌, List, [], ◌∷◌, ◌++◌, length, map, drop, get_or, Option, Some, None, option_map, refl, sym, ap, ◌∙◌, add-one, append_assoc}
+use Rattle.std.proofs.Common.{◌≡◌, ℕ, suc, ◌+◌, ◌<◌, ◌≤◌, List, [], ◌∷◌, ◌++◌, length, map, drop, get_or, take, Option, Some, None, option_map, refl, sym, ap, ◌∙◌, add-one, append_assoc}
 use Rattle.std.proofs.Math.Seq.{drop-cons}
-use Rattle.std.proofs.lemmas.List.{append-nil, drop_all, map-append}
+use Rattle.std.proofs.lemmas.List.{append-nil, drop_all, map-append, take_more}
 use Rattle.serde_json.specs.Data.{Data}
 use Rattle.serde_json.specs.View.{view, items_view}
 use Rattle.serde_json.specs.declared.value.Value.{Value}
-use Rattle.apply_json.specs.Tree.{◌>>=◌, list_of}
-use Rattle.apply_plan.specs.Script.Entry.{all_some}
+use Rattle.apply_json.specs.Tree.{◌>>=◌, items_or_empty, list_of}
+use Rattle.apply_plan.specs.Script.Entry.{all_some, each_of}
 
 -- the parts that the values are
 abbrev pub parts_from : {A : Type 0} → (Data → Option A) → List Value → Option (List A)
@@ -57,3 +57,14 @@ pub viewed_more : {T A : Type 0} (see : T → A) (part : Data → Option A) (mad
     → Some (see x) ≡ part (view value) → parts_behind part (map see made) (drop i values) ≡ total → parts_behind part (map see (made ++ x ∷ [])) (drop (i + 1) values) ≡ total
 viewed_more see part made values i value x total below is some so_far =
     rw (map-append see made (x ∷ [])) (part_more part (map see made) values i value (see x) total below is some so_far)
+
+-- the parts of an array are those of its values
+pub of_array : {A : Type 0} (part : Data → Option A) (values : List Value) (found : Option Data) → Some (items_view values) ≡ items_or_empty found → parts_from part values ≡ each_of part found
+of_array part values found e = rw (← e) refl
+
+-- ---- copies of what a list holds
+
+-- one copy more
+pub copied_more : {T A : Type 0} (see : T → A) (made : List A) (xs : List T) (i : ℕ) (x : T) → i < length xs → x ≡ get_or xs i x → made ≡ map see (take i xs) → made ++ see x ∷ [] ≡ map see (take (i + 1) xs)
+copied_more see made xs i x below is so_far =
+    rw (take_more xs i x below, ← is, map-append see (take i xs) (x ∷ []), so_far) refl
