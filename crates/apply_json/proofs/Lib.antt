@@ -1,3 +1,4 @@
+pub mod FirstToken
 pub mod Trees
 pub mod Trimmed
 pub mod Turns

@@ -33,12 +33,17 @@ module _ {S : Type 0} (selection : Selection S) where
       let more : limit - count ≡ suc (limit - (count + 1)) = omega (arith, below) in
       ap (λ n. trimmed_items selection shape (Some n) (item d ds)) more
 
-  pub kept : (shape : S) (limit : Option ℕ) (vs : List Value) (v : Value) (d : Data) (ds : Items) → is_within limit (length vs) ≡ true → view v ≡ trimmed selection shape d
+  kept_last : (shape : S) (limit : Option ℕ) (vs : List Value) (v : Value) (d : Data) (ds : Items) → is_within limit (length vs) ≡ true → view v ≡ trimmed selection shape d
       → items_before vs (trimmed_items selection shape (left limit (length vs)) (item d ds)) ≡ items_before (vs ++ v ∷ []) (trimmed_items selection shape (left limit (length (vs ++ v ∷ []))) ds)
-  kept shape limit vs v d ds within is =
+  kept_last shape limit vs v d ds within is =
       let longer : length vs + 1 ≡ length (vs ++ v ∷ []) = omega (arith, length-append vs (v ∷ [])) in
       ap (items_before vs) (kept_at shape limit (length vs) d ds within ∙ ap (λ e. item e (trimmed_items selection shape (left limit (length vs + 1)) ds)) (sym is))
       ∙ one_more vs v _ ∙ ap (λ n. items_before (vs ++ v ∷ []) (trimmed_items selection shape (left limit n) ds)) longer
+
+  -- the same where a reader has pushed it
+  pub kept : (shape : S) (limit : Option ℕ) (vs all : List Value) (v : Value) (d : Data) (ds : Items) → is_within limit (length vs) ≡ true → view v ≡ trimmed selection shape d → all ≡ vs ++ v ∷ []
+      → items_before vs (trimmed_items selection shape (left limit (length vs)) (item d ds)) ≡ items_before all (trimmed_items selection shape (left limit (length all)) ds)
+  kept shape limit vs all v d ds within is pushed = rw pushed (kept_last shape limit vs v d ds within is)
 
   -- an item that nobody looks at
   passed_at : (shape : S) (count : ℕ) (d : Data) (ds : Items) → count ≡ 0 → trimmed_items selection shape (Some count) (item d ds) ≡ trimmed_items selection shape (Some count) ds
@@ -52,9 +57,6 @@ module _ {S : Type 0} (selection : Selection S) where
   passed shape (Some limit) vs d ds past =
       let beyond : limit ≤ length vs = ltb-false (length vs) limit past in
       ap (items_before vs) (passed_at shape (limit - length vs) d ds (omega (arith, beyond)))
-
-  pub none_left : (shape : S) (limit : Option ℕ) → trimmed_items selection shape limit no_items ≡ no_items
-  none_left shape limit = refl
 
   none_taken : (limit : Option ℕ) (count : ℕ) → count ≡ 0 → limit ≡ left limit count
   none_taken None count none = refl

@@ -97,6 +97,12 @@ module _ {S : Type 0} (selection : Selection S) where
   put_known shape known k d no_members looked h = ap (λ o. with_known o k d no_members) looked
   put_known shape known k d (member l e ms) looked h = put_known_at (order k l) shape known k l d e ms refl looked h.0 (put_known shape known k d ms looked h.1)
 
+  -- the same of the members that a reader has kept
+  pub known_kept : (shape known : S) (k : List ℕ) (d seen : Data) (ms old new : Members) → selection.member_shape shape k ≡ Some known → AreInOrder ms → new ≡ put k seen old → seen ≡ trimmed selection known d
+      → old ≡ trimmed_members selection shape ms → new ≡ trimmed_members selection shape (put k d ms)
+  known_kept shape known k d seen ms old new looked h placed is so_far =
+      placed ∙ ap (λ (x : Data). put k x old) is ∙ ap (put k (trimmed selection known d)) so_far ∙ sym (put_known shape known k d ms looked h)
+
   -- ---- putting a member that nobody looks at
 
   put_unknown_at : (o : Ordering) (shape : S) (k l : List ℕ) (d e : Data) (ms : Members) → order k l ≡ o → selection.member_shape shape k ≡ None

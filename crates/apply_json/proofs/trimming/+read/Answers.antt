@@ -1,18 +1,31 @@
-use Rattle.std.proofs.Common.{◌≡◌, ◌-◌, ◌<◌, [], ◌∷◌, length, Some, None, true, false, string_bytes, refl, sym, ap, ap₂, ◌∙◌, arith, rules}
-use Rattle.json.specs.Token.{Token}
-use Rattle.json.specs.Json.{parse_map, after_end_array, read_key, items, members, value}
-use Rattle.json.specs.Reads.{token_of}
-use Rattle.json.proofs.Grammar.{value_is, value-begin_array, value-begin_object, read_key-shorter}
-use Rattle.serde_json.specs.Data.{null, boolean, number, string, array, object, no_items, item, no_members, put}
+use Rattle.std.proofs.Common.{Vec, BTreeMap, Global, String as Owned, ◌≡◌, ◌-◌, ◌<◌, [], length, Some, None, Result, Ok, Err, true, false, string_bytes, refl, sym, ap, ◌∙◌, arith, rules}
+use Rattle.std.specs.Result.{IsErrAnd}
+use Rattle.json.specs.Json.{after_end_array, items, value}
+use Rattle.json.proofs.Grammar.{value_is, read_key-shorter}
+use Rattle.serde_json.specs.Data.{Items, Members, null, boolean, number, string, array, object, no_items, item, no_members, put}
 use Rattle.serde_json.specs.Read.{of_json, of_items, converted}
-use Rattle.serde_json.specs.View.{view, number_view, members_view}
-use Rattle.serde_json.specs.declared.value.Value.{String, Number, Bool, Null, the_lemmas}
+use Rattle.serde_json.specs.View.{view, items_view, number_view, members_view}
+use Rattle.serde_json.specs.declared.value.Value.{Value, Array, Object, String, Number, Bool, Null, the_lemmas}
 use Rattle.serde_json.proofs.Views.{view-Array, view-Object, members_view-insert_entry}
-use Rattle.apply_json.specs.Trimmed.{is_within, trimmed, trimmed_items}
-use Rattle.apply_json.proofs.Trimmed.Items.{items_before, items_before-no_items, left, kept, passed, none_found, none_left}
-use Rattle.apply_json.proofs.Trimmed.Members.{put_in_order, put_known, put_unknown}
-use Rattle.apply_json.proofs.Turns.{converted-array, converted-object, item_read, item_refused, items_over, member_read, member_refused, key_refused, members_over, fused, none_before}
+use Rattle.apply_json.specs.declared.read_fault.ReadFault.{ReadFault}
+use Rattle.apply_json.specs.declared.read_fault.ReadFault.TheVariants.{Memory, NotJson}
+use Rattle.apply_json.specs.Trimmed.{is_within, trimmed}
+use Rattle.apply_json.proofs.Trimmed.Items.{items_before-no_items, kept, passed, none_found}
+use Rattle.apply_json.proofs.Trimmed.Members.{put_in_order, known_kept, put_unknown}
+use Rattle.apply_json.proofs.FirstToken.{first_token, shorter, read_text, read_boolean, read_null, read_number, no_number, no_value, array_too_deep, object_too_deep, array_refused, array_made, object_refused, object_made}
+use Rattle.apply_json.proofs.Turns.{item_behind, refused_behind, over_behind, key_named, member_read, member_refused, key_refused, members_over, none_before}
 use Rattle.apply_json.proofs.trimming.+read.Goals as goal
+
+array_seen : (v : Vec Value Global) (ds : Items) → items_view v.items ≡ ds → view (Array v) ≡ array ds
+array_seen v ds is = view-Array v ∙ ap array is
+
+object_seen : (m : BTreeMap (Owned Global) Value) (ms : Members) → members_view m.entries ≡ ms → view (Object m) ≡ object ms
+object_seen m ms is = view-Object m ∙ ap object is
+
+-- want of memory is not taken for a text that is no JSON
+memory_only : {T : Type 0} (r : Result T ReadFault) → IsErrAnd r (λ fault. fault ≡ Memory) → r ≡ Err NotJson → ⊥
+memory_only (Ok x) memory refused = memory
+memory_only (Err fault) memory refused = cc
 
 pub read-returns-in_err-token-clause-err : goal.read-returns-in_err-token-clause-err
 read-returns-in_err-token-clause-err g t c refused =
@@ -20,84 +33,114 @@ read-returns-in_err-token-clause-err g t c refused =
     ap (converted of_json) (ap (value c.args.depth) empty ∙ value_is c.args.depth [])
 
 pub read-returns-then-depth-eq0-clause-err : goal.read-returns-then-depth-eq0-clause-err
-unfolding value
 read-returns-then-depth-eq0-clause-err g t c never =
-    let first : c.args.reader.now ≡ token_of c.in_ok-token.token ∷ c.next.new.self = grind arith in
-    let none : c.args.depth ≡ 0 = omega arith in
-    ap (converted of_json) (ap₂ value none (first ∙ ap (λ k. token_of k ∷ c.next.new.self) c.in-BeginArray.is))
+    let first = first_token c.next.result c.in_ok-token.token NotJson c.args.reader.now c.next.new.self c.in_ok-token.ensures.value c.next.ensures.value in
+    array_too_deep c.args.depth c.args.reader.now c.next.new.self c.in_ok-token.token first (omega arith) c.in-BeginArray.is
 
 pub read-returns-then-depth-eq0-2-clause-err : goal.read-returns-then-depth-eq0-2-clause-err
-unfolding value
 read-returns-then-depth-eq0-2-clause-err g t c never =
-    let first : c.args.reader.now ≡ token_of c.in_ok-token.token ∷ c.next.new.self = grind arith in
-    let none : c.args.depth ≡ 0 = omega arith in
-    ap (converted of_json) (ap₂ value none (first ∙ ap (λ k. token_of k ∷ c.next.new.self) c.in-BeginObject.is))
+    let first = first_token c.next.result c.in_ok-token.token NotJson c.args.reader.now c.next.new.self c.in_ok-token.ensures.value c.next.ensures.value in
+    object_too_deep c.args.depth c.args.reader.now c.next.new.self c.in_ok-token.token first (omega arith) c.in-BeginObject.is
 
 pub read-returns-in_err-read_items-in-BeginArray-clause-err : goal.read-returns-in_err-read_items-in-BeginArray-clause-err
 read-returns-in_err-read_items-in-BeginArray-clause-err g t c refused =
-    let first : c.args.reader.now ≡ token_of c.in_ok-token.token ∷ c.next.new.self = grind arith in
-    let opened = ap (converted of_json) (ap (value c.args.depth) (first ∙ ap (λ k. token_of k ∷ c.next.new.self) c.in-BeginArray.is) ∙ value-begin_array c.args.depth c.next.new.self (omega arith)) ∙ converted-array (items (value (c.args.depth - 1)) (length c.next.new.self) c.next.new.self) in
-    opened ∙ ap (parse_map array) (c.read_items.ensures.err (grind arith))
+    let first = first_token c.next.result c.in_ok-token.token NotJson c.args.reader.now c.next.new.self c.in_ok-token.ensures.value c.next.ensures.value in
+    array_refused c.args.depth c.args.reader.now c.next.new.self c.in_ok-token.token first (omega arith) c.in-BeginArray.is (c.read_items.ensures.err (grind arith))
 
 pub read-returns-in_err-read_members-in-BeginObject-clause-err : goal.read-returns-in_err-read_members-in-BeginObject-clause-err
 read-returns-in_err-read_members-in-BeginObject-clause-err g t c refused =
-    let first : c.args.reader.now ≡ token_of c.in_ok-token.token ∷ c.next.new.self = grind arith in
-    let opened = ap (converted of_json) (ap (value c.args.depth) (first ∙ ap (λ k. token_of k ∷ c.next.new.self) c.in-BeginObject.is) ∙ value-begin_object c.args.depth c.next.new.self (omega arith)) ∙ converted-object (members (value (c.args.depth - 1)) (length c.next.new.self) c.next.new.self) in
-    opened ∙ ap (parse_map object) (c.read_members.ensures.err (grind arith))
+    let first = first_token c.next.result c.in_ok-token.token NotJson c.args.reader.now c.next.new.self c.in_ok-token.ensures.value c.next.ensures.value in
+    object_refused c.args.depth c.args.reader.now c.next.new.self c.in_ok-token.token first (omega arith) c.in-BeginObject.is (c.read_members.ensures.err (grind arith))
 
 pub read-returns-in_ok-from_str-in-String-clause-ok : goal.read-returns-in_ok-from_str-in-String-clause-ok
 read-returns-in_ok-from_str-in-String-clause-ok g t c =
-    let first : c.args.reader.now ≡ token_of c.in_ok-token.token ∷ c.next.new.self = grind arith in
-    let is : c.args.reader.now ≡ Token.string c.in-String.text.now ∷ c.next.new.self = grind (arith, first) in
+    let first = first_token c.next.result c.in_ok-token.token NotJson c.args.reader.now c.next.new.self c.in_ok-token.ensures.value c.next.ensures.value in
     let seen : view (String c.in_ok-from_str-in-String.field-0) ≡ string c.in-String.text.now = search (rules, the_lemmas) in
-    (string c.in-String.text.now, ap (converted of_json) (ap (value c.args.depth) is ∙ value_is c.args.depth _), seen)
+    (string c.in-String.text.now, read_text c.args.depth c.args.reader.now c.next.new.self c.in_ok-token.token first c.in-String.text c.in-String.is, seen)
+
+pub read-returns-in_ok-from_str-in-String-clause-shorter : goal.read-returns-in_ok-from_str-in-String-clause-shorter
+read-returns-in_ok-from_str-in-String-clause-shorter g t c =
+    let first = first_token c.next.result c.in_ok-token.token NotJson c.args.reader.now c.next.new.self c.in_ok-token.ensures.value c.next.ensures.value in
+    shorter c.args.reader.now c.next.new.self _ first
 
 pub read-returns-in-Bool-clause-ok : goal.read-returns-in-Bool-clause-ok
 read-returns-in-Bool-clause-ok g t c =
-    let first : c.args.reader.now ≡ token_of c.in_ok-token.token ∷ c.next.new.self = grind arith in
-    let is : c.args.reader.now ≡ Token.boolean c.in-Bool.b ∷ c.next.new.self = grind (arith, first) in
+    let first = first_token c.next.result c.in_ok-token.token NotJson c.args.reader.now c.next.new.self c.in_ok-token.ensures.value c.next.ensures.value in
     let seen : view (Bool c.in-Bool.b) ≡ boolean c.in-Bool.b = search (rules, the_lemmas) in
-    (boolean c.in-Bool.b, ap (converted of_json) (ap (value c.args.depth) is ∙ value_is c.args.depth _), seen)
+    (boolean c.in-Bool.b, read_boolean c.args.depth c.args.reader.now c.next.new.self c.in_ok-token.token first c.in-Bool.b c.in-Bool.is, seen)
+
+pub read-returns-in-Bool-clause-shorter : goal.read-returns-in-Bool-clause-shorter
+read-returns-in-Bool-clause-shorter g t c =
+    let first = first_token c.next.result c.in_ok-token.token NotJson c.args.reader.now c.next.new.self c.in_ok-token.ensures.value c.next.ensures.value in
+    shorter c.args.reader.now c.next.new.self _ first
 
 pub read-returns-in-Null-clause-ok : goal.read-returns-in-Null-clause-ok
 read-returns-in-Null-clause-ok g t c =
-    let first : c.args.reader.now ≡ token_of c.in_ok-token.token ∷ c.next.new.self = grind arith in
-    let is : c.args.reader.now ≡ Token.null ∷ c.next.new.self = grind (arith, first) in
-    let seen : view (Null) ≡ null = search (rules, the_lemmas) in
-    (null, ap (converted of_json) (ap (value c.args.depth) is ∙ value_is c.args.depth _), seen)
+    let first = first_token c.next.result c.in_ok-token.token NotJson c.args.reader.now c.next.new.self c.in_ok-token.ensures.value c.next.ensures.value in
+    let seen : view Null ≡ null = search (rules, the_lemmas) in
+    (null, read_null c.args.depth c.args.reader.now c.next.new.self c.in_ok-token.token first c.in-Null.is, seen)
+
+pub read-returns-in-Null-clause-shorter : goal.read-returns-in-Null-clause-shorter
+read-returns-in-Null-clause-shorter g t c =
+    let first = first_token c.next.result c.in_ok-token.token NotJson c.args.reader.now c.next.new.self c.in_ok-token.ensures.value c.next.ensures.value in
+    shorter c.args.reader.now c.next.new.self _ first
 
 pub read-returns-in-Some-clause-ok : goal.read-returns-in-Some-clause-ok
 read-returns-in-Some-clause-ok g t c =
-    let first : c.args.reader.now ≡ token_of c.in_ok-token.token ∷ c.next.new.self = grind arith in
-    let is : c.args.reader.now ≡ Token.number c.in-Number.text.now ∷ c.next.new.self = grind (arith, first) in
+    let first = first_token c.next.result c.in_ok-token.token NotJson c.args.reader.now c.next.new.self c.in_ok-token.ensures.value c.next.ensures.value in
     let seen : view (Number c.in-Some.number) ≡ number (number_view c.in-Some.number) = search (rules, the_lemmas) in
-    (number (number_view c.in-Some.number), ap (converted of_json) (ap (value c.args.depth) is ∙ value_is c.args.depth _) ∙ rw (← c.in-Some.ensures) refl, seen)
+    (number (number_view c.in-Some.number), read_number c.args.depth c.args.reader.now c.next.new.self c.in_ok-token.token first c.in-Number.text (number_view c.in-Some.number) c.in-Number.is c.in-Some.ensures, seen)
+
+pub read-returns-in-Some-clause-shorter : goal.read-returns-in-Some-clause-shorter
+read-returns-in-Some-clause-shorter g t c =
+    let first = first_token c.next.result c.in_ok-token.token NotJson c.args.reader.now c.next.new.self c.in_ok-token.ensures.value c.next.ensures.value in
+    shorter c.args.reader.now c.next.new.self _ first
 
 pub read-returns-in-None-clause-err : goal.read-returns-in-None-clause-err
 read-returns-in-None-clause-err g t c refused =
-    let first : c.args.reader.now ≡ token_of c.in_ok-token.token ∷ c.next.new.self = grind arith in
-    let is : c.args.reader.now ≡ Token.number c.in-Number.text.now ∷ c.next.new.self = grind (arith, first) in
-    ap (converted of_json) (ap (value c.args.depth) is ∙ value_is c.args.depth _) ∙ rw (← c.in-None.ensures) refl
+    let first = first_token c.next.result c.in_ok-token.token NotJson c.args.reader.now c.next.new.self c.in_ok-token.ensures.value c.next.ensures.value in
+    no_number c.args.depth c.args.reader.now c.next.new.self c.in_ok-token.token first c.in-Number.text c.in-Number.is c.in-None.ensures
 
 pub read-returns-in-EndObject-clause-err : goal.read-returns-in-EndObject-clause-err
 read-returns-in-EndObject-clause-err g t c refused =
-    let first : c.args.reader.now ≡ token_of c.in_ok-token.token ∷ c.next.new.self = grind arith in
-    let none : value c.args.depth c.args.reader.now ≡ None = rw (value_is c.args.depth c.args.reader.now, first) (grind arith) in
-    ap (converted of_json) none
+    let first = first_token c.next.result c.in_ok-token.token NotJson c.args.reader.now c.next.new.self c.in_ok-token.ensures.value c.next.ensures.value in
+    no_value c.args.depth c.args.reader.now c.next.new.self c.in_ok-token.token first c.in-EndObject.is
 
 pub read-returns-in_ok-read_items-in-BeginArray-clause-ok : goal.read-returns-in_ok-read_items-in-BeginArray-clause-ok
 read-returns-in_ok-read_items-in-BeginArray-clause-ok g t c =
-    let first : c.args.reader.now ≡ token_of c.in_ok-token.token ∷ c.next.new.self = grind arith in
-    let opened = ap (converted of_json) (ap (value c.args.depth) (first ∙ ap (λ k. token_of k ∷ c.next.new.self) c.in-BeginArray.is) ∙ value-begin_array c.args.depth c.next.new.self (omega arith)) ∙ converted-array (items (value (c.args.depth - 1)) (length c.next.new.self) c.next.new.self) in
+    let first = first_token c.next.result c.in_ok-token.token NotJson c.args.reader.now c.next.new.self c.in_ok-token.ensures.value c.next.ensures.value in
     let found = c.in_ok-read_items-in-BeginArray in
-    (array found.ensures.ok.0, opened ∙ ap (parse_map array) found.ensures.ok.1, view-Array found.field-0 ∙ ap array found.ensures.ok.2)
+    (array found.ensures.ok.0, array_made c.args.depth c.args.reader.now c.next.new.self c.in_ok-token.token first found.ensures.ok.0 c.read_items.new.reader (omega arith) c.in-BeginArray.is found.ensures.ok.1, array_seen found.field-0 _ found.ensures.ok.2)
+
+pub read-returns-in_ok-read_items-in-BeginArray-clause-shorter : goal.read-returns-in_ok-read_items-in-BeginArray-clause-shorter
+read-returns-in_ok-read_items-in-BeginArray-clause-shorter g t c =
+    let first = first_token c.next.result c.in_ok-token.token NotJson c.args.reader.now c.next.new.self c.in_ok-token.ensures.value c.next.ensures.value in
+    let less = shorter c.args.reader.now c.next.new.self _ first in
+    omega (arith, less, c.in_ok-read_items-in-BeginArray.ensures.shorter)
 
 pub read-returns-in_ok-read_members-in-BeginObject-clause-ok : goal.read-returns-in_ok-read_members-in-BeginObject-clause-ok
 read-returns-in_ok-read_members-in-BeginObject-clause-ok g t c =
-    let first : c.args.reader.now ≡ token_of c.in_ok-token.token ∷ c.next.new.self = grind arith in
-    let opened = ap (converted of_json) (ap (value c.args.depth) (first ∙ ap (λ k. token_of k ∷ c.next.new.self) c.in-BeginObject.is) ∙ value-begin_object c.args.depth c.next.new.self (omega arith)) ∙ converted-object (members (value (c.args.depth - 1)) (length c.next.new.self) c.next.new.self) in
+    let first = first_token c.next.result c.in_ok-token.token NotJson c.args.reader.now c.next.new.self c.in_ok-token.ensures.value c.next.ensures.value in
     let found = c.in_ok-read_members-in-BeginObject in
-    (object found.ensures.ok.0, opened ∙ ap (parse_map object) found.ensures.ok.1, view-Object found.field-0 ∙ ap object found.ensures.ok.2)
+    (object found.ensures.ok.0, object_made c.args.depth c.args.reader.now c.next.new.self c.in_ok-token.token first found.ensures.ok.0 c.read_members.new.reader (omega arith) c.in-BeginObject.is found.ensures.ok.1, object_seen found.field-0 _ found.ensures.ok.2)
+
+pub read-returns-in_ok-read_members-in-BeginObject-clause-shorter : goal.read-returns-in_ok-read_members-in-BeginObject-clause-shorter
+read-returns-in_ok-read_members-in-BeginObject-clause-shorter g t c =
+    let first = first_token c.next.result c.in_ok-token.token NotJson c.args.reader.now c.next.new.self c.in_ok-token.ensures.value c.next.ensures.value in
+    let less = shorter c.args.reader.now c.next.new.self _ first in
+    omega (arith, less, c.in_ok-read_members-in-BeginObject.ensures.shorter)
+
+pub read-returns-in_err-from_str-in-String-clause-err : goal.read-returns-in_err-from_str-in-String-clause-err
+read-returns-in_err-from_str-in-String-clause-err g t c refused = absurd (memory_only c.from_residual-in_err-from_str-in-String.result c.from_residual-in_err-from_str-in-String.ensures.1 refused)
+
+pub read_items-returns-in_err-push-clause-err : goal.read_items-returns-in_err-push-clause-err
+read_items-returns-in_err-push-clause-err g t c refused = absurd (memory_only c.from_residual-in_err-push.result c.from_residual-in_err-push.ensures.1 refused)
+
+pub read_members-returns-in_err-insert-in-Some-member-clause-err : goal.read_members-returns-in_err-insert-in-Some-member-clause-err
+read_members-returns-in_err-insert-in-Some-member-clause-err g t c refused = absurd (memory_only c.from_residual-in_err-insert-in-Some-member.result c.from_residual-in_err-insert-in-Some-member.ensures.1 refused)
+
+pub read_members-returns-in_err-key-in-Some-member-clause-err : goal.read_members-returns-in_err-key-in-Some-member-clause-err
+read_members-returns-in_err-key-in-Some-member-clause-err g t c refused = absurd (memory_only c.from_residual-in_err-key-in-Some-member.result c.from_residual-in_err-key-in-Some-member.ensures.1 refused)
 
 pub read_items-items-init : goal.read_items-items-init
 read_items-items-init g t c =
@@ -109,8 +152,8 @@ read_items-returns-in_err-item-clause-err g t c refused =
     let p = value c.args.depth in
     let l = c.items in
     let n = l.invariant.0 in
-    let going : (after_end_array l.reader ≡ None) × (c.take_end_array.new.self ≡ l.reader) = grind arith in
-    l.invariant.3 ∙ ap (parse_map l.invariant.2) (item_refused p n l.reader going.0 (rw (← going.1) (c.read.ensures.err (grind arith))))
+    let going : (after_end_array l.reader ≡ None) × (c.take_end_array.new.self ≡ l.reader) = c.items-test.ensures in
+    refused_behind p _ l.invariant.2 n l.reader l.invariant.3 going.0 (rw (← going.1) (c.read.ensures.err (grind arith)))
 
 pub read_items-items-preserved-in-Continue-branch-2 : goal.read_items-items-preserved-in-Continue-branch-2
 read_items-items-preserved-in-Continue-branch-2 g t c =
@@ -120,21 +163,20 @@ read_items-items-preserved-in-Continue-branch-2 g t c =
     let front = l.invariant.2 in
     let shape = g.S.Shape.selection.item_shape c.args.shape in
     let limit = g.S.Shape.selection.item_limit c.args.shape in
-    let going : (after_end_array l.reader ≡ None) × (c.take_end_array.new.self ≡ l.reader) = grind arith in
+    let going : (after_end_array l.reader ≡ None) × (c.take_end_array.new.self ≡ l.reader) = c.items-test.ensures in
     let done = c.in_ok-item.ensures in
     let v = c.in_ok-item.item in
     let d = done.ok.0 in
     let r = c.read.new.reader in
     let less : length r < length l.reader = rw (← going.1) done.shorter in
-    let turn = item_read p n l.reader r d (omega (arith, l.invariant.1)) going.0 (rw (← going.1) done.ok.1) in
+    let turn = item_behind p _ front n l.reader l.invariant.3 r d (omega (arith, l.invariant.1)) going.0 (rw (← going.1) done.ok.1) in
     let within : is_within limit (length l.found.items) ≡ true = search rules in
     let seen : view v ≡ trimmed g.S.Shape.selection shape d = done.ok.2 ∙ ap (λ s. trimmed g.S.Shape.selection s d) c.item.ensures in (
       n - 1,
       omega (arith, l.invariant.1),
       (λ ds. front (item d ds)),
-      l.invariant.3 ∙ ap (parse_map front) turn ∙ fused front (item d) _,
-      (λ ds. l.invariant.4 (item d ds) ∙ kept g.S.Shape.selection shape limit l.found.items v d ds within seen
-          ∙ ap (λ vs. items_before vs (trimmed_items g.S.Shape.selection shape (left limit (length vs)) ds)) (sym c.in_ok-push.ensures.items)),
+      turn,
+      (λ ds. l.invariant.4 (item d ds) ∙ kept g.S.Shape.selection shape limit l.found.items _ v d ds within seen c.in_ok-push.ensures.items),
       omega (arith, l.invariant.5),
     )
 
@@ -146,17 +188,17 @@ read_items-items-preserved g t c =
     let front = l.invariant.2 in
     let shape = g.S.Shape.selection.item_shape c.args.shape in
     let limit = g.S.Shape.selection.item_limit c.args.shape in
-    let going : (after_end_array l.reader ≡ None) × (c.take_end_array.new.self ≡ l.reader) = grind arith in
+    let going : (after_end_array l.reader ≡ None) × (c.take_end_array.new.self ≡ l.reader) = c.items-test.ensures in
     let done = c.in_ok-pass.ensures in
     let d = done.ok.0 in
     let r = c.pass.new.reader in
     let less : length r < length l.reader = rw (← going.1) done.shorter in
-    let turn = item_read p n l.reader r d (omega (arith, l.invariant.1)) going.0 (rw (← going.1) done.ok.1) in
+    let turn = item_behind p _ front n l.reader l.invariant.3 r d (omega (arith, l.invariant.1)) going.0 (rw (← going.1) done.ok.1) in
     let past : is_within limit (length l.found.items) ≡ false = search rules in (
       n - 1,
       omega (arith, l.invariant.1),
       (λ ds. front (item d ds)),
-      l.invariant.3 ∙ ap (parse_map front) turn ∙ fused front (item d) _,
+      turn,
       (λ ds. l.invariant.4 (item d ds) ∙ passed g.S.Shape.selection shape limit l.found.items d ds past),
       omega (arith, l.invariant.5),
     )
@@ -166,8 +208,8 @@ read_items-returns-in_err-pass-clause-err g t c refused =
     let p = value c.args.depth in
     let l = c.items in
     let n = l.invariant.0 in
-    let going : (after_end_array l.reader ≡ None) × (c.take_end_array.new.self ≡ l.reader) = grind arith in
-    l.invariant.3 ∙ ap (parse_map l.invariant.2) (item_refused p n l.reader going.0 (rw (← going.1) c.in_err-pass.ensures.err))
+    let going : (after_end_array l.reader ≡ None) × (c.take_end_array.new.self ≡ l.reader) = c.items-test.ensures in
+    refused_behind p _ l.invariant.2 n l.reader l.invariant.3 going.0 (rw (← going.1) c.in_err-pass.ensures.err)
 
 pub read_items-returns-clause-ok : goal.read_items-returns-clause-ok
 read_items-returns-clause-ok g t c =
@@ -176,8 +218,8 @@ read_items-returns-clause-ok g t c =
     let n = l.invariant.0 in
     let r = c.take_end_array.new.self in (
       l.invariant.2 no_items,
-      l.invariant.3 ∙ ap (parse_map l.invariant.2) (items_over p n l.reader r l.invariant.1 (grind arith)),
-      sym (l.invariant.4 no_items ∙ ap (items_before l.found.items) (none_left g.S.Shape.selection (g.S.Shape.selection.item_shape c.args.shape) (left (g.S.Shape.selection.item_limit c.args.shape) (length l.found.items))) ∙ items_before-no_items l.found.items),
+      over_behind p _ l.invariant.2 n l.reader l.invariant.3 r l.invariant.1 c.items-test.ensures,
+      sym (l.invariant.4 no_items ∙ items_before-no_items l.found.items),
     )
 
 pub read_members-members-init : goal.read_members-members-init
@@ -195,7 +237,7 @@ read_members-returns-in_err-member-in-Some-member-clause-err g t c refused =
     let l = c.members in
     let k = c.in-Some.name.now in
     let s = c.next_key.new.self in
-    let named : read_key l.reader ≡ Some (Some k, s) = grind arith in
+    let named = key_named l.reader s c.in_ok-name.field-0 c.in-Some.name c.in_ok-name.ensures.value c.in-Some.is in
     l.invariant.5 ∙ member_refused p l.invariant.2 l.invariant.0 k l.reader s named (c.read.ensures.err (grind arith))
 
 pub read_members-members-preserved-in-Some-member : goal.read_members-members-preserved-in-Some-member
@@ -207,7 +249,7 @@ read_members-members-preserved-in-Some-member g t c =
     let shape = c.args.shape in
     let k = c.in-Some.name.now in
     let s = c.next_key.new.self in
-    let named : read_key l.reader ≡ Some (Some k, s) = grind arith in
+    let named = key_named l.reader s c.in_ok-name.field-0 c.in-Some.name c.in_ok-name.ensures.value c.in-Some.is in
     let known = c.in-Some-member.known in
     let looked : g.S.Shape.selection.member_shape shape k ≡ Some known = sym c.in-Some-member.ensures in
     let done = c.in_ok-member-in-Some-member.ensures in
@@ -224,7 +266,7 @@ read_members-members-preserved-in-Some-member g t c =
       omega (arith, l.invariant.1),
       put k d all,
       put_in_order k d all l.invariant.3,
-      inserted ∙ ap (λ w. put k w old) done.ok.2 ∙ ap (put k (trimmed g.S.Shape.selection known d)) l.invariant.4 ∙ sym (put_known g.S.Shape.selection shape known k d all looked l.invariant.3),
+      known_kept g.S.Shape.selection shape known k d (view v) all old _ looked l.invariant.3 inserted done.ok.2 l.invariant.4,
       l.invariant.5 ∙ member_read p all n k l.reader s r d (omega (arith, l.invariant.1)) named done.ok.1,
       omega (arith, l.invariant.6),
     )
@@ -238,7 +280,7 @@ read_members-members-preserved g t c =
     let shape = c.args.shape in
     let k = c.in-Some.name.now in
     let s = c.next_key.new.self in
-    let named : read_key l.reader ≡ Some (Some k, s) = grind arith in
+    let named = key_named l.reader s c.in_ok-name.field-0 c.in-Some.name c.in_ok-name.ensures.value c.in-Some.is in
     let nobody : g.S.Shape.selection.member_shape shape k ≡ None = sym c.in-None.ensures in
     let done = c.in_ok-pass-in-None.ensures in
     let d = done.ok.0 in
@@ -260,7 +302,7 @@ read_members-returns-in_err-pass-in-None-clause-err g t c refused =
     let l = c.members in
     let k = c.in-Some.name.now in
     let s = c.next_key.new.self in
-    let named : read_key l.reader ≡ Some (Some k, s) = grind arith in
+    let named = key_named l.reader s c.in_ok-name.field-0 c.in-Some.name c.in_ok-name.ensures.value c.in-Some.is in
     l.invariant.5 ∙ member_refused p l.invariant.2 l.invariant.0 k l.reader s named c.in_err-pass-in-None.ensures.err
 
 pub read_members-returns-clause-ok : goal.read_members-returns-clause-ok
