@@ -1,9 +1,11 @@
 -- The steps of a change, by number.
-use Rattle.std.proofs.Common.{◌≡◌, ℕ, zero, suc, ◌+◌, ◌<◌, ◌≤◌, List, [], ◌∷◌, length, map, drop, Option, Some, None, IfSome, IfNone, refl, sym, arith, add-zero, add-one}
+use Rattle.std.proofs.Common.{◌≡◌, ℕ, zero, suc, ◌+◌, ◌<◌, ◌≤◌, List, [], ◌∷◌, length, map, drop, Option, Some, None, IfSome, IfNone, refl, sym, subst₂, arith, add-zero, add-one}
 use Rattle.std.specs.Prelude.{slice_get}
 use Rattle.std.specs.List.{enumerate_from}
 use Rattle.apply_plan.specs.declared.plan.step_kind.StepKind.{StepKind}
 use Rattle.apply_plan.specs.Plan.ResourceChange.{ResourceChange}
+use Rattle.apply_plan.specs.Plan.SavedPlan.{SavedPlan}
+use Rattle.apply_events.specs.declared.event.Event.{Event}
 use Rattle.apply_events.specs.Fits.{HasStep}
 use Rattle.apply_events.specs.Step.{Work, kinds_of, step_of, steps_of}
 
@@ -58,3 +60,7 @@ pub at_hand_is : (work : Work) (c k : ℕ) (change : ResourceChange) (kinds : Li
     → Some change ≡ slice_get work.plan.changes c → kinds ≡ change.steps → found ≡ slice_get kinds k → IfSome found (λ kind. HasStep work.plan c k)
 at_hand_is work c k change kinds None is steps lookup = tt
 at_hand_is work c k change kinds (Some kind) is steps lookup = rw (kinds_here work c change kinds is steps) (below kinds k kind (sym lookup))
+
+-- an event of the step at hand
+pub has_same_step : (plan : SavedPlan) (c k : ℕ) (e : Event) → HasStep plan c k → e.change ≡ c → e.step ≡ k → HasStep plan e.change e.step
+has_same_step plan c k e has change step = subst₂ (HasStep plan) (sym change) (sym step) has

@@ -5,6 +5,7 @@ pub mod Dealt
 pub mod Ends
 pub mod Few
 pub mod Merge
+pub mod OneLane
 pub mod Order
 pub mod Partition
 pub mod Sharing

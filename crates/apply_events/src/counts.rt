@@ -59,11 +59,8 @@ impl Counts {
             }
             What::Errored(_) => self.failed += 1,
             What::Halted { .. } => self.halted += 1,
-            What::Start | What::Progress(_) | What::ErrorNote | What::WarnNote => {}
-            What::ProvisionStart(_)
-            | What::ProvisionOutput { .. }
-            | What::ProvisionComplete(_)
-            | What::ProvisionErrored(_) => {}
+            // Nothing else is counted.
+            _ => {}
         }
     }
 }

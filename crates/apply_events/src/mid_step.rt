@@ -11,7 +11,7 @@ use crate::what::What;
 use apply_plan::{Outcome, Provisioner};
 
 /// How far a step is that has started and has not ended.
-#[derive(Clone, Copy, Debug)]
+#[derive(Clone, Copy)]
 pub struct MidStep {
     /// Up to how many seconds its progress was told.
     told: u32,

@@ -1,7 +1,7 @@
 use crate::mid_step::MidStep;
 
 /// How far the step at hand is.
-#[derive(Clone, Copy, Debug)]
+#[derive(Clone, Copy)]
 pub enum Stage {
     /// No hook was asked yet.
     Before,

@@ -13,7 +13,7 @@ use apply_hooks::Phase;
 use apply_plan::{Ending, Script};
 
 /// What the events of a step take from its outcome, without its texts.
-#[derive(Clone, Copy, Debug)]
+#[derive(Clone, Copy)]
 pub struct StepFacts {
     /// How long the step takes, in seconds, with the provisioners that run.
     pub seconds: u32,

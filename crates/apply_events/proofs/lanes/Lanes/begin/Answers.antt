@@ -1,4 +1,4 @@
-use Rattle.std.proofs.Common.{length, arith}
+use Rattle.std.proofs.Common.{length, arith, refl}
 use Rattle.std.proofs.lemmas.List.{length-set}
 use Rattle.apply_events.specs.Lanes.ToCome.{work_of}
 use Rattle.apply_events.proofs.TimeLines.Steps.{begin_in_time, begin_steady, begin_to_come, free_in_time}
@@ -27,3 +27,27 @@ pub invariant_of-self-clause-counted : goal.invariant_of-self-clause-counted
 invariant_of-self-clause-counted g c =
     let l = c.args.self.now in
     begin_counted l.told l.change l.lanes.items c.args.lane c.args.at c.begin.result c.requires.first.0 c.requires.free c.begin.ensures.few l.counted
+
+pub invariant_of-self-clause-some : goal.invariant_of-self-clause-some
+invariant_of-self-clause-some g c = let some = c.args.self.now.some in let same = length-set c.args.self.now.lanes.items c.args.lane c.begin.result in (omega arith)
+
+pub invariant_of-self-clause-known : goal.invariant_of-self-clause-known
+invariant_of-self-clause-known g c = let lt = c.requires.waits in (omega arith)
+
+pub invariant_of-self-clause-small : goal.invariant_of-self-clause-small
+invariant_of-self-clause-small g c = c.args.self.now.small
+
+pub begin-requires-clause-change : goal.begin-requires-clause-change
+begin-requires-clause-change g c = c.requires.waits
+
+pub begin-requires-clause-few : goal.begin-requires-clause-few
+begin-requires-clause-few g c = c.args.self.now.small
+
+pub returns-clause-work : goal.returns-clause-work
+returns-clause-work g c = refl
+
+pub returns-clause-change : goal.returns-clause-change
+returns-clause-change g c = refl
+
+pub returns-clause-told : goal.returns-clause-told
+returns-clause-told g c = refl

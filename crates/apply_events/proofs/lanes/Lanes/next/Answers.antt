@@ -1,5 +1,5 @@
-use Rattle.std.proofs.Common.{◌+◌, length, map, set, arith, sym, ap, ◌∙◌, subst}
-use Rattle.std.proofs.lemmas.Bool.{ltb-false}
+use Rattle.std.proofs.Common.{◌≡◌, ◌+◌, ◌-◌, ◌<◌, length, map, set, arith, refl, sym, ap, ◌∙◌, subst}
+use Rattle.std.proofs.lemmas.Bool.{ltb-false, ltb-true}
 use Rattle.std.proofs.lemmas.List.{length-map, length-set}
 use Rattle.apply_events.specs.Lanes.Lane.{state_of}
 use Rattle.apply_events.specs.Lanes.LaneState.{IsOf, left}
@@ -65,3 +65,45 @@ returns-clause-few g c =
 
 pub returns-clause-one_more : goal.returns-clause-one_more
 returns-clause-one_more g c = if_some_any c.next.result (ap (λ n. n + 1) c.loop-at.invariant.told)
+
+-- ---- the loop
+
+pub loop-at-init : goal.loop-at-init
+loop-at-init g c = record { same = refl; work = refl; told = refl; first = c.first-first.ensures }
+
+pub begin-requires-clause-first : goal.begin-requires-clause-first
+begin-requires-clause-first g c = c.loop-at.invariant.first
+
+pub loop-at-smaller : goal.loop-at-smaller
+loop-at-smaller g c =
+    let old = c.loop-at.self in let new = c.begin.new.self in
+    let less : old.change < length old.plan.now.changes = ltb-true old.change (length old.plan.now.changes) (sym c.waits.ensures ∙ c.if-not-waits.false) in
+    let count : length new.plan.now.changes ≡ length old.plan.now.changes = ap (λ (work : Work). length work.plan.changes) c.begin.ensures.work in
+    let more : new.change ≡ old.change + 1 = c.begin.ensures.change in
+    let smaller : length new.plan.now.changes - new.change < length old.plan.now.changes - old.change = omega arith in
+    smaller
+
+pub loop-at-preserved : goal.loop-at-preserved
+loop-at-preserved g c = record {
+  same = c.begin.ensures.to_come ∙ c.loop-at.invariant.same;
+  work = c.begin.ensures.work ∙ c.loop-at.invariant.work;
+  told = c.begin.ensures.told ∙ c.loop-at.invariant.told;
+  first = c.first-first-in-Some.ensures;
+}
+
+pub returns-then-not-waits-clause-work : goal.returns-then-not-waits-clause-work
+returns-then-not-waits-clause-work g c = c.loop-at.invariant.work
+
+pub returns-then-not-waits-clause-few : goal.returns-then-not-waits-clause-few
+returns-then-not-waits-clause-few g c =
+    let counted = c.loop-at.self.counted in let known = c.loop-at.self.known in let small = c.loop-at.self.small in
+    (omega arith)
+
+pub invariant_of-self-clause-known : goal.invariant_of-self-clause-known
+invariant_of-self-clause-known g c = c.loop-at.self.known
+
+pub invariant_of-self-clause-small : goal.invariant_of-self-clause-small
+invariant_of-self-clause-small g c = c.loop-at.self.small
+
+pub returns-clause-work : goal.returns-clause-work
+returns-clause-work g c = c.loop-at.invariant.work

@@ -1,0 +1,38 @@
+use Rattle.apply_events.proofs.PlannedSteps.{has_same_step}
+use Rattle.apply_events.proofs.runner.Runner.next.Goals as goal
+
+pub returns-in-Before : goal.returns-in-Before
+returns-in-Before g c = record {
+  next = c.begin.ensures.next;
+  has_step = has_same_step c.args.self.now.plan.now c.args.self.now.change c.args.self.now.step c.begin.result c.in-Some.ensures.has_step c.begin.ensures.place.1 c.begin.ensures.place.2;
+  worker = c.begin.ensures.place.0;
+  in_time = c.begin.ensures.in_time;
+  course = c.begin.ensures.course;
+}
+
+pub returns-in-Running : goal.returns-in-Running
+returns-in-Running g c = record {
+  next = c.report.ensures.next;
+  has_step = has_same_step c.args.self.now.plan.now c.args.self.now.change c.args.self.now.step c.report.result c.in-Some.ensures.has_step c.report.ensures.place.1 c.report.ensures.place.2;
+  worker = c.report.ensures.place.0;
+  in_time = c.report.ensures.in_time;
+  course = c.report.ensures.course;
+}
+
+pub returns-in-Noting : goal.returns-in-Noting
+returns-in-Noting g c = record {
+  next = c.note.ensures.next;
+  has_step = has_same_step c.args.self.now.plan.now c.args.self.now.change c.args.self.now.step c.note.result c.in-Some.ensures.has_step c.note.ensures.place.1 c.note.ensures.place.2;
+  worker = c.note.ensures.place.0;
+  in_time = c.note.ensures.in_time;
+  course = c.note.ensures.course;
+}
+
+pub returns-in-Halting : goal.returns-in-Halting
+returns-in-Halting g c = record {
+  next = c.halt.ensures.next;
+  has_step = has_same_step c.args.self.now.plan.now c.args.self.now.change c.args.self.now.step c.halt.result c.in-Some.ensures.has_step c.halt.ensures.place.1 c.halt.ensures.place.2;
+  worker = c.halt.ensures.place.0;
+  in_time = c.halt.ensures.in_time;
+  course = c.halt.ensures.course;
+}
