@@ -5,7 +5,7 @@ use Rattle.std.proofs.KnownBytes.{Appends-trans}
 use mathlib.Core.List.{IsPrefix}
 use Rattle.apply_run.specs.declared.stream.output.Stop.{Stop}
 use Rattle.apply_run.specs.declared.stream.output.Stop.TheVariants.{Going, Failed, NoMemory}
-use Rattle.apply_run.specs.Stream.Outlet.{Outlet, Writes, failed_writes, stop_for_memory}
+use Rattle.apply_run.specs.Stream.Outlet.{IsRefused, Outlet, Writes, failed_writes, stop_for_memory}
 use Rattle.apply_run.proofs.Workers.Prefixes.{prefix_behind}
 
 -- a write took the next of the bytes
@@ -28,22 +28,32 @@ writes_none outlet bytes ends before failures all was = record {
   failed = was.failed;
 }
 
+-- what has stopped does not go on
+pub stopped_for_memory : (stop : Stop) → stop_for_memory stop ≢ Going
+stopped_for_memory Going e = cc
+stopped_for_memory Failed e = cc
+stopped_for_memory NoMemory e = cc
+
+-- no write had failed where memory was refused
+pub refused_for_memory : (old new : Outlet) → new.stop ≡ stop_for_memory old.stop → new.bytes ≡ old.bytes → new.failures ≡ old.failures → new.written ≡ old.written → new.stop ≡ NoMemory → IsRefused old new
+refused_for_memory old new is same fails count ends = record { none_failed = none old.stop (sym is ∙ ends); bytes = same; failures = fails; written = count }
+  where
+    none : (stop : Stop) → stop_for_memory stop ≡ NoMemory → failed_writes stop ≡ 0
+    none Going e = refl
+    none Failed e = absurd cc
+    none NoMemory e = refl
+
 -- memory was refused for what comes next
 pub writes_stop_for_memory : (old new : Outlet) (bytes : List ℕ) → new.stop ≡ stop_for_memory old.stop → new.bytes ≡ old.bytes → new.failures ≡ old.failures → new.written ≡ old.written → Writes old new bytes
 writes_stop_for_memory old new bytes ends same fails count before failures all was = record {
   part = was.part;
   is_prefix = prefix_more was.part all bytes was.is_prefix;
-  whole = λ goes. absurd (never old.stop (sym ends ∙ goes));
+  whole = λ goes. absurd (stopped_for_memory old.stop (sym ends ∙ goes));
   appended = subst (λ now. Appends before now was.part) (sym same) was.appended;
   counted = count ∙ was.counted;
   failed = fails ∙ was.failed ∙ ap (λ n. failures + n) (sym (ap failed_writes ends ∙ as_many old.stop));
 }
   where
-    never : (stop : Stop) → stop_for_memory stop ≢ Going
-    never Going e = cc
-    never Failed e = cc
-    never NoMemory e = cc
-
     as_many : (stop : Stop) → failed_writes (stop_for_memory stop) ≡ failed_writes stop
     as_many Going = refl
     as_many Failed = refl

@@ -1,9 +1,22 @@
-use Rattle.std.proofs.Common.{All, true≢false, sym, ap, ◌∙◌, subst}
+use Rattle.std.proofs.Common.{All, length, true≢false, sym, ap, ◌∙◌, subst}
 use Rattle.apply_events.specs.Step.{Work}
+use Rattle.apply_bus.specs.Claims.{ClaimsName}
 use Rattle.apply_bus.specs.Items.{events as events_of}
 use Rattle.apply_run.specs.Stream.Fitting.{CanBeTold}
 use Rattle.apply_run.proofs.run.run_threads.Goals as goal
 use Rattle.apply_run.proofs.run.run_threads.Goals.{then-whole, else-whole}
+
+pub reconcile-whole-requires : goal.reconcile-whole-requires
+reconcile-whole-requires g c =
+    let run = c.requires.run in let joined = c.in-Ok.ensures.1.0 in
+    record {
+      claims = run.claims_is;
+      bus = joined.bus_is;
+      limit = ap (λ (n : ClaimsName). n.limit) (sym run.claims_is) ∙ run.limit ∙ ap (λ (work : Work). length work.plan.changes) run.work_is;
+      workers = (joined.workers, joined.count);
+      some = c.requires.endpoints.some;
+      stopped = joined.stopped;
+    }
 
 pub returns-after-whole-clause-finished : goal.returns-after-whole-clause-finished
 returns-after-whole-clause-finished g c =
