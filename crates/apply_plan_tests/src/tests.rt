@@ -23,70 +23,83 @@ use std::process::Abort;
 const ONE_CREATE: &str =
     r#"{"format_version":"1.2","terraform_version":"1.9.0","resource_changes":[{"address":"null_resource.a","mode":"managed","type":"null_resource","name":"a","change":{"actions":["create"]}}]}"#;
 
+/// The value, for as long as the test runs: a proof grows with each place at which something has to be dropped.
+fn kept<'a, T: Drop + 'a>(rt: &impl Abort, alloc: Global, value: T) -> &'a T {
+    let kept = Box::new(alloc, value).expect(rt, "memory");
+    &*Box::leak(kept)
+}
+
+/// The text, for as long as the test runs.
+fn kept_text(rt: &impl Abort, alloc: Global, text: String) -> &'static str {
+    kept(rt, alloc, text).as_str()
+}
+
 /// The plan that the text has to be.
-fn plan_of(rt: &impl Abort, alloc: Global, text: &str) -> Plan {
-    match read_plan(alloc, text.as_bytes()) {
+fn plan_of(rt: &impl Abort, alloc: Global, text: &str) -> &'static Plan {
+    match kept(rt, alloc, read_plan(alloc, text.as_bytes())) {
         Ok(plan) => plan,
         Err(error) => panic!(rt; "{text}: {error}"),
     }
 }
 
 /// The script for the plan that the text has to be.
-fn script_of(rt: &impl Abort, alloc: Global, plan: &str, text: &str) -> Script {
-    match read_script(alloc, text.as_bytes(), &plan_of(rt, alloc, plan)) {
+fn script_of(rt: &impl Abort, alloc: Global, plan: &str, text: &str) -> &'static Script {
+    let plan = plan_of(rt, alloc, plan);
+    match kept(rt, alloc, read_script(alloc, text.as_bytes(), plan)) {
         Ok(script) => script,
         Err(error) => panic!(rt; "{text}: {error}"),
     }
 }
 
 /// What `Display` prints of it.
-fn shown(rt: &impl Abort, alloc: Global, value: &impl Display) -> String {
-    value.to_string(alloc).expect(rt, "memory")
+fn shown(rt: &impl Abort, alloc: Global, value: &impl Display) -> &'static str {
+    kept_text(rt, alloc, value.to_string(alloc).expect(rt, "memory"))
 }
 
 /// What `Debug` prints of it.
-fn printed(rt: &impl Abort, alloc: Global, value: &impl Debug) -> String {
-    format!(in alloc; "{value:?}").expect(rt, "memory")
+fn printed(rt: &impl Abort, alloc: Global, value: &impl Debug) -> &'static str {
+    kept_text(
+        rt,
+        alloc,
+        format!(in alloc; "{value:?}").expect(rt, "memory"),
+    )
 }
 
 /// What is answered to bytes as a plan: `accepted`, or the text of the refusal.
-fn answer_to_plan(rt: &impl Abort, alloc: Global, bytes: &[u8]) -> String {
-    match read_plan(alloc, bytes) {
-        Ok(_) => shown(rt, alloc, &"accepted"),
-        Err(error) => shown(rt, alloc, &error),
+fn answer_to_plan(rt: &impl Abort, alloc: Global, bytes: &[u8]) -> &'static str {
+    match kept(rt, alloc, read_plan(alloc, bytes)) {
+        Ok(_) => "accepted",
+        Err(error) => shown(rt, alloc, error),
     }
 }
 
 /// What is answered to bytes as a script for the plan: `accepted`, or the text of the refusal.
-fn answer_to_script(rt: &impl Abort, alloc: Global, plan: &Plan, bytes: &[u8]) -> String {
-    match read_script(alloc, bytes, plan) {
-        Ok(_) => shown(rt, alloc, &"accepted"),
-        Err(error) => shown(rt, alloc, &error),
+fn answer_to_script(rt: &impl Abort, alloc: Global, plan: &Plan, bytes: &[u8]) -> &'static str {
+    match kept(rt, alloc, read_script(alloc, bytes, plan)) {
+        Ok(_) => "accepted",
+        Err(error) => shown(rt, alloc, error),
     }
 }
 
 /// The same, where the plan is a text too.
-fn answer_for(rt: &impl Abort, alloc: Global, plan: &str, bytes: &[u8]) -> String {
-    answer_to_script(rt, alloc, &plan_of(rt, alloc, plan), bytes)
+fn answer_for(rt: &impl Abort, alloc: Global, plan: &str, bytes: &[u8]) -> &'static str {
+    answer_to_script(rt, alloc, plan_of(rt, alloc, plan), bytes)
 }
 
 /// Fails where bytes as a plan are answered otherwise.
 fn plan_is_answered(rt: &impl Abort, alloc: Global, bytes: &[u8], wanted: &str) {
-    let found = answer_to_plan(rt, alloc, bytes);
-    assert_eq!(rt; found.as_str(), wanted);
+    assert_eq!(rt; answer_to_plan(rt, alloc, bytes), wanted);
 }
 
 /// Fails where bytes as a script for the plan are answered otherwise.
 fn script_is_answered(rt: &impl Abort, alloc: Global, plan: &str, bytes: &[u8], wanted: &str) {
-    let found = answer_for(rt, alloc, plan, bytes);
-    assert_eq!(rt; found.as_str(), wanted);
+    assert_eq!(rt; answer_for(rt, alloc, plan, bytes), wanted);
 }
 
 /// Fails where the error has another text than the table has for what `Debug` prints of it.
 fn is_told(rt: &impl Abort, alloc: Global, error: &(impl Debug + Display), texts: &str) {
     let name = printed(rt, alloc, error);
-    let text = shown(rt, alloc, error);
-    assert_eq!(rt; text.as_str(), named(rt, texts, name.as_str()));
+    assert_eq!(rt; shown(rt, alloc, error), named(rt, texts, name));
 }
 
 #[test]

@@ -21,7 +21,7 @@ fn text_of_change<'a>(change: &'a Change, part: &str) -> Option<&'a str> {
 }
 
 /// Any other part of a change, as `Debug` prints it.
-fn value_of_change(rt: &impl Abort, alloc: Global, change: &Change, part: &str) -> String {
+fn value_of_change(rt: &impl Abort, alloc: Global, change: &Change, part: &str) -> &'static str {
     match part {
         "mode" => printed(rt, alloc, &change.mode()),
         "key" => printed(rt, alloc, &change.key()),
@@ -33,7 +33,7 @@ fn value_of_change(rt: &impl Abort, alloc: Global, change: &Change, part: &str) 
 }
 
 /// That part of a change, as `Debug` prints it.
-fn part_of_change(rt: &impl Abort, alloc: Global, change: &Change, part: &str) -> String {
+fn part_of_change(rt: &impl Abort, alloc: Global, change: &Change, part: &str) -> &'static str {
     match text_of_change(change, part) {
         Some(text) => printed(rt, alloc, &text),
         None => value_of_change(rt, alloc, change, part),
@@ -41,13 +41,13 @@ fn part_of_change(rt: &impl Abort, alloc: Global, change: &Change, part: &str) -
 }
 
 /// That part of the only change of a plan, as `Debug` prints it.
-fn part_of_only(rt: &impl Abort, alloc: Global, plan: &Plan, part: &str) -> String {
+fn part_of_only(rt: &impl Abort, alloc: Global, plan: &Plan, part: &str) -> &'static str {
     assert!(rt; plan.len() == 1);
     part_of_change(rt, alloc, plan.change(0), part)
 }
 
 /// That part of a plan or of its only change, as `Debug` prints it.
-fn part_of(rt: &impl Abort, alloc: Global, plan: &Plan, part: &str) -> String {
+fn part_of(rt: &impl Abort, alloc: Global, plan: &Plan, part: &str) -> &'static str {
     match part {
         "len" => printed(rt, alloc, &plan.len()),
         "version" => printed(rt, alloc, &plan.version()),
@@ -56,22 +56,22 @@ fn part_of(rt: &impl Abort, alloc: Global, plan: &Plan, part: &str) -> String {
 }
 
 /// These parts of a plan, with blanks between them.
-fn parts_of(rt: &impl Abort, alloc: Global, plan: &Plan, parts: &str) -> String {
+fn parts_of(rt: &impl Abort, alloc: Global, plan: &Plan, parts: &str) -> &'static str {
     let mut told = String::new(alloc);
     for part in parts.split_whitespace() {
         if !told.is_empty() {
             push(rt, &mut told, " ");
         }
-        push(rt, &mut told, part_of(rt, alloc, plan, part).as_str());
+        push(rt, &mut told, part_of(rt, alloc, plan, part));
     }
-    told
+    kept_text(rt, alloc, told)
 }
 
 /// Reads the plan, which the plain reader has to read alike, and compares these parts of it.
 fn plan_tells(rt: &impl Abort, alloc: Global, case: &str, plan: &str, parts: &str, wanted: &str) {
     reads_as_plainly(rt, alloc, plan);
-    let found = parts_of(rt, alloc, &plan_of(rt, alloc, plan), parts);
-    compare(rt, case, found.as_str(), wanted);
+    let found = parts_of(rt, alloc, plan_of(rt, alloc, plan), parts);
+    compare(rt, case, found, wanted);
 }
 
 /// The same for each row: a plan that has the first cell in the place of `CELL`.
@@ -79,7 +79,7 @@ pub fn plans_tell(rt: &impl Abort, alloc: Global, plan: &str, parts: &str, table
     for row in rows(rt, table) {
         let (cell, wanted) = cells(rt, row);
         let text = put(rt, alloc, plan, "CELL", cell);
-        plan_tells(rt, alloc, cell, text.as_str(), parts, wanted);
+        plan_tells(rt, alloc, cell, text, parts, wanted);
     }
 }
 
@@ -167,7 +167,7 @@ const PLAN: &str = r#"{"format_version":"1.2","resource_changes":[CELL]}"#;
 #[test]
 fn deposed_beside_current(rt: HostRuntime) {
     let table = spelled_rows(&rt, rt.alloc(), OBJECTS, DEPOSED);
-    plans_are_answered(&rt, rt.alloc(), PLAN, table.as_str());
+    plans_are_answered(&rt, rt.alloc(), PLAN, table);
 }
 
 /// Fails where the change is of an object with another deposed key.
@@ -179,9 +179,9 @@ fn is_deposed_as(rt: &impl Abort, change: &Change, wanted: Option<&str>) {
 fn deposed_keys_are_kept(rt: HostRuntime) {
     let alloc = rt.alloc();
     let elements = spelled(&rt, alloc, OBJECTS, "current deposed");
-    let text = put(&rt, alloc, PLAN, "CELL", elements.as_str());
-    reads_as_plainly(&rt, alloc, text.as_str());
-    let plan = plan_of(&rt, alloc, text.as_str());
+    let text = put(&rt, alloc, PLAN, "CELL", elements);
+    reads_as_plainly(&rt, alloc, text);
+    let plan = plan_of(&rt, alloc, text);
     assert!(rt; plan.len() == 2);
     is_deposed_as(&rt, plan.change(0), None);
     is_deposed_as(&rt, plan.change(1), Some("00000001"));

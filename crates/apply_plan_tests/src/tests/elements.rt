@@ -15,7 +15,7 @@ change => {"actions":["create"]}
 "#;
 
 /// The usual element, but that the member of that name has this value. `absent` stands for no such member.
-fn element_with(rt: &impl Abort, alloc: Global, name: &str, value: &str) -> String {
+fn element_with(rt: &impl Abort, alloc: Global, name: &str, value: &str) -> &'static str {
     let mut text = String::new(alloc);
     push(rt, &mut text, "{");
     for row in rows(rt, USUAL) {
@@ -31,7 +31,7 @@ fn element_with(rt: &impl Abort, alloc: Global, name: &str, value: &str) -> Stri
         push_member(rt, &mut text, name, value);
     }
     push(rt, &mut text, "}");
-    text
+    kept_text(rt, alloc, text)
 }
 
 /// Adds a name in quotation marks, and a colon.
@@ -52,10 +52,14 @@ fn members_are_answered(rt: &impl Abort, alloc: Global, table: &str) {
     for row in rows(rt, table) {
         let (name, rest) = cells(rt, row);
         let (value, wanted) = cells(rt, rest);
-        let element = element_with(rt, alloc, name, value);
-        push_row(rt, &mut elements, element.as_str(), wanted);
+        push_row(
+            rt,
+            &mut elements,
+            element_with(rt, alloc, name, value),
+            wanted,
+        );
     }
-    plans_are_answered(rt, alloc, PLAN, elements.as_str());
+    plans_are_answered(rt, alloc, PLAN, kept_text(rt, alloc, elements));
 }
 
 /// Each member absent, `null`, of the wrong types, empty, and of values that are refused or not.
@@ -224,5 +228,5 @@ malformed => change 0 is malformed
 fn the_first_fault_is_reported(rt: HostRuntime) {
     let alloc = rt.alloc();
     let table = spelled_rows(&rt, alloc, ELEMENTS, FIRST_FAULTS);
-    plans_are_answered(&rt, alloc, PLAN, table.as_str());
+    plans_are_answered(&rt, alloc, PLAN, table);
 }

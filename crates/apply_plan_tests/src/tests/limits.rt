@@ -1,6 +1,8 @@
 //! The greatest sizes: in bytes, in depth and in changes.
 
-use super::table::{plans_are_answered, push, push_row, put, scripts_are_answered};
+use super::table::{
+    plans_are_answered, push, push_row, put, repeated, scripts_are_answered, with_end,
+};
 use super::*;
 
 #[test]
@@ -40,21 +42,19 @@ fn a_script_has_at_most_64_mebibytes(rt: HostRuntime) {
 }
 
 /// So many arrays in one another.
-fn arrays(rt: &impl Abort, alloc: Global, count: usize) -> String {
-    let mut text = "[".repeat(alloc, count).expect(rt, "memory");
-    let ends = "]".repeat(alloc, count).expect(rt, "memory");
-    push(rt, &mut text, ends.as_str());
-    text
+fn arrays(rt: &impl Abort, alloc: Global, count: usize) -> &'static str {
+    let begins = repeated(rt, alloc, "[", count);
+    with_end(rt, alloc, begins, repeated(rt, alloc, "]", count))
 }
 
 /// A table of arrays that stand in one object, where a text that nests too deep is refused.
-fn depths(rt: &impl Abort, alloc: Global, refused: &str) -> String {
+fn depths(rt: &impl Abort, alloc: Global, refused: &str) -> &'static str {
     let mut table = String::new(alloc);
-    push_row(rt, &mut table, arrays(rt, alloc, 100).as_str(), "accepted");
-    push_row(rt, &mut table, arrays(rt, alloc, 126).as_str(), "accepted");
-    push_row(rt, &mut table, arrays(rt, alloc, 127).as_str(), refused);
-    push_row(rt, &mut table, arrays(rt, alloc, 200).as_str(), refused);
-    table
+    push_row(rt, &mut table, arrays(rt, alloc, 100), "accepted");
+    push_row(rt, &mut table, arrays(rt, alloc, 126), "accepted");
+    push_row(rt, &mut table, arrays(rt, alloc, 127), refused);
+    push_row(rt, &mut table, arrays(rt, alloc, 200), refused);
+    kept_text(rt, alloc, table)
 }
 
 #[test]
@@ -62,10 +62,10 @@ fn json_nests_127_deep(rt: HostRuntime) {
     let alloc = rt.alloc();
     let plan = r#"{"format_version":"1.0","other":CELL}"#;
     let plans = depths(&rt, alloc, "the plan is not JSON");
-    plans_are_answered(&rt, alloc, plan, plans.as_str());
+    plans_are_answered(&rt, alloc, plan, plans);
     let script = r#"{"changes":[],"other":CELL}"#;
     let scripts = depths(&rt, alloc, "the script is not JSON");
-    scripts_are_answered(&rt, alloc, ONE_CREATE, script, scripts.as_str());
+    scripts_are_answered(&rt, alloc, ONE_CREATE, script, scripts);
 }
 
 /// Adds the text to a list, with the number in the place of `NUMBER`.
@@ -74,12 +74,11 @@ fn push_numbered(rt: &impl Abort, alloc: Global, list: &mut String, text: &str, 
         push(rt, list, ",");
     }
     let digits = shown(rt, alloc, &number);
-    let numbered = put(rt, alloc, text, "NUMBER", digits.as_str());
-    push(rt, list, numbered.as_str());
+    push(rt, list, put(rt, alloc, text, "NUMBER", digits));
 }
 
 /// A plan of 10,000 changes.
-fn most_changes(rt: &impl Abort, alloc: Global) -> String {
+fn most_changes(rt: &impl Abort, alloc: Global) -> &'static str {
     let element =
         r#"{"address":"a.aNUMBER","mode":"managed","type":"a","name":"aNUMBER","change":{"actions":["update"]}}"#;
     let mut elements = String::new(alloc);
@@ -87,7 +86,7 @@ fn most_changes(rt: &impl Abort, alloc: Global) -> String {
         push_numbered(rt, alloc, &mut elements, element, number);
     }
     let plan = r#"{"format_version":"1.2","resource_changes":[CELL]}"#;
-    put(rt, alloc, plan, "CELL", elements.as_str())
+    put(rt, alloc, plan, "CELL", kept_text(rt, alloc, elements))
 }
 
 /// Fails where the plan has another number of changes.
@@ -95,69 +94,63 @@ fn has_changes(rt: &impl Abort, alloc: Global, plan: &str, count: u32) {
     assert!(rt; plan_of(rt, alloc, plan).len() == count);
 }
 
-/// Fails where the plan with another text in the place of the mark is answered otherwise.
-fn is_answered_with(
-    rt: &impl Abort,
-    alloc: Global,
-    plan: &str,
-    mark: &str,
-    other: &str,
-    wanted: &str,
-) {
-    let plan = put(rt, alloc, plan, mark, other);
-    plan_is_answered(rt, alloc, plan.as_bytes(), wanted);
-}
-
 #[test]
 fn a_plan_has_at_most_10000_changes(rt: HostRuntime) {
     let alloc = rt.alloc();
     let text = most_changes(&rt, alloc);
-    has_changes(&rt, alloc, text.as_str(), 10_000);
-    let more = put(&rt, alloc, text.as_str(), "[{", "[5,{");
+    has_changes(&rt, alloc, text, 10_000);
+    let more = put(&rt, alloc, text, "[{", "[5,{");
     let too_many = "the plan has more than 10000 changes";
     plan_is_answered(&rt, alloc, more.as_bytes(), too_many);
     let no_plan = "the plan is not a plan of format 1.x";
-    is_answered_with(&rt, alloc, more.as_str(), r#""1.2""#, r#""2.0""#, no_plan);
+    let other = put(&rt, alloc, more, r#""1.2""#, r#""2.0""#);
+    plan_is_answered(&rt, alloc, other.as_bytes(), no_plan);
 }
 
 /// An entry for the change of that number, which takes as many seconds.
 const ENTRY: &str = r#"{"address":"a.aNUMBER","steps":[{"seconds":NUMBER}]}"#;
 
 /// Entries for 10,000 changes, the last change first.
-fn most_entries(rt: &impl Abort, alloc: Global) -> String {
+fn most_entries(rt: &impl Abort, alloc: Global) -> &'static str {
     let mut entries = String::new(alloc);
     for number in (0..10_000).rev() {
         push_numbered(rt, alloc, &mut entries, ENTRY, number);
     }
-    entries
+    kept_text(rt, alloc, entries)
 }
 
 /// A script of these entries.
-fn script_text(rt: &impl Abort, alloc: Global, entries: &str) -> String {
+fn script_text(rt: &impl Abort, alloc: Global, entries: &str) -> &'static str {
     put(rt, alloc, r#"{"changes":[CELL]}"#, "CELL", entries)
 }
 
-fn largest_script(rt: &impl Abort, alloc: Global) -> Script {
+fn largest_script(rt: &impl Abort, alloc: Global) -> &'static Script {
     let plan = most_changes(rt, alloc);
-    let entries = most_entries(rt, alloc);
-    let text = script_text(rt, alloc, entries.as_str());
-    script_of(rt, alloc, plan.as_str(), text.as_str())
+    let text = script_text(rt, alloc, most_entries(rt, alloc));
+    script_of(rt, alloc, plan, text)
+}
+
+/// Fails where something else than as many seconds is said of the change's first step.
+fn takes_its_number(rt: &impl Abort, script: &Script, change: u32) {
+    match script.outcome(change, 0) {
+        Some(outcome) => assert!(rt; outcome.seconds == change, "change {change}"),
+        None => panic!(rt; "change {change}"),
+    }
+}
+
+/// Fails where anything is said of that step.
+fn is_unsaid(rt: &impl Abort, script: &Script, change: u32, step: u8) {
+    assert!(rt; script.outcome(change, step).is_none(), "change {change}");
 }
 
 #[test]
 fn each_of_10000_changes_has_an_entry(rt: HostRuntime) {
     let script = largest_script(&rt, rt.alloc());
     for number in 0..10_000 {
-        let found = script.outcome(number, 0).map(|outcome| outcome.seconds);
-        assert!(rt; found == Some(number), "change {number}");
-        assert!(rt; script.outcome(number, 1).is_none(), "change {number}");
+        takes_its_number(&rt, script, number);
+        is_unsaid(&rt, script, number, 1);
     }
-    assert!(rt; script.outcome(10_000, 0).is_none());
-}
-
-fn largest_plan(rt: &impl Abort, alloc: Global) -> Plan {
-    let text = most_changes(rt, alloc);
-    plan_of(rt, alloc, text.as_str())
+    is_unsaid(&rt, script, 10_000, 0);
 }
 
 /// Fails where one more entry behind these, for the change of that number, is answered otherwise.
@@ -169,21 +162,21 @@ fn one_more_is_answered(
     number: u32,
     wanted: &str,
 ) {
-    let mut more = shown(rt, alloc, &entries);
+    let mut more = String::new(alloc);
+    push(rt, &mut more, entries);
     push_numbered(rt, alloc, &mut more, ENTRY, number);
-    let text = script_text(rt, alloc, more.as_str());
+    let text = script_text(rt, alloc, kept_text(rt, alloc, more));
     let found = answer_to_script(rt, alloc, plan, text.as_bytes());
-    assert_eq!(rt; found.as_str(), wanted);
+    assert_eq!(rt; found, wanted);
 }
 
 #[test]
 fn an_entry_after_10000_is_refused(rt: HostRuntime) {
     let alloc = rt.alloc();
-    let plan = largest_plan(&rt, alloc);
+    let plan = plan_of(&rt, alloc, most_changes(&rt, alloc));
     let entries = most_entries(&rt, alloc);
-    let entries = entries.as_str();
     let repeated = "script entry 10000 repeats an earlier entry";
-    one_more_is_answered(&rt, alloc, &plan, entries, 0, repeated);
+    one_more_is_answered(&rt, alloc, plan, entries, 0, repeated);
     let unknown = "script entry 10000 names an unknown change";
-    one_more_is_answered(&rt, alloc, &plan, entries, 10_000, unknown);
+    one_more_is_answered(&rt, alloc, plan, entries, 10_000, unknown);
 }

@@ -10,9 +10,8 @@ const FIVE_CHANGES: &str =
 
 /// Adds a blank, and what `Debug` prints of a text.
 pub fn push_printed(rt: &impl Abort, alloc: Global, shown: &mut String, text: &str) {
-    let more = printed(rt, alloc, &text);
     push(rt, shown, " ");
-    push(rt, shown, more.as_str());
+    push(rt, shown, printed(rt, alloc, &text));
 }
 
 /// Adds what it is called, and both texts of a diagnostic.
@@ -42,27 +41,34 @@ fn push_done(
 
 /// The outcome in one line: `SECONDS done, id "ID", warning "SUMMARY" "DETAIL"` or `SECONDS failed "SUMMARY" "DETAIL"`,
 /// without its provisioners.
-pub fn line_of(rt: &impl Abort, alloc: Global, outcome: &Outcome) -> String {
-    let mut line = shown(rt, alloc, &outcome.seconds);
+pub fn line_of(rt: &impl Abort, alloc: Global, outcome: &Outcome) -> &'static str {
+    let mut line = String::new(alloc);
+    push(rt, &mut line, shown(rt, alloc, &outcome.seconds));
     match &outcome.result {
         Ending::Done { id, warning } => {
             push_done(rt, alloc, &mut line, id.as_ref(), warning.as_ref());
         }
         Ending::Failed { diag } => push_diag(rt, alloc, &mut line, " failed", diag),
     }
-    line
+    kept_text(rt, alloc, line)
 }
 
 /// What the script says of the step in one line, and `default` where it says nothing.
-fn said(rt: &impl Abort, alloc: Global, script: &Script, change: u32, step: u8) -> String {
+fn said(rt: &impl Abort, alloc: Global, script: &Script, change: u32, step: u8) -> &'static str {
     match script.outcome(change, step) {
         Some(outcome) => line_of(rt, alloc, outcome),
-        None => shown(rt, alloc, &"default"),
+        None => "default",
     }
 }
 
 /// What the script says of the step, by the numbers of its change and of the step in it.
-fn said_at(rt: &impl Abort, alloc: Global, script: &Script, change: &str, step: &str) -> String {
+fn said_at(
+    rt: &impl Abort,
+    alloc: Global,
+    script: &Script,
+    change: &str,
+    step: &str,
+) -> &'static str {
     match (change.parse::<u32>(), step.parse::<u8>()) {
         (Ok(change), Ok(step)) => said(rt, alloc, script, change, step),
         (_, _) => panic!(rt; "{change} and {step} are no numbers of a change and a step"),
@@ -74,8 +80,7 @@ fn steps_are_said(rt: &impl Abort, alloc: Global, script: &Script, table: &str) 
     for row in rows(rt, table) {
         let (change, rest) = cells(rt, row);
         let (step, wanted) = cells(rt, rest);
-        let found = said_at(rt, alloc, script, change, step);
-        compare(rt, row, found.as_str(), wanted);
+        compare(rt, row, said_at(rt, alloc, script, change, step), wanted);
     }
 }
 
@@ -118,9 +123,9 @@ const SAID_OF_DEPOSED: &str = r#"
 fn a_script_says_what_is_written(rt: HostRuntime) {
     let alloc = rt.alloc();
     let script = script_of(&rt, alloc, FIVE_CHANGES, SAYS);
-    steps_are_said(&rt, alloc, &script, SAID);
+    steps_are_said(&rt, alloc, script, SAID);
     let deposed = script_of(&rt, alloc, FIVE_CHANGES, SAYS_OF_DEPOSED);
-    steps_are_said(&rt, alloc, &deposed, SAID_OF_DEPOSED);
+    steps_are_said(&rt, alloc, deposed, SAID_OF_DEPOSED);
 }
 
 const STEPS: &str = r#"
@@ -161,9 +166,8 @@ fn a_step_says_what_is_written(rt: HostRuntime) {
     for row in rows(&rt, STEPS) {
         let (members, wanted) = cells(&rt, row);
         let text = put(&rt, alloc, script, "CELL", members);
-        let script = script_of(&rt, alloc, ONE_DELETE, text.as_str());
-        let found = said(&rt, alloc, &script, 0, 0);
-        compare(&rt, members, found.as_str(), wanted);
+        let script = script_of(&rt, alloc, ONE_DELETE, text);
+        compare(&rt, members, said(&rt, alloc, script, 0, 0), wanted);
     }
 }
 
@@ -180,5 +184,5 @@ fn an_empty_script_says_nothing(rt: HostRuntime) {
     let alloc = rt.alloc();
     steps_are_said(&rt, alloc, &Script::empty(), NOTHING);
     let read = script_of(&rt, alloc, FIVE_CHANGES, r#"{"changes":[]}"#);
-    steps_are_said(&rt, alloc, &read, NOTHING);
+    steps_are_said(&rt, alloc, read, NOTHING);
 }

@@ -34,9 +34,8 @@ fn numbered(error: PlanError, number: u32) -> PlanError {
 
 /// The element in a plan of its own, or the fault that it has by itself.
 fn alone(rt: &impl Abort, alloc: Global, number: u32, element: &Value) -> Result<Plan, PlanError> {
-    let element = element.to_string(alloc).expect(rt, "memory");
     let plan = r#"{"format_version":"1.0","resource_changes":[CELL]}"#;
-    let plan = put(rt, alloc, plan, "CELL", element.as_str());
+    let plan = put(rt, alloc, plan, "CELL", shown(rt, alloc, element));
     read_plan(alloc, plan.as_bytes()).map_err(|error| numbered(error, number))
 }
 
@@ -87,7 +86,7 @@ fn plan_of_tree(rt: &impl Abort, alloc: Global, tree: &Value) -> Result<PlainPla
         return Err(PlanError::TooMany);
     }
     let changes = changes_of(rt, alloc, elements)?;
-    let version = shown(rt, alloc, &version);
+    let version = version.to_string(alloc).expect(rt, "memory");
     Ok(PlainPlan { version, changes })
 }
 
@@ -97,8 +96,8 @@ pub fn read_plan_plainly(
     alloc: Global,
     text: &str,
 ) -> Result<PlainPlan, PlanError> {
-    match parse(alloc, text.as_bytes(), MAX_BYTES) {
-        Ok(tree) => plan_of_tree(rt, alloc, &tree),
+    match kept(rt, alloc, parse(alloc, text.as_bytes(), MAX_BYTES)) {
+        Ok(tree) => plan_of_tree(rt, alloc, tree),
         Err(JsonFault::TooLarge) => Err(PlanError::TooLarge),
         Err(JsonFault::NotJson) => Err(PlanError::NotJson),
         Err(JsonFault::Memory) => Err(PlanError::Memory),
@@ -110,7 +109,7 @@ fn change_is(rt: &impl Abort, alloc: Global, plan: &Plan, number: u32, plain: &P
     assert!(rt; number < plan.len());
     let found = printed(rt, alloc, plan.change(number));
     let wanted = printed(rt, alloc, only(rt, plain));
-    assert_eq!(rt; found.as_str(), wanted.as_str());
+    assert_eq!(rt; found, wanted);
 }
 
 /// Fails where the plan is another than the one that was read plainly.
@@ -124,24 +123,24 @@ pub fn plan_is(rt: &impl Abort, alloc: Global, plan: &Plan, plain: &PlainPlan) {
 
 /// Fails where the plain reader reads another plan in the text, or none.
 fn is_read_plainly(rt: &impl Abort, alloc: Global, text: &str, plan: &Plan) {
-    match read_plan_plainly(rt, alloc, text) {
-        Ok(plain) => plan_is(rt, alloc, plan, &plain),
+    match kept(rt, alloc, read_plan_plainly(rt, alloc, text)) {
+        Ok(plain) => plan_is(rt, alloc, plan, plain),
         Err(error) => panic!(rt; "not refused, though {error}: {text}"),
     }
 }
 
 /// Fails where the plain reader refuses the text otherwise, or reads it.
 fn is_refused_plainly(rt: &impl Abort, alloc: Global, text: &str, found: &PlanError) {
-    match read_plan_plainly(rt, alloc, text) {
+    match kept(rt, alloc, read_plan_plainly(rt, alloc, text)) {
         Ok(_) => panic!(rt; "{found}: {text}"),
-        Err(wanted) => assert!(rt; *found == wanted, "{found}, not {wanted}: {text}"),
+        Err(wanted) => assert!(rt; *found == *wanted, "{found}, not {wanted}: {text}"),
     }
 }
 
 /// Fails where the reader and the plain reader answer the text as a plan otherwise.
 pub fn reads_as_plainly(rt: &impl Abort, alloc: Global, text: &str) {
-    match read_plan(alloc, text.as_bytes()) {
-        Ok(plan) => is_read_plainly(rt, alloc, text, &plan),
-        Err(error) => is_refused_plainly(rt, alloc, text, &error),
+    match kept(rt, alloc, read_plan(alloc, text.as_bytes())) {
+        Ok(plan) => is_read_plainly(rt, alloc, text, plan),
+        Err(error) => is_refused_plainly(rt, alloc, text, error),
     }
 }

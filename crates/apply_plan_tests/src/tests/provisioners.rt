@@ -1,7 +1,7 @@
 //! Provisioners of a create in a script: their members, how many there may be, and where they may stand.
 
 use super::scripts::ONE_DELETE;
-use super::table::{push, put, scripts_are_answered};
+use super::table::{put, scripts_are_answered, spelled_rows, times};
 use super::*;
 
 /// A script with these provisioners in the step of the only change.
@@ -105,10 +105,10 @@ fn each_member_of_a_provisioner_has_its_rule(rt: HostRuntime) {
     scripts_are_answered(&rt, alloc, ONE_CREATE, PROVISIONER, SECONDS);
     let members = r#""provisioner":"a","seconds":0,"output":CELL"#;
     let output = put(&rt, alloc, PROVISIONER, "CELL", members);
-    scripts_are_answered(&rt, alloc, ONE_CREATE, output.as_str(), OUTPUTS);
+    scripts_are_answered(&rt, alloc, ONE_CREATE, output, OUTPUTS);
     let members = r#""provisioner":"a","seconds":0,"failed":CELL"#;
     let failed = put(&rt, alloc, PROVISIONER, "CELL", members);
-    scripts_are_answered(&rt, alloc, ONE_CREATE, failed.as_str(), FAILURES);
+    scripts_are_answered(&rt, alloc, ONE_CREATE, failed, FAILURES);
 }
 
 /// A script with this step of the only change.
@@ -149,18 +149,6 @@ fn seconds_of_provisioners_count_with_those_of_the_step(rt: HostRuntime) {
     scripts_are_answered(&rt, rt.alloc(), ONE_CREATE, STEP, SECONDS_IN_ALL);
 }
 
-/// So many texts with commas between them.
-fn times(rt: &impl Abort, alloc: Global, count: usize, text: &str) -> String {
-    let mut all = String::new(alloc);
-    for number in 0..count {
-        if number > 0 {
-            push(rt, &mut all, ",");
-        }
-        push(rt, &mut all, text);
-    }
-    all
-}
-
 const PLAIN: &str = r#"{"provisioner":"a","seconds":0}"#;
 
 /// Fails where a script whose only step has these members is answered otherwise.
@@ -170,21 +158,19 @@ fn step_is_answered(rt: &impl Abort, alloc: Global, plan: &str, members: &str, w
 }
 
 /// Members of a step with so many provisioners, the first of which has the output.
-fn step_with(rt: &impl Abort, alloc: Global, seconds: &str, count: usize, output: &str) -> String {
-    let first = r#"{"provisioner":"a","seconds":0,"output":[OUTPUT]},"#;
-    let mut members = shown(rt, alloc, &r#""seconds":SECONDS,"provisioners":["#);
-    push(
-        rt,
-        &mut members,
-        put(rt, alloc, first, "OUTPUT", output).as_str(),
-    );
-    push(
-        rt,
-        &mut members,
-        times(rt, alloc, count.saturating_sub(1), PLAIN).as_str(),
-    );
-    push(rt, &mut members, "]");
-    put(rt, alloc, members.as_str(), "SECONDS", seconds)
+fn step_with(
+    rt: &impl Abort,
+    alloc: Global,
+    seconds: &str,
+    count: usize,
+    output: &str,
+) -> &'static str {
+    let members =
+        r#""seconds":SECONDS,"provisioners":[{"provisioner":"a","seconds":0,"output":[OUTPUT]},OTHERS]"#;
+    let others = times(rt, alloc, count.saturating_sub(1), PLAIN);
+    let members = put(rt, alloc, members, "SECONDS", seconds);
+    let members = put(rt, alloc, members, "OUTPUT", output);
+    put(rt, alloc, members, "OTHERS", others)
 }
 
 const TOO_MANY: &str = "script entry 0 has a step with more than 8 provisioners";
@@ -199,30 +185,20 @@ const TOO_LONG: &str = "script entry 0 has a step over 86400 seconds";
 fn a_step_has_at_most_8_provisioners(rt: HostRuntime) {
     let alloc = rt.alloc();
     let most = step_with(&rt, alloc, "0", 8, "");
-    step_is_answered(&rt, alloc, ONE_CREATE, most.as_str(), "accepted");
+    step_is_answered(&rt, alloc, ONE_CREATE, most, "accepted");
     let more = step_with(&rt, alloc, "0", 9, "");
-    step_is_answered(&rt, alloc, ONE_CREATE, more.as_str(), TOO_MANY);
+    step_is_answered(&rt, alloc, ONE_CREATE, more, TOO_MANY);
 }
 
 #[test]
 fn a_provisioner_has_at_most_100_outputs(rt: HostRuntime) {
     let alloc = rt.alloc();
-    let most = step_with(
-        &rt,
-        alloc,
-        "0",
-        2,
-        times(&rt, alloc, 100, r#""hi""#).as_str(),
-    );
-    step_is_answered(&rt, alloc, ONE_CREATE, most.as_str(), "accepted");
-    let more = step_with(
-        &rt,
-        alloc,
-        "0",
-        2,
-        times(&rt, alloc, 101, r#""hi""#).as_str(),
-    );
-    step_is_answered(&rt, alloc, ONE_CREATE, more.as_str(), TOO_MUCH);
+    let loud = times(&rt, alloc, 100, r#""hi""#);
+    let most = step_with(&rt, alloc, "0", 2, loud);
+    step_is_answered(&rt, alloc, ONE_CREATE, most, "accepted");
+    let louder = times(&rt, alloc, 101, r#""hi""#);
+    let more = step_with(&rt, alloc, "0", 2, louder);
+    step_is_answered(&rt, alloc, ONE_CREATE, more, TOO_MUCH);
 }
 
 /// A step with all four faults, then without the first of them, and so on.
@@ -230,15 +206,15 @@ fn a_provisioner_has_at_most_100_outputs(rt: HostRuntime) {
 fn faults_of_provisioners_have_an_order(rt: HostRuntime) {
     let alloc = rt.alloc();
     let loud = times(&rt, alloc, 101, r#""hi""#);
-    let all = step_with(&rt, alloc, "86401", 9, loud.as_str());
-    step_is_answered(&rt, alloc, ONE_DELETE, all.as_str(), TOO_LONG);
-    let short = step_with(&rt, alloc, "86400", 9, loud.as_str());
-    step_is_answered(&rt, alloc, ONE_DELETE, short.as_str(), TOO_MANY);
-    let few = step_with(&rt, alloc, "86400", 8, loud.as_str());
-    step_is_answered(&rt, alloc, ONE_DELETE, few.as_str(), TOO_MUCH);
+    let all = step_with(&rt, alloc, "86401", 9, loud);
+    step_is_answered(&rt, alloc, ONE_DELETE, all, TOO_LONG);
+    let short = step_with(&rt, alloc, "86400", 9, loud);
+    step_is_answered(&rt, alloc, ONE_DELETE, short, TOO_MANY);
+    let few = step_with(&rt, alloc, "86400", 8, loud);
+    step_is_answered(&rt, alloc, ONE_DELETE, few, TOO_MUCH);
     let little = step_with(&rt, alloc, "86400", 8, "");
-    step_is_answered(&rt, alloc, ONE_DELETE, little.as_str(), MISPLACED);
-    step_is_answered(&rt, alloc, ONE_CREATE, little.as_str(), "accepted");
+    step_is_answered(&rt, alloc, ONE_DELETE, little, MISPLACED);
+    step_is_answered(&rt, alloc, ONE_CREATE, little, "accepted");
 }
 
 /// A plan of one change with these actions.
@@ -285,8 +261,8 @@ with => script entry 0 has too many steps
 fn steps_are_answered(rt: &impl Abort, alloc: Global, actions: &str, table: &str) {
     let plan = put(rt, alloc, ACTIONS, "CELL", actions);
     let script = r#"{"changes":[{"address":"null_resource.a","steps":[CELL]}]}"#;
-    let rows = super::table::spelled_rows(rt, alloc, STEPS, table);
-    scripts_are_answered(rt, alloc, plan.as_str(), script, rows.as_str());
+    let rows = spelled_rows(rt, alloc, STEPS, table);
+    scripts_are_answered(rt, alloc, plan, script, rows);
 }
 
 #[test]
@@ -320,17 +296,12 @@ loud slow => script entry 0 has a step over 86400 seconds
 #[test]
 fn faults_of_provisioners_go_by_kind_over_the_entry(rt: HostRuntime) {
     let alloc = rt.alloc();
-    let many = put(
-        &rt,
-        alloc,
-        FAULTY,
-        "MANY",
-        times(&rt, alloc, 9, PLAIN).as_str(),
-    );
+    let many = times(&rt, alloc, 9, PLAIN);
+    let steps = put(&rt, alloc, FAULTY, "MANY", many);
     let loud = times(&rt, alloc, 101, r#""hi""#);
-    let steps = put(&rt, alloc, many.as_str(), "LOUD", loud.as_str());
+    let steps = put(&rt, alloc, steps, "LOUD", loud);
     let plan = put(&rt, alloc, ACTIONS, "CELL", r#""delete","create""#);
     let script = r#"{"changes":[{"address":"null_resource.a","steps":[CELL]}]}"#;
-    let rows = super::table::spelled_rows(&rt, alloc, steps.as_str(), FIRST_FAULTS);
-    scripts_are_answered(&rt, alloc, plan.as_str(), script, rows.as_str());
+    let rows = spelled_rows(&rt, alloc, steps, FIRST_FAULTS);
+    scripts_are_answered(&rt, alloc, plan, script, rows);
 }

@@ -1,7 +1,7 @@
 //! What a script says of provisioners, and which of them run.
 
 use super::outcomes::{line_of, push_diag, push_printed};
-use super::table::{cells, compare, push, put, rows};
+use super::table::{cells, compare, push, put, rows, times, with_end};
 use super::*;
 use apply_plan::{Outcome, Provisioner};
 
@@ -10,7 +10,7 @@ fn push_provisioner(rt: &impl Abort, alloc: Global, line: &mut String, provision
     push(rt, line, ";");
     push_printed(rt, alloc, line, provisioner.name.as_str());
     push(rt, line, " ");
-    push(rt, line, shown(rt, alloc, &provisioner.seconds).as_str());
+    push(rt, line, shown(rt, alloc, &provisioner.seconds));
     for number in 0..provisioner.output.len() {
         push_printed(rt, alloc, line, provisioner.output.get(number).as_str());
     }
@@ -20,20 +20,13 @@ fn push_provisioner(rt: &impl Abort, alloc: Global, line: &mut String, provision
 }
 
 /// The outcome in one line, with its provisioners.
-fn whole_line(rt: &impl Abort, alloc: Global, outcome: &Outcome) -> String {
-    let mut line = line_of(rt, alloc, outcome);
+fn whole_line(rt: &impl Abort, alloc: Global, outcome: &Outcome) -> &'static str {
+    let mut line = String::new(alloc);
+    push(rt, &mut line, line_of(rt, alloc, outcome));
     for number in 0..outcome.provisioners.len() {
         push_provisioner(rt, alloc, &mut line, outcome.provisioners.get(number));
     }
-    line
-}
-
-/// How long the only step takes, with its provisioners.
-fn seconds_taken(rt: &impl Abort, script: &Script) -> u32 {
-    match script.outcome(0, 0) {
-        Some(outcome) => outcome.took(),
-        None => panic!(rt; "nothing is said of the step"),
-    }
+    kept_text(rt, alloc, line)
 }
 
 /// What is said of the only step.
@@ -44,17 +37,26 @@ fn only_outcome<'a>(rt: &impl Abort, script: &'a Script) -> &'a Outcome {
     }
 }
 
+/// How long the only step takes, with its provisioners.
+fn seconds_taken(rt: &impl Abort, script: &Script) -> u32 {
+    match script.outcome(0, 0) {
+        Some(outcome) => outcome.took(),
+        None => panic!(rt; "nothing is said of the step"),
+    }
+}
+
 /// What comes of the outcome: `, COUNT run`, and why it fails, where it does.
-fn result_line(rt: &impl Abort, alloc: Global, outcome: &Outcome) -> String {
-    let mut line = shown(rt, alloc, &", ");
+fn result_line(rt: &impl Abort, alloc: Global, outcome: &Outcome) -> &'static str {
+    let mut line = String::new(alloc);
+    push(rt, &mut line, ", ");
     let count = outcome.provisioners.count_that_run();
-    push(rt, &mut line, shown(rt, alloc, &count).as_str());
+    push(rt, &mut line, shown(rt, alloc, &count));
     push(rt, &mut line, " run");
     if let Some(diag) = outcome.failure() {
         push_diag(rt, alloc, &mut line, ", failed", diag);
     }
     assert!(rt; outcome.fails() == outcome.failure().is_some());
-    line
+    kept_text(rt, alloc, line)
 }
 
 /// Steps, and what is said of them.
@@ -83,68 +85,49 @@ const COMES: &str = r#"
 "#;
 
 /// The script whose only step has these members.
-fn script_with(rt: &impl Abort, alloc: Global, members: &str) -> Script {
+fn script_with(rt: &impl Abort, alloc: Global, members: &str) -> &'static Script {
     let script = r#"{"changes":[{"address":"null_resource.a","steps":[{CELL}]}]}"#;
     let text = put(rt, alloc, script, "CELL", members);
-    script_of(rt, alloc, ONE_CREATE, text.as_str())
+    script_of(rt, alloc, ONE_CREATE, text)
 }
 
 /// What the script with these members says of the step.
-fn said_with(rt: &impl Abort, alloc: Global, members: &str) -> String {
+fn said_with(rt: &impl Abort, alloc: Global, members: &str) -> &'static str {
     let script = script_with(rt, alloc, members);
-    whole_line(rt, alloc, only_outcome(rt, &script))
+    whole_line(rt, alloc, only_outcome(rt, script))
 }
 
 #[test]
 fn a_step_says_what_its_provisioners_do(rt: HostRuntime) {
     for row in rows(&rt, SAID) {
         let (members, wanted) = cells(&rt, row);
-        let found = said_with(&rt, rt.alloc(), members);
-        compare(&rt, members, found.as_str(), wanted);
+        compare(&rt, members, said_with(&rt, rt.alloc(), members), wanted);
     }
 }
 
 /// What comes of the step with these members.
-fn come_with(rt: &impl Abort, alloc: Global, members: &str) -> String {
+fn come_with(rt: &impl Abort, alloc: Global, members: &str) -> &'static str {
     let script = script_with(rt, alloc, members);
-    let mut found = shown(rt, alloc, &seconds_taken(rt, &script));
-    let result = result_line(rt, alloc, only_outcome(rt, &script));
-    push(rt, &mut found, result.as_str());
-    found
+    let seconds = shown(rt, alloc, &seconds_taken(rt, script));
+    let result = result_line(rt, alloc, only_outcome(rt, script));
+    with_end(rt, alloc, seconds, result)
 }
 
 #[test]
 fn provisioners_run_up_to_the_first_that_fails(rt: HostRuntime) {
     for row in rows(&rt, COMES) {
         let (members, wanted) = cells(&rt, row);
-        let found = come_with(&rt, rt.alloc(), members);
-        compare(&rt, members, found.as_str(), wanted);
+        compare(&rt, members, come_with(&rt, rt.alloc(), members), wanted);
     }
 }
 
-/// Adds the text so often, with commas between.
-fn push_often(rt: &impl Abort, text: &mut String, more: &str, count: u32) {
-    for number in 0..count {
-        push(rt, text, if number > 0 { "," } else { "" });
-        push(rt, text, more);
-    }
-}
-
-/// A provisioner that puts out as much as it may.
-fn longest_provisioner(rt: &impl Abort, alloc: Global) -> String {
-    let mut output = String::new(alloc);
-    push_often(rt, &mut output, r#""hi""#, 100);
+/// The members of a step with as many provisioners as there may be, each of which puts out as much as it may.
+fn most_provisioners(rt: &impl Abort, alloc: Global) -> &'static str {
+    let output = times(rt, alloc, 100, r#""hi""#);
     let one = r#"{"provisioner":"a","seconds":10800,"output":[CELL]}"#;
-    put(rt, alloc, one, "CELL", output.as_str())
-}
-
-/// The members of a step with as many provisioners as there may be.
-fn most_provisioners(rt: &impl Abort, alloc: Global) -> String {
-    let one = longest_provisioner(rt, alloc);
-    let mut members = shown(rt, alloc, &r#""seconds":0,"provisioners":["#);
-    push_often(rt, &mut members, one.as_str(), 8);
-    push(rt, &mut members, "]");
-    members
+    let one = put(rt, alloc, one, "CELL", output);
+    let members = r#""seconds":0,"provisioners":[CELL]"#;
+    put(rt, alloc, members, "CELL", times(rt, alloc, 8, one))
 }
 
 /// Fails where the provisioner has another number of outputs, or another last one.
@@ -166,6 +149,5 @@ fn has_the_most(rt: &impl Abort, script: &Script) {
 #[test]
 fn the_most_provisioners_are_kept(rt: HostRuntime) {
     let members = most_provisioners(&rt, rt.alloc());
-    let script = script_with(&rt, rt.alloc(), members.as_str());
-    has_the_most(&rt, &script);
+    has_the_most(&rt, script_with(&rt, rt.alloc(), members));
 }

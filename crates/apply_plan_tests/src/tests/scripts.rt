@@ -123,7 +123,7 @@ fn the_first_fault_of_the_first_faulty_entry_is_reported(rt: HostRuntime) {
     for row in rows(&rt, FAULTS) {
         let (_, third) = cells(&rt, row);
         let script = put(&rt, alloc, second, "THIRD", third);
-        scripts_are_answered(&rt, alloc, THREE_CHANGES, script.as_str(), table.as_str());
+        scripts_are_answered(&rt, alloc, THREE_CHANGES, script, table);
     }
 }
 
@@ -133,7 +133,7 @@ fn a_fault_of_the_top_level_comes_first(rt: HostRuntime) {
     let script =
         r#"{"changes":[{"address":"null_resource.a","steps":[{"seconds":1}]},CELL],"changes":5}"#;
     let table = spelled_rows(&rt, alloc, FAULTS, TOP_LEVEL_FIRST);
-    scripts_are_answered(&rt, alloc, THREE_CHANGES, script, table.as_str());
+    scripts_are_answered(&rt, alloc, THREE_CHANGES, script, table);
 }
 
 /// Entries by what they are about.
@@ -168,7 +168,7 @@ current other other_deposed => script entry 2 names an unknown change
 fn each_change_has_one_entry(rt: HostRuntime) {
     let alloc = rt.alloc();
     let table = spelled_rows(&rt, alloc, OBJECTS, ONE_ENTRY_EACH);
-    scripts_are_answered(&rt, alloc, THREE_CHANGES, ENTRIES, table.as_str());
+    scripts_are_answered(&rt, alloc, THREE_CHANGES, ENTRIES, table);
 }
 
 /// Each refusal as `Debug` prints it, and its text.

@@ -37,15 +37,37 @@ pub fn push_row(rt: &impl Abort, table: &mut String, cell: &str, wanted: &str) {
 }
 
 /// The text with more at its end.
-pub fn with_end(rt: &impl Abort, alloc: Global, text: &str, more: &str) -> String {
-    let mut longer = shown(rt, alloc, &text);
+pub fn with_end(rt: &impl Abort, alloc: Global, text: &str, more: &str) -> &'static str {
+    let mut longer = String::new(alloc);
+    push(rt, &mut longer, text);
     push(rt, &mut longer, more);
-    longer
+    kept_text(rt, alloc, longer)
 }
 
 /// The text with another one in each place of the mark.
-pub fn put(rt: &impl Abort, alloc: Global, text: &str, mark: &str, other: &str) -> String {
-    text.replace(alloc, mark, other).expect(rt, "memory")
+pub fn put(rt: &impl Abort, alloc: Global, text: &str, mark: &str, other: &str) -> &'static str {
+    kept_text(
+        rt,
+        alloc,
+        text.replace(alloc, mark, other).expect(rt, "memory"),
+    )
+}
+
+/// The text so often.
+pub fn repeated(rt: &impl Abort, alloc: Global, text: &str, count: usize) -> &'static str {
+    kept_text(rt, alloc, text.repeat(alloc, count).expect(rt, "memory"))
+}
+
+/// So many texts with commas between them.
+pub fn times(rt: &impl Abort, alloc: Global, count: usize, text: &str) -> &'static str {
+    let mut all = String::new(alloc);
+    for number in 0..count {
+        if number > 0 {
+            push(rt, &mut all, ",");
+        }
+        push(rt, &mut all, text);
+    }
+    kept_text(rt, alloc, all)
 }
 
 /// The text that the table has for the name.
@@ -60,7 +82,7 @@ pub fn named<'a>(rt: &impl Abort, texts: &'a str, name: &str) -> &'a str {
 }
 
 /// The texts of these names, with commas between them.
-pub fn spelled(rt: &impl Abort, alloc: Global, texts: &str, names: &str) -> String {
+pub fn spelled(rt: &impl Abort, alloc: Global, texts: &str, names: &str) -> &'static str {
     let mut spelled = String::new(alloc);
     for name in names.split_whitespace() {
         if !spelled.is_empty() {
@@ -68,18 +90,17 @@ pub fn spelled(rt: &impl Abort, alloc: Global, texts: &str, names: &str) -> Stri
         }
         push(rt, &mut spelled, named(rt, texts, name));
     }
-    spelled
+    kept_text(rt, alloc, spelled)
 }
 
 /// The table with each first cell spelled out.
-pub fn spelled_rows(rt: &impl Abort, alloc: Global, texts: &str, table: &str) -> String {
+pub fn spelled_rows(rt: &impl Abort, alloc: Global, texts: &str, table: &str) -> &'static str {
     let mut lines = String::new(alloc);
     for row in rows(rt, table) {
         let (names, wanted) = cells(rt, row);
-        let cell = spelled(rt, alloc, texts, names);
-        push_row(rt, &mut lines, cell.as_str(), wanted);
+        push_row(rt, &mut lines, spelled(rt, alloc, texts, names), wanted);
     }
-    lines
+    kept_text(rt, alloc, lines)
 }
 
 /// Fails where another text was found in the row of that cell.
@@ -93,9 +114,8 @@ pub fn plans_are_answered(rt: &impl Abort, alloc: Global, plan: &str, table: &st
     for row in rows(rt, table) {
         let (cell, wanted) = cells(rt, row);
         let text = put(rt, alloc, plan, "CELL", cell);
-        reads_as_plainly(rt, alloc, text.as_str());
-        let found = answer_to_plan(rt, alloc, text.as_bytes());
-        compare(rt, cell, found.as_str(), wanted);
+        reads_as_plainly(rt, alloc, text);
+        compare(rt, cell, answer_to_plan(rt, alloc, text.as_bytes()), wanted);
     }
 }
 
@@ -104,7 +124,11 @@ pub fn scripts_are_answered(rt: &impl Abort, alloc: Global, plan: &str, script: 
     for row in rows(rt, table) {
         let (cell, wanted) = cells(rt, row);
         let text = put(rt, alloc, script, "CELL", cell);
-        let found = answer_for(rt, alloc, plan, text.as_bytes());
-        compare(rt, cell, found.as_str(), wanted);
+        compare(
+            rt,
+            cell,
+            answer_for(rt, alloc, plan, text.as_bytes()),
+            wanted,
+        );
     }
 }

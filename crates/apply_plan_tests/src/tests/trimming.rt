@@ -1,6 +1,6 @@
 //! What nobody looks at is left out of the tree, and is JSON all the same.
 
-use super::table::{plans_are_answered, put};
+use super::table::{plans_are_answered, put, repeated};
 use super::*;
 
 /// Members that are not known, hold known names, or stand twice.
@@ -62,10 +62,10 @@ fn what_is_left_out_is_json(rt: HostRuntime) {
         r#"{"other":[CELL],"format_version":"1.0"}"#,
         FAULTS,
     );
-    let inside = FAULTS.replace(alloc, "accepted", "the plan is not a plan of format 1.x");
-    let inside = inside.expect(&rt, "memory");
+    let no_plan = "the plan is not a plan of format 1.x";
+    let inside = put(&rt, alloc, FAULTS, "accepted", no_plan);
     let plan = r#"{"format_version":"1.0","terraform_version":[CELL]}"#;
-    plans_are_answered(&rt, alloc, plan, inside.as_str());
+    plans_are_answered(&rt, alloc, plan, inside);
 }
 
 /// Lists of actions, of which three items are looked at.
@@ -84,7 +84,7 @@ const ACTIONS: &str = r#"
 #[test]
 fn three_actions_are_looked_at(rt: HostRuntime) {
     let plan = put(&rt, rt.alloc(), ONE_CREATE, r#"["create"]"#, "CELL");
-    plans_are_answered(&rt, rt.alloc(), plan.as_str(), ACTIONS);
+    plans_are_answered(&rt, rt.alloc(), plan, ACTIONS);
 }
 
 /// The members of a change, and of what was before it.
@@ -105,7 +105,7 @@ fn members_of_a_change_are_looked_at(rt: HostRuntime) {
         r#"{"actions":["create"]}"#,
         "CELL",
     );
-    plans_are_answered(&rt, rt.alloc(), plan.as_str(), CHANGES);
+    plans_are_answered(&rt, rt.alloc(), plan, CHANGES);
 }
 
 /// What stands behind 10,000 numbers in `resource_changes`.
@@ -119,8 +119,8 @@ const BEHIND: &str = r#"
 #[test]
 fn elements_behind_10001_are_left_out(rt: HostRuntime) {
     let alloc = rt.alloc();
-    let numbers = "5,".repeat(alloc, 10_000).expect(&rt, "memory");
+    let numbers = repeated(&rt, alloc, "5,", 10_000);
     let plan = r#"{"format_version":"1.0","resource_changes":[NUMBERSCELL]}"#;
-    let plan = put(&rt, alloc, plan, "NUMBERS", numbers.as_str());
-    plans_are_answered(&rt, alloc, plan.as_str(), BEHIND);
+    let plan = put(&rt, alloc, plan, "NUMBERS", numbers);
+    plans_are_answered(&rt, alloc, plan, BEHIND);
 }
