@@ -62,9 +62,20 @@ fn call_of<'a>(rt: &impl Abort, row: &'a str) -> HookCall<'a> {
     }
 }
 
+/// The value, for as long as the test runs: a proof grows with each place at which something has to be dropped.
+fn kept<'a, T: Drop + 'a>(rt: &impl Abort, alloc: Global, value: T) -> &'a mut T {
+    Box::leak(Box::new(alloc, value).expect(rt, "memory"))
+}
+
 /// What `Debug` prints of it.
-fn printed(rt: &impl Abort, alloc: Global, value: &impl Debug) -> String {
-    format!(in alloc; "{value:?}").expect(rt, "memory")
+fn printed(rt: &impl Abort, alloc: Global, value: &impl Debug) -> &'static str {
+    let text = format!(in alloc; "{value:?}").expect(rt, "memory");
+    kept(rt, alloc, text).as_str()
+}
+
+/// Fails where it is not so.
+fn holds(rt: &impl Abort, case: &str, is_so: bool) {
+    assert!(rt; is_so, "{case}");
 }
 
 /// Fails where another text was found.
@@ -76,14 +87,14 @@ fn text_is(rt: &impl Abort, case: &str, found: &str, wanted: &str) {
 fn is_asked(rt: &impl Abort, alloc: Global, registry: &Registry, row: &str) {
     let (call, wanted) = parted(rt, row, " => ");
     let asked = registry.ask(&call_of(rt, call));
-    text_is(rt, row, printed(rt, alloc, &asked).as_str(), wanted);
+    text_is(rt, row, printed(rt, alloc, &asked), wanted);
 }
 
 /// Fails where the hook answers the call of the row otherwise.
 fn is_decided(rt: &impl Abort, alloc: Global, hook: &impl Hook, row: &str) {
     let (call, wanted) = parted(rt, row, " => ");
     let verdict = hook.decide(&call_of(rt, call));
-    text_is(rt, row, printed(rt, alloc, &verdict).as_str(), wanted);
+    text_is(rt, row, printed(rt, alloc, &verdict), wanted);
 }
 
 /// Fails where a number is another.
@@ -92,13 +103,13 @@ fn number_is(rt: &impl Abort, case: &str, found: u64, wanted: u64) {
 }
 
 /// Fails where the registry has another number of hooks.
-fn len_is(rt: &impl Abort, registry: &Registry, wanted: usize) {
-    assert!(rt; registry.len() == wanted, "{wanted} hooks");
+fn len_is(rt: &impl Abort, registry: &Registry, wanted: u64) {
+    number_is(rt, "hooks", registry.len() as u64, wanted);
 }
 
 /// Fails where the hook was not added.
 fn is_added(rt: &impl Abort, added: Result<(), (HookError, FnHook)>) {
-    assert!(rt; added.is_ok(), "a hook was not added");
+    holds(rt, "a hook was added", added.is_ok());
 }
 
 /// Adds a hook of that closure, which answers as the rules do.

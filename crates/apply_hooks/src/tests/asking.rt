@@ -2,33 +2,6 @@
 
 use super::*;
 
-/// Calls on a registry whose second and third hook halt deletes before they start.
-const HALTS: &str = "Pre Delete null_resource.a => HaltedBy(1)
-Pre Create null_resource.a => Go";
-
-#[test]
-fn hooks_halt(rt: HostRuntime) {
-    let alloc = rt.alloc();
-    let mut registry = Registry::new(alloc);
-    let answer: HookClosure = Box::new(alloc, |_call: &HookCall<'_>| Verdict::Continue).expect(
-        &rt, "memory",
-    );
-    add(&rt, &mut registry, Rules::new(alloc), answer);
-    for number in 1..3 {
-        let rules = halting(&rt, alloc, Some(Phase::Pre), Some(StepKind::Delete), "");
-        let own = halting(&rt, alloc, Some(Phase::Pre), Some(StepKind::Delete), "");
-        let answer: HookClosure = Box::new(
-            alloc,
-            move |call: &HookCall<'_>| own.decide(call),
-        ).expect(&rt, "memory");
-        add(&rt, &mut registry, rules, answer);
-        len_is(&rt, &registry, number + 1);
-    }
-    for row in HALTS.lines() {
-        is_asked(&rt, alloc, &registry, row);
-    }
-}
-
 /// Fails where one of three hooks was called another number of times. The first counts its calls by one, the second by a
 /// thousand and the third by a million.
 fn calls_are(rt: &impl Abort, calls: &AtomicU64, first: u64, second: u64, third: u64) {
@@ -38,21 +11,27 @@ fn calls_are(rt: &impl Abort, calls: &AtomicU64, first: u64, second: u64, third:
     number_is(rt, "calls of the third hook", found / 1_000_000, third);
 }
 
+/// A call on a registry whose second and third hook halt deletes before they start.
+const HALTED: &str = "Pre Delete null_resource.a => HaltedBy(1)";
+
+const NOT_HALTED: &str = "Pre Create null_resource.a => Go";
+
 /// A registry that worked out the verdicts from the rules alone would call nothing. The second hook halts, so the third is
 /// not called.
 #[test]
-fn verdict_without_call(rt: HostRuntime) {
+fn hooks_are_called_up_to_the_first_that_halts(rt: HostRuntime) {
     let alloc = rt.alloc();
     let calls = count(&rt, alloc);
-    let mut registry = Registry::new(alloc);
     let counted = shared(&rt, &calls);
+    let mut registry = Registry::new(alloc);
     let answer: HookClosure = Box::new(alloc, move |_call: &HookCall<'_>| {
         counted.fetch_add(1, Ordering::SeqCst);
         Verdict::Continue
     })
     .expect(&rt, "memory");
     add(&rt, &mut registry, Rules::new(alloc), answer);
-    for weight in [1000, 1_000_000] {
+    for number in 1..3 {
+        let weight = 1000_u64.wrapping_pow(number);
         let counted = shared(&rt, &calls);
         let rules = halting(&rt, alloc, Some(Phase::Pre), Some(StepKind::Delete), "");
         let own = halting(&rt, alloc, Some(Phase::Pre), Some(StepKind::Delete), "");
@@ -62,14 +41,11 @@ fn verdict_without_call(rt: HostRuntime) {
         })
         .expect(&rt, "memory");
         add(&rt, &mut registry, rules, answer);
+        len_is(&rt, &registry, number as u64 + 1);
     }
-    is_asked(
-        &rt,
-        alloc,
-        &registry,
-        "Pre Delete null_resource.a => HaltedBy(1)",
-    );
+    is_asked(&rt, alloc, &registry, HALTED);
     calls_are(&rt, &calls, 1, 1, 0);
+    is_asked(&rt, alloc, &registry, NOT_HALTED);
 }
 
 /// Fails where the hook was added, or another error or another hook came back than the one that halts.
@@ -88,7 +64,7 @@ fn the_33rd_hook_comes_back(rt: HostRuntime) {
     let alloc = rt.alloc();
     let mut registry = Registry::new(alloc);
     for number in 0..MAX_HOOKS {
-        len_is(&rt, &registry, number);
+        len_is(&rt, &registry, number as u64);
         let answer: HookClosure = Box::new(alloc, |_call: &HookCall<'_>| Verdict::Continue).expect(
             &rt, "memory",
         );
@@ -100,7 +76,7 @@ fn the_33rd_hook_comes_back(rt: HostRuntime) {
     );
     comes_back(&rt, alloc, registry.add(FnHook::new(rules, answer)));
     len_is(&rt, &registry, 32);
-    is_asked(&rt, alloc, &registry, "Pre Create null_resource.a => Go");
+    is_asked(&rt, alloc, &registry, NOT_HALTED);
 }
 
 /// The call that the threads ask about.
@@ -114,9 +90,9 @@ fn create<'a>() -> HookCall<'a> {
 
 /// Fails where one of eight threads was answered otherwise than that the first hook halts.
 fn all_are_halted(rt: &impl Abort, all: &[Asked]) {
-    assert!(rt; all.len() == 8);
+    number_is(rt, "threads", all.len() as u64, 8);
     for asked in all {
-        assert!(rt; *asked == Asked::HaltedBy(0), "{asked:?}");
+        holds(rt, "the first hook halts", *asked == Asked::HaltedBy(0));
     }
 }
 

@@ -89,7 +89,7 @@ fn is_counted(rt: &impl Abort, alloc: Global, hook: &impl Hook, calls: &AtomicU6
     let (row, so_far) = parted(rt, row, "; ");
     is_decided(rt, alloc, hook, row);
     let found = calls.load(Ordering::SeqCst);
-    text_is(rt, row, printed(rt, alloc, &found).as_str(), so_far);
+    text_is(rt, row, printed(rt, alloc, &found), so_far);
 }
 
 /// Calls on a hook that halts what has failed, what it answers, and how often its closure was called by then.

@@ -46,16 +46,16 @@ fn push_mark(rt: &impl Abort, marks: &mut String, is_x: bool) {
 }
 
 /// An x for each call that the rule matches.
-fn matched(rt: &impl Abort, alloc: Global, rule: &Rule) -> String {
+fn matched(rt: &impl Abort, alloc: Global, rule: &Rule) -> &'static str {
     let mut marks = String::new(alloc);
     for call in CALLS.lines() {
         push_mark(rt, &mut marks, rule.matches(&call_of(rt, call)));
     }
-    marks
+    kept(rt, alloc, marks).as_str()
 }
 
 /// An x for each call that the hook halts.
-fn halted(rt: &impl Abort, alloc: Global, hook: &impl Hook) -> String {
+fn halted(rt: &impl Abort, alloc: Global, hook: &impl Hook) -> &'static str {
     let mut marks = String::new(alloc);
     for call in CALLS.lines() {
         push_mark(
@@ -64,22 +64,22 @@ fn halted(rt: &impl Abort, alloc: Global, hook: &impl Hook) -> String {
             hook.decide(&call_of(rt, call)) == Verdict::Halt,
         );
     }
-    marks
+    kept(rt, alloc, marks).as_str()
 }
 
 /// Adds a rule.
 fn push_rule(rt: &impl Abort, rules: &mut Rules, rule: Rule) {
-    assert!(rt; rules.push(rule).is_ok(), "a rule was not added");
+    holds(rt, "a rule was added", rules.push(rule).is_ok());
 }
 
 /// Fails where the rule of the row, or a list of it alone, takes other calls.
 fn takes(rt: &impl Abort, alloc: Global, row: &str) {
     let (rule, wanted) = parted(rt, row, " => ");
     let found = matched(rt, alloc, &rule_of(rt, alloc, rule, Verdict::Halt));
-    text_is(rt, row, found.as_str(), wanted);
+    text_is(rt, row, found, wanted);
     let mut rules = Rules::new(alloc);
     push_rule(rt, &mut rules, rule_of(rt, alloc, rule, Verdict::Halt));
-    text_is(rt, row, halted(rt, alloc, &rules).as_str(), wanted);
+    text_is(rt, row, halted(rt, alloc, &rules), wanted);
 }
 
 #[test]
