@@ -64,9 +64,16 @@ fn number_is(rt: &impl Abort, case: &str, found: u64, wanted: u64) {
     assert!(rt; found == wanted, "{case}: {found}");
 }
 
+/// The value, for as long as the test runs: a proof grows with each place at which something has to be dropped.
+fn kept<'a, T: Drop + 'a>(rt: &impl Abort, alloc: Global, value: T) -> &'a T {
+    let kept = Box::new(alloc, value).expect(rt, "memory");
+    &*Box::leak(kept)
+}
+
 /// What `Debug` prints of it.
-fn printed(rt: &impl Abort, alloc: Global, value: &impl Debug) -> String {
-    format!(in alloc; "{value:?}").expect(rt, "memory")
+fn printed(rt: &impl Abort, alloc: Global, value: &impl Debug) -> &'static str {
+    let text = format!(in alloc; "{value:?}").expect(rt, "memory");
+    kept(rt, alloc, text).as_str()
 }
 
 /// Adds a piece to a text.
@@ -80,33 +87,34 @@ fn parted<'a>(rt: &impl Abort, row: &'a str) -> (&'a str, &'a str) {
 }
 
 /// The text with another one in the place of `CELL`.
-fn put(rt: &impl Abort, alloc: Global, text: &str, cell: &str) -> String {
-    text.replace(alloc, "CELL", cell).expect(rt, "memory")
+fn put(rt: &impl Abort, alloc: Global, text: &str, cell: &str) -> &'static str {
+    let text = text.replace(alloc, "CELL", cell).expect(rt, "memory");
+    kept(rt, alloc, text).as_str()
 }
 
 /// The plan of that text.
-fn plan_in(rt: &impl Abort, alloc: Global, text: &str) -> Plan {
+fn plan_in(rt: &impl Abort, alloc: Global, text: &str) -> &'static Plan {
     let plan = read_plan(alloc, text.as_bytes());
-    plan.ok().expect(rt, "a plan")
+    kept(rt, alloc, plan.ok().expect(rt, "a plan"))
 }
 
 /// The script of that text.
-fn script_in(rt: &impl Abort, alloc: Global, plan: &Plan, text: &str) -> Script {
+fn script_in(rt: &impl Abort, alloc: Global, plan: &Plan, text: &str) -> &'static Script {
     let script = read_script(alloc, text.as_bytes(), plan);
-    script.ok().expect(rt, "a script")
+    kept(rt, alloc, script.ok().expect(rt, "a script"))
 }
 
 /// The plan with those actions.
-fn plan_of(rt: &impl Abort, alloc: Global, actions: &str) -> Plan {
-    plan_in(rt, alloc, put(rt, alloc, PLAN, actions).as_str())
+fn plan_of(rt: &impl Abort, alloc: Global, actions: &str) -> &'static Plan {
+    plan_in(rt, alloc, put(rt, alloc, PLAN, actions))
 }
 
 /// The script with those steps, or the empty one.
-fn script_of(rt: &impl Abort, alloc: Global, plan: &Plan, steps: &str) -> Script {
+fn script_of(rt: &impl Abort, alloc: Global, plan: &Plan, steps: &str) -> &'static Script {
     if steps == NO_SCRIPT {
-        return Script::empty();
+        return kept(rt, alloc, Script::empty());
     }
-    script_in(rt, alloc, plan, put(rt, alloc, SCRIPT, steps).as_str())
+    script_in(rt, alloc, plan, put(rt, alloc, SCRIPT, steps))
 }
 
 /// Adds all events that a runner gives. When its change has ended.
@@ -118,21 +126,21 @@ fn add_events(rt: &impl Abort, all: &mut Vec<Event>, mut runner: Runner<'_>) -> 
 }
 
 /// All events that a runner gives.
-fn all_events(rt: &impl Abort, alloc: Global, runner: Runner<'_>) -> Vec<Event> {
+fn all_events(rt: &impl Abort, alloc: Global, runner: Runner<'_>) -> &'static [Event] {
     let mut all = Vec::new(alloc);
     let _ended_at = add_events(rt, &mut all, runner);
-    all
+    kept(rt, alloc, all).as_slice()
 }
 
 /// Adds when and in which step what happens to the first change. Fails where another worker than 3 tells it.
 fn push_event(rt: &impl Abort, alloc: Global, text: &mut String, event: &Event) {
     number_is(rt, "worker", event.worker as u64, 3);
     number_is(rt, "change", event.change as u64, 0);
-    push(rt, text, printed(rt, alloc, &event.at).as_str());
+    push(rt, text, printed(rt, alloc, &event.at));
     push(rt, text, " step ");
-    push(rt, text, printed(rt, alloc, &event.step).as_str());
+    push(rt, text, printed(rt, alloc, &event.step));
     push(rt, text, " ");
-    push(rt, text, printed(rt, alloc, &event.what).as_str());
+    push(rt, text, printed(rt, alloc, &event.what));
     push(rt, text, "; ");
 }
 
@@ -143,13 +151,13 @@ fn told(
     plan: &Plan,
     script: &Script,
     registry: &Registry,
-) -> String {
+) -> &'static str {
     assert!(rt; plan.len() > 0);
     let mut text = String::new(alloc);
-    for event in &all_events(rt, alloc, Runner::start(plan, script, registry, 3, 0, 0)) {
+    for event in all_events(rt, alloc, Runner::start(plan, script, registry, 3, 0, 0)) {
         push_event(rt, alloc, &mut text, event);
     }
-    text
+    kept(rt, alloc, text).as_str()
 }
 
 /// Fails where the change with those actions, whose steps the script tells so, has other events.
@@ -162,9 +170,9 @@ fn tells(
     wanted: &str,
 ) {
     let plan = plan_of(rt, alloc, actions);
-    let script = script_of(rt, alloc, &plan, steps);
-    let found = told(rt, alloc, &plan, &script, registry);
-    text_is(rt, steps, found.as_str().trim_end(), wanted);
+    let script = script_of(rt, alloc, plan, steps);
+    let found = told(rt, alloc, plan, script, registry);
+    text_is(rt, steps, found.trim_end(), wanted);
 }
 
 /// The same of each row of a table: the actions, the steps, and the events.
@@ -180,17 +188,17 @@ fn rows_are_told(rt: &impl Abort, alloc: Global, registry: &Registry, table: &st
 fn push_stand(rt: &impl Abort, alloc: Global, text: &mut String, runner: &Runner<'_>) {
     if let Some(step) = runner.begins() {
         push(rt, text, "begins ");
-        push(rt, text, printed(rt, alloc, &step).as_str());
+        push(rt, text, printed(rt, alloc, &step));
         push(rt, text, " ");
     }
     push(rt, text, "ended ");
-    push(rt, text, printed(rt, alloc, &runner.ended_at()).as_str());
+    push(rt, text, printed(rt, alloc, &runner.ended_at()));
     push(rt, text, "\n");
 }
 
 /// How it stands before, between and behind the events of a change, a line for each: the moment, the worker, the change
 /// with its step and what happens, and then how it stands.
-fn stands_of(rt: &impl Abort, alloc: Global, mut runner: Runner<'_>) -> String {
+fn stands_of(rt: &impl Abort, alloc: Global, mut runner: Runner<'_>) -> &'static str {
     let mut text = String::new(alloc);
     push_stand(rt, alloc, &mut text, &runner);
     while let Some(event) = runner.next() {
@@ -199,7 +207,7 @@ fn stands_of(rt: &impl Abort, alloc: Global, mut runner: Runner<'_>) -> String {
     }
     holds(rt, "nothing behind the last event", runner.next().is_none());
     push_stand(rt, alloc, &mut text, &runner);
-    text
+    kept(rt, alloc, text).as_str()
 }
 
 /// Fails where it stands otherwise with the change that has those actions and steps, which worker 7 begins at that moment.
@@ -213,11 +221,11 @@ fn stands(
     wanted: &str,
 ) {
     let plan = plan_of(rt, alloc, actions);
-    let script = script_of(rt, alloc, &plan, steps);
+    let script = script_of(rt, alloc, plan, steps);
     assert!(rt; plan.len() == 1);
     assert!(rt; at <= LAST_BEGIN);
-    let runner = Runner::start(&plan, &script, registry, 7, 0, at);
-    text_is(rt, steps, stands_of(rt, alloc, runner).as_str(), wanted);
+    let runner = Runner::start(plan, script, registry, 7, 0, at);
+    text_is(rt, steps, stands_of(rt, alloc, runner), wanted);
 }
 
 /// A list of one rule, which halts steps of that kind in that phase, or of each kind.

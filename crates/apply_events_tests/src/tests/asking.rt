@@ -107,6 +107,6 @@ fn hooks_are_asked_once_for_each_phase(rt: HostRuntime) {
     .expect(&rt, "memory");
     add_hook(&rt, &mut registry, Rules::new(alloc), answer);
     let plan = plan_of(&rt, alloc, REPLACEMENT);
-    let script = script_of(&rt, alloc, &plan, ELEVEN_AND_TWO);
-    asked_along(&rt, &plan, &script, &registry, &calls);
+    let script = script_of(&rt, alloc, plan, ELEVEN_AND_TWO);
+    asked_along(&rt, plan, script, &registry, &calls);
 }

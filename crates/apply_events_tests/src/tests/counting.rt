@@ -56,15 +56,15 @@ fn counts_are(
 ) {
     let registry = Registry::new(alloc);
     let plan = plan_of(rt, alloc, actions);
-    let script = script_of(rt, alloc, &plan, steps);
+    let script = script_of(rt, alloc, plan, steps);
     assert!(rt; plan.len() == 1);
     let mut counted = Counts::new();
     counted_is(rt, "at first", &counted, &NOTHING);
-    for event in &all_events(rt, alloc, Runner::start(&plan, &script, &registry, 0, 0, 0)) {
+    for event in all_events(rt, alloc, Runner::start(plan, script, &registry, 0, 0, 0)) {
         if starts_second(event) {
             counted_is(rt, actions, &counted, &between);
         }
-        count(rt, &mut counted, &plan, &script, event);
+        count(rt, &mut counted, plan, script, event);
     }
     counted_is(rt, actions, &counted, &wanted);
 }
@@ -113,8 +113,8 @@ fn a_halt_is_counted(rt: HostRuntime) {
         },
         at: 0,
     };
-    assert!(rt; fits(&plan, &Script::empty(), &event));
+    assert!(rt; fits(plan, &Script::empty(), &event));
     let mut counted = Counts::new();
-    counted.count(&plan, &event);
+    counted.count(plan, &event);
     counted_is(&rt, "a halt", &counted, &counts(0, 0, 0, 0, 1));
 }

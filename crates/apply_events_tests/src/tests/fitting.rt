@@ -27,9 +27,9 @@ fn event(change: u32, step: u8, what: What, at: u64) -> Event {
 
 /// Adds the step and what happens to it.
 fn push_what(rt: &impl Abort, alloc: Global, text: &mut String, step: u8, what: What) {
-    push(rt, text, printed(rt, alloc, &step).as_str());
+    push(rt, text, printed(rt, alloc, &step));
     push(rt, text, " ");
-    push(rt, text, printed(rt, alloc, &what).as_str());
+    push(rt, text, printed(rt, alloc, &what));
     push(rt, text, "; ");
 }
 
@@ -141,12 +141,12 @@ fn push_provisioner(
 }
 
 /// What can happen to three steps, of what is tried of each.
-fn fitting(rt: &impl Abort, alloc: Global, plan: &Plan, script: &Script) -> String {
+fn fitting(rt: &impl Abort, alloc: Global, plan: &Plan, script: &Script) -> &'static str {
     let mut text = String::new(alloc);
     for step in 0..3 {
         push_step(rt, alloc, &mut text, plan, script, step);
     }
-    text
+    kept(rt, alloc, text).as_str()
 }
 
 #[test]
@@ -155,9 +155,9 @@ fn events_that_can_happen(rt: HostRuntime) {
     let plan = plan_of(&rt, alloc, REPLACEMENT);
     for row in FITTING.lines() {
         let (steps, wanted) = parted(&rt, row);
-        let script = script_of(&rt, alloc, &plan, steps);
-        let found = fitting(&rt, alloc, &plan, &script);
-        text_is(&rt, steps, found.as_str().trim_end(), wanted);
+        let script = script_of(&rt, alloc, plan, steps);
+        let found = fitting(&rt, alloc, plan, script);
+        text_is(&rt, steps, found.trim_end(), wanted);
     }
 }
 
@@ -172,7 +172,7 @@ fn start_fits(rt: &impl Abort, plan: &Plan, change: u32, at: u64, wanted: bool) 
 fn events_happen_in_time_to_changes_of_the_plan(rt: HostRuntime) {
     let alloc = rt.alloc();
     let plan = plan_of(&rt, alloc, CREATE);
-    start_fits(&rt, &plan, 0, LATEST, true);
-    start_fits(&rt, &plan, 0, 1_728_000_001, false);
-    start_fits(&rt, &plan, 1, 0, false);
+    start_fits(&rt, plan, 0, LATEST, true);
+    start_fits(&rt, plan, 0, 1_728_000_001, false);
+    start_fits(&rt, plan, 1, 0, false);
 }

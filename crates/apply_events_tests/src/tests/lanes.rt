@@ -63,12 +63,12 @@ fn add(rt: &impl Abort, alloc: Global, list: &mut String, text: &str, number: u3
     }
     let text = put(rt, alloc, text, cell);
     let number = printed(rt, alloc, &number);
-    let text = text.replace(alloc, "NUMBER", number.as_str());
-    push(rt, list, text.expect(rt, "memory").as_str());
+    let text = text.replace(alloc, "NUMBER", number);
+    push(rt, list, kept(rt, alloc, text.expect(rt, "memory")));
 }
 
 /// The changes, `null_resource.r0` and so on, for a plan.
-fn planned(rt: &impl Abort, alloc: Global, changes: &str) -> String {
+fn planned(rt: &impl Abort, alloc: Global, changes: &str) -> &'static str {
     let mut planned = String::new(alloc);
     let mut number: u32 = 0;
     for change in changes.lines() {
@@ -82,21 +82,17 @@ fn planned(rt: &impl Abort, alloc: Global, changes: &str) -> String {
         );
         number = number.wrapping_add(1);
     }
-    planned
+    kept(rt, alloc, planned).as_str()
 }
 
 /// A plan of them.
-fn plan_of_all(rt: &impl Abort, alloc: Global, changes: &str) -> Plan {
+fn plan_of_all(rt: &impl Abort, alloc: Global, changes: &str) -> &'static Plan {
     let planned = planned(rt, alloc, changes);
-    plan_in(
-        rt,
-        alloc,
-        put(rt, alloc, CHANGES, planned.as_str()).as_str(),
-    )
+    plan_in(rt, alloc, put(rt, alloc, CHANGES, planned))
 }
 
 /// The entries of those that have steps, for a script.
-fn scripted(rt: &impl Abort, alloc: Global, changes: &str) -> String {
+fn scripted(rt: &impl Abort, alloc: Global, changes: &str) -> &'static str {
     let mut scripted = String::new(alloc);
     let mut number: u32 = 0;
     for change in changes.lines() {
@@ -106,18 +102,13 @@ fn scripted(rt: &impl Abort, alloc: Global, changes: &str) -> String {
         }
         number = number.wrapping_add(1);
     }
-    scripted
+    kept(rt, alloc, scripted).as_str()
 }
 
 /// A script of them.
-fn script_of_all(rt: &impl Abort, alloc: Global, plan: &Plan, changes: &str) -> Script {
+fn script_of_all(rt: &impl Abort, alloc: Global, plan: &Plan, changes: &str) -> &'static Script {
     let scripted = scripted(rt, alloc, changes);
-    script_in(
-        rt,
-        alloc,
-        plan,
-        put(rt, alloc, ENTRIES, scripted.as_str()).as_str(),
-    )
+    script_in(rt, alloc, plan, put(rt, alloc, ENTRIES, scripted))
 }
 
 /// The actions of a change without steps.
@@ -131,7 +122,7 @@ fn lane_events(
     script: &Script,
     registry: &Registry,
     count: u8,
-) -> Vec<Event>
+) -> &'static [Event]
     requires { (0 < count) × (count ≤ 64) }
 {
     let lanes = Lanes::start(alloc, plan, script, registry, count);
@@ -140,30 +131,30 @@ fn lane_events(
     while let Some(event) = lanes.next() {
         events.push(event).ok().expect(rt, "memory");
     }
-    events
+    kept(rt, alloc, events).as_slice()
 }
 
 /// Adds the moment, the lane, the change with its step, and what happens.
 pub(super) fn push_event(rt: &impl Abort, alloc: Global, text: &mut String, event: &Event) {
-    push(rt, text, printed(rt, alloc, &event.at).as_str());
+    push(rt, text, printed(rt, alloc, &event.at));
     push(rt, text, " ");
-    push(rt, text, printed(rt, alloc, &event.worker).as_str());
+    push(rt, text, printed(rt, alloc, &event.worker));
     push(rt, text, " ");
-    push(rt, text, printed(rt, alloc, &event.change).as_str());
+    push(rt, text, printed(rt, alloc, &event.change));
     push(rt, text, ".");
-    push(rt, text, printed(rt, alloc, &event.step).as_str());
+    push(rt, text, printed(rt, alloc, &event.step));
     push(rt, text, " ");
-    push(rt, text, printed(rt, alloc, &event.what).as_str());
+    push(rt, text, printed(rt, alloc, &event.what));
     push(rt, text, "; ");
 }
 
 /// Of each event the moment, the lane, the change with its step, and what happens.
-fn text_of(rt: &impl Abort, alloc: Global, events: &[Event]) -> String {
+fn text_of(rt: &impl Abort, alloc: Global, events: &[Event]) -> &'static str {
     let mut text = String::new(alloc);
     for event in events {
         push_event(rt, alloc, &mut text, event);
     }
-    text
+    kept(rt, alloc, text).as_str()
 }
 
 /// Fails where so many lanes report something else than the plain body, and otherwise gives that as text.
@@ -173,15 +164,15 @@ fn reported(
     changes: &str,
     registry: &Registry,
     count: u8,
-) -> String {
+) -> &'static str {
     assert!(rt; 0 < count && count <= 64);
     let plan = plan_of_all(rt, alloc, changes);
-    let script = script_of_all(rt, alloc, &plan, changes);
-    let events = lane_events(rt, alloc, &plan, &script, registry, count);
-    let found = text_of(rt, alloc, events.as_slice());
-    let events = plain_events(rt, alloc, &plan, &script, registry, count);
-    let plain = text_of(rt, alloc, events.as_slice());
-    text_is(rt, changes, found.as_str(), plain.as_str());
+    let script = script_of_all(rt, alloc, plan, changes);
+    let events = lane_events(rt, alloc, plan, script, registry, count);
+    let found = text_of(rt, alloc, events);
+    let events = plain_events(rt, alloc, plan, script, registry, count);
+    let plain = text_of(rt, alloc, events);
+    text_is(rt, changes, found, plain);
     found
 }
 
@@ -195,7 +186,7 @@ fn lanes_report(
     wanted: &str,
 ) {
     let found = reported(rt, alloc, changes, registry, count);
-    text_is(rt, changes, found.as_str().trim_end(), wanted);
+    text_is(rt, changes, found.trim_end(), wanted);
 }
 
 /// The same where there are no hooks.

@@ -99,12 +99,12 @@ fn push_drawn(rt: &impl Abort, changes: &mut String, draws: &mut Draws) {
 }
 
 /// Up to fifteen changes, with their steps.
-fn drawn(rt: &impl Abort, alloc: Global, draws: &mut Draws) -> String {
+fn drawn(rt: &impl Abort, alloc: Global, draws: &mut Draws) -> &'static str {
     let mut changes = String::new(alloc);
     for _ in 0..draws.next() {
         push_drawn(rt, &mut changes, draws);
     }
-    changes
+    kept(rt, alloc, changes).as_str()
 }
 
 /// How many lanes there are.
@@ -116,7 +116,7 @@ pub(super) fn drawn_changes_agree(rt: &impl Abort, alloc: Global, registry: &Reg
     for _ in 0..40 {
         let changes = drawn(rt, alloc, &mut draws);
         for count in COUNTS {
-            let _text = reported(rt, alloc, changes.as_str(), registry, count);
+            let _text = reported(rt, alloc, changes, registry, count);
         }
     }
 }

@@ -11,7 +11,7 @@ pub(super) fn plain_events(
     script: &Script,
     registry: &Registry,
     count: u8,
-) -> Vec<Event> {
+) -> &'static [Event] {
     // From when on each lane is free, and the lane. Sorted, the lane that is free first comes first.
     let mut free = Vec::new(alloc);
     for lane in 0..count {
@@ -28,5 +28,5 @@ pub(super) fn plain_events(
     }
     let sorted = all.sort_by_key(|event: &Event| (event.at, event.worker));
     sorted.expect(rt, "memory");
-    all
+    kept(rt, alloc, all).as_slice()
 }
