@@ -1,5 +1,7 @@
 //! What no clause says: that the definitions are the ones that were meant, and that calls succeed with ample memory.
 
+ghost use Rattle.std.specs.Prelude.{◌≡◌, true};
+
 mod accepted;
 mod elements;
 mod limits;
@@ -13,7 +15,7 @@ mod scripts;
 mod table;
 mod trimming;
 
-use self::table::named;
+use self::table::{compare, named};
 use apply_plan::{Plan, Script, Text, read_plan, read_script};
 use std::alloc::Global;
 use std::fmt::{Debug, Display};
@@ -36,19 +38,15 @@ fn kept_text(rt: &impl Abort, alloc: Global, text: String) -> &'static str {
 
 /// The plan that the text has to be.
 fn plan_of(rt: &impl Abort, alloc: Global, text: &str) -> &'static Plan {
-    match kept(rt, alloc, read_plan(alloc, text.as_bytes())) {
-        Ok(plan) => plan,
-        Err(error) => panic!(rt; "{text}: {error}"),
-    }
+    let plan = read_plan(alloc, text.as_bytes());
+    kept(rt, alloc, plan.ok().expect(rt, text))
 }
 
 /// The script for the plan that the text has to be.
 fn script_of(rt: &impl Abort, alloc: Global, plan: &str, text: &str) -> &'static Script {
     let plan = plan_of(rt, alloc, plan);
-    match kept(rt, alloc, read_script(alloc, text.as_bytes(), plan)) {
-        Ok(script) => script,
-        Err(error) => panic!(rt; "{text}: {error}"),
-    }
+    let script = read_script(alloc, text.as_bytes(), plan);
+    kept(rt, alloc, script.ok().expect(rt, text))
 }
 
 /// What `Display` prints of it.
@@ -86,24 +84,36 @@ fn answer_for(rt: &impl Abort, alloc: Global, plan: &str, bytes: &[u8]) -> &'sta
     answer_to_script(rt, alloc, plan_of(rt, alloc, plan), bytes)
 }
 
+/// Fails where it is not so. A proof grows by each assertion, and by less where it is a call.
+fn holds(rt: &impl Abort, case: &str, is_so: bool)
+    ensures { is_so ≡ true }
+{
+    assert!(rt; is_so, "{case}");
+}
+
+/// Fails where another text was found.
+fn text_is(rt: &impl Abort, found: &str, wanted: &str) {
+    compare(rt, wanted, found, wanted);
+}
+
 /// Fails where bytes as a plan are answered otherwise.
 fn plan_is_answered(rt: &impl Abort, alloc: Global, bytes: &[u8], wanted: &str) {
-    assert_eq!(rt; answer_to_plan(rt, alloc, bytes), wanted);
+    text_is(rt, answer_to_plan(rt, alloc, bytes), wanted);
 }
 
 /// Fails where bytes as a script for the plan are answered otherwise.
 fn script_is_answered(rt: &impl Abort, alloc: Global, plan: &str, bytes: &[u8], wanted: &str) {
-    assert_eq!(rt; answer_for(rt, alloc, plan, bytes), wanted);
+    text_is(rt, answer_for(rt, alloc, plan, bytes), wanted);
 }
 
 /// Fails where the error has another text than the table has for what `Debug` prints of it.
 fn is_told(rt: &impl Abort, alloc: Global, error: &(impl Debug + Display), texts: &str) {
     let name = printed(rt, alloc, error);
-    assert_eq!(rt; shown(rt, alloc, error), named(rt, texts, name));
+    text_is(rt, shown(rt, alloc, error), named(rt, texts, name));
 }
 
 #[test]
 fn a_text_keeps_its_bytes(rt: HostRuntime) {
     let text = Text::new(rt.alloc(), "a").expect(&rt, "memory");
-    assert!(rt; text.as_str() == "a");
+    text_is(&rt, text.as_str(), "a");
 }

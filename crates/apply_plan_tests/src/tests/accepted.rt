@@ -28,7 +28,7 @@ fn value_of_change(rt: &impl Abort, alloc: Global, change: &Change, part: &str) 
         "deposed" => printed(rt, alloc, &change.deposed()),
         "prior_id" => printed(rt, alloc, &change.prior_id()),
         "steps" => printed(rt, alloc, &change.steps()),
-        _ => panic!(rt; "no part is {part}"),
+        _ => "no such part",
     }
 }
 
@@ -42,7 +42,7 @@ fn part_of_change(rt: &impl Abort, alloc: Global, change: &Change, part: &str) -
 
 /// That part of the only change of a plan, as `Debug` prints it.
 fn part_of_only(rt: &impl Abort, alloc: Global, plan: &Plan, part: &str) -> &'static str {
-    assert!(rt; plan.len() == 1);
+    holds(rt, "one change", plan.len() == 1);
     part_of_change(rt, alloc, plan.change(0), part)
 }
 
@@ -171,8 +171,8 @@ fn deposed_beside_current(rt: HostRuntime) {
 }
 
 /// Fails where the change is of an object with another deposed key.
-fn is_deposed_as(rt: &impl Abort, change: &Change, wanted: Option<&str>) {
-    assert_eq!(rt; change.deposed(), wanted);
+fn is_deposed_as(rt: &impl Abort, alloc: Global, change: &Change, wanted: &str) {
+    text_is(rt, printed(rt, alloc, &change.deposed()), wanted);
 }
 
 #[test]
@@ -182,9 +182,9 @@ fn deposed_keys_are_kept(rt: HostRuntime) {
     let text = put(&rt, alloc, PLAN, "CELL", elements);
     reads_as_plainly(&rt, alloc, text);
     let plan = plan_of(&rt, alloc, text);
-    assert!(rt; plan.len() == 2);
-    is_deposed_as(&rt, plan.change(0), None);
-    is_deposed_as(&rt, plan.change(1), Some("00000001"));
+    holds(&rt, "two changes", plan.len() == 2);
+    is_deposed_as(&rt, alloc, plan.change(0), "None");
+    is_deposed_as(&rt, alloc, plan.change(1), r#"Some("00000001")"#);
 }
 
 /// Members of the change, and the prior id.

@@ -14,22 +14,32 @@ name => "n"
 change => {"actions":["create"]}
 "#;
 
-/// The usual element, but that the member of that name has this value. `absent` stands for no such member.
+/// Adds the usual member of the row, unless it has that name.
+fn push_usual(rt: &impl Abort, text: &mut String, row: &str, name: &str) {
+    let (known, usual) = cells(rt, row);
+    if known != name {
+        push_member(rt, text, known, usual);
+        push(rt, text, ",");
+    }
+}
+
+/// Adds the member of that name. `absent` stands for no such member.
+fn push_last(rt: &impl Abort, text: &mut String, name: &str, value: &str) {
+    if value == "absent" {
+        push_member(rt, text, "other", "0");
+    } else {
+        push_member(rt, text, name, value);
+    }
+}
+
+/// The usual element, but that the member of that name has this value.
 fn element_with(rt: &impl Abort, alloc: Global, name: &str, value: &str) -> &'static str {
     let mut text = String::new(alloc);
     push(rt, &mut text, "{");
     for row in rows(rt, USUAL) {
-        let (known, usual) = cells(rt, row);
-        if known != name {
-            push_member(rt, &mut text, known, usual);
-            push(rt, &mut text, ",");
-        }
+        push_usual(rt, &mut text, row, name);
     }
-    if value == "absent" {
-        push_member(rt, &mut text, "other", "0");
-    } else {
-        push_member(rt, &mut text, name, value);
-    }
+    push_last(rt, &mut text, name, value);
     push(rt, &mut text, "}");
     kept_text(rt, alloc, text)
 }

@@ -25,7 +25,7 @@ fn script_of_size(rt: &impl Abort, alloc: Global, size: usize) -> Vec<u8> {
     let script = br#"{"changes":[]}"#;
     let mut bytes = blanks(rt, alloc, size.saturating_sub(script.len()));
     bytes.extend_from_slice(script).expect(rt, "memory");
-    assert!(rt; bytes.len() == size);
+    holds(rt, "so many bytes", bytes.len() == size);
     bytes
 }
 
@@ -91,7 +91,11 @@ fn most_changes(rt: &impl Abort, alloc: Global) -> &'static str {
 
 /// Fails where the plan has another number of changes.
 fn has_changes(rt: &impl Abort, alloc: Global, plan: &str, count: u32) {
-    assert!(rt; plan_of(rt, alloc, plan).len() == count);
+    holds(
+        rt,
+        "so many changes",
+        plan_of(rt, alloc, plan).len() == count,
+    );
 }
 
 #[test]
@@ -132,15 +136,17 @@ fn largest_script(rt: &impl Abort, alloc: Global) -> &'static Script {
 
 /// Fails where something else than as many seconds is said of the change's first step.
 fn takes_its_number(rt: &impl Abort, script: &Script, change: u32) {
-    match script.outcome(change, 0) {
-        Some(outcome) => assert!(rt; outcome.seconds == change, "change {change}"),
-        None => panic!(rt; "change {change}"),
-    }
+    let outcome = script.outcome(change, 0).expect(rt, "nothing is said");
+    holds(rt, "as many seconds", outcome.seconds == change);
 }
 
 /// Fails where anything is said of that step.
 fn is_unsaid(rt: &impl Abort, script: &Script, change: u32, step: u8) {
-    assert!(rt; script.outcome(change, step).is_none(), "change {change}");
+    holds(
+        rt,
+        "nothing is said",
+        script.outcome(change, step).is_none(),
+    );
 }
 
 #[test]
@@ -167,7 +173,7 @@ fn one_more_is_answered(
     push_numbered(rt, alloc, &mut more, ENTRY, number);
     let text = script_text(rt, alloc, kept_text(rt, alloc, more));
     let found = answer_to_script(rt, alloc, plan, text.as_bytes());
-    assert_eq!(rt; found, wanted);
+    text_is(rt, found, wanted);
 }
 
 #[test]

@@ -69,10 +69,9 @@ fn said_at(
     change: &str,
     step: &str,
 ) -> &'static str {
-    match (change.parse::<u32>(), step.parse::<u8>()) {
-        (Ok(change), Ok(step)) => said(rt, alloc, script, change, step),
-        (_, _) => panic!(rt; "{change} and {step} are no numbers of a change and a step"),
-    }
+    let change = change.parse::<u32>().ok().expect(rt, change);
+    let step = step.parse::<u8>().ok().expect(rt, step);
+    said(rt, alloc, script, change, step)
 }
 
 /// Compares what the script says of each row's change and step.

@@ -18,7 +18,7 @@ pub struct PlainPlan {
 
 /// The only change of a plan.
 fn only<'a>(rt: &impl Abort, plan: &'a Plan) -> &'a Change {
-    assert!(rt; plan.len() == 1);
+    holds(rt, "one change", plan.len() == 1);
     plan.change(0)
 }
 
@@ -106,16 +106,20 @@ pub fn read_plan_plainly(
 
 /// Fails where the change of that number is another than the one that was read by itself.
 fn change_is(rt: &impl Abort, alloc: Global, plan: &Plan, number: u32, plain: &Plan) {
-    assert!(rt; number < plan.len());
+    holds(rt, "a change of that number", number < plan.len());
     let found = printed(rt, alloc, plan.change(number));
     let wanted = printed(rt, alloc, only(rt, plain));
-    assert_eq!(rt; found, wanted);
+    text_is(rt, found, wanted);
 }
 
 /// Fails where the plan is another than the one that was read plainly.
 pub fn plan_is(rt: &impl Abort, alloc: Global, plan: &Plan, plain: &PlainPlan) {
-    assert_eq!(rt; plan.version(), plain.version.as_str());
-    assert!(rt; plan.len() as usize == plain.changes.len());
+    text_is(rt, plan.version(), plain.version.as_str());
+    holds(
+        rt,
+        "as many changes",
+        plan.len() as usize == plain.changes.len(),
+    );
     for (number, change) in plain.changes.iter().enumerate() {
         change_is(rt, alloc, plan, number as u32, change);
     }
@@ -123,18 +127,15 @@ pub fn plan_is(rt: &impl Abort, alloc: Global, plan: &Plan, plain: &PlainPlan) {
 
 /// Fails where the plain reader reads another plan in the text, or none.
 fn is_read_plainly(rt: &impl Abort, alloc: Global, text: &str, plan: &Plan) {
-    match kept(rt, alloc, read_plan_plainly(rt, alloc, text)) {
-        Ok(plain) => plan_is(rt, alloc, plan, plain),
-        Err(error) => panic!(rt; "not refused, though {error}: {text}"),
-    }
+    let plain = read_plan_plainly(rt, alloc, text);
+    let plain = kept(rt, alloc, plain.ok().expect(rt, text));
+    plan_is(rt, alloc, plan, plain);
 }
 
 /// Fails where the plain reader refuses the text otherwise, or reads it.
 fn is_refused_plainly(rt: &impl Abort, alloc: Global, text: &str, found: &PlanError) {
-    match kept(rt, alloc, read_plan_plainly(rt, alloc, text)) {
-        Ok(_) => panic!(rt; "{found}: {text}"),
-        Err(wanted) => assert!(rt; *found == *wanted, "{found}, not {wanted}: {text}"),
-    }
+    let wanted = read_plan_plainly(rt, alloc, text).err();
+    holds(rt, text, *found == wanted.expect(rt, text));
 }
 
 /// Fails where the reader and the plain reader answer the text as a plan otherwise.

@@ -31,18 +31,13 @@ fn whole_line(rt: &impl Abort, alloc: Global, outcome: &Outcome) -> &'static str
 
 /// What is said of the only step.
 fn only_outcome<'a>(rt: &impl Abort, script: &'a Script) -> &'a Outcome {
-    match script.outcome(0, 0) {
-        Some(outcome) => outcome,
-        None => panic!(rt; "nothing is said of the step"),
-    }
+    script.outcome(0, 0).expect(rt, "nothing is said")
 }
 
 /// How long the only step takes, with its provisioners.
 fn seconds_taken(rt: &impl Abort, script: &Script) -> u32 {
-    match script.outcome(0, 0) {
-        Some(outcome) => outcome.took(),
-        None => panic!(rt; "nothing is said of the step"),
-    }
+    let outcome = script.outcome(0, 0).expect(rt, "nothing is said");
+    outcome.took()
 }
 
 /// What comes of the outcome: `, COUNT run`, and why it fails, where it does.
@@ -55,7 +50,8 @@ fn result_line(rt: &impl Abort, alloc: Global, outcome: &Outcome) -> &'static st
     if let Some(diag) = outcome.failure() {
         push_diag(rt, alloc, &mut line, ", failed", diag);
     }
-    assert!(rt; outcome.fails() == outcome.failure().is_some());
+    let is_told_why = outcome.failure().is_some();
+    holds(rt, "fails", outcome.fails() == is_told_why);
     kept_text(rt, alloc, line)
 }
 
@@ -133,15 +129,16 @@ fn most_provisioners(rt: &impl Abort, alloc: Global) -> &'static str {
 /// Fails where the provisioner has another number of outputs, or another last one.
 fn puts_out(rt: &impl Abort, provisioner: &Provisioner, count: u8, last: &str) {
     let output = &provisioner.output;
-    assert!(rt; count > 0 && output.len() == count);
-    assert!(rt; output.get(count - 1).as_str() == last);
+    holds(rt, "as many outputs", output.len() == count);
+    holds(rt, "some outputs", count > 0);
+    text_is(rt, output.get(count - 1).as_str(), last);
 }
 
 /// Fails where the only step has not the most provisioners.
 fn has_the_most(rt: &impl Abort, script: &Script) {
     let outcome = only_outcome(rt, script);
-    assert!(rt; seconds_taken(rt, script) == 86_400);
-    assert!(rt; outcome.provisioners.len() == 8);
+    holds(rt, "a day", seconds_taken(rt, script) == 86_400);
+    holds(rt, "eight", outcome.provisioners.len() == 8);
     puts_out(rt, outcome.provisioners.get(7), 100, "hi");
 }
 

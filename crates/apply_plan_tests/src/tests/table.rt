@@ -11,16 +11,13 @@ use std::str::Lines;
 /// The rows of a table, which has one at least.
 pub fn rows<'a>(rt: &impl Abort, table: &'a str) -> Lines<'a> {
     let table = table.trim();
-    assert!(rt; !table.is_empty(), "a table has no row");
+    holds(rt, "a table has a row", !table.is_empty());
     table.lines()
 }
 
 /// What stands before the first mark of a row, and behind it.
 pub fn cells<'a>(rt: &impl Abort, row: &'a str) -> (&'a str, &'a str) {
-    match row.split_once(" => ") {
-        Some(cells) => cells,
-        None => panic!(rt; "no mark in the row {row}"),
-    }
+    row.split_once(" => ").expect(rt, row)
 }
 
 /// Adds more to a text.
@@ -70,15 +67,20 @@ pub fn times(rt: &impl Abort, alloc: Global, count: usize, text: &str) -> &'stat
     kept_text(rt, alloc, all)
 }
 
-/// The text that the table has for the name.
-pub fn named<'a>(rt: &impl Abort, texts: &'a str, name: &str) -> &'a str {
+/// The text that the table has for the name, if any.
+fn text_of<'a>(rt: &impl Abort, texts: &'a str, name: &str) -> Option<&'a str> {
     for row in rows(rt, texts) {
         let (known, text) = cells(rt, row);
         if known == name {
-            return text;
+            return Some(text);
         }
     }
-    panic!(rt; "no text has the name {name}")
+    None
+}
+
+/// The text that the table has for the name.
+pub fn named<'a>(rt: &impl Abort, texts: &'a str, name: &str) -> &'a str {
+    text_of(rt, texts, name).expect(rt, name)
 }
 
 /// The texts of these names, with commas between them.
