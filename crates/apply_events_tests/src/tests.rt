@@ -1,7 +1,7 @@
 //! What no clause says: that the definitions are the ones that were meant, by rows worked out by hand, and how often a
 //! stored closure is asked.
 
-ghost use Rattle.std.specs.Prelude.{◌≡◌};
+ghost use Rattle.std.specs.Prelude.{◌≡◌, true};
 ghost use Rattle.apply_hooks.specs.HookCall.{call_of};
 ghost use Rattle.apply_hooks.specs.HookClosure.{AnswersAs};
 ghost use Rattle.apply_hooks.specs.Rules.{verdict_of};
@@ -49,8 +49,10 @@ const ELEVEN_AND_TWO: &str = r#"[{"seconds":11},{"seconds":2,"warning":{"summary
 /// The last moment at which a change may begin.
 const LAST_BEGIN: u64 = LATEST - 172_800;
 
-/// Fails where it is not so.
-fn holds(rt: &impl Abort, case: &str, is_so: bool) {
+/// Fails where it is not so. A proof grows by each assertion, and by less where it is a call.
+fn holds(rt: &impl Abort, case: &str, is_so: bool)
+    ensures { is_so ≡ true }
+{
     assert!(rt; is_so, "{case}");
 }
 
@@ -152,7 +154,7 @@ fn told(
     script: &Script,
     registry: &Registry,
 ) -> &'static str {
-    assert!(rt; plan.len() > 0);
+    holds(rt, "a change", plan.len() > 0);
     let mut text = String::new(alloc);
     for event in all_events(rt, alloc, Runner::start(plan, script, registry, 3, 0, 0)) {
         push_event(rt, alloc, &mut text, event);
@@ -222,8 +224,8 @@ fn stands(
 ) {
     let plan = plan_of(rt, alloc, actions);
     let script = script_of(rt, alloc, plan, steps);
-    assert!(rt; plan.len() == 1);
-    assert!(rt; at <= LAST_BEGIN);
+    holds(rt, "one change", plan.len() == 1);
+    holds(rt, "in time", at <= LAST_BEGIN);
     let runner = Runner::start(plan, script, registry, 7, 0, at);
     text_is(rt, steps, stands_of(rt, alloc, runner), wanted);
 }

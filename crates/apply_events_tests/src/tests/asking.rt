@@ -84,7 +84,7 @@ fn asked_along(
     registry: &Registry,
     calls: &AtomicU64,
 ) {
-    assert!(rt; plan.len() == 1);
+    holds(rt, "one change", plan.len() == 1);
     let mut runner = Runner::start(plan, script, registry, 0, 0, 0);
     for asked in ASKED {
         asked_are(rt, calls, &runner, asked);

@@ -47,7 +47,7 @@ fn progress_is(rt: &impl Abort, alloc: Global, steps: &str, events: u64, progres
     let registry = Registry::new(alloc);
     let plan = plan_of(rt, alloc, r#"["update"]"#);
     let script = script_of(rt, alloc, plan, steps);
-    assert!(rt; plan.len() == 1);
+    holds(rt, "one change", plan.len() == 1);
     let all = all_events(rt, alloc, Runner::start(plan, script, &registry, 0, 0, 0));
     number_is(rt, steps, all.len() as u64, events);
     number_is(rt, steps, progress_of(rt, all), progress);

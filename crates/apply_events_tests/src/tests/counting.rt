@@ -28,12 +28,12 @@ fn counted_is(rt: &impl Abort, case: &str, found: &Counts, wanted: &Counts) {
 
 /// Counts one more event. The counts of a test are small.
 fn count(rt: &impl Abort, counted: &mut Counts, plan: &Plan, script: &Script, event: &Event) {
-    assert!(rt; fits(plan, script, event));
-    assert!(rt; counted.added < 9);
-    assert!(rt; counted.changed < 9);
-    assert!(rt; counted.removed < 9);
-    assert!(rt; counted.failed < 9);
-    assert!(rt; counted.halted < 9);
+    holds(rt, "an event that fits", fits(plan, script, event));
+    holds(rt, "few added", counted.added < 9);
+    holds(rt, "few changed", counted.changed < 9);
+    holds(rt, "few removed", counted.removed < 9);
+    holds(rt, "few failed", counted.failed < 9);
+    holds(rt, "few halted", counted.halted < 9);
     counted.count(plan, event);
 }
 
@@ -57,7 +57,7 @@ fn counts_are(
     let registry = Registry::new(alloc);
     let plan = plan_of(rt, alloc, actions);
     let script = script_of(rt, alloc, plan, steps);
-    assert!(rt; plan.len() == 1);
+    holds(rt, "one change", plan.len() == 1);
     let mut counted = Counts::new();
     counted_is(rt, "at first", &counted, &NOTHING);
     for event in all_events(rt, alloc, Runner::start(plan, script, &registry, 0, 0, 0)) {
@@ -113,7 +113,8 @@ fn a_halt_is_counted(rt: HostRuntime) {
         },
         at: 0,
     };
-    assert!(rt; fits(plan, &Script::empty(), &event));
+    let script = Script::empty();
+    holds(&rt, "an event that fits", fits(plan, &script, &event));
     let mut counted = Counts::new();
     counted.count(plan, &event);
     counted_is(&rt, "a halt", &counted, &counts(0, 0, 0, 0, 1));

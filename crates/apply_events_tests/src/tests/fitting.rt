@@ -165,7 +165,7 @@ fn events_that_can_happen(rt: HostRuntime) {
 /// other way round.
 fn start_fits(rt: &impl Abort, plan: &Plan, change: u32, at: u64, wanted: bool) {
     let found = fits(plan, &Script::empty(), &event(change, 0, What::Start, at));
-    assert!(rt; found == wanted);
+    holds(rt, "a start", found == wanted);
 }
 
 #[test]

@@ -165,7 +165,8 @@ fn reported(
     registry: &Registry,
     count: u8,
 ) -> &'static str {
-    assert!(rt; 0 < count && count <= 64);
+    holds(rt, "some lanes", 0 < count);
+    holds(rt, "64 lanes at most", count <= 64);
     let plan = plan_of_all(rt, alloc, changes);
     let script = script_of_all(rt, alloc, plan, changes);
     let events = lane_events(rt, alloc, plan, script, registry, count);

@@ -11,7 +11,7 @@ fn is_note(rt: &impl Abort, what: What, wanted: bool) {
         what,
         at: 0,
     };
-    assert!(rt; event.is_note() == wanted, "{event:?}");
+    holds(rt, "a note", event.is_note() == wanted);
 }
 
 #[test]

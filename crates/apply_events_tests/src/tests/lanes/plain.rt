@@ -19,9 +19,9 @@ pub(super) fn plain_events(
     }
     let mut all = Vec::new(alloc);
     for change in 0..plan.len() {
-        assert!(rt; free.len() > 0);
+        holds(rt, "a lane", free.len() > 0);
         let (at, lane) = free[0];
-        assert!(rt; at <= LAST_BEGIN);
+        holds(rt, "in time", at <= LAST_BEGIN);
         let runner = Runner::start(plan, script, registry, lane, change, at);
         free[0] = (add_events(rt, &mut all, runner), lane);
         free.sort().expect(rt, "memory");
