@@ -22,32 +22,33 @@ use std::thread;
 
 /// What stands before the first mark of a row, and behind it.
 fn parted<'a>(rt: &impl Abort, row: &'a str, mark: &str) -> (&'a str, &'a str) {
-    match row.split_once(mark) {
-        Some(parts) => parts,
-        None => panic!(rt; "no {mark:?} in the row {row}"),
-    }
+    row.split_once(mark).expect(rt, row)
+}
+
+/// None, which is called `any`.
+fn any<T>(rt: &impl Abort, name: &str) -> Option<T> {
+    holds(rt, name, name == "any");
+    None
 }
 
 /// The phase of that name; none for `any`.
 fn phase_of(rt: &impl Abort, name: &str) -> Option<Phase> {
     match name {
-        "any" => None,
         "Pre" => Some(Phase::Pre),
         "PostDone" => Some(Phase::PostDone),
         "PostFailed" => Some(Phase::PostFailed),
-        _ => panic!(rt; "no phase is {name}"),
+        _ => any(rt, name),
     }
 }
 
 /// The kind of that name; none for `any`.
 fn kind_of(rt: &impl Abort, name: &str) -> Option<StepKind> {
     match name {
-        "any" => None,
         "Create" => Some(StepKind::Create),
         "Update" => Some(StepKind::Update),
         "Delete" => Some(StepKind::Delete),
         "Read" => Some(StepKind::Read),
-        _ => panic!(rt; "no kind is {name}"),
+        _ => any(rt, name),
     }
 }
 
@@ -73,7 +74,7 @@ fn printed(rt: &impl Abort, alloc: Global, value: &impl Debug) -> &'static str {
     kept(rt, alloc, text).as_str()
 }
 
-/// Fails where it is not so.
+/// Fails where it is not so. A proof grows by each assertion, and by less where it is a call.
 fn holds(rt: &impl Abort, case: &str, is_so: bool) {
     assert!(rt; is_so, "{case}");
 }

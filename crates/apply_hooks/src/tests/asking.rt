@@ -50,13 +50,9 @@ fn hooks_are_called_up_to_the_first_that_halts(rt: HostRuntime) {
 
 /// Fails where the hook was added, or another error or another hook came back than the one that halts.
 fn comes_back(rt: &impl Abort, alloc: Global, added: Result<(), (HookError, FnHook)>) {
-    match added {
-        Ok(()) => panic!(rt; "a 33rd hook was added"),
-        Err((error, hook)) => {
-            assert!(rt; error == HookError::Full);
-            is_decided(rt, alloc, &hook, "Pre Create null_resource.a => Halt");
-        }
-    }
+    let (error, hook) = added.err().expect(rt, "a 33rd hook was refused");
+    holds(rt, "it is full", error == HookError::Full);
+    is_decided(rt, alloc, &hook, "Pre Create null_resource.a => Halt");
 }
 
 #[test]
