@@ -74,7 +74,7 @@ rest_given (Some xs) (Some ys) line free h end some =
 end_given : (old new : Option (List ℕ)) (line : List ℕ) → Consumes old new line → OnSome old (IsAtEnd new) → length line ≡ 0 → IfSome old (Gives next.End line new)
 end_given None new line h end none = tt
 end_given (Some xs) None line h end none = absurd h
-end_given (Some xs) (Some ys) [] h end none = h ∙ end
+end_given (Some xs) (Some ys) [] h end none = (h ∙ end, end)
 end_given (Some xs) (Some ys) (x ∷ line) h end none = absurd (omega arith)
 
 -- more parts than a line may have

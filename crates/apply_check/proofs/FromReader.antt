@@ -1,6 +1,7 @@
 -- A stream that is read line by line.
 use Rattle.std.proofs.Common.{◌≡◌, ◌≢◌, ◌<◌, ◌^◌, ℕ, ◌+◌, List, [], ◌∷◌, length, Option, Some, None, Result, Ok, Err, refl, sym, ap, ◌∙◌, subst, arith}
-use Rattle.std.specs.Prelude.{IfSome}
+use Rattle.std.specs.Prelude.{IfSome, OnSome}
+use Rattle.std.specs.Io.KnownBytes.{IsAtEnd}
 use Rattle.std.specs.Io.BufRead.{drop_through}
 use Rattle.apply_check.specs.declared.fault.Fault.{Fault}
 use Rattle.apply_check.specs.declared.fault.Fault.TheVariants.{Memory, TooLong}
@@ -107,8 +108,18 @@ leads_too_far (Some bytes) left rest messages line h gives full =
 pub leads_out : (all left rest : Option (List ℕ)) (messages : List Message) (line : List ℕ) → Leads all left messages → IfSome left (Gives next.End line rest) → IfSome all (λ bytes. verdict_of (lines_of bytes) ≡ at_line (length messages) (end_of messages))
 leads_out None left rest messages line h gives = tt
 leads_out (Some bytes) left rest messages line h gives =
-    let none = given left rest next.End line h.0 h.1 gives in
+    let none = (given left rest next.End line h.0 h.1 gives).0 in
     is_done messages (verdict_of (lines_of bytes)) (ap (λ (xs : List ℕ). verdict_behind messages (lines_of xs)) (sym none) ∙ h.2.verdict)
+
+-- the end was reached
+pub at_end_of : (left rest : Option (List ℕ)) (line : List ℕ) → IfSome left (Gives next.End line rest) → OnSome left (IsAtEnd rest)
+at_end_of None rest line gives = tt
+at_end_of (Some bytes) rest line gives = gives.1
+
+-- what is known of the reader as it is and was
+pub at_end_too : (all left rest : Option (List ℕ)) (messages : List Message) → Leads all left messages → OnSome left (IsAtEnd rest) → OnSome all (IsAtEnd rest)
+at_end_too None left rest messages h end = tt
+at_end_too (Some bytes) left rest messages h end = subst (λ (o : Option (List ℕ)). OnSome o (IsAtEnd rest)) h.1 end
 
 pub as_answer : (o : Option (List ℕ)) (v : Result Whole Finding) (r : Result Whole ReadFault) → IfSome o (λ bytes. verdict_of (lines_of bytes) ≡ v) → ((texts : List (List ℕ)) → verdict_of texts ≡ v → IsAnswer texts r) → IfSome o (λ bytes. IsAnswer (lines_of bytes) r)
 as_answer None v r h answer = tt

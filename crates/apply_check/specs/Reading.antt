@@ -23,7 +23,7 @@ Shows shown.End piece old new = Consumes old new piece × OnSome old (IsAtEnd ne
 
 -- of those bytes: that there is none, or the first line and what remains behind it, or that the first line is too long
 abbrev pub Gives : Next → List ℕ → Option (List ℕ) → List ℕ → Type 0
-Gives next.End line rest bytes = bytes ≡ []
+Gives next.End line rest bytes = (bytes ≡ []) × IsAtEnd rest
 Gives next.Line line rest bytes = (bytes ≢ []) × (line ≡ first_of bytes) × (rest ≡ Some (drop_through 10 bytes))
 Gives next.TooLong line rest bytes = (bytes ≢ []) × (max_bytes < length (first_of bytes))
 

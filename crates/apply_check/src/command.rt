@@ -1,7 +1,7 @@
 //! The command `check`, from its words to its exit status, over any files and streams.
 
-ghost use Rattle.std.specs.Prelude.{◌≡◌, ◌≤◌, ◌⊎◌, ◌++◌, ◌∷◌, [], true, IfSome, Ok, Err, Result, map, string_bytes};
-ghost use Rattle.std.specs.Io.KnownBytes.{Appends, Keeps};
+ghost use Rattle.std.specs.Prelude.{◌≡◌, ◌≤◌, ◌⊎◌, ◌++◌, ◌∷◌, [], true, IfSome, OnSome, Ok, Err, Result, map, string_bytes};
+ghost use Rattle.std.specs.Io.KnownBytes.{Appends, IsAtEnd, Keeps};
 ghost use Rattle.clap.specs.Faults.{fault_of};
 ghost use Rattle.clap.specs.declared.error.kind.ErrorKind.TheVariants.{DisplayHelp};
 ghost use Rattle.apply_check.specs.CommandLine.{WasChecked, WasNotChecked, command_line};
@@ -11,6 +11,7 @@ ghost use Rattle.apply_check.specs.Telling.{IsTold, MayStandOpen, fault_status_o
 ghost use Rattle.apply_check.specs.declared.read_fault.ReadFault.{ReadFault as fault_type};
 ghost use Rattle.apply_check.specs.declared.whole.Whole.{Whole as whole_type};
 
+use crate::checked::Checked;
 use crate::checker::Checker;
 use crate::fault::Fault;
 use crate::finding::Finding;
@@ -19,6 +20,7 @@ use crate::place::Place;
 use crate::placed_finding::PlacedFinding;
 use crate::read_fault::ReadFault;
 use crate::reading::check_with;
+use crate::rest::drop_rest;
 use crate::telling::{finding_line, whole_line};
 use crate::usage::Usage;
 use crate::whole::Whole;
@@ -46,15 +48,16 @@ const BUFFER_LEN: usize = 65_536;
 
 /// Does what the words behind `check` say, and answers the exit status, as `check_command` does. It is 0 where help
 /// was asked for, and 2 where the words are none of the command or the file could not be opened.
-pub fn follow<F: Files, R: Read + Drop, W: Write, E: Write>(
+pub fn follow<F: Files, R: Read, W: Write, E: Write>(
     files: &F,
     alloc: Global,
     words: &[String],
-    input: R,
+    is_terminal: bool,
+    input: &mut R,
     out: &mut W,
     faults: &mut E,
 ) -> u8
-    ensures told { WasChecked (map string_bytes words.now) (R.remaining input) (W.contents out.old) (W.contents out.new) result
+    ensures told { WasChecked (map string_bytes words.now) (R.remaining input.old) (W.contents out.old) (W.contents out.new) result
         ⊎ WasNotChecked (map string_bytes words.now) (W.contents out.old) (W.contents out.new) result }
     ensures help { fault_of command_line (map string_bytes words.now) ≡ DisplayHelp ∷ [] → (result ≡ 0) ⊎ (result ≡ 3) }
     ensures quiet { result ≤ 1 → Keeps (E.contents faults.old) (E.contents faults.new) }
@@ -62,42 +65,66 @@ pub fn follow<F: Files, R: Read + Drop, W: Write, E: Write>(
 {
     let settings = match read_words(alloc, words) {
         Ok(settings) => settings,
-        Err(usage) => return answer_usage(&usage, out, faults),
+        Err(usage) => return answer_refused(&usage, is_terminal, input, out, faults),
     };
     match &settings.file {
         Some(name) => match fs::open(files, name.as_str()) {
-            Ok(file) => check_input(alloc, settings.form, file, out, faults),
+            Ok(mut file) => check_input(alloc, settings.form, &mut file, out, faults).status,
             Err(_) => {
                 report(faults, "the file could not be opened");
                 REFUSED
             }
         },
-        None => check_input(alloc, settings.form, input, out, faults),
+        None => check_input(alloc, settings.form, input, out, faults).status,
     }
 }
 
-/// Does what `check_command` does, with a reader that has no buffer.
-pub fn check_input<R: Read + Drop, W: Write, E: Write>(
-    alloc: Global,
-    form: Form,
-    input: R,
+/// Does what `answer_usage` does, and reads the input to its end where the arguments were refused, unless it is a
+/// terminal, at which nobody waits.
+fn answer_refused<R: Read, W: Write, E: Write>(
+    usage: &Usage,
+    is_terminal: bool,
+    input: &mut R,
     out: &mut W,
     faults: &mut E,
 ) -> u8
-    ensures told { (answer : Result whole_type fault_type)
-        × IfSome (R.remaining input) (λ bytes. IsAnswer (lines_of bytes) answer)
-        × IsTold form answer result (W.contents out.old) (W.contents out.new) }
-    ensures quiet { result ≤ 1 → Keeps (E.contents faults.old) (E.contents faults.new) }
-    ensures statuses { result ≤ 3 }
+    ensures status { result ≡ usage_status_of usage.now }
+    ensures quiet { result ≡ 0 → Keeps (E.contents faults.old) (E.contents faults.new) }
+    ensures refused { 2 ≤ result → Keeps (W.contents out.old) (W.contents out.new) }
 {
-    match BufReader::with_capacity(alloc, BUFFER_LEN, input) {
-        Ok(mut reader) => check_command(alloc, form, &mut reader, out, faults),
-        Err(_) => refuse(faults, ReadFault::Memory),
+    let status = answer_usage(usage, out, faults);
+    if status > 0 && !is_terminal {
+        let _ = drop_rest(input);
+    }
+    status
+}
+
+/// Does what `check_command` does, with a reader that has no buffer.
+pub fn check_input<R: Read, W: Write, E: Write>(
+    alloc: Global,
+    form: Form,
+    input: &mut R,
+    out: &mut W,
+    faults: &mut E,
+) -> Checked
+    ensures told { (answer : Result whole_type fault_type)
+        × IfSome (R.remaining input.old) (λ bytes. IsAnswer (lines_of bytes) answer)
+        × IsTold form answer result.status (W.contents out.old) (W.contents out.new) }
+    ensures quiet { result.status ≤ 1 → Keeps (E.contents faults.old) (E.contents faults.new) }
+    ensures statuses { result.status ≤ 3 }
+{
+    if let Ok(mut reader) = BufReader::with_capacity(alloc, BUFFER_LEN, &mut *input) {
+        return check_command(alloc, form, &mut reader, out, faults);
+    }
+    let status = refuse(faults, ReadFault::Memory);
+    Checked {
+        status,
+        is_read_whole: drop_rest(input),
     }
 }
 
-/// Checks the stream that the reader gives, says the verdict, and answers the exit status. A stream that is not whole
-/// is read no further than the first line that shows it.
+/// Checks the stream that the reader gives, says the verdict, and answers the exit status. Where something is wrong it
+/// is told at once, and then the rest is read and dropped: a reader that stops would end whoever writes the stream.
 ///
 /// The status is 0 where the stream is whole and tells of no error, and 1 where it is whole and tells of an error:
 /// what was done is said on `out` then. It is 2 where the stream is not whole, which is said on `out` as an object or
@@ -109,20 +136,30 @@ pub fn check_command<R: BufRead, W: Write, E: Write>(
     reader: &mut R,
     out: &mut W,
     faults: &mut E,
-) -> u8
+) -> Checked
     ensures told { (answer : Result whole_type fault_type)
         × IfSome (R.remaining reader.old) (λ bytes. IsAnswer (lines_of bytes) answer)
-        × IsTold form answer result (W.contents out.old) (W.contents out.new) }
-    ensures quiet { result ≤ 1 → Keeps (E.contents faults.old) (E.contents faults.new) }
-    ensures statuses { result ≤ 3 }
+        × IsTold form answer result.status (W.contents out.old) (W.contents out.new) }
+    ensures quiet { result.status ≤ 1 → Keeps (E.contents faults.old) (E.contents faults.new) }
+    ensures statuses { result.status ≤ 3 }
+    ensures read { result.is_read_whole ≡ true → OnSome (R.remaining reader.old) (IsAtEnd (R.remaining reader.new)) }
 {
     let mut checker = Checker::new(alloc);
-    match check_with(alloc, &mut checker, reader) {
-        Ok(whole) => tell_whole(alloc, form, &whole, out, faults),
+    let status = match check_with(alloc, &mut checker, reader) {
+        Ok(whole) => {
+            return Checked {
+                status: tell_whole(alloc, form, &whole, out, faults),
+                is_read_whole: true,
+            };
+        }
         Err(ReadFault::Found(finding)) => {
             tell_finding(alloc, form, &checker, &finding, out, faults)
         }
         Err(fault) => refuse(faults, fault),
+    };
+    Checked {
+        status,
+        is_read_whole: drop_rest(reader),
     }
 }
 

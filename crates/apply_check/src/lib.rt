@@ -3,6 +3,7 @@
 #![tactic(auto)]
 
 mod action;
+mod checked;
 mod checker;
 mod command;
 mod fault;
@@ -22,6 +23,7 @@ mod place;
 mod placed_finding;
 mod read_fault;
 mod reading;
+mod rest;
 mod settings;
 mod shown;
 mod standing;
@@ -34,6 +36,7 @@ mod whole;
 mod words;
 
 pub use action::Action;
+pub use checked::Checked;
 pub use checker::Checker;
 pub use command::{answer_usage, check_command, check_input, follow};
 pub use fault::Fault;
@@ -46,6 +49,7 @@ pub use limits::MAX_BYTES;
 pub use pending::Pending;
 pub use read_fault::ReadFault;
 pub use reading::{check, check_with};
+pub use rest::drop_rest;
 pub use settings::Settings;
 pub use standing::Standing;
 pub use stream::check_lines;

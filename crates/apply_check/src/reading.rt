@@ -1,6 +1,7 @@
 //! Checking what a reader gives.
 
-ghost use Rattle.std.specs.Prelude.{◌≡◌, ℕ, List, [], length, IfSome};
+ghost use Rattle.std.specs.Prelude.{◌≡◌, ℕ, List, [], length, IfSome, OnOk, OnSome};
+ghost use Rattle.std.specs.Io.KnownBytes.{IsAtEnd};
 ghost use Rattle.apply_check.specs.Cut.{lines_of};
 ghost use Rattle.apply_check.specs.Lines.{at_line, end_of, verdict_of};
 ghost use Rattle.apply_check.specs.Checking.{HasRead};
@@ -18,7 +19,7 @@ use std::alloc::Global;
 use std::io::BufRead;
 
 /// Checks the stream that the reader gives, line by line; a line feed ends each line but for the last, which may have
-/// none. A stream that is not whole is read no further than the first line that shows it.
+/// none. A stream that is not whole is read no further than the first line that shows it; `drop_rest` reads on.
 ///
 /// `Err` with `ReadFault::Found` where it is not whole, else with `ReadFault::TooMany` where it has more than
 /// 4,294,967,296 lines, with `ReadFault::Unread` where a read fails, and with `ReadFault::Memory` where memory is
@@ -37,7 +38,8 @@ pub fn check_with<R: BufRead>(
     reader: &mut R,
 ) -> Result<Whole, ReadFault>
     requires { HasRead checker.old [] }
-    ensures { IfSome (R.remaining reader.old) (λ bytes. IsAnswer (lines_of bytes) result) }
+    ensures answer { IfSome (R.remaining reader.old) (λ bytes. IsAnswer (lines_of bytes) result) }
+    ensures at_end { OnOk result (OnSome (R.remaining reader.old) (IsAtEnd (R.remaining reader.new))) }
 {
     let mut line = Vec::new(alloc);
     'lines: loop {

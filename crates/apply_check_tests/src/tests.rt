@@ -5,6 +5,7 @@ mod commands;
 mod faults;
 mod limits;
 mod reading;
+mod rest;
 
 use apply_check::{
     Checker, Fault, Finding, Form, ReadFault, Whole, check, check_command, check_input,

@@ -3,7 +3,7 @@
 #![tactic(auto)]
 
 use apply_cli::{Usage, answer_usage, follow, given_words};
-use std::io::BufWriter;
+use std::io::{BufWriter, IsTerminal};
 use std::process::ExitCode;
 use std::sync::Wait;
 use std::thread::Threads;
@@ -52,7 +52,8 @@ fn check_stream(rt: &HostRuntime, words: &[String]) -> Option<u8> {
         rt,
         rt.alloc(),
         words,
-        rt.reader(),
+        rt.stdin().is_terminal(),
+        &mut rt.reader(),
         &mut rt.stdout(),
         &mut rt.stderr(),
     ))

@@ -49,21 +49,21 @@ pub(super) fn checked(alloc: Global, form: Form, stream: &str) -> Outcome {
     let mut printed = Vec::new(alloc);
     let mut said = Vec::new(alloc);
     let mut reader = stream.as_bytes();
-    let status = check_command(alloc, form, &mut reader, &mut printed, &mut said);
+    let checked = check_command(alloc, form, &mut reader, &mut printed, &mut said);
     Outcome {
-        status,
+        status: checked.status,
         printed,
         said,
     }
 }
 
 /// Checks what the input gives.
-pub(super) fn checked_input<R: Read + Drop>(alloc: Global, form: Form, input: R) -> Outcome {
+pub(super) fn checked_input<R: Read>(alloc: Global, form: Form, input: &mut R) -> Outcome {
     let mut printed = Vec::new(alloc);
     let mut said = Vec::new(alloc);
-    let status = check_input(alloc, form, input, &mut printed, &mut said);
+    let checked = check_input(alloc, form, input, &mut printed, &mut said);
     Outcome {
-        status,
+        status: checked.status,
         printed,
         said,
     }
@@ -145,7 +145,8 @@ fn followed<F: Files>(
         files,
         alloc,
         &list,
-        stream.as_bytes(),
+        false,
+        &mut stream.as_bytes(),
         &mut printed,
         &mut said,
     );
@@ -227,7 +228,8 @@ fn full_is<E: Write>(
 ) {
     let mut reader = stream.as_bytes();
     let found = check_command(alloc, form, &mut reader, &mut Full, faults);
-    assert_eq!(rt; found, status);
+    assert_eq!(rt; found.status, status);
+    assert!(rt; found.is_read_whole);
 }
 
 #[test]

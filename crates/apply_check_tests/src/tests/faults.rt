@@ -61,7 +61,7 @@ V => {"fault":"no_end","line":1,"whole":false}
 "#;
 
 /// The lines of those names, each with its line feed.
-fn stream_of(rt: &impl Abort, alloc: Global, names: &str) -> String {
+pub(super) fn stream_of(rt: &impl Abort, alloc: Global, names: &str) -> String {
     let mut stream = String::new(alloc);
     for name in names.split(' ') {
         let line = line_named(rt, LINES, name);
@@ -123,14 +123,19 @@ fn deletes_that_are_too_many(rt: HostRuntime) {
     is_told(&rt, Form::Json, &told, object);
 }
 
-/// A line that never ends is read no further than it is seen to be too long.
+/// A line that is longer than a line may be, and goes on.
+fn a_long_line() -> io::Take<io::Repeat> {
+    io::repeat(b' ').take(80_000_000)
+}
+
+/// A line that is too long is taken no further than it is seen to be too long, and what is behind it is dropped.
 #[test]
-fn a_line_without_end(rt: HostRuntime) {
+fn a_line_that_is_too_long(rt: HostRuntime) {
     let alloc = rt.alloc();
     let line = "applystream: line 1 is longer than 67108864 bytes\n";
-    let told = checked_input(alloc, Form::Text, io::repeat(b' '));
+    let told = checked_input(alloc, Form::Text, &mut a_long_line());
     is_told(&rt, Form::Text, &told, line);
     let object = "{\"fault\":\"too_long\",\"line\":1,\"whole\":false}\n";
-    let told = checked_input(alloc, Form::Json, io::repeat(b' '));
+    let told = checked_input(alloc, Form::Json, &mut a_long_line());
     is_told(&rt, Form::Json, &told, object);
 }

@@ -136,13 +136,13 @@ fn reader_fails(rt: HostRuntime) {
 /// That is no verdict, and so no object.
 #[test]
 fn reader_fails_where_objects_are_wanted(rt: HostRuntime) {
-    let broken = Broken {
+    let mut broken = Broken {
         bytes: WHOLE.as_bytes(),
         is_interrupted: false,
     };
     outcome_is(
         &rt,
-        &checked_input(rt.alloc(), Form::Json, broken),
+        &checked_input(rt.alloc(), Form::Json, &mut broken),
         2,
         "",
         "applystream: the stream could not be read\n",

@@ -10,5 +10,5 @@ no_answer : (known : Option (List ℕ)) → IfSome known (λ bytes. IsAnswer (li
 no_answer None = tt
 no_answer (Some bytes) = tt
 
-pub returns-in-Err-clause-told : goal.returns-in-Err-clause-told
-returns-in-Err-clause-told g c = (Err read.Memory, no_answer (g.R.Read.remaining c.args.input), inl c.refuse.ensures)
+pub returns-clause-told : goal.returns-clause-told
+returns-clause-told g c = (Err read.Memory, no_answer (g.R.Read.remaining c.args.input.now), inl c.refuse-status.ensures)

@@ -1,32 +1,45 @@
 -- The next of what the reader gives, by what it is.
-use Rattle.std.proofs.Common.{◌≡◌, ◌<◌, length, Ok, sym, ap, ◌∙◌, arith, subst}
-use Rattle.std.specs.Prelude.{IfSome}
+use Rattle.std.proofs.Common.{◌≡◌, ◌<◌, length, Ok, Err, sym, ap, ◌∙◌, arith, subst}
+use Rattle.std.specs.Prelude.{IfSome, OnOk, Result}
+use Rattle.std.specs.Io.KnownBytes.{IsAtEnd}
 use Rattle.apply_check.specs.declared.next.Next.{Next}
 use Rattle.apply_check.specs.Lines.{at_line, end_of, read_line}
 use Rattle.apply_check.specs.Reading.{Gives}
-use Rattle.apply_check.proofs.FromReader.{as_answer, leads_on, leads_out, leads_too_far, leads_too_long, leads_wrong, says_nothing}
+use Rattle.apply_check.proofs.FromReader.{as_answer, at_end_of, at_end_too, leads_on, leads_out, leads_too_far, leads_too_long, leads_wrong, says_nothing}
 use Rattle.apply_check.proofs.WholeStream.{one_more}
 use Rattle.apply_check.proofs.reading.check_with.Goals as goal
 
-pub returns-in-Err : goal.returns-in-Err
-returns-in-Err g c = says_nothing (g.R.Read.remaining c.args.reader.now) _ c.in-Err.ensures.refused
+pub returns-in-Err-clause-answer : goal.returns-in-Err-clause-answer
+returns-in-Err-clause-answer g c = says_nothing (g.R.Read.remaining c.args.reader.now) _ c.in-Err.ensures.refused
 
-pub returns-in-End : goal.returns-in-End
-returns-in-End g c =
+pub returns-in-End-clause-answer : goal.returns-in-End-clause-answer
+returns-in-End-clause-answer g c =
     let k = c.lines.invariant.known in
     let gives = subst (λ (w : Next). IfSome (g.R.Read.remaining c.lines.reader) (Gives w c.next_line.new.line.items (g.R.Read.remaining c.next_line.new.reader))) c.in-End.is c.in-Ok.ensures.next in
     as_answer (g.R.Read.remaining c.args.reader.now) (at_line (length k.0) (end_of k.0)) _
     (leads_out (g.R.Read.remaining c.args.reader.now) (g.R.Read.remaining c.lines.reader) (g.R.Read.remaining c.next_line.new.reader) k.0 c.next_line.new.line.items k.2 gives)
     (λ texts verdict. c.ended.ensures k.0 texts k.1 verdict)
 
-pub returns-in-TooLong : goal.returns-in-TooLong
-returns-in-TooLong g c =
+on_ok : {T E : Type 0} (r : Result T E) (P : Type 0) → P → OnOk r P
+on_ok (Ok x) P h = h
+on_ok (Err e) P h = tt
+
+pub returns-in-End-clause-at_end : goal.returns-in-End-clause-at_end
+returns-in-End-clause-at_end g c =
+    let k = c.lines.invariant.known in
+    let gives = subst (λ (w : Next). IfSome (g.R.Read.remaining c.lines.reader) (Gives w c.next_line.new.line.items (g.R.Read.remaining c.next_line.new.reader))) c.in-End.is c.in-Ok.ensures.next in
+    on_ok c.ended.result _
+    (at_end_too (g.R.Read.remaining c.args.reader.now) (g.R.Read.remaining c.lines.reader) (g.R.Read.remaining c.next_line.new.reader) k.0 k.2
+    (at_end_of (g.R.Read.remaining c.lines.reader) (g.R.Read.remaining c.next_line.new.reader) c.next_line.new.line.items gives))
+
+pub returns-in-TooLong-clause-answer : goal.returns-in-TooLong-clause-answer
+returns-in-TooLong-clause-answer g c =
     let k = c.lines.invariant.known in
     let gives = subst (λ (w : Next). IfSome (g.R.Read.remaining c.lines.reader) (Gives w c.next_line.new.line.items (g.R.Read.remaining c.next_line.new.reader))) c.in-TooLong.is c.in-Ok.ensures.next in
     leads_too_long (g.R.Read.remaining c.args.reader.now) (g.R.Read.remaining c.lines.reader) (g.R.Read.remaining c.next_line.new.reader) k.0 c.next_line.new.line.items c.count.result _ k.2 gives (c.count.ensures ∙ k.1.lines) c.found.ensures
 
-pub returns-then-is_full : goal.returns-then-is_full
-returns-then-is_full g c =
+pub returns-then-is_full-clause-answer : goal.returns-then-is_full-clause-answer
+returns-then-is_full-clause-answer g c =
     let k = c.lines.invariant.known in
     let gives = subst (λ (w : Next). IfSome (g.R.Read.remaining c.lines.reader) (Gives w c.next_line.new.line.items (g.R.Read.remaining c.next_line.new.reader))) c.in-Line.is c.in-Ok.ensures.next in
     leads_too_far (g.R.Read.remaining c.args.reader.now) (g.R.Read.remaining c.lines.reader) (g.R.Read.remaining c.next_line.new.reader) k.0 c.next_line.new.line.items k.2 gives
@@ -50,8 +63,8 @@ lines-preserved g c =
     let read : read_line k.0 c.next_line.new.line.items ≡ Ok new.0 = ap (read_line k.0) (sym c.deref.ensures.value) ∙ new.1 in
     record { known = (new.0, new.2, leads_on (g.R.Read.remaining c.args.reader.now) (g.R.Read.remaining c.lines.reader) (g.R.Read.remaining c.next_line.new.reader) k.0 new.0 c.next_line.new.line.items k.2 gives read) }
 
-pub returns-in-Err-line : goal.returns-in-Err-line
-returns-in-Err-line g c =
+pub returns-in-Err-line-clause-answer : goal.returns-in-Err-line-clause-answer
+returns-in-Err-line-clause-answer g c =
     let k = c.lines.invariant.known in
     let gives = subst (λ (w : Next). IfSome (g.R.Read.remaining c.lines.reader) (Gives w c.next_line.new.line.items (g.R.Read.remaining c.next_line.new.reader))) c.in-Line.is c.in-Ok.ensures.next in
     leads_wrong (g.R.Read.remaining c.args.reader.now) (g.R.Read.remaining c.lines.reader) (g.R.Read.remaining c.next_line.new.reader) k.0 c.next_line.new.line.items c.in-Err-line.fault c.count-number.result _ k.2 gives
