@@ -6,8 +6,8 @@ use Rattle.std.proofs.lemmas.Bool.{and_parts, leb-true, ltb-true}
 use Rattle.std.proofs.lemmas.List.Sums.{sum_by-cons}
 use Rattle.apply_plan.specs.declared.script.provisioner.Provisioner.{Provisioner}
 use Rattle.apply_plan.specs.Script.Outcome.{has_failed, seconds_of_all}
-use Rattle.apply_check.specs.declared.action.Action.{Action}
-use Rattle.apply_check.specs.declared.action.Action.TheVariants.{Create}
+use Rattle.apply_check.specs.declared.messages.action.Action.{Action}
+use Rattle.apply_check.specs.declared.messages.action.Action.TheVariants.{Create}
 use Rattle.apply_events.specs.declared.what.What.{What}
 use Rattle.apply_events.specs.declared.what.What.TheVariants.{Progress, ProvisionStart, ProvisionOutput, ProvisionComplete, ProvisionErrored}
 use Rattle.apply_events.specs.Diagnostics.{is_note}

@@ -10,15 +10,15 @@ use Rattle.apply_plan.specs.declared.plan.step_kind.StepKind.{StepKind}
 use Rattle.apply_plan.specs.Plan.ResourceChange.{ResourceChange}
 use Rattle.apply_plan.specs.Plan.SavedPlan.{SavedPlan}
 use Rattle.apply_plan.specs.Script.Outcomes.{Outcomes, outcome_of}
-use Rattle.apply_check.specs.declared.fault.Fault.{Fault}
-use Rattle.apply_check.specs.declared.fault.Fault.TheVariants.{NotAMessage, TooLong}
-use Rattle.apply_check.specs.declared.finding.Finding.{Finding}
-use Rattle.apply_check.specs.declared.whole.Whole.{Whole}
+use Rattle.apply_check.specs.declared.rules.fault.Fault.{Fault}
+use Rattle.apply_check.specs.declared.rules.fault.Fault.TheVariants.{NotJson, TooLong}
+use Rattle.apply_check.specs.declared.verdict.finding.Finding.{Finding}
+use Rattle.apply_check.specs.declared.verdict.whole.Whole.{Whole}
 use Rattle.apply_check.specs.Cut as cut
 use Rattle.apply_check.specs.Cut.{onto_first}
 use Rattle.apply_json.specs.Tree.{tree_of}
 use Rattle.apply_check.specs.Limits.{max_bytes}
-use Rattle.apply_check.specs.Lines.{at_line, end_of, message_of, message_of_tree, next, read_line, read_tree, verdict_behind, verdict_of}
+use Rattle.apply_check.specs.Lines.{at_line, end_of, line_message, tree_message, next, read_line, read_tree, verdict_behind, verdict_of}
 use Rattle.apply_check.specs.Message.{Message}
 use Rattle.apply_check.specs.Results.{◌>>=◌, or_refuse}
 use Rattle.apply_events.specs.declared.event.Event.{Event}
@@ -31,7 +31,7 @@ use Rattle.apply_text.specs.Message.{event_message}
 use Rattle.apply_text.specs.Order.{as_written}
 use Rattle.apply_agreement.specs.Applied.{HasShortLines}
 use Rattle.apply_agreement.specs.Objects.{event_objects, object_of, objects_of, stream_objects}
-use Rattle.apply_agreement.specs.Passing.{verdict_on_objects, with_objects}
+use Rattle.apply_agreement.specs.Passing.{plain, verdict_on_objects, with_objects}
 use Rattle.apply_agreement.specs.Sound.{CanBeRead, IsShort}
 use Rattle.apply_agreement.proofs.ObjectsBack.{IsBack, stream_back}
 
@@ -78,7 +78,7 @@ stream_is plan script start operation taken =
 
 -- ---- its lines
 
-cut_off : (xs rest : List ℕ) → line_feeds xs ≡ 0 → cut.lines_of (xs ++ 10 ∷ rest) ≡ xs ∷ cut.lines_of rest
+cut_off : (xs rest : List ℕ) → line_feeds xs ≡ 0 → cut.cut_lines (xs ++ 10 ∷ rest) ≡ xs ∷ cut.cut_lines rest
 cut_off [] rest none = refl
 cut_off (x ∷ xs) rest none =
     let count = sum_by-cons (λ byte. cond (byte == 10) 1 0) x xs in
@@ -86,7 +86,7 @@ cut_off (x ∷ xs) rest none =
     (λ (yes : (x == 10) ≡ true). absurd (let one : cond {A = ℕ} (x == 10) 1 0 ≡ 1 = ap (λ (b : Bool). cond b 1 0) yes in omega arith))
     (λ (other : (x == 10) ≡ false).
     let here : cond {A = ℕ} (x == 10) 1 0 ≡ 0 = ap (λ (b : Bool). cond b 1 0) other in
-    ap (λ (b : Bool). cond b ([] ∷ cut.lines_of (xs ++ 10 ∷ rest)) (onto_first x (cut.lines_of (xs ++ 10 ∷ rest)))) other
+    ap (λ (b : Bool). cond b ([] ∷ cut.cut_lines (xs ++ 10 ∷ rest)) (onto_first x (cut.cut_lines (xs ++ 10 ∷ rest)))) other
     ∙ ap (onto_first x) (cut_off xs rest (omega arith)))
     (cases_Bool (x == 10))
 
@@ -102,10 +102,10 @@ module _ (one_feed : (d : Data) → line_feeds (line_of d) ≡ 1) where
       let one = one_feed d in
       omega arith
 
-  lines_are : (ds : List Data) → cut.lines_of (flat_map line_of ds) ≡ map compact_text ds
+  lines_are : (ds : List Data) → cut.cut_lines (flat_map line_of ds) ≡ map compact_text ds
   lines_are [] = refl
   lines_are (d ∷ ds) =
-      ap cut.lines_of (append_assoc (compact_text d) (10 ∷ []) (flat_map line_of ds))
+      ap cut.cut_lines (append_assoc (compact_text d) (10 ∷ []) (flat_map line_of ds))
       ∙ cut_off (compact_text d) (flat_map line_of ds) (no_feed d)
       ∙ ap (λ (l : List (List ℕ)). compact_text d ∷ l) (lines_are ds)
 
@@ -114,39 +114,40 @@ module _ (one_feed : (d : Data) → line_feeds (line_of d) ≡ 1) where
       → AllByRecursion IsShort (stream_objects plan script start operation taken)
   short_objects plan script start operation taken short =
       let objects = stream_objects plan script start operation taken in
-      each_text objects (subst (AllByRecursion (λ (line : List ℕ). length line ≤ max_bytes)) (ap cut.lines_of (sym (stream_is plan script start operation taken)) ∙ lines_are objects) short)
+      each_text objects (subst (AllByRecursion (λ (line : List ℕ). length line ≤ max_bytes)) (ap cut.cut_lines (sym (stream_is plan script start operation taken)) ∙ lines_are objects) short)
 
 -- ---- the verdict
 
-one_line : (d : Data) (earlier : List Message) → IsBack d → length (compact_text d) ≤ max_bytes → read_line earlier (compact_text d) ≡ read_tree earlier d
-unfolding read_line message_of
+one_line : (d : Data) (earlier : List Message) → IsBack d → length (compact_text d) ≤ max_bytes → read_line false earlier (compact_text d) ≡ read_tree false earlier d
+unfolding read_line line_message
 one_line d earlier back short =
     ap (λ (r : Result Message Fault). r >>= next earlier)
-    (ap (λ (b : Bool). cond b (Err TooLong) (or_refuse NotAMessage (tree_of (compact_text d)) >>= message_of_tree)) (le-ltb max_bytes (length (compact_text d)) short)
-    ∙ ap (λ (o : Option Data). or_refuse NotAMessage o >>= message_of_tree) back)
+    (ap (λ (b : Bool). cond b (Err TooLong) (or_refuse NotJson (tree_of (compact_text d)) >>= tree_message false)) (le-ltb max_bytes (length (compact_text d)) short)
+    ∙ ap (λ (o : Option Data). or_refuse NotJson o >>= tree_message false) back)
 
--- what the lines of these objects lead to, behind what was read
-abbrev lead_to : List Data → Result (List Message) Finding → Result Whole Finding
-lead_to ds read = read >>= λ messages. verdict_behind messages (map compact_text ds)
+module _ (plans : Bool) where
+  -- what the lines of these objects lead to, behind what was read
+  abbrev lead_to : List Data → Result (List Message) Finding → Result Whole Finding
+  lead_to ds read = read >>= λ messages. verdict_behind (plain plans) messages (map compact_text ds)
 
-one_accepted : (ds : List Data) (line : ℕ) (whole : Whole) (r : Result (List Message) Fault) → ((later : List Message) → (with_objects later ds >>= end_of) ≡ Ok whole → verdict_behind later (map compact_text ds) ≡ Ok whole)
-    → ((r >>= λ later. with_objects later ds) >>= end_of) ≡ Ok whole → lead_to ds (at_line line r) ≡ Ok whole
-one_accepted ds line whole (Ok later) rest e = rest later e
-one_accepted ds line whole (Err fault) rest e = absurd cc
+  one_accepted : (ds : List Data) (earlier : List Message) (line : ℕ) (whole : Whole) (r : Result (List Message) Fault) → ((later : List Message) → (with_objects false later ds >>= end_of (plain plans)) ≡ Ok whole → verdict_behind (plain plans) later (map compact_text ds) ≡ Ok whole)
+      → ((r >>= λ later. with_objects false later ds) >>= end_of (plain plans)) ≡ Ok whole → lead_to ds (at_line (plain plans) earlier line r) ≡ Ok whole
+  one_accepted ds earlier line whole (Ok later) rest e = rest later e
+  one_accepted ds earlier line whole (Err fault) rest e = absurd cc
 
-lines_accepted : (ds : List Data) (earlier : List Message) (whole : Whole) → AllByRecursion IsBack ds → AllByRecursion (λ (d : Data). length (compact_text d) ≤ max_bytes) ds
-    → (with_objects earlier ds >>= end_of) ≡ Ok whole → verdict_behind earlier (map compact_text ds) ≡ Ok whole
-unfolding verdict_behind
-lines_accepted [] earlier whole back short is = ap (at_line (length earlier)) is
-lines_accepted (d ∷ ds) earlier whole back short is =
-    ap (λ (r : Result (List Message) Fault). lead_to ds (at_line (length earlier + 1) r)) (one_line d earlier back.0 short.0)
-    ∙ one_accepted ds (length earlier + 1) whole (read_tree earlier d) (λ later. lines_accepted ds later whole back.1 short.1) is
+  lines_accepted : (ds : List Data) (earlier : List Message) (whole : Whole) → AllByRecursion IsBack ds → AllByRecursion (λ (d : Data). length (compact_text d) ≤ max_bytes) ds
+      → (with_objects false earlier ds >>= end_of (plain plans)) ≡ Ok whole → verdict_behind (plain plans) earlier (map compact_text ds) ≡ Ok whole
+  unfolding verdict_behind
+  lines_accepted [] earlier whole back short is = ap (at_line (plain plans) earlier (length earlier)) is
+  lines_accepted (d ∷ ds) earlier whole back short is =
+      ap (λ (r : Result (List Message) Fault). lead_to ds (at_line (plain plans) earlier (length earlier + 1) r)) (one_line d earlier back.0 short.0)
+      ∙ one_accepted ds earlier (length earlier + 1) whole (read_tree false earlier d) (λ later. lines_accepted ds later whole back.1 short.1) is
 
-pub stream_accepted : (one_feed : (d : Data) → line_feeds (line_of d) ≡ 1) (plan : SavedPlan) (script : Outcomes) (start : ℕ) (operation : Operation) (es : List Event) (whole : Whole)
-    → CanBeRead (stream_objects plan script start operation es) → verdict_on_objects (stream_objects plan script start operation es) ≡ Ok whole
-    → verdict_of (cut.lines_of (stream_of plan script start operation es)) ≡ Ok whole
-stream_accepted one_feed plan script start operation es whole read accepted =
-    let objects = stream_objects plan script start operation es in
-    ap (λ (bytes : List ℕ). verdict_of (cut.lines_of bytes)) (sym (stream_is plan script start operation es))
-    ∙ ap verdict_of (lines_are one_feed objects)
-    ∙ lines_accepted objects [] whole (stream_back plan script start operation es read.sound) read.short accepted
+  pub stream_accepted : (one_feed : (d : Data) → line_feeds (line_of d) ≡ 1) (plan : SavedPlan) (script : Outcomes) (start : ℕ) (operation : Operation) (es : List Event) (whole : Whole)
+      → CanBeRead (stream_objects plan script start operation es) → verdict_on_objects (plain plans) (stream_objects plan script start operation es) ≡ Ok whole
+      → verdict_of (plain plans) (cut.cut_lines (stream_of plan script start operation es)) ≡ Ok whole
+  stream_accepted one_feed plan script start operation es whole read accepted =
+      let objects = stream_objects plan script start operation es in
+      ap (λ (bytes : List ℕ). verdict_of (plain plans) (cut.cut_lines bytes)) (sym (stream_is plan script start operation es))
+      ∙ ap (verdict_of (plain plans)) (lines_are one_feed objects)
+      ∙ lines_accepted objects [] whole (stream_back plan script start operation es read.sound) read.short accepted

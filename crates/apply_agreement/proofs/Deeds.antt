@@ -1,17 +1,14 @@
 -- What happens to the steps of a plan, by its events.
 use Rattle.std.proofs.Common.{append_assoc, ◌≡◌, ℕ, ◌==◌, List, [], ◌∷◌, ◌++◌, map, filter, flat_map, Bool, true, false, cond, Option, Some, None, refl, sym, ap, ◌∙◌, subst, slice_get}
-use Rattle.std.specs.Prelude.{not}
 use Rattle.std.specs.Option.{option_map_or}
 use Rattle.apply_plan.specs.declared.plan.step_kind.StepKind.{StepKind}
 use Rattle.apply_plan.specs.Plan.SavedPlan.{SavedPlan}
 use Rattle.apply_check.specs.Message.{Message}
 use Rattle.apply_events.specs.declared.event.Event.{Event}
-use Rattle.apply_events.specs.Diagnostics.{is_note}
 use Rattle.apply_events.specs.Step.{address_of, kinds_of}
-use Rattle.apply_text.specs.Order.{hook_messages_of, notes_of}
 use Rattle.apply_agreement.specs.Told.{action_of, all_told, told, told_of}
 use Rattle.apply_agreement.proofs.Phases.{Deed, Follows, Phase, Turns, of_change}
-use Rattle.apply_agreement.proofs.Turning.{AllAre, said}
+use Rattle.apply_agreement.proofs.Turning.{said}
 
 -- what happens to a step of that kind
 abbrev pub deed : Event → StepKind → Deed
@@ -34,6 +31,10 @@ one_told addresses e (Some kind) ds ms is = ap (λ (l : List Message). told (add
 pub told_is : (plan : SavedPlan) (es : List Event) → all_told plan es ≡ map (said (address_of plan)) (all_deeds plan es)
 told_is plan [] = refl
 told_is plan (e ∷ es) = one_told (address_of plan) e (slice_get (kinds_of plan e.change) e.step) (all_deeds plan es) (all_told plan es) (told_is plan es)
+
+pub all_told_both : (plan : SavedPlan) (es fs : List Event) → all_told plan (es ++ fs) ≡ all_told plan es ++ all_told plan fs
+all_told_both plan [] fs = refl
+all_told_both plan (e ∷ es) fs = ap (λ (l : List Message). told_of plan e ++ l) (all_told_both plan es fs) ∙ sym (append_assoc (told_of plan e) (all_told plan es) (all_told plan fs))
 
 -- ---- the events of one change
 
@@ -76,29 +77,3 @@ follows plan p (e ∷ es) r leads =
     let turn = leads.1 in
     subst (λ (o : Option StepKind). Follows p (option_map_or (λ kind. deed e kind ∷ []) o [] ++ all_deeds plan es) r) (sym turn.1)
     (leads.0, turn.2, follows plan leads.0 es r leads.2)
-
--- ---- events of one kind
-
-one_is : (plan : SavedPlan) (b : Bool) (e : Event) (found : Option StepKind) (ds : List Deed) → is_note e.what ≡ b → AllAre b ds → AllAre b (option_map_or (λ kind. deed e kind ∷ []) found [] ++ ds)
-one_is plan b e None ds is rest = rest
-one_is plan b e (Some kind) ds is rest = (is, rest)
-
-pub hooks_are : (plan : SavedPlan) (es : List Event) → AllAre false (all_deeds plan (hook_messages_of es))
-hooks_are plan [] = tt
-hooks_are plan (e ∷ es) = at (is_note e.what) refl (hooks_are plan es)
-  where
-    at : (b : Bool) → is_note e.what ≡ b → AllAre false (all_deeds plan (hook_messages_of es)) → AllAre false (all_deeds plan (cond (not b) (e ∷ hook_messages_of es) (hook_messages_of es)))
-    at true is rest = rest
-    at false is rest = one_is plan false e (slice_get (kinds_of plan e.change) e.step) (all_deeds plan (hook_messages_of es)) is rest
-
-pub notes_are : (plan : SavedPlan) (es : List Event) → AllAre true (all_deeds plan (notes_of es))
-notes_are plan [] = tt
-notes_are plan (e ∷ es) = at (is_note e.what) refl (notes_are plan es)
-  where
-    at : (b : Bool) → is_note e.what ≡ b → AllAre true (all_deeds plan (notes_of es)) → AllAre true (all_deeds plan (cond b (e ∷ notes_of es) (notes_of es)))
-    at true is rest = one_is plan true e (slice_get (kinds_of plan e.change) e.step) (all_deeds plan (notes_of es)) is rest
-    at false is rest = rest
-
-pub all_told_both : (plan : SavedPlan) (es fs : List Event) → all_told plan (es ++ fs) ≡ all_told plan es ++ all_told plan fs
-all_told_both plan [] fs = refl
-all_told_both plan (e ∷ es) fs = ap (λ (l : List Message). told_of plan e ++ l) (all_told_both plan es fs) ∙ sym (append_assoc (told_of plan e) (all_told plan es) (all_told plan fs))

@@ -1,24 +1,22 @@
 -- One event more: the checker accepts its message, and stands where the changes stand.
-use Rattle.std.proofs.Common.{◌≡◌, ◌≢◌, ℕ, ◌+◌, ◌<◌, List, ◌∷◌, length, Bool, true, false, cond, Option, Some, None, Ok, refl, sym, ap, ◌∙◌, subst, ◌⊎◌, ⊎_elim, bytes_eq, is_some, arith}
-use Rattle.std.specs.List.{list_any}
+use Rattle.std.proofs.Common.{◌≡◌, ◌≢◌, ℕ, ◌+◌, ◌<◌, List, ◌∷◌, length, Bool, true, false, cond, Option, Some, None, Ok, refl, sym, ap, ◌∙◌, subst, ◌⊎◌, ⊎_elim, bytes_eq, is_some}
 use Rattle.std.proofs.lemmas.Bool.{both_ways, cases_Bool, cases_eq}
 use Rattle.std.proofs.lemmas.Option.{cond_some}
 use Rattle.std.proofs.lemmas.Slice.Eq.{bytes_eq-Decides}
-use Rattle.apply_check.specs.declared.action.Action.{Action}
-use Rattle.apply_check.specs.declared.action.Action.TheVariants.{Create, Delete, Read}
-use Rattle.apply_check.specs.declared.part.Part.{Part}
-use Rattle.apply_check.specs.declared.pending.Pending.{Pending}
-use Rattle.apply_check.specs.declared.standing.Standing.{Standing}
-use Rattle.apply_check.specs.declared.what.What as checked
+use Rattle.apply_check.specs.declared.messages.action.Action.{Action}
+use Rattle.apply_check.specs.declared.messages.action.Action.TheVariants.{Create, Delete}
+use Rattle.apply_check.specs.declared.messages.stage.Stage.{Stage}
+use Rattle.apply_check.specs.declared.rules.pending.Pending.{Pending}
+use Rattle.apply_check.specs.declared.rules.standing.Standing.{Standing}
+use Rattle.apply_check.specs.declared.messages.timed_stage.TimedStage.{TimedStage}
 use Rattle.apply_check.specs.Course.{after}
-use Rattle.apply_check.specs.Lines.{is_summary, next}
+use Rattle.apply_check.specs.Lines.{next}
 use Rattle.apply_check.specs.Message.{Message, step, provision, diagnostic}
 use Rattle.apply_check.specs.Standing.{explained, pending_at, provision_on, standing_of, step_on}
 use Rattle.apply_check.specs.Words.{same_action}
-use Rattle.apply_agreement.proofs.Counting.{counted, none_or_some, same}
 use Rattle.apply_agreement.proofs.Fitting.{Fits, fits_same, something_open}
 use Rattle.apply_agreement.proofs.Phases.{IsProvisioning, Phase, between, under_way, unexplained, put, put_elsewhere, put_here, seconds_in, shown, shown_same}
-use Rattle.apply_agreement.proofs.Standings.{IsBegun, IsNoFailure, diagnostic_elsewhere, diagnostic_there, explained_other, next_diagnostic, next_provision, next_step, owed_same, pending_other, pending_same, pending_still, provision_elsewhere, provision_there, provisioner_in, provisioner_same, same_is, same_itself, same_text, step_elsewhere, step_in, step_is, step_there}
+use Rattle.apply_agreement.proofs.Standings.{IsAmid, IsNoFailure, diagnostic_elsewhere, diagnostic_there, explained_keeps, failures_same, next_diagnostic, next_provision, next_step, pending_other, pending_same, pending_still, provision_elsewhere, provision_there, provisioner_in, provisioner_kept, provisioner_same, same_is, same_itself, same_text, step_elsewhere, step_in, step_is, step_there}
 
 -- after the messages the checker stands, at each address of some, where the changes below the limit stand
 pub record Agrees (limit : ℕ) (addresses : ℕ → List ℕ) (Within : List ℕ → Type 0) (Does : ℕ → Action → Type 0) (phases : ℕ → Phase) (ms : List Message) : Type 0 where
@@ -26,10 +24,9 @@ pub record Agrees (limit : ℕ) (addresses : ℕ → List ℕ) (Within : List �
   -- a provisioner is under way at an address exactly where it is in a change of that address
   pub provisioners : (a : List ℕ) → Within a → is_some (standing_of a ms).provisioner ≡ true → (c : ℕ) × (c < limit) × (addresses c ≡ a) × IsProvisioning (phases c)
   pub provisioning : (c : ℕ) → c < limit → Within (addresses c) → IsProvisioning (phases c) → is_some (standing_of (addresses c) ms).provisioner ≡ true
-  pub owed : (a : List ℕ) → Within a → is_some (standing_of a ms).owed ≡ true → (c : ℕ) × (c < limit) × (addresses c ≡ a) × (phases c ≡ unexplained)
+  pub failures : (a : List ℕ) → Within a → is_some (standing_of a ms).failures ≡ true → (c : ℕ) × (c < limit) × (addresses c ≡ a) × (phases c ≡ unexplained)
   pub does : (c t : ℕ) (k : Action) (b : Bool) → phases c ≡ under_way k t b → Does c k
-  pub begun : IsBegun ms
-  pub unsummed : list_any is_summary ms ≡ false
+  pub amid : IsAmid ms
 
 -- two changes of one address both do a thing only if it is a delete
 abbrev pub Apart : (addresses : ℕ → List ℕ) (Does : ℕ → Action → Type 0) → Type 0
@@ -110,9 +107,9 @@ module _ (limit : ℕ) (addresses : ℕ → List ℕ) (Within : List ℕ → Typ
       (cases_eq b c)
 
   -- the failure of a change that stays unexplained
-  still_owed : (phases : ℕ → Phase) (c : ℕ) (q : Phase) (a : List ℕ) → ((b : ℕ) × (b < limit) × (addresses b ≡ a) × (phases b ≡ unexplained)) → ((b : ℕ) → addresses b ≡ a → phases b ≡ unexplained → b ≢ c)
+  still_failed : (phases : ℕ → Phase) (c : ℕ) (q : Phase) (a : List ℕ) → ((b : ℕ) × (b < limit) × (addresses b ≡ a) × (phases b ≡ unexplained)) → ((b : ℕ) → addresses b ≡ a → phases b ≡ unexplained → b ≢ c)
       → (b : ℕ) × (b < limit) × (addresses b ≡ a) × (put phases c q b ≡ unexplained)
-  still_owed phases c q a found other = (found.0, found.1, found.2, put_elsewhere phases c q found.0 (other found.0 found.2 found.3) ∙ found.3)
+  still_failed phases c q a found other = (found.0, found.1, found.2, put_elsewhere phases c q found.0 (other found.0 found.2 found.3) ∙ found.3)
 
   other_address : (c b : ℕ) (a : List ℕ) → bytes_eq (addresses c) a ≡ false → addresses b ≡ a → b ≢ c
   other_address c b a away there e = both_ways (bytes_eq (addresses c) a) away ((bytes_eq-Decides (addresses c) a).1 (ap addresses (sym e) ∙ there))
@@ -145,169 +142,154 @@ module _ (limit : ℕ) (addresses : ℕ → List ℕ) (Within : List ℕ → Typ
       something_open limit Create (shown addresses phases a Create) p found.0 found.3.0 fit found.1
       (ap (λ (x : List ℕ). shown addresses phases x Create found.0) (sym found.2) ∙ shown_here addresses phases Create found.0 ∙ ap (seconds_in Create) found.3.1 ∙ running Create found.3.0 true)
 
-  pub stepped : (phases : ℕ → Phase) (ms : List Message) (c : ℕ) (k : Action) (what : checked.What) (q : Phase) (p : Option Pending)
+  pub stepped : (phases : ℕ → Phase) (ms : List Message) (c : ℕ) (k : Action) (stage : TimedStage) (q : Phase) (p : Option Pending)
       → Agrees limit addresses Within Does phases ms → c < limit → Within (addresses c)
-      → after k what (length ms + 1) (pending_at k (standing_of (addresses c) ms)) ≡ Ok p
+      → after k stage (length ms + 1) (pending_at k (standing_of (addresses c) ms)) ≡ Ok p
       → Fits limit k (shown addresses (put phases c q) (addresses c) k) p
       → ((l : Action) → same_action k l ≡ false → seconds_in l q ≡ seconds_in l (phases c))
       → ((t : ℕ) (l : Action) (b : Bool) → q ≡ under_way l t b → Does c l)
-      → (IsNoFailure what × (phases c ≢ unexplained)) ⊎ (q ≡ unexplained)
+      → (IsNoFailure stage × (phases c ≢ unexplained)) ⊎ (q ≡ unexplained)
       → (IsProvisioning (phases c) → IsProvisioning q) → (IsProvisioning q → IsProvisioning (phases c))
-      → Moves phases ms c q (step (addresses c) k what)
-  stepped phases ms c k what q p agrees less within e fit kept does owes on back =
+      → Moves phases ms c q (step (addresses c) k stage)
+  stepped phases ms c k stage q p agrees less within e fit kept does fails on back =
       let a = addresses c in
       let s = standing_of a ms in
       let line = length ms + 1 in
-      let fits : (l : Action) → Fits limit l (shown addresses (put phases c q) a l) (pending_at l (step_in k what line p s)) = λ l.
+      let fits : (l : Action) → Fits limit l (shown addresses (put phases c q) a l) (pending_at l (step_in k stage line p s)) = λ l.
       ⊎_elim
       (λ yes.
-      let at_k : Fits limit k (shown addresses (put phases c q) a k) (pending_at k (step_in k what line p s)) = subst (Fits limit k (shown addresses (put phases c q) a k)) (sym (pending_same k what line p s)) fit in
-      subst (λ (m : Action). Fits limit m (shown addresses (put phases c q) a m) (pending_at m (step_in k what line p s))) (same_is k l yes) at_k)
+      let at_k : Fits limit k (shown addresses (put phases c q) a k) (pending_at k (step_in k stage line p s)) = subst (Fits limit k (shown addresses (put phases c q) a k)) (sym (pending_same k stage line p s)) fit in
+      subst (λ (m : Action). Fits limit m (shown addresses (put phases c q) a m) (pending_at m (step_in k stage line p s))) (same_is k l yes) at_k)
       (λ no.
-      subst (Fits limit l (shown addresses (put phases c q) a l)) (sym (pending_other k l what line p s no))
+      subst (Fits limit l (shown addresses (put phases c q) a l)) (sym (pending_other k l stage line p s no))
       (fits_same limit l (shown addresses phases a l) (shown addresses (put phases c q) a l) (pending_at l s) (λ b _. shown_kept addresses phases c q a l (kept l no) b) (agrees.open_steps a l within)))
       (cases_Bool (same_action k l)) in
-      let is : step_on k what line s ≡ Ok (step_in k what line p s) =
-      step_is k what line p s (λ some. create_open (put phases c q) a (pending_at Create (step_in k what line p s)) (fits Create) (still_has phases c q a on (agrees.provisioners a within some))) e in
-      let there : standing_of a (step a k what ∷ ms) ≡ step_in k what line p s = step_there a k what (step_in k what line p s) ms is in (
-        next_step a k what (step_in k what line p s) ms agrees.begun agrees.unsummed is,
+      let is : step_on k stage line s ≡ Ok (step_in k stage line p s) =
+      step_is k stage line p s (λ some. create_open (put phases c q) a (pending_at Create (step_in k stage line p s)) (fits Create) (still_has phases c q a on (agrees.provisioners a within some))) e in
+      let there : standing_of a (step a k stage ∷ ms) ≡ step_in k stage line p s = step_there a k stage (step_in k stage line p s) ms is in (
+        next_step a k stage (step_in k stage line p s) ms agrees.amid is,
         record {
-          open_steps = λ b l w. by_address (λ b. Within b → Fits limit l (shown addresses (put phases c q) b l) (pending_at l (standing_of b (step a k what ∷ ms)))) a
+          open_steps = λ b l w. by_address (λ b. Within b → Fits limit l (shown addresses (put phases c q) b l) (pending_at l (standing_of b (step a k stage ∷ ms)))) a
               (λ _. subst (λ (t : Standing). Fits limit l (shown addresses (put phases c q) a l) (pending_at l t)) (sym there) (fits l))
               (λ b no w.
-              subst (λ (t : Standing). Fits limit l (shown addresses (put phases c q) b l) (pending_at l t)) (sym (step_elsewhere a k what ms b no))
+              subst (λ (t : Standing). Fits limit l (shown addresses (put phases c q) b l) (pending_at l t)) (sym (step_elsewhere a k stage ms b no))
               (fits_same limit l (shown addresses phases b l) (shown addresses (put phases c q) b l) (pending_at l (standing_of b ms)) (λ d _. shown_elsewhere addresses phases c q b l no d) (agrees.open_steps b l w)))
               b w;
-          provisioners = by_address (λ b. Within b → is_some (standing_of b (step a k what ∷ ms)).provisioner ≡ true → Has (put phases c q) b) a
-              (λ _ some. still_has phases c q a on (agrees.provisioners a within (sym (ap is_some (ap (λ (t : Standing). t.provisioner) there ∙ provisioner_same k what line p s)) ∙ some)))
-              (λ b no w some. still_has phases c q b on (agrees.provisioners b w (sym (ap is_some (ap (λ (t : Standing). t.provisioner) (step_elsewhere a k what ms b no))) ∙ some)));
-          provisioning = λ d l w provisions. by_address (λ b. is_some (standing_of b ms).provisioner ≡ true → is_some (standing_of b (step a k what ∷ ms)).provisioner ≡ true) a
-              (λ before. ap is_some (ap (λ (t : Standing). t.provisioner) there ∙ provisioner_same k what line p s) ∙ before)
-              (λ b no before. ap is_some (ap (λ (t : Standing). t.provisioner) (step_elsewhere a k what ms b no)) ∙ before)
+          provisioners = by_address (λ b. Within b → is_some (standing_of b (step a k stage ∷ ms)).provisioner ≡ true → Has (put phases c q) b) a
+              (λ _ some. still_has phases c q a on (agrees.provisioners a within (sym (ap is_some (ap (λ (t : Standing). t.provisioner) there ∙ provisioner_same k stage line p s)) ∙ some)))
+              (λ b no w some. still_has phases c q b on (agrees.provisioners b w (sym (ap is_some (ap (λ (t : Standing). t.provisioner) (step_elsewhere a k stage ms b no))) ∙ some)));
+          provisioning = λ d l w provisions. by_address (λ b. is_some (standing_of b ms).provisioner ≡ true → is_some (standing_of b (step a k stage ∷ ms)).provisioner ≡ true) a
+              (λ before. ap is_some (ap (λ (t : Standing). t.provisioner) there ∙ provisioner_same k stage line p s) ∙ before)
+              (λ b no before. ap is_some (ap (λ (t : Standing). t.provisioner) (step_elsewhere a k stage ms b no)) ∙ before)
               (addresses d) (agrees.provisioning d l w (had phases c q d back provisions));
-          owed = by_address (λ b. Within b → is_some (standing_of b (step a k what ∷ ms)).owed ≡ true → (d : ℕ) × (d < limit) × (addresses d ≡ b) × (put phases c q d ≡ unexplained)) a
+          failures = by_address (λ b. Within b → is_some (standing_of b (step a k stage ∷ ms)).failures ≡ true → (d : ℕ) × (d < limit) × (addresses d ≡ b) × (put phases c q d ≡ unexplained)) a
               (λ _ some.
               ⊎_elim
               (λ fine.
-              let before : is_some s.owed ≡ true = sym (ap is_some (ap (λ (t : Standing). t.owed) there ∙ owed_same k what line p s fine.0)) ∙ some in
-              still_owed phases c q a (agrees.owed a within before) (λ d _ u same. fine.1 (ap phases (sym same) ∙ u)))
+              let before : is_some s.failures ≡ true = sym (ap is_some (ap (λ (t : Standing). t.failures) there ∙ failures_same k stage line p s fine.0)) ∙ some in
+              still_failed phases c q a (agrees.failures a within before) (λ d _ u same. fine.1 (ap phases (sym same) ∙ u)))
               (λ failed. (c, less, refl, put_here phases c q ∙ failed))
-              owes)
+              fails)
               (λ b no w some.
-              let before : is_some (standing_of b ms).owed ≡ true = sym (ap is_some (ap (λ (t : Standing). t.owed) (step_elsewhere a k what ms b no))) ∙ some in
-              still_owed phases c q b (agrees.owed b w before) (λ d there u. other_address c d b no there));
+              let before : is_some (standing_of b ms).failures ≡ true = sym (ap is_some (ap (λ (t : Standing). t.failures) (step_elsewhere a k stage ms b no))) ∙ some in
+              still_failed phases c q b (agrees.failures b w before) (λ d there u. other_address c d b no there));
           does = still_does phases c q agrees.does does;
-          begun = tt;
-          unsummed = agrees.unsummed;
+          amid = agrees.amid;
         },
       )
 
   -- a provisioner begins, goes on or ends
-  pub provisioned : (phases : ℕ → Phase) (ms : List Message) (c : ℕ) (part : Part) (q : Phase) (r : Option ℕ)
+  pub provisioned : (phases : ℕ → Phase) (ms : List Message) (c : ℕ) (stage : Stage) (q : Phase) (r : Option ℕ)
       → Agrees limit addresses Within Does phases ms → c < limit → Within (addresses c)
-      → provision_on part (length ms + 1) (standing_of (addresses c) ms) ≡ Ok (provisioner_in r (standing_of (addresses c) ms))
+      → provision_on stage (length ms + 1) (standing_of (addresses c) ms) ≡ Ok (provisioner_in r (standing_of (addresses c) ms))
       → ((l : Action) → seconds_in l q ≡ seconds_in l (phases c))
       → ((t : ℕ) (l : Action) (b : Bool) → q ≡ under_way l t b → Does c l)
       → phases c ≢ unexplained
       → (is_some r ≡ true → Has (put phases c q) (addresses c))
       → ((d : ℕ) → addresses d ≡ addresses c → IsProvisioning (put phases c q d) → is_some r ≡ true)
-      → Moves phases ms c q (provision (addresses c) part)
-  provisioned phases ms c part q r agrees less within e kept does explained_before on back =
+      → Moves phases ms c q (provision (addresses c) stage)
+  provisioned phases ms c stage q r agrees less within e kept does explained_before on back =
       let a = addresses c in
       let s = standing_of a ms in
-      let there : standing_of a (provision a part ∷ ms) ≡ provisioner_in r s = provision_there a part (provisioner_in r s) ms e in (
-        next_provision a part (provisioner_in r s) ms agrees.begun agrees.unsummed e,
+      let there : standing_of a (provision a stage ∷ ms) ≡ provisioner_in r s = provision_there a stage (provisioner_in r s) ms e in (
+        next_provision a stage (provisioner_in r s) ms agrees.amid e,
         record {
-          open_steps = λ b l w. by_address (λ b. Within b → Fits limit l (shown addresses (put phases c q) b l) (pending_at l (standing_of b (provision a part ∷ ms)))) a
+          open_steps = λ b l w. by_address (λ b. Within b → Fits limit l (shown addresses (put phases c q) b l) (pending_at l (standing_of b (provision a stage ∷ ms)))) a
               (λ _. subst (Fits limit l (shown addresses (put phases c q) a l)) (sym (ap (pending_at l) there ∙ pending_still l r s))
               (fits_same limit l (shown addresses phases a l) (shown addresses (put phases c q) a l) (pending_at l s) (λ d _. shown_kept addresses phases c q a l (kept l) d) (agrees.open_steps a l within)))
               (λ b no w.
-              subst (λ (t : Standing). Fits limit l (shown addresses (put phases c q) b l) (pending_at l t)) (sym (provision_elsewhere a part ms b no))
+              subst (λ (t : Standing). Fits limit l (shown addresses (put phases c q) b l) (pending_at l t)) (sym (provision_elsewhere a stage ms b no))
               (fits_same limit l (shown addresses phases b l) (shown addresses (put phases c q) b l) (pending_at l (standing_of b ms)) (λ d _. shown_elsewhere addresses phases c q b l no d) (agrees.open_steps b l w)))
               b w;
-          provisioners = by_address (λ b. Within b → is_some (standing_of b (provision a part ∷ ms)).provisioner ≡ true → Has (put phases c q) b) a
+          provisioners = by_address (λ b. Within b → is_some (standing_of b (provision a stage ∷ ms)).provisioner ≡ true → Has (put phases c q) b) a
               (λ _ some. on (sym (ap is_some (ap (λ (t : Standing). t.provisioner) there)) ∙ some))
               (λ b no w some.
-              let found = agrees.provisioners b w (sym (ap is_some (ap (λ (t : Standing). t.provisioner) (provision_elsewhere a part ms b no))) ∙ some) in
+              let found = agrees.provisioners b w (sym (ap is_some (ap (λ (t : Standing). t.provisioner) (provision_elsewhere a stage ms b no))) ∙ some) in
               (found.0, found.1, found.2, subst IsProvisioning (sym (put_elsewhere phases c q found.0 (other_address c found.0 b no found.2))) found.3));
-          provisioning = λ d l w provisions. by_address (λ b. addresses d ≡ b → is_some (standing_of b (provision a part ∷ ms)).provisioner ≡ true) a
+          provisioning = λ d l w provisions. by_address (λ b. addresses d ≡ b → is_some (standing_of b (provision a stage ∷ ms)).provisioner ≡ true) a
               (λ same. ap is_some (ap (λ (t : Standing). t.provisioner) there) ∙ back d same provisions)
               (λ b no same.
-              ap is_some (ap (λ (t : Standing). t.provisioner) (provision_elsewhere a part ms b no))
+              ap is_some (ap (λ (t : Standing). t.provisioner) (provision_elsewhere a stage ms b no))
               ∙ subst (λ (x : List ℕ). is_some (standing_of x ms).provisioner ≡ true) same (agrees.provisioning d l w (subst IsProvisioning (put_elsewhere phases c q d (other_address c d b no same)) provisions)))
               (addresses d) refl;
-          owed = by_address (λ b. Within b → is_some (standing_of b (provision a part ∷ ms)).owed ≡ true → (d : ℕ) × (d < limit) × (addresses d ≡ b) × (put phases c q d ≡ unexplained)) a
+          failures = by_address (λ b. Within b → is_some (standing_of b (provision a stage ∷ ms)).failures ≡ true → (d : ℕ) × (d < limit) × (addresses d ≡ b) × (put phases c q d ≡ unexplained)) a
               (λ _ some.
-              let before : is_some s.owed ≡ true = sym (ap is_some (ap (λ (t : Standing). t.owed) there)) ∙ some in
-              still_owed phases c q a (agrees.owed a within before) (λ d _ u same. explained_before (ap phases (sym same) ∙ u)))
+              let before : is_some s.failures ≡ true = sym (ap is_some (ap (λ (t : Standing). t.failures) there)) ∙ some in
+              still_failed phases c q a (agrees.failures a within before) (λ d _ u same. explained_before (ap phases (sym same) ∙ u)))
               (λ b no w some.
-              let before : is_some (standing_of b ms).owed ≡ true = sym (ap is_some (ap (λ (t : Standing). t.owed) (provision_elsewhere a part ms b no))) ∙ some in
-              still_owed phases c q b (agrees.owed b w before) (λ d same u. other_address c d b no same));
+              let before : is_some (standing_of b ms).failures ≡ true = sym (ap is_some (ap (λ (t : Standing). t.failures) (provision_elsewhere a stage ms b no))) ∙ some in
+              still_failed phases c q b (agrees.failures b w before) (λ d same u. other_address c d b no same));
           does = still_does phases c q agrees.does does;
-          begun = tt;
-          unsummed = agrees.unsummed;
+          amid = agrees.amid;
         },
       )
 
-  -- a note comes where nothing is read, since it would end a read
+  -- a note changes nothing but the failures at its address
   pub noted : (phases : ℕ → Phase) (ms : List Message) (c : ℕ) (e : Bool) (q : Phase)
-      → Agrees limit addresses Within Does phases ms → c < limit → Within (addresses c) → ((b x : ℕ) (p : Bool) → b < limit → phases b ≢ under_way Read x p)
+      → Agrees limit addresses Within Does phases ms → c < limit → Within (addresses c)
       → ((l : Action) → seconds_in l q ≡ None) → ((l : Action) → seconds_in l (phases c) ≡ None)
       → (e ≡ true) ⊎ (q ≡ phases c)
       → Moves phases ms c q (diagnostic e (Some (addresses c)))
-  noted phases ms c e q agrees less within unread after_none before_none explains =
+  noted phases ms c e q agrees less within after_none before_none explains =
       let a = addresses c in
       let s = standing_of a ms in
       let there : standing_of a (diagnostic e (Some a) ∷ ms) ≡ explained e s = diagnostic_there a e ms in
       let kept = λ (b : List ℕ) (l : Action). shown_kept addresses phases c q b l (after_none l ∙ sym (before_none l)) in
       let on : IsProvisioning (phases c) → IsProvisioning q = λ p. absurd (let f : None ≡ Some p.0 = sym (before_none Create) ∙ ap (seconds_in Create) p.1 ∙ running Create p.0 true in cc) in
       let back : IsProvisioning q → IsProvisioning (phases c) = λ p. absurd (let f : None ≡ Some p.0 = sym (after_none Create) ∙ ap (seconds_in Create) p.1 ∙ running Create p.0 true in cc) in (
-        next_diagnostic a e ms agrees.begun,
+        next_diagnostic a e ms agrees.amid,
         record {
           open_steps = λ b l w. by_address (λ b. Within b → Fits limit l (shown addresses (put phases c q) b l) (pending_at l (standing_of b (diagnostic e (Some a) ∷ ms)))) a
               (λ _. subst (λ (t : Standing). Fits limit l (shown addresses (put phases c q) a l) (pending_at l t)) (sym there)
-              (⊎_elim
-              (λ yes.
-              let nobody : counted (shown addresses (put phases c q) a Read) 0 limit ≡ 0 =
-              same (shown addresses phases a Read) (shown addresses (put phases c q) a Read) 0 limit (λ b _ _. kept a Read b)
-              ∙ ⊎_elim (λ none. none)
-              (λ found.
-              let seen = shown_is addresses phases a Read found.0 found.1 found.3 in
-              absurd (unread found.0 found.1 seen.1 (let l : found.0 < 0 + limit = found.2 in omega arith) seen.2))
-              (none_or_some (shown addresses phases a Read) 0 limit) in
-              subst (λ (m : Action). Fits limit m (shown addresses (put phases c q) a m) (pending_at m (explained e s))) (same_is Read l yes) nobody)
-              (λ no.
-              subst (Fits limit l (shown addresses (put phases c q) a l)) (sym (explained_other l e s (λ is. both_ways (same_action Read l) no (ap (same_action Read) is ∙ same_itself Read))))
-              (fits_same limit l (shown addresses phases a l) (shown addresses (put phases c q) a l) (pending_at l s) (λ b _. kept a l b) (agrees.open_steps a l within)))
-              (cases_Bool (same_action Read l))))
+              (subst (Fits limit l (shown addresses (put phases c q) a l)) (sym (explained_keeps l e s))
+              (fits_same limit l (shown addresses phases a l) (shown addresses (put phases c q) a l) (pending_at l s) (λ b _. kept a l b) (agrees.open_steps a l within))))
               (λ b no w.
               subst (λ (t : Standing). Fits limit l (shown addresses (put phases c q) b l) (pending_at l t)) (sym (diagnostic_elsewhere a e ms b no))
               (fits_same limit l (shown addresses phases b l) (shown addresses (put phases c q) b l) (pending_at l (standing_of b ms)) (λ d _. kept b l d) (agrees.open_steps b l w)))
               b w;
           provisioners = by_address (λ b. Within b → is_some (standing_of b (diagnostic e (Some a) ∷ ms)).provisioner ≡ true → Has (put phases c q) b) a
-              (λ _ some. still_has phases c q a on (agrees.provisioners a within (sym (ap is_some (ap (λ (t : Standing). t.provisioner) there)) ∙ some)))
+              (λ _ some. still_has phases c q a on (agrees.provisioners a within (sym (ap is_some (ap (λ (t : Standing). t.provisioner) there ∙ provisioner_kept e s)) ∙ some)))
               (λ b no w some. still_has phases c q b on (agrees.provisioners b w (sym (ap is_some (ap (λ (t : Standing). t.provisioner) (diagnostic_elsewhere a e ms b no))) ∙ some)));
           provisioning = λ d l w provisions. by_address (λ b. is_some (standing_of b ms).provisioner ≡ true → is_some (standing_of b (diagnostic e (Some a) ∷ ms)).provisioner ≡ true) a
-              (λ before. ap is_some (ap (λ (t : Standing). t.provisioner) there) ∙ before)
+              (λ before. ap is_some (ap (λ (t : Standing). t.provisioner) there ∙ provisioner_kept e s) ∙ before)
               (λ b no before. ap is_some (ap (λ (t : Standing). t.provisioner) (diagnostic_elsewhere a e ms b no)) ∙ before)
               (addresses d) (agrees.provisioning d l w (had phases c q d back provisions));
-          owed = by_address (λ b. Within b → is_some (standing_of b (diagnostic e (Some a) ∷ ms)).owed ≡ true → (d : ℕ) × (d < limit) × (addresses d ≡ b) × (put phases c q d ≡ unexplained)) a
+          failures = by_address (λ b. Within b → is_some (standing_of b (diagnostic e (Some a) ∷ ms)).failures ≡ true → (d : ℕ) × (d < limit) × (addresses d ≡ b) × (put phases c q d ≡ unexplained)) a
               (λ _ some.
-              let now : is_some (explained e s).owed ≡ true = sym (ap is_some (ap (λ (t : Standing). t.owed) there)) ∙ some in
-              owed_then e explains now)
+              let now : is_some (explained e s).failures ≡ true = sym (ap is_some (ap (λ (t : Standing). t.failures) there)) ∙ some in
+              failed_then e explains now)
               (λ b no w some.
-              let before : is_some (standing_of b ms).owed ≡ true = sym (ap is_some (ap (λ (t : Standing). t.owed) (diagnostic_elsewhere a e ms b no))) ∙ some in
-              still_owed phases c q b (agrees.owed b w before) (λ d there u. other_address c d b no there));
+              let before : is_some (standing_of b ms).failures ≡ true = sym (ap is_some (ap (λ (t : Standing). t.failures) (diagnostic_elsewhere a e ms b no))) ∙ some in
+              still_failed phases c q b (agrees.failures b w before) (λ d there u. other_address c d b no there));
           does = still_does phases c q agrees.does (λ t l b is. absurd (let f : seconds_in l q ≡ Some t = ap (seconds_in l) is ∙ running l t b in let g : None ≡ Some t = sym (after_none l) ∙ f in cc));
-          begun = tt;
-          unsummed = agrees.unsummed;
+          amid = agrees.amid;
         },
       )
     where
-      owed_then : (e : Bool) → (e ≡ true) ⊎ (q ≡ phases c) → is_some (explained e (standing_of (addresses c) ms)).owed ≡ true
+      failed_then : (e : Bool) → (e ≡ true) ⊎ (q ≡ phases c) → is_some (explained e (standing_of (addresses c) ms)).failures ≡ true
           → (d : ℕ) × (d < limit) × (addresses d ≡ addresses c) × (put phases c q d ≡ unexplained)
-      owed_then true explains now = absurd cc
-      owed_then false explains now =
-          let found = agrees.owed (addresses c) within now in
+      failed_then true explains now = absurd cc
+      failed_then false explains now =
+          let found = agrees.failures (addresses c) within now in
           let same_phase : q ≡ phases c = ⊎_elim (λ no. absurd cc) (λ yes. yes) explains in
           (found.0, found.1, found.2, ⊎_elim (λ (here : found.0 ≡ c). ap (put phases c q) here ∙ put_here phases c q ∙ same_phase ∙ ap phases (sym here) ∙ found.3) (λ elsewhere. put_elsewhere phases c q found.0 elsewhere ∙ found.3) (cases_eq found.0 c))

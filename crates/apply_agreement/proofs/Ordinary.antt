@@ -9,8 +9,8 @@ use Rattle.apply_plan.specs.declared.plan.step_kind.StepKind.TheVariants as kind
 use Rattle.apply_plan.specs.Plan.Laws.{NamesEachObjectOnce}
 use Rattle.apply_plan.specs.Plan.ResourceChange.{ResourceChange}
 use Rattle.apply_plan.specs.Plan.SavedPlan.{SavedPlan}
-use Rattle.apply_check.specs.declared.action.Action.{Action}
-use Rattle.apply_check.specs.declared.action.Action.TheVariants.{Delete}
+use Rattle.apply_check.specs.declared.messages.action.Action.{Action}
+use Rattle.apply_check.specs.declared.messages.action.Action.TheVariants.{Delete}
 use Rattle.apply_events.specs.declared.event.Event.{Event}
 use Rattle.apply_events.specs.Step.{address_of, kinds_of}
 use Rattle.apply_agreement.specs.Plans.{IsChange, IsOrdinary}

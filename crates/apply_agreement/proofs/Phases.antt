@@ -1,7 +1,7 @@
 -- The course of a change: what may happen to it, one event after another.
 use Rattle.std.proofs.Common.{◌≡◌, ◌≢◌, ℕ, ◌<◌, ◌≤◌, ◌==◌, List, [], ◌∷◌, Bool, true, false, cond, filter, Option, Some, None, refl, ap, bytes_eq, eq-eqb, ne_eqb}
-use Rattle.apply_check.specs.declared.action.Action.{Action}
-use Rattle.apply_check.specs.declared.action.Action.TheVariants.{Create}
+use Rattle.apply_check.specs.declared.messages.action.Action.{Action}
+use Rattle.apply_check.specs.declared.messages.action.Action.TheVariants.{Create}
 use Rattle.apply_check.specs.Words.{same_action}
 use Rattle.apply_events.specs.declared.what.What.{What}
 use Rattle.apply_events.specs.declared.what.What.TheVariants.{Start, Progress, Complete, Errored, ErrorNote, WarnNote, Halted, ProvisionStart, ProvisionOutput, ProvisionComplete, ProvisionErrored}

@@ -1,22 +1,26 @@
 -- What stands open after one message more.
-use Rattle.std.proofs.Common.{◌≡◌, ◌≢◌, ℕ, ◌+◌, List, [], ◌∷◌, length, Bool, true, false, cond, Option, Some, None, Result, Ok, Err, refl, ap, ◌∙◌, bytes_eq}
-use Rattle.std.specs.Prelude.{◌||◌, is_some}
+use Rattle.std.proofs.Common.{◌≡◌, ℕ, ◌+◌, List, ◌∷◌, length, Bool, true, false, cond, Option, Some, None, Result, Ok, Err, refl, ap, ◌∙◌, bytes_eq}
+use Rattle.std.specs.Prelude.{◌||◌, ◌&&◌, is_some}
 use Rattle.std.specs.List.{list_any}
+use Rattle.std.specs.Option.{option_map_or}
 use Rattle.std.proofs.lemmas.Slice.Eq.{bytes_eq-Decides}
-use Rattle.apply_check.specs.declared.action.Action.{Action}
-use Rattle.apply_check.specs.declared.action.Action.TheVariants.{Create, Update, Delete, Read}
-use Rattle.apply_check.specs.declared.fault.Fault.{Fault}
-use Rattle.apply_check.specs.declared.fault.Fault.TheVariants.{AfterSummary, LeavesProvisioner, NoStep}
-use Rattle.apply_check.specs.declared.part.Part.{Part}
-use Rattle.apply_check.specs.declared.pending.Pending.{Pending}
-use Rattle.apply_check.specs.declared.standing.Standing.{Standing}
-use Rattle.apply_check.specs.declared.what.What.{What}
-use Rattle.apply_check.specs.declared.what.What.TheVariants.{Start, Progress, Complete, Errored}
+use Rattle.apply_check.specs.declared.messages.action.Action.{Action}
+use Rattle.apply_check.specs.declared.messages.action.Action.TheVariants.{Create, Update, Delete, Read, Refresh}
+use Rattle.apply_check.specs.declared.messages.stage.Stage.{Stage}
+use Rattle.apply_check.specs.declared.messages.timed_stage.TimedStage.{TimedStage}
+use Rattle.apply_check.specs.declared.messages.timed_stage.TimedStage.TheVariants.{Start, Progress, Complete, Errored}
+use Rattle.apply_check.specs.declared.rules.failures.Failures.{Failures}
+use Rattle.apply_check.specs.declared.rules.fault.Fault.{Fault}
+use Rattle.apply_check.specs.declared.rules.fault.Fault.TheVariants.{AfterSummary, LeavesProvisioner, NoStep, NotPlanned}
+use Rattle.apply_check.specs.declared.rules.pending.Pending.{Pending}
+use Rattle.apply_check.specs.declared.rules.standing.Standing.{Standing}
+use Rattle.apply_check.specs.Counted.{is_used_up}
 use Rattle.apply_check.specs.Course.{after}
-use Rattle.apply_check.specs.Lines.{is_summary, next}
+use Rattle.apply_check.specs.Lines.{as_first, behind, next, within_plan}
 use Rattle.apply_check.specs.Message.{Message, step, provision, diagnostic}
 use Rattle.apply_check.specs.Results.{◌>>=◌}
-use Rattle.apply_check.specs.Standing.{explained, may_provision, owing, pending_at, provision_on, provisioned, standing_of, step_on, unless_left, with_pending}
+use Rattle.apply_check.specs.Standing.{explained, failed_by, may_fail, may_provision, one_failure_more, pending_at, provision_on, provisioned, standing_of, step_on, unless_left, with_pending}
+use Rattle.apply_check.specs.Tally.{begun_totals, is_begin, is_planned, is_summary, is_version, line_of, planned_totals, share_of}
 use Rattle.apply_check.specs.Words.{same_action}
 
 pub same_text : (a : List ℕ) → bytes_eq a a ≡ true
@@ -25,8 +29,8 @@ same_text a = (bytes_eq-Decides a a).1 refl
 -- ---- a step
 
 -- what stands open then
-abbrev pub step_in : Action → What → (line : ℕ) → Option Pending → Standing → Standing
-step_in k what line q s = owing what line (with_pending k q s)
+abbrev pub step_in : Action → TimedStage → (line : ℕ) → Option Pending → Standing → Standing
+step_in k stage line q s = failed_by k stage line (with_pending k q s)
 
 -- it leaves no provisioner behind
 left_none : (o : Option ℕ) (s : Standing) → (is_some o ≡ true → is_some (pending_at Create s) ≡ true) → unless_left o s ≡ Ok s
@@ -37,115 +41,153 @@ left_none (Some begin) s within =
     fine : Standing → Result Standing Fault
     fine x = Ok x
 
-pub step_is : (k : Action) (what : What) (line : ℕ) (q : Option Pending) (s : Standing) → (is_some s.provisioner ≡ true → is_some (pending_at Create (step_in k what line q s)) ≡ true) → after k what line (pending_at k s) ≡ Ok q
-    → step_on k what line s ≡ Ok (step_in k what line q s)
-step_is k what line q s within e =
-    ap (λ (r : Result (Option Pending) Fault). r >>= λ pending. unless_left s.provisioner (owing what line (with_pending k pending s))) e
-    ∙ left_none s.provisioner (step_in k what line q s) within
+pub step_is : (k : Action) (stage : TimedStage) (line : ℕ) (q : Option Pending) (s : Standing) → (is_some s.provisioner ≡ true → is_some (pending_at Create (step_in k stage line q s)) ≡ true) → after k stage line (pending_at k s) ≡ Ok q
+    → step_on k stage line s ≡ Ok (step_in k stage line q s)
+step_is k stage line q s within e =
+    ap (λ (r : Result (Option Pending) Fault). r >>= λ pending. unless_left s.provisioner (failed_by k stage line (with_pending k pending s))) e
+    ∙ left_none s.provisioner (step_in k stage line q s) within
 
-pub step_there : (a : List ℕ) (k : Action) (what : What) (s : Standing) (ms : List Message) → step_on k what (length ms + 1) (standing_of a ms) ≡ Ok s → standing_of a (step a k what ∷ ms) ≡ s
+pub step_there : (a : List ℕ) (k : Action) (stage : TimedStage) (s : Standing) (ms : List Message) → step_on k stage (length ms + 1) (standing_of a ms) ≡ Ok s → standing_of a (step a k stage ∷ ms) ≡ s
 unfolding standing_of
-step_there a k what s ms e = rw (same_text a, e) refl
+step_there a k stage s ms e = rw (same_text a, e) refl
 
-pub step_elsewhere : (a : List ℕ) (k : Action) (what : What) (ms : List Message) (b : List ℕ) → bytes_eq a b ≡ false → standing_of b (step a k what ∷ ms) ≡ standing_of b ms
+pub step_elsewhere : (a : List ℕ) (k : Action) (stage : TimedStage) (ms : List Message) (b : List ℕ) → bytes_eq a b ≡ false → standing_of b (step a k stage ∷ ms) ≡ standing_of b ms
 unfolding standing_of
-step_elsewhere a k what ms b apart = rw apart refl
+step_elsewhere a k stage ms b apart = rw apart refl
 
--- there are messages, and the version stands first
-abbrev pub IsBegun : List Message → Type 0
-IsBegun [] = ⊥
-IsBegun (m ∷ ms) = Unit {0}
+-- the version came, and neither a summary nor a planned change
+abbrev pub IsAmid : List Message → Type 0
+IsAmid ms = (is_some (line_of is_version ms) ≡ true) × (line_of is_summary ms ≡ None) × (list_any is_planned ms ≡ false)
 
-pub next_step : (a : List ℕ) (k : Action) (what : What) (s : Standing) (ms : List Message) → IsBegun ms → list_any is_summary ms ≡ false
-    → step_on k what (length ms + 1) (standing_of a ms) ≡ Ok s → next ms (step a k what) ≡ Ok (step a k what ∷ ms)
-next_step a k what s [] begun before e = absurd begun
-next_step a k what s (m ∷ ms) begun before e =
-    ap (λ (b : Bool). cond b (Err AfterSummary) (step_on k what (length (m ∷ ms) + 1) (standing_of a (m ∷ ms)) >>= λ standing. fine (step a k what ∷ m ∷ ms))) before
-    ∙ ap (λ (r : Result Standing Fault). r >>= λ standing. fine (step a k what ∷ m ∷ ms)) e
+-- behind the version, what comes next is what comes behind the others
+pub next_behind : (ms : List Message) (m : Message) → is_some (line_of is_version ms) ≡ true → ((first : ℕ) → behind ms first m ≡ Ok (m ∷ ms)) → next ms m ≡ Ok (m ∷ ms)
+next_behind ms m begun is = at (line_of is_version ms) begun
+  where
+    at : (o : Option ℕ) → is_some o ≡ true → option_map_or (λ first. behind ms first m) o (as_first ms m) ≡ Ok (m ∷ ms)
+    at None e = absurd cc
+    at (Some first) e = is first
+
+-- where no change was planned, each may start
+within_none : (k : Action) (stage : TimedStage) (ms : List Message) (answer : Result (List Message) Fault) → list_any is_planned ms ≡ false → within_plan k stage ms answer ≡ answer
+within_none k stage ms answer unplanned =
+    ap (λ (b : Bool). cond ((is_begin stage && b) && is_used_up (share_of k (begun_totals ms)) (share_of k (planned_totals ms))) (Err NotPlanned) answer) unplanned
+    ∙ none (is_begin stage)
+  where
+    none : (b : Bool) → cond ((b && false) && is_used_up (share_of k (begun_totals ms)) (share_of k (planned_totals ms))) (Err NotPlanned) answer ≡ answer
+    none true = refl
+    none false = refl
+
+pub next_step : (a : List ℕ) (k : Action) (stage : TimedStage) (s : Standing) (ms : List Message) → IsAmid ms → step_on k stage (length ms + 1) (standing_of a ms) ≡ Ok s
+    → next ms (step a k stage) ≡ Ok (step a k stage ∷ ms)
+next_step a k stage s ms amid e =
+    let later = step a k stage ∷ ms in
+    next_behind ms (step a k stage) amid.0 (λ first.
+    ap (λ (o : Option ℕ). option_map_or (λ line. Err (AfterSummary line)) o (step_on k stage (length ms + 1) (standing_of a ms) >>= λ standing. within_plan k stage ms (fine later))) amid.1
+    ∙ ap (λ (r : Result Standing Fault). r >>= λ standing. within_plan k stage ms (fine later)) e
+    ∙ within_none k stage ms (fine later) amid.2)
   where
     fine : List Message → Result (List Message) Fault
     fine later = Ok later
 
 -- ---- parts of what stands open then
 
-pub pending_same : (k : Action) (what : What) (line : ℕ) (q : Option Pending) (s : Standing) → pending_at k (step_in k what line q s) ≡ q
-pending_same Create Start line q s = refl
-pending_same Update Start line q s = refl
-pending_same Delete Start line q s = refl
-pending_same Read Start line q s = refl
-pending_same Create (Progress seconds) line q s = refl
-pending_same Update (Progress seconds) line q s = refl
-pending_same Delete (Progress seconds) line q s = refl
-pending_same Read (Progress seconds) line q s = refl
-pending_same Create (Complete seconds) line q s = refl
-pending_same Update (Complete seconds) line q s = refl
-pending_same Delete (Complete seconds) line q s = refl
-pending_same Read (Complete seconds) line q s = refl
-pending_same Create (Errored seconds) line q s = refl
-pending_same Update (Errored seconds) line q s = refl
-pending_same Delete (Errored seconds) line q s = refl
-pending_same Read (Errored seconds) line q s = refl
-
-owing_keeps : (l : Action) (what : What) (line : ℕ) (s : Standing) → pending_at l (owing what line s) ≡ pending_at l s
-owing_keeps l Start line s = refl
-owing_keeps l (Progress seconds) line s = refl
-owing_keeps l (Complete seconds) line s = refl
-owing_keeps Create (Errored seconds) line s = refl
-owing_keeps Update (Errored seconds) line s = refl
-owing_keeps Delete (Errored seconds) line s = refl
-owing_keeps Read (Errored seconds) line s = refl
+with_same : (k : Action) (q : Option Pending) (s : Standing) → pending_at k (with_pending k q s) ≡ q
+with_same Create q s = refl
+with_same Update q s = refl
+with_same Delete q s = refl
+with_same Read q s = refl
+with_same Refresh q s = refl
 
 with_keeps : (k l : Action) (q : Option Pending) (s : Standing) → same_action k l ≡ false → pending_at l (with_pending k q s) ≡ pending_at l s
 with_keeps Create Create q s e = absurd cc
 with_keeps Create Update q s e = refl
 with_keeps Create Delete q s e = refl
 with_keeps Create Read q s e = refl
+with_keeps Create Refresh q s e = refl
 with_keeps Update Create q s e = refl
 with_keeps Update Update q s e = absurd cc
 with_keeps Update Delete q s e = refl
 with_keeps Update Read q s e = refl
+with_keeps Update Refresh q s e = refl
 with_keeps Delete Create q s e = refl
 with_keeps Delete Update q s e = refl
 with_keeps Delete Delete q s e = absurd cc
 with_keeps Delete Read q s e = refl
+with_keeps Delete Refresh q s e = refl
 with_keeps Read Create q s e = refl
 with_keeps Read Update q s e = refl
 with_keeps Read Delete q s e = refl
 with_keeps Read Read q s e = absurd cc
+with_keeps Read Refresh q s e = refl
+with_keeps Refresh Create q s e = refl
+with_keeps Refresh Update q s e = refl
+with_keeps Refresh Delete q s e = refl
+with_keeps Refresh Read q s e = refl
+with_keeps Refresh Refresh q s e = absurd cc
 
-pub pending_other : (k l : Action) (what : What) (line : ℕ) (q : Option Pending) (s : Standing) → same_action k l ≡ false → pending_at l (step_in k what line q s) ≡ pending_at l s
-pending_other k l what line q s apart = owing_keeps l what line (with_pending k q s) ∙ with_keeps k l q s apart
+-- the failures, as they were or others
+abbrev failing : Option Failures → Standing → Standing
+failing failures s = record s { failures = failures }
+
+failing_keeps : (l : Action) (failures : Option Failures) (s : Standing) → pending_at l (failing failures s) ≡ pending_at l s
+failing_keeps Create failures s = refl
+failing_keeps Update failures s = refl
+failing_keeps Delete failures s = refl
+failing_keeps Read failures s = refl
+failing_keeps Refresh failures s = refl
+
+failed_keeps : (l k : Action) (stage : TimedStage) (line : ℕ) (s : Standing) → pending_at l (failed_by k stage line s) ≡ pending_at l s
+failed_keeps l k Start line s = refl
+failed_keeps l k (Progress seconds) line s = refl
+failed_keeps l k (Complete seconds) line s = refl
+failed_keeps l k (Errored seconds) line s = either (may_fail k)
+  where
+    either : (b : Bool) → pending_at l (cond b (failing (Some (one_failure_more line s.failures)) s) s) ≡ pending_at l s
+    either true = failing_keeps l (Some (one_failure_more line s.failures)) s
+    either false = refl
+
+pub pending_same : (k : Action) (stage : TimedStage) (line : ℕ) (q : Option Pending) (s : Standing) → pending_at k (step_in k stage line q s) ≡ q
+pending_same k stage line q s = failed_keeps k k stage line (with_pending k q s) ∙ with_same k q s
+
+pub pending_other : (k l : Action) (stage : TimedStage) (line : ℕ) (q : Option Pending) (s : Standing) → same_action k l ≡ false → pending_at l (step_in k stage line q s) ≡ pending_at l s
+pending_other k l stage line q s apart = failed_keeps l k stage line (with_pending k q s) ∙ with_keeps k l q s apart
 
 with_provisioner : (k : Action) (q : Option Pending) (s : Standing) → (with_pending k q s).provisioner ≡ s.provisioner
 with_provisioner Create q s = refl
 with_provisioner Update q s = refl
 with_provisioner Delete q s = refl
 with_provisioner Read q s = refl
+with_provisioner Refresh q s = refl
 
-pub provisioner_same : (k : Action) (what : What) (line : ℕ) (q : Option Pending) (s : Standing) → (step_in k what line q s).provisioner ≡ s.provisioner
+pub provisioner_same : (k : Action) (stage : TimedStage) (line : ℕ) (q : Option Pending) (s : Standing) → (step_in k stage line q s).provisioner ≡ s.provisioner
 provisioner_same k Start line q s = with_provisioner k q s
 provisioner_same k (Progress seconds) line q s = with_provisioner k q s
 provisioner_same k (Complete seconds) line q s = with_provisioner k q s
-provisioner_same k (Errored seconds) line q s = with_provisioner k q s
+provisioner_same k (Errored seconds) line q s = either (may_fail k) (with_pending k q s) ∙ with_provisioner k q s
+  where
+    either : (b : Bool) (t : Standing) → (cond b (failing (Some (one_failure_more line t.failures)) t) t).provisioner ≡ t.provisioner
+    either true t = refl
+    either false t = refl
 
-with_owed : (k : Action) (q : Option Pending) (s : Standing) → (with_pending k q s).owed ≡ s.owed
-with_owed Create q s = refl
-with_owed Update q s = refl
-with_owed Delete q s = refl
-with_owed Read q s = refl
+with_failures : (k : Action) (q : Option Pending) (s : Standing) → (with_pending k q s).failures ≡ s.failures
+with_failures Create q s = refl
+with_failures Update q s = refl
+with_failures Delete q s = refl
+with_failures Read q s = refl
+with_failures Refresh q s = refl
 
 -- it tells of no failure
-abbrev pub IsNoFailure : What → Type 0
+abbrev pub IsNoFailure : TimedStage → Type 0
 IsNoFailure Start = Unit {0}
 IsNoFailure (Progress seconds) = Unit {0}
 IsNoFailure (Complete seconds) = Unit {0}
 IsNoFailure (Errored seconds) = ⊥
 
-pub owed_same : (k : Action) (what : What) (line : ℕ) (q : Option Pending) (s : Standing) → IsNoFailure what → (step_in k what line q s).owed ≡ s.owed
-owed_same k Start line q s n = with_owed k q s
-owed_same k (Progress seconds) line q s n = with_owed k q s
-owed_same k (Complete seconds) line q s n = with_owed k q s
-owed_same k (Errored seconds) line q s n = absurd n
+pub failures_same : (k : Action) (stage : TimedStage) (line : ℕ) (q : Option Pending) (s : Standing) → IsNoFailure stage → (step_in k stage line q s).failures ≡ s.failures
+failures_same k Start line q s n = with_failures k q s
+failures_same k (Progress seconds) line q s n = with_failures k q s
+failures_same k (Complete seconds) line q s n = with_failures k q s
+failures_same k (Errored seconds) line q s n = absurd n
 
 -- ---- a provisioner
 
@@ -153,28 +195,28 @@ owed_same k (Errored seconds) line q s n = absurd n
 abbrev pub provisioner_in : Option ℕ → Standing → Standing
 provisioner_in running s = record s { provisioner = running }
 
-pub provision_there : (a : List ℕ) (part : Part) (s : Standing) (ms : List Message) → provision_on part (length ms + 1) (standing_of a ms) ≡ Ok s → standing_of a (provision a part ∷ ms) ≡ s
+pub provision_there : (a : List ℕ) (stage : Stage) (s : Standing) (ms : List Message) → provision_on stage (length ms + 1) (standing_of a ms) ≡ Ok s → standing_of a (provision a stage ∷ ms) ≡ s
 unfolding standing_of
-provision_there a part s ms e = rw (same_text a, e) refl
+provision_there a stage s ms e = rw (same_text a, e) refl
 
-pub provision_elsewhere : (a : List ℕ) (part : Part) (ms : List Message) (b : List ℕ) → bytes_eq a b ≡ false → standing_of b (provision a part ∷ ms) ≡ standing_of b ms
+pub provision_elsewhere : (a : List ℕ) (stage : Stage) (ms : List Message) (b : List ℕ) → bytes_eq a b ≡ false → standing_of b (provision a stage ∷ ms) ≡ standing_of b ms
 unfolding standing_of
-provision_elsewhere a part ms b apart = rw apart refl
+provision_elsewhere a stage ms b apart = rw apart refl
 
-pub next_provision : (a : List ℕ) (part : Part) (s : Standing) (ms : List Message) → IsBegun ms → list_any is_summary ms ≡ false
-    → provision_on part (length ms + 1) (standing_of a ms) ≡ Ok s → next ms (provision a part) ≡ Ok (provision a part ∷ ms)
-next_provision a part s [] begun before e = absurd begun
-next_provision a part s (m ∷ ms) begun before e =
-    ap (λ (b : Bool). cond b (Err AfterSummary) (provision_on part (length (m ∷ ms) + 1) (standing_of a (m ∷ ms)) >>= λ standing. fine (provision a part ∷ m ∷ ms))) before
-    ∙ ap (λ (r : Result Standing Fault). r >>= λ standing. fine (provision a part ∷ m ∷ ms)) e
+pub next_provision : (a : List ℕ) (stage : Stage) (s : Standing) (ms : List Message) → IsAmid ms → provision_on stage (length ms + 1) (standing_of a ms) ≡ Ok s → next ms (provision a stage) ≡ Ok (provision a stage ∷ ms)
+next_provision a stage s ms amid e =
+    let later = provision a stage ∷ ms in
+    next_behind ms (provision a stage) amid.0 (λ first.
+    ap (λ (o : Option ℕ). option_map_or (λ line. Err (AfterSummary line)) o (provision_on stage (length ms + 1) (standing_of a ms) >>= λ standing. fine later)) amid.1
+    ∙ ap (λ (r : Result Standing Fault). r >>= λ standing. fine later) e)
   where
     fine : List Message → Result (List Message) Fault
     fine later = Ok later
 
-pub provision_is : (part : Part) (line : ℕ) (s : Standing) (before running : Option ℕ) → may_provision s ≡ true → s.provisioner ≡ before → provisioned part line before ≡ Ok running → provision_on part line s ≡ Ok (provisioner_in running s)
-provision_is part line s before running may is e =
-    ap (λ (b : Bool). cond b (provisioned part line s.provisioner >>= λ r. fine (provisioner_in r s)) (Err NoStep)) may
-    ∙ ap (λ (o : Option ℕ). provisioned part line o >>= λ r. fine (provisioner_in r s)) is
+pub provision_is : (stage : Stage) (line : ℕ) (s : Standing) (before running : Option ℕ) → may_provision s ≡ true → s.provisioner ≡ before → provisioned stage line before ≡ Ok running → provision_on stage line s ≡ Ok (provisioner_in running s)
+provision_is stage line s before running may is e =
+    ap (λ (b : Bool). cond b (provisioned stage line s.provisioner >>= λ r. fine (provisioner_in r s)) (Err NoStep)) may
+    ∙ ap (λ (o : Option ℕ). provisioned stage line o >>= λ r. fine (provisioner_in r s)) is
     ∙ ap (λ (x : Result (Option ℕ) Fault). x >>= λ r. fine (provisioner_in r s)) e
   where
     fine : Standing → Result Standing Fault
@@ -185,6 +227,7 @@ pending_still Create running s = refl
 pending_still Update running s = refl
 pending_still Delete running s = refl
 pending_still Read running s = refl
+pending_still Refresh running s = refl
 
 -- ---- a diagnostic
 
@@ -196,15 +239,16 @@ pub diagnostic_elsewhere : (a : List ℕ) (e : Bool) (ms : List Message) (b : Li
 unfolding standing_of
 diagnostic_elsewhere a e ms b apart = rw apart refl
 
-pub next_diagnostic : (a : List ℕ) (e : Bool) (ms : List Message) → IsBegun ms → next ms (diagnostic e (Some a)) ≡ Ok (diagnostic e (Some a) ∷ ms)
-next_diagnostic a e [] begun = absurd begun
-next_diagnostic a e (m ∷ ms) begun = refl
+pub next_diagnostic : (a : List ℕ) (e : Bool) (ms : List Message) → IsAmid ms → next ms (diagnostic e (Some a)) ≡ Ok (diagnostic e (Some a) ∷ ms)
+next_diagnostic a e ms amid = next_behind ms (diagnostic e (Some a)) amid.0 (λ first. refl)
 
-pub explained_other : (l : Action) (e : Bool) (s : Standing) → l ≢ Read → pending_at l (explained e s) ≡ pending_at l s
-explained_other Create e s n = refl
-explained_other Update e s n = refl
-explained_other Delete e s n = refl
-explained_other Read e s n = absurd (n refl)
+pub explained_keeps : (l : Action) (e : Bool) (s : Standing) → pending_at l (explained e s) ≡ pending_at l s
+explained_keeps l true s = failing_keeps l None s
+explained_keeps l false s = refl
+
+pub provisioner_kept : (e : Bool) (s : Standing) → (explained e s).provisioner ≡ s.provisioner
+provisioner_kept true s = refl
+provisioner_kept false s = refl
 
 -- ---- actions
 
@@ -213,21 +257,31 @@ same_is Create Create e = refl
 same_is Create Update e = absurd cc
 same_is Create Delete e = absurd cc
 same_is Create Read e = absurd cc
+same_is Create Refresh e = absurd cc
 same_is Update Create e = absurd cc
 same_is Update Update e = refl
 same_is Update Delete e = absurd cc
 same_is Update Read e = absurd cc
+same_is Update Refresh e = absurd cc
 same_is Delete Create e = absurd cc
 same_is Delete Update e = absurd cc
 same_is Delete Delete e = refl
 same_is Delete Read e = absurd cc
+same_is Delete Refresh e = absurd cc
 same_is Read Create e = absurd cc
 same_is Read Update e = absurd cc
 same_is Read Delete e = absurd cc
 same_is Read Read e = refl
+same_is Read Refresh e = absurd cc
+same_is Refresh Create e = absurd cc
+same_is Refresh Update e = absurd cc
+same_is Refresh Delete e = absurd cc
+same_is Refresh Read e = absurd cc
+same_is Refresh Refresh e = refl
 
 pub same_itself : (k : Action) → same_action k k ≡ true
 same_itself Create = refl
 same_itself Update = refl
 same_itself Delete = refl
 same_itself Read = refl
+same_itself Refresh = refl

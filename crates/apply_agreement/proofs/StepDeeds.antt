@@ -7,7 +7,7 @@ use Rattle.apply_plan.specs.declared.plan.step_kind.StepKind.{StepKind}
 use Rattle.apply_plan.specs.Plan.SavedPlan.{SavedPlan}
 use Rattle.apply_hooks.specs.declared.phase.Phase as asked
 use Rattle.apply_hooks.specs.declared.phase.Phase.TheVariants.{Pre, PostDone}
-use Rattle.apply_check.specs.declared.action.Action.TheVariants.{Create}
+use Rattle.apply_check.specs.declared.messages.action.Action.TheVariants.{Create}
 use Rattle.apply_events.specs.declared.event.Event.{Event}
 use Rattle.apply_events.specs.declared.what.What.{What}
 use Rattle.apply_events.specs.declared.what.What.TheVariants.{Start, Halted}

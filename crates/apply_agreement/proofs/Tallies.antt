@@ -11,11 +11,12 @@ use Rattle.apply_plan.specs.declared.plan.step_kind.StepKind.{StepKind}
 use Rattle.apply_plan.specs.declared.plan.step_kind.StepKind.TheVariants.{Create, Update, Delete, Read}
 use Rattle.apply_plan.specs.Plan.SavedPlan.{SavedPlan}
 use Rattle.apply_plan.specs.Plan.StepKind.{is_kind}
-use Rattle.apply_check.specs.declared.fault.Fault.{Fault}
-use Rattle.apply_check.specs.declared.totals.Totals.{Totals}
-use Rattle.apply_check.specs.declared.whole.Whole.{Whole}
-use Rattle.apply_check.specs.Lines.{completes, is_error, totals_of, whole_of}
+use Rattle.apply_check.specs.declared.rules.fault.Fault.{Fault}
+use Rattle.apply_check.specs.declared.messages.totals.Totals.{Totals}
+use Rattle.apply_check.specs.declared.verdict.whole.Whole.{Whole}
+use Rattle.apply_check.specs.Lines.{whole_of}
 use Rattle.apply_check.specs.Message.{Message, version, summary}
+use Rattle.apply_check.specs.Tally.{completed_totals, completes, is_error}
 use Rattle.apply_check.specs.Words.{same_action}
 use Rattle.apply_events.specs.declared.event.Event.{Event}
 use Rattle.apply_events.specs.declared.what.What.{What}
@@ -30,11 +31,11 @@ use Rattle.apply_events.specs.Totals.{is_complete}
 use Rattle.apply_events.specs.WorkerEvents.{worker_events}
 use Rattle.apply_text.specs.Order.{as_written, hook_messages_of, notes_of}
 use Rattle.apply_agreement.specs.Accepted.{stream_told, totals_said, whole_stream}
-use Rattle.apply_agreement.specs.Passing.{verdict_on}
+use Rattle.apply_agreement.specs.Passing.{plain, verdict_on}
 use Rattle.apply_agreement.specs.Plans.{IsOrdinary, ProvisionsCreates}
 use Rattle.apply_agreement.specs.Told.{action_of, all_told, told}
 use Rattle.apply_agreement.proofs.ChangeDeeds.{change_written}
-use Rattle.apply_agreement.proofs.Deeds.{all_deeds, all_told_both, follows, hooks_are, notes_are, of_change_is, told_is}
+use Rattle.apply_agreement.proofs.Deeds.{all_deeds, all_told_both, follows, of_change_is, told_is}
 use Rattle.apply_agreement.proofs.Errors.{IsPlanned, errors_told}
 use Rattle.apply_agreement.proofs.Ordinary.{Anywhere, Does, apart, found, known}
 use Rattle.apply_agreement.proofs.Parts.{Each, IsListed, all_listed, each_weaker, each_written, part_of_change, part_of_kept}
@@ -109,7 +110,7 @@ counted plan kind es none =
     let rest = completed plan kind es in
     omega arith
 
-totals_are : (plan : SavedPlan) (es : List Event) → totals_said (events_are.totals_of plan es) ≡ totals_of (behind (version ∷ []) (all_told plan es))
+totals_are : (plan : SavedPlan) (es : List Event) → totals_said (events_are.totals_of plan es) ≡ completed_totals (behind (version ∷ []) (all_told plan es))
 totals_are plan es = same_counts (sym (counted plan Create es refl)) (sym (counted plan Update es refl)) (sym (counted plan Delete es refl))
 
 -- ---- lines
@@ -140,7 +141,7 @@ length_written es =
     let split = length-filter_both (λ (e : Event). is_note e.what) (λ e. not (is_note e.what)) (λ e. refl) es in
     omega arith
 
-totals_written : (plan : SavedPlan) (es : List Event) → totals_said (events_are.totals_of plan es) ≡ totals_of (behind (version ∷ []) (all_told plan (as_written es)))
+totals_written : (plan : SavedPlan) (es : List Event) → totals_said (events_are.totals_of plan es) ≡ completed_totals (behind (version ∷ []) (all_told plan (as_written es)))
 totals_written plan es =
     same_counts (sym (count_written (events_are.completes plan Create) es)) (sym (count_written (events_are.completes plan Update) es)) (sym (count_written (events_are.completes plan Delete) es))
     ∙ totals_are plan (as_written es)
@@ -148,13 +149,13 @@ totals_written plan es =
 -- ---- a run
 
 same_whole : {t u : Totals} {a b : Bool} {m n : ℕ} → t ≡ u → a ≡ b → m ≡ n
-    → (let one : Whole = record { totals = t; has_errors = a; lines = m } in one) ≡ (let other : Whole = record { totals = u; has_errors = b; lines = n } in other)
+    → (let one : Whole = record { totals = t; has_errors = a; lines = m; is_plan = false; passed = None } in one) ≡ (let other : Whole = record { totals = u; has_errors = b; lines = n; is_plan = false; passed = None } in other)
 same_whole p q r = cc
 
-whole_is : (plan : SavedPlan) (es : List Event) → length (all_told plan (as_written es)) ≡ length (as_written es)
+whole_is : (plans : Bool) (plan : SavedPlan) (es : List Event) → length (all_told plan (as_written es)) ≡ length (as_written es)
     → list_any is_error (all_told plan (as_written es)) ≡ nat_lt 0 ((events_are.totals_of plan es).failed + (events_are.totals_of plan es).halted)
-    → whole_of (summary (totals_said (events_are.totals_of plan es)) ∷ behind (version ∷ []) (all_told plan (as_written es))) ≡ whole_stream plan es
-whole_is plan es lines errors =
+    → whole_of (plain plans) (summary (totals_said (events_are.totals_of plan es)) ∷ behind (version ∷ []) (all_told plan (as_written es))) ≡ whole_stream plan es
+whole_is plans plan es lines errors =
     same_whole (sym (totals_written plan es)) (any_behind is_error (version ∷ []) (all_told plan (as_written es)) ∙ errors)
     (let all = length_behind (version ∷ []) (all_told plan (as_written es)) in let same = length_written es in let more : suc (length (behind (version ∷ []) (all_told plan (as_written es)))) ≡ length es + 2 = omega arith in more)
 
@@ -162,10 +163,10 @@ whole_is plan es lines errors =
 is_within : (plan : SavedPlan) (e : Event) → IsPlanned plan e → e.change < length plan.changes
 is_within plan e is = let change = found (slice_get plan.changes e.change) e.step is.0 is.1 in slice_get_within plan.changes e.change change.0 change.1
 
-pub run_accepted : (work : Work) (workers : ℕ) (lists : List (List ℕ)) (events : List Event) → IsOrdinary work.plan → ProvisionsCreates work.plan work.script → IsPartition workers (length work.plan.changes) lists
+pub run_accepted : (plans : Bool) (work : Work) (workers : ℕ) (lists : List (List ℕ)) (events : List Event) → IsOrdinary work.plan → ProvisionsCreates work.plan work.script → IsPartition workers (length work.plan.changes) lists
     → IsInterleaving workers (λ worker. worker_events work worker (slice_index_or lists worker [])) events
-    → verdict_on (stream_told work.plan events) ≡ Ok (whole_stream work.plan events)
-run_accepted work workers lists events ordinary provisioned dealt told_so =
+    → verdict_on (plain plans) (stream_told work.plan events) ≡ Ok (whole_stream work.plan events)
+run_accepted plans work workers lists events ordinary provisioned dealt told_so =
     let plan = work.plan in
     let limit = length plan.changes in
     let addresses = address_of plan in
@@ -173,7 +174,7 @@ run_accepted work workers lists events ordinary provisioned dealt told_so =
     let notes = all_deeds plan (notes_of events) in
     let ran : Runs limit addresses Anywhere (Does plan) (version ∷ []) (map (said addresses) hooks ++ map (said addresses) notes) =
     both_run limit addresses Anywhere (Does plan) ordinary.few (apart plan ordinary) hooks notes (λ c. between) (version ∷ []) (at_begin limit addresses (Does plan))
-    (known plan (hook_messages_of events)) (hooks_are plan events) (known plan (notes_of events)) (notes_are plan events)
+    (known plan (hook_messages_of events)) (known plan (notes_of events))
     (λ c less.
     let part = part_of_change work workers limit lists events dealt told_so c less in
     let written = change_written work provisioned part.0 c part.1 in
@@ -183,7 +184,7 @@ run_accepted work workers lists events ordinary provisioned dealt told_so =
     of_change_is plan c (notes_of events) ∙ ap (all_deeds plan) (part_of_kept c (λ e. is_note e.what) events ∙ ap notes_of part.2) in (
       written.phase,
       subst (λ (ds : List Deed). Follows between ds written.phase) (sym first) (follows plan between (hook_messages_of (change_events work part.0 c part.1)) written.phase written.hooks),
-      (written.still, subst (λ (ds : List Deed). Follows written.phase ds between) (sym second) (follows plan written.phase (notes_of (change_events work part.0 c part.1)) between written.notes)),
+      subst (λ (ds : List Deed). Follows written.phase ds between) (sym second) (follows plan written.phase (notes_of (change_events work part.0 c part.1)) between written.notes),
     )) in
     let same : map (said addresses) hooks ++ map (said addresses) notes ≡ all_told plan (as_written events) =
     ap (λ (l : List Message). l ++ map (said addresses) notes) (sym (told_is plan (hook_messages_of events)))
@@ -193,8 +194,8 @@ run_accepted work workers lists events ordinary provisioned dealt told_so =
     let planned = each_weaker (λ e. IsListed work (get_or lists e.worker []) e) (λ e. (kind : StepKind) × (slice_get (kinds_of plan e.change) e.step ≡ Some kind)) (λ e is. is.planned) events (all_listed work workers limit lists events dealt told_so) in
     let lines = all_lines plan (as_written events) (each_written (λ e. (kind : StepKind) × (slice_get (kinds_of plan e.change) e.step ≡ Some kind)) events planned) in
     let errors = errors_told work limit events (each_written (IsPlanned plan) events planned) (each_weaker (IsPlanned plan) (λ e. e.change < limit) (is_within plan) events planned) (part_of_change work workers limit lists events dealt told_so) in
-    accepted limit addresses (Does plan) (all_told plan (as_written events)) (totals_said (events_are.totals_of plan events)) ran_so (totals_written plan events)
-    ∙ ap (λ (w : Whole). fine w) (whole_is plan events lines errors)
+    accepted plans limit addresses (Does plan) (all_told plan (as_written events)) (totals_said (events_are.totals_of plan events)) ran_so (totals_written plan events)
+    ∙ ap (λ (w : Whole). fine w) (whole_is plans plan events lines errors)
   where
     fine : Whole → Result Whole Fault
     fine w = Ok w

@@ -2,12 +2,12 @@
 use Rattle.std.proofs.Common.{◌++◌, ◌≡◌, ◌≢◌, ℕ, ◌+◌, ◌<◌, ◌≤◌, List, [], ◌∷◌, length, map, is_some, Bool, true, false, cond, Option, Some, None, Result, Ok, refl, sym, ap, ◌∙◌, subst, ◌⊎◌, inl, inr, ⊎_elim, eq-eqb, ne_eqb, Err}
 use Rattle.std.specs.Prelude.{◌||◌}
 use Rattle.std.proofs.lemmas.Bool.{cases_eq}
-use Rattle.apply_check.specs.declared.action.Action.{Action}
-use Rattle.apply_check.specs.declared.action.Action.TheVariants.{Create, Delete, Read}
-use Rattle.apply_check.specs.declared.fault.Fault.{Fault}
-use Rattle.apply_check.specs.declared.part.Part.{Part}
-use Rattle.apply_check.specs.declared.part.Part.TheVariants as part
-use Rattle.apply_check.specs.declared.what.What.TheVariants as heard
+use Rattle.apply_check.specs.declared.messages.action.Action.{Action}
+use Rattle.apply_check.specs.declared.messages.action.Action.TheVariants.{Create, Delete}
+use Rattle.apply_check.specs.declared.rules.fault.Fault.{Fault}
+use Rattle.apply_check.specs.declared.messages.stage.Stage.{Stage}
+use Rattle.apply_check.specs.declared.messages.stage.Stage.TheVariants as stage
+use Rattle.apply_check.specs.declared.messages.timed_stage.TimedStage.TheVariants as heard
 use Rattle.apply_check.specs.Course.{max_overlap}
 use Rattle.apply_check.specs.Lines.{next}
 use Rattle.apply_check.specs.Message.{Message, step, provision, diagnostic}
@@ -16,13 +16,12 @@ use Rattle.apply_check.specs.Standing as standing
 use Rattle.apply_check.specs.Standing.{may_provision, pending_at, standing_of}
 use Rattle.apply_events.specs.declared.what.What.{What}
 use Rattle.apply_events.specs.declared.what.What.TheVariants.{Start, Progress, Complete, Errored, ErrorNote, WarnNote, Halted, ProvisionStart, ProvisionOutput, ProvisionComplete, ProvisionErrored}
-use Rattle.apply_events.specs.Diagnostics.{is_note}
 use Rattle.apply_agreement.specs.Passing.{with_all}
 use Rattle.apply_agreement.specs.Told.{told}
 use Rattle.apply_agreement.proofs.Counting.{counted, none_or_some}
 use Rattle.apply_agreement.proofs.Fitting.{begins, ends, something_open, tells}
 use Rattle.apply_agreement.proofs.Moves.{Agrees, Apart, Has, Moves, noted, not_running, provisioned, running, shown_here, shown_is, stepped}
-use Rattle.apply_agreement.proofs.Phases.{Deed, Follows, IsProvisioning, IsStill, Phase, between, under_way, unexplained, Turns, of_change, put, put_elsewhere, put_here, seconds_in, shown, shown_same}
+use Rattle.apply_agreement.proofs.Phases.{Deed, Follows, IsProvisioning, Phase, between, under_way, unexplained, Turns, of_change, put, put_elsewhere, put_here, seconds_in, shown, shown_same}
 use Rattle.apply_agreement.proofs.Standings.{provision_is}
 
 -- the message of what happens to a change
@@ -49,11 +48,6 @@ joined ms later (x ∷ xs) ys e = first (next ms x) (λ now. joined now later xs
 behind_both : (ms xs ys : List Message) → behind (behind ms xs) ys ≡ behind ms (xs ++ ys)
 behind_both ms [] ys = refl
 behind_both ms (x ∷ xs) ys = behind_both (x ∷ ms) xs ys
-
--- all of it is told by diagnostics, or none
-abbrev pub AllAre : Bool → List Deed → Type 0
-AllAre b [] = Unit {0}
-AllAre b (d ∷ ds) = (is_note d.what ≡ b) × AllAre b ds
 
 abbrev acts_as : Action → Phase → Action
 acts_as k between = k
@@ -127,7 +121,7 @@ module _ (limit : ℕ) (addresses : ℕ → List ℕ) (Within : List ℕ → Typ
 
     goes_on : (t s : ℕ) (b : Bool) → phases c ≡ under_way k t b → t < s → Goes (under_way k s b) (step (addresses c) k (heard.Progress s))
     goes_on t s b is more =
-        let answer = tells limit c k (shown addresses phases (addresses c) k) (shown addresses (put phases c (under_way k s b)) (addresses c) k) less (others (under_way k s b)) t s (pending_at k (standing_of (addresses c) ms))
+        let answer = tells limit c k (shown addresses phases (addresses c) k) (shown addresses (put phases c (under_way k s b)) (addresses c) k) less (others (under_way k s b)) t s (length ms + 1) (pending_at k (standing_of (addresses c) ms))
         (before (under_way k t b) is ∙ running k t b) more (now (under_way k s b) ∙ running k s b) (agrees.open_steps (addresses c) k within) in
         stepped limit addresses Within Does phases ms c k (heard.Progress s) (under_way k s b) answer.0 agrees less within answer.1 answer.2
         (λ l other. not_running k l s b other ∙ sym (ap (seconds_in l) is ∙ not_running k l t b other))
@@ -184,30 +178,30 @@ module _ (limit : ℕ) (addresses : ℕ → List ℕ) (Within : List ℕ → Typ
       runs_then : (t : ℕ) → Has limit addresses Within Does (put phases c (under_way k t true)) (addresses c)
       runs_then t = (c, less, refl, (t, put_here phases c (under_way k t true) ∙ ap (λ (m : Action). under_way m t true) creates))
 
-      provision_starts : (t : ℕ) → phases c ≡ under_way k t false → Goes (under_way k t true) (provision (addresses c) part.Start)
+      provision_starts : (t : ℕ) → phases c ≡ under_way k t false → Goes (under_way k t true) (provision (addresses c) stage.Start)
       provision_starts t is =
           let s = standing_of (addresses c) ms in
-          provisioned limit addresses Within Does phases ms c part.Start (under_way k t true) (Some (length ms + 1)) agrees less within
-          (provision_is part.Start (length ms + 1) s None (Some (length ms + 1)) (provisions_may t false is) (none_runs t is) refl)
+          provisioned limit addresses Within Does phases ms c stage.Start (under_way k t true) (Some (length ms + 1)) agrees less within
+          (provision_is stage.Start (length ms + 1) s None (Some (length ms + 1)) (provisions_may t false is) (none_runs t is) refl)
           (λ l. sym (ap (seconds_in l) is))
           (λ u l b e. does_then u l t true b e)
           (λ u. absurd (let f : under_way k t false ≡ unexplained = sym is ∙ u in cc))
           (λ _. runs_then t)
           (λ d there p. refl)
 
-      provision_goes_on : (t : ℕ) → phases c ≡ under_way k t true → Goes (under_way k t true) (provision (addresses c) part.Progress)
+      provision_goes_on : (t : ℕ) → phases c ≡ under_way k t true → Goes (under_way k t true) (provision (addresses c) stage.Progress)
       provision_goes_on t is =
           let s = standing_of (addresses c) ms in
           let one = one_runs t is in
-          provisioned limit addresses Within Does phases ms c part.Progress (under_way k t true) (Some one.0) agrees less within
-          (provision_is part.Progress (length ms + 1) s (Some one.0) (Some one.0) (provisions_may t true is) one.1 refl)
+          provisioned limit addresses Within Does phases ms c stage.Progress (under_way k t true) (Some one.0) agrees less within
+          (provision_is stage.Progress (length ms + 1) s (Some one.0) (Some one.0) (provisions_may t true is) one.1 refl)
           (λ l. sym (ap (seconds_in l) is))
           (λ u l b e. does_then u l t true b e)
           (λ u. absurd (let f : under_way k t true ≡ unexplained = sym is ∙ u in cc))
           (λ _. runs_then t)
           (λ d there p. refl)
 
-      provision_ends : (end : Part) → ((line x : ℕ) → standing.provisioned end line (Some x) ≡ Ok None) → (t : ℕ) → phases c ≡ under_way k t true → Goes (under_way k t false) (provision (addresses c) end)
+      provision_ends : (end : Stage) → ((line x : ℕ) → standing.provisioned end line (Some x) ≡ Ok None) → (t : ℕ) → phases c ≡ under_way k t true → Goes (under_way k t false) (provision (addresses c) end)
       provision_ends end is_end t is =
           let s = standing_of (addresses c) ms in
           let one = one_runs t is in
@@ -223,74 +217,58 @@ module _ (limit : ℕ) (addresses : ℕ → List ℕ) (Within : List ℕ → Typ
           (λ elsewhere. alone d elsewhere there (subst IsProvisioning (put_elsewhere phases c (under_way k t false) d elsewhere) p))
           (cases_eq d c)))
 
-    -- nothing is under way
-    module _ (still : (b : ℕ) → b < limit → IsStill (phases b)) where
-      no_reads : (b x : ℕ) (p : Bool) → b < limit → phases b ≢ under_way Read x p
-      no_reads b x p l e = subst IsStill e (still b l)
+    tells_error : (p : Phase) → phases c ≡ p → ((l : Action) → seconds_in l p ≡ None) → Goes between (diagnostic true (Some (addresses c)))
+    tells_error p is none =
+        noted limit addresses Within Does phases ms c true between agrees less within (λ l. refl) (λ l. ap (seconds_in l) is ∙ none l) (inl refl)
 
-      tells_error : (p : Phase) → phases c ≡ p → ((l : Action) → seconds_in l p ≡ None) → Goes between (diagnostic true (Some (addresses c)))
-      tells_error p is none =
-          noted limit addresses Within Does phases ms c true between agrees less within no_reads (λ l. refl) (λ l. ap (seconds_in l) is ∙ none l) (inl refl)
-
-      tells_warning : (p : Phase) → phases c ≡ p → ((l : Action) → seconds_in l p ≡ None) → Goes p (diagnostic false (Some (addresses c)))
-      tells_warning p is none =
-          noted limit addresses Within Does phases ms c false p agrees less within no_reads none (λ l. ap (seconds_in l) is ∙ none l) (inr (sym is))
-
-      pub note_turns : (p : Phase) (what : What) (q : Phase) → is_note what ≡ true → phases c ≡ p → Turns p k what q → Goes q (told (addresses c) k what) × IsStill q
-      note_turns between ErrorNote q note is turn = (subst (λ (x : Phase). Goes x (diagnostic true (Some (addresses c)))) (sym turn) (tells_error between is (λ l. refl)), subst IsStill (sym turn) tt)
-      note_turns between WarnNote q note is turn = (subst (λ (x : Phase). Goes x (diagnostic false (Some (addresses c)))) (sym turn) (tells_warning between is (λ l. refl)), subst IsStill (sym turn) tt)
-      note_turns between (Halted phase hook) q note is turn = (subst (λ (x : Phase). Goes x (diagnostic true (Some (addresses c)))) (sym turn) (tells_error between is (λ l. refl)), subst IsStill (sym turn) tt)
-      note_turns unexplained ErrorNote q note is turn = (subst (λ (x : Phase). Goes x (diagnostic true (Some (addresses c)))) (sym turn) (tells_error unexplained is (λ l. refl)), subst IsStill (sym turn) tt)
-      note_turns unexplained WarnNote q note is turn = (subst (λ (x : Phase). Goes x (diagnostic false (Some (addresses c)))) (sym turn) (tells_warning unexplained is (λ l. refl)), subst IsStill (sym turn) tt)
-      note_turns unexplained (Halted phase hook) q note is turn = (subst (λ (x : Phase). Goes x (diagnostic true (Some (addresses c)))) (sym turn) (tells_error unexplained is (λ l. refl)), subst IsStill (sym turn) tt)
-      note_turns (under_way l t b) what q note is turn = absurd (subst IsStill is (still c less))
-      note_turns p Start q note is turn = absurd cc
-      note_turns p (Progress s) q note is turn = absurd cc
-      note_turns p (Complete s) q note is turn = absurd cc
-      note_turns p (Errored s) q note is turn = absurd cc
-      note_turns p (ProvisionStart i) q note is turn = absurd cc
-      note_turns p (ProvisionOutput i line) q note is turn = absurd cc
-      note_turns p (ProvisionComplete i) q note is turn = absurd cc
-      note_turns p (ProvisionErrored i) q note is turn = absurd cc
+    tells_warning : (p : Phase) → phases c ≡ p → ((l : Action) → seconds_in l p ≡ None) → Goes p (diagnostic false (Some (addresses c)))
+    tells_warning p is none =
+        noted limit addresses Within Does phases ms c false p agrees less within none (λ l. ap (seconds_in l) is ∙ none l) (inr (sym is))
 
     exactly : (l : Action) (t : ℕ) (b wanted : Bool) → phases c ≡ under_way l t b → l ≡ k → b ≡ wanted → phases c ≡ under_way k t wanted
     exactly l t b wanted is same flag = is ∙ ap (λ (x : Action). under_way x t b) same ∙ ap (under_way k t) flag
 
-    pub hook_turns : (p : Phase) (what : What) (q : Phase) → is_note what ≡ false → phases c ≡ p → Turns p k what q → Goes q (told (addresses c) k what)
-    hook_turns between Start q hook is turn = subst (λ (x : Phase). Goes x (step (addresses c) k heard.Start)) (sym turn) (starts is)
-    hook_turns (under_way l t b) (Progress s) q hook is turn =
+    pub turns : (p : Phase) (what : What) (q : Phase) → phases c ≡ p → Turns p k what q → Goes q (told (addresses c) k what)
+    turns between Start q is turn = subst (λ (x : Phase). Goes x (step (addresses c) k heard.Start)) (sym turn) (starts is)
+    turns (under_way l t b) (Progress s) q is turn =
         subst (λ (x : Phase). Goes x (step (addresses c) k (heard.Progress s))) (sym turn.2) (goes_on t s b (is ∙ ap (λ (x : Action). under_way x t b) turn.0) turn.1)
-    hook_turns (under_way l t b) (Complete s) q hook is turn =
+    turns (under_way l t b) (Complete s) q is turn =
         subst (λ (x : Phase). Goes x (step (addresses c) k (heard.Complete s))) (sym turn.3) (completes t s (exactly l t b false is turn.0 turn.1) turn.2)
-    hook_turns (under_way l t b) (Errored s) q hook is turn =
+    turns (under_way l t b) (Errored s) q is turn =
         subst (λ (x : Phase). Goes x (step (addresses c) k (heard.Errored s))) (sym turn.3) (fails t s (exactly l t b false is turn.0 turn.1) turn.2)
-    hook_turns (under_way l t b) (ProvisionStart i) q hook is turn =
-        subst (λ (x : Phase). Goes x (provision (addresses c) part.Start)) (sym turn.3) (provision_starts turn.1 t (exactly l t b false is turn.0 turn.2))
-    hook_turns (under_way l t b) (ProvisionOutput i line) q hook is turn =
-        subst (λ (x : Phase). Goes x (provision (addresses c) part.Progress)) (sym turn.3) (provision_goes_on turn.1 t (exactly l t b true is turn.0 turn.2))
-    hook_turns (under_way l t b) (ProvisionComplete i) q hook is turn =
-        subst (λ (x : Phase). Goes x (provision (addresses c) part.Complete)) (sym turn.3) (provision_ends turn.1 part.Complete (λ line x. refl) t (exactly l t b true is turn.0 turn.2))
-    hook_turns (under_way l t b) (ProvisionErrored i) q hook is turn =
-        subst (λ (x : Phase). Goes x (provision (addresses c) part.Errored)) (sym turn.3) (provision_ends turn.1 part.Errored (λ line x. refl) t (exactly l t b true is turn.0 turn.2))
-    hook_turns between (Progress s) q hook is turn = absurd turn
-    hook_turns between (Complete s) q hook is turn = absurd turn
-    hook_turns between (Errored s) q hook is turn = absurd turn
-    hook_turns between (ProvisionStart i) q hook is turn = absurd turn
-    hook_turns between (ProvisionOutput i line) q hook is turn = absurd turn
-    hook_turns between (ProvisionComplete i) q hook is turn = absurd turn
-    hook_turns between (ProvisionErrored i) q hook is turn = absurd turn
-    hook_turns (under_way l t b) Start q hook is turn = absurd turn
-    hook_turns unexplained Start q hook is turn = absurd turn
-    hook_turns unexplained (Progress s) q hook is turn = absurd turn
-    hook_turns unexplained (Complete s) q hook is turn = absurd turn
-    hook_turns unexplained (Errored s) q hook is turn = absurd turn
-    hook_turns unexplained (ProvisionStart i) q hook is turn = absurd turn
-    hook_turns unexplained (ProvisionOutput i line) q hook is turn = absurd turn
-    hook_turns unexplained (ProvisionComplete i) q hook is turn = absurd turn
-    hook_turns unexplained (ProvisionErrored i) q hook is turn = absurd turn
-    hook_turns p ErrorNote q hook is turn = absurd cc
-    hook_turns p WarnNote q hook is turn = absurd cc
-    hook_turns p (Halted phase hook_number) q hook is turn = absurd cc
+    turns (under_way l t b) (ProvisionStart i) q is turn =
+        subst (λ (x : Phase). Goes x (provision (addresses c) stage.Start)) (sym turn.3) (provision_starts turn.1 t (exactly l t b false is turn.0 turn.2))
+    turns (under_way l t b) (ProvisionOutput i line) q is turn =
+        subst (λ (x : Phase). Goes x (provision (addresses c) stage.Progress)) (sym turn.3) (provision_goes_on turn.1 t (exactly l t b true is turn.0 turn.2))
+    turns (under_way l t b) (ProvisionComplete i) q is turn =
+        subst (λ (x : Phase). Goes x (provision (addresses c) stage.Complete)) (sym turn.3) (provision_ends turn.1 stage.Complete (λ line x. refl) t (exactly l t b true is turn.0 turn.2))
+    turns (under_way l t b) (ProvisionErrored i) q is turn =
+        subst (λ (x : Phase). Goes x (provision (addresses c) stage.Errored)) (sym turn.3) (provision_ends turn.1 stage.Errored (λ line x. refl) t (exactly l t b true is turn.0 turn.2))
+    turns between ErrorNote q is turn = subst (λ (x : Phase). Goes x (diagnostic true (Some (addresses c)))) (sym turn) (tells_error between is (λ l. refl))
+    turns between WarnNote q is turn = subst (λ (x : Phase). Goes x (diagnostic false (Some (addresses c)))) (sym turn) (tells_warning between is (λ l. refl))
+    turns between (Halted phase hook) q is turn = subst (λ (x : Phase). Goes x (diagnostic true (Some (addresses c)))) (sym turn) (tells_error between is (λ l. refl))
+    turns unexplained ErrorNote q is turn = subst (λ (x : Phase). Goes x (diagnostic true (Some (addresses c)))) (sym turn) (tells_error unexplained is (λ l. refl))
+    turns unexplained WarnNote q is turn = subst (λ (x : Phase). Goes x (diagnostic false (Some (addresses c)))) (sym turn) (tells_warning unexplained is (λ l. refl))
+    turns unexplained (Halted phase hook) q is turn = subst (λ (x : Phase). Goes x (diagnostic true (Some (addresses c)))) (sym turn) (tells_error unexplained is (λ l. refl))
+    turns between (Progress s) q is turn = absurd turn
+    turns between (Complete s) q is turn = absurd turn
+    turns between (Errored s) q is turn = absurd turn
+    turns between (ProvisionStart i) q is turn = absurd turn
+    turns between (ProvisionOutput i line) q is turn = absurd turn
+    turns between (ProvisionComplete i) q is turn = absurd turn
+    turns between (ProvisionErrored i) q is turn = absurd turn
+    turns (under_way l t b) Start q is turn = absurd turn
+    turns unexplained Start q is turn = absurd turn
+    turns unexplained (Progress s) q is turn = absurd turn
+    turns unexplained (Complete s) q is turn = absurd turn
+    turns unexplained (Errored s) q is turn = absurd turn
+    turns unexplained (ProvisionStart i) q is turn = absurd turn
+    turns unexplained (ProvisionOutput i line) q is turn = absurd turn
+    turns unexplained (ProvisionComplete i) q is turn = absurd turn
+    turns unexplained (ProvisionErrored i) q is turn = absurd turn
+    turns (under_way l t b) ErrorNote q is turn = absurd turn
+    turns (under_way l t b) WarnNote q is turn = absurd turn
+    turns (under_way l t b) (Halted phase hook) q is turn = absurd turn
 
   -- ---- all that happens
 
@@ -328,32 +306,20 @@ module _ (limit : ℕ) (addresses : ℕ → List ℕ) (Within : List ℕ → Typ
   none_more : (After : ℕ → Phase → Type 0) (phases : ℕ → Phase) (ms : List Message) → Agrees limit addresses Within Does phases ms → Courses After phases [] → Ran After ms []
   none_more After phases ms agrees courses = (refl, (phases, agrees, λ c l. let its = courses c l in subst (After c) (sym its.1) its.2))
 
-  pub hooks_run : (After : ℕ → Phase → Type 0) (ds : List Deed) (phases : ℕ → Phase) (ms : List Message) → Agrees limit addresses Within Does phases ms → AllKnown limit addresses Within Does ds → AllAre false ds
+  all_run : (After : ℕ → Phase → Type 0) (ds : List Deed) (phases : ℕ → Phase) (ms : List Message) → Agrees limit addresses Within Does phases ms → AllKnown limit addresses Within Does ds
       → Courses After phases ds → Ran After ms (map (said addresses) ds)
-  hooks_run After [] phases ms agrees known hooks courses = none_more After phases ms agrees courses
-  hooks_run After (d ∷ ds) phases ms agrees known hooks courses =
+  all_run After [] phases ms agrees known courses = none_more After phases ms agrees courses
+  all_run After (d ∷ ds) phases ms agrees known courses =
       let first = first_follows After phases d ds courses known.0.0 in
-      let here = hook_turns phases ms d.change d.action agrees known.0.0 known.0.1 known.0.2 (phases d.change) d.what first.0 hooks.0 refl first.1 in
-      one_more After ms (said addresses d) (map (said addresses) ds) here.0 (hooks_run After ds (put phases d.change first.0) (said addresses d ∷ ms) here.1 known.1 hooks.1 first.2)
+      let here = turns phases ms d.change d.action agrees known.0.0 known.0.1 known.0.2 (phases d.change) d.what first.0 refl first.1 in
+      one_more After ms (said addresses d) (map (said addresses) ds) here.0 (all_run After ds (put phases d.change first.0) (said addresses d ∷ ms) here.1 known.1 first.2)
 
-  pub notes_run : (After : ℕ → Phase → Type 0) (ds : List Deed) (phases : ℕ → Phase) (ms : List Message) → Agrees limit addresses Within Does phases ms → AllKnown limit addresses Within Does ds → AllAre true ds
-      → ((b : ℕ) → b < limit → IsStill (phases b)) → Courses After phases ds → Ran After ms (map (said addresses) ds)
-  notes_run After [] phases ms agrees known notes still courses = none_more After phases ms agrees courses
-  notes_run After (d ∷ ds) phases ms agrees known notes still courses =
-      let first = first_follows After phases d ds courses known.0.0 in
-      let here = note_turns phases ms d.change d.action agrees known.0.0 known.0.1 known.0.2 still (phases d.change) d.what first.0 notes.0 refl first.1 in
-      let still_then : (b : ℕ) → b < limit → IsStill (put phases d.change first.0 b) = λ b l. ⊎_elim
-      (λ (same : b ≡ d.change). subst IsStill (sym (ap (put phases d.change first.0) same ∙ put_here phases d.change first.0)) here.1)
-      (λ (elsewhere : b ≢ d.change). subst IsStill (sym (put_elsewhere phases d.change first.0 b elsewhere)) (still b l))
-      (cases_eq b d.change) in
-      one_more After ms (said addresses d) (map (said addresses) ds) here.0.0 (notes_run After ds (put phases d.change first.0) (said addresses d ∷ ms) here.0.1 known.1 notes.1 still_then first.2)
-
-  pub both_run : (hs ns : List Deed) (phases : ℕ → Phase) (ms : List Message) → Agrees limit addresses Within Does phases ms → AllKnown limit addresses Within Does hs → AllAre false hs → AllKnown limit addresses Within Does ns → AllAre true ns
-      → ((c : ℕ) → c < limit → (q : Phase) × Follows (phases c) (of_change c hs) q × (IsStill q × Follows q (of_change c ns) between))
+  pub both_run : (hs ns : List Deed) (phases : ℕ → Phase) (ms : List Message) → Agrees limit addresses Within Does phases ms → AllKnown limit addresses Within Does hs → AllKnown limit addresses Within Does ns
+      → ((c : ℕ) → c < limit → (q : Phase) × Follows (phases c) (of_change c hs) q × Follows q (of_change c ns) between)
       → Runs limit addresses Within Does ms (map (said addresses) hs ++ map (said addresses) ns)
-  both_run hs ns phases ms agrees known hooks known_too notes courses =
-      let front = hooks_run (λ c q. IsStill q × Follows q (of_change c ns) between) hs phases ms agrees known hooks courses in
-      let back = notes_run (λ c q. q ≡ between) ns front.1.0 (behind ms (map (said addresses) hs)) front.1.1 known_too notes (λ c l. (front.1.2 c l).0) (λ c l. (between, (front.1.2 c l).1, refl)) in
+  both_run hs ns phases ms agrees known known_too courses =
+      let front = all_run (λ c q. Follows q (of_change c ns) between) hs phases ms agrees known courses in
+      let back = all_run (λ c q. q ≡ between) ns front.1.0 (behind ms (map (said addresses) hs)) front.1.1 known_too (λ c l. (between, front.1.2 c l, refl)) in
       let same : behind (behind ms (map (said addresses) hs)) (map (said addresses) ns) ≡ behind ms (map (said addresses) hs ++ map (said addresses) ns) = behind_both ms (map (said addresses) hs) (map (said addresses) ns) in (
         joined ms (behind ms (map (said addresses) hs)) (map (said addresses) hs) (map (said addresses) ns) front.0 ∙ back.0 ∙ ap (λ (l : List Message). fine l) same,
         (back.1.0, subst (λ (l : List Message). Agrees limit addresses Within Does back.1.0 l) same back.1.1, back.1.2),

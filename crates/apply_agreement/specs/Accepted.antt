@@ -1,8 +1,8 @@
 -- What a checker is to answer to the stream of some events.
-use Rattle.std.specs.Prelude.{◌+◌, List, [], ◌∷◌, ◌++◌, length, nat_lt}
+use Rattle.std.specs.Prelude.{◌+◌, List, [], ◌∷◌, ◌++◌, false, length, nat_lt, None}
 use Rattle.apply_plan.specs.Plan.SavedPlan.{SavedPlan}
-use Rattle.apply_check.specs.declared.totals.Totals.{Totals}
-use Rattle.apply_check.specs.declared.whole.Whole.{Whole}
+use Rattle.apply_check.specs.declared.messages.totals.Totals.{Totals}
+use Rattle.apply_check.specs.declared.verdict.whole.Whole.{Whole}
 use Rattle.apply_check.specs.Message.{Message, version, summary}
 use Rattle.apply_events.specs.declared.counts.Counts.{Counts}
 use Rattle.apply_events.specs.declared.event.Event.{Event}
@@ -20,10 +20,12 @@ stream_told plan taken =
     version ∷ (all_told plan (as_written taken) ++ summary (totals_said (totals_of plan taken)) ∷ [])
 
 -- the stream is whole: the totals are the events', it tells of an error where a step failed or was halted, and the
--- lines are those of the events, the version and the summary
+-- lines are those of the events, the version and the summary, none of which is passed over
 abbrev pub whole_stream : SavedPlan → (taken : List Event) → Whole
 whole_stream plan taken = record {
   totals = totals_said (totals_of plan taken);
   has_errors = nat_lt 0 ((totals_of plan taken).failed + (totals_of plan taken).halted);
   lines = length taken + 2;
+  is_plan = false;
+  passed = None;
 }

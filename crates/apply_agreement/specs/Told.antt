@@ -4,10 +4,10 @@ use Rattle.std.specs.Option.{option_map_or}
 use Rattle.apply_plan.specs.declared.plan.step_kind.StepKind.{StepKind}
 use Rattle.apply_plan.specs.declared.plan.step_kind.StepKind.TheVariants as kind
 use Rattle.apply_plan.specs.Plan.SavedPlan.{SavedPlan}
-use Rattle.apply_check.specs.declared.action.Action.{Action}
-use Rattle.apply_check.specs.declared.action.Action.TheVariants as action
-use Rattle.apply_check.specs.declared.part.Part.TheVariants as part
-use Rattle.apply_check.specs.declared.what.What.TheVariants as heard
+use Rattle.apply_check.specs.declared.messages.action.Action.{Action}
+use Rattle.apply_check.specs.declared.messages.action.Action.TheVariants as action
+use Rattle.apply_check.specs.declared.messages.stage.Stage.TheVariants as stage
+use Rattle.apply_check.specs.declared.messages.timed_stage.TimedStage.TheVariants as heard
 use Rattle.apply_check.specs.Message.{Message, step, provision, diagnostic}
 use Rattle.apply_events.specs.declared.event.Event.{Event}
 use Rattle.apply_events.specs.declared.what.What.{What}
@@ -30,10 +30,10 @@ told address does (Errored seconds) = step address does (heard.Errored seconds)
 told address does ErrorNote = diagnostic true (Some address)
 told address does WarnNote = diagnostic false (Some address)
 told address does (Halted phase hook) = diagnostic true (Some address)
-told address does (ProvisionStart i) = provision address part.Start
-told address does (ProvisionOutput i line) = provision address part.Progress
-told address does (ProvisionComplete i) = provision address part.Complete
-told address does (ProvisionErrored i) = provision address part.Errored
+told address does (ProvisionStart i) = provision address stage.Start
+told address does (ProvisionOutput i line) = provision address stage.Progress
+told address does (ProvisionComplete i) = provision address stage.Complete
+told address does (ProvisionErrored i) = provision address stage.Errored
 
 -- what is told of an event; nothing where the plan has no such step
 abbrev pub told_of : SavedPlan → Event → List Message

@@ -1,11 +1,12 @@
 //! Laws of plans and scripts that were read from bytes, and of the streams of their runs. Each function only calls the
-//! laws that its own follows from.
+//! laws that its own follows from. The checker takes each line for a message (`plain`), and the stream of a plan for
+//! whole too or not.
 
-ghost use Rattle.std.specs.Prelude.{◌≡◌, ◌≤◌, ◌*◌, ℕ, List, [], Some, length, slice_index_or, Ok};
+ghost use Rattle.std.specs.Prelude.{◌≡◌, ◌≤◌, ◌*◌, ℕ, Bool, List, [], Some, length, slice_index_or, Ok};
 ghost use Rattle.apply_plan.specs.Plan.SavedPlan.{SavedPlan};
 ghost use Rattle.apply_plan.specs.Script.Outcomes.{Outcomes};
 ghost use Rattle.apply_hooks.specs.Hooks.{max_hooks};
-ghost use Rattle.apply_check.specs.Cut.{lines_of};
+ghost use Rattle.apply_check.specs.Cut.{cut_lines};
 ghost use Rattle.apply_check.specs.Lines.{verdict_of};
 ghost use Rattle.apply_events.specs.declared.event.Event.{Event};
 ghost use Rattle.apply_events.specs.Interleaving.{IsInterleaving};
@@ -22,6 +23,7 @@ ghost use Rattle.apply_run.specs.Lanes.{WasAppliedInLanes};
 ghost use Rattle.apply_run.specs.Run.{Sight};
 ghost use Rattle.apply_agreement.specs.Accepted.{whole_stream};
 ghost use Rattle.apply_agreement.specs.Applied.{HasShortLines, whole_reported};
+ghost use Rattle.apply_agreement.specs.Passing.{plain};
 ghost use Rattle.apply_agreement.specs.Plans.{DeletesDeposed, IsOrdinary, ProvisionsCreates};
 ghost use Rattle.apply_agreement.specs.Texts.{HasTexts};
 
@@ -88,13 +90,13 @@ pub fn every_event_of_a_run_fits()
 /// with 32 hooks at most, whatever the hooks: no more is asked than that deposed objects are only deleted and that no
 /// line of the stream is longer than 64 MiB.
 pub fn every_stream_of_what_was_read_is_accepted()
-    ensures { (given : Given) (work : Work) (workers start : ℕ) (lists : List (List ℕ)) (events : List Event)
-        (operation : Operation) → IsRead given work.plan work.script → DeletesDeposed work.plan
+    ensures { (plans : Bool) (given : Given) (work : Work) (workers start : ℕ) (lists : List (List ℕ))
+        (events : List Event) (operation : Operation) → IsRead given work.plan work.script → DeletesDeposed work.plan
         → workers ≤ 64 → length work.hooks ≤ max_hooks
         → IsPartition workers (length work.plan.changes) lists
         → IsInterleaving workers (λ worker. worker_events work worker (slice_index_or lists worker [])) events
         → HasShortLines (stream_of work.plan work.script start operation events)
-        → verdict_of (lines_of (stream_of work.plan work.script start operation events))
+        → verdict_of (plain plans) (cut_lines (stream_of work.plan work.script start operation events))
         ≡ Ok (whole_stream work.plan events) }
 {
     a_line_has_one_line_feed();
@@ -113,17 +115,17 @@ pub fn every_stream_of_what_was_read_is_accepted()
 /// deletes deposed objects, that there are no more hooks than a registry holds, and that no line is longer than 64 MiB.
 /// Where a sink tells its bytes and had none before, it is those bytes that are accepted.
 pub fn every_applied_stream_is_accepted()
-    ensures stream { (given : Given) (options : Options) (report : Report) (before after : Sight)
+    ensures stream { (plans : Bool) (given : Given) (options : Options) (report : Report) (before after : Sight)
         (applied : WasApplied given options report before after)
         → DeletesDeposed applied.plan → length given.hooks ≤ max_hooks
         → HasShortLines (stream_of applied.plan applied.script options.start options.operation applied.streamed.events)
-        → verdict_of (lines_of (stream_of applied.plan applied.script options.start options.operation
+        → verdict_of (plain plans) (cut_lines (stream_of applied.plan applied.script options.start options.operation
         applied.streamed.events)) ≡ Ok (whole_reported report) }
-    ensures bytes { (given : Given) (options : Options) (report : Report) (before after : Sight) (bytes : List ℕ)
-        (applied : WasApplied given options report before after)
+    ensures bytes { (plans : Bool) (given : Given) (options : Options) (report : Report) (before after : Sight)
+        (bytes : List ℕ) (applied : WasApplied given options report before after)
         → DeletesDeposed applied.plan → length given.hooks ≤ max_hooks
         → before.bytes ≡ Some [] → after.bytes ≡ Some bytes → HasShortLines bytes
-        → verdict_of (lines_of bytes) ≡ Ok (whole_reported report) }
+        → verdict_of (plain plans) (cut_lines bytes) ≡ Ok (whole_reported report) }
 {
     every_stream_of_what_was_read_is_accepted();
 }
@@ -131,17 +133,17 @@ pub fn every_applied_stream_is_accepted()
 /// What `apply_bytes_in_lanes` of `apply_run` writes a checker accepts as well, on the same three conditions, and says of it
 /// what the report says.
 pub fn every_stream_applied_in_lanes_is_accepted()
-    ensures stream { (given : Given) (lanes start : ℕ) (operation : Operation) (report : Report) (before after : Sight)
-        (applied : WasAppliedInLanes given lanes start operation report before after)
+    ensures stream { (plans : Bool) (given : Given) (lanes start : ℕ) (operation : Operation) (report : Report)
+        (before after : Sight) (applied : WasAppliedInLanes given lanes start operation report before after)
         → DeletesDeposed applied.plan → length given.hooks ≤ max_hooks
         → HasShortLines (stream_of applied.plan applied.script start operation applied.streamed.events)
-        → verdict_of (lines_of (stream_of applied.plan applied.script start operation applied.streamed.events))
-        ≡ Ok (whole_reported report) }
-    ensures bytes { (given : Given) (lanes start : ℕ) (operation : Operation) (report : Report) (before after : Sight)
-        (bytes : List ℕ) (applied : WasAppliedInLanes given lanes start operation report before after)
+        → verdict_of (plain plans) (cut_lines (stream_of applied.plan applied.script start operation
+        applied.streamed.events)) ≡ Ok (whole_reported report) }
+    ensures bytes { (plans : Bool) (given : Given) (lanes start : ℕ) (operation : Operation) (report : Report)
+        (before after : Sight) (bytes : List ℕ) (applied : WasAppliedInLanes given lanes start operation report before after)
         → DeletesDeposed applied.plan → length given.hooks ≤ max_hooks
         → before.bytes ≡ Some [] → after.bytes ≡ Some bytes → HasShortLines bytes
-        → verdict_of (lines_of bytes) ≡ Ok (whole_reported report) }
+        → verdict_of (plain plans) (cut_lines bytes) ≡ Ok (whole_reported report) }
 {
     lanes_deal_out_the_changes();
     every_stream_of_what_was_read_is_accepted();

@@ -1,14 +1,15 @@
-//! Laws of streams that are written here and checked there. Each function does nothing; its contract is the law.
+//! Laws of streams that are written here and checked there. Each function does nothing; its contract is the law. The
+//! checker takes each line for a message (`plain`), and the stream of a plan for whole too or not.
 
-ghost use Rattle.std.specs.Prelude.{◌≡◌, ◌<◌, ◌^◌, ℕ, All, List, [], length, slice_index_or, Ok};
+ghost use Rattle.std.specs.Prelude.{◌≡◌, ◌<◌, ◌^◌, ℕ, All, Bool, List, [], length, slice_index_or, Ok};
 ghost use Rattle.std.specs.List.{AllByRecursion};
 ghost use Rattle.apply_plan.specs.declared.plan.step_kind.StepKind.{StepKind};
 ghost use Rattle.apply_plan.specs.declared.script.outcome.Outcome.{Outcome};
 ghost use Rattle.apply_plan.specs.Plan.ResourceChange.{ResourceChange};
 ghost use Rattle.apply_plan.specs.Plan.SavedPlan.{SavedPlan};
 ghost use Rattle.apply_plan.specs.Script.Outcomes.{IsInRange, Outcomes, script_of};
-ghost use Rattle.apply_check.specs.Cut.{lines_of};
-ghost use Rattle.apply_check.specs.Lines.{message_of_tree, verdict_of};
+ghost use Rattle.apply_check.specs.Cut.{cut_lines};
+ghost use Rattle.apply_check.specs.Lines.{tree_message, verdict_of};
 ghost use Rattle.apply_events.specs.declared.event.Event.{Event};
 ghost use Rattle.apply_events.specs.declared.what.What.{What};
 ghost use Rattle.apply_events.specs.Fits.{Fits};
@@ -22,7 +23,7 @@ ghost use Rattle.apply_text.specs.Lines.{stream_of};
 ghost use Rattle.apply_text.specs.Message.{event_message};
 ghost use Rattle.apply_agreement.specs.Accepted.{stream_told, whole_stream};
 ghost use Rattle.apply_agreement.specs.Objects.{object_of, stream_objects};
-ghost use Rattle.apply_agreement.specs.Passing.{verdict_on, verdict_on_objects};
+ghost use Rattle.apply_agreement.specs.Passing.{plain, verdict_on, verdict_on_objects};
 ghost use Rattle.apply_agreement.specs.Plans.{IsOrdinary, ProvisionsCreates};
 ghost use Rattle.apply_agreement.specs.Sound.{CanBeRead, IsShort};
 ghost use Rattle.apply_agreement.specs.Texts.{FitBits, HasTexts};
@@ -32,10 +33,11 @@ use apply_events::lanes_deal_out_the_changes;
 use apply_text::a_line_has_one_line_feed;
 
 /// The object of an event's message says to a checker what happens to which object: the address, the action, the
-/// seconds, and what becomes of a provisioner, are read as they were written, whenever it was.
+/// seconds, and what becomes of a provisioner, are read as they were written, whenever it was, and whether or not lines
+/// without a message are passed over.
 pub fn an_event_is_heard()
-    ensures { (change : ResourceChange) (kind : StepKind) (outcome : Outcome) (what : What) (seconds : ℕ)
-        → message_of_tree (object_of seconds (event_message change kind outcome what))
+    ensures { (find : Bool) (change : ResourceChange) (kind : StepKind) (outcome : Outcome) (what : What) (seconds : ℕ)
+        → tree_message find (object_of seconds (event_message change kind outcome what))
         ≡ Ok (told change.address (action_of kind) what) }
 {}
 
@@ -53,20 +55,21 @@ pub fn a_script_provisions_creates()
 /// plan it is asked that no object is changed twice and that a deposed object is only deleted, and of the script that
 /// only creates have provisioners.
 pub fn every_run_is_accepted()
-    ensures { (work : Work) (workers : ℕ) (lists : List (List ℕ)) (events : List Event) → IsOrdinary work.plan
+    ensures { (plans : Bool) (work : Work) (workers : ℕ) (lists : List (List ℕ)) (events : List Event)
+        → IsOrdinary work.plan
         → ProvisionsCreates work.plan work.script
         → IsPartition workers (length work.plan.changes) lists
         → IsInterleaving workers (λ worker. worker_events work worker (slice_index_or lists worker [])) events
-        → verdict_on (stream_told work.plan events) ≡ Ok (whole_stream work.plan events) }
+        → verdict_on (plain plans) (stream_told work.plan events) ≡ Ok (whole_stream work.plan events) }
 {}
 
 /// So it accepts the objects that the stream of such a run is made of, whenever it began, of an apply and of a destroy.
 pub fn every_stream_of_objects_is_accepted()
-    ensures { (work : Work) (workers start : ℕ) (lists : List (List ℕ)) (events : List Event) (operation : Operation)
-        → IsOrdinary work.plan → ProvisionsCreates work.plan work.script
+    ensures { (plans : Bool) (work : Work) (workers start : ℕ) (lists : List (List ℕ)) (events : List Event)
+        (operation : Operation) → IsOrdinary work.plan → ProvisionsCreates work.plan work.script
         → IsPartition workers (length work.plan.changes) lists
         → IsInterleaving workers (λ worker. worker_events work worker (slice_index_or lists worker [])) events
-        → verdict_on_objects (stream_objects work.plan work.script start operation events)
+        → verdict_on_objects (plain plans) (stream_objects work.plan work.script start operation events)
         ≡ Ok (whole_stream work.plan events) }
 {}
 
@@ -90,12 +93,12 @@ pub fn events_that_can_happen_fit_bits()
 /// And so it accepts the bytes of the stream of such a run, cut at their line feeds, where no text is damaged, no
 /// number is beyond 64 bits and no line is longer than 64 MiB.
 pub fn every_stream_is_accepted()
-    ensures { (work : Work) (workers start : ℕ) (lists : List (List ℕ)) (events : List Event) (operation : Operation)
-        → IsOrdinary work.plan → ProvisionsCreates work.plan work.script
+    ensures { (plans : Bool) (work : Work) (workers start : ℕ) (lists : List (List ℕ)) (events : List Event)
+        (operation : Operation) → IsOrdinary work.plan → ProvisionsCreates work.plan work.script
         → IsPartition workers (length work.plan.changes) lists
         → IsInterleaving workers (λ worker. worker_events work worker (slice_index_or lists worker [])) events
         → CanBeRead (stream_objects work.plan work.script start operation events)
-        → verdict_of (lines_of (stream_of work.plan work.script start operation events))
+        → verdict_of (plain plans) (cut_lines (stream_of work.plan work.script start operation events))
         ≡ Ok (whole_stream work.plan events) }
 {
     a_line_has_one_line_feed();
@@ -103,10 +106,10 @@ pub fn every_stream_is_accepted()
 
 /// It accepts the bytes of the stream of a time line too, of as many changes under way at once as there are lanes.
 pub fn every_stream_in_lanes_is_accepted()
-    ensures { (work : Work) (n start : ℕ) (events : List Event) (operation : Operation)
+    ensures { (plans : Bool) (work : Work) (n start : ℕ) (events : List Event) (operation : Operation)
         → IsOrdinary work.plan → ProvisionsCreates work.plan work.script → 0 < n → IsTimeLine work n events
         → CanBeRead (stream_objects work.plan work.script start operation events)
-        → verdict_of (lines_of (stream_of work.plan work.script start operation events))
+        → verdict_of (plain plans) (cut_lines (stream_of work.plan work.script start operation events))
         ≡ Ok (whole_stream work.plan events) }
 {
     lanes_deal_out_the_changes();

@@ -7,12 +7,12 @@ use Rattle.std.proofs.BufReadLemmas.{drop_through-append}
 use Rattle.std.proofs.KnownBytes.{Consumes-nil}
 use Rattle.std.proofs.lemmas.Bool.{cases_Bool}
 use Rattle.std.proofs.lemmas.List.Elements.{All-append, All-head, All-nil, All-tail}
-use Rattle.apply_check.specs.Cut.{first_of, lines_of, onto_first}
+use Rattle.apply_check.specs.Cut.{first_line, cut_lines, onto_first}
 use Rattle.apply_check.specs.Limits.{max_bytes}
 use Rattle.apply_check.specs.Reading.{Gives}
-use Rattle.apply_check.specs.declared.next.Next.TheVariants as next
+use Rattle.apply_check.specs.declared.lines.line_end.LineEnd.TheVariants as next
 
-pub cut_first : (x : ℕ) (xs : List ℕ) → lines_of (x ∷ xs) ≡ first_of (x ∷ xs) ∷ lines_of (drop_through 10 (x ∷ xs))
+pub cut_first : (x : ℕ) (xs : List ℕ) → cut_lines (x ∷ xs) ≡ first_line (x ∷ xs) ∷ cut_lines (drop_through 10 (x ∷ xs))
 cut_first x [] = ⊎_elim (λ (yes : eqb x 10 ≡ true). rw yes refl) (λ (no : eqb x 10 ≡ false). rw no refl) (cases_Bool (eqb x 10))
 cut_first x (y ∷ ys) =
     ⊎_elim (λ (yes : eqb x 10 ≡ true). rw yes refl)
@@ -32,24 +32,24 @@ consumes_on (Some all) (Some more) None xs ys h k = absurd k
 consumes_on (Some all) (Some more) (Some left) xs ys h k = h ∙ ap (λ (zs : List ℕ). xs ++ zs) k ∙ sym (append_assoc xs ys left)
 
 -- a front without a line feed is the front of the first line
-first_of-append : (xs ys : List ℕ) → All (λ byte. byte ≢ 10) xs → first_of (xs ++ ys) ≡ xs ++ first_of ys
-first_of-append [] ys h = refl
-first_of-append (x ∷ xs) ys h =
-    ap (λ b. cond b [] (x ∷ first_of (xs ++ ys))) (ne_eqb x 10 (All-head (λ y. y ≢ 10) x xs h))
-    ∙ ap (λ (l : List ℕ). x ∷ l) (first_of-append xs ys (All-tail (λ y. y ≢ 10) x xs h))
+first_line-append : (xs ys : List ℕ) → All (λ byte. byte ≢ 10) xs → first_line (xs ++ ys) ≡ xs ++ first_line ys
+first_line-append [] ys h = refl
+first_line-append (x ∷ xs) ys h =
+    ap (λ b. cond b [] (x ∷ first_line (xs ++ ys))) (ne_eqb x 10 (All-head (λ y. y ≢ 10) x xs h))
+    ∙ ap (λ (l : List ℕ). x ∷ l) (first_line-append xs ys (All-tail (λ y. y ≢ 10) x xs h))
 
 not_nothing : (xs ys : List ℕ) → 0 < length xs → (xs ++ ys) ≢ []
 not_nothing [] ys some = omega arith
 not_nothing (x ∷ xs) ys some = λ e. cc
 
 -- the parts of a line and its line feed
-line_given : (old new : Option (List ℕ)) (line : List ℕ) → All (λ byte. byte ≢ 10) line → Consumes old new (line ++ 10 ∷ []) → IfSome old (Gives next.Line line new)
+line_given : (old new : Option (List ℕ)) (line : List ℕ) → All (λ byte. byte ≢ 10) line → Consumes old new (line ++ 10 ∷ []) → IfSome old (Gives (next.Line true) line new)
 line_given None new line free h = tt
 line_given (Some xs) None line free h = absurd h
 line_given (Some xs) (Some ys) line free h =
     let is : xs ≡ line ++ 10 ∷ ys = h ∙ append_assoc line (10 ∷ []) ys in (
       λ e. not_nothing (line ++ 10 ∷ []) ys (omega (arith, length-append line (10 ∷ []))) (sym h ∙ e),
-      sym (ap first_of is ∙ first_of-append line (10 ∷ ys) free ∙ append-nil line),
+      sym (ap first_line is ∙ first_line-append line (10 ∷ ys) free ∙ append-nil line),
       ap Some (sym (ap (drop_through 10) is ∙ drop_through-append 10 line (10 ∷ ys) free)),
     )
 
@@ -60,13 +60,13 @@ left_none (Some all) None c xs h end = absurd h
 left_none (Some all) (Some more) c xs h end = end
 
 -- the parts of a last line without a line feed
-rest_given : (old new : Option (List ℕ)) (line : List ℕ) → All (λ byte. byte ≢ 10) line → Consumes old new line → OnSome old (IsAtEnd new) → 0 < length line → IfSome old (Gives next.Line line new)
+rest_given : (old new : Option (List ℕ)) (line : List ℕ) → All (λ byte. byte ≢ 10) line → Consumes old new line → OnSome old (IsAtEnd new) → 0 < length line → IfSome old (Gives (next.Line false) line new)
 rest_given None new line free h end some = tt
 rest_given (Some xs) None line free h end some = absurd h
 rest_given (Some xs) (Some ys) line free h end some =
     let is : xs ≡ line ++ [] = h ∙ ap (λ (zs : List ℕ). line ++ zs) end in (
       λ e. not_nothing line ys some (sym h ∙ e),
-      sym (ap first_of is ∙ first_of-append line [] free ∙ append-nil line),
+      sym (ap first_line is ∙ first_line-append line [] free ∙ append-nil line),
       ap Some (end ∙ sym (ap (drop_through 10) is ∙ drop_through-append 10 line [] free)),
     )
 
@@ -83,7 +83,7 @@ too_long_given None new line free h long = tt
 too_long_given (Some xs) None line free h long = absurd h
 too_long_given (Some xs) (Some ys) line free h long = (
   λ e. not_nothing line ys (omega (arith, long)) (sym h ∙ e),
-  let size = ap length (ap first_of h ∙ first_of-append line ys free) in let both = length-append line (first_of ys) in omega arith,
+  let size = ap length (ap first_line h ∙ first_line-append line ys free) in let both = length-append line (first_line ys) in omega arith,
 )
 
 -- ---- one part more
@@ -108,12 +108,12 @@ starts a new none = subst (λ (l : List ℕ). All (λ byte. byte ≢ 10) l × Co
 pub goes_further : (a b c : Option (List ℕ)) (old piece new : List ℕ) → Parts a b c old piece new → Consumes b c piece → All (λ byte. byte ≢ 10) new × Consumes a c new
 goes_further a b c old piece new p k = (still_no_feed a b c old piece new p, still_taken a b c old piece new p k)
 
-pub ends_line : (a b c : Option (List ℕ)) (old piece new : List ℕ) → Parts a b c old piece new → Consumes b c (piece ++ 10 ∷ []) → IfSome a (Gives next.Line new c)
+pub ends_line : (a b c : Option (List ℕ)) (old piece new : List ℕ) → Parts a b c old piece new → Consumes b c (piece ++ 10 ∷ []) → IfSome a (Gives (next.Line true) new c)
 ends_line a b c old piece new p k =
     let joined : old ++ (piece ++ 10 ∷ []) ≡ new ++ 10 ∷ [] = sym (append_assoc old piece (10 ∷ [])) ∙ ap (λ (l : List ℕ). l ++ 10 ∷ []) (sym p.grown) in
     line_given a c new (still_no_feed a b c old piece new p) (subst (Consumes a c) joined (consumes_on a b c old (piece ++ 10 ∷ []) p.taken k))
 
-pub ends_last_line : (a b c : Option (List ℕ)) (old piece new : List ℕ) → Parts a b c old piece new → Consumes b c piece → OnSome b (IsAtEnd c) → 0 < length new → IfSome a (Gives next.Line new c)
+pub ends_last_line : (a b c : Option (List ℕ)) (old piece new : List ℕ) → Parts a b c old piece new → Consumes b c piece → OnSome b (IsAtEnd c) → 0 < length new → IfSome a (Gives (next.Line false) new c)
 ends_last_line a b c old piece new p k end some = rest_given a c new (still_no_feed a b c old piece new p) (still_taken a b c old piece new p k) (left_none a b c old p.taken end) some
 
 pub ends_stream : (a b c : Option (List ℕ)) (old piece new : List ℕ) → Parts a b c old piece new → Consumes b c piece → OnSome b (IsAtEnd c) → length new ≡ 0 → IfSome a (Gives next.End new c)

@@ -13,9 +13,9 @@ use Rattle.clap.specs.declared.error.kind.ErrorKind.TheVariants.{DisplayHelp, Ou
 use Rattle.clap.specs.declared.parser.matches.ArgMatches.{ArgMatches}
 use Rattle.clap.proofs.OnLiterals.{clap_on_literals}
 use Rattle.apply_check.specs.CommandLine.{Answers, AreSaid, HaveSaid, WereRefused, command_line}
-use Rattle.apply_check.specs.declared.settings.Settings.{Settings}
-use Rattle.apply_check.specs.declared.usage.Usage.{Usage}
-use Rattle.apply_check.specs.declared.usage.Usage.TheVariants as usage
+use Rattle.apply_check.specs.declared.command.settings.Settings.{Settings}
+use Rattle.apply_check.specs.declared.command.usage.Usage.{Usage}
+use Rattle.apply_check.specs.declared.command.usage.Usage.TheVariants as usage
 
 -- `clap` states what it makes of words for simple commands; ours is one
 line_is_simple : is_simple command_line ≡ true

@@ -1,76 +1,122 @@
 -- What a line says is the same when its tree is trimmed.
-use Rattle.std.proofs.Common.{◌≡◌, ℕ, List, codes, Some, Result, Ok, Err, refl, ap}
-use Rattle.serde_json.specs.Data.{Data}
-use Rattle.serde_json.specs.Find.{as_number, as_u64}
-use Rattle.apply_json.specs.Tree as tree
+use Rattle.std.proofs.Common.{◌≡◌, ℕ, List, codes, Bool, Option, Some, None, Result, refl, ap}
+use Rattle.std.specs.Prelude.{option_map}
+use Rattle.std.specs.Option.{option_map_or}
+use Rattle.serde_json.specs.Data.{Data, null, boolean, number, string, array, object}
+use Rattle.serde_json.specs.Find.{as_str, as_u64, get}
 use Rattle.apply_json.specs.Tree.{text_of}
 use Rattle.apply_json.specs.Trimmed.{trimmed}
-use Rattle.apply_json.proofs.Trimmed.Lookups.{as_number_trimmed, behind_trimmed, text_trimmed}
-use Rattle.apply_check.specs.declared.fault.Fault.TheVariants.{NotAMessage, Malformed}
-use Rattle.apply_check.specs.declared.line_shape.LineShape.{LineShape}
-use Rattle.apply_check.specs.declared.line_shape.LineShape.TheVariants.{Scalar, Line, Hook, Resource, Change, Changes, Diagnostic}
-use Rattle.apply_check.specs.declared.part.Part.{Part}
-use Rattle.apply_check.specs.declared.part.Part.TheVariants as part
-use Rattle.apply_check.specs.declared.what.What.{What}
-use Rattle.apply_check.specs.declared.what.What.TheVariants.{Progress, Complete, Errored}
-use Rattle.apply_check.specs.Lines.{message_of_tree}
-use Rattle.apply_check.specs.Message.{count_of, diagnostic_of, planned_of, provision_of, start_of, subject_of, summary_of, timed_of, typed_message}
+use Rattle.apply_json.proofs.Trimmed.Lookups.{as_number_trimmed, as_str_trimmed, get_trimmed, text_trimmed}
+use Rattle.apply_check.specs.declared.messages.lack.Lack.TheVariants.{NoText, NoWholeNumber}
+use Rattle.apply_check.specs.declared.messages.line_shape.LineShape.{LineShape}
+use Rattle.apply_check.specs.declared.messages.line_shape.LineShape.TheVariants.{Scalar, Line, Hook, Resource, Change, Changes, Diagnostic}
+use Rattle.apply_check.specs.declared.messages.path.Path.{Path}
+use Rattle.apply_check.specs.declared.messages.path.Path.TheVariants as path
+use Rattle.apply_check.specs.declared.messages.stage.Stage.{Stage}
+use Rattle.apply_check.specs.declared.messages.stage.Stage.TheVariants as stage
+use Rattle.apply_check.specs.declared.messages.timed_stage.TimedStage.{TimedStage}
+use Rattle.apply_check.specs.declared.messages.timed_stage.TimedStage.TheVariants.{Start, Progress, Complete, Errored}
+use Rattle.apply_check.specs.declared.rules.fault.Fault.{Fault}
+use Rattle.apply_check.specs.declared.rules.fault.Fault.TheVariants.{Malformed}
+use Rattle.apply_check.specs.Lines.{tree_message, untyped_message}
+use Rattle.apply_check.specs.Members.{as_container, count_at, object_at, text_at, there, whole_number}
+use Rattle.apply_check.specs.Message.{diagnostic_of, hook_address_of, planned_of, provision_of, refresh_of, start_of, subject_of, summary_of, timed_of, totals_said, typed_message}
 use Rattle.apply_check.specs.Results.{◌>>=◌, or_refuse}
 use Rattle.apply_check.specs.Selection.{line_selection, member_shape}
 
-count_trimmed : (shape : LineShape) (k : List ℕ) (d : Data) → member_shape shape k ≡ Some Scalar → count_of k (trimmed line_selection shape d) ≡ count_of k d
-count_trimmed shape k d looked =
-    ap (λ o. tree.◌>>=◌ o as_u64) (behind_trimmed line_selection shape Scalar k as_number as_number d looked (as_number_trimmed line_selection Scalar))
+-- ---- members
+
+-- an object is one, trimmed or not
+contained : {B : Type 0} (known : LineShape) (container : Path) (f : Data → Result B Fault) → ((x : Data) → f (trimmed line_selection known x) ≡ f x)
+    → (x : Data) → (as_container container (trimmed line_selection known x) >>= f) ≡ (as_container container x >>= f)
+contained known container f same null = refl
+contained known container f same (boolean b) = refl
+contained known container f same (number n) = refl
+contained known container f same (string s) = refl
+contained known container f same (array ds) = refl
+contained known container f same (object ms) = same (object ms)
+
+-- what is made of an object that is looked into
+object_same : {B : Type 0} (shape known : LineShape) (member : Path) (k : List ℕ) (container : Path) (f : Data → Result B Fault) (d : Data) → member_shape shape k ≡ Some known
+    → ((x : Data) → f (trimmed line_selection known x) ≡ f x) → (object_at member k container (trimmed line_selection shape d) >>= f) ≡ (object_at member k container d >>= f)
+object_same shape known member k container f d looked same = rw (get_trimmed line_selection shape known k d looked) (each (get k d)) where
+  each : (o : Option Data) → ((there member (option_map (trimmed line_selection known) o) >>= as_container container) >>= f) ≡ ((there member o >>= as_container container) >>= f)
+  each None = refl
+  each (Some x) = contained known container f same x
+
+text_same : (shape : LineShape) (member : Path) (k : List ℕ) (d : Data) → member_shape shape k ≡ Some Scalar → text_at member k (trimmed line_selection shape d) ≡ text_at member k d
+text_same shape member k d looked = rw (get_trimmed line_selection shape Scalar k d looked) (each (get k d)) where
+  each : (o : Option Data) → (there member (option_map (trimmed line_selection Scalar) o) >>= λ found. or_refuse (Malformed member NoText) (as_str found)) ≡ (there member o >>= λ found. or_refuse (Malformed member NoText) (as_str found))
+  each None = refl
+  each (Some x) = ap (or_refuse (Malformed member NoText)) (as_str_trimmed line_selection Scalar x)
+
+number_same : (x : Data) → whole_number (trimmed line_selection Scalar x) ≡ whole_number x
+number_same x = ap (λ o. option_map_or as_u64 o None) (as_number_trimmed line_selection Scalar x)
+
+count_same : (shape : LineShape) (member : Path) (k : List ℕ) (d : Data) → member_shape shape k ≡ Some Scalar → count_at member k (trimmed line_selection shape d) ≡ count_at member k d
+count_same shape member k d looked = rw (get_trimmed line_selection shape Scalar k d looked) (each (get k d)) where
+  each : (o : Option Data) → (there member (option_map (trimmed line_selection Scalar) o) >>= λ found. or_refuse (Malformed member NoWholeNumber) (whole_number found)) ≡ (there member o >>= λ found. or_refuse (Malformed member NoWholeNumber) (whole_number found))
+  each None = refl
+  each (Some x) = ap (or_refuse (Malformed member NoWholeNumber)) (number_same x)
+
+-- ---- messages
 
 same_subject : (hook : Data) → subject_of (trimmed line_selection Hook hook) ≡ subject_of hook
 same_subject hook =
-    rw (text_trimmed line_selection Hook Scalar (codes "action") hook refl)
-    (behind_trimmed line_selection Hook Resource (codes "resource") _ _ hook refl (λ resource. rw (text_trimmed line_selection Resource Scalar (codes "addr") resource refl) refl))
+    rw (text_same Hook path.Action (codes "action") hook refl)
+    (object_same Hook Resource path.Address (codes "resource") path.Resource _ hook refl (λ resource. rw (text_same Resource path.Address (codes "addr") resource refl) refl))
+
+same_address : (d : Data) → hook_address_of (trimmed line_selection Line d) ≡ hook_address_of d
+same_address d =
+    object_same Line Hook path.Address (codes "hook") path.Hook _ d refl
+    (λ hook. object_same Hook Resource path.Address (codes "resource") path.Resource _ hook refl (λ resource. text_same Resource path.Address (codes "addr") resource refl))
 
 same_start : (d : Data) → start_of (trimmed line_selection Line d) ≡ start_of d
 unfolding start_of
-same_start d = behind_trimmed line_selection Line Hook (codes "hook") _ _ d refl (λ hook. rw (same_subject hook) refl)
+same_start d = object_same Line Hook path.Address (codes "hook") path.Hook _ d refl (λ hook. rw (same_subject hook) refl)
 
-same_timed : (what : ℕ → What) (d : Data) → timed_of what (trimmed line_selection Line d) ≡ timed_of what d
+same_timed : (stage : ℕ → TimedStage) (d : Data) → timed_of stage (trimmed line_selection Line d) ≡ timed_of stage d
 unfolding timed_of
-same_timed what d =
-    behind_trimmed line_selection Line Hook (codes "hook") _ _ d refl (λ hook. rw (same_subject hook, count_trimmed Hook (codes "elapsed_seconds") hook refl) refl)
+same_timed stage d =
+    object_same Line Hook path.Address (codes "hook") path.Hook _ d refl (λ hook. rw (same_subject hook, count_same Hook path.Seconds (codes "elapsed_seconds") hook refl) refl)
 
-same_provision : (p : Part) (d : Data) → provision_of p (trimmed line_selection Line d) ≡ provision_of p d
+same_provision : (p : Stage) (d : Data) → provision_of p (trimmed line_selection Line d) ≡ provision_of p d
 unfolding provision_of
-same_provision p d =
-    behind_trimmed line_selection Line Hook (codes "hook") _ _ d refl
-    (λ hook. behind_trimmed line_selection Hook Resource (codes "resource") _ _ hook refl (λ resource. rw (text_trimmed line_selection Resource Scalar (codes "addr") resource refl) refl))
+same_provision p d = rw (same_address d) refl
+
+same_refresh : (s : TimedStage) (d : Data) → refresh_of s (trimmed line_selection Line d) ≡ refresh_of s d
+unfolding refresh_of
+same_refresh s d = rw (same_address d) refl
 
 same_planned : (d : Data) → planned_of (trimmed line_selection Line d) ≡ planned_of d
 unfolding planned_of
 same_planned d =
-    behind_trimmed line_selection Line Change (codes "change") _ _ d refl (λ change. rw (text_trimmed line_selection Change Scalar (codes "action") change refl) refl)
+    object_same Line Change path.ChangeAction (codes "change") path.Change _ d refl (λ change. rw (text_same Change path.ChangeAction (codes "action") change refl) refl)
+
+same_totals_said : (changes : Data) → totals_said (trimmed line_selection Changes changes) ≡ totals_said changes
+same_totals_said changes =
+    rw (count_same Changes path.Added (codes "add") changes refl, count_same Changes path.Changed (codes "change") changes refl, count_same Changes path.Removed (codes "remove") changes refl) refl
 
 same_summary : (d : Data) → summary_of (trimmed line_selection Line d) ≡ summary_of d
 unfolding summary_of
 same_summary d =
-    behind_trimmed line_selection Line Changes (codes "changes") _ _ d refl
-    (λ changes. rw (text_trimmed line_selection Changes Scalar (codes "operation") changes refl, count_trimmed Changes (codes "add") changes refl, count_trimmed Changes (codes "change") changes refl, count_trimmed Changes (codes "remove") changes refl) refl)
+    object_same Line Changes path.Operation (codes "changes") path.Changes _ d refl
+    (λ changes. rw (text_same Changes path.Operation (codes "operation") changes refl, same_totals_said changes) refl)
 
 same_diagnostic : (d : Data) → diagnostic_of (trimmed line_selection Line d) ≡ diagnostic_of d
 unfolding diagnostic_of
 same_diagnostic d =
-    behind_trimmed line_selection Line Diagnostic (codes "diagnostic") _ _ d refl
-    (λ members. rw (text_trimmed line_selection Diagnostic Scalar (codes "severity") members refl, text_trimmed line_selection Diagnostic Scalar (codes "address") members refl) refl)
+    object_same Line Diagnostic path.Severity (codes "diagnostic") path.Diagnostic _ d refl
+    (λ members. rw (text_same Diagnostic path.Severity (codes "severity") members refl, text_trimmed line_selection Diagnostic Scalar (codes "address") members refl) refl)
 
 same_typed : (name : List ℕ) (d : Data) → typed_message name (trimmed line_selection Line d) ≡ typed_message name d
 unfolding typed_message
 same_typed name d =
-    rw (same_start d, same_timed Progress d, same_timed Complete d, same_timed Errored d, same_provision part.Start d, same_provision part.Progress d, same_provision part.Complete d, same_provision part.Errored d, same_planned d, same_summary d, same_diagnostic d) refl
+    rw (same_start d, same_timed Progress d, same_timed Complete d, same_timed Errored d, same_refresh Start d, same_refresh (Complete 0) d, same_provision stage.Start d, same_provision stage.Progress d, same_provision stage.Complete d, same_provision stage.Errored d, same_planned d, same_summary d, same_diagnostic d) refl
 
--- two steps that go on alike
-bind_same : {A B E : Type 0} (r : Result A E) (f g : A → Result B E) → ((x : A) → f x ≡ g x) → (r >>= f) ≡ (r >>= g)
-bind_same (Ok x) f g same = same x
-bind_same (Err e) f g same = refl
-
-pub same_message : (d : Data) → message_of_tree (trimmed line_selection Line d) ≡ message_of_tree d
-unfolding message_of_tree
-same_message d =
-    rw (text_trimmed line_selection Line Scalar (codes "type") d refl)
-    (bind_same (or_refuse NotAMessage (text_of (codes "type") d)) _ _ (λ name. ap (or_refuse Malformed) (same_typed name d)))
+pub same_message : (find : Bool) (d : Data) → tree_message find (trimmed line_selection Line d) ≡ tree_message find d
+unfolding tree_message
+same_message find d = rw (text_trimmed line_selection Line Scalar (codes "type") d refl) (each (text_of (codes "type") d)) where
+  each : (o : Option (List ℕ)) → option_map_or (λ name. typed_message name (trimmed line_selection Line d)) o (untyped_message find) ≡ option_map_or (λ name. typed_message name d) o (untyped_message find)
+  each None = refl
+  each (Some name) = same_typed name d

@@ -1,27 +1,22 @@
 -- What contracts see of a checker: of which lines it holds what is needed.
-use Rattle.std.specs.Prelude.{◌≡◌, ◌≢◌, ℕ, List, length, Result, Ok, Err}
+use Rattle.std.specs.Prelude.{◌≡◌, ◌≢◌, ℕ, List, Result, Ok, Err}
 use Rattle.std.specs.BTreeMap.{get_by_text}
-use Rattle.std.specs.List.{list_any}
-use Rattle.apply_check.specs.declared.checker.Checker.{Checker}
-use Rattle.apply_check.specs.declared.fault.Fault.{Fault}
-use Rattle.apply_check.specs.declared.fault.Fault.TheVariants.{Memory}
-use Rattle.apply_check.specs.Lines.{is_error, is_summary, planned_totals, totals_of}
+use Rattle.apply_check.specs.declared.rules.checker.Checker.{Checker}
+use Rattle.apply_check.specs.declared.rules.fault.Fault.{Fault}
+use Rattle.apply_check.specs.declared.rules.fault.Fault.TheVariants.{Memory}
 use Rattle.apply_check.specs.Message.{Message}
 use Rattle.apply_check.specs.Standing.{standing_of, unless_idle}
+use Rattle.apply_check.specs.Tallied.{tally_of}
 
 -- the checker holds what is needed of these messages
 pub record HasRead (checker : Checker) (messages : List Message) : Type 0 where
-  pub lines : checker.lines ≡ length messages
+  pub tally : checker.tally ≡ tally_of messages
   pub standing : (address : List ℕ) → get_by_text checker.pending.standings address
       ≡ unless_idle (standing_of address messages)
-  pub totals : checker.totals ≡ totals_of messages
-  pub planned : checker.planned ≡ planned_totals messages
-  pub summed : checker.is_summed ≡ list_any is_summary messages
-  pub failed : checker.has_failed ≡ list_any is_error messages
 
 -- how many lines it has taken
 abbrev pub lines_read : Checker → ℕ
-lines_read checker = checker.lines
+lines_read checker = checker.tally.lines
 
 -- the answer to one more message, or line
 abbrev pub Continues : (old new : Checker) → (List Message → Result (List Message) Fault)

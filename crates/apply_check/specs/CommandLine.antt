@@ -1,6 +1,7 @@
 -- What the words behind `check` say, and what is done: the options that there are, as `clap` takes them, and which of
 -- them gives which setting.
-use Rattle.std.specs.Prelude.{◌≡◌, ◌≤◌, ◌⊎◌, ⊤, ℕ, List, [], ◌∷◌, Option, Some, None, IfSome, Result, true, codes, option_map, string_bytes}
+use Rattle.std.specs.Prelude.{◌≡◌, ◌⊎◌, ⊤, ℕ, List, [], ◌∷◌, if◌then◌else◌, Option, Some, None, IfSome, IsSome, Result, true, false, codes, option_map, string_bytes}
+use Rattle.std.specs.Str.{bytes_eq}
 use Rattle.std.specs.Io.KnownBytes.{Keeps}
 use Rattle.clap.specs.Faults.{fault_of}
 use Rattle.clap.specs.Kinds.{IsAmong}
@@ -9,21 +10,29 @@ use Rattle.clap.specs.Walk.{Row, Rule, Text, first_of, one_of}
 use Rattle.clap.specs.declared.builder.action.ArgAction.TheVariants.{SetTrue}
 use Rattle.clap.specs.declared.error.kind.ErrorKind.{ErrorKind}
 use Rattle.clap.specs.declared.error.kind.ErrorKind.TheVariants.{DisplayHelp, OutOfMemory}
-use Rattle.apply_check.specs.Cut.{lines_of}
+use Rattle.apply_check.specs.Cut.{cut_lines}
 use Rattle.apply_check.specs.Reading.{IsAnswer}
 use Rattle.apply_check.specs.Telling.{IsTold}
-use Rattle.apply_check.specs.declared.form.Form.TheVariants as form
-use Rattle.apply_check.specs.declared.read_fault.ReadFault.{ReadFault}
-use Rattle.apply_check.specs.declared.settings.Settings.{Settings}
-use Rattle.apply_check.specs.declared.usage.Usage.{Usage}
-use Rattle.apply_check.specs.declared.usage.Usage.TheVariants as usage
-use Rattle.apply_check.specs.declared.whole.Whole.{Whole}
+use Rattle.apply_check.specs.declared.command.form.Form.TheVariants as form
+use Rattle.apply_check.specs.declared.verdict.read_fault.ReadFault.{ReadFault}
+use Rattle.apply_check.specs.declared.command.settings.Settings.{Settings}
+use Rattle.apply_check.specs.declared.command.usage.Usage.{Usage}
+use Rattle.apply_check.specs.declared.command.usage.Usage.TheVariants as usage
+use Rattle.apply_check.specs.declared.verdict.whole.Whole.{Whole}
 
 -- ---- the options
 
 -- `--json`
 abbrev pub json_rule : Rule
 json_rule = record (new_rule (codes "json")) { long = Some (codes "json"); action = Some SetTrue }
+
+-- `--find`
+abbrev pub find_rule : Rule
+find_rule = record (new_rule (codes "find")) { long = Some (codes "find"); action = Some SetTrue }
+
+-- `--plan`
+abbrev pub plan_rule : Rule
+plan_rule = record (new_rule (codes "plan")) { long = Some (codes "plan"); action = Some SetTrue }
 
 -- `FILE`
 abbrev pub file_rule : Rule
@@ -32,15 +41,27 @@ file_rule = record (new_rule (codes "file")) { value_names = 1 }
 -- the command, whose words are those behind `check`
 abbrev pub command_line : App
 command_line = record {
-  top = record (new_shape (codes "applystream check")) { no_binary_name = true; rules = json_rule ∷ file_rule ∷ [] };
+  top = record (new_shape (codes "applystream check")) {
+    no_binary_name = true;
+    rules = json_rule ∷ find_rule ∷ plan_rule ∷ file_rule ∷ [];
+  };
   subs = [];
 }
 
 -- ---- what they say
 
+-- the name of a file; `-` names none
+abbrev pub unless_dash : Option Text → Option Text
+unless_dash None = None
+unless_dash (Some name) = if bytes_eq name (codes "-") then None else Some name
+
 -- each setting is what its own option says
 pub record AreSaid (rows : List Row) (settings : Settings) : Type 0 where
-  pub file : option_map string_bytes settings.file ≡ first_of (codes "file") rows
+  pub file : option_map string_bytes settings.file ≡ unless_dash (first_of (codes "file") rows)
+  pub find : one_of (codes "find") rows ≡ Some (codes "true") → settings.mode.find ≡ true
+  pub no_find : one_of (codes "find") rows ≡ Some (codes "false") → settings.mode.find ≡ false
+  pub plan : one_of (codes "plan") rows ≡ Some (codes "true") → settings.mode.plan ≡ true
+  pub no_plan : one_of (codes "plan") rows ≡ Some (codes "false") → settings.mode.plan ≡ false
   pub json : one_of (codes "json") rows ≡ Some (codes "true") → settings.form ≡ form.Json
   pub text : one_of (codes "json") rows ≡ Some (codes "false") → settings.form ≡ form.Text
 
@@ -61,11 +82,14 @@ Answers kind usage.Memory = ⊤
 abbrev pub AskForHelp : List Text → Type 0
 AskForHelp words = IsAmong DisplayHelp (fault_of command_line words)
 
+-- they are none of these options
+abbrev pub WereNotTaken : List Text → Type 0
+WereNotTaken words = (kind : ErrorKind) × (kind ≡ DisplayHelp → ⊥) × IsAmong kind (fault_of command_line words)
+
 -- they are a call for help, or none of these options, or memory was refused
 abbrev pub WereRefused : List Text → Usage → Type 0
 WereRefused words (usage.Help text) = AskForHelp words
-WereRefused words (usage.Words text) =
-    (kind : ErrorKind) × (kind ≡ DisplayHelp → ⊥) × IsAmong kind (fault_of command_line words)
+WereRefused words (usage.Words text) = WereNotTaken words
 WereRefused words usage.Memory = ⊤
 
 -- ---- what is done
@@ -75,11 +99,19 @@ pub record WasChecked (words : List Text) (input before after : Option (List ℕ
   pub settings : Settings
   pub said : HaveSaid words settings
   pub answer : Result Whole ReadFault
-  pub of_input : settings.file ≡ None → IfSome input (λ bytes. IsAnswer (lines_of bytes) answer)
+  pub of_input : settings.file ≡ None → IfSome input (λ bytes. IsAnswer settings.mode (cut_lines bytes) answer)
   pub told : IsTold settings.form answer status before after
 
--- no stream was checked: help was asked for, with status 0; or the status is 2 or more and the output as it was, for
--- whatever cause
+-- they name a file
+pub record NameAFile (words : List Text) : Type 0 where
+  pub settings : Settings
+  pub said : HaveSaid words settings
+  pub named : IsSome settings.file
+
+-- No stream was checked: help was asked for, with status 0; the words were refused, or the file that they name could not
+-- be opened, with status 2 and the output as it was; or memory was refused, with status 3.
 abbrev pub WasNotChecked : (words : List Text) → (before after : Option (List ℕ)) → (status : ℕ) → Type 0
 WasNotChecked words before after status =
-    ((status ≡ 0) × AskForHelp words) ⊎ ((2 ≤ status) × Keeps before after)
+    ((status ≡ 0) × AskForHelp words)
+    ⊎ ((status ≡ 2) × Keeps before after × (WereNotTaken words ⊎ NameAFile words))
+    ⊎ ((status ≡ 3) × Keeps before after)

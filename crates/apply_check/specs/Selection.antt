@@ -2,8 +2,8 @@
 use Rattle.std.specs.Prelude.{ℕ, List, Bool, ◌||◌, codes, if◌then◌else◌, Option, Some, None}
 use Rattle.std.specs.Str.{bytes_eq}
 use Rattle.apply_json.specs.Trimmed.{Selection}
-use Rattle.apply_check.specs.declared.line_shape.LineShape.{LineShape}
-use Rattle.apply_check.specs.declared.line_shape.LineShape.TheVariants.{Scalar, Line, Hook, Resource, Change, Changes, Diagnostic}
+use Rattle.apply_check.specs.declared.messages.line_shape.LineShape.{LineShape}
+use Rattle.apply_check.specs.declared.messages.line_shape.LineShape.TheVariants.{Scalar, Line, Hook, Resource, Change, Changes, Diagnostic}
 
 abbrev pub scalar_where : Bool → Option LineShape
 scalar_where is_known = if is_known then Some Scalar else None
@@ -23,7 +23,8 @@ member_shape Line name =
     else None
 member_shape Hook name =
     if bytes_eq name (codes "resource") then Some Resource
-    else scalar_where (bytes_eq name (codes "action") || bytes_eq name (codes "elapsed_seconds"))
+    else scalar_where
+    (bytes_eq name (codes "action") || (bytes_eq name (codes "elapsed_seconds") || bytes_eq name (codes "provisioner")))
 member_shape Resource name = scalar_where (bytes_eq name (codes "addr"))
 member_shape Change name = scalar_where (bytes_eq name (codes "action"))
 member_shape Changes name = scalar_where (is_scalar_of_changes name)

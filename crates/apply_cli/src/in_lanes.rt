@@ -11,9 +11,9 @@ ghost use Rattle.apply_cli.specs.Command.{OfInput, sight_of};
 ghost use Rattle.apply_cli.specs.CommandInLanes.{HasAppliedInLanes, HasBegunInLanes};
 ghost use Rattle.apply_cli.specs.Status.{input_status_of, refusal_status_of};
 
-use crate::input::read_all;
+use crate::input::read_input;
 use crate::input_fault::InputFault;
-use crate::run::{flush_unless_failed, report};
+use crate::run::{finish_reading, flush_unless_failed, report};
 use crate::settings::Settings;
 use crate::status::{FAILED, counts_status, input_status, refusal_status};
 use apply_hooks::Registry;
@@ -32,7 +32,7 @@ pub fn run_in_lanes<R: Read + Drop, W: Write + Drop, E: Write>(
     lanes: u8,
     registry: &Registry,
     script: Option<&[u8]>,
-    input: R,
+    mut input: R,
     output: StdSink<W>,
     faults: &mut E,
 ) -> (StdSink<W>, u8)
@@ -48,10 +48,12 @@ pub fn run_in_lanes<R: Read + Drop, W: Write + Drop, E: Write>(
     ensures quiet { result.1 ≤ 1 → Keeps (E.contents faults.old) (E.contents faults.new) }
     ensures statuses { result.1 ≤ 3 }
 {
-    let input = read_all(alloc, input);
-    run_input_in_lanes(
-        alloc, settings, lanes, registry, script, input, output, faults,
-    )
+    let (plan, is_whole) = read_input(alloc, &mut input);
+    let (output, status) = run_input_in_lanes(
+        alloc, settings, lanes, registry, script, plan, output, faults,
+    );
+    finish_reading(is_whole, &mut input, faults);
+    (output, status)
 }
 
 /// Does what `run_in_lanes` does, with an input that was read or was not.

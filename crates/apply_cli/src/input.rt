@@ -1,13 +1,13 @@
 //! The bytes of the input.
 
-ghost use Rattle.std.specs.Prelude.{◌≡◌, ◌<◌, ◌≤◌, ◌+◌, List, ℕ, ◌++◌, IfOk, IfSome, length, take};
+ghost use Rattle.std.specs.Prelude.{◌≡◌, ◌<◌, ◌≤◌, ◌+◌, List, ℕ, ◌++◌, IfOk, IfSome, length, take, true};
 ghost use Rattle.std.specs.Io.KnownBytes.{Consumes, IsAtEnd};
 ghost use Rattle.apply_plan.specs.Bytes.{max_bytes};
 
 use crate::input_fault::InputFault;
 use apply_plan::MAX_BYTES;
 use std::alloc::{AllocError, Global};
-use std::io::Read;
+use std::io::{self, Read};
 
 /// One byte more than a plan may have, so that a longer one is seen to be too long.
 const MAX_READ: usize = MAX_BYTES + 1;
@@ -21,8 +21,48 @@ pub fn read_all<R: Read + Drop>(alloc: Global, mut input: R) -> Result<Vec<u8>, 
         (λ bytes. IfSome (R.remaining input) (λ all. bytes.items ≡ take (max_bytes + 1) all)) }
     ensures few { IfOk result (λ bytes. length bytes.items ≤ max_bytes + 1) }
 {
+    read_input(alloc, &mut input).0
+}
+
+/// Does what `read_all` does, and leaves the input with the caller. Answers too whether it was read to its end.
+pub(crate) fn read_input<R: Read>(
+    alloc: Global,
+    input: &mut R,
+) -> (Result<Vec<u8>, InputFault>, bool)
+    ensures bytes { IfOk result.0
+        (λ bytes. IfSome (R.remaining input.old) (λ all. bytes.items ≡ take (max_bytes + 1) all)) }
+    ensures few { IfOk result.0 (λ bytes. length bytes.items ≤ max_bytes + 1) }
+    ensures end { result.1 ≡ true → IsAtEnd (R.remaining input.new) }
+{
+    match read_through_buffer(alloc, input) {
+        Ok(bytes) => {
+            let is_whole = bytes.len() < MAX_READ;
+            (Ok(bytes), is_whole)
+        }
+        Err(fault) => (Err(fault), false),
+    }
+}
+
+/// Reads what is left of the input and drops it: who writes into a pipe is stopped where nobody reads on. Answers whether
+/// the end was reached, and `false` only where a read failed.
+///
+/// A read that was interrupted by a signal is tried again. What is dropped takes no memory of the heap.
+pub fn drop_rest<R: Read>(input: &mut R) -> bool
+    ensures { result ≡ true → IsAtEnd (R.remaining input.new) }
+{
+    io::copy(input, &mut io::sink()).is_ok()
+}
+
+/// The first bytes of the input, up to the limit, read through a buffer of their own.
+fn read_through_buffer<R: Read>(alloc: Global, input: &mut R) -> Result<Vec<u8>, InputFault>
+    ensures bytes { IfOk result
+        (λ bytes. IfSome (R.remaining input.old) (λ all. bytes.items ≡ take (max_bytes + 1) all)) }
+    ensures few { IfOk result (λ bytes. length bytes.items ≤ max_bytes + 1) }
+    ensures end { IfOk result
+        (λ bytes. length bytes.items < max_bytes + 1 → IsAtEnd (R.remaining input.new)) }
+{
     let mut buffer = zeros(alloc, BUFFER_LEN)?;
-    read_front(alloc, &mut input, &mut buffer, MAX_READ)
+    read_front(alloc, input, &mut buffer, MAX_READ)
 }
 
 /// So many zeros.
@@ -43,6 +83,7 @@ fn read_front<R: Read>(
     ensures bytes { IfOk result
         (λ bytes. IfSome (R.remaining input.old) (λ all. bytes.items ≡ take limit all)) }
     ensures few { IfOk result (λ bytes. length bytes.items ≤ limit) }
+    ensures end { IfOk result (λ bytes. length bytes.items < limit → IsAtEnd (R.remaining input.new)) }
 {
     let mut bytes = Vec::new(alloc);
     while bytes.len() < limit {

@@ -20,7 +20,7 @@ pub use answer::answer_usage;
 pub use following::{follow, follow_invocation, given_words};
 pub use halt::Halt;
 pub use in_lanes::run_in_lanes;
-pub use input::read_all;
+pub use input::{drop_rest, read_all};
 pub use input_fault::InputFault;
 pub use invocation::{Invocation, read_invocation};
 pub use run::{report, run_bytes, run_command, run_input};

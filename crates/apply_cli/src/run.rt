@@ -1,8 +1,8 @@
 //! The program, from its input to its exit status.
 
-ghost use Rattle.std.specs.Prelude.{◌≡◌, ◌<◌, ◌≤◌, ◌-◌, ◌^◌, ◌⊎◌, length, IfOk, IfErr, OnErr};
+ghost use Rattle.std.specs.Prelude.{◌≡◌, ◌<◌, ◌≤◌, ◌-◌, ◌^◌, ◌⊎◌, length, true, IfOk, IfErr, OnErr};
 ghost use Rattle.std.specs.Option.{option_copied};
-ghost use Rattle.std.specs.Io.KnownBytes.{Keeps};
+ghost use Rattle.std.specs.Io.KnownBytes.{IsAtEnd, Keeps};
 ghost use Rattle.apply_plan.specs.Bytes.{max_bytes};
 ghost use Rattle.apply_hooks.specs.Registry.{rules_of};
 ghost use Rattle.apply_run.specs.declared.refusal.Refusal.{Refusal};
@@ -11,7 +11,7 @@ ghost use Rattle.apply_cli.specs.Command.{HasApplied, HasBegun, OfInput, sight_o
 ghost use Rattle.apply_cli.specs.Settings.{options_of};
 ghost use Rattle.apply_cli.specs.Status.{input_status_of, refusal_status_of};
 
-use crate::input::read_all;
+use crate::input::{drop_rest, read_input};
 use crate::input_fault::InputFault;
 use crate::settings::Settings;
 use crate::status::{FAILED, counts_status, input_status, refusal_status};
@@ -36,13 +36,16 @@ const LINE_ROOM: usize = 256;
 /// none for it, or where the settings are out of range: nothing was written then. It is 3 where memory or a thread was
 /// refused or the output could not be written: a front of the stream may have been written then, with a summary only where
 /// all of the plan was applied. What went wrong is said on `faults`, unless that fails too.
+///
+/// Where the plan is too large, or a read failed or memory was refused while it was read, the rest of the input is read and
+/// dropped behind what is said: who writes it into a pipe is not stopped. A read that fails meanwhile changes nothing.
 pub fn run_command<R: Read + Drop, W: Write + Drop, E: Write, T: Threads + Wait + Sync>(
     rt: &T,
     alloc: Global,
     settings: &Settings,
     registry: &Registry,
     script: Option<&[u8]>,
-    input: R,
+    mut input: R,
     output: StdSink<W>,
     faults: &mut E,
 ) -> (StdSink<W>, u8)
@@ -61,8 +64,28 @@ pub fn run_command<R: Read + Drop, W: Write + Drop, E: Write, T: Threads + Wait 
     ensures quiet { result.1 ≤ 1 → Keeps (E.contents faults.old) (E.contents faults.new) }
     ensures statuses { result.1 ≤ 3 }
 {
-    let input = read_all(alloc, input);
-    run_input(rt, alloc, settings, registry, script, input, output, faults)
+    let (plan, is_whole) = read_input(alloc, &mut input);
+    let (output, status) = run_input(rt, alloc, settings, registry, script, plan, output, faults);
+    finish_reading(is_whole, &mut input, faults);
+    (output, status)
+}
+
+/// Reads the rest of an input that was not read to its end, and drops it. What was said of faults goes out before. Answers
+/// whether the end was reached then, as `drop_rest` does.
+pub(crate) fn finish_reading<R: Read, E: Write>(
+    is_whole: bool,
+    input: &mut R,
+    faults: &mut E,
+) -> bool
+    requires { is_whole ≡ true → IsAtEnd (R.remaining input.old) }
+    ensures end { result ≡ true → IsAtEnd (R.remaining input.new) }
+    ensures quiet { Keeps (E.contents faults.old) (E.contents faults.new) }
+{
+    if is_whole {
+        return true;
+    }
+    let _ = faults.flush();
+    drop_rest(input)
 }
 
 /// Does what `run_command` does, with an input that was read or was not.

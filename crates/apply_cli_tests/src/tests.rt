@@ -8,6 +8,7 @@ mod failing_outputs;
 mod faults;
 mod following;
 mod invocations;
+mod rests;
 mod settings;
 mod streams;
 mod words;

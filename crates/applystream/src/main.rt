@@ -2,7 +2,7 @@
 //! line say; or checks such a stream, where the first of them is `check`.
 #![tactic(auto)]
 
-use apply_cli::{Usage, answer_usage, follow, given_words};
+use apply_cli::{Usage, answer_usage, drop_rest, follow, given_words};
 use std::io::{BufWriter, IsTerminal};
 use std::process::ExitCode;
 use std::sync::Wait;
@@ -14,9 +14,19 @@ const OUTPUT_ROOM: usize = 65_536;
 fn main(rt: HostRuntime) -> ExitCode {
     let status = match run(&rt, &rt) {
         Ok(status) => status,
-        Err(usage) => answer_usage(&usage, &mut rt.stdout(), &mut rt.stderr()),
+        Err(usage) => refuse(&rt, &usage),
     };
     ExitCode::from(status)
+}
+
+/// Says why the words can't be followed, and answers the exit status. Then the input is read to its end: whoever writes
+/// into a pipe must not be ended because nobody reads on. At a terminal nobody waits for that.
+fn refuse(rt: &HostRuntime, usage: &Usage) -> u8 {
+    let status = answer_usage(usage, &mut rt.stdout(), &mut rt.stderr());
+    if !rt.stdin().is_terminal() {
+        let _ = drop_rest(&mut rt.reader());
+    }
+    status
 }
 
 /// Follows the words over the standard streams, and answers the exit status.

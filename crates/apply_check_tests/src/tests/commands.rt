@@ -15,6 +15,19 @@ const CUT_OFF: &str = r#"{"type":"version"}
 {"type":"apply_start","hook":{"action":"update","resource":{"addr":"c"}}}
 "#;
 
+/// A stream of a plan that replaces an object.
+const PLANNED: &str = r#"{"type":"version"}
+{"type":"planned_change","change":{"action":"replace"}}
+{"type":"change_summary","changes":{"operation":"plan","add":1,"change":0,"remove":1}}
+"#;
+
+/// A stream of a plan that failed.
+const FAILED_PLAN: &str = r#"{"type":"version"}
+{"type":"planned_change","change":{"action":"update"}}
+{"type":"change_summary","changes":{"operation":"plan","add":0,"change":1,"remove":0}}
+{"type":"diagnostic","diagnostic":{"severity":"error"}}
+"#;
+
 /// What is said of an option that the command doesn't have.
 const UNKNOWN_OPTION: &str = "error: unexpected argument '--jsonl' found
 
@@ -33,8 +46,21 @@ Usage: applystream check [OPTIONS] [FILE]
 For more information, try '--help'.
 ";
 
-/// What is said of a file that is not there.
-const NO_FILE: &str = "applystream: the file could not be opened\n";
+/// What is said of an option that stands twice.
+const TWICE: &str = "error: the argument '--find' cannot be used multiple times
+
+Usage: applystream check [OPTIONS] [FILE]
+
+For more information, try '--help'.
+";
+
+/// What is said of a value of an option that takes none.
+const VALUE: &str = "error: unexpected value 'x' for '--plan' found; no more were expected
+
+Usage: applystream check --plan [FILE]
+
+For more information, try '--help'.
+";
 
 /// What the command has done.
 #[derive(Drop)]
@@ -45,11 +71,19 @@ pub(super) struct Outcome {
 }
 
 /// Checks the stream.
-pub(super) fn checked(alloc: Global, form: Form, stream: &str) -> Outcome {
+pub(super) fn checked(alloc: Global, mode: Mode, form: Form, stream: &[u8]) -> Outcome {
     let mut printed = Vec::new(alloc);
     let mut said = Vec::new(alloc);
-    let mut reader = stream.as_bytes();
-    let checked = check_command(alloc, form, &mut reader, &mut printed, &mut said);
+    let mut reader = stream;
+    let checked = check_command(
+        alloc,
+        mode,
+        form,
+        None,
+        &mut reader,
+        &mut printed,
+        &mut said,
+    );
     Outcome {
         status: checked.status,
         printed,
@@ -57,11 +91,24 @@ pub(super) fn checked(alloc: Global, form: Form, stream: &str) -> Outcome {
     }
 }
 
-/// Checks what the input gives.
-pub(super) fn checked_input<R: Read>(alloc: Global, form: Form, input: &mut R) -> Outcome {
+/// Checks what the input gives, the file of that name where there is one.
+pub(super) fn checked_input<R: Read>(
+    alloc: Global,
+    form: Form,
+    name: Option<&str>,
+    input: &mut R,
+) -> Outcome {
     let mut printed = Vec::new(alloc);
     let mut said = Vec::new(alloc);
-    let checked = check_input(alloc, form, input, &mut printed, &mut said);
+    let checked = check_input(
+        alloc,
+        Mode::PLAIN,
+        form,
+        name,
+        input,
+        &mut printed,
+        &mut said,
+    );
     Outcome {
         status: checked.status,
         printed,
@@ -89,11 +136,19 @@ fn bytes_are(rt: &impl Abort, found: &[u8], text: &str) {
 
 /// Fails where the check of the stream ends with another status or tells something else, as text or as an object. The text
 /// on a stream that is not whole stands where faults do.
-fn told_is(rt: &impl Abort, alloc: Global, stream: &str, status: u8, text: &str, object: &str) {
+fn told_is(
+    rt: &impl Abort,
+    alloc: Global,
+    mode: Mode,
+    stream: &str,
+    status: u8,
+    text: &str,
+    object: &str,
+) {
     let (printed, said) = if status < 2 { (text, "") } else { ("", text) };
-    let told = checked(alloc, Form::Text, stream);
+    let told = checked(alloc, mode, Form::Text, stream.as_bytes());
     outcome_is(rt, &told, status, printed, said);
-    let told = checked(alloc, Form::Json, stream);
+    let told = checked(alloc, mode, Form::Json, stream.as_bytes());
     outcome_is(rt, &told, status, object, "");
 }
 
@@ -103,6 +158,7 @@ fn verdicts_as_text_and_as_objects(rt: HostRuntime) {
     told_is(
         &rt,
         alloc,
+        Mode::PLAIN,
         FAILED,
         1,
         "the stream is whole: 0 added, 0 changed, 0 destroyed, with errors\n",
@@ -111,18 +167,52 @@ fn verdicts_as_text_and_as_objects(rt: HostRuntime) {
     told_is(
         &rt,
         alloc,
+        Mode::PLAIN,
         CUT_OFF,
-        2,
-        "applystream: line 3 comes before all has ended and each failure is explained: create of b[\"x\"] since line 2\n",
-        "{\"address\":\"b[\\\"x\\\"]\",\"fault\":\"unended\",\"line\":3,\"open\":\"create\",\"other\":2,\"whole\":false}\n",
+        4,
+        "applystream: line 3 comes before all has ended and each failure is explained: 2 stand open: create of b[\"x\"] since line 2, update of c since line 3\n",
+        "{\"fault\":\"unended\",\"line\":3,\"open\":[{\"address\":\"b[\\\"x\\\"]\",\"kind\":\"create\",\"line\":2},{\"address\":\"c\",\"kind\":\"update\",\"line\":3}],\"whole\":false}\n",
     );
     told_is(
         &rt,
         alloc,
+        Mode::PLAIN,
         "x",
-        2,
-        "applystream: line 1 is not a message\n",
-        "{\"fault\":\"not_a_message\",\"line\":1,\"whole\":false}\n",
+        4,
+        "applystream: line 1 is cut off: x\n",
+        "{\"cut_off\":true,\"fault\":\"not_a_message\",\"line\":1,\"text\":\"x\",\"whole\":false}\n",
+    );
+}
+
+#[test]
+fn plans_as_text_and_as_objects(rt: HostRuntime) {
+    let alloc = rt.alloc();
+    told_is(
+        &rt,
+        alloc,
+        PLAN,
+        PLANNED,
+        0,
+        "the plan's stream is whole: 1 to add, 0 to change, 1 to destroy\n",
+        "{\"add\":1,\"change\":0,\"errors\":false,\"lines\":3,\"plan\":true,\"remove\":1,\"whole\":true}\n",
+    );
+    told_is(
+        &rt,
+        alloc,
+        PLAN,
+        FAILED_PLAN,
+        1,
+        "the plan's stream is whole: 0 to add, 1 to change, 0 to destroy, with errors\n",
+        "{\"add\":0,\"change\":1,\"errors\":true,\"lines\":4,\"plan\":true,\"remove\":0,\"whole\":true}\n",
+    );
+    told_is(
+        &rt,
+        alloc,
+        Mode::PLAIN,
+        FAILED_PLAN,
+        1,
+        "the stream is whole: 0 added, 0 changed, 0 destroyed, with errors\n",
+        "{\"add\":0,\"change\":0,\"errors\":true,\"lines\":4,\"remove\":0,\"whole\":true}\n",
     );
 }
 
@@ -176,10 +266,43 @@ fn words(rt: HostRuntime) {
     let alloc = rt.alloc();
     let text = "the stream is whole: 0 added, 0 changed, 0 destroyed, with errors\n";
     followed_is(&rt, &rt, alloc, "", 1, text, "");
+    followed_is(&rt, &rt, alloc, "-", 1, text, "");
+    followed_is(&rt, &rt, alloc, "--plan -- -", 1, text, "");
     let object =
         "{\"add\":0,\"change\":0,\"errors\":true,\"lines\":4,\"remove\":0,\"whole\":true}\n";
     followed_is(&rt, &rt, alloc, "--json", 1, object, "");
-    followed_is(&rt, &rt, alloc, "no_such_file.jsonl", 2, "", NO_FILE);
+    let passed = "applystream: line 4 is the last, and no summary came\n";
+    followed_is(&rt, &rt, alloc, "--find", 4, "", passed);
+}
+
+/// Words that name a file, and what is said.
+const FILES: &str = r#"
+no_such_file.jsonl => the file no_such_file.jsonl could not be opened: No such file or directory (os error 2)
+--json --find --plan no_such_file.jsonl => the file no_such_file.jsonl could not be opened: No such file or directory (os error 2)
+-- --json => the file --json could not be opened: No such file or directory (os error 2)
+. => the file . could not be read: Is a directory (os error 21)
+"#;
+
+/// Fails where something else is said of the words of that row than the row says.
+fn file_is_refused<F: Files>(rt: &impl Abort, files: &F, alloc: Global, row: &str) {
+    let (words, said) = cells(rt, row);
+    let said = format!(in alloc; "applystream: {said}\n").expect(rt, "memory");
+    followed_is(rt, files, alloc, words, 2, "", said.as_str());
+}
+
+#[test]
+fn files_refused(rt: HostRuntime) {
+    for row in FILES.trim().lines() {
+        file_is_refused(&rt, &rt, rt.alloc(), row);
+    }
+}
+
+/// What is typed is shown so that it steers no terminal.
+#[test]
+fn name_that_steers(rt: HostRuntime) {
+    let said =
+        "applystream: the file \\u001b[2J\\u202e could not be opened: No such file or directory (os error 2)\n";
+    followed_is(&rt, &rt, rt.alloc(), "\u{1b}[2J\u{202e}", 2, "", said);
 }
 
 #[test]
@@ -200,7 +323,8 @@ fn words_refused(rt: HostRuntime) {
     let alloc = rt.alloc();
     followed_is(&rt, &rt, alloc, "--jsonl", 2, "", UNKNOWN_OPTION);
     followed_is(&rt, &rt, alloc, "a.jsonl b.jsonl", 2, "", SECOND_FILE);
-    followed_is(&rt, &rt, alloc, "--json no_such_file.jsonl", 2, "", NO_FILE);
+    followed_is(&rt, &rt, alloc, "--find --json --find", 2, "", TWICE);
+    followed_is(&rt, &rt, alloc, "--plan=x", 2, "", VALUE);
 }
 
 /// A writer that fails.
@@ -227,7 +351,15 @@ fn full_is<E: Write>(
     status: u8,
 ) {
     let mut reader = stream.as_bytes();
-    let found = check_command(alloc, form, &mut reader, &mut Full, faults);
+    let found = check_command(
+        alloc,
+        Mode::PLAIN,
+        form,
+        None,
+        &mut reader,
+        &mut Full,
+        faults,
+    );
     assert_eq!(rt; found.status, status);
     assert!(rt; found.is_read_whole);
 }
@@ -238,6 +370,6 @@ fn output_fails(rt: HostRuntime) {
     let mut said = Vec::new(alloc);
     full_is(&rt, alloc, Form::Text, FAILED, &mut said, 3);
     bytes_are(&rt, &said, "applystream: the output could not be written\n");
-    full_is(&rt, alloc, Form::Text, CUT_OFF, &mut Full, 2);
+    full_is(&rt, alloc, Form::Text, CUT_OFF, &mut Full, 4);
     full_is(&rt, alloc, Form::Json, CUT_OFF, &mut Full, 3);
 }

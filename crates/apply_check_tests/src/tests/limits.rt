@@ -21,7 +21,7 @@ fn line_gives(
     wanted: Result<(), Fault>,
 ) {
     assert!(rt; !checker.is_full());
-    assert_eq!(rt; checker.line(alloc, line), wanted);
+    assert_eq!(rt; checker.line(alloc, Mode::PLAIN, line), wanted);
 }
 
 #[test]
@@ -56,7 +56,7 @@ fn nesting(rt: HostRuntime) {
     let alloc = rt.alloc();
     let mut checker = Checker::new(alloc);
     let deep = nested(&rt, alloc, 127);
-    let fault = Err(Fault::NotAMessage);
+    let fault = Err(Fault::NotJson);
     line_gives(&rt, alloc, &mut checker, deep.as_bytes(), fault);
     let shallow = nested(&rt, alloc, 126);
     line_gives(&rt, alloc, &mut checker, shallow.as_bytes(), Ok(()));

@@ -27,7 +27,7 @@ const TABLE: &str =
 
 /// What is found in what the reader gives.
 fn found<R: BufRead>(rt: &impl Abort, alloc: Global, reader: &mut R) -> String {
-    match check(alloc, reader) {
+    match check(alloc, Mode::PLAIN, reader) {
         Ok(whole) => {
             let added = whole.totals.added;
             let changed = whole.totals.changed;
@@ -142,11 +142,42 @@ fn reader_fails_where_objects_are_wanted(rt: HostRuntime) {
     };
     outcome_is(
         &rt,
-        &checked_input(rt.alloc(), Form::Json, &mut broken),
+        &checked_input(rt.alloc(), Form::Json, None, &mut broken),
         2,
         "",
         "applystream: the stream could not be read\n",
     );
+}
+
+/// A reader that fails with an error of the system.
+#[derive(Drop)]
+struct Unreadable;
+
+impl Read for Unreadable {
+    fn read(&mut self, _buf: &mut [u8]) -> io::Result<usize> {
+        Err(io::Error::from_raw_os_error(5))
+    }
+}
+
+/// Fails where something else is said of a reader that fails, which the file of that name gives.
+fn unreadable_is(rt: &impl Abort, alloc: Global, name: Option<&str>, said: &str) {
+    let told = checked_input(alloc, Form::Text, name, &mut Unreadable);
+    outcome_is(rt, &told, 2, "", said);
+}
+
+/// Of a file its name is told, so that it steers no terminal, and the reason.
+#[test]
+fn file_fails(rt: HostRuntime) {
+    let alloc = rt.alloc();
+    unreadable_is(
+        &rt,
+        alloc,
+        None,
+        "applystream: the stream could not be read\n",
+    );
+    let said =
+        "applystream: the file a\\n\\u001b[2J could not be read: Input/output error (os error 5)\n";
+    unreadable_is(&rt, alloc, Some("a\n\u{1b}[2J"), said);
 }
 
 /// What is wrong is told before the reader fails behind it.

@@ -52,7 +52,15 @@ fn all_is_read(rt: &impl Abort, alloc: Global, form: Form, bytes: &[u8]) {
     };
     let mut printed = Vec::new(alloc);
     let mut said = Vec::new(alloc);
-    let checked = check_input(alloc, form, &mut input, &mut printed, &mut said);
+    let checked = check_input(
+        alloc,
+        Mode::PLAIN,
+        form,
+        None,
+        &mut input,
+        &mut printed,
+        &mut said,
+    );
     assert!(rt; checked.is_read_whole);
     assert_eq!(rt; input.given, bytes.len());
 }
@@ -60,7 +68,7 @@ fn all_is_read(rt: &impl Abort, alloc: Global, form: Form, bytes: &[u8]) {
 /// Fails where what stands behind the lines of those names is left unread: as many bytes again, and more than one read
 /// gives.
 fn row_is_read(rt: &impl Abort, alloc: Global, row: &str) {
-    let stream = stream_of(rt, alloc, row);
+    let stream = stream_of(rt, alloc, LINES, row);
     let rest = stream.as_str().repeat(alloc, 1_000).expect(rt, "memory");
     let all = format!(in alloc; "{stream}{rest}").expect(rt, "memory");
     all_is_read(rt, alloc, Form::Text, all.as_str().as_bytes());

@@ -35,7 +35,7 @@ module _ {S : Type 0} (selection : Selection S) where
   get_member_trimmed shape known k no_members looked = refl
   get_member_trimmed shape known k (member l e ms) looked = get_member_trimmed_at (order k l) shape known k l e ms refl looked (get_member_trimmed shape known k ms looked)
 
-  get_trimmed : (shape known : S) (k : List ℕ) (d : Data) → selection.member_shape shape k ≡ Some known → get k (trimmed selection shape d) ≡ option_map (trimmed selection known) (get k d)
+  pub get_trimmed : (shape known : S) (k : List ℕ) (d : Data) → selection.member_shape shape k ≡ Some known → get k (trimmed selection shape d) ≡ option_map (trimmed selection known) (get k d)
   get_trimmed shape known k null looked = refl
   get_trimmed shape known k (boolean b) looked = refl
   get_trimmed shape known k (number n) looked = refl

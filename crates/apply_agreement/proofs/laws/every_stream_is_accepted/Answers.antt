@@ -3,9 +3,10 @@ use Rattle.apply_agreement.proofs.Bytes.{stream_accepted}
 use Rattle.apply_agreement.proofs.ObjectsHeard.{objects_heard}
 use Rattle.apply_agreement.proofs.Tallies.{run_accepted}
 use Rattle.apply_agreement.specs.Accepted.{whole_stream}
+use Rattle.apply_agreement.specs.Passing.{plain}
 use Rattle.apply_agreement.proofs.laws.every_stream_is_accepted.Goals as goal
 
 pub returns : goal.returns
-returns c work workers start lists events operation ordinary provisioned dealt told read =
-    stream_accepted c.a_line_has_one_line_feed.ensures work.plan work.script start operation events (whole_stream work.plan events) read
-    (objects_heard work.plan work.script start operation events ∙ run_accepted work workers lists events ordinary provisioned dealt told)
+returns c plans work workers start lists events operation ordinary provisioned dealt told read =
+    stream_accepted plans c.a_line_has_one_line_feed.ensures work.plan work.script start operation events (whole_stream work.plan events) read
+    (objects_heard (plain plans) work.plan work.script start operation events ∙ run_accepted plans work workers lists events ordinary provisioned dealt told)

@@ -8,14 +8,14 @@ use Rattle.apply_cli.proofs.in_lanes.run_in_lanes.Goals as goal
 
 pub returns-clause-applied : goal.returns-clause-applied
 returns-clause-applied g c =
-    of_input c.read_all-input.result (g.R.Read.remaining c.args.input) c.run_input_in_lanes.result.1
-    (λ bytes. HasAppliedInLanes (record { plan = bytes; script = option_copied c.args.script; hooks = rules_of c.args.registry.now }) c.args.lanes c.args.settings.now.at c.args.settings.now.operation (sight_of g.W.Write.contents c.args.output) (sight_of g.W.Write.contents c.run_input_in_lanes.result.0) c.run_input_in_lanes.result.1)
+    of_input c.read_input-plan.result.0 (g.R.Read.remaining c.args.input) c.run_input_in_lanes-output.result.1
+    (λ bytes. HasAppliedInLanes (record { plan = bytes; script = option_copied c.args.script; hooks = rules_of c.args.registry.now }) c.args.lanes c.args.settings.now.at c.args.settings.now.operation (sight_of g.W.Write.contents c.args.output) (sight_of g.W.Write.contents c.run_input_in_lanes-output.result.0) c.run_input_in_lanes-output.result.1)
     (λ bytes h. (h.applied.plan, h.applied.read.plan_is))
-    c.read_all-input.ensures.bytes c.run_input_in_lanes.ensures.applied c.run_input_in_lanes.ensures.unread
+    c.read_input-plan.ensures.bytes c.run_input_in_lanes-output.ensures.applied c.run_input_in_lanes-output.ensures.unread
 
 pub returns-clause-cut_off : goal.returns-clause-cut_off
 returns-clause-cut_off g c =
-    of_input_in_part c.read_all-input.result (g.R.Read.remaining c.args.input) c.run_input_in_lanes.result.1 (Keeps (g.W.Write.contents c.args.output.writer) (g.W.Write.contents c.run_input_in_lanes.result.0.writer))
-    (λ bytes. HasBegunInLanes (record { plan = bytes; script = option_copied c.args.script; hooks = rules_of c.args.registry.now }) c.args.lanes c.args.settings.now.at c.args.settings.now.operation (g.W.Write.contents c.args.output.writer) (g.W.Write.contents c.run_input_in_lanes.result.0.writer))
+    of_input_in_part c.read_input-plan.result.0 (g.R.Read.remaining c.args.input) c.run_input_in_lanes-output.result.1 (Keeps (g.W.Write.contents c.args.output.writer) (g.W.Write.contents c.run_input_in_lanes-output.result.0.writer))
+    (λ bytes. HasBegunInLanes (record { plan = bytes; script = option_copied c.args.script; hooks = rules_of c.args.registry.now }) c.args.lanes c.args.settings.now.at c.args.settings.now.operation (g.W.Write.contents c.args.output.writer) (g.W.Write.contents c.run_input_in_lanes-output.result.0.writer))
     (λ bytes h. (h.plan, h.read.plan_is))
-    c.read_all-input.ensures.bytes c.run_input_in_lanes.ensures.cut_off c.run_input_in_lanes.ensures.untouched
+    c.read_input-plan.ensures.bytes c.run_input_in_lanes-output.ensures.cut_off c.run_input_in_lanes-output.ensures.untouched

@@ -8,14 +8,14 @@ use Rattle.apply_cli.proofs.run.run_command.Goals as goal
 
 pub returns-clause-applied : goal.returns-clause-applied
 returns-clause-applied g c =
-    of_input c.read_all-input.result (g.R.Read.remaining c.args.input) c.run_input.result.1
-    (λ bytes. HasApplied (record { plan = bytes; script = option_copied c.args.script; hooks = rules_of c.args.registry.now }) (options_of c.args.settings.now) (sight_of g.W.Write.contents c.args.output) (sight_of g.W.Write.contents c.run_input.result.0) c.run_input.result.1)
+    of_input c.read_input-plan.result.0 (g.R.Read.remaining c.args.input) c.run_input-output.result.1
+    (λ bytes. HasApplied (record { plan = bytes; script = option_copied c.args.script; hooks = rules_of c.args.registry.now }) (options_of c.args.settings.now) (sight_of g.W.Write.contents c.args.output) (sight_of g.W.Write.contents c.run_input-output.result.0) c.run_input-output.result.1)
     (λ bytes h. (h.applied.plan, h.applied.read.plan_is))
-    c.read_all-input.ensures.bytes c.run_input.ensures.applied c.run_input.ensures.unread
+    c.read_input-plan.ensures.bytes c.run_input-output.ensures.applied c.run_input-output.ensures.unread
 
 pub returns-clause-cut_off : goal.returns-clause-cut_off
 returns-clause-cut_off g c =
-    of_input_in_part c.read_all-input.result (g.R.Read.remaining c.args.input) c.run_input.result.1 (Keeps (g.W.Write.contents c.args.output.writer) (g.W.Write.contents c.run_input.result.0.writer))
-    (λ bytes. HasBegun (record { plan = bytes; script = option_copied c.args.script; hooks = rules_of c.args.registry.now }) (options_of c.args.settings.now) (g.W.Write.contents c.args.output.writer) (g.W.Write.contents c.run_input.result.0.writer))
+    of_input_in_part c.read_input-plan.result.0 (g.R.Read.remaining c.args.input) c.run_input-output.result.1 (Keeps (g.W.Write.contents c.args.output.writer) (g.W.Write.contents c.run_input-output.result.0.writer))
+    (λ bytes. HasBegun (record { plan = bytes; script = option_copied c.args.script; hooks = rules_of c.args.registry.now }) (options_of c.args.settings.now) (g.W.Write.contents c.args.output.writer) (g.W.Write.contents c.run_input-output.result.0.writer))
     (λ bytes h. (h.plan, h.read.plan_is))
-    c.read_all-input.ensures.bytes c.run_input.ensures.cut_off c.run_input.ensures.untouched
+    c.read_input-plan.ensures.bytes c.run_input-output.ensures.cut_off c.run_input-output.ensures.untouched

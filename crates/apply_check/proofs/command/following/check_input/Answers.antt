@@ -1,0 +1,15 @@
+use Rattle.std.proofs.Common.{Option, None, Some, Err, inl, List, ℕ}
+use Rattle.std.specs.Prelude.{IfSome}
+use Rattle.apply_check.specs.Cut.{cut_lines}
+use Rattle.apply_check.specs.Reading.{IsAnswer}
+use Rattle.apply_check.specs.declared.rules.mode.Mode.{Mode}
+use Rattle.apply_check.specs.declared.verdict.read_fault.ReadFault.TheVariants as read
+use Rattle.apply_check.proofs.command.following.check_input.Goals as goal
+
+-- want of memory answers nothing, whatever the input holds
+no_answer : (mode : Mode) (known : Option (List ℕ)) → IfSome known (λ bytes. IsAnswer mode (cut_lines bytes) (Err read.Memory))
+no_answer mode None = tt
+no_answer mode (Some bytes) = tt
+
+pub returns-clause-told : goal.returns-clause-told
+returns-clause-told g c = (Err read.Memory, no_answer c.args.mode (g.R.Read.remaining c.args.input.now), inl c.refuse_memory-status.ensures)

@@ -1,0 +1,16 @@
+use Rattle.std.proofs.Common.{◌≡◌, ◌∷◌, ap, refl, true, None}
+use Rattle.std.specs.Option.{option_copied}
+use Rattle.apply_check.specs.Message.{diagnostic}
+use Rattle.apply_check.specs.Tallied.{with_error}
+use Rattle.apply_check.proofs.Continuing.{plain_read, still_error}
+use Rattle.apply_check.proofs.Counting.{error_tallied}
+use Rattle.apply_check.proofs.rules.checker.Checker.diagnostic.Goals as goal
+
+pub returns-in-None : goal.returns-in-None
+returns-in-None c = λ messages read.
+    let none : option_copied c.args.address ≡ None = ap option_copied c.in-None.is in
+    let error : c.args.is_error ≡ true = c.if-not-is_error.false in (
+      diagnostic true None ∷ messages,
+      rw (none, error) refl,
+      plain_read c.args.self.now _ (diagnostic true None) messages with_error read (λ b. refl) c.with_error-self.ensures.value (error_tallied messages) (still_error messages),
+    )

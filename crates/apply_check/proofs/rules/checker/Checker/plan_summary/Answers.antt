@@ -1,0 +1,17 @@
+use Rattle.std.proofs.Common.{◌≡◌, ◌∷◌, ◌∙◌, ap, refl, sym, true}
+use Rattle.apply_check.specs.declared.rules.tally.Tally.{Tally}
+use Rattle.apply_check.specs.Message.{plan_summary}
+use Rattle.apply_check.specs.Tallied.{with_plan_summary}
+use Rattle.apply_check.specs.Tally.{planned_totals, same_totals}
+use Rattle.apply_check.proofs.Continuing.{no_plan_summary, no_summary, plain_read, still_plan_summary}
+use Rattle.apply_check.proofs.Counting.{plan_summary_tallied}
+use Rattle.apply_check.proofs.Summing.{foreseen_right}
+use Rattle.apply_check.proofs.rules.checker.Checker.plan_summary.Goals as goal
+
+pub returns : goal.returns
+returns c = λ messages read.
+    let right : same_totals c.args.totals (planned_totals messages) ≡ true = ap (λ (t : Tally). same_totals c.args.totals t.planned) (sym read.tally) ∙ sym c.if-not-agree.ensures in (
+      plan_summary c.args.totals ∷ messages,
+      foreseen_right messages c.args.totals (no_summary c.args.self.now messages read c.in_default.not-Some) (no_plan_summary c.args.self.now messages read c.in_default-plan_summary.not-Some) right,
+      plain_read c.args.self.now _ (plan_summary c.args.totals) messages with_plan_summary read (λ b. refl) c.with_plan_summary-self.ensures.value (plan_summary_tallied c.args.totals messages) (still_plan_summary c.args.totals messages),
+    )

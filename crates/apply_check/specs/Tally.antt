@@ -1,0 +1,238 @@
+-- What the lines before a line say, counted: the latest message is the first of the list.
+use Rattle.std.specs.Prelude.{ℕ, ◌+◌, ◌-◌, ◌==◌, List, [], ◌∷◌, length, count_by, Bool, true, false, ◌&&◌, nat_lt, if◌then◌else◌, Option, Some, None}
+use Rattle.apply_check.specs.declared.messages.action.Action.{Action}
+use Rattle.apply_check.specs.declared.messages.action.Action.TheVariants.{Create, Update, Delete, Read, Refresh}
+use Rattle.apply_check.specs.declared.messages.timed_stage.TimedStage.{TimedStage}
+use Rattle.apply_check.specs.declared.messages.timed_stage.TimedStage.TheVariants.{Start, Progress, Complete, Errored}
+use Rattle.apply_check.specs.declared.messages.totals.Totals.{Totals}
+use Rattle.apply_check.specs.declared.rules.failures.Failures.{Failures}
+use Rattle.apply_check.specs.Intents.{creates, deletes, intent_of, updates}
+use Rattle.apply_check.specs.Message.{Message, version, step, provision, planned, plan_summary, summary, diagnostic, outputs, other, foreign}
+use Rattle.apply_check.specs.Standing.{may_fail, standing_of}
+use Rattle.apply_check.specs.Words.{same_action}
+
+-- ---- which message it is
+
+abbrev pub is_version : Message → Bool
+is_version version = true
+is_version (step address action stage) = false
+is_version (provision address stage) = false
+is_version (planned intent) = false
+is_version (plan_summary totals) = false
+is_version (summary totals) = false
+is_version (diagnostic is_error address) = false
+is_version outputs = false
+is_version other = false
+is_version foreign = false
+
+abbrev pub is_planned : Message → Bool
+is_planned (planned intent) = true
+is_planned version = false
+is_planned (step address action stage) = false
+is_planned (provision address stage) = false
+is_planned (plan_summary totals) = false
+is_planned (summary totals) = false
+is_planned (diagnostic is_error address) = false
+is_planned outputs = false
+is_planned other = false
+is_planned foreign = false
+
+abbrev pub is_plan_summary : Message → Bool
+is_plan_summary (plan_summary totals) = true
+is_plan_summary version = false
+is_plan_summary (step address action stage) = false
+is_plan_summary (provision address stage) = false
+is_plan_summary (planned intent) = false
+is_plan_summary (summary totals) = false
+is_plan_summary (diagnostic is_error address) = false
+is_plan_summary outputs = false
+is_plan_summary other = false
+is_plan_summary foreign = false
+
+abbrev pub is_summary : Message → Bool
+is_summary (summary totals) = true
+is_summary version = false
+is_summary (step address action stage) = false
+is_summary (provision address stage) = false
+is_summary (planned intent) = false
+is_summary (plan_summary totals) = false
+is_summary (diagnostic is_error address) = false
+is_summary outputs = false
+is_summary other = false
+is_summary foreign = false
+
+-- an error, whether it names an address or not
+abbrev pub is_error : Message → Bool
+is_error (diagnostic b address) = b
+is_error version = false
+is_error (step address action stage) = false
+is_error (provision address stage) = false
+is_error (planned intent) = false
+is_error (plan_summary totals) = false
+is_error (summary totals) = false
+is_error outputs = false
+is_error other = false
+is_error foreign = false
+
+-- an error that names no address
+abbrev pub is_error_alone : Message → Bool
+is_error_alone (diagnostic b None) = b
+is_error_alone (diagnostic b (Some address)) = false
+is_error_alone version = false
+is_error_alone (step address action stage) = false
+is_error_alone (provision address stage) = false
+is_error_alone (planned intent) = false
+is_error_alone (plan_summary totals) = false
+is_error_alone (summary totals) = false
+is_error_alone outputs = false
+is_error_alone other = false
+is_error_alone foreign = false
+
+abbrev pub is_foreign : Message → Bool
+is_foreign foreign = true
+is_foreign version = false
+is_foreign (step address action stage) = false
+is_foreign (provision address stage) = false
+is_foreign (planned intent) = false
+is_foreign (plan_summary totals) = false
+is_foreign (summary totals) = false
+is_foreign (diagnostic is_error address) = false
+is_foreign outputs = false
+is_foreign other = false
+
+-- the line of the latest message that passes, where one does
+abbrev pub line_of : (Message → Bool) → List Message → Option ℕ
+line_of test [] = None
+line_of test (message ∷ earlier) = if test message then Some (length earlier + 1) else line_of test earlier
+
+-- ---- totals
+
+-- a step of that action, at a stage that passes
+abbrev pub is_step : Action → (TimedStage → Bool) → Message → Bool
+is_step action test (step address k stage) = test stage && same_action k action
+is_step action test version = false
+is_step action test (provision address stage) = false
+is_step action test (planned intent) = false
+is_step action test (plan_summary totals) = false
+is_step action test (summary totals) = false
+is_step action test (diagnostic is_error address) = false
+is_step action test outputs = false
+is_step action test other = false
+is_step action test foreign = false
+
+abbrev pub is_begin : TimedStage → Bool
+is_begin Start = true
+is_begin (Progress seconds) = false
+is_begin (Complete seconds) = false
+is_begin (Errored seconds) = false
+
+abbrev pub is_completion : TimedStage → Bool
+is_completion (Complete seconds) = true
+is_completion Start = false
+is_completion (Progress seconds) = false
+is_completion (Errored seconds) = false
+
+-- it tells that the action was completed
+abbrev pub completes : Action → Message → Bool
+completes action message = is_step action is_completion message
+
+-- it tells that the action has begun
+abbrev pub begins : Action → Message → Bool
+begins action message = is_step action is_begin message
+
+-- how many creates, updates and deletes were completed
+abbrev pub completed_totals : List Message → Totals
+completed_totals messages = record {
+  added = count_by (completes Create) messages;
+  changed = count_by (completes Update) messages;
+  removed = count_by (completes Delete) messages;
+}
+
+-- how many of them have begun
+abbrev pub begun_totals : List Message → Totals
+begun_totals messages = record {
+  added = count_by (begins Create) messages;
+  changed = count_by (begins Update) messages;
+  removed = count_by (begins Delete) messages;
+}
+
+-- a planned change is a create, an update, a delete
+abbrev pub plans_create : Message → Bool
+plans_create message = creates (intent_of message)
+
+abbrev pub plans_update : Message → Bool
+plans_update message = updates (intent_of message)
+
+abbrev pub plans_delete : Message → Bool
+plans_delete message = deletes (intent_of message)
+
+-- how many were planned; a replacement is a create and a delete
+abbrev pub planned_totals : List Message → Totals
+planned_totals messages = record {
+  added = count_by plans_create messages;
+  changed = count_by plans_update messages;
+  removed = count_by plans_delete messages;
+}
+
+abbrev pub same_totals : Totals → Totals → Bool
+same_totals said found =
+    (said.added == found.added) && (said.changed == found.changed) && (said.removed == found.removed)
+
+abbrev pub no_totals : Totals
+no_totals = record { added = 0; changed = 0; removed = 0 }
+
+-- how many of the action there are among the totals; reads and refreshes are not counted
+abbrev pub share_of : Action → Totals → Option ℕ
+share_of Create totals = Some totals.added
+share_of Update totals = Some totals.changed
+share_of Delete totals = Some totals.removed
+share_of Read totals = None
+share_of Refresh totals = None
+
+-- ---- failures
+
+abbrev pub failure_count : Option Failures → ℕ
+failure_count None = 0
+failure_count (Some failures) = failures.count
+
+-- how many failures are left: an error with an address takes away all failures there that were told before it
+abbrev pub failures_behind : Message → (earlier : List Message) → ℕ → ℕ
+failures_behind (step address action (Errored seconds)) earlier n = if may_fail action then n + 1 else n
+failures_behind (step address action Start) earlier n = n
+failures_behind (step address action (Progress seconds)) earlier n = n
+failures_behind (step address action (Complete seconds)) earlier n = n
+failures_behind (diagnostic true (Some address)) earlier n = n - failure_count (standing_of address earlier).failures
+failures_behind (diagnostic true None) earlier n = n
+failures_behind (diagnostic false address) earlier n = n
+failures_behind version earlier n = n
+failures_behind (provision address stage) earlier n = n
+failures_behind (planned intent) earlier n = n
+failures_behind (plan_summary totals) earlier n = n
+failures_behind (summary totals) earlier n = n
+failures_behind outputs earlier n = n
+failures_behind other earlier n = n
+failures_behind foreign earlier n = n
+
+unfoldable pub failures_left : List Message → ℕ
+failures_left [] = 0
+failures_left (message ∷ earlier) = failures_behind message earlier (failures_left earlier)
+
+-- failures stand open where more are left than errors without an address were told
+abbrev pub failures_stand : List Message → Bool
+failures_stand messages = nat_lt (count_by is_error_alone messages) (failures_left messages)
+
+-- ---- outputs
+
+-- the outputs of a summary are still to come
+abbrev pub awaits_outputs : List Message → Bool
+awaits_outputs [] = false
+awaits_outputs (plan_summary totals ∷ earlier) = true
+awaits_outputs (summary totals ∷ earlier) = true
+awaits_outputs (outputs ∷ earlier) = false
+awaits_outputs (version ∷ earlier) = awaits_outputs earlier
+awaits_outputs (step address action stage ∷ earlier) = awaits_outputs earlier
+awaits_outputs (provision address stage ∷ earlier) = awaits_outputs earlier
+awaits_outputs (planned intent ∷ earlier) = awaits_outputs earlier
+awaits_outputs (diagnostic is_error address ∷ earlier) = awaits_outputs earlier
+awaits_outputs (other ∷ earlier) = awaits_outputs earlier
+awaits_outputs (foreign ∷ earlier) = awaits_outputs earlier

@@ -1,0 +1,168 @@
+//! The words of the command line.
+
+ghost use Rattle.std.specs.Prelude.{◌≡◌, Some, true, false, IfOk, IfErr, codes, map, option_map, string_bytes};
+ghost use Rattle.clap.specs.Matches.{found_of};
+ghost use Rattle.clap.specs.Simple.{app_of};
+ghost use Rattle.clap.specs.Values.{kind_of};
+ghost use Rattle.clap.specs.Walk.{first_of, one_of, rows_of, rule_of};
+ghost use Rattle.apply_check.specs.CommandLine.{Answers, AreSaid, HaveSaid, WereRefused, command_line, file_rule, find_rule, json_rule, plan_rule, unless_dash};
+ghost use Rattle.apply_check.specs.declared.command.form.Form.TheVariants as forms;
+
+use crate::command::form::Form;
+use crate::command::settings::Settings;
+use crate::command::usage::Usage;
+use crate::rules::mode::Mode;
+use clap::error::ErrorKind;
+use clap::{Arg, ArgAction, ArgMatches, Command};
+use std::alloc::{AllocError, Global};
+
+const ABOUT: &str =
+    "Says whether a stream of `terraform apply -json` is whole: each event of a step once, in its order, and totals that agree.
+
+Standard input: the stream, one JSON object a line, where FILE is `-` or none is named. It is read to its end, so that
+no finding ends whoever writes it.
+Standard output: what was done, where the stream is whole.
+Standard error: the first line that shows that it is not, and why.";
+
+const AFTER: &str = r#"Example, while Terraform writes the stream:
+  terraform apply -json tfplan | tee stream.jsonl | applystream check
+
+Example of the log of a job:
+  applystream check --find job.log
+
+Example of a stream that was cut off:
+  $ applystream check stream.jsonl
+  applystream: line 4 comes before all has ended and each failure is explained: create of null_resource.a since line 2
+
+Exit status:
+  0  the stream is whole, and tells of no error; or help was asked for
+  1  the stream is whole, and tells of an error
+  2  the stream could not be checked: wrong arguments, or a file or a stream that can't be read
+  3  memory was refused, or the output could not be written
+  4  the stream is not whole"#;
+
+/// The settings that the words behind `check` say. `Err` with `Usage::Help` where they ask for help, with
+/// `Usage::Words` where they are none of this command, and with `Usage::Memory` where memory is refused.
+pub fn read_words(alloc: Global, words: &[String]) -> Result<Settings, Usage>
+    ensures said { IfOk result (HaveSaid (map string_bytes words.now)) }
+    ensures refused { IfErr result (WereRefused (map string_bytes words.now)) }
+{
+    let command = command(alloc)?;
+    match command.try_get_matches_from(words) {
+        Ok(matches) => Ok(settings_of(alloc, &matches)?),
+        Err(error) => Err(usage_of(alloc, &error)?),
+    }
+}
+
+/// The options, and their help.
+fn command<'a>(alloc: Global) -> Result<Command<'a>, AllocError>
+    ensures { IfOk result (λ command. app_of command ≡ command_line) }
+{
+    Command::new(alloc, "applystream check")
+        .no_binary_name(true)
+        .about(ABOUT)
+        .after_help(AFTER)
+        .arg(json(alloc))?
+        .arg(find(alloc))?
+        .arg(plan(alloc))?
+        .arg(file(alloc))
+}
+
+fn json<'a>(alloc: Global) -> Arg<'a>
+    ensures { (rule_of result ≡ json_rule) × (result.global ≡ false) }
+{
+    Arg::new(alloc, "json")
+        .long("json")
+        .action(ArgAction::SetTrue)
+        .help("Says the verdict as a JSON object, on standard output")
+}
+
+fn find<'a>(alloc: Global) -> Arg<'a>
+    ensures { (rule_of result ≡ find_rule) × (result.global ≡ false) }
+{
+    Arg::new(alloc, "find")
+        .long("find")
+        .action(ArgAction::SetTrue)
+        .help("Finds the messages in the lines of a log, and passes other lines over")
+}
+
+fn plan<'a>(alloc: Global) -> Arg<'a>
+    ensures { (rule_of result ≡ plan_rule) × (result.global ≡ false) }
+{
+    Arg::new(alloc, "plan")
+        .long("plan")
+        .action(ArgAction::SetTrue)
+        .help("Takes a stream of `terraform plan -json` too, which ends with the plan's summary")
+}
+
+fn file<'a>(alloc: Global) -> Arg<'a>
+    ensures { (rule_of result ≡ file_rule) × (result.global ≡ false) }
+{
+    Arg::new(alloc, "file")
+        .value_name("FILE")
+        .help("The file with the stream; `-` is standard input")
+}
+
+/// What the matches say.
+fn settings_of(alloc: Global, matches: &ArgMatches<'_>) -> Result<Settings, AllocError>
+    ensures { IfOk result (AreSaid (rows_of (found_of matches.now))) }
+{
+    let file = file_of(alloc, matches)?;
+    Ok(Settings {
+        mode: Mode {
+            find: is_given(matches, "find"),
+            plan: is_given(matches, "plan"),
+        },
+        form: form_of(matches),
+        file,
+    })
+}
+
+/// The file of the stream, where one is named; `-` names standard input.
+fn file_of(alloc: Global, matches: &ArgMatches<'_>) -> Result<Option<String>, AllocError>
+    ensures { IfOk result (λ file. option_map string_bytes file ≡ unless_dash (first_of (codes "file") (rows_of (found_of matches.now)))) }
+{
+    match matches.get_str("file") {
+        Some(file) => if file == "-" {
+            Ok(None)
+        } else {
+            Ok(Some(String::from_str(alloc, file)?))
+        },
+        None => Ok(None),
+    }
+}
+
+/// How the verdict is said.
+fn form_of(matches: &ArgMatches<'_>) -> Form
+    ensures json { one_of (codes "json") (rows_of (found_of matches.now)) ≡ Some (codes "true") → result ≡ forms.Json }
+    ensures text { one_of (codes "json") (rows_of (found_of matches.now)) ≡ Some (codes "false") → result ≡ forms.Text }
+{
+    if is_given(matches, "json") {
+        Form::Json
+    } else {
+        Form::Text
+    }
+}
+
+/// Whether the option of that name is given.
+fn is_given(matches: &ArgMatches<'_>, name: &str) -> bool
+    ensures yes { one_of name.now (rows_of (found_of matches.now)) ≡ Some (codes "true") → result ≡ true }
+    ensures no { one_of name.now (rows_of (found_of matches.now)) ≡ Some (codes "false") → result ≡ false }
+{
+    matches.get_flag(name)
+}
+
+/// What is answered where the parser gives no matches.
+fn usage_of(alloc: Global, error: &clap::Error) -> Result<Usage, AllocError>
+    ensures { IfOk result (Answers (kind_of error.now)) }
+{
+    if error.kind() == ErrorKind::OutOfMemory {
+        return Ok(Usage::Memory);
+    }
+    let text = format!(in alloc; "{error}")?;
+    if error.kind() == ErrorKind::DisplayHelp {
+        Ok(Usage::Help(text))
+    } else {
+        Ok(Usage::Words(text))
+    }
+}

@@ -1,0 +1,80 @@
+//! Reading a stream line by line, with no more of a line in memory than a line may have and what the reader shows at
+//! once.
+
+ghost use Rattle.std.specs.Prelude.{◌≡◌, ◌≢◌, ◌<◌, ◌≤◌, ◌++◌, ℕ, List, All, Some, IfErr, IfOk, IfSome, length, take, slice_get};
+ghost use Rattle.apply_check.specs.Reading.{Gives, IsNoAnswer, Shows};
+
+use crate::lines::line_end::LineEnd;
+use crate::lines::piece::Piece;
+use crate::rules::limits::MAX_BYTES;
+use crate::verdict::read_fault::ReadFault;
+use memchr::memchr;
+use std::io::{BufRead, ErrorKind};
+
+/// Reads the next line, without its line feed. The line is read no further than it is seen to be too long.
+pub fn next_line<R: BufRead>(reader: &mut R, line: &mut Vec<u8>) -> Result<LineEnd, ReadFault>
+    ensures next { IfOk result (λ next. IfSome (R.remaining reader.old)
+        (Gives next line.new.items (R.remaining reader.new))) }
+    ensures refused { IfErr result IsNoAnswer }
+{
+    line.clear();
+    'parts: for _ in 0..u64::MAX {
+        match append_shown(reader, line)? {
+            Piece::Line => return Ok(LineEnd::Line { has_feed: true }),
+            Piece::Part => {
+                if line.len() > MAX_BYTES {
+                    return Ok(LineEnd::TooLong);
+                }
+            }
+            Piece::End => {
+                return Ok(if line.is_empty() {
+                    LineEnd::End
+                } else {
+                    LineEnd::Line { has_feed: false }
+                });
+            }
+        }
+    }
+    Err(ReadFault::Unread(None))
+}
+
+/// Appends what the reader shows of the line. Nothing of it where a signal interrupts the read.
+fn append_shown<R: BufRead>(reader: &mut R, line: &mut Vec<u8>) -> Result<Piece, ReadFault>
+    ensures shown { IfOk result (λ shown. (piece : List ℕ)
+        × (line.new.items ≡ line.old.items ++ piece)
+        × All (λ byte. byte ≢ 10) piece
+        × Shows shown piece (R.remaining reader.old) (R.remaining reader.new)) }
+    ensures refused { IfErr result IsNoAnswer }
+{
+    let available = match reader.fill_buf() {
+        Ok(available) => available,
+        Err(error) => {
+            return if error.kind() == ErrorKind::Interrupted {
+                Ok(Piece::Part)
+            } else {
+                Err(ReadFault::Unread(error.raw_os_error()))
+            };
+        }
+    };
+    let count = available.len();
+    let len = len_before_feed(available);
+    line.extend_from_slice(&available[..len])?;
+    if len < count {
+        reader.consume(len + 1);
+        return Ok(Piece::Line);
+    }
+    reader.consume(len);
+    Ok(if len == 0 { Piece::End } else { Piece::Part })
+}
+
+/// How many bytes stand before the first line feed, or how many there are where there is none.
+fn len_before_feed(bytes: &[u8]) -> usize
+    ensures bound { result ≤ length bytes.now }
+    ensures before { All (λ byte. byte ≢ 10) (take result bytes.now) }
+    ensures feed { result < length bytes.now → slice_get bytes.now result ≡ Some 10 }
+{
+    match memchr(b'\n', bytes) {
+        Some(len) => len,
+        None => bytes.len(),
+    }
+}

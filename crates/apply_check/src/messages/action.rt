@@ -1,0 +1,46 @@
+//! What is done to an object.
+
+ghost use Rattle.std.specs.Prelude.{◌≡◌};
+ghost use Rattle.apply_check.specs.Words.{action_named, action_word};
+
+/// What a step does to its object (`hook.action`). A refresh has no such word: its messages have types of their own.
+#[derive(Clone, Copy, Debug, PartialEq, Eq)]
+pub enum Action {
+    Create,
+    Update,
+    Delete,
+    Read,
+    Refresh,
+}
+
+impl Action {
+    /// The action that the word names.
+    pub fn named(word: &str) -> Option<Action>
+        ensures { result ≡ action_named word.now }
+    {
+        if word == "create" {
+            Some(Action::Create)
+        } else if word == "update" {
+            Some(Action::Update)
+        } else if word == "delete" {
+            Some(Action::Delete)
+        } else if word == "read" {
+            Some(Action::Read)
+        } else {
+            None
+        }
+    }
+
+    /// The word that names the action.
+    pub fn word(self) -> &'static str
+        ensures { result.now ≡ action_word self }
+    {
+        match self {
+            Action::Create => "create",
+            Action::Update => "update",
+            Action::Delete => "delete",
+            Action::Read => "read",
+            Action::Refresh => "refresh",
+        }
+    }
+}

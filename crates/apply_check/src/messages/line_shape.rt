@@ -1,0 +1,94 @@
+//! What of a line is looked at.
+
+ghost use Rattle.std.specs.Prelude.{◌≡◌};
+ghost use Rattle.apply_check.specs.Selection.{is_scalar_of_changes, line_selection, member_shape, scalar_where};
+
+use apply_json::Shape;
+
+/// What of a value in a line is looked at (Machine-Readable UI, "Message Types"). A shape is named after the value that it
+/// belongs to; of no array an item is looked at.
+#[derive(Clone, Copy)]
+pub enum LineShape {
+    /// Neither a member nor an item.
+    Scalar,
+    /// A line.
+    Line,
+    /// `hook` of a line.
+    Hook,
+    /// `resource` of a hook.
+    Resource,
+    /// `change` of a line.
+    Change,
+    /// `changes` of a line.
+    Changes,
+    /// `diagnostic` of a line.
+    Diagnostic,
+}
+
+impl Shape for LineShape {
+    ghost selection = { line_selection };
+
+    fn member(self, name: &str) -> Option<LineShape> {
+        match self {
+            LineShape::Line => member_of_line(name),
+            LineShape::Hook => member_of_hook(name),
+            LineShape::Resource => scalar_where(name == "addr"),
+            LineShape::Change => scalar_where(name == "action"),
+            LineShape::Changes => scalar_where(is_scalar_of_changes(name)),
+            LineShape::Diagnostic => scalar_where(name == "severity" || name == "address"),
+            LineShape::Scalar => None,
+        }
+    }
+
+    fn item(self) -> LineShape {
+        LineShape::Scalar
+    }
+
+    fn limit(self) -> Option<usize> {
+        Some(0)
+    }
+}
+
+fn scalar_where(is_known: bool) -> Option<LineShape>
+    ensures { result ≡ scalar_where is_known }
+{
+    if is_known {
+        Some(LineShape::Scalar)
+    } else {
+        None
+    }
+}
+
+fn is_scalar_of_changes(name: &str) -> bool
+    ensures { result ≡ is_scalar_of_changes name.now }
+{
+    name == "operation" || name == "add" || name == "change" || name == "remove"
+}
+
+fn member_of_line(name: &str) -> Option<LineShape>
+    ensures { result ≡ member_shape LineShape.Line name.now }
+{
+    if name == "hook" {
+        Some(LineShape::Hook)
+    } else if name == "type" {
+        Some(LineShape::Scalar)
+    } else if name == "change" {
+        Some(LineShape::Change)
+    } else if name == "changes" {
+        Some(LineShape::Changes)
+    } else if name == "diagnostic" {
+        Some(LineShape::Diagnostic)
+    } else {
+        None
+    }
+}
+
+fn member_of_hook(name: &str) -> Option<LineShape>
+    ensures { result ≡ member_shape LineShape.Hook name.now }
+{
+    if name == "resource" {
+        Some(LineShape::Resource)
+    } else {
+        scalar_where(name == "action" || name == "elapsed_seconds" || name == "provisioner")
+    }
+}

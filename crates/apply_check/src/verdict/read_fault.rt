@@ -1,0 +1,33 @@
+//! Why a stream that was read is not found to be whole.
+
+ghost use Rattle.std.specs.Prelude.{◌≡◌};
+ghost use Rattle.apply_check.specs.declared.verdict.read_fault.ReadFault.TheVariants.{Memory};
+
+use crate::verdict::finding::Finding;
+use std::alloc::AllocError;
+use thiserror::Error;
+
+/// Why a stream that was read is not found to be whole.
+#[derive(Clone, Copy, Debug, Drop, Error, PartialEq, Eq)]
+pub enum ReadFault {
+    /// It is not whole. The fault is never `Fault::Memory`.
+    #[error("{0}")]
+    Found(Finding),
+    /// It has more than 4,294,967,296 lines.
+    #[error("the stream has more than 4294967296 lines")]
+    TooMany,
+    /// A read failed, with the system's number of the error where it has one.
+    #[error("the stream could not be read")]
+    Unread(Option<i32>),
+    /// Memory was refused.
+    #[error("out of memory")]
+    Memory,
+}
+
+impl From<AllocError> for ReadFault {
+    ghost from_gives = { λ _ fault. fault ≡ Memory };
+
+    fn from(_refused: AllocError) -> ReadFault {
+        ReadFault::Memory
+    }
+}

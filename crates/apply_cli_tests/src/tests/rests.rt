@@ -1,0 +1,137 @@
+//! What is left of an input whose plan was refused: it is read to its end and dropped, behind what is said.
+
+use super::*;
+use apply_cli::{drop_rest, run_in_lanes};
+
+/// The most bytes that a plan may have.
+const MOST: usize = 67_108_864;
+
+/// How many stand behind them here: much more than a pipe holds.
+const BEHIND: usize = 1_048_576;
+
+/// Gives blanks, and counts what is left of them and how often its end was met. One read fails, where just so many are left.
+#[derive(Drop)]
+struct Blanks {
+    left: usize,
+    ends: usize,
+    fails_at: Option<usize>,
+    fault: ErrorKind,
+}
+
+impl Read for Blanks {
+    fn read(&mut self, buffer: &mut [u8]) -> io::Result<usize> {
+        if self.fails_at == Some(self.left) {
+            self.fails_at = None;
+            return Err(io::Error::from(self.fault));
+        }
+        let count = buffer.len().min(self.left);
+        if count == 0 {
+            self.ends = self.ends.saturating_add(1);
+        }
+        buffer[..count].fill(b' ');
+        self.left -= count;
+        Ok(count)
+    }
+}
+
+/// So many blanks, of which all can be read.
+fn all_of(count: usize) -> Blanks {
+    failing(count, None, ErrorKind::Other)
+}
+
+/// So many blanks, and one read that fails.
+fn failing(count: usize, fails_at: Option<usize>, fault: ErrorKind) -> Blanks {
+    Blanks {
+        left: count,
+        ends: 0,
+        fails_at,
+        fault,
+    }
+}
+
+/// Fails where others are left than so many, or the end was not met so often.
+fn left_are(rt: &impl Abort, case: &str, input: &Blanks, left: usize, ends: usize) {
+    assert_eq!(rt; input.left, left, "{case}");
+    assert_eq!(rt; input.ends, ends, "{case}");
+}
+
+/// What is said of a plan that is too large.
+const TOO_LARGE: &str = "the plan is larger than 67108864 bytes";
+
+/// Runs blanks in lanes.
+fn run_lanes(alloc: Global, input: &mut Blanks) -> Outcome {
+    let mut said = Vec::new(alloc);
+    let (output, status) = run_in_lanes(
+        alloc,
+        &defaults(alloc),
+        2,
+        &Registry::new(alloc),
+        None,
+        input,
+        empty(alloc),
+        &mut said,
+    );
+    Outcome {
+        status,
+        printed: output.into_inner(),
+        said,
+    }
+}
+
+#[test]
+fn a_plan_that_is_too_large_is_read_to_its_end(rt: HostRuntime) {
+    let alloc = rt.alloc();
+    let mut input = all_of(MOST + BEHIND);
+    let outcome = run(&rt, alloc, &mut input);
+    outcome_fails(&rt, "workers", &outcome, 2, TOO_LARGE);
+    left_are(&rt, "workers", &input, 0, 1);
+    let mut input = all_of(MOST + BEHIND);
+    let outcome = run_lanes(alloc, &mut input);
+    outcome_fails(&rt, "lanes", &outcome, 2, TOO_LARGE);
+    left_are(&rt, "lanes", &input, 0, 1);
+}
+
+#[test]
+fn an_interrupted_read_behind_a_plan_is_tried_again(rt: HostRuntime) {
+    let mut input = failing(MOST + BEHIND, Some(BEHIND - 1), ErrorKind::Interrupted);
+    let outcome = run(&rt, rt.alloc(), &mut input);
+    outcome_fails(&rt, "interrupted", &outcome, 2, TOO_LARGE);
+    left_are(&rt, "interrupted", &input, 0, 1);
+}
+
+#[test]
+fn a_read_that_fails_behind_a_plan_ends_it(rt: HostRuntime) {
+    let mut input = failing(MOST + BEHIND, Some(BEHIND - 1), ErrorKind::Other);
+    let outcome = run(&rt, rt.alloc(), &mut input);
+    outcome_fails(&rt, "broken", &outcome, 2, TOO_LARGE);
+    left_are(&rt, "broken", &input, BEHIND - 1, 0);
+}
+
+#[test]
+fn the_rest_is_read_where_a_read_of_the_plan_failed(rt: HostRuntime) {
+    let mut input = failing(BEHIND, Some(BEHIND), ErrorKind::Interrupted);
+    let outcome = run(&rt, rt.alloc(), &mut input);
+    let fault = "the plan could not be read";
+    outcome_fails(&rt, "a first read that fails", &outcome, 2, fault);
+    left_are(&rt, "a first read that fails", &input, 0, 1);
+}
+
+/// A terminal would have to say its end twice.
+#[test]
+fn a_plan_that_was_read_whole_is_not_read_on(rt: HostRuntime) {
+    let mut input = all_of(BEHIND);
+    let outcome = run(&rt, rt.alloc(), &mut input);
+    outcome_fails(&rt, "blanks", &outcome, 2, "the plan is not JSON");
+    left_are(&rt, "blanks", &input, 0, 1);
+}
+
+#[test]
+fn a_rest_is_dropped(rt: HostRuntime) {
+    let mut input = all_of(BEHIND);
+    assert!(rt; drop_rest(&mut input));
+    left_are(&rt, "a rest", &input, 0, 1);
+    assert!(rt; drop_rest(&mut input));
+    let mut input = failing(BEHIND, Some(BEHIND), ErrorKind::WouldBlock);
+    assert!(rt; !drop_rest(&mut input));
+    left_are(&rt, "a rest that would wait", &input, BEHIND, 0);
+}
