@@ -1,10 +1,12 @@
 -- What a line says is the same when its tree is trimmed.
-use Rattle.std.proofs.Common.{◌≡◌, ℕ, List, codes, Bool, Option, Some, None, Result, refl, ap}
+use Rattle.std.proofs.Common.{◌≡◌, ℕ, List, codes, Bool, Option, Some, None, Result, Ok, Err, refl, ap, ◌∙◌}
 use Rattle.std.specs.Prelude.{option_map}
-use Rattle.std.specs.Option.{option_map_or}
+use Rattle.std.specs.Option.{option_and_then, option_map_or}
 use Rattle.serde_json.specs.Data.{Data, null, boolean, number, string, array, object}
 use Rattle.serde_json.specs.Find.{as_str, as_u64, get}
-use Rattle.apply_json.specs.Tree.{text_of}
+use Rattle.apply_json.specs.Parsed.{IsTrimmedTree}
+use Rattle.apply_json.specs.Tree as tree
+use Rattle.apply_json.specs.Tree.{text_of, unless_null}
 use Rattle.apply_json.specs.Trimmed.{trimmed}
 use Rattle.apply_json.proofs.Trimmed.Lookups.{as_number_trimmed, as_str_trimmed, get_trimmed, text_trimmed}
 use Rattle.apply_check.specs.declared.messages.lack.Lack.TheVariants.{NoText, NoWholeNumber}
@@ -18,9 +20,10 @@ use Rattle.apply_check.specs.declared.messages.timed_stage.TimedStage.{TimedStag
 use Rattle.apply_check.specs.declared.messages.timed_stage.TimedStage.TheVariants.{Start, Progress, Complete, Errored}
 use Rattle.apply_check.specs.declared.rules.fault.Fault.{Fault}
 use Rattle.apply_check.specs.declared.rules.fault.Fault.TheVariants.{Malformed}
+use Rattle.apply_check.specs.About.{about_line, about_message, about_tree, message_in, of_provisioner, provisioner_of}
 use Rattle.apply_check.specs.Lines.{tree_message, untyped_message}
 use Rattle.apply_check.specs.Members.{as_container, count_at, object_at, text_at, there, whole_number}
-use Rattle.apply_check.specs.Message.{diagnostic_of, hook_address_of, planned_of, provision_of, refresh_of, start_of, subject_of, summary_of, timed_of, totals_said, typed_message}
+use Rattle.apply_check.specs.Message.{Message, version, step, provision, planned, plan_summary, summary, diagnostic, outputs, other, foreign, diagnostic_of, hook_address_of, planned_of, provision_of, refresh_of, start_of, subject_of, summary_of, timed_of, totals_said, typed_message}
 use Rattle.apply_check.specs.Results.{◌>>=◌, or_refuse}
 use Rattle.apply_check.specs.Selection.{line_selection, member_shape}
 
@@ -120,3 +123,44 @@ same_message find d = rw (text_trimmed line_selection Line Scalar (codes "type")
   each : (o : Option (List ℕ)) → option_map_or (λ name. typed_message name (trimmed line_selection Line d)) o (untyped_message find) ≡ option_map_or (λ name. typed_message name d) o (untyped_message find)
   each None = refl
   each (Some name) = same_typed name d
+
+-- ---- what a message is about
+
+same_provisioner : (d : Data) → provisioner_of (trimmed line_selection Line d) ≡ provisioner_of d
+same_provisioner d = rw (get_trimmed line_selection Line Hook (codes "hook") d refl) (each (get (codes "hook") d))
+  where
+    of_hook : (hook : Data) → option_and_then (text_of (codes "provisioner")) (unless_null (trimmed line_selection Hook hook)) ≡ option_and_then (text_of (codes "provisioner")) (unless_null hook)
+    of_hook null = refl
+    of_hook (boolean b) = refl
+    of_hook (number n) = refl
+    of_hook (string s) = refl
+    of_hook (array ds) = refl
+    of_hook (object ms) = text_trimmed line_selection Hook Scalar (codes "provisioner") (object ms) refl
+
+    each : (o : Option Data) → option_and_then (text_of (codes "provisioner")) (tree.◌>>=◌ (option_map (trimmed line_selection Hook) o) unless_null) ≡ option_and_then (text_of (codes "provisioner")) (tree.◌>>=◌ o unless_null)
+    each None = refl
+    each (Some hook) = of_hook hook
+
+same_about : (d : Data) (r : Result Message Fault) → about_message (trimmed line_selection Line d) r ≡ about_message d r
+same_about d (Ok (provision address stage)) = ap (λ (name : Option (List ℕ)). Some (of_provisioner name address)) (same_provisioner d)
+same_about d (Ok (step address action stage)) = refl
+same_about d (Ok version) = refl
+same_about d (Ok (planned intent)) = refl
+same_about d (Ok (plan_summary totals)) = refl
+same_about d (Ok (summary totals)) = refl
+same_about d (Ok (diagnostic is_error address)) = refl
+same_about d (Ok outputs) = refl
+same_about d (Ok other) = refl
+same_about d (Ok foreign) = refl
+same_about d (Err fault) = refl
+
+same_about_tree : (d : Data) → about_tree (trimmed line_selection Line d) ≡ about_tree d
+unfolding about_tree
+same_about_tree d = rw (text_trimmed line_selection Line Scalar (codes "type") d refl) (each (text_of (codes "type") d)) where
+  each : (o : Option (List ℕ)) → option_and_then (λ name. about_message (trimmed line_selection Line d) (typed_message name (trimmed line_selection Line d))) o ≡ option_and_then (λ name. about_message d (typed_message name d)) o
+  each None = refl
+  each (Some name) = ap (about_message (trimmed line_selection Line d)) (same_typed name d) ∙ same_about d (typed_message name d)
+
+-- the tree of a line's message may be trimmed
+pub about_found : (find : Bool) (text piece : List ℕ) (d : Data) → Some piece ≡ message_in find text → IsTrimmedTree line_selection Line piece d → about_tree d ≡ about_line find text
+about_found find text piece d found tree = rw (← found, tree.1) (ap about_tree tree.2 ∙ same_about_tree tree.0)

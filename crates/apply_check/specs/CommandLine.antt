@@ -94,13 +94,18 @@ WereRefused words usage.Memory = ⊤
 
 -- ---- what is done
 
+-- the bytes of the input, where no file is named; of a file no byte is known
+abbrev pub unless_named : {A : Type 0} → Option A → Option (List ℕ) → Option (List ℕ)
+unless_named None input = input
+unless_named (Some name) input = None
+
 -- a stream was checked as the words say, the one of the input where they name no file, and the answer is told
 pub record WasChecked (words : List Text) (input before after : Option (List ℕ)) (status : ℕ) : Type 0 where
   pub settings : Settings
   pub said : HaveSaid words settings
   pub answer : Result Whole ReadFault
-  pub of_input : settings.file ≡ None → IfSome input (λ bytes. IsAnswer settings.mode (cut_lines bytes) answer)
-  pub told : IsTold settings.form answer status before after
+  pub of_input : IfSome (unless_named settings.file input) (λ bytes. IsAnswer settings.mode (cut_lines bytes) answer)
+  pub told : IsTold settings.mode (unless_named settings.file input) settings.form answer status before after
 
 -- they name a file
 pub record NameAFile (words : List Text) : Type 0 where

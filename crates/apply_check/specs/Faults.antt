@@ -1,5 +1,5 @@
 -- Faults as programs see them.
-use Rattle.std.specs.Prelude.{ℕ, List, codes, Option, Some, None}
+use Rattle.std.specs.Prelude.{ℕ, List, codes, Bool, true, false, ◌||◌, Option, Some, None}
 use Rattle.apply_check.specs.declared.rules.fault.Fault.{Fault}
 use Rattle.apply_check.specs.declared.rules.fault.Fault.TheVariants as fault
 
@@ -41,3 +41,27 @@ other_of (fault.NotLater line) = Some line
 other_of (fault.LeavesProvisioner line) = Some line
 other_of (fault.ProvisionerRuns line) = Some line
 other_of _ = None
+
+-- the front of the faulty line is told
+abbrev pub tells_front : Fault → Bool
+tells_front fault.NotJson = true
+tells_front fault.NoType = true
+tells_front _ = false
+
+-- it is told what the message of the faulty line is about
+abbrev pub tells_object : Fault → Bool
+tells_object fault.TooLong = false
+tells_object fault.NotJson = false
+tells_object fault.NoType = false
+tells_object (fault.Malformed path lack) = false
+tells_object fault.Unended = false
+tells_object (fault.WrongTotals says counted) = false
+tells_object (fault.WrongPlanTotals says counted) = false
+tells_object fault.NoEnd = false
+tells_object fault.NoApply = false
+tells_object fault.Memory = false
+tells_object _ = true
+
+-- something of the faulty line is told
+abbrev pub tells_line : Fault → Bool
+tells_line fault = tells_front fault || tells_object fault

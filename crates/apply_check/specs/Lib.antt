@@ -1,3 +1,4 @@
+pub mod About
 pub mod Addresses
 pub mod Checking
 pub mod CommandLine
@@ -7,6 +8,7 @@ pub mod Cut
 pub mod Faults
 pub mod Found
 pub mod Intents
+pub mod Judged
 pub mod Laws
 pub mod Limits
 pub mod Lines

@@ -1,5 +1,5 @@
 -- What is said of a stream, and with which exit status: for people a line, for programs an object.
-use Rattle.std.specs.Prelude.{◌≡◌, ◌⊎◌, ℕ, List, [], ◌∷◌, ◌++◌, codes, decimal, ◌==◌, Bool, true, false, if◌then◌else◌, Option, Some, None, Result, Ok, Err}
+use Rattle.std.specs.Prelude.{◌≡◌, ◌⊎◌, ℕ, List, [], ◌∷◌, ◌++◌, codes, decimal, ◌==◌, Bool, true, false, if◌then◌else◌, Option, Some, None, IfSome, option_map, Result, Ok, Err}
 use Rattle.std.specs.Io.KnownBytes.{Appends, Keeps}
 use Rattle.serde_json.specs.Data.{no_members, object}
 use Rattle.serde_json.specs.Written.{compact_text}
@@ -12,8 +12,15 @@ use Rattle.apply_check.specs.declared.messages.totals.Totals.{Totals}
 use Rattle.apply_check.specs.declared.verdict.read_fault.ReadFault.{ReadFault}
 use Rattle.apply_check.specs.declared.verdict.read_fault.ReadFault.TheVariants as read
 use Rattle.apply_check.specs.declared.verdict.whole.Whole.{Whole}
+use Rattle.apply_check.specs.declared.rules.fault.Fault.TheVariants.{Unended}
+use Rattle.apply_check.specs.declared.rules.mode.Mode.{Mode}
+use Rattle.apply_check.specs.About.{about_line, object_view}
+use Rattle.apply_check.specs.Cut.{cut_lines, line_at}
+use Rattle.apply_check.specs.Faults.{tells_front, tells_object}
+use Rattle.apply_check.specs.Judged.{judged}
 use Rattle.apply_check.specs.Objects.{with_whole}
 use Rattle.apply_check.specs.ToldObject.{with_told}
+use Rattle.apply_check.specs.Unended.{AreAllOpen}
 
 -- how much was done, or is to be done
 abbrev pub totals_text : (is_plan : Bool) → Totals → List ℕ
@@ -63,17 +70,26 @@ usage_status_of usage.Memory = 3
 
 -- ---- what is written
 
--- of what is not whole: nothing, or where objects are wanted the object on a line
-abbrev pub IsFaultSaid : Form → ReadFault → (before after : Option (List ℕ)) → Type 0
-IsFaultSaid form.Json (read.Found finding) before after =
-    (told : Told) × (told.finding ≡ finding)
+-- What is told of a faulty stream is what is so of these bytes: the text of the line of that number, what its message is
+-- about, and all that stands open behind the messages before the fault.
+pub record IsToldOf (mode : Mode) (bytes : List ℕ) (told : Told) : Type 0 where
+  pub text : tells_front told.finding.fault ≡ true → told.text.now ≡ line_at told.finding.line bytes
+  pub object : option_map object_view told.object
+      ≡ (if tells_object told.finding.fault then about_line mode.find (line_at told.finding.line bytes) else None)
+  pub «open» : told.finding.fault ≡ Unended → AreAllOpen (judged mode (cut_lines bytes)) told.«open».now
+
+-- of what is not whole: nothing, or where objects are wanted the object on a line, of the input if its bytes are known
+abbrev pub IsFaultSaid : Mode → (input : Option (List ℕ)) → Form → ReadFault → (before after : Option (List ℕ)) → Type 0
+IsFaultSaid mode input form.Json (read.Found finding) before after =
+    (told : Told) × (told.finding ≡ finding) × IfSome input (λ bytes. IsToldOf mode bytes told)
     × Appends before after (compact_text (object (with_told told no_members)) ++ 10 ∷ [])
-IsFaultSaid form fault before after = Keeps before after
+IsFaultSaid mode input form fault before after = Keeps before after
 
 -- the answer is said on the output, and the status is its; or it is 3, since the output could not be written or
 -- memory was refused
-abbrev pub IsTold : Form → Result Whole ReadFault → (status : ℕ) → (before after : Option (List ℕ)) → Type 0
-IsTold form (Ok whole) status before after =
+abbrev pub IsTold : Mode → (input : Option (List ℕ)) → Form → Result Whole ReadFault → (status : ℕ)
+    → (before after : Option (List ℕ)) → Type 0
+IsTold mode input form (Ok whole) status before after =
     (status ≡ 3) ⊎ ((status ≡ whole_status_of whole) × Appends before after (whole_said form whole ++ 10 ∷ []))
-IsTold form (Err fault) status before after =
-    (status ≡ 3) ⊎ ((status ≡ fault_status_of fault) × IsFaultSaid form fault before after)
+IsTold mode input form (Err fault) status before after =
+    (status ≡ 3) ⊎ ((status ≡ fault_status_of fault) × IsFaultSaid mode input form fault before after)

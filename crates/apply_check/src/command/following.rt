@@ -1,14 +1,23 @@
 //! The command `check`, from its arguments to its exit status, over any files and streams.
 
-ghost use Rattle.std.specs.Prelude.{◌≡◌, ◌≤◌, ◌⊎◌, ◌++◌, ◌∷◌, [], true, IfSome, OnSome, Ok, Err, Result, map, string_bytes};
+ghost use Rattle.std.specs.Prelude.{◌≡◌, ◌≤◌, ◌⊎◌, ◌++◌, ◌∷◌, [], true, ℕ, List, IfOk, IfSome, None, OnSome, Option, Ok, Err, Result, if◌then◌else◌, map, option_map, string_bytes};
 ghost use Rattle.std.specs.Io.KnownBytes.{Appends, IsAtEnd, Keeps};
 ghost use Rattle.clap.specs.Faults.{fault_of};
 ghost use Rattle.clap.specs.declared.error.kind.ErrorKind.TheVariants.{DisplayHelp};
+ghost use Rattle.std.specs.Option.{option_map_or};
+ghost use Rattle.serde_json.specs.View.{view};
+ghost use Rattle.apply_check.specs.About.{about_line, about_tree, object_view};
+ghost use Rattle.apply_check.specs.Checking.{HasRead};
 ghost use Rattle.apply_check.specs.CommandLine.{WasChecked, WasNotChecked, command_line};
 ghost use Rattle.apply_check.specs.Cut.{cut_lines};
 ghost use Rattle.apply_check.specs.Reading.{IsAnswer};
-ghost use Rattle.apply_check.specs.Telling.{IsTold, fault_status_of, usage_status_of};
+ghost use Rattle.apply_check.specs.Faults.{tells_object};
+ghost use Rattle.apply_check.specs.Judged.{StopsAt};
+ghost use Rattle.apply_check.specs.Message.{Message};
+ghost use Rattle.apply_check.specs.Telling.{IsTold, IsToldOf, fault_status_of, usage_status_of};
+ghost use Rattle.apply_check.specs.Unended.{AreAllOpen};
 ghost use Rattle.apply_check.specs.declared.command.form.Form.TheVariants as forms;
+ghost use Rattle.apply_check.specs.declared.rules.mode.Mode.{Mode as mode_type};
 ghost use Rattle.apply_check.specs.declared.verdict.read_fault.ReadFault.{ReadFault as fault_type};
 ghost use Rattle.apply_check.specs.declared.verdict.whole.Whole.{Whole as whole_type};
 
@@ -132,7 +141,7 @@ pub fn check_input<R: Read, W: Write, E: Write>(
 ) -> Checked
     ensures told { (answer : Result whole_type fault_type)
         × IfSome (R.remaining input.old) (λ bytes. IsAnswer mode (cut_lines bytes) answer)
-        × IsTold form answer result.status (W.contents out.old) (W.contents out.new) }
+        × IsTold mode (R.remaining input.old) form answer result.status (W.contents out.old) (W.contents out.new) }
     ensures quiet { result.status ≤ 1 → Keeps (E.contents faults.old) (E.contents faults.new) }
     ensures statuses { result.status ≤ 4 }
 {
@@ -165,7 +174,7 @@ pub fn check_command<R: BufRead, W: Write, E: Write>(
 ) -> Checked
     ensures told { (answer : Result whole_type fault_type)
         × IfSome (R.remaining reader.old) (λ bytes. IsAnswer mode (cut_lines bytes) answer)
-        × IsTold form answer result.status (W.contents out.old) (W.contents out.new) }
+        × IsTold mode (R.remaining reader.old) form answer result.status (W.contents out.old) (W.contents out.new) }
     ensures quiet { result.status ≤ 1 → Keeps (E.contents faults.old) (E.contents faults.new) }
     ensures statuses { result.status ≤ 4 }
     ensures read { result.is_read_whole ≡ true → OnSome (R.remaining reader.old) (IsAtEnd (R.remaining reader.new)) }
@@ -198,7 +207,7 @@ fn tell_whole<W: Write, E: Write>(
     out: &mut W,
     faults: &mut E,
 ) -> u8
-    ensures told { IsTold form (Ok whole.now) result (W.contents out.old) (W.contents out.new) }
+    ensures told { (seen : Option (List ℕ)) (mode : mode_type) → IsTold mode seen form (Ok whole.now) result (W.contents out.old) (W.contents out.new) }
     ensures quiet { result ≤ 1 → Keeps (E.contents faults.old) (E.contents faults.new) }
     ensures statuses { result ≤ 4 }
 {
@@ -223,7 +232,8 @@ fn tell_finding<W: Write, E: Write>(
     out: &mut W,
     faults: &mut E,
 ) -> u8
-    ensures told { IsTold form (Err (fault_type.Found finding.now)) result (W.contents out.old) (W.contents out.new) }
+    ensures told { (seen : Option (List ℕ)) → IfSome seen (λ bytes. StopsAt mode bytes finding.now checker.now line.now.text.items)
+        → IsTold mode seen form (Err (fault_type.Found finding.now)) result (W.contents out.old) (W.contents out.new) }
     ensures bad { (2 ≤ result) × (result ≤ 4) }
 {
     let Ok(tree) = object_tree(alloc, mode, line, finding.fault) else {
@@ -235,13 +245,21 @@ fn tell_finding<W: Write, E: Write>(
     let told = Told {
         finding: *finding,
         text: &line.text,
-        is_cut_off: finding.fault == Fault::NotJson && !line.has_feed,
+        is_cut_off: is_cut_off(line, finding.fault),
         object: object_of(&tree),
         open: &open,
     };
     match form {
         Form::Text => tell_text(alloc, &told, faults),
         Form::Json => tell_object(alloc, &told, out, faults),
+    }
+}
+
+/// Whether the line is the last one and breaks off.
+fn is_cut_off(line: &Line, fault: Fault) -> bool {
+    match fault {
+        Fault::NotJson => !line.has_feed,
+        _ => false,
     }
 }
 
@@ -266,7 +284,9 @@ fn tell_object<W: Write, E: Write>(
     out: &mut W,
     faults: &mut E,
 ) -> u8
-    ensures { IsTold forms.Json (Err (fault_type.Found told.now.finding)) result (W.contents out.old) (W.contents out.new) × (2 ≤ result) × (result ≤ 4) }
+    ensures told { (seen : Option (List ℕ)) (mode : mode_type) → IfSome seen (λ bytes. IsToldOf mode bytes told.now)
+        → IsTold mode seen forms.Json (Err (fault_type.Found told.now.finding)) result (W.contents out.old) (W.contents out.new) }
+    ensures bad { (2 ≤ result) × (result ≤ 4) }
 {
     let Ok(text) = told_line(alloc, told) else {
         return refuse_memory(faults);
@@ -285,7 +305,10 @@ fn object_tree(
     mode: Mode,
     line: &Line,
     fault: Fault,
-) -> Result<Option<Value>, AllocError> {
+) -> Result<Option<Value>, AllocError>
+    ensures { IfOk result (λ tree. option_map_or (λ t. about_tree (view t)) tree None
+        ≡ (if tells_object fault then about_line mode.find line.now.text.items else None)) }
+{
     if fault.is_about_its_line() {
         message_tree(alloc, mode, &line.text)
     } else {
@@ -294,7 +317,9 @@ fn object_tree(
 }
 
 /// What the message of the tree is about, where there is one.
-fn object_of(tree: &Option<Value>) -> Option<Object<'_>> {
+fn object_of(tree: &Option<Value>) -> Option<Object<'_>>
+    ensures { option_map object_view result ≡ option_map_or (λ t. about_tree (view t)) tree.now None }
+{
     match tree {
         Some(tree) => Object::of(tree),
         None => None,
@@ -306,7 +331,10 @@ fn open_entries<'a>(
     alloc: Global,
     checker: &'a Checker,
     fault: Fault,
-) -> Result<Vec<OpenEntry<'a>>, AllocError> {
+) -> Result<Vec<OpenEntry<'a>>, AllocError>
+    ensures { IfOk result (λ entries. fault ≡ Fault.Unended → (messages : List Message) → HasRead checker.now messages
+        → AreAllOpen messages entries.items) }
+{
     match fault {
         Fault::Unended => checker.open_entries(alloc),
         _ => Ok(Vec::new(alloc)),

@@ -1,7 +1,7 @@
 //! What is wrong with a line, or with the end of a stream.
 
 ghost use Rattle.std.specs.Prelude.{◌≡◌};
-ghost use Rattle.apply_check.specs.Faults.{other_of, word_of};
+ghost use Rattle.apply_check.specs.Faults.{other_of, tells_object, word_of};
 ghost use Rattle.apply_check.specs.declared.rules.fault.Fault.TheVariants.{Memory};
 
 use crate::messages::lack::Lack;
@@ -118,7 +118,9 @@ impl Fault {
     }
 
     /// Whether it is told what the message of the faulty line is about.
-    pub fn is_about_its_line(self) -> bool {
+    pub fn is_about_its_line(self) -> bool
+        ensures { result ≡ tells_object self }
+    {
         match self {
             Fault::TooLong
             | Fault::NotJson

@@ -1,12 +1,14 @@
 //! Checking what a reader gives.
 
-ghost use Rattle.std.specs.Prelude.{◌≡◌, ◌+◌, ℕ, List, [], length, IfSome, OnOk, OnSome};
+ghost use Rattle.std.specs.Prelude.{◌≡◌, ◌+◌, ℕ, List, [], length, Err, IfErr, IfSome, OnOk, OnSome};
 ghost use Rattle.std.specs.Io.KnownBytes.{IsAtEnd};
 ghost use Rattle.apply_check.specs.Cut.{cut_lines};
 ghost use Rattle.apply_check.specs.Lines.{at_line, end_of, verdict_of};
 ghost use Rattle.apply_check.specs.Checking.{HasRead};
+ghost use Rattle.apply_check.specs.Judged.{Stops};
 ghost use Rattle.apply_check.specs.Message.{Message};
 ghost use Rattle.apply_check.specs.Reading.{IsAnswer, IsFaultAt};
+ghost use Rattle.apply_check.specs.declared.rules.fault.Fault.{Fault as fault_type};
 
 use crate::lines::line::Line;
 use crate::lines::line_end::LineEnd;
@@ -46,6 +48,7 @@ pub fn check_with<R: BufRead>(
     requires { HasRead checker.old [] }
     ensures answer { IfSome (R.remaining reader.old) (λ bytes. IsAnswer mode (cut_lines bytes) result) }
     ensures at_end { OnOk result (OnSome (R.remaining reader.old) (IsAtEnd (R.remaining reader.new))) }
+    ensures stops { Stops mode (R.remaining reader.old) checker.new line.new.text.items result }
 {
     'lines: loop {
         let next = match next_line(reader, &mut line.text) {
@@ -69,8 +72,10 @@ pub fn check_with<R: BufRead>(
 
 /// The verdict at the end.
 fn ended(mode: Mode, checker: &Checker) -> Result<Whole, ReadFault>
-    ensures { (messages : List Message) (texts : List (List ℕ)) → HasRead checker.now messages
+    ensures answer { (messages : List Message) (texts : List (List ℕ)) → HasRead checker.now messages
         → verdict_of mode texts ≡ at_line mode messages (length messages) (end_of mode messages) → IsAnswer mode texts result }
+    ensures fault { IfErr result (λ answer. (messages : List Message) → HasRead checker.now messages
+        → (fault : fault_type) × (end_of mode messages ≡ Err fault) × IsFaultAt mode messages (length messages) fault answer) }
 {
     match checker.end(mode) {
         Ok(whole) => Ok(whole),

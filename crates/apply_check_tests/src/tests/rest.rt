@@ -10,6 +10,10 @@ const ROWS: &str = r#"
 Sc
 V V
 V Z000 Sc
+V Y000 Y000
+V O
+V Qc Su
+V Y100
 V Sc Sc
 V Cc
 V Sc Pc10 Pc10

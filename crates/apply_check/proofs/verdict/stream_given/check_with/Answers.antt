@@ -5,7 +5,7 @@ use Rattle.apply_check.specs.declared.lines.line_end.LineEnd.{LineEnd}
 use Rattle.apply_check.specs.Lines.{at_line, end_of, read_line}
 use Rattle.apply_check.specs.Reading.{Gives}
 use Rattle.apply_check.proofs.Continuing.{line_count}
-use Rattle.apply_check.proofs.FromReader.{as_answer, at_end_of, at_end_too, leads_on, leads_out, leads_too_far, leads_too_long, leads_wrong, says_nothing}
+use Rattle.apply_check.proofs.FromReader.{as_answer, at_end_of, at_end_too, leads_on, leads_out, leads_too_far, leads_too_long, leads_wrong, says_nothing, stops_ended, stops_nowhere, stops_too_long, stops_wrong}
 use Rattle.apply_check.proofs.WholeStream.{one_more}
 use Rattle.apply_check.proofs.verdict.stream_given.check_with.Goals as goal
 
@@ -18,7 +18,7 @@ returns-in-End-clause-answer g c =
     let gives = subst (λ (w : LineEnd). IfSome (g.R.Read.remaining c.lines.reader) (Gives w c.next_line.new.line.items (g.R.Read.remaining c.next_line.new.reader))) c.in-End.is c.in-Ok.ensures.next in
     as_answer c.args.mode (g.R.Read.remaining c.args.reader.now) (at_line c.args.mode k.0 (length k.0) (end_of c.args.mode k.0)) _
     (leads_out c.args.mode (g.R.Read.remaining c.args.reader.now) (g.R.Read.remaining c.lines.reader) (g.R.Read.remaining c.next_line.new.reader) k.0 c.next_line.new.line.items k.2 gives)
-    (λ texts verdict. c.ended.ensures k.0 texts k.1 verdict)
+    (λ texts verdict. c.ended.ensures.answer k.0 texts k.1 verdict)
 
 on_ok : {T E : Type 0} (r : Result T E) (P : Type 0) → P → OnOk r P
 on_ok (Ok x) P h = h
@@ -70,3 +70,26 @@ returns-in-Err-line-clause-answer g c =
     let after = c.in-Err-line.ensures k.0 k.1 in
     leads_wrong c.args.mode (g.R.Read.remaining c.args.reader.now) (g.R.Read.remaining c.lines.reader) (g.R.Read.remaining c.next_line.new.reader) k.0 c.next_line.new.line.items c.in-Line.has_feed c.in-Err-line.fault _ k.2 gives
     (λ memory. ap (read_line c.args.mode.find k.0) (sym c.deref.ensures.value) ∙ after.1 memory) (c.found-in-Err-line.ensures k.0 after.0)
+
+pub returns-in-Err-clause-stops : goal.returns-in-Err-clause-stops
+returns-in-Err-clause-stops g c = stops_nowhere c.args.mode (g.R.Read.remaining c.args.reader.now) _ _ _ c.in-Err.ensures.refused
+
+pub returns-in-TooLong-clause-stops : goal.returns-in-TooLong-clause-stops
+returns-in-TooLong-clause-stops g c =
+    let k = c.lines.invariant.known in
+    let gives = subst (λ (w : LineEnd). IfSome (g.R.Read.remaining c.lines.reader) (Gives w c.next_line.new.line.items (g.R.Read.remaining c.next_line.new.reader))) c.in-TooLong.is c.in-Ok.ensures.next in
+    stops_too_long c.args.mode (g.R.Read.remaining c.args.reader.now) (g.R.Read.remaining c.lines.reader) (g.R.Read.remaining c.next_line.new.reader) k.0 c.lines.checker c.next_line.new.line.items _ k.2 gives k.1 (c.found.ensures k.0 k.1)
+
+pub returns-in-Err-line-clause-stops : goal.returns-in-Err-line-clause-stops
+returns-in-Err-line-clause-stops g c =
+    let k = c.lines.invariant.known in
+    let gives = subst (λ (w : LineEnd). IfSome (g.R.Read.remaining c.lines.reader) (Gives w c.next_line.new.line.items (g.R.Read.remaining c.next_line.new.reader))) c.in-Line.is c.in-Ok.ensures.next in
+    let after = c.in-Err-line.ensures k.0 k.1 in
+    stops_wrong c.args.mode (g.R.Read.remaining c.args.reader.now) (g.R.Read.remaining c.lines.reader) (g.R.Read.remaining c.next_line.new.reader) k.0 _ c.next_line.new.line.items c.in-Line.has_feed c.in-Err-line.fault _ k.2 gives
+    (λ memory. ap (read_line c.args.mode.find k.0) (sym c.deref.ensures.value) ∙ after.1 memory) after.0 (c.found-in-Err-line.ensures k.0 after.0)
+
+pub returns-in-End-clause-stops : goal.returns-in-End-clause-stops
+returns-in-End-clause-stops g c =
+    let k = c.lines.invariant.known in
+    let gives = subst (λ (w : LineEnd). IfSome (g.R.Read.remaining c.lines.reader) (Gives w c.next_line.new.line.items (g.R.Read.remaining c.next_line.new.reader))) c.in-End.is c.in-Ok.ensures.next in
+    stops_ended c.args.mode (g.R.Read.remaining c.args.reader.now) (g.R.Read.remaining c.lines.reader) (g.R.Read.remaining c.next_line.new.reader) k.0 c.lines.checker c.next_line.new.line.items c.ended.result k.2 gives k.1 c.ended.ensures.fault

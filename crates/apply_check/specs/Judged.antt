@@ -1,0 +1,43 @@
+-- What of a stream was judged, where a fault ends the judgement.
+use Rattle.std.specs.Prelude.{◌≡◌, ℕ, List, [], ◌∷◌, true, ⊤, Option, IfSome, Result, Ok, Err}
+use Rattle.apply_check.specs.declared.rules.checker.Checker.{Checker}
+use Rattle.apply_check.specs.declared.rules.mode.Mode.{Mode}
+use Rattle.apply_check.specs.declared.verdict.finding.Finding.{Finding}
+use Rattle.apply_check.specs.declared.verdict.read_fault.ReadFault.{ReadFault}
+use Rattle.apply_check.specs.declared.verdict.read_fault.ReadFault.TheVariants as read
+use Rattle.apply_check.specs.declared.verdict.whole.Whole.{Whole}
+use Rattle.apply_check.specs.Checking.{HasRead}
+use Rattle.apply_check.specs.Cut.{cut_lines, line_at}
+use Rattle.apply_check.specs.Faults.{tells_line}
+use Rattle.apply_check.specs.Lines.{read_line}
+use Rattle.apply_check.specs.Message.{Message}
+
+-- what a value leads to; a fault leads nowhere
+abbrev pub led_on : {A E B : Type 0} → Result A E → B → (A → B) → B
+led_on (Ok x) here on = on x
+led_on (Err e) here on = here
+
+-- the messages with those of the lines behind them, up to the first line with a fault; the latest is the first of the list
+unfoldable pub judged_behind : Mode → List Message → List (List ℕ) → List Message
+judged_behind mode earlier [] = earlier
+judged_behind mode earlier (text ∷ texts) =
+    led_on (read_line mode.find earlier text) earlier (λ messages. judged_behind mode messages texts)
+
+-- the messages of a stream up to its first fault
+abbrev pub judged : Mode → List (List ℕ) → List Message
+judged mode texts = judged_behind mode [] texts
+
+-- Where a finding ended the judgement of these bytes: the checker holds what is needed of the messages before it, and the
+-- line is the one that is faulty, where its text is told or looked at.
+pub record StopsAt (mode : Mode) (bytes : List ℕ) (finding : Finding) (checker : Checker) (line : List ℕ) : Type 0 where
+  pub has_read : HasRead checker (judged mode (cut_lines bytes))
+  pub is_line : tells_line finding.fault ≡ true → line ≡ line_at finding.line bytes
+
+-- where the judgement of what a reader gave ended, if its bytes are known
+abbrev pub Stops : Mode → Option (List ℕ) → Checker → List ℕ → Result Whole ReadFault → Type 0
+Stops mode input checker line (Ok whole) = ⊤
+Stops mode input checker line (Err (read.Found finding)) =
+    IfSome input (λ bytes. StopsAt mode bytes finding checker line)
+Stops mode input checker line (Err read.TooMany) = ⊤
+Stops mode input checker line (Err (read.Unread number)) = ⊤
+Stops mode input checker line (Err read.Memory) = ⊤
