@@ -13,6 +13,7 @@ use Rattle.clap.specs.declared.error.kind.ErrorKind.TheVariants.{DisplayHelp, Ou
 use Rattle.apply_check.specs.Cut.{cut_lines}
 use Rattle.apply_check.specs.Reading.{IsAnswer}
 use Rattle.apply_check.specs.Telling.{IsTold}
+use Rattle.apply_check.specs.declared.command.followed.Followed.{Followed}
 use Rattle.apply_check.specs.declared.command.form.Form.TheVariants as form
 use Rattle.apply_check.specs.declared.verdict.read_fault.ReadFault.{ReadFault}
 use Rattle.apply_check.specs.declared.command.settings.Settings.{Settings}
@@ -100,12 +101,13 @@ unless_named None input = input
 unless_named (Some name) input = None
 
 -- a stream was checked as the words say, the one of the input where they name no file, and the answer is told
-pub record WasChecked (words : List Text) (input before after : Option (List ℕ)) (status : ℕ) : Type 0 where
+pub record WasChecked (words : List Text) (input before after : Option (List ℕ)) (followed : Followed) : Type 0 where
   pub settings : Settings
   pub said : HaveSaid words settings
   pub answer : Result Whole ReadFault
+  pub answered : followed.answer ≡ Some answer
   pub of_input : IfSome (unless_named settings.file input) (λ bytes. IsAnswer settings.mode (cut_lines bytes) answer)
-  pub told : IsTold settings.mode (unless_named settings.file input) settings.form answer status before after
+  pub told : IsTold settings.mode (unless_named settings.file input) settings.form answer followed.status before after
 
 -- they name a file
 pub record NameAFile (words : List Text) : Type 0 where

@@ -10,10 +10,13 @@ mod verdict;
 
 pub use command::arguments::read_words;
 pub use command::checked::Checked;
-pub use command::following::{answer_usage, check_command, check_input, follow};
+pub use command::followed::Followed;
+pub use command::following::{check_command, check_input, follow};
 pub use command::form::Form;
+pub use command::refusals::answer_usage;
 pub use command::settings::Settings;
 pub use command::usage::Usage;
+pub use lines::failed_read::FailedRead;
 pub use lines::line::Line;
 pub use lines::rest::drop_rest;
 pub use messages::action::Action;

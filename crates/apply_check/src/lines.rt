@@ -1,5 +1,6 @@
 //! Reading a stream line by line, and finding messages in the lines of a log.
 
+pub(crate) mod failed_read;
 pub(crate) mod found;
 pub(crate) mod line;
 pub(crate) mod line_end;

@@ -58,7 +58,7 @@ fn check_stream(rt: &HostRuntime, words: &[String]) -> Option<u8> {
         return None;
     }
     let words = words.get(2..).unwrap_or(&[]);
-    Some(apply_check::follow(
+    let followed = apply_check::follow(
         rt,
         rt.alloc(),
         words,
@@ -66,5 +66,6 @@ fn check_stream(rt: &HostRuntime, words: &[String]) -> Option<u8> {
         &mut rt.reader(),
         &mut rt.stdout(),
         &mut rt.stderr(),
-    ))
+    );
+    Some(followed.status)
 }

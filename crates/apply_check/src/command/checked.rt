@@ -1,10 +1,16 @@
 //! What a check came to.
 
+use crate::lines::failed_read::FailedRead;
+use crate::verdict::read_fault::ReadFault;
+use crate::verdict::whole::Whole;
+
 /// What a check came to.
 #[derive(Clone, Copy, Debug, PartialEq, Eq)]
 pub struct Checked {
     /// The exit status.
     pub status: u8,
-    /// Whether the input was read to its end; `false` only where a read failed.
-    pub is_read_whole: bool,
+    /// What was found.
+    pub answer: Result<Whole, ReadFault>,
+    /// That the input was read to its end, or that a read failed.
+    pub rest: Result<(), FailedRead>,
 }

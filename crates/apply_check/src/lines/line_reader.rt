@@ -4,6 +4,7 @@
 ghost use Rattle.std.specs.Prelude.{◌≡◌, ◌≢◌, ◌<◌, ◌≤◌, ◌++◌, ℕ, List, All, Some, IfErr, IfOk, IfSome, length, take, slice_get};
 ghost use Rattle.apply_check.specs.Reading.{Gives, IsNoAnswer, Shows};
 
+use crate::lines::failed_read::FailedRead;
 use crate::lines::line_end::LineEnd;
 use crate::lines::piece::Piece;
 use crate::rules::limits::MAX_BYTES;
@@ -35,7 +36,7 @@ pub fn next_line<R: BufRead>(reader: &mut R, line: &mut Vec<u8>) -> Result<LineE
             }
         }
     }
-    Err(ReadFault::Unread(None))
+    Err(ReadFault::Unread(FailedRead::for_tries()))
 }
 
 /// Appends what the reader shows of the line. Nothing of it where a signal interrupts the read.
@@ -52,7 +53,7 @@ fn append_shown<R: BufRead>(reader: &mut R, line: &mut Vec<u8>) -> Result<Piece,
             return if error.kind() == ErrorKind::Interrupted {
                 Ok(Piece::Part)
             } else {
-                Err(ReadFault::Unread(error.raw_os_error()))
+                Err(ReadFault::Unread(FailedRead::of(&error)))
             };
         }
     };

@@ -3,6 +3,7 @@
 ghost use Rattle.std.specs.Prelude.{◌≡◌};
 ghost use Rattle.apply_check.specs.declared.verdict.read_fault.ReadFault.TheVariants.{Memory};
 
+use crate::lines::failed_read::FailedRead;
 use crate::verdict::finding::Finding;
 use std::alloc::AllocError;
 use thiserror::Error;
@@ -16,9 +17,9 @@ pub enum ReadFault {
     /// It has more than 4,294,967,296 lines.
     #[error("the stream has more than 4294967296 lines")]
     TooMany,
-    /// A read failed, with the system's number of the error where it has one.
+    /// A read failed.
     #[error("the stream could not be read")]
-    Unread(Option<i32>),
+    Unread(FailedRead),
     /// Memory was refused.
     #[error("out of memory")]
     Memory,

@@ -231,7 +231,7 @@ fn followed<F: Files>(
     }
     let mut printed = Vec::new(alloc);
     let mut said = Vec::new(alloc);
-    let status = follow(
+    let followed = follow(
         files,
         alloc,
         &list,
@@ -241,7 +241,7 @@ fn followed<F: Files>(
         &mut said,
     );
     Outcome {
-        status,
+        status: followed.status,
         printed,
         said,
     }
@@ -361,7 +361,7 @@ fn full_is<E: Write>(
         faults,
     );
     assert_eq!(rt; found.status, status);
-    assert!(rt; found.is_read_whole);
+    assert!(rt; found.rest.is_ok());
 }
 
 #[test]

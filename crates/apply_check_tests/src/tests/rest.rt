@@ -65,7 +65,7 @@ fn all_is_read(rt: &impl Abort, alloc: Global, form: Form, bytes: &[u8]) {
         &mut printed,
         &mut said,
     );
-    assert!(rt; checked.is_read_whole);
+    assert!(rt; checked.rest.is_ok());
     assert_eq!(rt; input.given, bytes.len());
 }
 
@@ -111,7 +111,7 @@ fn arguments_leave<F: Files>(
         &mut printed,
         &mut said,
     );
-    assert_eq!(rt; found, status);
+    assert_eq!(rt; found.status, status);
     assert_eq!(rt; input.len(), left);
 }
 

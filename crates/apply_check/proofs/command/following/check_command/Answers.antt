@@ -1,5 +1,4 @@
-use Rattle.std.proofs.Common.{Ok}
 use Rattle.apply_check.proofs.command.following.check_command.Goals as goal
 
 pub returns-in-Ok-clause-told : goal.returns-in-Ok-clause-told
-returns-in-Ok-clause-told g c = (Ok c.in-Ok.whole, c.in-Ok.ensures.answer, c.tell_whole.ensures.told (g.R.Read.remaining c.args.reader.now) c.args.mode)
+returns-in-Ok-clause-told g c = c.tell_whole.ensures.told (g.R.Read.remaining c.args.reader.now) c.args.mode

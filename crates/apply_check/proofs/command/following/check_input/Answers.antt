@@ -11,5 +11,5 @@ no_answer : (mode : Mode) (known : Option (List ℕ)) → IfSome known (λ bytes
 no_answer mode None = tt
 no_answer mode (Some bytes) = tt
 
-pub returns-clause-told : goal.returns-clause-told
-returns-clause-told g c = (Err read.Memory, no_answer c.args.mode (g.R.Read.remaining c.args.input.now), inl c.refuse_memory-status.ensures)
+pub returns-clause-answer : goal.returns-clause-answer
+returns-clause-answer g c = no_answer c.args.mode (g.R.Read.remaining c.args.input.now)

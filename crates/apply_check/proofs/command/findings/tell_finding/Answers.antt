@@ -5,7 +5,7 @@ use Rattle.apply_check.specs.declared.verdict.read_fault.ReadFault.TheVariants a
 use Rattle.apply_check.specs.Telling.{IsTold}
 use Rattle.apply_check.specs.Unended.{AreAllOpen}
 use Rattle.apply_check.proofs.FromReader.{told_if}
-use Rattle.apply_check.proofs.command.following.tell_finding.Goals as goal
+use Rattle.apply_check.proofs.command.findings.tell_finding.Goals as goal
 
 pub returns-clause-told : goal.returns-clause-told
 returns-clause-told g c = λ seen stops.

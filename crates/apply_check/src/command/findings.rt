@@ -1,0 +1,153 @@
+//! Streams that are not whole, as people and programs are told of them.
+
+ghost use Rattle.std.specs.Prelude.{◌≡◌, ◌≤◌, ◌⊎◌, ℕ, List, IfOk, IfSome, None, Option, Err, if◌then◌else◌, option_map};
+ghost use Rattle.std.specs.Option.{option_map_or};
+ghost use Rattle.serde_json.specs.View.{view};
+ghost use Rattle.apply_check.specs.About.{about_line, about_tree, object_view};
+ghost use Rattle.apply_check.specs.Checking.{HasRead};
+ghost use Rattle.apply_check.specs.Faults.{tells_object};
+ghost use Rattle.apply_check.specs.Judged.{StopsAt};
+ghost use Rattle.apply_check.specs.Message.{Message};
+ghost use Rattle.apply_check.specs.Telling.{IsTold, IsToldOf};
+ghost use Rattle.apply_check.specs.Unended.{AreAllOpen};
+ghost use Rattle.apply_check.specs.declared.command.form.Form.TheVariants as forms;
+ghost use Rattle.apply_check.specs.declared.rules.mode.Mode.{Mode as mode_type};
+ghost use Rattle.apply_check.specs.declared.verdict.read_fault.ReadFault.{ReadFault as fault_type};
+
+use crate::command::form::Form;
+use crate::command::object::{Object, message_tree};
+use crate::command::refusals::refuse_memory;
+use crate::command::status::{FAILED, NOT_WHOLE};
+use crate::command::telling::told_line;
+use crate::command::texts::finding_text;
+use crate::command::told::Told;
+use crate::command::writing::{report, write_line};
+use crate::lines::line::Line;
+use crate::rules::checker::Checker;
+use crate::rules::fault::Fault;
+use crate::rules::mode::Mode;
+use crate::rules::open_entry::OpenEntry;
+use crate::verdict::finding::Finding;
+use serde_json::Value;
+use std::alloc::{AllocError, Global};
+use std::io::Write;
+
+/// Says what is wrong with the stream, with all that is known of the faulty line, and answers the exit status.
+pub fn tell_finding<W: Write, E: Write>(
+    alloc: Global,
+    mode: Mode,
+    form: Form,
+    checker: &Checker,
+    line: &Line,
+    finding: &Finding,
+    out: &mut W,
+    faults: &mut E,
+) -> u8
+    ensures told { (seen : Option (List ℕ)) → IfSome seen (λ bytes. StopsAt mode bytes finding.now checker.now line.now.text.items)
+        → IsTold mode seen form (Err (fault_type.Found finding.now)) result (W.contents out.old) (W.contents out.new) }
+    ensures bad { (2 ≤ result) × (result ≤ 4) }
+{
+    let Ok(tree) = object_tree(alloc, mode, line, finding.fault) else {
+        return refuse_memory(faults);
+    };
+    let Ok(open) = open_entries(alloc, checker, finding.fault) else {
+        return refuse_memory(faults);
+    };
+    let told = Told {
+        finding: *finding,
+        text: &line.text,
+        is_cut_off: is_cut_off(line, finding.fault),
+        object: object_of(&tree),
+        open: &open,
+    };
+    match form {
+        Form::Text => tell_text(alloc, &told, faults),
+        Form::Json => tell_object(alloc, &told, out, faults),
+    }
+}
+
+/// Whether the line is the last one and breaks off.
+fn is_cut_off(line: &Line, fault: Fault) -> bool {
+    match fault {
+        Fault::NotJson => !line.has_feed,
+        _ => false,
+    }
+}
+
+/// Tells a finding to people.
+fn tell_text<E: Write>(alloc: Global, told: &Told<'_>, faults: &mut E) -> u8
+    ensures { (result ≡ 3) ⊎ (result ≡ 4) }
+{
+    let Ok(text) = finding_text(alloc, told) else {
+        return refuse_memory(faults);
+    };
+    let Ok(line) = format!(in alloc; "applystream: {text}\n") else {
+        return refuse_memory(faults);
+    };
+    let _ = faults.write_all(line.as_str().as_bytes());
+    NOT_WHOLE
+}
+
+/// Tells a finding to programs.
+fn tell_object<W: Write, E: Write>(
+    alloc: Global,
+    told: &Told<'_>,
+    out: &mut W,
+    faults: &mut E,
+) -> u8
+    ensures told { (seen : Option (List ℕ)) (mode : mode_type) → IfSome seen (λ bytes. IsToldOf mode bytes told.now)
+        → IsTold mode seen forms.Json (Err (fault_type.Found told.now.finding)) result (W.contents out.old) (W.contents out.new) }
+    ensures bad { (2 ≤ result) × (result ≤ 4) }
+{
+    let Ok(text) = told_line(alloc, told) else {
+        return refuse_memory(faults);
+    };
+    if write_line(out, text.as_str()) {
+        NOT_WHOLE
+    } else {
+        report(faults, "the output could not be written");
+        FAILED
+    }
+}
+
+/// The tree of the faulty line, where its fault tells what it is about.
+fn object_tree(
+    alloc: Global,
+    mode: Mode,
+    line: &Line,
+    fault: Fault,
+) -> Result<Option<Value>, AllocError>
+    ensures { IfOk result (λ tree. option_map_or (λ t. about_tree (view t)) tree None
+        ≡ (if tells_object fault then about_line mode.find line.now.text.items else None)) }
+{
+    if fault.is_about_its_line() {
+        message_tree(alloc, mode, &line.text)
+    } else {
+        Ok(None)
+    }
+}
+
+/// What the message of the tree is about, where there is one.
+fn object_of(tree: &Option<Value>) -> Option<Object<'_>>
+    ensures { option_map object_view result ≡ option_map_or (λ t. about_tree (view t)) tree.now None }
+{
+    match tree {
+        Some(tree) => Object::of(tree),
+        None => None,
+    }
+}
+
+/// What stands open, where that is the fault.
+fn open_entries<'a>(
+    alloc: Global,
+    checker: &'a Checker,
+    fault: Fault,
+) -> Result<Vec<OpenEntry<'a>>, AllocError>
+    ensures { IfOk result (λ entries. fault ≡ Fault.Unended → (messages : List Message) → HasRead checker.now messages
+        → AreAllOpen messages entries.items) }
+{
+    match fault {
+        Fault::Unended => checker.open_entries(alloc),
+        _ => Ok(Vec::new(alloc)),
+    }
+}
