@@ -58,8 +58,8 @@ module _ (k : Action) where
         | false ↦ told_on b after until told (low + 1) n fits (λ p above more. less p (omega arith) more)
       ]
 
-  progressed : (b : Bool) (d after until told : ℕ) → told ≤ after → after ≤ until → Goes b told until (progress d after until) b
-  progressed b d after until told fits order = told_on b after until told 1 (d - 1) (omega arith) (λ p above more. omega arith)
+  progress_goes : (b : Bool) (d after until told : ℕ) → told ≤ after → after ≤ until → Goes b told until (progress d after until) b
+  progress_goes b d after until told fits order = told_on b after until told 1 (d - 1) (omega arith) (λ p above more. omega arith)
 
   module _ (creates : k ≡ Create) where
     results_told : (told i until : ℕ) (p : Provisioner) → Passes k (under_way k told true) (map (λ (what : What). (until, what)) (results i 0 p)) (under_way k told false)
@@ -77,7 +77,7 @@ module _ (k : Action) where
     provisioned d i since told [] fits = (told, (let none : seconds_of_all [] ≡ 0 = refl in omega arith), refl)
     provisioned d i since told (p ∷ ps) fits =
         let until = since + p.seconds in
-        let within = progressed true d since until told fits (omega arith) in
+        let within = progress_goes true d since until told fits (omega arith) in
         let rest = provisioned d (i + 1) until within.0 ps within.1 in
         let sum = sum_by-cons (λ (q : Provisioner). q.seconds) p ps in
         let start : List (ℕ × What) = (since, ProvisionStart i) ∷ [] in
@@ -94,7 +94,7 @@ module _ (k : Action) where
   -- all of it: it runs no provisioners, or is a create
   pub along_told : (d since : ℕ) (ps : List Provisioner) → (ps ≡ []) ⊎ (k ≡ Create) → Goes false 0 (since + seconds_of_all ps) (along d 0 0 since ps) false
   along_told d since ps may =
-      let first = progressed false d 0 since 0 (omega arith) (omega arith) in
+      let first = progress_goes false d 0 since 0 (omega arith) (omega arith) in
       ⊎_elim
       (λ (none : ps ≡ []).
       subst (λ (l : List Provisioner). Goes false 0 (since + seconds_of_all l) (progress d 0 since ++ provisions d 0 since l) false) (sym none)

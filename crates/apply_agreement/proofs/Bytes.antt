@@ -9,7 +9,7 @@ use Rattle.serde_json.specs.Written.{compact_text}
 use Rattle.apply_plan.specs.declared.plan.step_kind.StepKind.{StepKind}
 use Rattle.apply_plan.specs.Plan.ResourceChange.{ResourceChange}
 use Rattle.apply_plan.specs.Plan.SavedPlan.{SavedPlan}
-use Rattle.apply_plan.specs.Script.Outcomes.{Outcomes, outcome_of}
+use Rattle.apply_plan.specs.Script.OutcomeMap.{OutcomeMap, outcome_of}
 use Rattle.apply_check.specs.declared.rules.fault.Fault.{Fault}
 use Rattle.apply_check.specs.declared.rules.fault.Fault.TheVariants.{NotJson, TooLong}
 use Rattle.apply_check.specs.declared.verdict.finding.Finding.{Finding}
@@ -44,7 +44,7 @@ of_both : (ds es : List Data) → flat_map line_of (ds ++ es) ≡ flat_map line_
 of_both [] es = refl
 of_both (d ∷ ds) es = ap (λ (l : List ℕ). line_of d ++ l) (of_both ds es) ∙ sym (append_assoc (line_of d) (flat_map line_of ds) (flat_map line_of es))
 
-one_event : (script : Outcomes) (seconds : ℕ) (e : Event) (found : Option ResourceChange)
+one_event : (script : OutcomeMap) (seconds : ℕ) (e : Event) (found : Option ResourceChange)
     → flat_map line_of (option_map_or (λ (change : ResourceChange). option_map_or (λ step. object_of seconds (event_message change step (outcome_of script e.change e.step) e.what) ∷ []) (slice_get change.steps e.step) []) found [])
     ≡ option_map_or (λ (change : ResourceChange). option_map_or (λ step. line_of (object_of seconds (event_message change step (outcome_of script e.change e.step) e.what))) (slice_get change.steps e.step) []) found []
 one_event script seconds e None = refl
@@ -55,7 +55,7 @@ one_event script seconds e (Some change) = at (slice_get change.steps e.step)
     at None = refl
     at (Some step) = of_one (object_of seconds (event_message change step (outcome_of script e.change e.step) e.what))
 
-all_events : (plan : SavedPlan) (script : Outcomes) (start : ℕ) (moments : ℕ → ℕ) (n : ℕ) (es : List Event)
+all_events : (plan : SavedPlan) (script : OutcomeMap) (start : ℕ) (moments : ℕ → ℕ) (n : ℕ) (es : List Event)
     → flat_map line_of (flat_map (λ p. objects_of plan script (start + moments p.0) p.1) (enumerate_from n es)) ≡ flat_map (λ p. event_text plan script start (moments p.0) p.1) (enumerate_from n es)
 all_events plan script start moments n [] = refl
 all_events plan script start moments n (e ∷ es) =
@@ -64,7 +64,7 @@ all_events plan script start moments n (e ∷ es) =
     ∙ ap (λ (l : List ℕ). l ++ flat_map line_of more) (one_event script (start + moments n) e (slice_get plan.changes e.change))
     ∙ ap (λ (l : List ℕ). event_text plan script start (moments n) e ++ l) (all_events plan script start moments (n + 1) es)
 
-stream_is : (plan : SavedPlan) (script : Outcomes) (start : ℕ) (operation : Operation) (taken : List Event) → flat_map line_of (stream_objects plan script start operation taken) ≡ stream_of plan script start operation taken
+stream_is : (plan : SavedPlan) (script : OutcomeMap) (start : ℕ) (operation : Operation) (taken : List Event) → flat_map line_of (stream_objects plan script start operation taken) ≡ stream_of plan script start operation taken
 stream_is plan script start operation taken =
     let es = as_written taken in
     let last = summary_text start (latest_of es (length es)) operation (totals_of plan taken) in
@@ -110,7 +110,7 @@ module _ (one_feed : (d : Data) → line_feeds (line_of d) ≡ 1) where
       ∙ ap (λ (l : List (List ℕ)). compact_text d ∷ l) (lines_are ds)
 
   -- where the lines are short, the objects are
-  pub short_objects : (plan : SavedPlan) (script : Outcomes) (start : ℕ) (operation : Operation) (taken : List Event) → HasShortLines (stream_of plan script start operation taken)
+  pub short_objects : (plan : SavedPlan) (script : OutcomeMap) (start : ℕ) (operation : Operation) (taken : List Event) → HasShortLines (stream_of plan script start operation taken)
       → AllByRecursion IsShort (stream_objects plan script start operation taken)
   short_objects plan script start operation taken short =
       let objects = stream_objects plan script start operation taken in
@@ -143,7 +143,7 @@ module _ (plans : Bool) where
       ap (λ (r : Result (List Message) Fault). lead_to ds (at_line (plain plans) earlier (length earlier + 1) r)) (one_line d earlier back.0 short.0)
       ∙ one_accepted ds earlier (length earlier + 1) whole (read_tree false earlier d) (λ later. lines_accepted ds later whole back.1 short.1) is
 
-  pub stream_accepted : (one_feed : (d : Data) → line_feeds (line_of d) ≡ 1) (plan : SavedPlan) (script : Outcomes) (start : ℕ) (operation : Operation) (es : List Event) (whole : Whole)
+  pub stream_accepted : (one_feed : (d : Data) → line_feeds (line_of d) ≡ 1) (plan : SavedPlan) (script : OutcomeMap) (start : ℕ) (operation : Operation) (es : List Event) (whole : Whole)
       → CanBeRead (stream_objects plan script start operation es) → verdict_on_objects (plain plans) (stream_objects plan script start operation es) ≡ Ok whole
       → verdict_of (plain plans) (cut.cut_lines (stream_of plan script start operation es)) ≡ Ok whole
   stream_accepted one_feed plan script start operation es whole read accepted =

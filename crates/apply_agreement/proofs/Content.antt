@@ -85,11 +85,11 @@ pair_utf8 h l high low =
 -- ---- from one byte to the next
 
 -- where reading goes on: p is the content so far, or the part of it that the text cut here would end in
-abbrev Fits : Within → (p xs : List ℕ) → Type 0
-Fits plain p xs = IsUtf8 (p ++ xs)
-Fits after_backslash p xs = IsUtf8 p × IsUtf8 xs
-Fits after_u p xs = IsUtf8 p × IsUtf8 xs
-Fits (after_high h) p xs = IsUtf8 p × IsUtf8 xs × IsHigh h
+abbrev JoinsUtf8 : Within → (p xs : List ℕ) → Type 0
+JoinsUtf8 plain p xs = IsUtf8 (p ++ xs)
+JoinsUtf8 after_backslash p xs = IsUtf8 p × IsUtf8 xs
+JoinsUtf8 after_u p xs = IsUtf8 p × IsUtf8 xs
+JoinsUtf8 (after_high h) p xs = IsUtf8 p × IsUtf8 xs × IsHigh h
 
 prepended : (p q s : List ℕ) (rest : Option (List ℕ)) → ((t : List ℕ) → rest ≡ Some t → IsUtf8 ((p ++ q) ++ t)) → prepend q rest ≡ Some s → IsUtf8 (p ++ s)
 prepended p q s None more e = absurd cc
@@ -172,7 +172,7 @@ module _ (p s : List ℕ) where
           let q = encode_utf8 (surrogate_pair h l) in
           prepended p q s (content plain xs) (λ t same. more (p ++ q) t (IsUtf8-append p q front (pair_utf8 h l high in_low)) rest same) e
 
-content_fits : (w : Within) (p xs s : List ℕ) → Fits w p xs → content w xs ≡ Some s → IsUtf8 (p ++ s)
+content_fits : (w : Within) (p xs s : List ℕ) → JoinsUtf8 w p xs → content w xs ≡ Some s → IsUtf8 (p ++ s)
 unfolding content
 content_fits plain p [] s fits e = absurd cc
 content_fits plain p (x ∷ xs) s fits e =

@@ -8,32 +8,32 @@ use Rattle.apply_check.specs.declared.rules.fault.Fault.{Fault}
 use Rattle.apply_check.specs.declared.rules.fault.Fault.TheVariants.{NotLater, TooMany}
 use Rattle.apply_check.specs.declared.rules.pending.Pending.{Pending}
 use Rattle.apply_check.specs.declared.rules.pending.Pending.TheVariants.{One, Several}
-use Rattle.apply_check.specs.Course.{begun, ended, max_overlap, told_of}
+use Rattle.apply_check.specs.Course.{begun, ended, max_overlap, progressed}
 use Rattle.apply_agreement.proofs.Counting.{changed, counted, at_most, one_at_least, same, two_at_least, weight}
 
 -- what stands open of the action is what the changes below the limit have under way, each with the seconds that it told last
-abbrev pub Fits : (limit : ℕ) → Action → (ℕ → Option ℕ) → Option Pending → Type 0
-Fits limit k h None = counted h 0 limit ≡ 0
-Fits limit k h (Some (One begin told since)) = (counted h 0 limit ≡ 1) × ((c s : ℕ) → c < limit → h c ≡ Some s → s ≡ told)
-Fits limit k h (Some (Several begin count)) = (k ≡ Delete) × (counted h 0 limit ≡ count) × (1 ≤ count)
+abbrev pub MatchesPending : (limit : ℕ) → Action → (ℕ → Option ℕ) → Option Pending → Type 0
+MatchesPending limit k h None = counted h 0 limit ≡ 0
+MatchesPending limit k h (Some (One begin told since)) = (counted h 0 limit ≡ 1) × ((c s : ℕ) → c < limit → h c ≡ Some s → s ≡ told)
+MatchesPending limit k h (Some (Several begin count)) = (k ≡ Delete) × (counted h 0 limit ≡ count) × (1 ≤ count)
 
-pub fits_same : (limit : ℕ) (k : Action) (h g : ℕ → Option ℕ) (p : Option Pending) → ((c : ℕ) → c < limit → g c ≡ h c) → Fits limit k h p → Fits limit k g p
+pub fits_same : (limit : ℕ) (k : Action) (h g : ℕ → Option ℕ) (p : Option Pending) → ((c : ℕ) → c < limit → g c ≡ h c) → MatchesPending limit k h p → MatchesPending limit k g p
 fits_same limit k h g None e f = same h g 0 limit (λ c above below. e c (omega arith)) ∙ f
 fits_same limit k h g (Some (One begin told since)) e f = (same h g 0 limit (λ c above below. e c (omega arith)) ∙ f.0, λ c s less is. f.1 c s less (sym (e c less) ∙ is))
 fits_same limit k h g (Some (Several begin count)) e f = (f.0, same h g 0 limit (λ c above below. e c (omega arith)) ∙ f.1, f.2)
 
-pub nothing_fits : (limit : ℕ) (k : Action) (h : ℕ → Option ℕ) (p : Option Pending) → Fits limit k h p → counted h 0 limit ≡ 0 → p ≡ None
+pub nothing_fits : (limit : ℕ) (k : Action) (h : ℕ → Option ℕ) (p : Option Pending) → MatchesPending limit k h p → counted h 0 limit ≡ 0 → p ≡ None
 nothing_fits limit k h None f none = refl
 nothing_fits limit k h (Some (One begin told since)) f none = absurd (let one : counted h 0 limit ≡ 1 = f.0 in omega arith)
 nothing_fits limit k h (Some (Several begin count)) f none = absurd (let all : counted h 0 limit ≡ count = f.1 in let some : 1 ≤ count = f.2 in omega arith)
 
-pub something_open : (limit : ℕ) (k : Action) (h : ℕ → Option ℕ) (p : Option Pending) (c s : ℕ) → Fits limit k h p → c < limit → h c ≡ Some s → is_some p ≡ true
+pub something_open : (limit : ℕ) (k : Action) (h : ℕ → Option ℕ) (p : Option Pending) (c s : ℕ) → MatchesPending limit k h p → c < limit → h c ≡ Some s → is_some p ≡ true
 something_open limit k h None c s f less is = absurd (let none : counted h 0 limit ≡ 0 = f in let one = one_at_least h c limit s less is in omega arith)
 something_open limit k h (Some p) c s f less is = refl
 
 -- the answer to a message, with what stands open then
 abbrev pub Answers : (limit : ℕ) → Action → (ℕ → Option ℕ) → Result (Option Pending) Fault → Type 0
-Answers limit k g answer = (q : Option Pending) × (answer ≡ Ok q) × Fits limit k g q
+Answers limit k g answer = (q : Option Pending) × (answer ≡ Ok q) × MatchesPending limit k g q
 
 module _ (limit c : ℕ) (k : Action) (h g : ℕ → Option ℕ) (known : c < limit) (others : (b : ℕ) → b ≢ c → g b ≡ h b) where
   counts : counted g 0 limit + weight (h c) ≡ counted h 0 limit + weight (g c)
@@ -41,7 +41,7 @@ module _ (limit c : ℕ) (k : Action) (h g : ℕ → Option ℕ) (known : c < li
 
   -- change c begins: it may, since the action may overlap or none has it under way
   pub begins : (line : ℕ) (p : Option Pending) → limit ≤ max_overlap → h c ≡ None → g c ≡ Some 0
-      → (k ≡ Delete) ⊎ (counted h 0 limit ≡ 0) → Fits limit k h p → Answers limit k g (begun k line p)
+      → (k ≡ Delete) ⊎ (counted h 0 limit ≡ 0) → MatchesPending limit k h p → Answers limit k g (begun k line p)
   begins line None few old new may f =
       let all = counts in
       let was : weight (h c) ≡ 0 = ap weight old in
@@ -78,7 +78,7 @@ module _ (limit c : ℕ) (k : Action) (h g : ℕ → Option ℕ) (known : c < li
       fine q = Ok q
 
   -- it tells of more seconds than before
-  pub tells : (t s line : ℕ) (p : Option Pending) → h c ≡ Some t → t < s → g c ≡ Some s → Fits limit k h p → Answers limit k g (told_of s line p)
+  pub tells : (t s line : ℕ) (p : Option Pending) → h c ≡ Some t → t < s → g c ≡ Some s → MatchesPending limit k h p → Answers limit k g (progressed s line p)
   tells t s line None old more new f = absurd (let one = one_at_least h c limit t known old in let none : counted h 0 limit ≡ 0 = f in omega arith)
   tells t s line (Some (One begin told since)) old more new f =
       let all = counts in
@@ -107,7 +107,7 @@ module _ (limit c : ℕ) (k : Action) (h g : ℕ → Option ℕ) (known : c < li
       (Some (Several begin count), refl, (f.0, omega arith, f.2))
 
   -- it ends, no earlier than it told last
-  pub ends : (t s : ℕ) (p : Option Pending) → h c ≡ Some t → t ≤ s → g c ≡ None → Fits limit k h p → Answers limit k g (ended s p)
+  pub ends : (t s : ℕ) (p : Option Pending) → h c ≡ Some t → t ≤ s → g c ≡ None → MatchesPending limit k h p → Answers limit k g (ended s p)
   ends t s None old more new f = absurd (let one = one_at_least h c limit t known old in let none : counted h 0 limit ≡ 0 = f in omega arith)
   ends t s (Some (One begin told since)) old more new f =
       let all = counts in

@@ -14,13 +14,13 @@ use Rattle.apply_check.specs.Lines.{next}
 use Rattle.apply_check.specs.Message.{Message, step, provision, diagnostic}
 use Rattle.apply_check.specs.Standing.{explained, pending_at, provision_on, standing_of, step_on}
 use Rattle.apply_check.specs.Words.{same_action}
-use Rattle.apply_agreement.proofs.Fitting.{Fits, fits_same, something_open}
+use Rattle.apply_agreement.proofs.Fitting.{MatchesPending, fits_same, something_open}
 use Rattle.apply_agreement.proofs.Phases.{IsProvisioning, Phase, between, under_way, unexplained, put, put_elsewhere, put_here, seconds_in, shown, shown_same}
 use Rattle.apply_agreement.proofs.Standings.{IsAmid, IsNoFailure, diagnostic_elsewhere, diagnostic_there, explained_keeps, failures_same, next_diagnostic, next_provision, next_step, pending_other, pending_same, pending_still, provision_elsewhere, provision_there, provisioner_in, provisioner_kept, provisioner_same, same_is, same_itself, same_text, step_elsewhere, step_in, step_is, step_there}
 
 -- after the messages the checker stands, at each address of some, where the changes below the limit stand
 pub record Agrees (limit : ℕ) (addresses : ℕ → List ℕ) (Within : List ℕ → Type 0) (Does : ℕ → Action → Type 0) (phases : ℕ → Phase) (ms : List Message) : Type 0 where
-  pub open_steps : (a : List ℕ) (k : Action) → Within a → Fits limit k (shown addresses phases a k) (pending_at k (standing_of a ms))
+  pub open_steps : (a : List ℕ) (k : Action) → Within a → MatchesPending limit k (shown addresses phases a k) (pending_at k (standing_of a ms))
   -- a provisioner is under way at an address exactly where it is in a change of that address
   pub provisioners : (a : List ℕ) → Within a → is_some (standing_of a ms).provisioner ≡ true → (c : ℕ) × (c < limit) × (addresses c ≡ a) × IsProvisioning (phases c)
   pub provisioning : (c : ℕ) → c < limit → Within (addresses c) → IsProvisioning (phases c) → is_some (standing_of (addresses c) ms).provisioner ≡ true
@@ -137,7 +137,7 @@ module _ (limit : ℕ) (addresses : ℕ → List ℕ) (Within : List ℕ → Typ
       (cases_eq d c)
 
   -- then a create stands open there
-  create_open : (phases : ℕ → Phase) (a : List ℕ) (p : Option Pending) → Fits limit Create (shown addresses phases a Create) p → Has phases a → is_some p ≡ true
+  create_open : (phases : ℕ → Phase) (a : List ℕ) (p : Option Pending) → MatchesPending limit Create (shown addresses phases a Create) p → Has phases a → is_some p ≡ true
   create_open phases a p fit found =
       something_open limit Create (shown addresses phases a Create) p found.0 found.3.0 fit found.1
       (ap (λ (x : List ℕ). shown addresses phases x Create found.0) (sym found.2) ∙ shown_here addresses phases Create found.0 ∙ ap (seconds_in Create) found.3.1 ∙ running Create found.3.0 true)
@@ -145,7 +145,7 @@ module _ (limit : ℕ) (addresses : ℕ → List ℕ) (Within : List ℕ → Typ
   pub stepped : (phases : ℕ → Phase) (ms : List Message) (c : ℕ) (k : Action) (stage : TimedStage) (q : Phase) (p : Option Pending)
       → Agrees limit addresses Within Does phases ms → c < limit → Within (addresses c)
       → after k stage (length ms + 1) (pending_at k (standing_of (addresses c) ms)) ≡ Ok p
-      → Fits limit k (shown addresses (put phases c q) (addresses c) k) p
+      → MatchesPending limit k (shown addresses (put phases c q) (addresses c) k) p
       → ((l : Action) → same_action k l ≡ false → seconds_in l q ≡ seconds_in l (phases c))
       → ((t : ℕ) (l : Action) (b : Bool) → q ≡ under_way l t b → Does c l)
       → (IsNoFailure stage × (phases c ≢ unexplained)) ⊎ (q ≡ unexplained)
@@ -155,13 +155,13 @@ module _ (limit : ℕ) (addresses : ℕ → List ℕ) (Within : List ℕ → Typ
       let a = addresses c in
       let s = standing_of a ms in
       let line = length ms + 1 in
-      let fits : (l : Action) → Fits limit l (shown addresses (put phases c q) a l) (pending_at l (step_in k stage line p s)) = λ l.
+      let fits : (l : Action) → MatchesPending limit l (shown addresses (put phases c q) a l) (pending_at l (step_in k stage line p s)) = λ l.
       ⊎_elim
       (λ yes.
-      let at_k : Fits limit k (shown addresses (put phases c q) a k) (pending_at k (step_in k stage line p s)) = subst (Fits limit k (shown addresses (put phases c q) a k)) (sym (pending_same k stage line p s)) fit in
-      subst (λ (m : Action). Fits limit m (shown addresses (put phases c q) a m) (pending_at m (step_in k stage line p s))) (same_is k l yes) at_k)
+      let at_k : MatchesPending limit k (shown addresses (put phases c q) a k) (pending_at k (step_in k stage line p s)) = subst (MatchesPending limit k (shown addresses (put phases c q) a k)) (sym (pending_same k stage line p s)) fit in
+      subst (λ (m : Action). MatchesPending limit m (shown addresses (put phases c q) a m) (pending_at m (step_in k stage line p s))) (same_is k l yes) at_k)
       (λ no.
-      subst (Fits limit l (shown addresses (put phases c q) a l)) (sym (pending_other k l stage line p s no))
+      subst (MatchesPending limit l (shown addresses (put phases c q) a l)) (sym (pending_other k l stage line p s no))
       (fits_same limit l (shown addresses phases a l) (shown addresses (put phases c q) a l) (pending_at l s) (λ b _. shown_kept addresses phases c q a l (kept l no) b) (agrees.open_steps a l within)))
       (cases_Bool (same_action k l)) in
       let is : step_on k stage line s ≡ Ok (step_in k stage line p s) =
@@ -169,10 +169,10 @@ module _ (limit : ℕ) (addresses : ℕ → List ℕ) (Within : List ℕ → Typ
       let there : standing_of a (step a k stage ∷ ms) ≡ step_in k stage line p s = step_there a k stage (step_in k stage line p s) ms is in (
         next_step a k stage (step_in k stage line p s) ms agrees.amid is,
         record {
-          open_steps = λ b l w. by_address (λ b. Within b → Fits limit l (shown addresses (put phases c q) b l) (pending_at l (standing_of b (step a k stage ∷ ms)))) a
-              (λ _. subst (λ (t : Standing). Fits limit l (shown addresses (put phases c q) a l) (pending_at l t)) (sym there) (fits l))
+          open_steps = λ b l w. by_address (λ b. Within b → MatchesPending limit l (shown addresses (put phases c q) b l) (pending_at l (standing_of b (step a k stage ∷ ms)))) a
+              (λ _. subst (λ (t : Standing). MatchesPending limit l (shown addresses (put phases c q) a l) (pending_at l t)) (sym there) (fits l))
               (λ b no w.
-              subst (λ (t : Standing). Fits limit l (shown addresses (put phases c q) b l) (pending_at l t)) (sym (step_elsewhere a k stage ms b no))
+              subst (λ (t : Standing). MatchesPending limit l (shown addresses (put phases c q) b l) (pending_at l t)) (sym (step_elsewhere a k stage ms b no))
               (fits_same limit l (shown addresses phases b l) (shown addresses (put phases c q) b l) (pending_at l (standing_of b ms)) (λ d _. shown_elsewhere addresses phases c q b l no d) (agrees.open_steps b l w)))
               b w;
           provisioners = by_address (λ b. Within b → is_some (standing_of b (step a k stage ∷ ms)).provisioner ≡ true → Has (put phases c q) b) a
@@ -214,11 +214,11 @@ module _ (limit : ℕ) (addresses : ℕ → List ℕ) (Within : List ℕ → Typ
       let there : standing_of a (provision a stage ∷ ms) ≡ provisioner_in r s = provision_there a stage (provisioner_in r s) ms e in (
         next_provision a stage (provisioner_in r s) ms agrees.amid e,
         record {
-          open_steps = λ b l w. by_address (λ b. Within b → Fits limit l (shown addresses (put phases c q) b l) (pending_at l (standing_of b (provision a stage ∷ ms)))) a
-              (λ _. subst (Fits limit l (shown addresses (put phases c q) a l)) (sym (ap (pending_at l) there ∙ pending_still l r s))
+          open_steps = λ b l w. by_address (λ b. Within b → MatchesPending limit l (shown addresses (put phases c q) b l) (pending_at l (standing_of b (provision a stage ∷ ms)))) a
+              (λ _. subst (MatchesPending limit l (shown addresses (put phases c q) a l)) (sym (ap (pending_at l) there ∙ pending_still l r s))
               (fits_same limit l (shown addresses phases a l) (shown addresses (put phases c q) a l) (pending_at l s) (λ d _. shown_kept addresses phases c q a l (kept l) d) (agrees.open_steps a l within)))
               (λ b no w.
-              subst (λ (t : Standing). Fits limit l (shown addresses (put phases c q) b l) (pending_at l t)) (sym (provision_elsewhere a stage ms b no))
+              subst (λ (t : Standing). MatchesPending limit l (shown addresses (put phases c q) b l) (pending_at l t)) (sym (provision_elsewhere a stage ms b no))
               (fits_same limit l (shown addresses phases b l) (shown addresses (put phases c q) b l) (pending_at l (standing_of b ms)) (λ d _. shown_elsewhere addresses phases c q b l no d) (agrees.open_steps b l w)))
               b w;
           provisioners = by_address (λ b. Within b → is_some (standing_of b (provision a stage ∷ ms)).provisioner ≡ true → Has (put phases c q) b) a
@@ -259,12 +259,12 @@ module _ (limit : ℕ) (addresses : ℕ → List ℕ) (Within : List ℕ → Typ
       let back : IsProvisioning q → IsProvisioning (phases c) = λ p. absurd (let f : None ≡ Some p.0 = sym (after_none Create) ∙ ap (seconds_in Create) p.1 ∙ running Create p.0 true in cc) in (
         next_diagnostic a e ms agrees.amid,
         record {
-          open_steps = λ b l w. by_address (λ b. Within b → Fits limit l (shown addresses (put phases c q) b l) (pending_at l (standing_of b (diagnostic e (Some a) ∷ ms)))) a
-              (λ _. subst (λ (t : Standing). Fits limit l (shown addresses (put phases c q) a l) (pending_at l t)) (sym there)
-              (subst (Fits limit l (shown addresses (put phases c q) a l)) (sym (explained_keeps l e s))
+          open_steps = λ b l w. by_address (λ b. Within b → MatchesPending limit l (shown addresses (put phases c q) b l) (pending_at l (standing_of b (diagnostic e (Some a) ∷ ms)))) a
+              (λ _. subst (λ (t : Standing). MatchesPending limit l (shown addresses (put phases c q) a l) (pending_at l t)) (sym there)
+              (subst (MatchesPending limit l (shown addresses (put phases c q) a l)) (sym (explained_keeps l e s))
               (fits_same limit l (shown addresses phases a l) (shown addresses (put phases c q) a l) (pending_at l s) (λ b _. kept a l b) (agrees.open_steps a l within))))
               (λ b no w.
-              subst (λ (t : Standing). Fits limit l (shown addresses (put phases c q) b l) (pending_at l t)) (sym (diagnostic_elsewhere a e ms b no))
+              subst (λ (t : Standing). MatchesPending limit l (shown addresses (put phases c q) b l) (pending_at l t)) (sym (diagnostic_elsewhere a e ms b no))
               (fits_same limit l (shown addresses phases b l) (shown addresses (put phases c q) b l) (pending_at l (standing_of b ms)) (λ d _. kept b l d) (agrees.open_steps b l w)))
               b w;
           provisioners = by_address (λ b. Within b → is_some (standing_of b (diagnostic e (Some a) ∷ ms)).provisioner ≡ true → Has (put phases c q) b) a

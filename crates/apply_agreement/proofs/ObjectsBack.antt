@@ -14,7 +14,7 @@ use Rattle.apply_plan.specs.declared.script.diag.Diag.{Diag}
 use Rattle.apply_plan.specs.declared.script.outcome.Outcome.{Outcome}
 use Rattle.apply_plan.specs.Plan.ResourceChange.{ResourceChange}
 use Rattle.apply_plan.specs.Plan.SavedPlan.{SavedPlan}
-use Rattle.apply_plan.specs.Script.Outcomes.{Outcomes, outcome_of}
+use Rattle.apply_plan.specs.Script.OutcomeMap.{OutcomeMap, outcome_of}
 use Rattle.apply_json.specs.Tree.{tree_of}
 use Rattle.apply_events.specs.declared.counts.Counts.{Counts}
 use Rattle.apply_events.specs.declared.event.Event.{Event}
@@ -125,7 +125,7 @@ IsBack d = tree_of (compact_text d) ≡ Some d
 pub in_place_back : (d : Data) → IsSound d → IsInPlace 3 d → IsBack d
 in_place_back d sound is = tree_is d sound is.0 (omega (arith, is.1))
 
-one_back : (script : Outcomes) (seconds : ℕ) (e : Event) (found : Option ResourceChange) (ds : List Data) → (AllByRecursion IsSound ds → AllByRecursion IsBack ds)
+one_back : (script : OutcomeMap) (seconds : ℕ) (e : Event) (found : Option ResourceChange) (ds : List Data) → (AllByRecursion IsSound ds → AllByRecursion IsBack ds)
     → AllByRecursion IsSound (option_map_or (λ (change : ResourceChange). option_map_or (λ step. object_of seconds (event_message change step (outcome_of script e.change e.step) e.what) ∷ []) (slice_get change.steps e.step) []) found [] ++ ds)
     → AllByRecursion IsBack (option_map_or (λ (change : ResourceChange). option_map_or (λ step. object_of seconds (event_message change step (outcome_of script e.change e.step) e.what) ∷ []) (slice_get change.steps e.step) []) found [] ++ ds)
 one_back script seconds e None ds rest sound = rest sound
@@ -136,7 +136,7 @@ one_back script seconds e (Some change) ds rest sound = at (slice_get change.ste
     at None s = rest s
     at (Some step) s = (in_place_back _ s.0 (event_in_place change step (outcome_of script e.change e.step) e.what seconds s.0), rest s.1)
 
-events_back : (plan : SavedPlan) (script : Outcomes) (seconds : ℕ → ℕ) (n : ℕ) (es : List Event) (ds : List Data) → (AllByRecursion IsSound ds → AllByRecursion IsBack ds)
+events_back : (plan : SavedPlan) (script : OutcomeMap) (seconds : ℕ → ℕ) (n : ℕ) (es : List Event) (ds : List Data) → (AllByRecursion IsSound ds → AllByRecursion IsBack ds)
     → AllByRecursion IsSound (flat_map (λ p. objects_of plan script (seconds p.0) p.1) (enumerate_from n es) ++ ds) → AllByRecursion IsBack (flat_map (λ p. objects_of plan script (seconds p.0) p.1) (enumerate_from n es) ++ ds)
 events_back plan script seconds n [] ds rest sound = rest sound
 events_back plan script seconds n (e ∷ es) ds rest sound =
@@ -145,7 +145,7 @@ events_back plan script seconds n (e ∷ es) ds rest sound =
     subst (AllByRecursion IsBack) (sym grouped)
     (one_back script (seconds n) e (slice_get plan.changes e.change) (more ++ ds) (events_back plan script seconds (n + 1) es ds rest) (subst (AllByRecursion IsSound) grouped sound))
 
-pub stream_back : (plan : SavedPlan) (script : Outcomes) (start : ℕ) (operation : Operation) (taken : List Event)
+pub stream_back : (plan : SavedPlan) (script : OutcomeMap) (start : ℕ) (operation : Operation) (taken : List Event)
     → AllByRecursion IsSound (stream_objects plan script start operation taken) → AllByRecursion IsBack (stream_objects plan script start operation taken)
 stream_back plan script start operation taken sound =
     let t = totals_of plan taken in

@@ -6,7 +6,7 @@ use Rattle.serde_json.specs.Data.{Data}
 use Rattle.apply_plan.specs.declared.plan.step_kind.StepKind.{StepKind}
 use Rattle.apply_plan.specs.Plan.ResourceChange.{ResourceChange}
 use Rattle.apply_plan.specs.Plan.SavedPlan.{SavedPlan}
-use Rattle.apply_plan.specs.Script.Outcomes.{Outcomes, outcome_of}
+use Rattle.apply_plan.specs.Script.OutcomeMap.{OutcomeMap, outcome_of}
 use Rattle.apply_check.specs.declared.rules.fault.Fault.{Fault}
 use Rattle.apply_check.specs.declared.rules.mode.Mode.{Mode}
 use Rattle.apply_check.specs.Lines.{end_of, tree_message, next, read_tree}
@@ -54,7 +54,7 @@ both find d m ds ms is rest earlier =
     ap (λ (r : Result (List Message) Fault). r >>= λ later. with_objects find later ds) (one_read find d m is earlier)
     ∙ bind_same (next earlier m) (λ later. with_objects find later ds) (λ later. with_all later ms) rest
 
-one_event : (find : Bool) (script : Outcomes) (seconds : ℕ) (e : Event) (found : Option ResourceChange) (ds : List Data) (ms : List Message) → Same find ds ms
+one_event : (find : Bool) (script : OutcomeMap) (seconds : ℕ) (e : Event) (found : Option ResourceChange) (ds : List Data) (ms : List Message) → Same find ds ms
     → Same find
     (option_map_or (λ (change : ResourceChange). option_map_or (λ step. object_of seconds (event_message change step (outcome_of script e.change e.step) e.what) ∷ []) (slice_get change.steps e.step) []) found [] ++ ds)
     (option_map_or (λ step. told (option_map_or (λ (change : ResourceChange). change.address) found []) (action_of step) e.what ∷ []) (slice_get (option_map_or (λ (change : ResourceChange). change.steps) found []) e.step) [] ++ ms)
@@ -67,7 +67,7 @@ one_event find script seconds e (Some change) ds ms rest = at (slice_get change.
     at None = rest
     at (Some step) = both find _ _ ds ms (event_heard find change step (outcome_of script e.change e.step) e.what seconds) rest
 
-all_events : (find : Bool) (plan : SavedPlan) (script : Outcomes) (seconds : ℕ → ℕ) (n : ℕ) (es : List Event) (ds : List Data) (ms : List Message) → Same find ds ms
+all_events : (find : Bool) (plan : SavedPlan) (script : OutcomeMap) (seconds : ℕ → ℕ) (n : ℕ) (es : List Event) (ds : List Data) (ms : List Message) → Same find ds ms
     → Same find (flat_map (λ p. objects_of plan script (seconds p.0) p.1) (enumerate_from n es) ++ ds) (all_told plan es ++ ms)
 all_events find plan script seconds n [] ds ms rest = rest
 all_events find plan script seconds n (e ∷ es) ds ms rest =
@@ -76,7 +76,7 @@ all_events find plan script seconds n (e ∷ es) ds ms rest =
     let first = one_event find script (seconds n) e (slice_get plan.changes e.change) (more ++ ds) (all_told plan es ++ ms) others in
     λ earlier. ap (with_objects find earlier) (append_assoc (objects_of plan script (seconds n) e) more ds) ∙ first earlier ∙ ap (with_all earlier) (sym (append_assoc (told_of plan e) (all_told plan es) ms))
 
-pub objects_heard : (mode : Mode) (plan : SavedPlan) (script : Outcomes) (start : ℕ) (operation : Operation) (taken : List Event)
+pub objects_heard : (mode : Mode) (plan : SavedPlan) (script : OutcomeMap) (start : ℕ) (operation : Operation) (taken : List Event)
     → verdict_on_objects mode (stream_objects plan script start operation taken) ≡ verdict_on mode (stream_told plan taken)
 objects_heard mode plan script start operation taken =
     let find = mode.find in

@@ -78,12 +78,12 @@ each_of_steps P w (s ∷ steps) at h = each_both P (step_events w s at) (in_turn
 -- ---- the events of a change
 
 -- it names the change, and the plan has its step
-pub record IsOf (work : Work) (c : ℕ) (e : Event) : Type 0 where
+pub record TellsOfChange (work : Work) (c : ℕ) (e : Event) : Type 0 where
   pub named : e.change ≡ c
   pub planned : (kind : StepKind) × (slice_get (kinds_of work.plan e.change) e.step ≡ Some kind)
 
 all_of : (work : Work) (w c n : ℕ) (kinds : List StepKind) → ((i : ℕ) → slice_get (kinds_of work.plan c) (n + i) ≡ slice_get kinds i)
-    → AllSuit (IsOf work c) w (map (λ p. step_of work c p.0 p.1) (enumerate_from n kinds))
+    → AllSuit (TellsOfChange work c) w (map (λ p. step_of work c p.0 p.1) (enumerate_from n kinds))
 all_of work w c n [] is = tt
 all_of work w c n (kind ∷ kinds) is =
     let here : n ≡ n + 0 = omega arith in (
@@ -91,10 +91,10 @@ all_of work w c n (kind ∷ kinds) is =
       all_of work w c (n + 1) kinds (λ i. let next : n + 1 + i ≡ n + suc i = omega arith in ap (λ (x : ℕ). slice_get (kinds_of work.plan c) x) next ∙ is (suc i)),
     )
 
-pub change_is_of : (work : Work) (w c at : ℕ) → Each (IsOf work c) (change_events work w c at)
+pub change_is_of : (work : Work) (w c at : ℕ) → Each (TellsOfChange work c) (change_events work w c at)
 change_is_of work w c at =
-    each_of_steps (IsOf work c) w (begun (steps_of work c)) at
-    (suit_begun (IsOf work c) w (steps_of work c) (all_of work w c 0 (kinds_of work.plan c) (λ i. let same : 0 + i ≡ i = omega arith in ap (λ (x : ℕ). slice_get (kinds_of work.plan c) x) same)))
+    each_of_steps (TellsOfChange work c) w (begun (steps_of work c)) at
+    (suit_begun (TellsOfChange work c) w (steps_of work c) (all_of work w c 0 (kinds_of work.plan c) (λ i. let same : 0 + i ≡ i = omega arith in ap (λ (x : ℕ). slice_get (kinds_of work.plan c) x) same)))
 
 -- ---- the part of a change in a list
 
@@ -122,10 +122,10 @@ module _ (work : Work) (w : ℕ) where
   turn changes at = in_turn (change_events work w) (span_of work) changes at
 
   other_part : (c b at : ℕ) → b ≢ c → with_change c (change_events work w b at) ≡ []
-  other_part c b at apart = no_part c (change_events work w b at) (each_weaker (IsOf work b) (λ e. e.change ≢ c) (λ e is same. apart (sym is.named ∙ same)) (change_events work w b at) (change_is_of work w b at))
+  other_part c b at apart = no_part c (change_events work w b at) (each_weaker (TellsOfChange work b) (λ e. e.change ≢ c) (λ e is same. apart (sym is.named ∙ same)) (change_events work w b at) (change_is_of work w b at))
 
   own_part : (c at : ℕ) → with_change c (change_events work w c at) ≡ change_events work w c at
-  own_part c at = whole_part c (change_events work w c at) (each_weaker (IsOf work c) (λ e. e.change ≡ c) (λ e is. is.named) (change_events work w c at) (change_is_of work w c at))
+  own_part c at = whole_part c (change_events work w c at) (each_weaker (TellsOfChange work c) (λ e. e.change ≡ c) (λ e is. is.named) (change_events work w c at) (change_is_of work w c at))
 
   none_left : (c : ℕ) (changes : List ℕ) (at : ℕ) → count_of c changes ≡ 0 → with_change c (turn changes at) ≡ []
   none_left c [] at none = refl
@@ -231,7 +231,7 @@ turn_listed : (work : Work) (w : ℕ) (all changes : List ℕ) (at : ℕ) → ((
 turn_listed work w all [] at within = tt
 turn_listed work w all (b ∷ changes) at within =
     each_both (IsListed work all) (change_events work w b at) (turn work w changes (at + span_of work b))
-    (each_weaker (IsOf work b) (IsListed work all)
+    (each_weaker (TellsOfChange work b) (IsListed work all)
     (λ e is. record {
       listed = let same : e.change ≡ b = is.named in subst (λ (x : ℕ). 1 ≤ count_of x all) (sym same)
           (let count = first_counted b b changes in let more = within b in let one : cond {A = ℕ} (b == b) 1 0 ≡ 1 = ap (λ (t : Bool). cond t 1 0) (eq-eqb b b refl) in omega arith);

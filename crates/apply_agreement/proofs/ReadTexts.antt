@@ -11,7 +11,7 @@ use Rattle.apply_plan.specs.declared.script.provisioner.Provisioner.{Provisioner
 use Rattle.apply_plan.specs.Plan.Laws.{HasRelativeAddress}
 use Rattle.apply_plan.specs.Plan.SavedPlan.{SavedPlan}
 use Rattle.apply_plan.specs.Script.Outcome.{default_outcome, diag_of_ending, failure_of, first_diag}
-use Rattle.apply_plan.specs.Script.Outcomes.{Outcomes, given_outcome}
+use Rattle.apply_plan.specs.Script.OutcomeMap.{OutcomeMap, given_outcome}
 use Rattle.apply_text.specs.Message.{no_diag, told_id, warning_of}
 use Rattle.apply_agreement.specs.Texts.{HasDiagTexts, HasOutcomeTexts, HasTexts}
 use Rattle.apply_agreement.proofs.Given.{first_of_two, held_at, is_given, unwrapped}
@@ -66,7 +66,7 @@ given_texts (Some outcome) h = outcome_texts outcome h.texts
 
 -- ---- the plan and the script
 
-pub read_texts : (plan : SavedPlan) (script : Outcomes) → IsReadablePlan plan → AllByRecursion HasRelativeAddress plan.changes → IsReadableScript script → HasTexts plan script
+pub read_texts : (plan : SavedPlan) (script : OutcomeMap) → IsReadablePlan plan → AllByRecursion HasRelativeAddress plan.changes → IsReadableScript script → HasTexts plan script
 read_texts plan script readable relative said = record {
   version = readable.version;
   changes = λ c change is.

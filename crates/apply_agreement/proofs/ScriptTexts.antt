@@ -19,7 +19,7 @@ use Rattle.apply_plan.specs.Plan.SavedPlan.{SavedPlan}
 use Rattle.apply_plan.specs.Results.{all_or_first, each_with_earlier, or_refuse, unless_refused}
 use Rattle.apply_plan.specs.Script.Entry.{Entry, all_some, diag_from, diag_or_none, each_of, ending_from, ending_of, entry_of, provisioner_from, seconds_of, step_from}
 use Rattle.apply_plan.specs.Script.Outcome.{IsBounded, is_failed}
-use Rattle.apply_plan.specs.Script.Outcomes.{Outcomes, by_number, change_of_entry, elements_of, entry_at, given_outcome, names_change, said_at, said_of, script_of, script_of_entries, script_of_tree}
+use Rattle.apply_plan.specs.Script.OutcomeMap.{OutcomeMap, by_number, change_of_entry, elements_of, entry_at, given_outcome, names_change, said_at, said_of, script_of, script_of_entries, script_of_tree}
 use Rattle.apply_plan.specs.Script.Refusals.{fault_of_steps}
 use Rattle.apply_plan.proofs.Scripts.Limits.{none_is_bounded}
 use Rattle.apply_agreement.specs.Texts.{HasDiagTexts}
@@ -155,7 +155,7 @@ said_by (x ∷ entries) c h = of_test (x.0 == c) (said_by entries c h.1)
     of_test false rest = rest
 
 -- each outcome that is given
-abbrev pub IsReadableScript : Outcomes → Type 0
+abbrev pub IsReadableScript : OutcomeMap → Type 0
 IsReadableScript script = (c k : ℕ) → IfSome (given_outcome script c k) IsSaid
 
 by_number_said : (low n c : ℕ) (entries : List (ℕ × List Outcome)) → AllByRecursion AreSaid entries → AllByRecursion (λ said. IfSome said (AllByRecursion IsSaid)) (map (said_of entries) (range_with_len low n))
@@ -183,7 +183,7 @@ tree_readable plan d h =
     (refused_or AreLegible (BadShape None) (elements_of d) (next_of IsLegible AreLegible (member_of (codes "changes") d) as_array (member_legible (codes "changes") d h) array_legible))
     (λ elements legible. all_entries plan (list_of elements) (list_legible elements legible))
 
-pub script_readable : (plan : SavedPlan) (bytes : List ℕ) (script : Outcomes) → script_of plan bytes ≡ Ok script → IsReadableScript script
+pub script_readable : (plan : SavedPlan) (bytes : List ℕ) (script : OutcomeMap) → script_of plan bytes ≡ Ok script → IsReadableScript script
 unfolding script_of
 script_readable plan bytes script e =
     is_answered IsReadableScript (of_bytes TooLarge NotJson (script_of_tree plan) bytes) script (made_of_bytes IsReadableScript TooLarge NotJson (script_of_tree plan) bytes (tree_readable plan)) e

@@ -21,7 +21,7 @@ use Rattle.apply_plan.specs.Plan.SavedPlan.{SavedPlan}
 use Rattle.apply_plan.specs.Results.{◌>>=◌, all_or_first, each_with_earlier, or_refuse, unless_refused}
 use Rattle.apply_plan.specs.Script.Entry.{Entry, entry_of}
 use Rattle.apply_plan.specs.Script.Outcome.{default_outcome, has_too_many_provisioners, has_too_much_output, is_too_long}
-use Rattle.apply_plan.specs.Script.Outcomes.{Outcomes, by_number, change_of_entry, elements_of, entry_at, is_about, names_change, said_of, script_of, script_of_entries, script_of_tree}
+use Rattle.apply_plan.specs.Script.OutcomeMap.{OutcomeMap, by_number, change_of_entry, elements_of, entry_at, is_about, names_change, said_of, script_of, script_of_entries, script_of_tree}
 use Rattle.apply_plan.specs.Script.Refusals.{fault_of_steps, misplaces_provisioners}
 use Rattle.apply_events.specs.Step.{kinds_of}
 use Rattle.apply_agreement.specs.Plans.{ProvisionsCreates}
@@ -186,13 +186,13 @@ numbered_has_none plan entries suit c k kind at other = ⊎_elim
     ∙ said_has_none plan entries c k kind (said_of entries c) suit refl at other)
     (number_at (said_of entries) 0 (length plan.changes) c)
 
-entries_have : (plan : SavedPlan) (elements : List Data) (script : Outcomes) → script_of_entries plan elements ≡ Ok script → ProvisionsCreates plan script
+entries_have : (plan : SavedPlan) (elements : List Data) (script : OutcomeMap) → script_of_entries plan elements ≡ Ok script → ProvisionsCreates plan script
 unfolding script_of_entries
 entries_have plan elements script e =
     of_entries (all_or_first (each_with_earlier (entry_at plan.changes) elements))
     (λ entries is. all_hold (Suits plan.changes) (λ (p : ℕ × Data). entry_at plan.changes (take p.0 elements) p.1) (enumerate_from 0 elements) entries (λ p one. entry_suits plan.changes (take p.0 elements) p.1 one) is) e
   where
-    fine : Outcomes → Result Outcomes ScriptError
+    fine : OutcomeMap → Result OutcomeMap ScriptError
     fine s = Ok s
 
     of_entries : (r : Result (List (ℕ × List Outcome)) ScriptError) → ((entries : List (ℕ × List Outcome)) → r ≡ Ok entries → AllByRecursion (Suits plan.changes) entries)
@@ -200,7 +200,7 @@ entries_have plan elements script e =
     of_entries (Err refusal) suit e = absurd cc
     of_entries (Ok entries) suit e = subst (ProvisionsCreates plan) (let same : by_number (length plan.changes) entries ≡ script = cc in same) (numbered_has_none plan entries (suit entries refl))
 
-tree_has : (plan : SavedPlan) (d : Data) (script : Outcomes) → script_of_tree plan d ≡ Ok script → ProvisionsCreates plan script
+tree_has : (plan : SavedPlan) (d : Data) (script : OutcomeMap) → script_of_tree plan d ≡ Ok script → ProvisionsCreates plan script
 unfolding script_of_tree
 tree_has plan d script e = of_elements (elements_of d) e
   where
@@ -208,7 +208,7 @@ tree_has plan d script e = of_elements (elements_of d) e
     of_elements None e = absurd cc
     of_elements (Some elements) e = entries_have plan (list_of elements) script e
 
-pub read_has : (plan : SavedPlan) (bytes : List ℕ) (script : Outcomes) → script_of plan bytes ≡ Ok script → ProvisionsCreates plan script
+pub read_has : (plan : SavedPlan) (bytes : List ℕ) (script : OutcomeMap) → script_of plan bytes ≡ Ok script → ProvisionsCreates plan script
 unfolding script_of
 read_has plan bytes script e = of_size (nat_lt max_bytes (length bytes)) (tree_of bytes) e
   where

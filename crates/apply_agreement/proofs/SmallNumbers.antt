@@ -10,7 +10,7 @@ use Rattle.apply_plan.specs.declared.plan.step_kind.StepKind.TheVariants.{Create
 use Rattle.apply_plan.specs.declared.script.outcome.Outcome.{Outcome}
 use Rattle.apply_plan.specs.Plan.SavedPlan.{SavedPlan}
 use Rattle.apply_plan.specs.Script.Outcome.{IsBounded, default_outcome, fails, took}
-use Rattle.apply_plan.specs.Script.Outcomes.{IsInRange, Outcomes, given_outcome, outcome_of}
+use Rattle.apply_plan.specs.Script.OutcomeMap.{IsInRange, OutcomeMap, given_outcome, outcome_of}
 use Rattle.apply_plan.proofs.Scripts.Limits.{in_time}
 use Rattle.apply_hooks.specs.Hooks.{max_hooks}
 use Rattle.apply_events.specs.declared.event.Event.{Event}
@@ -58,14 +58,14 @@ a_day : (given : Option Outcome) → IfSome given IsBounded → took (unwrap_or 
 a_day None bounded = let none : took default_outcome ≡ 0 = refl in omega arith
 a_day (Some outcome) bounded = in_time (Some outcome) bounded
 
-all_small : (plan : SavedPlan) (script : Outcomes) (events : List Event) → IsInRange script → All (Fits plan script) events → AllByRecursion (λ (event : Event). IsSmall event.what) events
+all_small : (plan : SavedPlan) (script : OutcomeMap) (events : List Event) → IsInRange script → All (Fits plan script) events → AllByRecursion (λ (event : Event). IsSmall event.what) events
 all_small plan script [] bounded fit = tt
 all_small plan script (e ∷ events) bounded fit = (
   what_small (outcome_of script e.change e.step) e.what (a_day (given_outcome script e.change e.step) (bounded e.change e.step)) (All-head (Fits plan script) e events fit).can_happen,
   all_small plan script events bounded (All-tail (Fits plan script) e events fit),
 )
 
-pub fit_bits : (plan : SavedPlan) (script : Outcomes) (events : List Event) → IsInRange script → All (Fits plan script) events → length events < 2 ^ 64 → FitBits plan events
+pub fit_bits : (plan : SavedPlan) (script : OutcomeMap) (events : List Event) → IsInRange script → All (Fits plan script) events → length events < 2 ^ 64 → FitBits plan events
 fit_bits plan script events bounded fit few = record {
   each = all_small plan script events bounded fit;
   totals = record {

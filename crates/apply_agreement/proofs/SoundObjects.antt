@@ -11,7 +11,7 @@ use Rattle.apply_plan.specs.declared.script.diag.Diag.{Diag}
 use Rattle.apply_plan.specs.declared.script.outcome.Outcome.{Outcome}
 use Rattle.apply_plan.specs.Plan.ResourceChange.{ResourceChange}
 use Rattle.apply_plan.specs.Plan.SavedPlan.{SavedPlan}
-use Rattle.apply_plan.specs.Script.Outcomes.{Outcomes, outcome_of}
+use Rattle.apply_plan.specs.Script.OutcomeMap.{OutcomeMap, outcome_of}
 use Rattle.apply_hooks.specs.declared.phase.Phase.{Phase}
 use Rattle.apply_events.specs.declared.counts.Counts.{Counts}
 use Rattle.apply_events.specs.declared.event.Event.{Event}
@@ -210,7 +210,7 @@ all_kept P test (x ∷ xs) h = either (test x) (all_kept P test xs h.1)
     either true rest = (h.0, rest)
     either false rest = rest
 
-module _ (plan : SavedPlan) (script : Outcomes) (has : HasTexts plan script) where
+module _ (plan : SavedPlan) (script : OutcomeMap) (has : HasTexts plan script) where
   one_sound : (seconds : ℕ) (e : Event) → IsSmall e.what → AllByRecursion IsSound (objects_of plan script seconds e)
   one_sound seconds e small = of_change (slice_get plan.changes e.change) refl
     where

@@ -6,7 +6,7 @@ use Rattle.apply_plan.specs.declared.script.outcome.Outcome.{Outcome}
 use Rattle.apply_plan.specs.Plan.ResourceChange.{ResourceChange}
 use Rattle.apply_plan.specs.Plan.SavedPlan.{SavedPlan}
 use Rattle.apply_plan.specs.Script.Outcome.{IsBounded}
-use Rattle.apply_plan.specs.Script.Outcomes.{Outcomes, given_outcome}
+use Rattle.apply_plan.specs.Script.OutcomeMap.{OutcomeMap, given_outcome}
 use Rattle.apply_events.specs.Laws.{IsWithinLimits}
 use Rattle.apply_events.specs.Step.{Work}
 use Rattle.apply_run.specs.Bytes.{Given, IsRead, given_script}
@@ -16,11 +16,11 @@ use Rattle.apply_agreement.proofs.PlanTexts.{IsReadable, IsReadablePlan, plan_re
 use Rattle.apply_agreement.proofs.Scripts.{none_has, read_has}
 use Rattle.apply_agreement.proofs.ScriptTexts.{IsReadableScript, IsSaid, nothing_readable, script_readable}
 
-given_readable : (plan : SavedPlan) (bytes : Option (List ℕ)) (script : Outcomes) → given_script plan bytes ≡ Ok script → IsReadableScript script
+given_readable : (plan : SavedPlan) (bytes : Option (List ℕ)) (script : OutcomeMap) → given_script plan bytes ≡ Ok script → IsReadableScript script
 given_readable plan None script e = subst IsReadableScript (let same : [] ≡ script = cc in same) nothing_readable
 given_readable plan (Some bytes) script e = script_readable plan bytes script e
 
-given_provisions : (plan : SavedPlan) (bytes : Option (List ℕ)) (script : Outcomes) → given_script plan bytes ≡ Ok script → ProvisionsCreates plan script
+given_provisions : (plan : SavedPlan) (bytes : Option (List ℕ)) (script : OutcomeMap) → given_script plan bytes ≡ Ok script → ProvisionsCreates plan script
 given_provisions plan None script e = subst (ProvisionsCreates plan) (let same : [] ≡ script = cc in same) (none_has plan)
 given_provisions plan (Some bytes) script e = read_has plan bytes script e
 
@@ -32,7 +32,7 @@ bounded : (found : Option Outcome) → IfSome found IsSaid → IfSome found IsBo
 bounded None h = tt
 bounded (Some outcome) h = h.bounded
 
-module _ (given : Given) (plan : SavedPlan) (script : Outcomes) (read : IsRead given plan script) where
+module _ (given : Given) (plan : SavedPlan) (script : OutcomeMap) (read : IsRead given plan script) where
   pub the_plan : IsReadablePlan plan
   the_plan = plan_readable given.plan plan read.plan_is
 

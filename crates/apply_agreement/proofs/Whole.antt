@@ -19,7 +19,7 @@ use Rattle.apply_check.specs.Tally.{completed_totals, is_plan_summary, line_of, 
 use Rattle.apply_check.proofs.OpenSteps.{not_any_open}
 use Rattle.apply_agreement.specs.Passing.{plain, verdict_on, with_all}
 use Rattle.apply_agreement.proofs.Counting.{counted, none_or_some}
-use Rattle.apply_agreement.proofs.Fitting.{Fits, nothing_fits}
+use Rattle.apply_agreement.proofs.Fitting.{MatchesPending, nothing_fits}
 use Rattle.apply_agreement.proofs.Moves.{Agrees, shown_is}
 use Rattle.apply_agreement.proofs.Ordinary.{Anywhere}
 use Rattle.apply_agreement.proofs.Phases.{Phase, between, under_way, unexplained, shown}
@@ -47,7 +47,7 @@ at_begin limit addresses Does = record {
   amid = (refl, refl, refl);
 }
   where
-    idle_at : (a : List ℕ) (k : Action) → counted (shown addresses (λ c. between) a k) 0 limit ≡ 0 → Fits limit k (shown addresses (λ c. between) a k) (pending_at k (standing_of a (version ∷ [])))
+    idle_at : (a : List ℕ) (k : Action) → counted (shown addresses (λ c. between) a k) 0 limit ≡ 0 → MatchesPending limit k (shown addresses (λ c. between) a k) (pending_at k (standing_of a (version ∷ [])))
     idle_at a Create none = none
     idle_at a Update none = none
     idle_at a Delete none = none

@@ -4,7 +4,7 @@ use Rattle.std.specs.List.{enumerate_from}
 use Rattle.std.specs.Option.{option_map_or}
 use Rattle.serde_json.specs.Data.{Data}
 use Rattle.apply_plan.specs.Plan.SavedPlan.{SavedPlan}
-use Rattle.apply_plan.specs.Script.Outcomes.{Outcomes, outcome_of}
+use Rattle.apply_plan.specs.Script.OutcomeMap.{OutcomeMap, outcome_of}
 use Rattle.apply_events.specs.declared.event.Event.{Event}
 use Rattle.apply_events.specs.Totals.{totals_of}
 use Rattle.apply_text.specs.declared.operation.Operation.{Operation}
@@ -26,7 +26,7 @@ version_object plan start =
     (version_members plan.version)
 
 -- the object of an event; none where the plan has no such step
-abbrev pub objects_of : SavedPlan → Outcomes → (seconds : ℕ) → Event → List Data
+abbrev pub objects_of : SavedPlan → OutcomeMap → (seconds : ℕ) → Event → List Data
 objects_of plan script seconds event =
     option_map_or (λ change.
     option_map_or (λ step.
@@ -34,13 +34,13 @@ objects_of plan script seconds event =
     (slice_get change.steps event.step) []) (slice_get plan.changes event.change) []
 
 -- the objects of events, each at the latest moment up to it
-abbrev pub event_objects : SavedPlan → Outcomes → (start : ℕ) → List Event → List Data
+abbrev pub event_objects : SavedPlan → OutcomeMap → (start : ℕ) → List Event → List Data
 event_objects plan script start events =
     flat_map (λ p. objects_of plan script (start + latest_of events (p.0 + 1)) p.1) (enumerate_from 0 events)
 
 -- all objects of the stream of events that were taken: the version, the events as they are written, and the summary at
 -- the latest moment
-abbrev pub stream_objects : SavedPlan → Outcomes → (start : ℕ) → Operation → (taken : List Event) → List Data
+abbrev pub stream_objects : SavedPlan → OutcomeMap → (start : ℕ) → Operation → (taken : List Event) → List Data
 stream_objects plan script start operation taken =
     version_object plan start
     ∷ (event_objects plan script start (as_written taken)

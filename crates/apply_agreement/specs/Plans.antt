@@ -6,7 +6,7 @@ use Rattle.apply_plan.specs.declared.plan.step_kind.StepKind.TheVariants.{Create
 use Rattle.apply_plan.specs.Plan.Laws.{NamesEachObjectOnce}
 use Rattle.apply_plan.specs.Plan.ResourceChange.{ResourceChange}
 use Rattle.apply_plan.specs.Plan.SavedPlan.{SavedPlan, max_changes}
-use Rattle.apply_plan.specs.Script.Outcomes.{Outcomes, outcome_of}
+use Rattle.apply_plan.specs.Script.OutcomeMap.{OutcomeMap, outcome_of}
 use Rattle.apply_events.specs.Step.{kinds_of}
 
 -- the plan has the change at that number
@@ -26,7 +26,7 @@ pub record IsOrdinary (plan : SavedPlan) : Type 0 where
   pub deleted : DeletesDeposed plan
 
 -- a step that is no create has no provisioner
-abbrev pub ProvisionsCreates : SavedPlan → Outcomes → Type 0
+abbrev pub ProvisionsCreates : SavedPlan → OutcomeMap → Type 0
 ProvisionsCreates plan script =
     (c k : ℕ) (kind : StepKind) → slice_get (kinds_of plan c) k ≡ Some kind → kind ≢ Create
     → (outcome_of script c k).provisioners ≡ []

@@ -6,7 +6,7 @@ use Rattle.apply_plan.specs.declared.script.outcome.Outcome.{Outcome}
 use Rattle.apply_plan.specs.Plan.Address.{provider_of}
 use Rattle.apply_plan.specs.Plan.ResourceChange.{ResourceChange, resource_of}
 use Rattle.apply_plan.specs.Plan.SavedPlan.{SavedPlan}
-use Rattle.apply_plan.specs.Script.Outcomes.{Outcomes, outcome_of}
+use Rattle.apply_plan.specs.Script.OutcomeMap.{OutcomeMap, outcome_of}
 use Rattle.apply_events.specs.declared.counts.Counts.{Counts}
 use Rattle.apply_events.specs.declared.event.Event.{Event}
 use Rattle.apply_events.specs.declared.what.What.{What}
@@ -40,7 +40,7 @@ pub record HasOutcomeTexts (outcome : Outcome) : Type 0 where
   pub names : (i : ℕ) → IsUtf8 (name_of outcome i)
   pub outputs : (i line : ℕ) → IsUtf8 (output_of outcome i line)
 
-pub record HasTexts (plan : SavedPlan) (script : Outcomes) : Type 0 where
+pub record HasTexts (plan : SavedPlan) (script : OutcomeMap) : Type 0 where
   pub version : IsUtf8 plan.version
   pub changes : (c : ℕ) (change : ResourceChange) → IsChange plan c change → HasChangeTexts change
   pub outcomes : (c k : ℕ) → HasOutcomeTexts (outcome_of script c k)

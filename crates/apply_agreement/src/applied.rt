@@ -4,7 +4,7 @@
 
 ghost use Rattle.std.specs.Prelude.{◌≡◌, ◌≤◌, ◌*◌, ℕ, Bool, List, [], Some, length, slice_index_or, Ok};
 ghost use Rattle.apply_plan.specs.Plan.SavedPlan.{SavedPlan};
-ghost use Rattle.apply_plan.specs.Script.Outcomes.{Outcomes};
+ghost use Rattle.apply_plan.specs.Script.OutcomeMap.{OutcomeMap};
 ghost use Rattle.apply_hooks.specs.Hooks.{max_hooks};
 ghost use Rattle.apply_check.specs.Cut.{cut_lines};
 ghost use Rattle.apply_check.specs.Lines.{verdict_of};
@@ -40,7 +40,7 @@ use apply_text::a_line_has_one_line_feed;
 /// Each text that messages tell of a plan and a script that were read is UTF-8, as the bytes are that they were read
 /// from, and an instance key that is a number fits 64 bits.
 pub fn texts_that_were_read_are_utf8()
-    ensures { (given : Given) (plan : SavedPlan) (script : Outcomes) → IsRead given plan script → HasTexts plan script }
+    ensures { (given : Given) (plan : SavedPlan) (script : OutcomeMap) → IsRead given plan script → HasTexts plan script }
 {
     relative_addresses_join_their_module();
 }
@@ -54,9 +54,9 @@ pub fn what_was_read_is_within_limits()
 /// A plan that was read names each object once, and of a script that was read only creates have provisioners: all that
 /// is asked of a plan beside is that a deposed object is only deleted.
 pub fn a_plan_that_was_read_is_ordinary()
-    ensures plan { (given : Given) (plan : SavedPlan) (script : Outcomes) → IsRead given plan script
+    ensures plan { (given : Given) (plan : SavedPlan) (script : OutcomeMap) → IsRead given plan script
         → DeletesDeposed plan → IsOrdinary plan }
-    ensures script { (given : Given) (plan : SavedPlan) (script : Outcomes) → IsRead given plan script
+    ensures script { (given : Given) (plan : SavedPlan) (script : OutcomeMap) → IsRead given plan script
         → ProvisionsCreates plan script }
 {
     each_object_is_named_once();

@@ -7,7 +7,7 @@ ghost use Rattle.apply_plan.specs.declared.plan.step_kind.StepKind.{StepKind};
 ghost use Rattle.apply_plan.specs.declared.script.outcome.Outcome.{Outcome};
 ghost use Rattle.apply_plan.specs.Plan.ResourceChange.{ResourceChange};
 ghost use Rattle.apply_plan.specs.Plan.SavedPlan.{SavedPlan};
-ghost use Rattle.apply_plan.specs.Script.Outcomes.{IsInRange, Outcomes, script_of};
+ghost use Rattle.apply_plan.specs.Script.OutcomeMap.{IsInRange, OutcomeMap, script_of};
 ghost use Rattle.apply_check.specs.Cut.{cut_lines};
 ghost use Rattle.apply_check.specs.Lines.{tree_message, verdict_of};
 ghost use Rattle.apply_events.specs.declared.event.Event.{Event};
@@ -44,7 +44,7 @@ pub fn an_event_is_heard()
 /// Of a script that was read for a plan no step but a create has provisioners, and so it is of a script that says
 /// nothing: what the laws below ask of a script.
 pub fn a_script_provisions_creates()
-    ensures read { (plan : SavedPlan) (bytes : List ℕ) (script : Outcomes)
+    ensures read { (plan : SavedPlan) (bytes : List ℕ) (script : OutcomeMap)
         → script_of plan bytes ≡ Ok script → ProvisionsCreates plan script }
     ensures empty { (plan : SavedPlan) → ProvisionsCreates plan [] }
 {}
@@ -77,7 +77,7 @@ pub fn every_stream_of_objects_is_accepted()
 /// events and their totals fit 64 bits, and no line is longer than 64 MiB: moments, lengths of time and the words of
 /// messages are ASCII, whatever they tell of.
 pub fn a_stream_of_texts_can_be_read()
-    ensures { (plan : SavedPlan) (script : Outcomes) (start : ℕ) (operation : Operation) (events : List Event)
+    ensures { (plan : SavedPlan) (script : OutcomeMap) (start : ℕ) (operation : Operation) (events : List Event)
         → HasTexts plan script → FitBits plan events
         → AllByRecursion IsShort (stream_objects plan script start operation events)
         → CanBeRead (stream_objects plan script start operation events) }
@@ -86,7 +86,7 @@ pub fn a_stream_of_texts_can_be_read()
 /// The numbers of events that can happen fit 64 bits, and so do their totals, with a script that was read, where there
 /// are fewer than 2^64 events.
 pub fn events_that_can_happen_fit_bits()
-    ensures { (plan : SavedPlan) (script : Outcomes) (events : List Event) → IsInRange script
+    ensures { (plan : SavedPlan) (script : OutcomeMap) (events : List Event) → IsInRange script
         → All (Fits plan script) events → length events < 2 ^ 64 → FitBits plan events }
 {}
 

@@ -8,7 +8,7 @@ ghost use Rattle.apply_bus.specs.BusRule.{IsTaken};
 use crate::bus_rule::{BusRule, Knowledge, Takes};
 use crate::item::Item;
 use crate::lost::Lost;
-use crate::pausing::pause_awake;
+use crate::retry_pause::pause_awake;
 use crossbeam_channel::{Pass, RuledReceiver};
 use std::sync::Wait;
 

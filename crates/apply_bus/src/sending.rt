@@ -9,7 +9,7 @@ ghost use Rattle.apply_bus.specs.Items.{worker_of};
 
 use crate::bus_rule::{BusRule, Knowledge, Sends};
 use crate::item::Item;
-use crate::pausing::pause_awake;
+use crate::retry_pause::pause_awake;
 use crossbeam_channel::{Pass, RuledSender};
 use std::sync::Wait;
 use std::sync::atomic::AtomicU64;

@@ -10,7 +10,7 @@ use Rattle.apply_plan.specs.declared.plan.plan_error.PlanError.{PlanError}
 use Rattle.apply_plan.specs.declared.plan.plan_error.PlanError.TheVariants as plan_error
 use Rattle.apply_plan.specs.Bytes.{max_bytes}
 use Rattle.apply_plan.specs.Plan.SavedPlan.{SavedPlan, plan_of}
-use Rattle.apply_plan.specs.Script.Outcomes.{Outcomes}
+use Rattle.apply_plan.specs.Script.OutcomeMap.{OutcomeMap}
 use Rattle.apply_events.specs.declared.event.Event.{Event}
 use Rattle.apply_events.specs.Step.{Work}
 use Rattle.apply_events.specs.Totals.{totals_of}
@@ -87,7 +87,7 @@ begun_of_applied given options report before after bytes kept h =
     }
 
 -- a write has failed
-begun_of_not_written : (given : Given) (options : Options) (report : Report) (before after : Sight) (bytes : Option (List ℕ)) (plan : SavedPlan) (script : Outcomes) → Keeps after.bytes bytes → IsRead given plan script
+begun_of_not_written : (given : Given) (options : Options) (report : Report) (before after : Sight) (bytes : Option (List ℕ)) (plan : SavedPlan) (script : OutcomeMap) → Keeps after.bytes bytes → IsRead given plan script
     → WasNotWritten (record { plan = plan; script = script; hooks = given.hooks }) options report before after → HasBegun given options before.bytes bytes
 begun_of_not_written given options report before after bytes plan script kept read h = record {
   plan = plan;
@@ -101,7 +101,7 @@ begun_of_not_written given options report before after bytes plan script kept re
 }
 
 -- memory was refused for a line: a prefix of the lines is one of the stream
-begun_of_no_memory : (given : Given) (options : Options) (report : Report) (before after : Sight) (bytes : Option (List ℕ)) (plan : SavedPlan) (script : Outcomes) → Keeps after.bytes bytes → IsRead given plan script
+begun_of_no_memory : (given : Given) (options : Options) (report : Report) (before after : Sight) (bytes : Option (List ℕ)) (plan : SavedPlan) (script : OutcomeMap) → Keeps after.bytes bytes → IsRead given plan script
     → RanOutOfMemory (record { plan = plan; script = script; hooks = given.hooks }) options report before after → HasBegun given options before.bytes bytes
 begun_of_no_memory given options report before after bytes plan script kept read h =
     let events = h.events in
@@ -118,7 +118,7 @@ begun_of_no_memory given options report before after bytes plan script kept read
     }
 
 -- the bus failed
-begun_of_cut_off : (failed : ℕ) (given : Given) (options : Options) (report : Report) (before after : Sight) (bytes : Option (List ℕ)) (plan : SavedPlan) (script : Outcomes) → Keeps after.bytes bytes → IsRead given plan script
+begun_of_cut_off : (failed : ℕ) (given : Given) (options : Options) (report : Report) (before after : Sight) (bytes : Option (List ℕ)) (plan : SavedPlan) (script : OutcomeMap) → Keeps after.bytes bytes → IsRead given plan script
     → WasCutOff failed (record { plan = plan; script = script; hooks = given.hooks }) options report before after → HasBegun given options before.bytes bytes
 begun_of_cut_off failed given options report before after bytes plan script kept read h = record {
   plan = plan;
@@ -131,7 +131,7 @@ begun_of_cut_off failed given options report before after bytes plan script kept
   appended = Appends-kept before.bytes after.bytes bytes h.part.part h.part.delivered.appended kept;
 }
 
-begun_of_fault : (why : Why) (given : Given) (options : Options) (report : Report) (before after : Sight) (bytes : Option (List ℕ)) (plan : SavedPlan) (script : Outcomes) → Keeps after.bytes bytes → IsRead given plan script
+begun_of_fault : (why : Why) (given : Given) (options : Options) (report : Report) (before after : Sight) (bytes : Option (List ℕ)) (plan : SavedPlan) (script : OutcomeMap) → Keeps after.bytes bytes → IsRead given plan script
     → HasFailed why (record { plan = plan; script = script; hooks = given.hooks }) options report before after → Keeps before.bytes bytes ⊎ HasBegun given options before.bytes bytes
 begun_of_fault why.Write given options report before after bytes plan script kept read h = inr (begun_of_not_written given options report before after bytes plan script kept read h)
 begun_of_fault why.Workers given options report before after bytes plan script kept read h = inl (subst (λ s. Keeps s.bytes bytes) h.same kept)

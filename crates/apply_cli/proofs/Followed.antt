@@ -7,16 +7,16 @@ use Rattle.apply_run.specs.Run.{Sight}
 use Rattle.apply_run.specs.Sinks.{OverWriter}
 use Rattle.apply_cli.specs.Command.{HasApplied, OfFile, OfInput, sight_of}
 use Rattle.apply_cli.specs.CommandInLanes.{HasAppliedInLanes}
-use Rattle.apply_cli.specs.Invocation.{IsOfWords, WasApplied, WasBegun, WereApplied, WereBegun, given_of, unfailed}
+use Rattle.apply_cli.specs.Invocation.{IsOfWords, HasAppliedAsAsked, HasBegunAsAsked, WereApplied, WereBegun, given_of, unfailed}
 use Rattle.apply_cli.specs.Settings.{options_of}
 use Rattle.apply_cli.specs.declared.invocation.Invocation.{Invocation}
 use Rattle.apply_cli.specs.declared.settings.Settings.{Settings}
 
 -- where all was written no write has failed, so that the bytes alone say what the output is
 none_failed : (given : Given) (settings : Settings) (parallelism : Option ℕ) (before : Option (List ℕ)) (after : Sight) (status : ℕ)
-    → WasApplied given settings parallelism (unfailed before) after status
-    → WasApplied given settings parallelism (unfailed before) (unfailed after.bytes) status
-unfolding WasApplied
+    → HasAppliedAsAsked given settings parallelism (unfailed before) after status
+    → HasAppliedAsAsked given settings parallelism (unfailed before) (unfailed after.bytes) status
+unfolding HasAppliedAsAsked
 none_failed given settings None before after status h =
     subst (λ (n : ℕ). HasApplied given (options_of settings) (unfailed before) (record { bytes = after.bytes; failed = n }) status)
     h.applied.streamed.whole.failed h
@@ -29,7 +29,7 @@ pub followed : {W : Type 0} (contents : W → Option (List ℕ)) (words : List T
     (output result : W) (first last : OverWriter W) (status : ℕ)
     → IsOfWords words invocation → first ≡ record { writer = output; failures = 0 } → result ≡ last.writer
     → OfInput input (λ plan. OfFile invocation.settings.script (λ script.
-    WasApplied (given_of invocation.settings plan script) invocation.settings invocation.parallelism
+    HasAppliedAsAsked (given_of invocation.settings plan script) invocation.settings invocation.parallelism
     (sight_of contents first) (sight_of contents last) status))
     → WereApplied words input (contents output) (contents result) status
 followed {W} contents words invocation input output result first last status is_said is into found =
@@ -37,7 +37,7 @@ followed {W} contents words invocation input output result first last status is_
     let file = found.1 in
     let given : Given = given_of settings found.0 file.0 in
     let new : sight_of contents first ≡ unfailed (contents output) = ap (λ (s : OverWriter W). sight_of contents s) is in
-    let applied = subst (λ (s : Sight). WasApplied given settings invocation.parallelism s (sight_of contents last) status) new file.1 in
+    let applied = subst (λ (s : Sight). HasAppliedAsAsked given settings invocation.parallelism s (sight_of contents last) status) new file.1 in
     let whole = none_failed given settings invocation.parallelism (contents output) (sight_of contents last) status applied in
     subst (λ (bytes : Option (List ℕ)). WereApplied words input (contents output) bytes status) (ap contents (sym into)) (record {
       invocation = invocation;
@@ -50,7 +50,7 @@ pub followed_in_part : {W : Type 0} (contents : W → Option (List ℕ)) (words 
     (output result : W) (first last : OverWriter W)
     → IsOfWords words invocation → first ≡ record { writer = output; failures = 0 } → result ≡ last.writer
     → Keeps (contents first.writer) (contents last.writer) ⊎ OfInput input (λ plan. OfFile invocation.settings.script (λ script.
-    WasBegun (given_of invocation.settings plan script) invocation.settings invocation.parallelism
+    HasBegunAsAsked (given_of invocation.settings plan script) invocation.settings invocation.parallelism
     (contents first.writer) (contents last.writer)))
     → Keeps (contents output) (contents result) ⊎ WereBegun words input (contents output) (contents result)
 followed_in_part {W} contents words invocation input output result first last is_said is into ended =

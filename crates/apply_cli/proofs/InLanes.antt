@@ -3,7 +3,7 @@ use Rattle.std.proofs.Common.{◌≡◌, ◌+◌, ◌⊎◌, inl, inr, ℕ, List
 use Rattle.std.specs.Io.KnownBytes.{Keeps}
 use Rattle.std.proofs.KnownBytes.{Appends-kept, Keeps-refl}
 use Rattle.apply_plan.specs.Plan.SavedPlan.{SavedPlan}
-use Rattle.apply_plan.specs.Script.Outcomes.{Outcomes}
+use Rattle.apply_plan.specs.Script.OutcomeMap.{OutcomeMap}
 use Rattle.apply_events.specs.Step.{Work}
 use Rattle.apply_events.specs.Totals.{totals_of}
 use Rattle.apply_text.specs.declared.operation.Operation.{Operation}
@@ -66,7 +66,7 @@ module _ (given : Given) (lanes start : ℕ) (operation : Operation) where
       }
 
   -- a write has failed
-  begun_by_not_written : (failed : ℕ) (report : Report) (before after : Sight) (bytes : Option (List ℕ)) (plan : SavedPlan) (script : Outcomes) → Keeps after.bytes bytes → IsRead given plan script
+  begun_by_not_written : (failed : ℕ) (report : Report) (before after : Sight) (bytes : Option (List ℕ)) (plan : SavedPlan) (script : OutcomeMap) → Keeps after.bytes bytes → IsRead given plan script
       → IsCutOffInLanes (record { plan = plan; script = script; hooks = given.hooks }) lanes (stream_of plan script start operation) failed report before after → HasBegunInLanes given lanes start operation before.bytes bytes
   begun_by_not_written failed report before after bytes plan script kept read h = record {
     plan = plan;
@@ -80,7 +80,7 @@ module _ (given : Given) (lanes start : ℕ) (operation : Operation) where
   }
 
   -- memory was refused for a line: a prefix of the lines is one of the stream
-  begun_by_no_memory : (failed : ℕ) (report : Report) (before after : Sight) (bytes : Option (List ℕ)) (plan : SavedPlan) (script : Outcomes) → Keeps after.bytes bytes → IsRead given plan script
+  begun_by_no_memory : (failed : ℕ) (report : Report) (before after : Sight) (bytes : Option (List ℕ)) (plan : SavedPlan) (script : OutcomeMap) → Keeps after.bytes bytes → IsRead given plan script
       → IsCutOffInLanes (record { plan = plan; script = script; hooks = given.hooks }) lanes (λ events. lines_of plan script start (as_written events)) failed report before after → HasBegunInLanes given lanes start operation before.bytes bytes
   begun_by_no_memory failed report before after bytes plan script kept read h =
       let last = summary_text start (latest_of (as_written h.events) (length (as_written h.events))) operation (totals_of plan h.events) in
@@ -95,7 +95,7 @@ module _ (given : Given) (lanes start : ℕ) (operation : Operation) where
         appended = Appends-kept before.bytes after.bytes bytes h.part.part h.part.delivered.appended kept;
       }
 
-  begun_by_fault : (cause : Why) (report : Report) (before after : Sight) (bytes : Option (List ℕ)) (plan : SavedPlan) (script : Outcomes) → Keeps after.bytes bytes → IsRead given plan script
+  begun_by_fault : (cause : Why) (report : Report) (before after : Sight) (bytes : Option (List ℕ)) (plan : SavedPlan) (script : OutcomeMap) → Keeps after.bytes bytes → IsRead given plan script
       → HasFailedInLanes cause (record { plan = plan; script = script; hooks = given.hooks }) lanes start operation report before after → Keeps before.bytes bytes ⊎ HasBegunInLanes given lanes start operation before.bytes bytes
   begun_by_fault why.Write report before after bytes plan script kept read h = inr (begun_by_not_written (before.failed + 1) report before after bytes plan script kept read h)
   begun_by_fault why.Memory report before after bytes plan script kept read h =

@@ -4,7 +4,7 @@ use Rattle.std.specs.List.{range_with_len}
 use Rattle.std.specs.Io.KnownBytes.{Appends}
 use mathlib.Core.List.{IsPrefix}
 use Rattle.apply_plan.specs.Plan.SavedPlan.{SavedPlan}
-use Rattle.apply_plan.specs.Script.Outcomes.{Outcomes}
+use Rattle.apply_plan.specs.Script.OutcomeMap.{OutcomeMap}
 use Rattle.apply_events.specs.declared.event.Event.{Event}
 use Rattle.apply_events.specs.Step.{Work}
 use Rattle.apply_events.specs.WorkerEvents.{worker_events}
@@ -49,7 +49,7 @@ pub record IsFrontOfLines (work : Work) (options : Options) (lists : List (List 
 -- with a summary only where all was applied, and then with that of all
 pub record HasBegun (given : Given) (options : Options) (before after : Option (List ℕ)) : Type 0 where
   pub plan : SavedPlan
-  pub script : Outcomes
+  pub script : OutcomeMap
   pub read : IsRead given plan script
   pub lists : List (List ℕ)
   pub events : List Event

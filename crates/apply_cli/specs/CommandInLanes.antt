@@ -3,7 +3,7 @@ use Rattle.std.specs.Prelude.{◌≡◌, ◌<◌, ◌↔◌, ℕ, List, Option}
 use Rattle.std.specs.Io.KnownBytes.{Appends}
 use mathlib.Core.List.{IsPrefix}
 use Rattle.apply_plan.specs.Plan.SavedPlan.{SavedPlan}
-use Rattle.apply_plan.specs.Script.Outcomes.{Outcomes}
+use Rattle.apply_plan.specs.Script.OutcomeMap.{OutcomeMap}
 use Rattle.apply_events.specs.declared.event.Event.{Event}
 use Rattle.apply_events.specs.Lanes.TimeLine.{IsTimeLine}
 use Rattle.apply_text.specs.declared.operation.Operation.{Operation}
@@ -26,7 +26,7 @@ pub record HasAppliedInLanes (given : Given) (lanes start : ℕ) (operation : Op
 pub record HasBegunInLanes (given : Given) (lanes start : ℕ) (operation : Operation)
     (before after : Option (List ℕ)) : Type 0 where
   pub plan : SavedPlan
-  pub script : Outcomes
+  pub script : OutcomeMap
   pub read : IsRead given plan script
   pub events : List Event
   pub time_line : IsTimeLine (record { plan = plan; script = script; hooks = given.hooks }) lanes events

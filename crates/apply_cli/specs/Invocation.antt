@@ -34,15 +34,15 @@ pub record HaveInvoked (words : List Text) (invocation : Invocation) : Type 0 wh
   pub invoked : IsInvoked (matches_of (command_line kinds) words) invocation
 
 -- what was given was applied: in lanes, where that is asked for, and else by workers
-unfoldable pub WasApplied : Given → Settings → (parallelism : Option ℕ) → (before after : Sight) → (status : ℕ) → Type 0
-WasApplied given settings None before after status = HasApplied given (options_of settings) before after status
-WasApplied given settings (Some lanes) before after status =
+unfoldable pub HasAppliedAsAsked : Given → Settings → (parallelism : Option ℕ) → (before after : Sight) → (status : ℕ) → Type 0
+HasAppliedAsAsked given settings None before after status = HasApplied given (options_of settings) before after status
+HasAppliedAsAsked given settings (Some lanes) before after status =
     HasAppliedInLanes given lanes settings.at settings.operation before after status
 
 -- the output has a front of the stream
-unfoldable pub WasBegun : Given → Settings → (parallelism : Option ℕ) → (before after : Option (List ℕ)) → Type 0
-WasBegun given settings None before after = HasBegun given (options_of settings) before after
-WasBegun given settings (Some lanes) before after =
+unfoldable pub HasBegunAsAsked : Given → Settings → (parallelism : Option ℕ) → (before after : Option (List ℕ)) → Type 0
+HasBegunAsAsked given settings None before after = HasBegun given (options_of settings) before after
+HasBegunAsAsked given settings (Some lanes) before after =
     HasBegunInLanes given lanes settings.at settings.operation before after
 
 -- ---- from the words
@@ -67,7 +67,7 @@ pub record WereApplied (words : List Text) (input before after : Option (List �
   pub invocation : Invocation
   pub is_said : IsOfWords words invocation
   pub applied : OfInput input (λ plan. OfFile invocation.settings.script (λ script.
-      WasApplied (given_of invocation.settings plan script) invocation.settings invocation.parallelism
+      HasAppliedAsAsked (given_of invocation.settings plan script) invocation.settings invocation.parallelism
       (unfailed before) (unfailed after) status))
 
 -- so it was, but the output has a front of the stream
@@ -75,4 +75,4 @@ pub record WereBegun (words : List Text) (input before after : Option (List ℕ)
   pub invocation : Invocation
   pub is_said : IsOfWords words invocation
   pub begun : OfInput input (λ plan. OfFile invocation.settings.script (λ script.
-      WasBegun (given_of invocation.settings plan script) invocation.settings invocation.parallelism before after))
+      HasBegunAsAsked (given_of invocation.settings plan script) invocation.settings invocation.parallelism before after))

@@ -2,27 +2,27 @@
 #![tactic(auto)]
 
 mod answer;
-mod following;
+mod arguments;
 mod halt;
 mod in_lanes;
 mod input;
 mod input_fault;
 mod invocation;
+mod program;
 mod run;
 mod script_file;
 mod settings;
 mod status;
 mod usage;
 mod version;
-mod words;
 
 pub use answer::answer_usage;
-pub use following::{follow, follow_invocation, given_words};
 pub use halt::Halt;
 pub use in_lanes::run_in_lanes;
 pub use input::{drop_rest, read_all};
 pub use input_fault::InputFault;
 pub use invocation::{Invocation, read_invocation};
+pub use program::{follow, follow_invocation, given_words};
 pub use run::{report, run_bytes, run_command, run_input};
 pub use script_file::{read_file, report_script};
 pub use settings::Settings;

@@ -9,7 +9,7 @@ use Rattle.std.proofs.lemmas.List.Quantifiers.{position-Some}
 use Rattle.apply_plan.specs.declared.plan.step_kind.StepKind.{StepKind}
 use Rattle.apply_plan.specs.declared.script.outcome.Outcome.{Outcome}
 use Rattle.apply_plan.specs.Script.Outcome.{fails, took}
-use Rattle.apply_plan.specs.Script.Outcomes.{outcome_of}
+use Rattle.apply_plan.specs.Script.OutcomeMap.{outcome_of}
 use Rattle.apply_hooks.specs.HookCall.{Call}
 use Rattle.apply_hooks.specs.Hooks.{first_halting, max_hooks}
 use Rattle.apply_hooks.specs.Rules.{verdict_of}
@@ -21,7 +21,7 @@ use Rattle.apply_events.specs.declared.event.Event.{Event}
 use Rattle.apply_events.specs.declared.what.What.{What}
 use Rattle.apply_events.specs.declared.what.What.TheVariants.{Start, Complete, Errored, ErrorNote, WarnNote, Halted}
 use Rattle.apply_events.specs.ChangeEvents.{begun, change_events, in_turn, span_of}
-use Rattle.apply_events.specs.Fits.{can_happen, latest, max_span, may_be_asked}
+use Rattle.apply_events.specs.Fits.{can_happen, last_moment, max_span, may_be_asked}
 use Rattle.apply_events.specs.Laws.{AllFit, IsWithinLimits, NamesEachOnce}
 use Rattle.apply_events.specs.Step.{Work, address_of, has_warning, kinds_of, step_of}
 use Rattle.apply_events.specs.StepEvents.{between, end_of, endings, event, goes_on, halts, notes, phase_after, seconds_of, started, step_events, step_time}
@@ -130,12 +130,15 @@ changes_happen work w (c ∷ changes) at few =
 
 -- ---- with the plan's steps, and in time
 
-pub change_fits : (work : Work) (w c at : ℕ) → IsWithinLimits work → length work.hooks ≤ max_hooks → at + max_span ≤ latest → AllFit work (change_events work w c at)
+pub change_fits : (work : Work) (w c at : ℕ) → IsWithinLimits work → length work.hooks ≤ max_hooks → at + max_span ≤ last_moment → AllFit work (change_events work w c at)
 change_fits work w c at read few early k d less =
     let short : span_of work c ≤ max_span = span_short work c read in
-    let in_time = Rises-at_most moment_of at latest (change_events work w c at) (Rises-higher moment_of at (at + span_of work c) latest (change_events work w c at) (omega arith) (change_rises work w c at)) in
-    record { has_step = change_planned work w c at k d less; in_time = in_time k d less; can_happen = change_happens work w c at few k d less }
+    let in_time = Rises-at_most moment_of at last_moment (change_events work w c at) (Rises-higher moment_of at (at + span_of work c) last_moment (change_events work w c at) (omega arith) (change_rises work w c at)) in
+    record { of_plan = record { has_step = change_planned work w c at k d less; in_time = in_time k d less }; can_happen = change_happens work w c at few k d less }
 
 pub worker_fits : (work : Work) (w : ℕ) (changes : List ℕ) → IsWithinLimits work → length work.hooks ≤ max_hooks → NamesEachOnce work changes → AllFit work (worker_events work w changes)
 worker_fits work w changes read few named k d less =
-    record { has_step = worker_planned work w changes k d less; in_time = worker_in_time work w changes read named k d less; can_happen = changes_happen work w changes 0 few k d less }
+    record {
+      of_plan = record { has_step = worker_planned work w changes k d less; in_time = worker_in_time work w changes read named k d less };
+      can_happen = changes_happen work w changes 0 few k d less;
+    }

@@ -7,7 +7,7 @@ use Rattle.std.proofs.lemmas.List.Sums.{sum_by-cons}
 use Rattle.std.proofs.lemmas.Map.Steps.{length-le_from_distinct_below}
 use Rattle.apply_plan.specs.declared.plan.step_kind.StepKind.{StepKind}
 use Rattle.apply_plan.specs.Script.Limits.{max_seconds}
-use Rattle.apply_plan.specs.Script.Outcomes.{IsInRange, given_outcome}
+use Rattle.apply_plan.specs.Script.OutcomeMap.{IsInRange, given_outcome}
 use Rattle.apply_plan.specs.declared.script.outcome.Outcome.{Outcome}
 use Rattle.apply_plan.specs.Script.Outcome.{IsBounded, default_outcome, took}
 use Rattle.std.specs.Prelude.{unwrap_or}
@@ -17,7 +17,7 @@ use Rattle.apply_events.specs.declared.event.Event.{Event}
 use Rattle.apply_events.specs.declared.what.What.{What}
 use Rattle.apply_events.specs.declared.what.What.TheVariants.{Halted}
 use Rattle.apply_events.specs.ChangeEvents.{begun, change_events, in_turn, span_of}
-use Rattle.apply_events.specs.Fits.{latest, max_span}
+use Rattle.apply_events.specs.Fits.{last_moment, max_span}
 use Rattle.apply_events.specs.Laws.{IsWithinLimits, NamesEachOnce}
 use Rattle.apply_events.specs.Step.{Step, Work, kinds_of, step_of, steps_of}
 use Rattle.apply_events.specs.StepEvents.{between, endings, event, goes_on, halts, phase_after, seconds_of, started, step_events, step_time}
@@ -142,10 +142,10 @@ below (x ∷ xs) n q all h =
     (λ e. below xs n q (λ k d less. all (suc k) d (omega arith)) (rw e.0 at h))
     (eqb_tells q x)
 
-pub worker_in_time : (work : Work) (w : ℕ) (changes : List ℕ) → IsWithinLimits work → NamesEachOnce work changes → All (λ e. e.at ≤ latest) (worker_events work w changes)
+pub worker_in_time : (work : Work) (w : ℕ) (changes : List ℕ) → IsWithinLimits work → NamesEachOnce work changes → All (λ e. e.at ≤ last_moment) (worker_events work w changes)
 worker_in_time work w changes read named =
     let spans : sum_by (span_of work) changes ≤ max_span * length changes = spans_short work changes read in
     let many : length changes ≤ length work.plan.changes = length-le_from_distinct_below changes (length work.plan.changes) named.once (λ q h. below changes (length work.plan.changes) q named.known h) in
     let few : length work.plan.changes ≤ 10000 = read.few_changes in
-    Rises-at_most moment_of 0 latest (worker_events work w changes)
-    (Rises-higher moment_of 0 (0 + sum_by (span_of work) changes) latest (worker_events work w changes) (omega arith) (worker_rises work w changes))
+    Rises-at_most moment_of 0 last_moment (worker_events work w changes)
+    (Rises-higher moment_of 0 (0 + sum_by (span_of work) changes) last_moment (worker_events work w changes) (omega arith) (worker_rises work w changes))

@@ -6,7 +6,7 @@ use Rattle.apply_plan.specs.declared.script.outcome.Outcome.{Outcome}
 use Rattle.apply_plan.specs.declared.script.provisioner.Provisioner.{Provisioner}
 use Rattle.apply_plan.specs.Plan.SavedPlan.{SavedPlan}
 use Rattle.apply_plan.specs.Script.Outcome.{fails, has_failed, ran, took}
-use Rattle.apply_plan.specs.Script.Outcomes.{Outcomes, outcome_of}
+use Rattle.apply_plan.specs.Script.OutcomeMap.{OutcomeMap, outcome_of}
 use Rattle.apply_hooks.specs.declared.phase.Phase.{Phase}
 use Rattle.apply_hooks.specs.declared.phase.Phase.TheVariants.{Pre, PostDone, PostFailed}
 use Rattle.apply_hooks.specs.Hooks.{max_hooks}
@@ -17,8 +17,8 @@ use Rattle.apply_events.specs.ProgressTimes.{progress_times}
 use Rattle.apply_events.specs.Step.{has_warning, kinds_of}
 
 -- the greatest moment of an event, in seconds: 10,000 changes of two steps, each of a day
-abbrev pub latest : ℕ
-latest = 1728000000
+abbrev pub last_moment : ℕ
+last_moment = 1728000000
 
 -- the longest time between the begin of a change and its end, in seconds: two steps, each of a day
 abbrev pub max_span : ℕ
@@ -27,6 +27,11 @@ max_span = 172800
 -- the plan has step k of change c
 abbrev pub HasStep : SavedPlan → (c k : ℕ) → Type 0
 HasStep plan c k = k < length (kinds_of plan c)
+
+-- the event is of the plan, which has its step, and it comes in time
+pub record IsOfPlan (plan : SavedPlan) (event : Event) : Type 0 where
+  pub has_step : HasStep plan event.change event.step
+  pub in_time : event.at ≤ last_moment
 
 -- hooks may be asked in the phase, of a step that fails or does not
 abbrev pub may_be_asked : (fails : Bool) → Phase → Bool
@@ -53,7 +58,6 @@ can_happen outcome (ProvisionComplete i) = runs outcome i (λ provisioner. not (
 can_happen outcome (ProvisionErrored i) = runs outcome i has_failed
 
 -- the event can happen; the worker is not looked at
-pub record Fits (plan : SavedPlan) (script : Outcomes) (event : Event) : Type 0 where
-  pub has_step : HasStep plan event.change event.step
-  pub in_time : event.at ≤ latest
+pub record Fits (plan : SavedPlan) (script : OutcomeMap) (event : Event) : Type 0 where
+  pub of_plan : IsOfPlan plan event
   pub can_happen : IsTrue (can_happen (outcome_of script event.change event.step) event.what)

@@ -8,7 +8,7 @@ use Rattle.apply_plan.specs.declared.script.ending.Ending.TheVariants.{Done, Fai
 use Rattle.apply_plan.specs.declared.script.provisioner.Provisioner.{Provisioner}
 use Rattle.apply_plan.specs.Plan.SavedPlan.{SavedPlan}
 use Rattle.apply_plan.specs.Script.Outcome.{fails, ran}
-use Rattle.apply_plan.specs.Script.Outcomes.{Outcomes, outcome_of}
+use Rattle.apply_plan.specs.Script.OutcomeMap.{OutcomeMap, outcome_of}
 use Rattle.apply_hooks.specs.declared.phase.Phase.{Phase}
 use Rattle.apply_hooks.specs.declared.rule.Rule.{Rule}
 use Rattle.apply_hooks.specs.Hooks.{first_halting}
@@ -16,7 +16,7 @@ use Rattle.apply_hooks.specs.Hooks.{first_halting}
 -- what is applied: a plan, what the providers answer to its steps, and the rules of each hook
 pub record Work : Type 0 where
   pub plan : SavedPlan
-  pub script : Outcomes
+  pub script : OutcomeMap
   pub hooks : List (List Rule)
 
 pub record Step : Type 0 where

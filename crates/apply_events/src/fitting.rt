@@ -4,12 +4,12 @@ ghost use Rattle.std.specs.Prelude.{◌≡◌, ◌↔◌, ◌==◌, false, lengt
 ghost use Rattle.std.specs.List.{list_any};
 ghost use Rattle.std.specs.Option.{option_copied, option_map_or};
 ghost use Rattle.apply_plan.specs.Script.Outcome.{has_failed, ran};
-ghost use Rattle.apply_plan.specs.Script.Outcomes.{outcome_of};
-ghost use Rattle.apply_events.specs.Fits.{Fits, HasStep, can_happen, may_be_asked};
+ghost use Rattle.apply_plan.specs.Script.OutcomeMap.{outcome_of};
+ghost use Rattle.apply_events.specs.Fits.{Fits, HasStep, IsOfPlan, can_happen, may_be_asked};
 ghost use Rattle.apply_events.specs.ProgressTimes.{progress_times};
 
 use crate::event::{Event, LATEST};
-use crate::ran::that_ran;
+use crate::provisioners_that_run::that_ran;
 use crate::step_facts::StepFacts;
 use crate::what::What;
 use apply_hooks::{MAX_HOOKS, Phase};
@@ -20,7 +20,14 @@ use apply_plan::{Plan, Provisioner, Script};
 pub fn fits(plan: &Plan, script: &Script, event: &Event) -> bool
     ensures { IsTrue result ↔ Fits plan.now script.now event.now }
 {
-    has_step(plan, event) && event.at <= LATEST && can_happen(script, event)
+    is_of_plan(plan, event) && can_happen(script, event)
+}
+
+/// Whether the event is of the plan: the plan has its step, and `at` is `LATEST` at most.
+pub fn is_of_plan(plan: &Plan, event: &Event) -> bool
+    ensures { IsTrue result ↔ IsOfPlan plan.now event.now }
+{
+    has_step(plan, event) && event.at <= LATEST
 }
 
 /// Whether the plan has the event's step.

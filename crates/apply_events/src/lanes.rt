@@ -40,8 +40,8 @@ impl<'a> Lanes<'a> {
     ghost use Rattle.std.specs.List.{IsFirstBest};
     ghost use Rattle.apply_hooks.specs.Registry.{rules_of};
     ghost use Rattle.apply_events.specs.Course.{GivesNext};
-    ghost use Rattle.apply_events.specs.Lanes.ToCome.{free_at, max_events, moments_of, to_come, told_of, work_of};
-    ghost use Rattle.apply_events.specs.Lanes.LaneState.{IsOf};
+    ghost use Rattle.apply_events.specs.Lanes.ToCome.{free_at, max_events, moments_of, to_come, told_count, work_of};
+    ghost use Rattle.apply_events.specs.Fits.{IsOfPlan};
     ghost use Rattle.apply_events.specs.Lanes.Merging.{time_line};
 
     /// A plan that is applied in so many lanes.
@@ -58,7 +58,7 @@ impl<'a> Lanes<'a> {
             ≡ time_line (record { plan = plan.now; script = script.now; hooks = rules_of registry.now }) count) }
         ensures work { IfOk result (λ lanes. work_of lanes
             ≡ record { plan = plan.now; script = script.now; hooks = rules_of registry.now }) }
-        ensures none_told { IfOk result (λ lanes. told_of lanes ≡ 0) }
+        ensures none_told { IfOk result (λ lanes. told_count lanes ≡ 0) }
     {
         let _few = plan.len();
         let lanes = free_lanes(alloc, count, plan)?;
@@ -75,10 +75,10 @@ impl<'a> Lanes<'a> {
     /// The next event. `None` where none is left, now and from then on.
     pub fn next(&mut self) -> Option<Event>
         ensures next { GivesNext (to_come self.old) result (to_come self.new) }
-        ensures of_plan { IfSome result (λ event. IsOf (work_of self.old).plan event) }
+        ensures of_plan { IfSome result (λ event. IsOfPlan (work_of self.old).plan event) }
         ensures work { work_of self.new ≡ work_of self.old }
-        ensures one_more { IfSome result (λ _. told_of self.new ≡ told_of self.old + 1) }
-        ensures few { told_of self.new ≤ max_events }
+        ensures one_more { IfSome result (λ _. told_count self.new ≡ told_count self.old + 1) }
+        ensures few { told_count self.new ≤ max_events }
     {
         let mut first = self.first();
         while let Some(at) = self.free_at(first) {
@@ -101,7 +101,7 @@ impl<'a> Lanes<'a> {
         ensures to_come { to_come self.new ≡ to_come self.old }
         ensures work { work_of self.new ≡ work_of self.old }
         ensures change { self.new.change ≡ self.old.change + 1 }
-        ensures told { told_of self.new ≡ told_of self.old }
+        ensures told { told_count self.new ≡ told_count self.old }
     {
         self.lanes[lane] = Lane::begin(
             self.plan,

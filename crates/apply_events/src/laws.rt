@@ -6,7 +6,7 @@ ghost use Rattle.apply_plan.specs.Plan.SavedPlan.{SavedPlan};
 ghost use Rattle.apply_hooks.specs.Hooks.{max_hooks};
 ghost use Rattle.apply_events.specs.declared.event.Event.{Event};
 ghost use Rattle.apply_events.specs.ChangeEvents.{change_events, span_of};
-ghost use Rattle.apply_events.specs.Fits.{HasStep, latest, max_span};
+ghost use Rattle.apply_events.specs.Fits.{HasStep, last_moment, max_span};
 ghost use Rattle.apply_events.specs.Laws.{AllFit, IsWithinLimits, NamesEachOnce, ends_step};
 ghost use Rattle.apply_events.specs.OfWorker.{of_worker};
 ghost use Rattle.apply_events.specs.Step.{Work};
@@ -63,7 +63,7 @@ pub fn a_worker_names_itself()
 /// With a plan and a script that were read, and changes each of which stands once, no event comes after `LATEST`.
 pub fn no_event_comes_after_latest()
     ensures { (work : Work) (worker : ℕ) (changes : List ℕ) → IsWithinLimits work → NamesEachOnce work changes
-        → All (λ (event : Event). event.at ≤ latest) (worker_events work worker changes) }
+        → All (λ (event : Event). event.at ≤ last_moment) (worker_events work worker changes) }
 {}
 
 /// Each event of a worker is of a step that the plan has, also where the changes that are named are not all in it.
@@ -76,7 +76,7 @@ pub fn every_event_has_its_step()
 /// two days before `LATEST` at the latest, and those of a worker with changes each of which stands once.
 pub fn every_event_fits()
     ensures of_change { (work : Work) (worker c at : ℕ) → IsWithinLimits work → length work.hooks ≤ max_hooks
-        → at + max_span ≤ latest → AllFit work (change_events work worker c at) }
+        → at + max_span ≤ last_moment → AllFit work (change_events work worker c at) }
     ensures of_worker { (work : Work) (worker : ℕ) (changes : List ℕ) → IsWithinLimits work → length work.hooks ≤ max_hooks
         → NamesEachOnce work changes → AllFit work (worker_events work worker changes) }
 {}

@@ -10,7 +10,7 @@ mod lanes;
 mod laws;
 mod mid_step;
 mod partition;
-mod ran;
+mod provisioners_that_run;
 mod runner;
 mod stage;
 mod step_facts;
@@ -18,7 +18,7 @@ mod what;
 
 pub use counts::Counts;
 pub use event::{Event, LATEST};
-pub use fitting::fits;
+pub use fitting::{fits, is_of_plan};
 pub use interleaving::{
     an_interleaving_has_the_summed_length, an_interleaving_of_one_worker_is_its_list,
     totals_of_an_interleaving_add_up,

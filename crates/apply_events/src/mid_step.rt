@@ -6,7 +6,7 @@ ghost use Rattle.apply_plan.specs.Script.Limits.{max_seconds};
 ghost use Rattle.apply_plan.specs.Script.Outcome.{ran, seconds_of_all, took};
 ghost use Rattle.apply_events.specs.Provisions.{provision_end};
 
-use crate::ran::{begin_of, that_ran};
+use crate::provisioners_that_run::{begin_of, that_ran};
 use crate::what::What;
 use apply_plan::{Outcome, Provisioner};
 

@@ -3,7 +3,7 @@
 ghost use Rattle.std.specs.Prelude.{◌≡◌, ◌+◌, ◌-◌, ◌*◌, ◌<◌, ◌≤◌, length, true};
 ghost use Rattle.apply_hooks.specs.Registry.{rules_of};
 ghost use Rattle.apply_plan.specs.Script.Limits.{max_seconds};
-ghost use Rattle.apply_events.specs.Fits.{latest, max_span};
+ghost use Rattle.apply_events.specs.Fits.{last_moment, max_span};
 ghost use Rattle.apply_events.specs.Stages.{is_on_course, time_behind};
 ghost use Rattle.apply_events.specs.Step.{steps_of};
 ghost use Rattle.std.specs.Prelude.{slice_get};
@@ -37,7 +37,7 @@ pub struct Runner<'a> {
     ghost is_planned: { change < length plan.now.changes },
     ghost few: { step ≤ 2 },
     ghost soon: { at ≤ begin + max_seconds * step },
-    ghost in_time: { at + max_seconds * (2 - step) ≤ latest },
+    ghost in_time: { at + max_seconds * (2 - step) ≤ last_moment },
     ghost on_time: { at ≡ begin + time_behind (steps_of (record {
       plan = plan.now;
       script = script.now;
@@ -53,7 +53,7 @@ pub struct Runner<'a> {
 impl<'a> Runner<'a> {
     ghost use Rattle.std.specs.Prelude.{[], ◌∷◌, ◌++◌, ◌↔◌, Some, IfSome, IfNone};
     ghost use Rattle.apply_plan.specs.Script.Outcome.{fails, took};
-    ghost use Rattle.apply_plan.specs.Script.Outcomes.{outcome_of};
+    ghost use Rattle.apply_plan.specs.Script.OutcomeMap.{outcome_of};
     ghost use Rattle.apply_events.specs.ChangeEvents.{change_events, span_of};
     ghost use Rattle.apply_events.specs.Fits.{HasStep};
     ghost use Rattle.apply_events.specs.Course.{GivesNext, beginning_of, ended_of};
@@ -73,7 +73,7 @@ impl<'a> Runner<'a> {
         at: u64,
     ) -> Runner<'a>
         requires change { change < length plan.now.changes }
-        requires in_time { at + max_span ≤ latest }
+        requires in_time { at + max_span ≤ last_moment }
         ensures course { course_of result ≡ record {
           work = record { plan = plan.now; script = script.now; hooks = rules_of registry.now };
           worker = worker;
@@ -104,7 +104,7 @@ impl<'a> Runner<'a> {
         ensures has_step { IfSome result
             (λ event. HasStep (course_of self.old).work.plan event.change event.step) }
         ensures worker { IfSome result (λ event. event.worker ≡ (course_of self.old).worker) }
-        ensures in_time { IfSome result (λ event. event.at ≤ latest) }
+        ensures in_time { IfSome result (λ event. event.at ≤ last_moment) }
         ensures course { course_of self.new ≡ course_of self.old }
     {
         let Some(kind) = self.kind() else {
@@ -127,7 +127,7 @@ impl<'a> Runner<'a> {
         ensures next { to_come self.old ≡ result ∷ to_come self.new }
         ensures place { (result.worker ≡ self.old.worker) × (result.change ≡ self.old.change)
             × (result.step ≡ self.old.step) }
-        ensures in_time { result.at ≤ latest }
+        ensures in_time { result.at ≤ last_moment }
         ensures course { course_of self.new ≡ course_of self.old }
     {
         match self.halting(Phase::Pre, kind) {
@@ -158,7 +158,7 @@ impl<'a> Runner<'a> {
         ensures next { to_come self.old ≡ result ∷ to_come self.new }
         ensures place { (result.worker ≡ self.old.worker) × (result.change ≡ self.old.change)
             × (result.step ≡ self.old.step) }
-        ensures in_time { result.at ≤ latest }
+        ensures in_time { result.at ≤ last_moment }
         ensures course { course_of self.new ≡ course_of self.old }
     {
         let mut mid = mid;
@@ -195,7 +195,7 @@ impl<'a> Runner<'a> {
         ensures next { to_come self.old ≡ result ∷ to_come self.new }
         ensures place { (result.worker ≡ self.old.worker) × (result.change ≡ self.old.change)
             × (result.step ≡ self.old.step) }
-        ensures in_time { result.at ≤ latest }
+        ensures in_time { result.at ≤ last_moment }
         ensures course { course_of self.new ≡ course_of self.old }
     {
         let facts = self.facts();
@@ -212,7 +212,7 @@ impl<'a> Runner<'a> {
         ensures next { to_come self.old ≡ result ∷ to_come self.new }
         ensures place { (result.worker ≡ self.old.worker) × (result.change ≡ self.old.change)
             × (result.step ≡ self.old.step) }
-        ensures in_time { result.at ≤ latest }
+        ensures in_time { result.at ≤ last_moment }
         ensures course { course_of self.new ≡ course_of self.old }
     {
         let facts = self.facts();

@@ -3,7 +3,7 @@
 ghost use Rattle.std.specs.Prelude.{◌≡◌, ◌≤◌, ◌||◌};
 ghost use Rattle.apply_plan.specs.Script.Limits.{max_seconds};
 ghost use Rattle.apply_plan.specs.Script.Outcome.{fails, took};
-ghost use Rattle.apply_plan.specs.Script.Outcomes.{outcome_of};
+ghost use Rattle.apply_plan.specs.Script.OutcomeMap.{outcome_of};
 ghost use Rattle.apply_events.specs.Step.{has_warning};
 ghost use Rattle.apply_events.specs.Notes.{note_of};
 ghost use Rattle.apply_events.specs.StepEvents.{end_of, phase_after};

@@ -7,6 +7,7 @@ pub mod Header
 pub mod HeaderView
 pub mod Laws
 pub mod NextChange
+pub mod ObjectName
 pub mod PlannedView
 pub mod ResourceChange
 pub mod SavedPlan

@@ -4,7 +4,7 @@ pub mod Entry
 pub mod Limits
 pub mod NextEntry
 pub mod Outcome
-pub mod Outcomes
+pub mod OutcomeMap
 pub mod Refusals
 pub mod Selection
 pub mod TreeView

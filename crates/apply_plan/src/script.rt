@@ -38,9 +38,9 @@ pub struct Script {
 impl Model for Script {
     ghost use Rattle.std.specs.Prelude.{[]};
     ghost use Rattle.std.specs.Option.{option_map_or};
-    ghost use Rattle.apply_plan.specs.Script.Outcomes.{IsInRange, Outcomes};
+    ghost use Rattle.apply_plan.specs.Script.OutcomeMap.{IsInRange, OutcomeMap};
 
-    ghost Value = { Outcomes };
+    ghost Value = { OutcomeMap };
 
     ghost view = { λ s. option_map_or (λ changes. changes.items) s.changes [] };
 
@@ -48,7 +48,7 @@ impl Model for Script {
 }
 
 impl Script {
-    ghost use Rattle.apply_plan.specs.Script.Outcomes.{given_outcome};
+    ghost use Rattle.apply_plan.specs.Script.OutcomeMap.{given_outcome};
 
     /// A script that says nothing: every step has the default outcome.
     pub fn empty() -> Script

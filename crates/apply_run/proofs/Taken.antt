@@ -3,11 +3,11 @@ use Rattle.std.proofs.Common.{◌≡◌, ℕ, ◌+◌, ◌-◌, ◌<◌, ◌≤�
 use Rattle.std.proofs.Math.Seq.{take-append_seam, drop-append_seam}
 use Rattle.std.proofs.lemmas.List.Elements.{All-append, All-drop, All-nil, All-take, filter_map-append}
 use Rattle.apply_plan.specs.Plan.SavedPlan.{SavedPlan}
-use Rattle.apply_plan.specs.Script.Outcomes.{Outcomes}
+use Rattle.apply_plan.specs.Script.OutcomeMap.{OutcomeMap}
 use Rattle.apply_events.specs.declared.event.Event.{Event}
 use Rattle.apply_bus.specs.declared.item.Item.{Item}
 use Rattle.apply_bus.specs.Items.{event_of, events, max_taken}
-use Rattle.apply_run.specs.Stream.Fitting.{CanBeTold}
+use Rattle.apply_events.specs.Fits.{IsOfPlan}
 use Rattle.apply_run.specs.Stream.Room.{max_told}
 use Rattle.apply_run.specs.Stream.Telling.{HasTold, Telling}
 use Rattle.apply_run.proofs.Runs.Headline.{same_of}
@@ -26,25 +26,25 @@ back : (P : Event → Type 0) (xs ys : List Event) → All P (xs ++ ys) → All 
 back P xs ys all = subst (All P) (drop-append_seam xs ys) (All-drop P (length xs) (xs ++ ys) all)
 
 -- no item was taken: nothing had to be told
-pub told_no_items : (plan : SavedPlan) (script : Outcomes) (start : ℕ) (before : Option (List ℕ)) (failures : ℕ) (taken : List Item) (now : Telling)
+pub told_no_items : (plan : SavedPlan) (script : OutcomeMap) (start : ℕ) (before : Option (List ℕ)) (failures : ℕ) (taken : List Item) (now : Telling)
     → taken ≡ [] → HasTold plan script start before failures [] now
-    → All (CanBeTold plan) (events taken) → HasTold plan script start before failures (events taken) now
+    → All (IsOfPlan plan) (events taken) → HasTold plan script start before failures (events taken) now
 told_no_items plan script start before failures taken now none told all =
     subst (λ items. HasTold plan script start before failures (events items) now) (sym none) told
 
 -- the items were told, and so is one item more
-pub told_more_items : (plan plan' : SavedPlan) (script script' : Outcomes) (start start' : ℕ) (before : Option (List ℕ)) (failures : ℕ) (taken new : List Item) (item : Item) (old now : Telling)
+pub told_more_items : (plan plan' : SavedPlan) (script script' : OutcomeMap) (start start' : ℕ) (before : Option (List ℕ)) (failures : ℕ) (taken new : List Item) (item : Item) (old now : Telling)
     → plan' ≡ plan → script' ≡ script → start' ≡ start → new ≡ taken ++ item ∷ []
-    → (All (CanBeTold plan) (events taken) → HasTold plan script start before failures (events taken) old)
-    → (All (CanBeTold plan') (events (item ∷ [])) → HasTold plan' script' start' before failures (events taken) old → HasTold plan' script' start' before failures (events taken ++ events (item ∷ [])) now)
-    → All (CanBeTold plan) (events new) → HasTold plan script start before failures (events new) now
+    → (All (IsOfPlan plan) (events taken) → HasTold plan script start before failures (events taken) old)
+    → (All (IsOfPlan plan') (events (item ∷ [])) → HasTold plan' script' start' before failures (events taken) old → HasTold plan' script' start' before failures (events taken ++ events (item ∷ [])) now)
+    → All (IsOfPlan plan) (events new) → HasTold plan script start before failures (events new) now
 told_more_items plan plan' script script' start start' before failures taken new item old now e f g is so_far step all =
     let one = events (item ∷ []) in
     let joined = events_more taken new item is in
-    let both : All (CanBeTold plan) (events taken ++ one) = subst (All (CanBeTold plan)) joined all in
-    let on = same_of (λ p s t. All (CanBeTold p) one → HasTold p s t before failures (events taken) old → HasTold p s t before failures (events taken ++ one) now) plan' plan script' script start' start e f g step in
+    let both : All (IsOfPlan plan) (events taken ++ one) = subst (All (IsOfPlan plan)) joined all in
+    let on = same_of (λ p s t. All (IsOfPlan p) one → HasTold p s t before failures (events taken) old → HasTold p s t before failures (events taken ++ one) now) plan' plan script' script start' start e f g step in
     subst (λ es. HasTold plan script start before failures es now) (sym joined)
-    (on (back (CanBeTold plan) (events taken) one both) (so_far (front (CanBeTold plan) (events taken) one both)))
+    (on (back (IsOfPlan plan) (events taken) one both) (so_far (front (IsOfPlan plan) (events taken) one both)))
 
 all_before : (P : Event → Type 0) (taken new : List Item) (item : Item) → new ≡ taken ++ item ∷ [] → All P (events new) → All P (events taken)
 all_before P taken new item is all = front P (events taken) (events (item ∷ [])) (subst (All P) (events_more taken new item is) all)
@@ -58,15 +58,15 @@ pub no_misfit : (P : Event → Type 0) (taken : List Item) → taken ≡ [] → 
 no_misfit P taken none = (λ _. subst (λ items. All P (events items)) (sym none) (All-nil P), λ _. refl)
 
 pub one_misfit : (plan plan' : SavedPlan) (fits : Bool) (taken new : List Item) (item : Item) → plan' ≡ plan → new ≡ taken ++ item ∷ []
-    → IsTrue fits ↔ All (CanBeTold plan') (events (item ∷ [])) → fits ≡ false → (true ≡ false) ↔ All (CanBeTold plan) (events new)
+    → IsTrue fits ↔ All (IsOfPlan plan') (events (item ∷ [])) → fits ≡ false → (true ≡ false) ↔ All (IsOfPlan plan) (events new)
 one_misfit plan plan' fits taken new item same is tested failed =
-    (λ e. absurd cc, λ all. let passed : fits ≡ true = tested.1 (subst (λ p. All (CanBeTold p) (events (item ∷ []))) (sym same) (all_here (CanBeTold plan) taken new item is all)) in absurd cc)
+    (λ e. absurd cc, λ all. let passed : fits ≡ true = tested.1 (subst (λ p. All (IsOfPlan p) (events (item ∷ []))) (sym same) (all_here (IsOfPlan plan) taken new item is all)) in absurd cc)
 
 pub no_misfit_more : (plan plan' : SavedPlan) (fits misfit : Bool) (taken new : List Item) (item : Item) → plan' ≡ plan → new ≡ taken ++ item ∷ []
-    → IsTrue fits ↔ All (CanBeTold plan') (events (item ∷ [])) → fits ≡ true → (misfit ≡ false) ↔ All (CanBeTold plan) (events taken) → (misfit ≡ false) ↔ All (CanBeTold plan) (events new)
+    → IsTrue fits ↔ All (IsOfPlan plan') (events (item ∷ [])) → fits ≡ true → (misfit ≡ false) ↔ All (IsOfPlan plan) (events taken) → (misfit ≡ false) ↔ All (IsOfPlan plan) (events new)
 no_misfit_more plan plan' fits misfit taken new item same is tested passed so_far = (
-  λ e. all_more (CanBeTold plan) taken new item is (so_far.0 e) (subst (λ p. All (CanBeTold p) (events (item ∷ []))) same (tested.0 passed)),
-  λ all. so_far.1 (all_before (CanBeTold plan) taken new item is all),
+  λ e. all_more (IsOfPlan plan) taken new item is (so_far.0 e) (subst (λ p. All (IsOfPlan p) (events (item ∷ []))) same (tested.0 passed)),
+  λ all. so_far.1 (all_before (IsOfPlan plan) taken new item is all),
 )
 
 -- ---- counts

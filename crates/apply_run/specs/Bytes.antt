@@ -5,7 +5,7 @@ use Rattle.apply_plan.specs.declared.script.script_error.ScriptError.{ScriptErro
 use Rattle.apply_plan.specs.declared.script.script_error.ScriptError.TheVariants as script_error
 use Rattle.apply_plan.specs.Bytes.{max_bytes}
 use Rattle.apply_plan.specs.Plan.SavedPlan.{SavedPlan, plan_of}
-use Rattle.apply_plan.specs.Script.Outcomes.{Outcomes, script_of}
+use Rattle.apply_plan.specs.Script.OutcomeMap.{OutcomeMap, script_of}
 use Rattle.apply_hooks.specs.declared.rule.Rule.{Rule}
 use Rattle.apply_run.specs.declared.options.Options.{Options}
 use Rattle.apply_run.specs.declared.refusal.Refusal.{Refusal}
@@ -15,7 +15,7 @@ use Rattle.apply_run.specs.Options.{IsInRange}
 use Rattle.apply_run.specs.Run.{HasFailed, HasStreamed, Sight}
 
 -- the script that the bytes are for the plan, and the empty one where there are none
-abbrev pub given_script : SavedPlan → Option (List ℕ) → Result Outcomes ScriptError
+abbrev pub given_script : SavedPlan → Option (List ℕ) → Result OutcomeMap ScriptError
 given_script plan None = Ok []
 given_script plan (Some bytes) = script_of plan bytes
 
@@ -30,14 +30,14 @@ pub record Given : Type 0 where
   pub hooks : List (List Rule)
 
 -- the bytes are that plan, and that script for it
-pub record IsRead (given : Given) (plan : SavedPlan) (script : Outcomes) : Type 0 where
+pub record IsRead (given : Given) (plan : SavedPlan) (script : OutcomeMap) : Type 0 where
   pub plan_is : plan_of given.plan ≡ Ok plan
   pub script_is : given_script plan given.script ≡ Ok script
 
 -- the plan was read and applied, and all of its stream was written
 pub record WasApplied (given : Given) (options : Options) (report : Report) (before after : Sight) : Type 0 where
   pub plan : SavedPlan
-  pub script : Outcomes
+  pub script : OutcomeMap
   pub read : IsRead given plan script
   pub sizes : IsInRange options
   pub streamed : HasStreamed (record { plan = plan; script = script; hooks = given.hooks }) options report before after
@@ -54,7 +54,7 @@ WasRefused given options (Script refusal) before after =
     × (((refusal ≡ script_error.Memory) × MayBeRead given.script) ⊎ (given_script plan given.script ≡ Err refusal))
     × (after ≡ before)
 WasRefused given options Size before after =
-    (plan : SavedPlan) × (script : Outcomes) × IsRead given plan script × ¬ IsInRange options × (after ≡ before)
+    (plan : SavedPlan) × (script : OutcomeMap) × IsRead given plan script × ¬ IsInRange options × (after ≡ before)
 WasRefused given options (Fault fault) before after =
-    (plan : SavedPlan) × (script : Outcomes) × IsRead given plan script × IsInRange options
+    (plan : SavedPlan) × (script : OutcomeMap) × IsRead given plan script × IsInRange options
     × HasFailed fault.why (record { plan = plan; script = script; hooks = given.hooks }) options fault.report before after

@@ -1,7 +1,7 @@
 -- A plan that was applied in lanes: what is under way at once, the stream's own time says, and no thread.
 use Rattle.std.specs.Prelude.{◌≡◌, ◌+◌, ◌≤◌, ◌⊎◌, ℕ, List}
 use Rattle.apply_plan.specs.Plan.SavedPlan.{SavedPlan}
-use Rattle.apply_plan.specs.Script.Outcomes.{Outcomes}
+use Rattle.apply_plan.specs.Script.OutcomeMap.{OutcomeMap}
 use Rattle.apply_events.specs.declared.event.Event.{Event}
 use Rattle.apply_events.specs.Lanes.TimeLine.{IsTimeLine}
 use Rattle.apply_events.specs.Step.{Work}
@@ -58,7 +58,7 @@ HasFailedInLanes Workers work lanes start operation report before after = ⊥
 pub record WasAppliedInLanes (given : Given) (lanes start : ℕ) (operation : Operation) (report : Report)
     (before after : Sight) : Type 0 where
   pub plan : SavedPlan
-  pub script : Outcomes
+  pub script : OutcomeMap
   pub read : IsRead given plan script
   pub sizes : AreLanes lanes
   pub streamed : HasStreamedInLanes (record { plan = plan; script = script; hooks = given.hooks }) lanes start operation
@@ -73,8 +73,8 @@ WasRefusedInLanes given lanes start operation (Plan refusal) before after =
 WasRefusedInLanes given lanes start operation (Script refusal) before after =
     (options : Options) → WasRefused given options (Script refusal) before after
 WasRefusedInLanes given lanes start operation Size before after =
-    (plan : SavedPlan) × (script : Outcomes) × IsRead given plan script × ¬ AreLanes lanes × (after ≡ before)
+    (plan : SavedPlan) × (script : OutcomeMap) × IsRead given plan script × ¬ AreLanes lanes × (after ≡ before)
 WasRefusedInLanes given lanes start operation (Fault fault) before after =
-    (plan : SavedPlan) × (script : Outcomes) × IsRead given plan script × AreLanes lanes
+    (plan : SavedPlan) × (script : OutcomeMap) × IsRead given plan script × AreLanes lanes
     × HasFailedInLanes fault.why (record { plan = plan; script = script; hooks = given.hooks }) lanes start operation
     fault.report before after

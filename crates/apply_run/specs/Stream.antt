@@ -1,7 +1,6 @@
 -- The stream that is written: what was told of the events, and what its sink took.
 pub mod Delivered
 pub mod Ended
-pub mod Fitting
 pub mod Outlet
 pub mod Room
 pub mod Telling

@@ -5,14 +5,13 @@ ghost use Rattle.apply_events.specs.declared.event.Event.{Event};
 ghost use Rattle.apply_bus.specs.Bus.{NamesWorkersBelow};
 ghost use Rattle.apply_bus.specs.Items.{closes, events};
 ghost use Rattle.apply_run.specs.Stream.Room.{HasRoom, IsNew, max_told};
-ghost use Rattle.apply_run.specs.Stream.Fitting.{CanBeTold};
+ghost use Rattle.apply_events.specs.Fits.{IsOfPlan};
 ghost use Rattle.apply_run.specs.Stream.Telling.{HasTold, IsSameStream, IsToldSince, telling_of};
 
 use crate::sinks::sink::Sink;
 use crate::stream::StreamWriter;
 use apply_bus::{Item, Rx, Taken};
-use apply_events::{Event, LATEST};
-use apply_plan::Plan;
+use apply_events::is_of_plan;
 use std::sync::Wait;
 
 /// What a collector gives back: the stream as far as it was told, with the notes that it keeps, what was taken, and
@@ -41,10 +40,10 @@ pub(crate) fn collect<'a, S: Sink + Drop, R: Wait>(
     ensures bus { (result.taken.bus ≡ rx.bus) × (result.taken.workers ≡ rx.workers) × (result.taken.sent_lists ≡ []) }
     ensures named { NamesWorkersBelow rx.workers result.taken.taken }
     ensures same { IsSameStream stream.entry result.stream }
-    ensures told { All (CanBeTold stream.entry.plan.now) (events result.taken.taken)
+    ensures told { All (IsOfPlan stream.entry.plan.now) (events result.taken.taken)
         → IsToldSince S.bytes S.failed stream.entry (events result.taken.taken) result.stream }
     ensures room { HasRoom result.stream.plan.now (telling_of S.bytes S.failed result.stream) }
-    ensures lost { result.lost ≡ false → All (CanBeTold stream.entry.plan.now) (events result.taken.taken)
+    ensures lost { result.lost ≡ false → All (IsOfPlan stream.entry.plan.now) (events result.taken.taken)
         × (closes result.taken.taken ≡ rx.workers) }
 {
     stream.write_version();
@@ -74,9 +73,9 @@ pub(crate) fn collect<'a, S: Sink + Drop, R: Wait>(
 fn note<S: Sink + Drop>(stream: &mut StreamWriter<'_, S>, item: &Item) -> bool
     requires room { HasRoom stream.old.plan.now (telling_of S.bytes S.failed stream.old) }
     requires few { stream.old.taken < max_told }
-    ensures fits { IsTrue result ↔ All (CanBeTold stream.old.plan.now) (events (item.now ∷ [])) }
+    ensures fits { IsTrue result ↔ All (IsOfPlan stream.old.plan.now) (events (item.now ∷ [])) }
     ensures told { (before : Option (List ℕ)) (failures : ℕ) (so_far : List Event)
-        → All (CanBeTold stream.old.plan.now) (events (item.now ∷ []))
+        → All (IsOfPlan stream.old.plan.now) (events (item.now ∷ []))
         → HasTold stream.old.plan.now stream.old.script.now stream.old.start before failures so_far
         (telling_of S.bytes S.failed stream.old)
         → HasTold stream.old.plan.now stream.old.script.now stream.old.start before failures
@@ -87,7 +86,7 @@ fn note<S: Sink + Drop>(stream: &mut StreamWriter<'_, S>, item: &Item) -> bool
 {
     match item {
         Item::Event(event) => {
-            let fits = can_be_told(stream.plan, event);
+            let fits = is_of_plan(stream.plan, event);
             if fits {
                 stream.tell(event);
             }
@@ -95,13 +94,4 @@ fn note<S: Sink + Drop>(stream: &mut StreamWriter<'_, S>, item: &Item) -> bool
         }
         Item::Close(_) => true,
     }
-}
-
-/// Whether the plan has the event's step, and it comes in time.
-fn can_be_told(plan: &Plan, event: &Event) -> bool
-    ensures { IsTrue result ↔ CanBeTold plan.now event.now }
-{
-    event.change < plan.len()
-        && (event.step as usize) < plan.change(event.change).steps().len()
-        && event.at <= LATEST
 }

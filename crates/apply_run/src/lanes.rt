@@ -3,7 +3,7 @@
 ghost use Rattle.std.specs.Prelude.{◌≡◌, ◌<◌, ◌-◌, ◌^◌, ◌↔◌, Err, IfErr, IfOk, IsTrue};
 ghost use Rattle.std.specs.Option.{option_copied};
 ghost use Rattle.apply_hooks.specs.Registry.{rules_of};
-ghost use Rattle.apply_events.specs.Lanes.ToCome.{to_come, told_of, work_of};
+ghost use Rattle.apply_events.specs.Lanes.ToCome.{to_come, told_count, work_of};
 ghost use Rattle.apply_run.specs.Lanes.{AreLanes, HasFailedInLanes, HasStreamedInLanes, WasAppliedInLanes, WasRefusedInLanes};
 ghost use Rattle.apply_run.specs.Run.{sight_of};
 ghost use Rattle.apply_run.specs.Stream.Room.{HasRoom, IsNew};
@@ -77,7 +77,7 @@ fn tell_all<'a, S: Sink + Drop>(
     mut lanes: Lanes<'_>,
     mut stream: StreamWriter<'a, S>,
 ) -> StreamWriter<'a, S>
-    requires none_told { told_of lanes ≡ 0 }
+    requires none_told { told_count lanes ≡ 0 }
     requires is_new { IsNew (telling_of S.bytes S.failed stream) }
     requires plan { stream.plan.now ≡ (work_of lanes).plan }
     ensures same { IsSameStream stream.entry result }

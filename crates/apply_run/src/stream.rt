@@ -4,11 +4,11 @@ ghost use Rattle.std.specs.Prelude.{◌≡◌, ◌<◌, ◌≤◌, ◌+◌, ◌-
 ghost use Rattle.apply_events.specs.declared.event.Event.{Event};
 ghost use Rattle.apply_text.specs.Lines.{lines_of, stream_of, summary_text};
 ghost use Rattle.apply_text.specs.Order.{as_written, hook_messages_of};
-ghost use Rattle.apply_events.specs.Fits.{latest as last_moment};
+ghost use Rattle.apply_events.specs.Fits.{last_moment};
 ghost use Rattle.apply_run.specs.Stream.Ended.{IsCutOff, IsFaulted, IsWhole};
 ghost use Rattle.apply_run.specs.Stream.Outlet.{HasWritten, IsRefused, Writes, failed_writes, outlet_of};
 ghost use Rattle.apply_run.specs.Stream.Room.{HasRoom, IsNew, MayWrite, max_told};
-ghost use Rattle.apply_run.specs.Stream.Fitting.{CanBeTold};
+ghost use Rattle.apply_events.specs.Fits.{IsOfPlan};
 ghost use Rattle.apply_run.specs.Stream.Telling.{HasLines, HasTold, IsSameStream, IsToldSince, telling_of};
 
 pub mod output;
@@ -87,7 +87,7 @@ impl<'a, S: Sink + Drop> StreamWriter<'a, S> {
     /// Counts an event of the plan. Unless the writing has stopped, its line is written, or it is kept where it is a
     /// note.
     pub fn tell(&mut self, event: &Event)
-        requires event { CanBeTold self.old.plan.now event.now }
+        requires event { IsOfPlan self.old.plan.now event.now }
         requires room { HasRoom self.old.plan.now (telling_of S.bytes S.failed self.old) }
         requires few { self.old.taken < max_told }
         ensures told { (before : Option (List ℕ)) (failures : ℕ) (events : List Event)
@@ -169,8 +169,8 @@ impl<'a, S: Sink + Drop> StreamWriter<'a, S> {
             (telling_of S.bytes S.failed self.new) }
         ensures kept { self.new.output.stop ≡ Stop.Going → (self.old.output.stop ≡ Stop.Going)
             × (self.new.notes.items ≡ self.old.notes.items ++ note.now ∷ []) }
-        ensures fits { All (CanBeTold self.old.plan.now) self.old.notes.items → CanBeTold self.old.plan.now note.now
-            → All (CanBeTold self.old.plan.now) self.new.notes.items }
+        ensures fits { All (IsOfPlan self.old.plan.now) self.old.notes.items → IsOfPlan self.old.plan.now note.now
+            → All (IsOfPlan self.old.plan.now) self.new.notes.items }
         ensures few { length self.new.notes.items ≤ length self.old.notes.items + 1 }
         ensures output { (self.new.output.sink ≡ self.old.output.sink)
             × (self.new.output.written ≡ self.old.output.written) }
@@ -188,7 +188,7 @@ impl<'a, S: Sink + Drop> StreamWriter<'a, S> {
     /// Writes the line of an event of the plan, unless the writing has stopped. A line that is not written is not
     /// built.
     fn write_event(&mut self, event: &Event)
-        requires event { CanBeTold self.old.plan.now event.now }
+        requires event { IsOfPlan self.old.plan.now event.now }
         requires room { MayWrite (telling_of S.bytes S.failed self.old) }
         ensures written { (before : Option (List ℕ)) (failures : ℕ) (events : List Event)
             → HasLines self.old.plan.now self.old.script.now self.old.start before failures events

@@ -4,12 +4,12 @@ ghost use Rattle.std.specs.Prelude.{◌≡◌, ◌<◌, ◌≤◌, ◌+◌, ◌+
 ghost use mathlib.Core.List.{IsPrefix};
 ghost use Rattle.apply_events.specs.declared.event.Event.{Event};
 ghost use Rattle.apply_events.specs.ChangeEvents.{change_events, span_of};
-ghost use Rattle.apply_events.specs.Fits.{latest, max_span};
+ghost use Rattle.apply_events.specs.Fits.{last_moment, max_span};
 ghost use Rattle.apply_events.specs.WorkerEvents.{worker_events};
 ghost use Rattle.apply_plan.specs.Plan.SavedPlan.{max_changes};
 ghost use Rattle.apply_hooks.specs.Registry.{rules_of};
 ghost use Rattle.apply_run.specs.Worker.Drawn.{IsDrawn};
-ghost use Rattle.apply_run.specs.Stream.Fitting.{CanBeTold};
+ghost use Rattle.apply_events.specs.Fits.{IsOfPlan};
 ghost use Rattle.apply_run.specs.Worker.Job.{work_of};
 ghost use Rattle.apply_run.specs.Run.Threads.{IsNewDrawer, IsNewSender, IsRun};
 ghost use Rattle.apply_run.specs.Worker.Stopped.{IsStoppedWorker};
@@ -80,7 +80,7 @@ fn apply_all<G: Gate, R: Wait>(rt: &R, job: &Job<'_, G>, drawer: &mut Drawer, tx
         × (tx.new.sent ≡ worker_events (work_of job.now) tx.old.worker drawer.new.drawn) }
     ensures part { IsPrefix tx.new.sent (worker_events (work_of job.now) tx.old.worker drawer.new.drawn) }
     ensures drawn { IsDrawn job.now.claims.now.limit drawer.new.drawn }
-    ensures fits { All (CanBeTold job.now.plan.now) tx.new.sent }
+    ensures fits { All (IsOfPlan job.now.plan.now) tx.new.sent }
 {
     // The numbers rise below the limit, so they end, and each change begins early enough.
     a_rising_list_rises_on();
@@ -106,13 +106,13 @@ fn apply_change<G: Gate, R: Wait>(
     tx: &mut Tx,
 ) -> Option<u64>
     requires change { change < length job.now.plan.now.changes }
-    requires in_time { at + max_span ≤ latest }
+    requires in_time { at + max_span ≤ last_moment }
     ensures sender { (tx.new.bus ≡ tx.old.bus) × (tx.new.worker ≡ tx.old.worker) }
     ensures whole { IfSome result (λ end. (end ≡ at + span_of (work_of job.now) change) × (end ≤ at + max_span)
         × (tx.new.sent ≡ tx.old.sent ++ change_events (work_of job.now) tx.old.worker change at)) }
     ensures part { (part : List Event) × (tx.new.sent ≡ tx.old.sent ++ part)
         × IsPrefix part (change_events (work_of job.now) tx.old.worker change at)
-        × All (CanBeTold job.now.plan.now) part }
+        × All (IsOfPlan job.now.plan.now) part }
 {
     let worker = tx.worker();
     let mut runner = Runner::start(job.plan, job.script, job.registry, worker, change, at);

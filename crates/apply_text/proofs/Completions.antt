@@ -9,7 +9,7 @@ use Rattle.apply_plan.specs.declared.plan.step_kind.StepKind.TheVariants.{Create
 use Rattle.apply_plan.specs.declared.script.outcome.Outcome.{Outcome}
 use Rattle.apply_plan.specs.Plan.ResourceChange.{ResourceChange}
 use Rattle.apply_plan.specs.Plan.SavedPlan.{SavedPlan}
-use Rattle.apply_plan.specs.Script.Outcomes.{Outcomes, outcome_of}
+use Rattle.apply_plan.specs.Script.OutcomeMap.{OutcomeMap, outcome_of}
 use Rattle.apply_events.specs.declared.event.Event.{Event}
 use Rattle.apply_events.specs.declared.what.What.{What}
 use Rattle.apply_events.specs.declared.what.What.TheVariants.{Start, Progress, Complete, Errored, ErrorNote, WarnNote, Halted, ProvisionStart, ProvisionOutput, ProvisionComplete, ProvisionErrored}
@@ -52,11 +52,11 @@ of_change : (outcome : Outcome) (what : What) (k : ℕ) (change : Option Resourc
 of_change outcome what k None = by_kind (is_complete what) None
 of_change outcome what k (Some change) = of_found change outcome what (slice_get change.steps k)
 
-one : (plan : SavedPlan) (script : Outcomes) (event : Event)
+one : (plan : SavedPlan) (script : OutcomeMap) (event : Event)
     → cond (completes plan Create event) 1 0 + cond (completes plan Update event) 1 0 + cond (completes plan Delete event) 1 0 ≡ cond (tells_of_completion plan script event) 1 0
 one plan script event = of_change (outcome_of script event.change event.step) event.what event.step (slice_get plan.changes event.change)
 
-pub all : (plan : SavedPlan) (script : Outcomes) (events : List Event)
+pub all : (plan : SavedPlan) (script : OutcomeMap) (events : List Event)
     → (totals_of plan events).added + (totals_of plan events).changed + (totals_of plan events).removed ≡ count_by (tells_of_completion plan script) events
 all plan script [] = refl
 all plan script (event ∷ events) = grind (arith, common_steps, one plan script event, all plan script events)

@@ -1,9 +1,9 @@
+mod CachedTexts
 mod Completions
 mod Dates
 mod Durations
 mod Feeds
 mod Hooks
-mod KeptTexts
 mod Latest
 mod LinesAdded
 mod Moments

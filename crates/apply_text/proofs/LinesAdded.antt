@@ -16,7 +16,7 @@ use Rattle.apply_plan.specs.declared.script.outcome.Outcome.{Outcome}
 use Rattle.apply_plan.specs.Plan.ResourceChange.{ResourceChange}
 use Rattle.apply_plan.specs.Plan.SavedPlan.{SavedPlan}
 use Rattle.apply_plan.specs.Script.Outcome.{default_outcome}
-use Rattle.apply_plan.specs.Script.Outcomes.{Outcomes, given_outcome, outcome_of}
+use Rattle.apply_plan.specs.Script.OutcomeMap.{OutcomeMap, given_outcome, outcome_of}
 use Rattle.apply_events.specs.declared.event.Event.{Event}
 use Rattle.apply_events.specs.Fits.{HasStep}
 use Rattle.apply_text.specs.declared.applied_step.AppliedStep.{AppliedStep}
@@ -62,7 +62,7 @@ pub message_is : (seconds : ℕ) (moment : List ℕ) (message : Message) → mom
 message_is seconds moment message moments = ap (λ m. line_of (object_of m message)) moments
 
 -- the change and the kind of the event's step, and what the script says of it, as they were looked up
-pub event_is : (plan : SavedPlan) (script : Outcomes) (start latest : ℕ) (event : Event) (step : AppliedStep) (kinds : List StepKind) (moment : List ℕ)
+pub event_is : (plan : SavedPlan) (script : OutcomeMap) (start latest : ℕ) (event : Event) (step : AppliedStep) (kinds : List StepKind) (moment : List ℕ)
     → Some step.change.now ≡ slice_get plan.changes event.change
     → kinds ≡ step.change.now.steps
     → step.kind ≡ get_or kinds event.step Create

@@ -10,7 +10,7 @@ use Rattle.apply_plan.specs.declared.plan.step_kind.StepKind.{StepKind}
 use Rattle.apply_plan.specs.declared.plan.step_kind.StepKind.TheVariants.{Create, Update, Delete, Read}
 use Rattle.apply_plan.specs.Plan.ResourceChange.{ResourceChange}
 use Rattle.apply_text.specs.Elapsed.{elapsed_of}
-use Rattle.apply_text.specs.Kept.{KeptStep, back_text, front_text, kept_step}
+use Rattle.apply_text.specs.CachedParts.{KeptStep, back_text, front_text, kept_step}
 use Rattle.apply_text.specs.Lines.{message_line, message_object, typed}
 use Rattle.apply_text.specs.Message.{progress_message}
 use Rattle.apply_text.specs.Moment.{moment_text}

@@ -4,13 +4,13 @@ use Rattle.std.specs.Option.{option_map_or}
 use Rattle.std.specs.Str.{bytes_eq}
 use Rattle.apply_plan.specs.declared.plan.step_kind.StepKind.TheVariants.{Read}
 use Rattle.apply_plan.specs.Plan.SavedPlan.{SavedPlan}
-use Rattle.apply_plan.specs.Script.Outcomes.{Outcomes, outcome_of}
+use Rattle.apply_plan.specs.Script.OutcomeMap.{OutcomeMap, outcome_of}
 use Rattle.apply_plan.specs.Plan.StepKind.{is_kind}
 use Rattle.apply_events.specs.declared.event.Event.{Event}
 use Rattle.apply_text.specs.Message.{event_message}
 
 -- the event's message is an `apply_complete`, and not that of a read
-abbrev pub tells_of_completion : SavedPlan → Outcomes → Event → Bool
+abbrev pub tells_of_completion : SavedPlan → OutcomeMap → Event → Bool
 tells_of_completion plan script event =
     option_map_or (λ change.
     option_map_or (λ step.

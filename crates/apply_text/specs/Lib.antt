@@ -1,7 +1,7 @@
 pub mod AppliedStep
+pub mod CachedParts
 pub mod Calendar
 pub mod Elapsed
-pub mod Kept
 pub mod Latest
 pub mod Laws
 pub mod Lines

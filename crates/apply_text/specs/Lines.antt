@@ -5,7 +5,7 @@ use Rattle.std.specs.Option.{option_map_or}
 use Rattle.serde_json.specs.Data.{Data, string, object, Members, no_members, member}
 use Rattle.serde_json.specs.Written.{compact_text}
 use Rattle.apply_plan.specs.Plan.SavedPlan.{SavedPlan}
-use Rattle.apply_plan.specs.Script.Outcomes.{Outcomes, outcome_of}
+use Rattle.apply_plan.specs.Script.OutcomeMap.{OutcomeMap, outcome_of}
 use Rattle.apply_events.specs.declared.counts.Counts.{Counts}
 use Rattle.apply_events.specs.declared.event.Event.{Event}
 use Rattle.apply_events.specs.Totals.{totals_of}
@@ -53,7 +53,7 @@ version_text plan start =
     (version_members plan.version))
 
 -- the line of an event of the plan, so many seconds after the start
-abbrev pub event_text : SavedPlan → Outcomes → (start latest : ℕ) → Event → List ℕ
+abbrev pub event_text : SavedPlan → OutcomeMap → (start latest : ℕ) → Event → List ℕ
 event_text plan script start latest event =
     option_map_or (λ change.
     option_map_or (λ step.
@@ -68,14 +68,14 @@ summary_text start latest operation counts = message_line (start + latest) (summ
 -- ---- all lines
 
 -- of events in the order in which they are written: the first line, and one for each, at the latest moment up to then
-abbrev pub lines_of : SavedPlan → Outcomes → (start : ℕ) → (written : List Event) → List ℕ
+abbrev pub lines_of : SavedPlan → OutcomeMap → (start : ℕ) → (written : List Event) → List ℕ
 lines_of plan script start written =
     version_text plan start
     ++ flat_map (λ p. event_text plan script start (latest_of written (p.0 + 1)) p.1) (enumerate_from 0 written)
 
 -- of events in the order in which they were taken: the lines of them as they are written, and the summary of what they
 -- completed, at the latest moment
-abbrev pub stream_of : SavedPlan → Outcomes → (start : ℕ) → Operation → (taken : List Event) → List ℕ
+abbrev pub stream_of : SavedPlan → OutcomeMap → (start : ℕ) → Operation → (taken : List Event) → List ℕ
 stream_of plan script start operation taken =
     lines_of plan script start (as_written taken)
     ++ summary_text start (latest_of (as_written taken) (length (as_written taken))) operation (totals_of plan taken)

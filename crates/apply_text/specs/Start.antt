@@ -1,7 +1,7 @@
 -- The moment at which an apply starts.
 use Rattle.std.specs.Prelude.{ℕ, ◌+◌, ◌/◌, ◌*◌, ℤ, pos, negsuc, nat_lt, if◌then◌else◌, List, Result, Ok, Err}
 use Rattle.jiff.specs.Words.{Error, parse_timestamp}
-use Rattle.apply_events.specs.Fits.{latest}
+use Rattle.apply_events.specs.Fits.{last_moment}
 use Rattle.apply_text.specs.declared.moment_error.MomentError.{MomentError}
 use Rattle.apply_text.specs.declared.moment_error.MomentError.TheVariants.{NotAMoment, OutOfRange}
 
@@ -11,7 +11,7 @@ end_of_starts = 221845392000
 
 -- no line tells of a later second, after the start of 1970
 abbrev pub last_second : ℕ
-last_second = end_of_starts + latest
+last_second = end_of_starts + last_moment
 
 -- the whole seconds of an instant in nanoseconds, where it lies in the range
 abbrev pub start_at : ℤ → Result ℕ MomentError

@@ -5,7 +5,7 @@ ghost use Rattle.std.specs.Prelude.{IfSome, slice_get};
 ghost use Rattle.std.specs.List.Sorted.{IsNonDecreasingBy};
 ghost use Rattle.serde_json.specs.Data.{Data};
 ghost use Rattle.apply_plan.specs.Plan.SavedPlan.{SavedPlan};
-ghost use Rattle.apply_plan.specs.Script.Outcomes.{Outcomes};
+ghost use Rattle.apply_plan.specs.Script.OutcomeMap.{OutcomeMap};
 ghost use Rattle.apply_events.specs.declared.event.Event.{Event};
 ghost use Rattle.apply_events.specs.OfWorker.{of_worker};
 ghost use Rattle.apply_events.specs.Totals.{totals_of};
@@ -44,7 +44,7 @@ pub fn whole_units_are_told_with_zeros()
 /// The summary names as many completed steps as there are lines that tell of the completion of a create, an update or a
 /// delete.
 pub fn the_summary_counts_the_lines_of_completion()
-    ensures { (plan : SavedPlan) (script : Outcomes) (events : List Event)
+    ensures { (plan : SavedPlan) (script : OutcomeMap) (events : List Event)
         → let totals = totals_of plan events in
         totals.added + totals.changed + totals.removed ≡ count_by (tells_of_completion plan script) events }
 {}

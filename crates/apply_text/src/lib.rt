@@ -2,8 +2,8 @@
 #![tactic(auto)]
 
 mod applied_step;
+mod cached_parts;
 mod display;
-mod kept;
 mod laws;
 mod line_buffer;
 mod lines;

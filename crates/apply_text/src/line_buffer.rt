@@ -3,14 +3,14 @@
 ghost use Rattle.std.specs.Prelude.{◌≡◌, ◌≤◌, ◌+◌, ◌∷◌, ◌++◌, [], length, take, string_bytes, IfOk, IsOk, OnOk, OnErr};
 ghost use Rattle.std.specs.Str.{IsUtf8};
 ghost use Rattle.json.specs.Print.{print};
-ghost use Rattle.apply_events.specs.Fits.{HasStep, latest as last_moment};
+ghost use Rattle.apply_events.specs.Fits.{HasStep, last_moment};
 ghost use Rattle.apply_text.specs.AppliedStep.{message_of};
 ghost use Rattle.apply_text.specs.Lines.{event_text, message_line, summary_text, version_text};
 ghost use Rattle.apply_text.specs.Message.{progress_message};
 
 use crate::applied_step::AppliedStep;
 use crate::display::moment::Moment;
-use crate::kept::frames::ProgressFrames;
+use crate::cached_parts::frames::ProgressFrames;
 use crate::messages::{put_event, put_summary, put_version};
 use crate::operation::Operation;
 use crate::start::Start;

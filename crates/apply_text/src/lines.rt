@@ -1,7 +1,7 @@
 //! One line at a time, each in a text of its own.
 
 ghost use Rattle.std.specs.Prelude.{◌≡◌, ◌≤◌, IfOk, string_bytes};
-ghost use Rattle.apply_events.specs.Fits.{HasStep, latest as last_moment};
+ghost use Rattle.apply_events.specs.Fits.{HasStep, last_moment};
 ghost use Rattle.apply_text.specs.Lines.{event_text, summary_text, version_text};
 
 use crate::line_buffer::LineBuffer;

@@ -1,7 +1,7 @@
 //! What stands open of one step.
 
 ghost use Rattle.std.specs.Prelude.{◌≡◌};
-ghost use Rattle.apply_check.specs.Course.{after, begun, ended, may_overlap, told_of};
+ghost use Rattle.apply_check.specs.Course.{after, begun, ended, may_overlap, progressed};
 
 use crate::messages::action::Action;
 use crate::messages::timed_stage::TimedStage;
@@ -70,7 +70,7 @@ fn begun(action: Action, line: u64, pending: Option<Pending>) -> Result<Option<P
 
 /// What stands open after so many seconds were told on that line.
 fn told(seconds: u64, line: u64, pending: Option<Pending>) -> Result<Option<Pending>, Fault>
-    ensures { result ≡ told_of seconds line pending }
+    ensures { result ≡ progressed seconds line pending }
 {
     match pending {
         None => Err(Fault::NotOpen),

@@ -9,10 +9,10 @@ use Rattle.apply_events.specs.declared.lanes.lane.Lane.TheVariants.{Free, Busy}
 use Rattle.apply_events.specs.declared.lanes.lane.UnderWay.{UnderWay}
 use Rattle.apply_events.specs.ChangeEvents.{span_of}
 use Rattle.apply_events.specs.Course.{Course}
-use Rattle.apply_events.specs.Fits.{max_span}
+use Rattle.apply_events.specs.Fits.{IsOfPlan, max_span}
 use Rattle.apply_events.specs.Runner.{course_of, to_come}
 use Rattle.apply_events.specs.Lanes.Lane.{IsSound, state_of}
-use Rattle.apply_events.specs.Lanes.LaneState.{IsOf, unused}
+use Rattle.apply_events.specs.Lanes.LaneState.{unused}
 
 -- ---- a change is under way
 
@@ -32,7 +32,7 @@ ends_soon plan begun lane busy course end is same early sound =
     let begins : course.begin ≡ (course_of busy.behind).begin = ap (λ (c : Course). c.begin) same in
     omega arith
 
-pub ahead_of : {a b : _} {g : _} (plan : SavedPlan) (begun : ℕ) (lane : Lane a b g) (busy : UnderWay a b g) → lane ≡ Busy busy → IsSound plan begun lane → IsOf plan busy.ahead
+pub ahead_of : {a b : _} {g : _} (plan : SavedPlan) (begun : ℕ) (lane : Lane a b g) (busy : UnderWay a b g) → lane ≡ Busy busy → IsSound plan begun lane → IsOfPlan plan busy.ahead
 ahead_of plan begun lane busy is sound = (subst (IsSound plan begun) is sound).0
 
 -- ---- free lanes

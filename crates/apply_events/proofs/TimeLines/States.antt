@@ -7,7 +7,7 @@ use Rattle.std.proofs.lemmas.List.Elements.{All-nil, All-weaker}
 use Rattle.std.proofs.Math.Seq.{map-set_same}
 use Rattle.apply_events.specs.declared.event.Event.{Event}
 use Rattle.apply_events.specs.ChangeEvents.{change_events, in_turn, span_of}
-use Rattle.apply_events.specs.Fits.{latest}
+use Rattle.apply_events.specs.Fits.{last_moment}
 use Rattle.apply_events.specs.Step.{Work}
 use Rattle.apply_events.specs.Lanes.Dealing.{before, dealt, first_least, kept}
 use Rattle.apply_events.specs.Lanes.TimeLine.{Precedes}
@@ -200,7 +200,7 @@ next_merged work states waits changes w e s none steady first events free =
 
 never : (free : ℕ) (es : List Event) → IsEarly es → 18446744073709551615 ≤ moment_in false es free → es ≡ []
 never free [] early late = refl
-never free (e ∷ es) early late = absurd (let low : e.at ≤ latest = early in omega arith)
+never free (e ∷ es) early late = absurd (let low : e.at ≤ last_moment = early in omega arith)
 
 pub none_merged : (work : Work) (states : List LaneState) (w : ℕ) → ((v : ℕ) → v < length states → IsEarly (get_or states v unused).events)
     → ComesFirst false states w → (get_or states w unused).events ≡ [] → merged (length states) (left work states []) ≡ []

@@ -10,14 +10,14 @@ use Rattle.apply_events.specs.declared.event.Event.{Event}
 use Rattle.apply_events.specs.ChangeEvents.{change_events, span_of}
 use Rattle.apply_events.specs.declared.runner.Runner.{Runner}
 use Rattle.apply_events.specs.Course.{Course, GivesNext}
-use Rattle.apply_events.specs.Fits.{HasStep, latest, max_span}
+use Rattle.apply_events.specs.Fits.{HasStep, IsOfPlan, last_moment, max_span}
 use Rattle.apply_events.specs.Runner.{course_of}
 use Rattle.apply_events.specs.Step.{Work}
 use Rattle.apply_events.specs.declared.lanes.lane.Lane.{Lane}
 use Rattle.apply_events.specs.declared.lanes.lane.Lane.TheVariants.{Free, Busy}
 use Rattle.apply_events.specs.Lanes.LaneState.{free_in}
 use Rattle.apply_events.specs.Lanes.Lane.{IsSound, state_of, TellsNext}
-use Rattle.apply_events.specs.Lanes.LaneState.{IsEarly, IsOf, IsSteady, LaneState, Runs, free_of, left, line, moment_of, unused}
+use Rattle.apply_events.specs.Lanes.LaneState.{IsEarly, IsSteady, LaneState, Runs, free_of, left, line, moment_of, unused}
 use Rattle.apply_events.specs.Lanes.Merging.{merged, time_line}
 use Rattle.apply_events.specs.Lanes.Dealing.{dealt, lanes}
 use Rattle.apply_events.specs.Lanes.TimeLine.{lane_events}
@@ -116,7 +116,7 @@ begin_to_come work items w c m at new steady lt best idle events free =
 
 early_is : {a b : _} {g : _} (plan : SavedPlan) (begun : ℕ) (lane : Lane a b g) → IsSound plan begun lane → IsEarly (state_of lane).events
 early_is plan begun (Free at) h = tt
-early_is plan begun (Busy busy) h = h.0.1
+early_is plan begun (Busy busy) h = h.0.in_time
 
 early_in : {a b : _} {g : _} (plan : SavedPlan) (begun : ℕ) (items : List (Lane a b g)) → All (λ lane. IsSound plan begun lane) items → (v : ℕ) → IsEarly (get_or (map state_of items) v unused).events
 early_in plan begun [] all v = tt
@@ -238,10 +238,10 @@ sound_at plan begun items w old lt is all = subst (IsSound plan begun) (sym is) 
 -- the runner goes on to its next event
 pub sound_on : {a b : _} {g : _} (plan : SavedPlan) (begun : ℕ) (old new : Runner a b g) (next : Event)
     → (course_of old).begin + max_span ≤ max_span * begun → ((c k : ℕ) → HasStep (course_of old).work.plan c k → HasStep plan c k)
-    → HasStep (course_of old).work.plan next.change next.step → next.at ≤ latest → course_of new ≡ course_of old
-    → IsOf plan next × ((course_of new).begin + max_span ≤ max_span * begun) × ((c k : ℕ) → HasStep (course_of new).work.plan c k → HasStep plan c k)
+    → HasStep (course_of old).work.plan next.change next.step → next.at ≤ last_moment → course_of new ≡ course_of old
+    → IsOfPlan plan next × ((course_of new).begin + max_span ≤ max_span * begun) × ((c k : ℕ) → HasStep (course_of new).work.plan c k → HasStep plan c k)
 sound_on plan begun old new next soon known has early same = (
-  (known next.change next.step has, early),
+  record { has_step = known next.change next.step has; in_time = early },
   subst (λ (course : Course). course.begin + max_span ≤ max_span * begun) (sym same) soon,
   subst (λ (course : Course). (c k : ℕ) → HasStep course.work.plan c k → HasStep plan c k) (sym same) known,
 )

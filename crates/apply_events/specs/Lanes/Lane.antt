@@ -3,12 +3,12 @@ use Rattle.std.specs.Prelude.{◌≡◌, ℕ, ◌+◌, ◌*◌, ◌≤◌, List,
 use Rattle.apply_events.specs.ChangeEvents.{span_of}
 use Rattle.apply_events.specs.declared.event.Event.{Event}
 use Rattle.apply_events.specs.Course.{GivesNext}
-use Rattle.apply_events.specs.Fits.{HasStep, max_span}
+use Rattle.apply_events.specs.Fits.{HasStep, IsOfPlan, max_span}
 use Rattle.apply_events.specs.Runner.{course_of, to_come}
 use Rattle.apply_plan.specs.Plan.SavedPlan.{SavedPlan}
 use Rattle.apply_events.specs.declared.lanes.lane.Lane.{Lane}
 use Rattle.apply_events.specs.declared.lanes.lane.Lane.TheVariants.{Free, Busy}
-use Rattle.apply_events.specs.Lanes.LaneState.{IsOf, LaneState, unused}
+use Rattle.apply_events.specs.Lanes.LaneState.{LaneState, unused}
 
 abbrev pub state_of : {a b : _} {g : _} → Lane a b g → LaneState
 state_of (Free at) = record { events = []; free = at }
@@ -21,7 +21,7 @@ state_of (Busy busy) = record {
 -- plan, and in time
 abbrev pub IsSound : {a b : _} {g : _} → (plan : SavedPlan) → (begun : ℕ) → Lane a b g → Type 0
 IsSound plan begun (Free at) = at ≤ max_span * begun
-IsSound plan begun (Busy busy) = IsOf plan busy.ahead × ((course_of busy.behind).begin + max_span ≤ max_span * begun)
+IsSound plan begun (Busy busy) = IsOfPlan plan busy.ahead × ((course_of busy.behind).begin + max_span ≤ max_span * begun)
     × ((c k : ℕ) → HasStep (course_of busy.behind).work.plan c k → HasStep plan c k)
 
 -- the lane tells its next event, if it has one, and the others stay as they are

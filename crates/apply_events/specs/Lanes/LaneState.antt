@@ -3,7 +3,7 @@ use Rattle.std.specs.Prelude.{◌≡◌, ℕ, ◌<◌, ◌≤◌, length, List, 
 use Rattle.apply_plan.specs.Plan.SavedPlan.{SavedPlan}
 use Rattle.apply_events.specs.declared.event.Event.{Event}
 use Rattle.apply_events.specs.ChangeEvents.{change_events, in_turn, span_of}
-use Rattle.apply_events.specs.Fits.{HasStep, latest}
+use Rattle.apply_events.specs.Fits.{last_moment}
 use Rattle.apply_events.specs.Step.{Work}
 use Rattle.apply_events.specs.Lanes.Dealing.{dealt}
 
@@ -60,8 +60,5 @@ moment_of waits s = moment_in waits s.events s.free
 -- the next event is in time
 abbrev pub IsEarly : List Event → Type 0
 IsEarly [] = Unit {0}
-IsEarly (e ∷ es) = e.at ≤ latest
+IsEarly (e ∷ es) = e.at ≤ last_moment
 
--- the plan has the event's step, and the event comes in time
-abbrev pub IsOf : (plan : SavedPlan) → Event → Type 0
-IsOf plan event = HasStep plan event.change event.step × (event.at ≤ latest)

@@ -37,8 +37,8 @@ abbrev pub free_at : {a b : _} {g : _} → Lanes a b g → (lane : ℕ) → Opti
 free_at l lane = free_in (get_or (states_of l) lane unused).events (get_or (states_of l) lane unused).free
 
 -- how many events were given
-abbrev pub told_of : {a b : _} {g : _} → Lanes a b g → ℕ
-told_of l = l.told
+abbrev pub told_count : {a b : _} {g : _} → Lanes a b g → ℕ
+told_count l = l.told
 
 -- the most events that a change has
 abbrev pub max_of_change : ℕ

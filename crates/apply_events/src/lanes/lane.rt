@@ -34,10 +34,10 @@ impl<'a> Lane<'a> {
     ghost use Rattle.apply_plan.specs.Plan.SavedPlan.{SavedPlan, max_changes};
     ghost use Rattle.apply_events.specs.ChangeEvents.{span_of};
     ghost use Rattle.apply_events.specs.Course.{GivesNext};
-    ghost use Rattle.apply_events.specs.Fits.{max_span};
+    ghost use Rattle.apply_events.specs.Fits.{IsOfPlan, max_span};
     ghost use Rattle.apply_events.specs.Step.{Work};
     ghost use Rattle.apply_events.specs.Lanes.Lane.{IsSound, state_of};
-    ghost use Rattle.apply_events.specs.Lanes.LaneState.{IsOf, moment_of};
+    ghost use Rattle.apply_events.specs.Lanes.LaneState.{moment_of};
 
     /// The lane with a change that begins at a moment.
     pub(crate) fn begin(
@@ -79,7 +79,7 @@ impl<'a> Lane<'a> {
         ensures next { GivesNext (state_of self.old).events result (state_of self.new).events }
         ensures free { (state_of self.new).free ≡ (state_of self.old).free }
         ensures sound { (plan : SavedPlan) (begun : ℕ) → IsSound plan begun self.old → IsSound plan begun self.new }
-        ensures of_plan { (plan : SavedPlan) (begun : ℕ) → IsSound plan begun self.old → IfSome result (λ event. IsOf plan event) }
+        ensures of_plan { (plan : SavedPlan) (begun : ℕ) → IsSound plan begun self.old → IfSome result (λ event. IsOfPlan plan event) }
     {
         let Lane::Busy(busy) = self else {
             return None;

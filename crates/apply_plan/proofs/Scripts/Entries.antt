@@ -16,7 +16,7 @@ use Rattle.apply_plan.specs.Plan.ResourceChange.{ResourceChange}
 use Rattle.apply_json.specs.Tree.{◌>>=◌}
 use Rattle.apply_plan.specs.Script.Entry.{Entry}
 use Rattle.apply_plan.specs.Script.Outcome.{IsBounded}
-use Rattle.apply_plan.specs.Script.Outcomes.{IsInRange, Outcomes, by_number, change_of_entry, is_about, said_at, said_of}
+use Rattle.apply_plan.specs.Script.OutcomeMap.{IsInRange, OutcomeMap, by_number, change_of_entry, is_about, said_at, said_of}
 
 -- ---- the change that an entry is about
 
@@ -180,7 +180,7 @@ nothing_said count = ap (λ (n : ℕ). by_number n []) (add-one count) ∙ from 
   where
     from : (a n : ℕ) → map (said_of []) (range_with_len a (suc n)) ≡ map (said_of []) (range_with_len a n) ++ None ∷ []
     from a zero = refl
-    from a (suc n) = ap (λ (said : Outcomes). None ∷ said) (from (a + 1) n)
+    from a (suc n) = ap (λ (said : OutcomeMap). None ∷ said) (from (a + 1) n)
 
 -- ---- how much has been said
 
@@ -194,7 +194,7 @@ none_counted count = from 0 count
     from a zero = refl
     from a (suc n) = sum_by-cons counted None (map (said_of []) (range_with_len (a + 1) n)) ∙ ap (λ (n : ℕ). 0 + n) (from (a + 1) n)
 
-pub counted_more : (said : Outcomes) (number : ℕ) (outcomes : List Outcome) → number < length said → said_at said number ≡ None → count_by is_some (set said number (Some outcomes)) ≡ count_by is_some said + 1
+pub counted_more : (said : OutcomeMap) (number : ℕ) (outcomes : List Outcome) → number < length said → said_at said number ≡ None → count_by is_some (set said number (Some outcomes)) ≡ count_by is_some said + 1
 counted_more said number outcomes below none =
     let at = slice_get-get_or said number None below in
     let nothing : get_or said number None ≡ None = sym (ap (λ (o : Option (Option (List Outcome))). o >>= λ said. said) at) ∙ none in

@@ -20,7 +20,7 @@ use Rattle.apply_plan.specs.Results as results
 use Rattle.apply_plan.specs.Results.{or_refuse}
 use Rattle.apply_plan.specs.Script.Entry.{all_some, diag_from, diag_or_none, each_of, ending_of, entry_of, provisioner_from, seconds_of, step_from}
 use Rattle.apply_plan.specs.Script.NextEntry.{entry_after, entry_beside}
-use Rattle.apply_plan.specs.Script.Outcomes.{Outcomes, by_number, elements_of, script_of, script_of_entries, script_of_tree}
+use Rattle.apply_plan.specs.Script.OutcomeMap.{OutcomeMap, by_number, elements_of, script_of, script_of_entries, script_of_tree}
 use Rattle.apply_plan.specs.Script.Selection.{item_limit, item_shape, member_shape, script_selection}
 use Rattle.apply_plan.proofs.Results.{bind_same}
 use Rattle.apply_plan.proofs.Scripts.WholeList.{entries_one_by_one}
@@ -125,7 +125,7 @@ elements_at (Some d) = as_array_trimmed script_selection shape.Entries d
 same_elements : (d : Data) → elements_of (trimmed script_selection shape.Script d) ≡ option_map (trimmed_items script_selection shape.Entry None) (elements_of d)
 same_elements d = ap (λ o. o >>= as_array) (member_trimmed script_selection shape.Script shape.Entries (codes "changes") d refl) ∙ elements_at (member_of (codes "changes") d)
 
-abbrev from_elements : SavedPlan → Option Items → Result Outcomes ScriptError
+abbrev from_elements : SavedPlan → Option Items → Result OutcomeMap ScriptError
 from_elements plan elements = results.◌>>=◌ (or_refuse (BadShape None) elements) (λ elements. script_of_entries plan (list_of elements))
 
 from_trimmed : (plan : SavedPlan) (o : Option Items) → from_elements plan (option_map (trimmed_items script_selection shape.Entry None) o) ≡ from_elements plan o

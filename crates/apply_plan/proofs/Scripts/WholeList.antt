@@ -19,7 +19,7 @@ use Rattle.apply_plan.specs.Results.{◌>>=◌, all_or_first, each_with_earlier,
 use Rattle.apply_plan.specs.Script.Entry.{Entry, entry_of}
 use Rattle.apply_plan.specs.Script.NextEntry.{entry_after, entry_beside}
 use Rattle.apply_plan.specs.Script.Outcome.{IsBounded}
-use Rattle.apply_plan.specs.Script.Outcomes.{IsInRange, Outcomes, by_number, change_of_entry, entry_at, is_about, names_change, said_at, said_of, script_of_entries}
+use Rattle.apply_plan.specs.Script.OutcomeMap.{IsInRange, OutcomeMap, by_number, change_of_entry, entry_at, is_about, names_change, said_at, said_of, script_of_entries}
 use Rattle.apply_plan.specs.Script.Refusals.{fault_of_steps}
 use Rattle.apply_plan.proofs.Results.{bind_ok, bind_same, done, guard_ok, or_refuse_ok, unless_refused_ok}
 use Rattle.apply_plan.proofs.WholeList.{AnswersAlike, read_one_by_one}
@@ -29,7 +29,7 @@ use Rattle.apply_plan.proofs.Scripts.Limits.{none_is_bounded}
 -- ---- what an accepted entry says
 
 -- an entry without a fault beside what has been said
-record IsAccepted (changes : List ResourceChange) (said : Outcomes) (d : Data) (one : ℕ × List Outcome) : Type 0 where
+record IsAccepted (changes : List ResourceChange) (said : OutcomeMap) (d : Data) (one : ℕ × List Outcome) : Type 0 where
   entry : Entry
   change : ResourceChange
   entry_is : entry_of d ≡ Some entry
@@ -37,7 +37,7 @@ record IsAccepted (changes : List ResourceChange) (said : Outcomes) (d : Data) (
   new : is_some (said_at said one.0) ≡ false
   bounded : All IsBounded one.1
 
-accepted : (changes : List ResourceChange) (said : Outcomes) (n : ℕ) (d : Data) (one : ℕ × List Outcome) → entry_beside changes said n d ≡ Ok one → IsAccepted changes said d one
+accepted : (changes : List ResourceChange) (said : OutcomeMap) (n : ℕ) (d : Data) (one : ℕ × List Outcome) → entry_beside changes said n d ≡ Ok one → IsAccepted changes said d one
 unfolding entry_beside
 accepted changes said n d one e =
     let formed = bind_ok (or_refuse (BadShape (Some n)) (entry_of d)) _ one e in
@@ -108,23 +108,23 @@ entries_one_by_one changes elements = read_one_by_one (entry_after changes) (ent
 -- ---- the steps of a reader
 
 -- what has been said after n entries is what was made of them
-pub record HasSaid (changes : List ResourceChange) (said : Outcomes) (n : ℕ) (made : List (ℕ × List Outcome)) : Type 0 where
+pub record HasSaid (changes : List ResourceChange) (said : OutcomeMap) (n : ℕ) (made : List (ℕ × List Outcome)) : Type 0 where
   pub count : length made ≡ n
   pub said_is : said ≡ by_number (length changes) made
   pub counted : count_by is_some said ≡ n
   pub in_range : SaysInRange made
 
-pub nothing_said : (changes : List ResourceChange) (said : Outcomes) → said ≡ by_number (length changes) [] → HasSaid changes said 0 []
-nothing_said changes said is = record { count = refl; said_is = is; counted = ap (λ (s : Outcomes). count_by is_some s) is ∙ none_counted (length changes); in_range = λ number. tt }
+pub nothing_said : (changes : List ResourceChange) (said : OutcomeMap) → said ≡ by_number (length changes) [] → HasSaid changes said 0 []
+nothing_said changes said is = record { count = refl; said_is = is; counted = ap (λ (s : OutcomeMap). count_by is_some s) is ∙ none_counted (length changes); in_range = λ number. tt }
 
-pub few_entries : (changes : List ResourceChange) (said : Outcomes) (n : ℕ) (made : List (ℕ × List Outcome)) → HasSaid changes said n made → n ≤ length changes
+pub few_entries : (changes : List ResourceChange) (said : OutcomeMap) (n : ℕ) (made : List (ℕ × List Outcome)) → HasSaid changes said n made → n ≤ length changes
 few_entries changes said n made has = omega (arith, count_by-le-length is_some said, has.counted, ap length has.said_is, length-by_number (length changes) made)
 
-pub same_entry : (changes : List ResourceChange) (said : Outcomes) (n : ℕ) (made : List (ℕ × List Outcome)) (d : Data) (answer : Result (ℕ × List Outcome) ScriptError) → HasSaid changes said n made
+pub same_entry : (changes : List ResourceChange) (said : OutcomeMap) (n : ℕ) (made : List (ℕ × List Outcome)) (d : Data) (answer : Result (ℕ × List Outcome) ScriptError) → HasSaid changes said n made
     → entry_beside changes said n d ≡ answer → entry_after changes made d ≡ answer
 same_entry changes said n made d answer has e = rw (has.count, ← has.said_is) e
 
-pub said_more : (changes : List ResourceChange) (said : Outcomes) (n : ℕ) (made : List (ℕ × List Outcome)) (d : Data) (number : ℕ) (outcomes : List Outcome) → HasSaid changes said n made
+pub said_more : (changes : List ResourceChange) (said : OutcomeMap) (n : ℕ) (made : List (ℕ × List Outcome)) (d : Data) (number : ℕ) (outcomes : List Outcome) → HasSaid changes said n made
     → entry_beside changes said n d ≡ Ok (number, outcomes) → HasSaid changes (set said number (Some outcomes)) (n + 1) (made ++ (number, outcomes) ∷ [])
 said_more changes said n made d number outcomes has e =
     let is = accepted changes said n d (number, outcomes) e in
@@ -132,10 +132,10 @@ said_more changes said n made d number outcomes has e =
     let long : length said ≡ length changes = ap length has.said_is ∙ length-by_number (length changes) made in
     let within : number < length said = omega (arith, below, long) in
     let new = none_there (said_at said number) is.new in
-    let unsaid : said_of made number ≡ None = sym (at_number (length changes) made number below) ∙ ap (λ (s : Outcomes). said_at s number) (sym has.said_is) ∙ new in
+    let unsaid : said_of made number ≡ None = sym (at_number (length changes) made number below) ∙ ap (λ (s : OutcomeMap). said_at s number) (sym has.said_is) ∙ new in
     record {
       count = omega (arith, length-append made ((number, outcomes) ∷ []), has.count);
-      said_is = ap (λ (s : Outcomes). set s number (Some outcomes)) has.said_is ∙ sym (by_number-append (length changes) made number outcomes below unsaid);
+      said_is = ap (λ (s : OutcomeMap). set s number (Some outcomes)) has.said_is ∙ sym (by_number-append (length changes) made number outcomes below unsaid);
       counted = omega (arith, counted_more said number outcomes within new, has.counted);
       in_range = in_range_more made (number, outcomes) has.in_range is.bounded;
     }
@@ -144,8 +144,8 @@ said_more changes said n made d number outcomes has e =
     none_there None h = refl
     none_there (Some x) h = absurd cc
 
-pub said_in_range : (changes : List ResourceChange) (said : Outcomes) (n : ℕ) (made : List (ℕ × List Outcome)) → HasSaid changes said n made → IsInRange said
-said_in_range changes said n made has = subst (λ (s : Outcomes). IsInRange s) (sym has.said_is) (is_in_range (length changes) made has.in_range)
+pub said_in_range : (changes : List ResourceChange) (said : OutcomeMap) (n : ℕ) (made : List (ℕ × List Outcome)) → HasSaid changes said n made → IsInRange said
+said_in_range changes said n made has = subst (λ (s : OutcomeMap). IsInRange s) (sym has.said_is) (is_in_range (length changes) made has.in_range)
 
 -- ---- the script of the entries
 
@@ -153,7 +153,7 @@ pub refused_script : (plan : SavedPlan) (elements : Items) (e : ScriptError) →
 unfolding script_of_entries
 refused_script plan elements e fault = rw fault refl
 
-pub made_script : (plan : SavedPlan) (elements : Items) (said : Outcomes) (n : ℕ) (made : List (ℕ × List Outcome)) → HasSaid plan.changes said n made
+pub made_script : (plan : SavedPlan) (elements : Items) (said : OutcomeMap) (n : ℕ) (made : List (ℕ × List Outcome)) → HasSaid plan.changes said n made
     → all_or_first (each_with_earlier (entry_at plan.changes) (list_of elements)) ≡ Ok made → script_of_entries plan (list_of elements) ≡ Ok said
 unfolding script_of_entries
-made_script plan elements said n made has e = rw e (ap (λ (s : Outcomes). done s) (sym has.said_is))
+made_script plan elements said n made has e = rw e (ap (λ (s : OutcomeMap). done s) (sym has.said_is))

@@ -1,10 +1,9 @@
 -- A planned change of one object (JSON Output Format, "Plan Representation", `resource_changes`).
-use Rattle.std.specs.Prelude.{ℕ, ◌+◌, List, length, drop, Bool, ◌&&◌, if◌then◌else◌, Option}
-use Rattle.std.specs.Option.{option_eq}
-use Rattle.std.specs.Str.{bytes_eq}
+use Rattle.std.specs.Prelude.{ℕ, ◌+◌, List, length, drop, Bool, if◌then◌else◌, Option}
 use Rattle.apply_plan.specs.declared.plan.key.Key.{Key}
 use Rattle.apply_plan.specs.declared.plan.mode.Mode.{Mode}
 use Rattle.apply_plan.specs.declared.plan.step_kind.StepKind.{StepKind}
+use Rattle.apply_plan.specs.Plan.ObjectName.{name_one_object}
 use Rattle.apply_json.specs.Tree.{is_empty}
 
 pub record ResourceChange : Type 0 where
@@ -29,4 +28,4 @@ resource_of change =
 -- an earlier change is of the same object: it has the same address, and the same deposed key or none
 abbrev pub is_same_object : ResourceChange → ResourceChange → Bool
 is_same_object change earlier =
-    bytes_eq earlier.address change.address && option_eq bytes_eq earlier.deposed change.deposed
+    name_one_object earlier.address earlier.deposed change.address change.deposed

@@ -1,8 +1,7 @@
 -- The plan that bytes are, or the first refusal (JSON Output Format, "Plan Representation").
-use Rattle.std.specs.Prelude.{ℕ, List, length, Bool, false, ◌&&◌, nat_lt, if◌then◌else◌, Result, Ok, Err}
+use Rattle.std.specs.Prelude.{ℕ, List, length, Bool, false, nat_lt, if◌then◌else◌, Result, Ok, Err}
 use Rattle.std.specs.List.{list_any}
-use Rattle.std.specs.Option.{option_eq, option_map_or}
-use Rattle.std.specs.Str.{bytes_eq}
+use Rattle.std.specs.Option.{option_map_or}
 use Rattle.serde_json.specs.Data.{Data}
 use Rattle.serde_json.specs.Events.{items_len}
 use Rattle.apply_plan.specs.declared.plan.plan_error.PlanError.{PlanError}
@@ -11,6 +10,7 @@ use Rattle.apply_plan.specs.declared.plan.step_kind.StepKind.{StepKind}
 use Rattle.apply_plan.specs.Plan.Address.{relative_address}
 use Rattle.apply_plan.specs.Plan.Element.{Element, element_of}
 use Rattle.apply_plan.specs.Plan.Header.{header_of}
+use Rattle.apply_plan.specs.Plan.ObjectName.{name_one_object}
 use Rattle.apply_plan.specs.Plan.ResourceChange.{ResourceChange}
 use Rattle.apply_plan.specs.Plan.Steps.{steps_of_actions}
 use Rattle.apply_plan.specs.Results.{◌>>=◌, all_or_first, each_with_earlier, or_refuse}
@@ -51,7 +51,7 @@ planned_at n d = do
 abbrev pub names_object_of : ResourceChange → Data → Bool
 names_object_of change d =
     option_map_or
-    (λ e. bytes_eq e.address change.address && option_eq bytes_eq e.deposed change.deposed)
+    (λ e. name_one_object e.address e.deposed change.address change.deposed)
     (element_of d) false
 
 -- what an element describes, or the first fault that holds of it; it is compared with each element before it

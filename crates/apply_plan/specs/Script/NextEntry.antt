@@ -7,11 +7,11 @@ use Rattle.apply_plan.specs.declared.script.script_error.ScriptError.TheVariants
 use Rattle.apply_plan.specs.Plan.ResourceChange.{ResourceChange}
 use Rattle.apply_plan.specs.Results.{◌>>=◌, or_refuse, unless_refused}
 use Rattle.apply_plan.specs.Script.Entry.{entry_of}
-use Rattle.apply_plan.specs.Script.Outcomes.{Outcomes, by_number, change_of_entry, said_at}
+use Rattle.apply_plan.specs.Script.OutcomeMap.{OutcomeMap, by_number, change_of_entry, said_at}
 use Rattle.apply_plan.specs.Script.Refusals.{fault_of_steps}
 
 -- what entry n says beside what has been said, or its first fault
-unfoldable pub entry_beside : List ResourceChange → Outcomes → ℕ → Data → Result (ℕ × List Outcome) ScriptError
+unfoldable pub entry_beside : List ResourceChange → OutcomeMap → ℕ → Data → Result (ℕ × List Outcome) ScriptError
 entry_beside changes said n d = do
   entry ← or_refuse (BadShape (Some n)) (entry_of d)
   found ← or_refuse (UnknownChange n) (change_of_entry changes entry)

@@ -9,7 +9,7 @@ ghost use Rattle.apply_plan.specs.Results.{Gives};
 ghost use Rattle.apply_plan.specs.Plan.SeenObjects.{is_of};
 ghost use Rattle.apply_plan.specs.Script.ChangeNumbers.{number_of};
 ghost use Rattle.apply_plan.specs.Script.NextEntry.{entry_beside};
-ghost use Rattle.apply_plan.specs.Script.Outcomes.{by_number, elements_of, script_of, script_of_entries, script_of_tree};
+ghost use Rattle.apply_plan.specs.Script.OutcomeMap.{by_number, elements_of, script_of, script_of_entries, script_of_tree};
 
 use crate::bytes::MAX_BYTES;
 use crate::plan::Plan;
@@ -31,7 +31,7 @@ use std::alloc::{AllocError, Global};
 /// Members that are not known are ignored, `null` counts as absent, and of a member that stands twice the last counts.
 /// The answer is the script, or the refusal that [`ScriptError`] describes; want of memory is answered where it is met,
 /// and never for a script that is too large.
-#[tactic(auto, unfolding(crate::specs::Script::Outcomes::script_of))]
+#[tactic(auto, unfolding(crate::specs::Script::OutcomeMap::script_of))]
 pub fn read_script(alloc: Global, bytes: &[u8], plan: &Plan) -> Result<Script, ScriptError>
     ensures defined { Gives ScriptError.Memory (λ script. script) result
         (script_of plan.now bytes.now) }
@@ -47,7 +47,7 @@ pub fn read_script(alloc: Global, bytes: &[u8], plan: &Plan) -> Result<Script, S
 }
 
 /// The script that the tree is.
-#[tactic(auto, unfolding(crate::specs::Script::Outcomes::script_of_tree))]
+#[tactic(auto, unfolding(crate::specs::Script::OutcomeMap::script_of_tree))]
 fn script_of_value(alloc: Global, tree: &Value, plan: &Plan) -> Result<Script, ScriptError>
     ensures { Gives ScriptError.Memory (λ script. script) result
         (script_of_tree plan.now (view tree.now)) }

@@ -1,7 +1,7 @@
 -- From what was told to how the run has ended.
 use Rattle.std.proofs.Common.{◌≡◌, ◌≤◌, ◌+◌, ℕ, List, Result, Ok, Err, IfOk, IfErr, sym, subst, arith, inl, inr, ⊎_elim, ◌∙◌, Option}
 use Rattle.apply_plan.specs.Plan.SavedPlan.{SavedPlan}
-use Rattle.apply_plan.specs.Script.Outcomes.{Outcomes}
+use Rattle.apply_plan.specs.Script.OutcomeMap.{OutcomeMap}
 use Rattle.apply_events.specs.declared.event.Event.{Event}
 use Rattle.apply_events.specs.Step.{Work}
 use Rattle.apply_text.specs.Order.{as_written, hook_messages_of}
@@ -28,7 +28,7 @@ if_err (Ok x) P Q f h = tt
 if_err (Err e) P Q f h = f e h
 
 -- what is so of a plan, a script and a start is so of equal ones
-pub same_of : (P : SavedPlan → Outcomes → ℕ → Type 0) (plan plan' : SavedPlan) (script script' : Outcomes) (start start' : ℕ) → plan ≡ plan' → script ≡ script' → start ≡ start' → P plan script start → P plan' script' start'
+pub same_of : (P : SavedPlan → OutcomeMap → ℕ → Type 0) (plan plan' : SavedPlan) (script script' : OutcomeMap) (start start' : ℕ) → plan ≡ plan' → script ≡ script' → start ≡ start' → P plan script start → P plan' script' start'
 same_of P plan plan' script script' start start' e f g h = subst (λ p. P p script' start') e (subst (λ s. P plan s start') f (subst (λ t. P plan script t) g h))
 
 -- what was told on a stream that was made for the work, from the start on
@@ -59,7 +59,7 @@ told_for {S} bytes failed work start sink events first stream made sink_is same 
 
 -- what is so of the stream's own plan, script and start is so of those that it was made for
 pub for_work : {S : Type 0} → (bytes : S → Option (List ℕ)) (failed : S → ℕ) (work : Work) (start : ℕ) (before : Sight)
-    (events : List Event) (stream : StreamWriter S) (P : SavedPlan → Outcomes → ℕ → Type 0)
+    (events : List Event) (stream : StreamWriter S) (P : SavedPlan → OutcomeMap → ℕ → Type 0)
     → IsToldFor bytes failed work start before events stream
     → P stream.plan.now stream.script.now stream.start → P work.plan work.script start
 for_work bytes failed work start before events stream P told h =

@@ -16,7 +16,7 @@ use Rattle.apply_bus.specs.Claims.{ClaimsName, Drawing, IsDealtOut, lists_drawn,
 use Rattle.apply_bus.specs.Items.{events}
 use Rattle.apply_run.specs.Applied.{IsApplied, IsAppliedInPart}
 use Rattle.apply_run.specs.declared.worker.StoppedWorker.{StoppedWorker}
-use Rattle.apply_run.specs.Stream.Fitting.{CanBeTold}
+use Rattle.apply_events.specs.Fits.{IsOfPlan}
 use Rattle.apply_run.specs.Run.Reconciled.{IsReconciled, IsReconciledWhole}
 use Rattle.apply_run.specs.Run.Threads.{EachAt}
 use Rattle.apply_run.specs.Worker.Stopped.{sender_of, is_closed, IsStoppedWorker}
@@ -37,7 +37,7 @@ reconciled work claims bus k stopped drawing taken did same met more part =
       worker_is = same ∙ did.drawer_worker;
       met_none = met;
       part = prefix_more (of_worker k (events taken)) sent (worker_events work k drawing.drawn) taken_part all;
-      fits = all_of_prefix (CanBeTold work.plan) (of_worker k (events taken)) sent taken_part did.fits;
+      fits = all_of_prefix (IsOfPlan work.plan) (of_worker k (events taken)) sent taken_part did.fits;
     }
 
 pub reconciled_whole : (work : Work) (claims : ClaimsName) (bus : BusName) (k : ℕ) (stopped : StoppedWorker) (drawing : Drawing) (taken : List Item) → IsStoppedWorker work claims bus k stopped
@@ -119,5 +119,5 @@ applied work claims taken drawings some count limit named h whole m dealt = reco
 }
 
 pub all_fit : (work : Work) (claims : ClaimsName) (taken : List Item) (drawings : List Drawing) → length drawings ≡ claims.workers → NamesWorkersBelow claims.workers taken → EachAt (IsReconciled work taken) drawings
-    → All (CanBeTold work.plan) (events taken)
-all_fit work claims taken drawings count named h = fits_all (CanBeTold work.plan) claims.workers (events taken) named (λ w low. (h w (blank claims) (omega arith)).fits)
+    → All (IsOfPlan work.plan) (events taken)
+all_fit work claims taken drawings count named h = fits_all (IsOfPlan work.plan) claims.workers (events taken) named (λ w low. (h w (blank claims) (omega arith)).fits)

@@ -3,7 +3,7 @@ use Rattle.std.proofs.Common.{◌≡◌, ◌≢◌, ℕ, ◌+◌, List, ◌++◌
 use Rattle.std.specs.Io.KnownBytes.{Appends}
 use mathlib.Core.List.{IsPrefix}
 use Rattle.apply_plan.specs.Plan.SavedPlan.{SavedPlan}
-use Rattle.apply_plan.specs.Script.Outcomes.{Outcomes}
+use Rattle.apply_plan.specs.Script.OutcomeMap.{OutcomeMap}
 use Rattle.apply_events.specs.declared.event.Event.{Event}
 use Rattle.apply_events.specs.Totals.{totals_of}
 use Rattle.apply_text.specs.declared.operation.Operation.{Operation}
@@ -22,7 +22,7 @@ abbrev report_of : Telling → Outlet → Report
 report_of telling outlet = record { counts = telling.counts; taken = telling.taken; written = outlet.written }
 
 -- what was written is cut off
-pub cut_off : (plan : SavedPlan) (script : Outcomes) (start : ℕ) (before : Option (List ℕ)) (failures : ℕ) (events : List Event) (telling : Telling) (outlet : Outlet) (all : List ℕ)
+pub cut_off : (plan : SavedPlan) (script : OutcomeMap) (start : ℕ) (before : Option (List ℕ)) (failures : ℕ) (events : List Event) (telling : Telling) (outlet : Outlet) (all : List ℕ)
     → HasTold plan script start before failures events telling → HasWritten before failures all outlet
     → IsCutOff plan events all (report_of telling outlet) before outlet.bytes (failures + failed_writes outlet.stop) outlet.failures
 cut_off plan script start before failures events telling outlet all told written = record {
@@ -33,7 +33,7 @@ cut_off plan script start before failures events telling outlet all told written
 }
 
 -- the kept notes are those of the events: all lines were written
-pub with_notes : (plan : SavedPlan) (script : Outcomes) (start : ℕ) (before : Option (List ℕ)) (failures : ℕ) (events : List Event) (old mid : Telling)
+pub with_notes : (plan : SavedPlan) (script : OutcomeMap) (start : ℕ) (before : Option (List ℕ)) (failures : ℕ) (events : List Event) (old mid : Telling)
     → old.outlet.stop ≡ Going → HasTold plan script start before failures events old
     → (HasLines plan script start before failures (hook_messages_of events) old → HasLines plan script start before failures (hook_messages_of events ++ old.notes) mid)
     → HasLines plan script start before failures (as_written events) mid
@@ -41,7 +41,7 @@ with_notes plan script start before failures events old mid goes told writes =
     subst (λ notes. HasLines plan script start before failures (hook_messages_of events ++ notes) mid) (told.notes goes) (writes told.written)
 
 -- the summary was written behind them
-pub with_summary : (plan : SavedPlan) (script : Outcomes) (start : ℕ) (operation : Operation) (before : Option (List ℕ)) (failures : ℕ) (events : List Event) (old mid : Telling) (outlet : Outlet)
+pub with_summary : (plan : SavedPlan) (script : OutcomeMap) (start : ℕ) (operation : Operation) (before : Option (List ℕ)) (failures : ℕ) (events : List Event) (old mid : Telling) (outlet : Outlet)
     → HasTold plan script start before failures events old → HasLines plan script start before failures (as_written events) mid → mid.counts ≡ old.counts
     → Writes mid.outlet outlet (summary_text start mid.latest operation mid.counts)
     → HasWritten before failures (stream_of plan script start operation events) outlet
@@ -75,14 +75,14 @@ behind before failures all more outlet ends longer was = record {
   failed = was.failed;
 }
 
-pub stopped_lines : (plan : SavedPlan) (script : Outcomes) (start : ℕ) (before : Option (List ℕ)) (failures : ℕ) (events : List Event) (telling : Telling)
+pub stopped_lines : (plan : SavedPlan) (script : OutcomeMap) (start : ℕ) (before : Option (List ℕ)) (failures : ℕ) (events : List Event) (telling : Telling)
     → telling.outlet.stop ≢ Going → HasTold plan script start before failures events telling
     → HasWritten before failures (lines_of plan script start (as_written events)) telling.outlet
 stopped_lines plan script start before failures events telling ends told =
     behind before failures (lines_of plan script start (hook_messages_of events)) (lines_of plan script start (as_written events)) telling.outlet ends
     (lines_prefix plan script start (hook_messages_of events) (notes_of events)) told.written.lines
 
-pub stopped_stream : (plan : SavedPlan) (script : Outcomes) (start : ℕ) (operation : Operation) (before : Option (List ℕ)) (failures : ℕ) (events : List Event) (telling : Telling)
+pub stopped_stream : (plan : SavedPlan) (script : OutcomeMap) (start : ℕ) (operation : Operation) (before : Option (List ℕ)) (failures : ℕ) (events : List Event) (telling : Telling)
     → telling.outlet.stop ≢ Going → HasTold plan script start before failures events telling
     → HasWritten before failures (stream_of plan script start operation events) telling.outlet
 stopped_stream plan script start operation before failures events telling ends told =
@@ -91,7 +91,7 @@ stopped_stream plan script start operation before failures events telling ends t
     behind before failures all (all ++ last) telling.outlet ends (last, refl) (stopped_lines plan script start before failures events telling ends told)
 
 -- all of it was written
-pub ended_whole : (plan : SavedPlan) (script : Outcomes) (start : ℕ) (operation : Operation) (before : Option (List ℕ)) (failures : ℕ) (events : List Event) (telling : Telling) (outlet : Outlet)
+pub ended_whole : (plan : SavedPlan) (script : OutcomeMap) (start : ℕ) (operation : Operation) (before : Option (List ℕ)) (failures : ℕ) (events : List Event) (telling : Telling) (outlet : Outlet)
     → outlet.stop ≡ Going → HasWritten before failures (stream_of plan script start operation events) outlet
     → HasTold plan script start before failures events telling
     → IsWhole plan events (stream_of plan script start operation events) (report_of telling outlet) before outlet.bytes failures outlet.failures
@@ -103,7 +103,7 @@ ended_whole plan script start operation before failures events telling outlet go
     }
 
 -- a write has failed
-pub ended_in_part : (plan : SavedPlan) (script : Outcomes) (start : ℕ) (operation : Operation) (before : Option (List ℕ)) (failures : ℕ) (events : List Event) (telling : Telling) (outlet : Outlet)
+pub ended_in_part : (plan : SavedPlan) (script : OutcomeMap) (start : ℕ) (operation : Operation) (before : Option (List ℕ)) (failures : ℕ) (events : List Event) (telling : Telling) (outlet : Outlet)
     → outlet.stop ≡ Failed → HasWritten before failures (stream_of plan script start operation events) outlet
     → HasTold plan script start before failures events telling
     → IsCutOff plan events (stream_of plan script start operation events) (report_of telling outlet) before outlet.bytes (failures + 1) outlet.failures
@@ -112,7 +112,7 @@ ended_in_part plan script start operation before failures events telling outlet 
     (cut_off plan script start before failures events telling outlet _ told written)
 
 -- memory was refused
-pub ended_in_lines : (plan : SavedPlan) (script : Outcomes) (start : ℕ) (before : Option (List ℕ)) (failures : ℕ) (events : List Event) (telling : Telling) (outlet : Outlet)
+pub ended_in_lines : (plan : SavedPlan) (script : OutcomeMap) (start : ℕ) (before : Option (List ℕ)) (failures : ℕ) (events : List Event) (telling : Telling) (outlet : Outlet)
     → outlet.stop ≡ NoMemory → HasWritten before failures (lines_of plan script start (as_written events)) outlet
     → HasTold plan script start before failures events telling
     → IsCutOff plan events (lines_of plan script start (as_written events)) (report_of telling outlet) before outlet.bytes failures outlet.failures

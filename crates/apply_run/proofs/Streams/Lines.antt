@@ -7,7 +7,7 @@ use Rattle.std.proofs.lemmas.Grind.{flat_map-append}
 use Rattle.std.proofs.lemmas.List.{map-append, take-append-le}
 use Rattle.std.proofs.lemmas.List.Sums.{fold-append}
 use Rattle.apply_plan.specs.Plan.SavedPlan.{SavedPlan}
-use Rattle.apply_plan.specs.Script.Outcomes.{Outcomes}
+use Rattle.apply_plan.specs.Script.OutcomeMap.{OutcomeMap}
 use Rattle.apply_events.specs.declared.event.Event.{Event}
 use Rattle.apply_text.specs.Latest.{latest_of}
 use Rattle.apply_text.specs.Lines.{event_text, lines_of, version_text}
@@ -32,14 +32,14 @@ latest_more events event =
 
 -- ---- lines
 
-abbrev text_in : SavedPlan → Outcomes → (start : ℕ) → (all : List Event) → ℕ × Event → List ℕ
+abbrev text_in : SavedPlan → OutcomeMap → (start : ℕ) → (all : List Event) → ℕ × Event → List ℕ
 text_in plan script start all p = event_text plan script start (latest_of all (p.0 + 1)) p.1
 
-abbrev texts_from : SavedPlan → Outcomes → (start : ℕ) → (all : List Event) (n : ℕ) → List Event → List ℕ
+abbrev texts_from : SavedPlan → OutcomeMap → (start : ℕ) → (all : List Event) (n : ℕ) → List Event → List ℕ
 texts_from plan script start all n events = flat_map (text_in plan script start all) (enumerate_from n events)
 
 -- what comes behind is not looked at
-texts_before : (plan : SavedPlan) (script : Outcomes) (start : ℕ) (all more : List Event) (n : ℕ) (events : List Event) → n + length events ≤ length all
+texts_before : (plan : SavedPlan) (script : OutcomeMap) (start : ℕ) (all more : List Event) (n : ℕ) (events : List Event) → n + length events ≤ length all
     → texts_from plan script start (all ++ more) n events ≡ texts_from plan script start all n events
 texts_before plan script start all more n [] few = refl
 texts_before plan script start all more n (event ∷ events) few =
@@ -54,7 +54,7 @@ enumerate_more n (x ∷ xs) ys =
     let place : n + 1 + length xs ≡ n + length (x ∷ xs) = omega arith in
     ap (λ l. (n, x) ∷ l) (enumerate_more (n + 1) xs ys ∙ ap (λ m. enumerate_from (n + 1) xs ++ enumerate_from m ys) place)
 
-texts_more : (plan : SavedPlan) (script : Outcomes) (start : ℕ) (events : List Event) (event : Event)
+texts_more : (plan : SavedPlan) (script : OutcomeMap) (start : ℕ) (events : List Event) (event : Event)
     → texts_from plan script start (events ++ event ∷ []) 0 (events ++ event ∷ []) ≡ texts_from plan script start events 0 events ++ event_text plan script start (latest_of (events ++ event ∷ []) (length (events ++ event ∷ []))) event
 texts_more plan script start events event =
     let all = events ++ event ∷ [] in
@@ -67,18 +67,18 @@ texts_more plan script start events event =
     ∙ ap (λ texts. texts_from plan script start events 0 events ++ texts) (append-nil (text (0 + length events, event)) ∙ ap (λ n. event_text plan script start (latest_of all n) event) place)
 
 -- the lines of one event more
-pub lines_more : (plan : SavedPlan) (script : Outcomes) (start : ℕ) (events : List Event) (event : Event)
+pub lines_more : (plan : SavedPlan) (script : OutcomeMap) (start : ℕ) (events : List Event) (event : Event)
     → lines_of plan script start (events ++ event ∷ []) ≡ lines_of plan script start events ++ event_text plan script start (latest_of (events ++ event ∷ []) (length (events ++ event ∷ []))) event
 lines_more plan script start events event =
     ap (λ texts. version_text plan start ++ texts) (texts_more plan script start events event)
     ∙ sym (append_assoc (version_text plan start) (texts_from plan script start events 0 events) (event_text plan script start (latest_of (events ++ event ∷ []) (length (events ++ event ∷ []))) event))
 
 -- and of none
-pub lines_none : (plan : SavedPlan) (script : Outcomes) (start : ℕ) → lines_of plan script start [] ≡ version_text plan start
+pub lines_none : (plan : SavedPlan) (script : OutcomeMap) (start : ℕ) → lines_of plan script start [] ≡ version_text plan start
 lines_none plan script start = append-nil (version_text plan start)
 
 -- with more events behind them
-pub lines_prefix : (plan : SavedPlan) (script : Outcomes) (start : ℕ) (events more : List Event) → IsPrefix (lines_of plan script start events) (lines_of plan script start (events ++ more))
+pub lines_prefix : (plan : SavedPlan) (script : OutcomeMap) (start : ℕ) (events more : List Event) → IsPrefix (lines_of plan script start events) (lines_of plan script start (events ++ more))
 lines_prefix plan script start events [] = subst (λ es. IsPrefix (lines_of plan script start events) (lines_of plan script start es)) (sym (append-nil events)) (prefix_same (lines_of plan script start events))
 lines_prefix plan script start events (event ∷ more) =
     let first : IsPrefix (lines_of plan script start events) (lines_of plan script start (events ++ event ∷ [])) = (_, sym (lines_more plan script start events event)) in

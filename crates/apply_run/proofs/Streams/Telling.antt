@@ -4,7 +4,7 @@ use Rattle.std.specs.Prelude.{max, not}
 use Rattle.std.proofs.lemmas.List.Elements.{filter-append}
 use Rattle.std.proofs.KnownBytes.{Appends-nil}
 use Rattle.apply_plan.specs.Plan.SavedPlan.{SavedPlan}
-use Rattle.apply_plan.specs.Script.Outcomes.{Outcomes}
+use Rattle.apply_plan.specs.Script.OutcomeMap.{OutcomeMap}
 use Rattle.apply_events.specs.declared.event.Event.{Event}
 use Rattle.apply_events.specs.Diagnostics.{is_note}
 use Rattle.apply_events.specs.Totals.{plus, totals_of}
@@ -29,7 +29,7 @@ written_none outlet goes none = record {
 }
 
 -- the version line
-pub told_none : (plan : SavedPlan) (script : Outcomes) (start : ℕ) (old new : Telling) → IsNew old → Writes old.outlet new.outlet (version_text plan start)
+pub told_none : (plan : SavedPlan) (script : OutcomeMap) (start : ℕ) (old new : Telling) → IsNew old → Writes old.outlet new.outlet (version_text plan start)
     → new.counts ≡ old.counts → new.taken ≡ old.taken → new.latest ≡ old.latest → new.notes ≡ old.notes
     → HasTold plan script start old.outlet.bytes old.outlet.failures [] new
 told_none plan script start old new begins writes counts taken latest notes = record {
@@ -45,7 +45,7 @@ told_none plan script start old new begins writes counts taken latest notes = re
 -- ---- lines
 
 -- the line of one event more
-pub lines_and_one : (plan : SavedPlan) (script : Outcomes) (start : ℕ) (before : Option (List ℕ)) (failures : ℕ) (events : List Event) (event : Event) (old new : Telling)
+pub lines_and_one : (plan : SavedPlan) (script : OutcomeMap) (start : ℕ) (before : Option (List ℕ)) (failures : ℕ) (events : List Event) (event : Event) (old new : Telling)
     → Writes old.outlet new.outlet (event_text plan script start new.latest event)
     → new.latest ≡ max old.latest event.at
     → HasLines plan script start before failures events old
@@ -60,7 +60,7 @@ lines_and_one plan script start before failures events event old new writes late
     }
 
 -- no line more
-pub lines_and_none : (plan : SavedPlan) (script : Outcomes) (start : ℕ) (before : Option (List ℕ)) (failures : ℕ) (events : List Event) (old new : Telling)
+pub lines_and_none : (plan : SavedPlan) (script : OutcomeMap) (start : ℕ) (before : Option (List ℕ)) (failures : ℕ) (events : List Event) (old new : Telling)
     → Writes old.outlet new.outlet [] → new.latest ≡ old.latest
     → HasLines plan script start before failures events old → HasLines plan script start before failures events new
 lines_and_none plan script start before failures events old new writes latest was = record {
@@ -87,7 +87,7 @@ notes_and_note events event is =
     ap (λ b. notes_of events ++ cond b (event ∷ []) []) (sym is) ∙ sym (filter-append (λ (e : Event). is_note e.what) events (event ∷ []))
 
 -- the line of a hook's message was written
-pub told_message : (plan : SavedPlan) (script : Outcomes) (start : ℕ) (before : Option (List ℕ)) (failures : ℕ) (events : List Event) (event : Event) (old new : Telling)
+pub told_message : (plan : SavedPlan) (script : OutcomeMap) (start : ℕ) (before : Option (List ℕ)) (failures : ℕ) (events : List Event) (event : Event) (old new : Telling)
     → is_note event.what ≡ false
     → new.counts ≡ plus old.counts (totals_of plan (event ∷ []))
     → new.taken ≡ old.taken + 1
@@ -105,7 +105,7 @@ told_message plan script start before failures events event old new is counts ta
 }
 
 -- a note was kept, or the writing has stopped
-pub told_note : (plan : SavedPlan) (script : Outcomes) (start : ℕ) (before : Option (List ℕ)) (failures : ℕ) (events : List Event) (event : Event) (old new : Telling)
+pub told_note : (plan : SavedPlan) (script : OutcomeMap) (start : ℕ) (before : Option (List ℕ)) (failures : ℕ) (events : List Event) (event : Event) (old new : Telling)
     → is_note event.what ≡ true
     → new.counts ≡ plus old.counts (totals_of plan (event ∷ []))
     → new.taken ≡ old.taken + 1

@@ -9,7 +9,7 @@ use Rattle.apply_run.specs.Applied.{IsApplied, IsAppliedInPart}
 use Rattle.apply_run.specs.declared.run.JoinedRun.{JoinedRun}
 use Rattle.apply_run.specs.declared.run.FinishedRun.{FinishedRun}
 use Rattle.apply_run.specs.declared.stream.StreamWriter.{StreamWriter}
-use Rattle.apply_run.specs.Stream.Fitting.{CanBeTold}
+use Rattle.apply_events.specs.Fits.{IsOfPlan}
 use Rattle.apply_run.specs.Stream.Room.{HasRoom}
 use Rattle.apply_run.specs.Stream.Telling.{IsSameStream, IsToldSince, telling_of}
 use Rattle.apply_run.specs.Run.Threads.{EachAt}
@@ -24,7 +24,7 @@ pub record IsJoinedRun {S : Type 0} (bytes : S → Option (List ℕ)) (failed : 
   pub stopped : EachAt (IsStoppedWorker work claims bus) joined.stopped.items
   pub same : IsSameStream stream joined.stream
   pub room : HasRoom joined.stream.plan.now (telling_of bytes failed joined.stream)
-  pub told : All (CanBeTold stream.plan.now) (events joined.taken.taken)
+  pub told : All (IsOfPlan stream.plan.now) (events joined.taken.taken)
       → IsToldSince bytes failed stream (events joined.taken.taken) joined.stream
 
 -- what the workers reported of their changes was told, all of it or a prefix for each

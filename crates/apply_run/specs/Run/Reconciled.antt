@@ -7,7 +7,7 @@ use Rattle.apply_events.specs.WorkerEvents.{worker_events}
 use Rattle.apply_bus.specs.declared.item.Item.{Item}
 use Rattle.apply_bus.specs.Claims.{Drawing}
 use Rattle.apply_bus.specs.Items.{events}
-use Rattle.apply_run.specs.Stream.Fitting.{CanBeTold}
+use Rattle.apply_events.specs.Fits.{IsOfPlan}
 
 -- no number is left for the worker; the events taken of it are a prefix of what it reports for its numbers, and events
 -- of the plan
@@ -15,7 +15,7 @@ pub record IsReconciled (work : Work) (taken : List Item) (worker : ℕ) (drawin
   pub worker_is : drawing.worker ≡ worker
   pub met_none : drawing.met_none ≡ true
   pub part : IsPrefix (of_worker worker (events taken)) (worker_events work worker drawing.drawn)
-  pub fits : All (CanBeTold work.plan) (of_worker worker (events taken))
+  pub fits : All (IsOfPlan work.plan) (of_worker worker (events taken))
 
 -- they are all of it
 abbrev pub IsReconciledWhole : Work → List Item → ℕ → Drawing → Type 0

@@ -6,7 +6,7 @@ use Rattle.apply_bus.specs.Claims.{ClaimsName, Drawing}
 use Rattle.apply_events.specs.Step.{Work}
 use Rattle.apply_hooks.specs.declared.rule.Rule.{Rule}
 use Rattle.apply_plan.specs.Plan.SavedPlan.{SavedPlan, max_changes}
-use Rattle.apply_plan.specs.Script.Outcomes.{Outcomes}
+use Rattle.apply_plan.specs.Script.OutcomeMap.{OutcomeMap}
 use Rattle.apply_run.specs.declared.run.threads.WorkerPromise.{WorkerPromise}
 use Rattle.apply_run.specs.declared.worker.StoppedWorker.{StoppedWorker}
 
@@ -15,7 +15,7 @@ abbrev pub EachAt : {X : Type 0} → (ℕ → X → Type 0) → List X → Type 
 EachAt {X} F xs = (k : ℕ) (x : X) → k < length xs → F k (get_or xs k x)
 
 -- the work is this plan, this script and these hooks, and these claims are on the plan's changes
-pub record IsRun (work : Work) (name : ClaimsName) (plan : SavedPlan) (script : Outcomes) (hooks : List (List Rule))
+pub record IsRun (work : Work) (name : ClaimsName) (plan : SavedPlan) (script : OutcomeMap) (hooks : List (List Rule))
     (claims : ClaimsName) : Type 0 where
   pub work_is : record { plan = plan; script = script; hooks = hooks } ≡ work
   pub claims_is : claims ≡ name

@@ -2,7 +2,7 @@
 use Rattle.std.specs.Prelude.{◌≡◌, ℕ, ◌+◌, ◌⊎◌, List, Option}
 use mathlib.Core.List.{IsPrefix}
 use Rattle.apply_plan.specs.Plan.SavedPlan.{SavedPlan}
-use Rattle.apply_plan.specs.Script.Outcomes.{Outcomes}
+use Rattle.apply_plan.specs.Script.OutcomeMap.{OutcomeMap}
 use Rattle.apply_events.specs.declared.event.Event.{Event}
 use Rattle.apply_text.specs.declared.operation.Operation.{Operation}
 use Rattle.apply_text.specs.Lines.{lines_of, stream_of}
@@ -27,7 +27,7 @@ pub record IsCutOff (plan : SavedPlan) (events : List Event) (all : List ℕ) (r
   pub failed : failures' ≡ failures
 
 -- a write has failed, or memory was refused for a line, and then no summary was written
-abbrev pub IsFaulted : (plan : SavedPlan) (script : Outcomes) (start : ℕ) (operation : Operation) (events : List Event)
+abbrev pub IsFaulted : (plan : SavedPlan) (script : OutcomeMap) (start : ℕ) (operation : Operation) (events : List Event)
     → Fault → (before after : Option (List ℕ)) (failures failed : ℕ) → Type 0
 IsFaulted plan script start operation events fault before after failures failed =
     ((fault.why ≡ Write) × IsCutOff plan events (stream_of plan script start operation events) fault.report

@@ -1,10 +1,10 @@
 -- What a stream needs so that no count of it is too large.
 use Rattle.std.specs.Prelude.{◌≡◌, ℕ, ◌+◌, ◌-◌, ◌*◌, ◌^◌, ◌<◌, ◌≤◌, [], All, length}
 use Rattle.apply_plan.specs.Plan.SavedPlan.{SavedPlan}
-use Rattle.apply_events.specs.Fits.{latest}
+use Rattle.apply_events.specs.Fits.{last_moment}
 use Rattle.apply_events.specs.declared.counts.Counts.{Counts}
 use Rattle.apply_run.specs.declared.stream.output.Stop.TheVariants.{Going}
-use Rattle.apply_run.specs.Stream.Fitting.{CanBeTold}
+use Rattle.apply_events.specs.Fits.{IsOfPlan}
 use Rattle.apply_run.specs.Stream.Telling.{Telling}
 
 -- the greatest number of events that are told
@@ -24,14 +24,14 @@ pub record IsWithin (n : ℕ) (counts : Counts) : Type 0 where
 pub record HasRoom (plan : SavedPlan) (telling : Telling) : Type 0 where
   pub few : telling.taken ≤ max_told
   pub counts : IsWithin telling.taken telling.counts
-  pub in_time : telling.latest ≤ latest
-  pub notes : All (CanBeTold plan) telling.notes
+  pub in_time : telling.latest ≤ last_moment
+  pub notes : All (IsOfPlan plan) telling.notes
   pub written : telling.outlet.written + length telling.notes * 2 ^ 64 ≤ (telling.taken + 1) * 2 ^ 64
   pub may_fail : telling.outlet.stop ≡ Going → telling.outlet.failures < 2 ^ 64 - 1
 
 -- what a line more needs
 pub record MayWrite (telling : Telling) : Type 0 where
-  pub in_time : telling.latest ≤ latest
+  pub in_time : telling.latest ≤ last_moment
   pub written : telling.outlet.written ≤ 2 ^ 127
   pub may_fail : telling.outlet.stop ≡ Going → telling.outlet.failures < 2 ^ 64 - 1
 

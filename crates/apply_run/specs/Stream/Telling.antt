@@ -1,7 +1,7 @@
 -- What was told of the events of a run.
 use Rattle.std.specs.Prelude.{◌≡◌, ℕ, List, length, Option}
 use Rattle.apply_plan.specs.Plan.SavedPlan.{SavedPlan}
-use Rattle.apply_plan.specs.Script.Outcomes.{Outcomes}
+use Rattle.apply_plan.specs.Script.OutcomeMap.{OutcomeMap}
 use Rattle.apply_events.specs.declared.counts.Counts.{Counts}
 use Rattle.apply_events.specs.declared.event.Event.{Event}
 use Rattle.apply_events.specs.Totals.{totals_of}
@@ -33,14 +33,14 @@ telling_of bytes failed stream = record {
 
 -- since the sink had these bytes and so many failures, the lines of the events were written in this order, up to where
 -- the writing stopped
-pub record HasLines (plan : SavedPlan) (script : Outcomes) (start : ℕ) (before : Option (List ℕ)) (failures : ℕ)
+pub record HasLines (plan : SavedPlan) (script : OutcomeMap) (start : ℕ) (before : Option (List ℕ)) (failures : ℕ)
     (written : List Event) (telling : Telling) : Type 0 where
   pub lines : HasWritten before failures (lines_of plan script start written) telling.outlet
   pub latest : telling.latest ≡ latest_of written (length written)
 
 -- the events, in the order in which they were taken, were counted, and the lines of their hook messages were written;
 -- their notes are kept, unless the writing has stopped
-pub record HasTold (plan : SavedPlan) (script : Outcomes) (start : ℕ) (before : Option (List ℕ)) (failures : ℕ)
+pub record HasTold (plan : SavedPlan) (script : OutcomeMap) (start : ℕ) (before : Option (List ℕ)) (failures : ℕ)
     (events : List Event) (telling : Telling) : Type 0 where
   pub written : HasLines plan script start before failures (hook_messages_of events) telling
   pub counts : telling.counts ≡ totals_of plan events

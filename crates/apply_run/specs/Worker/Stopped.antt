@@ -6,7 +6,7 @@ use Rattle.apply_events.specs.WorkerEvents.{worker_events}
 use Rattle.apply_bus.specs.Bus as bus
 use Rattle.apply_bus.specs.Claims.{ClaimsName}
 use Rattle.apply_run.specs.Worker.Drawn.{IsDrawn}
-use Rattle.apply_run.specs.Stream.Fitting.{CanBeTold}
+use Rattle.apply_events.specs.Fits.{IsOfPlan}
 use Rattle.apply_run.specs.declared.worker.SenderEnd.{SenderEnd}
 use Rattle.apply_run.specs.declared.worker.SenderEnd.TheVariants.{Closed, Open}
 use Rattle.apply_run.specs.declared.worker.StoppedWorker.{StoppedWorker}
@@ -29,7 +29,7 @@ pub record IsStoppedWorker (work : Work) (claims : ClaimsName) (bus : bus.BusNam
   pub sender_bus : (sender_of stopped.sender).bus ≡ bus
   pub sender_worker : (sender_of stopped.sender).worker ≡ worker
   pub drawn : IsDrawn claims.limit stopped.drawer.drawn
-  pub fits : All (CanBeTold work.plan) (sender_of stopped.sender).sent
+  pub fits : All (IsOfPlan work.plan) (sender_of stopped.sender).sent
   pub part : IsPrefix (sender_of stopped.sender).sent (worker_events work worker stopped.drawer.drawn)
   pub whole : is_closed stopped.sender ≡ true → (stopped.drawer.met_none ≡ true)
       × ((sender_of stopped.sender).sent ≡ worker_events work worker stopped.drawer.drawn)

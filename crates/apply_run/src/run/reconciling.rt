@@ -7,7 +7,7 @@ ghost use Rattle.apply_bus.specs.Bus.{sent_list_of, IsTakenInPart, IsTakenWhole}
 ghost use Rattle.apply_bus.specs.Items.{closes, events};
 ghost use Rattle.apply_run.specs.Applied.{IsApplied, IsAppliedInPart};
 ghost use Rattle.apply_run.specs.Worker.Drawn.{IsDrawn};
-ghost use Rattle.apply_run.specs.Stream.Fitting.{CanBeTold};
+ghost use Rattle.apply_events.specs.Fits.{IsOfPlan};
 ghost use Rattle.apply_run.specs.Run.Threads.{EachAt};
 ghost use Rattle.apply_run.specs.Worker.Stopped.{sender_of, is_closed, IsStoppedWorker};
 
@@ -33,7 +33,7 @@ pub(crate) fn reconcile<K: RunName>(
     requires stopped { EachAt (IsStoppedWorker K.work K.claims K.bus) stopped.items }
     ensures applied { (lists : List (List ℕ)) × IsAppliedInPart K.work K.claims.workers lists (events taken.taken)
         × (result ≡ true → IsApplied K.work K.claims.workers lists (events taken.taken)) }
-    ensures fits { All (CanBeTold K.work.plan) (events taken.taken) }
+    ensures fits { All (IsOfPlan K.work.plan) (events taken.taken) }
 {
     workers_in_order_stand_once();
     let mut gathering = Gathering::begin(claims);

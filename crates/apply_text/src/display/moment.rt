@@ -1,7 +1,7 @@
 //! A moment in UTC.
 
 ghost use Rattle.std.specs.Prelude.{◌≡◌, ◌+◌, ◌≤◌, Some};
-ghost use Rattle.apply_events.specs.Fits.{latest as last_moment};
+ghost use Rattle.apply_events.specs.Fits.{last_moment};
 ghost use Rattle.apply_text.specs.Moment.{moment_text};
 
 use crate::start::Start;

@@ -10,22 +10,22 @@ use crate::objects::member::put_text;
 use json::Writer;
 use std::alloc::AllocError;
 
-/// Begins a message: writes the members that every message has. `room` holds what it says, and is used up.
+/// Begins a message: writes the members that every message has. `scratch` holds what it says, and is used up.
 pub fn begin_message(
     out: &mut Writer,
-    room: &mut String,
+    scratch: &mut String,
     level: &str,
     moment: &Moment,
 ) -> Result<(), AllocError>
-    ensures { Sends result out.old out.new (head_tokens level.now (string_bytes room.old) moment.now) }
+    ensures { Sends result out.old out.new (head_tokens level.now (string_bytes scratch.old) moment.now) }
 {
     out.begin_object()?;
     put_text(out, "@level", level)?;
-    put_text(out, "@message", room.as_str())?;
+    put_text(out, "@message", scratch.as_str())?;
     put_text(out, "@module", "terraform.ui")?;
-    room.clear();
-    write!(room, "{moment}")?;
-    put_text(out, "@timestamp", room.as_str())
+    scratch.clear();
+    write!(scratch, "{moment}")?;
+    put_text(out, "@timestamp", scratch.as_str())
 }
 
 /// Ends a message with its type.

@@ -1,7 +1,7 @@
 use Rattle.std.proofs.Common.{◌≡◌, ◌≤◌, ◌↔◌, ◌∙◌, All, false, length, refl, sym, ap, subst, subst₂, arith}
 use Rattle.apply_bus.specs.Bus.{Account, NamesWorkersBelow}
 use Rattle.apply_bus.specs.Items.{events}
-use Rattle.apply_run.specs.Stream.Fitting.{CanBeTold}
+use Rattle.apply_events.specs.Fits.{IsOfPlan}
 use Rattle.apply_run.specs.Stream.Telling.{HasTold, telling_of}
 use Rattle.apply_run.proofs.Taken.{count_more, fewer_to_lose, fewer_to_take, no_misfit, no_misfit_more, one_misfit, room_to_tell, told_more_items, told_no_items}
 use Rattle.apply_run.proofs.collector.collect.Goals as goal
@@ -18,7 +18,7 @@ loop-rx-init g c =
       room = w.room;
       few = let none = w.none in omega (arith, none);
       told = told_no_items _ _ _ _ _ c.args.rx.taken (telling_of g.S.Sink.bytes g.S.Sink.failed c.write_version.new.self) c.requires.none w.told;
-      fits = no_misfit (CanBeTold c.args.stream.plan.now) c.args.rx.taken c.requires.none;
+      fits = no_misfit (IsOfPlan c.args.stream.plan.now) c.args.rx.taken c.requires.none;
       lost = omega arith;
     }
 
@@ -88,8 +88,8 @@ loop-rx-preserved g c =
       start = i.start;
       room = i.room;
       few = subst (λ items. c.loop-rx.stream.taken ≤ length items) is i.few;
-      told = subst (λ items. All (CanBeTold s.plan.now) (events items) → HasTold s.plan.now s.script.now s.start (g.S.Sink.bytes s.output.sink) (g.S.Sink.failed s.output.sink) (events items) (telling_of g.S.Sink.bytes g.S.Sink.failed c.loop-rx.stream)) is i.told;
-      fits = subst (λ items. (c.loop-rx.misfit ≡ false) ↔ All (CanBeTold s.plan.now) (events items)) is i.fits;
+      told = subst (λ items. All (IsOfPlan s.plan.now) (events items) → HasTold s.plan.now s.script.now s.start (g.S.Sink.bytes s.output.sink) (g.S.Sink.failed s.output.sink) (events items) (telling_of g.S.Sink.bytes g.S.Sink.failed c.loop-rx.stream)) is i.told;
+      fits = subst (λ items. (c.loop-rx.misfit ≡ false) ↔ All (IsOfPlan s.plan.now) (events items)) is i.fits;
       lost = let low = c.if-lost_takes-lt-MAX_LOST.true in omega (arith, low);
     }
 
@@ -108,7 +108,7 @@ returns-clause-same g c = let i = c.loop-rx.invariant in record { plan = i.plan;
 pub returns-clause-told : goal.returns-clause-told
 returns-clause-told g c =
     let s = c.args.stream in
-    subst (λ items. All (CanBeTold s.plan.now) (events items) → HasTold s.plan.now s.script.now s.start (g.S.Sink.bytes s.output.sink) (g.S.Sink.failed s.output.sink) (events items) (telling_of g.S.Sink.bytes g.S.Sink.failed c.loop-rx.stream)) (sym (ap (λ (a : Account). a.taken) c.give_up.ensures.taken)) c.loop-rx.invariant.told
+    subst (λ items. All (IsOfPlan s.plan.now) (events items) → HasTold s.plan.now s.script.now s.start (g.S.Sink.bytes s.output.sink) (g.S.Sink.failed s.output.sink) (events items) (telling_of g.S.Sink.bytes g.S.Sink.failed c.loop-rx.stream)) (sym (ap (λ (a : Account). a.taken) c.give_up.ensures.taken)) c.loop-rx.invariant.told
 
 pub returns-clause-room : goal.returns-clause-room
 returns-clause-room g c = c.loop-rx.invariant.room

@@ -1,7 +1,7 @@
 use Rattle.std.proofs.Common.{◌≡◌, ◌↔◌, ◌≤◌, ◌+◌, ◌-◌, All, false, length}
 use Rattle.apply_bus.specs.Items.{events, max_taken}
 use Rattle.apply_run.specs.Stream.Room.{HasRoom}
-use Rattle.apply_run.specs.Stream.Fitting.{CanBeTold}
+use Rattle.apply_events.specs.Fits.{IsOfPlan}
 use Rattle.apply_run.specs.Stream.Telling.{HasTold, telling_of}
 use Rattle.apply_run.proofs.collector.collect.Given as goal
 
@@ -15,10 +15,10 @@ invariant-loop-rx g l = record {
   start : l.stream.start ≡ l.fn.stream.start;
   room : HasRoom l.stream.plan.now (telling_of g.S.Sink.bytes g.S.Sink.failed l.stream);
   few : l.stream.taken ≤ length l.rx.taken;
-  told : All (CanBeTold l.fn.stream.plan.now) (events l.rx.taken)
+  told : All (IsOfPlan l.fn.stream.plan.now) (events l.rx.taken)
       → HasTold l.fn.stream.plan.now l.fn.stream.script.now l.fn.stream.start (g.S.Sink.bytes l.fn.stream.output.sink) (g.S.Sink.failed l.fn.stream.output.sink) (events l.rx.taken)
       (telling_of g.S.Sink.bytes g.S.Sink.failed l.stream);
-  fits : l.misfit ≡ false ↔ All (CanBeTold l.fn.stream.plan.now) (events l.rx.taken);
+  fits : l.misfit ≡ false ↔ All (IsOfPlan l.fn.stream.plan.now) (events l.rx.taken);
   lost : l.lost_takes ≤ 1000;
 }
 

@@ -1,7 +1,7 @@
 use Rattle.std.proofs.Common.{◌∷◌, ◌++◌, [], All, sym, subst}
 use Rattle.std.proofs.lemmas.List.Elements.{All-head}
 use Rattle.apply_bus.specs.Items.{events}
-use Rattle.apply_run.specs.Stream.Fitting.{CanBeTold}
+use Rattle.apply_events.specs.Fits.{IsOfPlan}
 use Rattle.apply_run.specs.Stream.Telling.{HasTold, telling_of}
 use Rattle.apply_run.proofs.collector.note.Goals as goal
 
@@ -13,6 +13,6 @@ returns-then-fits-clause-told g c before failures so_far fits was =
 pub returns-else-fits-clause-told : goal.returns-else-fits-clause-told
 returns-else-fits-clause-told g c before failures so_far fits was =
     let plan = c.args.stream.now.plan.now in
-    let here : CanBeTold plan c.in-Event.event = All-head (CanBeTold plan) c.in-Event.event [] (subst (λ item. All (CanBeTold plan) (events (item ∷ []))) c.in-Event.is fits) in
-    let told = c.can_be_told-fits.ensures.1 here in
+    let here : IsOfPlan plan c.in-Event.event = All-head (IsOfPlan plan) c.in-Event.event [] (subst (λ item. All (IsOfPlan plan) (events (item ∷ []))) c.in-Event.is fits) in
+    let told = c.is_of_plan-fits.ensures.1 here in
     absurd cc

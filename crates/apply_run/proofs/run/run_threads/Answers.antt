@@ -2,7 +2,7 @@ use Rattle.std.proofs.Common.{All, length, true≢false, sym, ap, ◌∙◌, sub
 use Rattle.apply_events.specs.Step.{Work}
 use Rattle.apply_bus.specs.Claims.{ClaimsName}
 use Rattle.apply_bus.specs.Items.{events as events_of}
-use Rattle.apply_run.specs.Stream.Fitting.{CanBeTold}
+use Rattle.apply_events.specs.Fits.{IsOfPlan}
 use Rattle.apply_run.proofs.run.run_threads.Goals as goal
 use Rattle.apply_run.proofs.run.run_threads.Goals.{then-whole, else-whole}
 
@@ -31,5 +31,5 @@ returns-after-whole-clause-finished g c =
       ];
       same = joined.same;
       room = joined.room;
-      told = joined.told (subst (λ p. All (CanBeTold p) (events_of taken)) (sym (c.requires.plan ∙ ap (λ (work : Work). work.plan) c.requires.run.work_is)) reconciled.fits);
+      told = joined.told (subst (λ p. All (IsOfPlan p) (events_of taken)) (sym (c.requires.plan ∙ ap (λ (work : Work). work.plan) c.requires.run.work_is)) reconciled.fits);
     }

@@ -5,7 +5,7 @@ use Rattle.std.proofs.lemmas.List.Sums.{sum_by_push}
 use Rattle.apply_events.specs.ChangeEvents.{change_events, span_of}
 use Rattle.apply_events.specs.WorkerEvents.{worker_events}
 use Rattle.apply_bus.specs.Claims.{Drawing}
-use Rattle.apply_run.specs.Stream.Fitting.{CanBeTold}
+use Rattle.apply_events.specs.Fits.{IsOfPlan}
 use Rattle.apply_run.specs.Worker.Drawn.{IsDrawn}
 use Rattle.apply_run.specs.Worker.Job.{work_of}
 use Rattle.apply_run.proofs.Workers.Drawing.{drawn_on, none_drawn, room_left}
@@ -22,7 +22,7 @@ loop-change-init g c =
       drawer = refl;
       drawn = subst (IsDrawn c.args.job.now.claims.now.limit) none (none_drawn c.args.job.now.claims.now.limit);
       sent = c.requires.fresh.1 ∙ ap (worker_events (work_of c.args.job.now) c.args.tx.now.worker) none;
-      fits = subst (All (CanBeTold c.args.job.now.plan.now)) (sym c.requires.fresh.1) (All-nil (CanBeTold c.args.job.now.plan.now));
+      fits = subst (All (IsOfPlan c.args.job.now.plan.now)) (sym c.requires.fresh.1) (All-nil (IsOfPlan c.args.job.now.plan.now));
       time = ap (sum_by (span_of (work_of c.args.job.now))) none;
       soon = omega arith;
     }
@@ -63,7 +63,7 @@ loop-change-preserved g c =
       drawn = numbers;
       sent = whole.2 ∙ ap (λ l. l ++ change_events work c.loop-change.tx.worker change c.loop-change.at) i.sent ∙ ap (λ v. worker_events work w before ++ change_events work v change c.loop-change.at) i.sender
           ∙ ap (λ at. worker_events work w before ++ change_events work w change at) i.time ∙ sym (c.a_further_change_comes_behind.ensures work w change before) ∙ ap (worker_events work w) (sym drawn);
-      fits = subst (All (CanBeTold c.args.job.now.plan.now)) (sym part.1) (All-append (CanBeTold c.args.job.now.plan.now) c.loop-change.tx.sent part.0 i.fits part.3);
+      fits = subst (All (IsOfPlan c.args.job.now.plan.now)) (sym part.1) (All-append (IsOfPlan c.args.job.now.plan.now) c.loop-change.tx.sent part.0 i.fits part.3);
       time = whole.0 ∙ ap (λ n. n + span_of work change) i.time ∙ sym (sum_by_push (span_of work) before change) ∙ ap (sum_by (span_of work)) (sym drawn);
       soon = omega (arith, whole.1, i.soon);
     }
@@ -71,7 +71,7 @@ loop-change-preserved g c =
 pub returns-in-None-clause-fits : goal.returns-in-None-clause-fits
 returns-in-None-clause-fits g c =
     let i = c.loop-change.invariant in let part = c.apply_change.ensures.part in
-    subst (All (CanBeTold c.args.job.now.plan.now)) (sym part.1) (All-append (CanBeTold c.args.job.now.plan.now) c.loop-change.tx.sent part.0 i.fits part.3)
+    subst (All (IsOfPlan c.args.job.now.plan.now)) (sym part.1) (All-append (IsOfPlan c.args.job.now.plan.now) c.loop-change.tx.sent part.0 i.fits part.3)
 
 pub returns-in-None-clause-whole : goal.returns-in-None-clause-whole
 returns-in-None-clause-whole g c all = absurd (true≢false (sym all))

@@ -2,7 +2,7 @@ use Rattle.std.proofs.Common.{◌≡◌, ◌*◌, ◌-◌, ◌≤◌, All, lengt
 use Rattle.apply_events.specs.ChangeEvents.{span_of}
 use Rattle.apply_events.specs.WorkerEvents.{worker_events}
 use Rattle.apply_run.specs.Worker.Drawn.{IsDrawn}
-use Rattle.apply_run.specs.Stream.Fitting.{CanBeTold}
+use Rattle.apply_events.specs.Fits.{IsOfPlan}
 use Rattle.apply_run.specs.Worker.Job.{work_of}
 use Rattle.apply_run.proofs.worker.apply_all.Given as goal
 
@@ -15,7 +15,7 @@ invariant-loop-change g l = record {
   drawer : l.drawer.worker ≡ l.fn.drawer.worker;
   drawn : IsDrawn l.job.claims.now.limit l.drawer.drawn;
   sent : l.tx.sent ≡ worker_events (work_of l.job) l.fn.tx.worker l.drawer.drawn;
-  fits : All (CanBeTold l.job.plan.now) l.tx.sent;
+  fits : All (IsOfPlan l.job.plan.now) l.tx.sent;
   time : l.at ≡ sum_by (span_of (work_of l.job)) l.drawer.drawn;
   soon : l.at ≤ 172800 * length l.drawer.drawn;
 }

@@ -2,7 +2,8 @@ use Rattle.std.proofs.Common.{◌≡◌, ◌+◌, ◌-◌, ◌<◌, length, map,
 use Rattle.std.proofs.lemmas.Bool.{ltb-false, ltb-true}
 use Rattle.std.proofs.lemmas.List.{length-map, length-set}
 use Rattle.apply_events.specs.Lanes.Lane.{state_of}
-use Rattle.apply_events.specs.Lanes.LaneState.{IsOf, left}
+use Rattle.apply_events.specs.Lanes.LaneState.{left}
+use Rattle.apply_events.specs.Fits.{IsOfPlan}
 use Rattle.apply_events.specs.Lanes.Merging.{merged}
 use Rattle.std.specs.Prelude.{IfSome}
 use Rattle.apply_events.specs.Step.{Work}
@@ -44,7 +45,7 @@ returns-clause-next g c =
 pub returns-clause-of_plan : goal.returns-clause-of_plan
 returns-clause-of_plan g c =
     let l = c.loop-at.self in
-    subst (λ (work : Work). IfSome c.next.result (λ event. IsOf work.plan event)) c.loop-at.invariant.work
+    subst (λ (work : Work). IfSome c.next.result (λ event. IsOfPlan work.plan event)) c.loop-at.invariant.work
     (c.next.ensures.of_plan l.plan.now l.change (sound_at l.plan.now l.change l.lanes.items c.loop-at.first c.index_mut.result.now c.loop-at.invariant.first.0 c.index_mut.ensures.value l.sound))
 
 pub overflow_add-self : goal.overflow_add-self

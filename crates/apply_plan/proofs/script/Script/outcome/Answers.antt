@@ -1,4 +1,4 @@
-use Rattle.apply_plan.specs.Script.Outcomes.{given_outcome}
+use Rattle.apply_plan.specs.Script.OutcomeMap.{given_outcome}
 use Rattle.apply_plan.proofs.Scripts.Limits.{in_time}
 use Rattle.apply_plan.proofs.script.Script.outcome.Goals as goal
 

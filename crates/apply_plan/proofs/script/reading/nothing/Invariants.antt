@@ -1,5 +1,5 @@
 use Rattle.std.proofs.Common.{◌≡◌, []}
-use Rattle.apply_plan.specs.Script.Outcomes.{by_number}
+use Rattle.apply_plan.specs.Script.OutcomeMap.{by_number}
 use Rattle.apply_plan.proofs.script.reading.nothing.Given as goal
 
 abbrev pub invariant-loop : goal.invariant-loop

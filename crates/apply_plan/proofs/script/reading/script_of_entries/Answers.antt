@@ -3,7 +3,7 @@ use Rattle.std.proofs.lemmas.Result.{err_from_is_err_and}
 use Rattle.serde_json.specs.View.{view, items_view}
 use Rattle.apply_plan.specs.declared.script.outcome.Outcome.{Outcome}
 use Rattle.apply_plan.specs.Script.NextEntry.{entry_after}
-use Rattle.apply_plan.specs.Script.Outcomes.{by_number}
+use Rattle.apply_plan.specs.Script.OutcomeMap.{by_number}
 use Rattle.apply_plan.proofs.ListReading.{goes_on, is_done, refused}
 use Rattle.apply_plan.proofs.Scripts.Entries.{length-by_number}
 use Rattle.apply_plan.proofs.Scripts.WholeList.{entries_one_by_one, few_entries, made_script, nothing_said, refused_script, said_in_range, said_more, same_entry}

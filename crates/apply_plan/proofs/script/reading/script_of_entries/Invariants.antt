@@ -5,7 +5,7 @@ use Rattle.apply_json.specs.Tree.{list_of}
 use Rattle.apply_plan.specs.ListReading.{made_after}
 use Rattle.apply_plan.specs.Results.{all_or_first, each_with_earlier}
 use Rattle.apply_plan.specs.Script.NextEntry.{entry_after}
-use Rattle.apply_plan.specs.Script.Outcomes.{entry_at}
+use Rattle.apply_plan.specs.Script.OutcomeMap.{entry_at}
 use Rattle.apply_plan.proofs.Scripts.WholeList.{HasSaid}
 use Rattle.apply_plan.proofs.script.reading.script_of_entries.Given as goal
 

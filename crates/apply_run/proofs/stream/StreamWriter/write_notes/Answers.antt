@@ -1,7 +1,7 @@
 use Rattle.std.proofs.Common.{◌≡◌, ◌<◌, ◌≤◌, ◌+◌, ◌++◌, ◌∷◌, ◌∙◌, [], length, get_or, take, take_all, append_assoc, append-nil, refl, sym, ap, subst, arith}
 use Rattle.std.proofs.lemmas.List.{take_more}
 use Rattle.std.proofs.lemmas.List.Elements.{All-get_or}
-use Rattle.apply_run.specs.Stream.Fitting.{CanBeTold}
+use Rattle.apply_events.specs.Fits.{IsOfPlan}
 use Rattle.apply_run.specs.Stream.Telling.{HasLines, telling_of}
 use Rattle.apply_run.proofs.stream.StreamWriter.write_notes.Goals as goal
 
@@ -26,7 +26,7 @@ write_event-requires-clause-event g c =
     let plan = c.args.self.now.plan.now in let notes = c.args.self.now.notes.items in let note = c.index.result.now in
     let low : c.loop-place.place < length notes = omega (arith, c.loop-place-test.true, c.len-place-end.ensures, c.args.self.now.notes.ok.0) in
     let here : note ≡ get_or notes c.loop-place.place note = c.index.ensures ∙ ap (λ xs. get_or xs c.loop-place.place note) i.notes in
-    subst (λ p. CanBeTold p note) (sym i.same.plan) (subst (CanBeTold plan) (sym here) (All-get_or (CanBeTold plan) notes c.loop-place.place note low c.requires.notes))
+    subst (λ p. IsOfPlan p note) (sym i.same.plan) (subst (IsOfPlan plan) (sym here) (All-get_or (IsOfPlan plan) notes c.loop-place.place note low c.requires.notes))
 
 pub write_event-requires-clause-room : goal.write_event-requires-clause-room
 write_event-requires-clause-room g c =

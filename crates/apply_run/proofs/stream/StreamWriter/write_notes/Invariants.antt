@@ -1,6 +1,6 @@
 use Rattle.std.proofs.Common.{◌≡◌, ◌<◌, ◌≤◌, ◌+◌, ◌-◌, ◌*◌, ◌^◌, ◌++◌, ℕ, List, Option, length, take}
 use Rattle.apply_events.specs.declared.event.Event.{Event}
-use Rattle.apply_events.specs.Fits.{latest}
+use Rattle.apply_events.specs.Fits.{last_moment}
 use Rattle.apply_run.specs.declared.stream.output.Stop.TheVariants.{Going}
 use Rattle.apply_run.specs.Stream.Telling.{HasLines, IsSameStream, telling_of}
 use Rattle.apply_run.proofs.stream.StreamWriter.write_notes.Given as goal
@@ -12,7 +12,7 @@ invariant-loop-place g l = record {
   notes : l.self.notes.items ≡ l.fn.self.notes.items;
   counts : l.self.counts ≡ l.fn.self.counts;
   taken : l.self.taken ≡ l.fn.self.taken;
-  in_time : l.self.latest ≤ latest;
+  in_time : l.self.latest ≤ last_moment;
   room : l.self.output.written + length l.fn.self.notes.items * 2 ^ 64 ≤ (l.fn.self.taken + 1 + l.place) * 2 ^ 64;
   may_fail : l.self.output.stop ≡ Going → g.S.Sink.failed l.self.output.sink < 2 ^ 64 - 1;
   written : (before : Option (List ℕ)) (failures : ℕ) (events : List Event)

@@ -1,6 +1,6 @@
 use Rattle.std.proofs.Common.{sym, subst}
 use Rattle.std.specs.Str.{IsUtf8}
-use Rattle.apply_text.proofs.KeptTexts.{grown_utf8}
+use Rattle.apply_text.proofs.CachedTexts.{grown_utf8}
 use Rattle.apply_text.proofs.line_buffer.LineBuffer.push_progress.Goals as goal
 
 pub invariant_of-self-2 : goal.invariant_of-self-2

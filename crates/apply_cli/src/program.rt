@@ -1,0 +1,262 @@
+//! What the words behind the program's name say is done, from the words to the exit status.
+
+ghost use Rattle.std.specs.Prelude.{◌≡◌, ◌<◌, ◌≤◌, ◌-◌, ◌^◌, ◌⊎◌, is_some, map, string_bytes, IfOk};
+ghost use Rattle.std.specs.Io.KnownBytes.{Appends, Keeps};
+ghost use Rattle.std.specs.Option.{option_copied};
+ghost use Rattle.apply_hooks.specs.Registry.{rules_of};
+ghost use Rattle.apply_cli.specs.Command.{OfFile, OfInput, sight_of};
+ghost use Rattle.apply_cli.specs.CommandLine.{AskForHelp, AskForHelpAlone};
+ghost use Rattle.apply_cli.specs.Halt.{hooks_of_halts, rules_of_halt};
+ghost use Rattle.apply_cli.specs.Invocation.{HasAppliedAsAsked, HasBegunAsAsked, WereApplied, WereBegun};
+ghost use Rattle.apply_cli.specs.Version.{AskForVersion, version_line};
+
+use crate::answer::{answer_usage, report_hook};
+use crate::halt::Halt;
+use crate::in_lanes::run_in_lanes;
+use crate::input_fault::InputFault;
+use crate::invocation::read_invocation;
+use crate::run::run_command;
+use crate::script_file::{read_file, report_script};
+use crate::settings::Settings;
+use crate::usage::Usage;
+use crate::version::{answer_version, ask_for_version};
+use apply_hooks::{FnHook, Hook, HookCall, HookClosure, HookError, Registry, Rules};
+use apply_plan::Text;
+use apply_run::StdSink;
+use std::alloc::{AllocError, Global};
+use std::env::Env;
+use std::io::{ErrorKind, Read, Write};
+use std::rt::Files;
+use std::sync::Wait;
+use std::thread::Threads;
+
+/// The words of the command line, with the program's name.
+///
+/// `Err` with `Usage::Words` where one is not UTF-8, and with `Usage::Memory` where memory is refused, or they could not
+/// be had.
+pub fn given_words<R: Env + AllocGlobal>(rt: &R) -> Result<Vec<String>, Usage> {
+    match std::env::args(rt) {
+        Ok(words) => Ok(words.collect(rt.alloc())?),
+        Err(error) if error.kind() == ErrorKind::InvalidData => {
+            Err(Usage::Words(Text::new(rt.alloc(), "error: a word is not UTF-8\n")?))
+        }
+        Err(_) => Err(Usage::Memory),
+    }
+}
+
+/// Does what the words behind the program's name say, and answers the exit status. The output comes back.
+///
+/// Words that ask for the version are answered as `answer_version` does, words that `read_invocation` refuses as `answer_usage`
+/// does, and all others as `follow_invocation` does.
+pub fn follow<F: Files, R: Read + Drop, W: Write + Drop, E: Write, T: Threads + Wait + Sync>(
+    rt: &T,
+    files: &F,
+    alloc: Global,
+    words: &[String],
+    input: R,
+    mut output: W,
+    faults: &mut E,
+) -> (W, u8)
+    ensures version { AskForVersion (map string_bytes words.now)
+        → ((result.1 ≡ 0) × Appends (W.contents output) (W.contents result.0) version_line) ⊎ (result.1 ≡ 3) }
+
+    ensures applied { result.1 ≤ 1 →
+        WereApplied (map string_bytes words.now) (R.remaining input) (W.contents output) (W.contents result.0) result.1
+        ⊎ ((result.1 ≡ 0) × (AskForVersion (map string_bytes words.now) ⊎ AskForHelp (map string_bytes words.now))) }
+    ensures help { AskForHelpAlone (map string_bytes words.now) → (result.1 ≡ 0) ⊎ (result.1 ≡ 3) }
+    ensures refused { result.1 ≡ 2 → Keeps (W.contents output) (W.contents result.0) }
+    ensures cut_off { result.1 ≡ 3 → Keeps (W.contents output) (W.contents result.0)
+        ⊎ (WereBegun (map string_bytes words.now) (R.remaining input) (W.contents output) (W.contents result.0)
+        ⊎ AskForVersion (map string_bytes words.now)) }
+    ensures quiet { result.1 ≤ 1 → Keeps (E.contents faults.old) (E.contents faults.new) }
+    ensures statuses { result.1 ≤ 3 }
+{
+    if ask_for_version(words) {
+        let status = answer_version(&mut output, faults);
+        return (output, status);
+    }
+    match read_invocation(alloc, words) {
+        Ok(invocation) => {
+            let output = StdSink::new(output);
+            let (output, status) = follow_invocation(
+                rt,
+                files,
+                alloc,
+                &invocation.settings,
+                invocation.parallelism,
+                input,
+                output,
+                faults,
+            );
+            (output.into_inner(), status)
+        }
+        Err(usage) => {
+            let status = answer_usage(&usage, &mut output, faults);
+            (output, status)
+        }
+    }
+}
+
+/// Reads the script's file, where the settings name one, and runs the command with a hook for each halt, in their order:
+/// by workers, or with so many changes under way at once in the stream's own time, where a parallelism is asked for. The
+/// output comes back.
+///
+/// The exit status is that of `run_command` or `run_in_lanes`; before that it is 2 where there are more than 32 halts or
+/// the script's file could not be read, and 3 where memory was refused, and nothing was written then.
+pub fn follow_invocation<
+    F: Files,
+    R: Read + Drop,
+    W: Write + Drop,
+    E: Write,
+    T: Threads + Wait + Sync,
+>(
+    rt: &T,
+    files: &F,
+    alloc: Global,
+    settings: &Settings,
+    parallelism: Option<u8>,
+    input: R,
+    output: StdSink<W>,
+    faults: &mut E,
+) -> (StdSink<W>, u8)
+    requires { output.failures < 2 ^ 64 - 1 }
+    ensures applied { result.1 ≤ 1 → OfInput (R.remaining input) (λ plan. OfFile settings.now.script (λ script.
+        HasAppliedAsAsked (record { plan = plan; script = script; hooks = hooks_of_halts settings.now.halts.items })
+        settings.now parallelism (sight_of W.contents output) (sight_of W.contents result.0) result.1)) }
+    ensures refused { result.1 ≡ 2 → Keeps (W.contents output.writer) (W.contents result.0.writer) }
+    ensures cut_off { result.1 ≡ 3 → Keeps (W.contents output.writer) (W.contents result.0.writer)
+        ⊎ OfInput (R.remaining input) (λ plan. OfFile settings.now.script (λ script.
+        HasBegunAsAsked (record { plan = plan; script = script; hooks = hooks_of_halts settings.now.halts.items })
+        settings.now parallelism (W.contents output.writer) (W.contents result.0.writer))) }
+    ensures quiet { result.1 ≤ 1 → Keeps (E.contents faults.old) (E.contents faults.new) }
+    ensures statuses { result.1 ≤ 3 }
+{
+    // The closures are boxed here, where the registry is owned: a function that handed them out would hide what they answer.
+    let mut registry = Registry::new(alloc);
+    for halt in &settings.halts {
+        let Ok((rules, own)) = rules_twice(alloc, halt) else {
+            return (output, report_hook(faults, HookError::Memory));
+        };
+        let Ok(closure) = Box::new(alloc, move |call: &HookCall<'_>| own.decide(call)) else {
+            return (output, report_hook(faults, HookError::Memory));
+        };
+        let answer: HookClosure = closure;
+        if let Err((refused, _)) = registry.add(FnHook::new(rules, answer)) {
+            return (output, report_hook(faults, refused));
+        }
+    }
+    run_with_hooks(
+        rt,
+        files,
+        alloc,
+        settings,
+        parallelism,
+        &registry,
+        input,
+        output,
+        faults,
+    )
+}
+
+/// The rules of the halt's hook: for the hook, and for its closure.
+fn rules_twice(alloc: Global, halt: &Halt) -> Result<(Rules, Rules), AllocError>
+    ensures { IfOk result (λ both. (both.0 ≡ rules_of_halt halt.now) × (both.1 ≡ rules_of_halt halt.now)) }
+{
+    let rules = halt.rules(alloc)?;
+    let own = halt.rules(alloc)?;
+    Ok((rules, own))
+}
+
+/// Reads the script's file, where the settings name one, and runs the command with these hooks, which are those of the halts.
+fn run_with_hooks<F: Files, R: Read + Drop, W: Write + Drop, E: Write, T: Threads + Wait + Sync>(
+    rt: &T,
+    files: &F,
+    alloc: Global,
+    settings: &Settings,
+    parallelism: Option<u8>,
+    registry: &Registry,
+    input: R,
+    output: StdSink<W>,
+    faults: &mut E,
+) -> (StdSink<W>, u8)
+    requires failures { output.failures < 2 ^ 64 - 1 }
+    requires hooks { rules_of registry.now ≡ hooks_of_halts settings.now.halts.items }
+    ensures applied { result.1 ≤ 1 → OfInput (R.remaining input) (λ plan. OfFile settings.now.script (λ script.
+        HasAppliedAsAsked (record { plan = plan; script = script; hooks = hooks_of_halts settings.now.halts.items })
+        settings.now parallelism (sight_of W.contents output) (sight_of W.contents result.0) result.1)) }
+    ensures refused { result.1 ≡ 2 → Keeps (W.contents output.writer) (W.contents result.0.writer) }
+    ensures cut_off { result.1 ≡ 3 → Keeps (W.contents output.writer) (W.contents result.0.writer)
+        ⊎ OfInput (R.remaining input) (λ plan. OfFile settings.now.script (λ script.
+        HasBegunAsAsked (record { plan = plan; script = script; hooks = hooks_of_halts settings.now.halts.items })
+        settings.now parallelism (W.contents output.writer) (W.contents result.0.writer))) }
+    ensures quiet { result.1 ≤ 1 → Keeps (E.contents faults.old) (E.contents faults.new) }
+    ensures statuses { result.1 ≤ 3 }
+{
+    let script = match script_of(files, alloc, settings) {
+        Ok(script) => script,
+        Err(fault) => {
+            let status = report_script(faults, fault);
+            return (output, status);
+        }
+    };
+    run_script(
+        rt,
+        alloc,
+        settings,
+        parallelism,
+        registry,
+        script.as_deref(),
+        input,
+        output,
+        faults,
+    )
+}
+
+/// Runs the command: in lanes, where a parallelism is asked for, and else by workers.
+fn run_script<R: Read + Drop, W: Write + Drop, E: Write, T: Threads + Wait + Sync>(
+    rt: &T,
+    alloc: Global,
+    settings: &Settings,
+    parallelism: Option<u8>,
+    registry: &Registry,
+    script: Option<&[u8]>,
+    input: R,
+    output: StdSink<W>,
+    faults: &mut E,
+) -> (StdSink<W>, u8)
+    requires { output.failures < 2 ^ 64 - 1 }
+    ensures applied { result.1 ≤ 1 → OfInput (R.remaining input) (λ plan.
+        HasAppliedAsAsked (record { plan = plan; script = option_copied script.entry; hooks = rules_of registry.now })
+        settings.now parallelism (sight_of W.contents output) (sight_of W.contents result.0) result.1) }
+    ensures refused { result.1 ≡ 2 → Keeps (W.contents output.writer) (W.contents result.0.writer) }
+    ensures cut_off { result.1 ≡ 3 → Keeps (W.contents output.writer) (W.contents result.0.writer)
+        ⊎ OfInput (R.remaining input) (λ plan.
+        HasBegunAsAsked (record { plan = plan; script = option_copied script.entry; hooks = rules_of registry.now })
+        settings.now parallelism (W.contents output.writer) (W.contents result.0.writer)) }
+    ensures quiet { result.1 ≤ 1 → Keeps (E.contents faults.old) (E.contents faults.new) }
+    ensures statuses { result.1 ≤ 3 }
+{
+    match parallelism {
+        Some(lanes) => run_in_lanes(
+            alloc, settings, lanes, registry, script, input, output, faults,
+        ),
+        None => run_command(rt, alloc, settings, registry, script, input, output, faults),
+    }
+}
+
+/// The bytes of the script's file, where the settings name one.
+fn script_of<F: Files>(
+    files: &F,
+    alloc: Global,
+    settings: &Settings,
+) -> Result<Option<Vec<u8>>, InputFault>
+    ensures { IfOk result (λ bytes. is_some bytes ≡ is_some settings.now.script) }
+{
+    match &settings.script {
+        Some(file) => match read_file(files, alloc, file.as_str()) {
+            Ok(bytes) => Ok(Some(bytes)),
+            Err(fault) => Err(fault),
+        },
+        None => Ok(None),
+    }
+}

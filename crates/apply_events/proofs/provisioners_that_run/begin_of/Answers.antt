@@ -1,0 +1,25 @@
+use Rattle.std.proofs.Common.{◌≡◌, Some, arith, length, slice_get, sym}
+use Rattle.apply_plan.specs.Script.Outcome.{ran}
+use Rattle.apply_events.proofs.MidSteps.{ends_in_time, ran_at, ran_few, since_more}
+use Rattle.apply_events.proofs.provisioners_that_run.begin_of.Goals as goal
+
+pub get-requires : goal.get-requires
+get-requires c =
+    let few = ran_few c.args.outcome.now.provisioners in let count = c.count_that_run.ensures in let least = c.min-earlier-end.ensures in let less = c.loop-earlier-test.true in (omega arith)
+
+pub overflow_add-seconds : goal.overflow_add-seconds
+overflow_add-seconds c =
+    let ps = c.args.outcome.now.provisioners in
+    let here = ran_at ps c.loop-earlier.earlier c.get.result.now (let count = c.count_that_run.ensures in let least = c.min-earlier-end.ensures in let less = c.loop-earlier-test.true in omega arith) c.get.ensures in
+    let ends = ends_in_time c.args.outcome.now.seconds (ran ps) c.loop-earlier.earlier c.get.result.now here in
+    let so_far = c.loop-earlier.invariant in
+    let short = c.requires in
+    (omega arith)
+
+pub loop-earlier-preserved : goal.loop-earlier-preserved
+loop-earlier-preserved c =
+    let ps = c.args.outcome.now.provisioners in
+    let here = ran_at ps c.loop-earlier.earlier c.get.result.now (let count = c.count_that_run.ensures in let least = c.min-earlier-end.ensures in let less = c.loop-earlier-test.true in omega arith) c.get.ensures in
+    let more = since_more c.args.outcome.now.seconds (ran ps) c.loop-earlier.earlier c.get.result.now here in
+    let so_far = c.loop-earlier.invariant in
+    (omega arith)

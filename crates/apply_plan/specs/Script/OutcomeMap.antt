@@ -1,0 +1,90 @@
+-- What a script says of the steps of a plan, or the first refusal (the script's own format).
+use Rattle.std.specs.Prelude.{ℕ, List, length, map, find, Bool, false, ◌==◌, codes, if◌then◌else◌, Option, Some, None, option_map, unwrap_or, IfSome, slice_get, Result, Ok, Err}
+use Rattle.std.specs.List.{enumerate_from, list_any, range_with_len}
+use Rattle.std.specs.Option.{option_map_or}
+use Rattle.serde_json.specs.Data.{Data, Items}
+use Rattle.serde_json.specs.Find.{as_array}
+use Rattle.apply_plan.specs.declared.script.outcome.Outcome.{Outcome}
+use Rattle.apply_plan.specs.declared.script.script_error.ScriptError.{ScriptError}
+use Rattle.apply_plan.specs.declared.script.script_error.ScriptError.TheVariants.{TooLarge, NotJson, BadShape, UnknownChange, Duplicate}
+use Rattle.apply_json.specs.Tree as json
+use Rattle.apply_json.specs.Tree.{list_of, member_of}
+use Rattle.apply_plan.specs.Bytes.{of_bytes}
+use Rattle.apply_plan.specs.Plan.ObjectName.{name_one_object}
+use Rattle.apply_plan.specs.Plan.ResourceChange.{ResourceChange}
+use Rattle.apply_plan.specs.Plan.SavedPlan.{SavedPlan}
+use Rattle.apply_plan.specs.Results.{◌>>=◌, all_or_first, each_with_earlier, or_refuse, unless_refused}
+use Rattle.apply_plan.specs.Script.Entry.{Entry, entry_of}
+use Rattle.apply_plan.specs.Script.Outcome.{IsBounded, default_outcome}
+use Rattle.apply_plan.specs.Script.Refusals.{fault_of_steps}
+
+-- for each change of a plan, by number, the outcomes of its first steps, or nothing
+abbrev pub OutcomeMap : Type 0
+OutcomeMap = List (Option (List Outcome))
+
+-- ---- looking up
+
+-- what stands at a number, where something stands there
+abbrev pub said_at : OutcomeMap → ℕ → Option (List Outcome)
+said_at script number = json.◌>>=◌ (slice_get script number) (λ said. said)
+
+-- what the script says of step k of change c
+abbrev pub given_outcome : OutcomeMap → (c k : ℕ) → Option Outcome
+given_outcome script c k = json.◌>>=◌ (said_at script c) (λ outcomes. slice_get outcomes k)
+
+-- the outcome of step k of change c, whatever the script says
+abbrev pub outcome_of : OutcomeMap → (c k : ℕ) → Outcome
+outcome_of script c k = unwrap_or (given_outcome script c k) default_outcome
+
+-- each step, with its provisioners, is within the limits
+abbrev pub IsInRange : OutcomeMap → Type 0
+IsInRange script = (c k : ℕ) → IfSome (given_outcome script c k) IsBounded
+
+-- ---- entries
+
+-- an entry is about the change with its address, and its deposed key or none
+abbrev pub is_about : ResourceChange → Entry → Bool
+is_about change entry = name_one_object change.address change.deposed entry.address entry.deposed
+
+-- the change that the entry is about, with its number
+abbrev pub change_of_entry : List ResourceChange → Entry → Option (ℕ × ResourceChange)
+change_of_entry changes entry = find (λ p. is_about p.1 entry) (enumerate_from 0 changes)
+
+-- an element is an entry about the change
+abbrev pub names_change : ResourceChange → Data → Bool
+names_change change d = option_map_or (is_about change) (entry_of d) false
+
+-- what an entry says: the number of its change, and the outcomes; or the first fault that holds of it
+unfoldable pub entry_at : List ResourceChange → List Data → Data → Result (ℕ × List Outcome) ScriptError
+entry_at changes before d = do
+  entry ← or_refuse (BadShape (Some (length before))) (entry_of d)
+  found ← or_refuse (UnknownChange (length before)) (change_of_entry changes entry)
+  if list_any (names_change found.1) before then Err (Duplicate (length before))
+      else unless_refused (fault_of_steps (length before) found.1.steps entry.steps) (found.0, entry.steps)
+
+-- what the entries say of a change
+abbrev pub said_of : List (ℕ × List Outcome) → ℕ → Option (List Outcome)
+said_of entries number = option_map (λ entry. entry.1) (find (λ entry. entry.0 == number) entries)
+
+-- what they say of each change
+abbrev pub by_number : ℕ → List (ℕ × List Outcome) → OutcomeMap
+by_number count entries = map (said_of entries) (range_with_len 0 count)
+
+-- ---- the script
+
+unfoldable pub script_of_entries : SavedPlan → List Data → Result OutcomeMap ScriptError
+script_of_entries plan elements = do
+  entries ← all_or_first (each_with_earlier (entry_at plan.changes) elements)
+  Ok (by_number (length plan.changes) entries)
+
+-- the elements of the array `changes`
+abbrev pub elements_of : Data → Option Items
+elements_of d = json.◌>>=◌ (member_of (codes "changes") d) as_array
+
+unfoldable pub script_of_tree : SavedPlan → Data → Result OutcomeMap ScriptError
+script_of_tree plan d =
+    or_refuse (BadShape None) (elements_of d) >>= λ elements. script_of_entries plan (list_of elements)
+
+-- the script that the bytes are, for the plan, or the first refusal
+unfoldable pub script_of : SavedPlan → List ℕ → Result OutcomeMap ScriptError
+script_of plan bytes = of_bytes TooLarge NotJson (script_of_tree plan) bytes

@@ -1,0 +1,127 @@
+-- Texts that are kept, and the pieces of a line.
+use Rattle.std.proofs.Common.{◌≡◌, ℕ, ◌+◌, ◌-◌, ◌/◌, ◌%◌, ◌<◌, List, [], ◌∷◌, ◌++◌, codes, length, take, Ok, OnOk, refl, sym, ap, ap₂, ◌∙◌, append_assoc, append-nil, length-append, arith}
+use Rattle.std.specs.Prelude.{Bool, true, false, Result, Err, if◌then◌else◌, is_ok, slice_index}
+use Rattle.std.specs.Option.{option_map_or}
+use Rattle.std.specs.Str.{IsUtf8}
+use Rattle.std.proofs.lemmas.Str.{IsUtf8-append}
+use Rattle.std.proofs.Math.Seq.{get_or-append_seam, take-append_seam}
+use Rattle.std.proofs.lemmas.Grind.{common_steps, flat_map-append}
+use Rattle.std.proofs.lemmas.Result.{on_ok_weaker}
+use Rattle.json.specs.Token.{Token}
+use Rattle.json.specs.Print.{escape, escape_byte, print, print_from, quoted}
+use Rattle.json.proofs.OnLiterals.{json_on_literals}
+use Rattle.serde_json.specs.Data.{Data}
+use Rattle.serde_json.specs.Written.{compact_text}
+use Rattle.serde_json.proofs.Texts.{print-outline}
+use Rattle.apply_plan.specs.declared.plan.key.Key.{Key}
+use Rattle.apply_plan.specs.declared.plan.step_kind.StepKind.{StepKind}
+use Rattle.apply_plan.specs.Plan.ResourceChange.{ResourceChange}
+use Rattle.apply_text.specs.Calendar.{date_of_day}
+use Rattle.apply_text.specs.CachedParts.{back_text, front_text, open_date, open_text, rest_of_day, shown}
+use Rattle.apply_text.specs.Moment.{date_text, moment_text, time_text, two_digits}
+use Rattle.apply_text.specs.Objects.{resource_object}
+use Rattle.apply_text.specs.Sending.{member_tokens}
+use Rattle.apply_text.specs.Words.{still_word}
+
+-- a piece, and then others
+pub then_piece : {E : Type 0} (r : Result (Unit {0}) E) (old mid new first rest : List ℕ) → mid ≡ old ++ first → OnOk r (new ≡ mid ++ rest) → OnOk r (new ≡ old ++ (first ++ rest))
+then_piece r old mid new first rest grown h = on_ok_weaker r (λ e. e ∙ ap (λ s. s ++ rest) grown ∙ append_assoc old first rest) h
+
+-- ---- texts without their closing quote
+
+size : (s text : List ℕ) (n : ℕ) → s ≡ text ++ 34 ∷ [] → n ≡ length s → n ≡ length text + 1
+size s text n is len = len ∙ ap length is ∙ length-append text (34 ∷ [])
+
+pub not_empty : (s text : List ℕ) (n : ℕ) → s ≡ text ++ 34 ∷ [] → n ≡ length s → 0 < n
+not_empty s text n is len = omega (arith, size s text n is len)
+
+pub cut : (s text : List ℕ) (n : ℕ) → s ≡ text ++ 34 ∷ [] → n ≡ length s → take (n - 1) s ≡ text
+cut s text n is len =
+    let at : n - 1 ≡ length text = omega (arith, size s text n is len) in
+    ap (λ k. take k s) at ∙ ap (λ t. take (length text) t) is ∙ take-append_seam text (34 ∷ [])
+
+pub at_quote : (s text : List ℕ) (n : ℕ) → s ≡ text ++ 34 ∷ [] → n ≡ length s → slice_index s (n - 1) ≡ 34
+at_quote s text n is len =
+    let at : n - 1 ≡ length text = omega (arith, size s text n is len) in
+    ap (λ k. slice_index s k) at ∙ ap (λ t. slice_index t (length text)) is ∙ get_or-append_seam text 34 [] 0
+
+-- ---- what a writer of nothing else wrote
+
+pub printed_text : (items before : List ℕ) (start tokens : List Token) (text : List ℕ) → before ≡ [] → start ≡ [] → tokens ≡ start ++ Token.string text ∷ [] → items ≡ before ++ print tokens → items ≡ open_text text ++ 34 ∷ []
+unfolding print_from
+printed_text items before start tokens text none begun grown is =
+    is ∙ ap (λ b. b ++ print tokens) none ∙ ap print grown ∙ ap (λ s. print (s ++ Token.string text ∷ [])) begun ∙ append-nil (quoted text)
+
+pub printed_member : (items before : List ℕ) (start tokens : List Token) (name : List ℕ) (d : Data) → before ≡ [] → start ≡ [] → tokens ≡ start ++ member_tokens name d → items ≡ before ++ print tokens → items ≡ quoted name ++ 58 ∷ compact_text d
+unfolding print_from
+printed_member items before start tokens name d none begun grown is =
+    is ∙ ap (λ b. b ++ print tokens) none ∙ ap print grown ∙ ap (λ s. print (s ++ member_tokens name d)) begun
+    ∙ append_assoc (quoted name) (58 ∷ []) _ ∙ ap (λ t. quoted name ++ 58 ∷ t) (print-outline d)
+
+-- ---- the two ends of a line
+
+pub front_is : (front opened slice text slice₂ word address new : List ℕ) (step : StepKind) → front ≡ codes "{\"@level\":\"info\",\"@message\":" → slice₂ ≡ opened → opened ≡ open_text slice → slice ≡ text → text ≡ address ++ (codes ": Still " ++ (word ++ codes "... [")) → word ≡ still_word step → new ≡ front ++ slice₂ → new ≡ front_text address step
+unfolding front_text
+front_is front opened slice text slice₂ word address new step fronts slices opens texts are words grown =
+    let same : slice₂ ≡ open_text (address ++ (codes ": Still " ++ (still_word step ++ codes "... ["))) = slices ∙ opens ∙ ap open_text (texts ∙ are ∙ ap (λ w. address ++ (codes ": Still " ++ (w ++ codes "... ["))) words) in
+    grown ∙ ap (λ f. f ++ slice₂) fronts ∙ ap (λ s. codes "{\"@level\":\"info\",\"@message\":" ++ s) same
+
+pub back_is : (back new : List ℕ) (change : ResourceChange) → back ≡ quoted (codes "resource") ++ 58 ∷ compact_text (resource_object change) → new ≡ back ++ codes "},\"type\":\"apply_progress\"}\n" → new ≡ back_text change
+unfolding back_text json_on_literals
+back_is back new change is grown = grown ∙ ap (λ b. b ++ codes "},\"type\":\"apply_progress\"}\n") is
+
+-- what is kept of a change is what is shown of it
+pub back_shown : (change : ResourceChange) (address module_address kind_name name : List ℕ) (key : Key) → address ≡ change.address → module_address ≡ change.module_address → kind_name ≡ change.kind_name → name ≡ change.name → key ≡ change.key → back_text change ≡ back_text (shown address module_address kind_name name key)
+unfolding back_text resource_object
+back_shown change address module_address kind_name name key addresses modules kinds names keys = rw (addresses, modules, kinds, names, keys) refl
+
+-- ---- moments
+
+joined : (xs ys : List ℕ) → escape (xs ++ ys) ≡ escape xs ++ escape ys
+joined xs ys = flat_map-append escape_byte xs ys
+
+figure : (d : ℕ) → d < 10 → escape_byte (48 + d) ≡ (48 + d) ∷ []
+unfolding escape_byte
+figure d few = grind (arith, common_steps)
+
+figures : (a b : ℕ) → a < 10 → b < 10 → escape_byte (48 + a) ++ (escape_byte (48 + b) ++ []) ≡ (48 + a) ∷ (48 + b) ∷ []
+figures a b few₁ few₂ = rw (figure a few₁, figure b few₂) refl
+
+in_two : (n : ℕ) → n < 100 → escape (two_digits n) ≡ two_digits n
+in_two n few = figures (n / 10) (n % 10) (omega (arith, few)) (omega arith)
+
+in_time : (second : ℕ) → second < 86400
+    → escape (codes "T" ++ (two_digits (second / 3600) ++ (codes ":" ++ (two_digits (second / 60 % 60) ++ (codes ":" ++ (two_digits (second % 60) ++ codes "Z"))))))
+    ≡ codes "T" ++ (two_digits (second / 3600) ++ (codes ":" ++ (two_digits (second / 60 % 60) ++ (codes ":" ++ (two_digits (second % 60) ++ codes "Z")))))
+unfolding json_on_literals
+in_time second few =
+    let d₁ = two_digits (second / 3600) in
+    let d₂ = two_digits (second / 60 % 60) in
+    let d₃ = two_digits (second % 60) in
+    ap (λ t. 84 ∷ t)
+    (joined d₁ (codes ":" ++ (d₂ ++ (codes ":" ++ (d₃ ++ codes "Z")))) ∙ ap₂ (λ x y. x ++ y) (in_two (second / 3600) (omega (arith, few)))
+    (ap (λ t. 58 ∷ t)
+    (joined d₂ (codes ":" ++ (d₃ ++ codes "Z")) ∙ ap₂ (λ x y. x ++ y) (in_two (second / 60 % 60) (omega arith))
+    (ap (λ t. 58 ∷ t)
+    (joined d₃ (codes "Z") ∙ ap (λ x. x ++ codes "Z") (in_two (second % 60) (omega arith)))))))
+
+pub moment_is : (seconds : ℕ) → open_date (seconds / 86400) ++ rest_of_day (seconds % 86400) ≡ quoted (moment_text seconds)
+unfolding open_date moment_text
+moment_is seconds =
+    let second = seconds % 86400 in
+    let date = option_map_or date_text (date_of_day (seconds / 86400)) [] in
+    let time = codes "T" ++ (two_digits (second / 3600) ++ (codes ":" ++ (two_digits (second / 60 % 60) ++ (codes ":" ++ (two_digits (second % 60) ++ codes "Z"))))) in
+    sym (ap quoted (append_assoc (date ++ codes "T") (time_text second) (codes "Z") ∙ append_assoc date (codes "T") (time_text second ++ codes "Z"))
+    ∙ ap (λ t. 34 ∷ (t ++ 34 ∷ [])) (joined date time ∙ ap (λ r. escape date ++ r) (in_time second (omega arith))) ∙ ap (λ t. 34 ∷ t) (append_assoc (escape date) time (34 ∷ [])))
+
+-- what `push_str` says of the bytes
+pub appended : {E : Type 0} (r : Result (Unit {0}) E) (old new piece : List ℕ) → new ≡ (if is_ok r then old ++ piece else old) → OnOk r (new ≡ old ++ piece)
+appended (Ok u) old new piece e = e
+appended (Err u) old new piece e = tt
+
+-- ---- lines
+
+-- bytes that may have grown by a text
+pub grown_utf8 : (grows : Bool) (bytes text : List ℕ) → IsUtf8 bytes → IsUtf8 text → IsUtf8 (if grows then bytes ++ text else bytes)
+grown_utf8 true bytes text before more = IsUtf8-append bytes text before more
+grown_utf8 false bytes text before more = before
