@@ -8,7 +8,7 @@ use crate::taken::Taken;
 use crate::tx::Tx;
 use std::marker::Model;
 
-/// What was taken from a bus, and what each of its senders has sent. Contracts alone see it.
+/// What was taken from a bus that was given up: of each sender a front of the list that it sent. Contracts alone see it.
 #[derive(Drop)]
 pub struct Salvaged {
     taken: Taken,

@@ -9,7 +9,8 @@ use crate::rx::Rx;
 use crate::taken::Taken;
 use std::marker::Model;
 
-/// What was taken from a bus, and what each of its senders has sent. Contracts alone see it.
+/// What was taken from a bus whose senders have all closed: of each sender the whole list that it sent. Contracts alone
+/// see it.
 #[derive(Drop)]
 pub struct Settled {
     taken: Taken,
