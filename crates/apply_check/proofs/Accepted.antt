@@ -12,7 +12,8 @@ use Rattle.apply_check.specs.Lines.{at_line, end_of, is_plan_stream, line_messag
 use Rattle.apply_check.specs.Message.{Message}
 use Rattle.apply_check.specs.Open.{any_open}
 use Rattle.apply_check.specs.Tally.{completed_totals, is_error, is_summary, planned_totals}
-use Rattle.apply_check.proofs.Balance.{Fit, all_sum_up, ends_as_started, in_order}
+use Rattle.apply_check.proofs.Balance.{Fit, ends_as_started, in_order}
+use Rattle.apply_check.proofs.Summaries.{all_sum_up}
 use Rattle.apply_check.proofs.OpenSteps.{all_closed}
 use Rattle.apply_check.proofs.WholeStream.{bind_ok, one_next}
 

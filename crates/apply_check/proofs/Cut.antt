@@ -7,7 +7,7 @@ use Rattle.std.proofs.BufReadLemmas.{drop_through-append}
 use Rattle.std.proofs.KnownBytes.{Consumes-nil}
 use Rattle.std.proofs.lemmas.Bool.{cases_Bool}
 use Rattle.std.proofs.lemmas.List.Elements.{All-append, All-head, All-nil, All-tail}
-use Rattle.apply_check.specs.Cut.{first_line, cut_lines, onto_first}
+use Rattle.apply_check.specs.Cut.{first_line, has_feed, cut_lines, onto_first}
 use Rattle.apply_check.specs.Limits.{max_bytes}
 use Rattle.apply_check.specs.Reading.{Gives}
 use Rattle.apply_check.specs.declared.lines.line_end.LineEnd.TheVariants as next
@@ -38,6 +38,13 @@ first_line-append (x ∷ xs) ys h =
     ap (λ b. cond b [] (x ∷ first_line (xs ++ ys))) (ne_eqb x 10 (All-head (λ y. y ≢ 10) x xs h))
     ∙ ap (λ (l : List ℕ). x ∷ l) (first_line-append xs ys (All-tail (λ y. y ≢ 10) x xs h))
 
+-- the first line feed behind such a front
+feed-append : (xs ys : List ℕ) → All (λ byte. byte ≢ 10) xs → has_feed (xs ++ ys) ≡ has_feed ys
+feed-append [] ys h = refl
+feed-append (x ∷ xs) ys h =
+    ap (λ b. cond b true (has_feed (xs ++ ys))) (ne_eqb x 10 (All-head (λ y. y ≢ 10) x xs h))
+    ∙ feed-append xs ys (All-tail (λ y. y ≢ 10) x xs h)
+
 not_nothing : (xs ys : List ℕ) → 0 < length xs → (xs ++ ys) ≢ []
 not_nothing [] ys some = omega arith
 not_nothing (x ∷ xs) ys some = λ e. cc
@@ -51,6 +58,7 @@ line_given (Some xs) (Some ys) line free h =
       λ e. not_nothing (line ++ 10 ∷ []) ys (omega (arith, length-append line (10 ∷ []))) (sym h ∙ e),
       sym (ap first_line is ∙ first_line-append line (10 ∷ ys) free ∙ append-nil line),
       ap Some (sym (ap (drop_through 10) is ∙ drop_through-append 10 line (10 ∷ ys) free)),
+      sym (ap has_feed is ∙ feed-append line (10 ∷ ys) free),
     )
 
 -- no byte is left
@@ -68,6 +76,7 @@ rest_given (Some xs) (Some ys) line free h end some =
       λ e. not_nothing line ys some (sym h ∙ e),
       sym (ap first_line is ∙ first_line-append line [] free ∙ append-nil line),
       ap Some (end ∙ sym (ap (drop_through 10) is ∙ drop_through-append 10 line [] free)),
+      sym (ap has_feed is ∙ feed-append line [] free),
     )
 
 -- no part at all

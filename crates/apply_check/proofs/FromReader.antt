@@ -1,6 +1,6 @@
 -- A stream that is read line by line.
 use Rattle.std.proofs.Common.{◌≡◌, ◌≢◌, ◌<◌, ◌^◌, ℕ, suc, ◌+◌, ◌-◌, true, false, cond, List, [], ◌∷◌, length, Bool, Option, Some, None, Result, Ok, Err, refl, sym, ap, ◌∙◌, subst, arith}
-use Rattle.std.specs.Prelude.{◌&&◌, ◌||◌, IfErr, IfSome, OnSome, option_map}
+use Rattle.std.specs.Prelude.{◌&&◌, ◌||◌, not, IfErr, IfSome, OnSome, option_map}
 use Rattle.std.specs.List.{list_any}
 use Rattle.std.specs.Io.KnownBytes.{IsAtEnd}
 use Rattle.std.specs.Io.BufRead.{drop_through}
@@ -17,8 +17,8 @@ use Rattle.apply_check.specs.declared.rules.checker.Checker.{Checker}
 use Rattle.apply_check.specs.declared.command.told.Told.{Told}
 use Rattle.apply_check.specs.About.{about_line, object_view}
 use Rattle.apply_check.specs.Checking.{HasRead}
-use Rattle.apply_check.specs.Cut.{behind_lines, first_line, cut_lines, line_at}
-use Rattle.apply_check.specs.Faults.{tells_front, tells_line, tells_object}
+use Rattle.apply_check.specs.Cut.{behind_lines, first_line, has_feed, cut_lines, feed_at, line_at}
+use Rattle.apply_check.specs.Faults.{is_no_json, tells_front, tells_line, tells_object}
 use Rattle.apply_check.specs.Judged.{judged, judged_behind, Stops, StopsAt}
 use Rattle.apply_check.specs.Lines.{at_line, end_of, is_plan_stream, passed_of, read_line, verdict_behind, verdict_of, whole_of, whole_plan_of}
 use Rattle.apply_check.specs.Open.{any_open}
@@ -177,63 +177,70 @@ says_nothing mode (Some bytes) r none = refused mode (cut_lines bytes) r none
 
 -- ---- where the judgement stopped
 
-not_then : (b : Bool) (line other : List ℕ) → b ≡ false → b ≡ true → line ≡ other
-not_then b line other never yet = absurd cc
+not_then : {T : Type 0} (b : Bool) (here there : T) → b ≡ false → b ≡ true → here ≡ there
+not_then b here there never yet = absurd cc
 
 -- the text of the line of that number
 here_is : (messages : List Message) (bytes rest line : List ℕ) → rest ≡ behind_lines (length messages) bytes → line ≡ first_line rest → line ≡ line_at (length messages + 1) bytes
 here_is messages bytes rest line place is =
     is ∙ ap first_line place ∙ ap (λ (n : ℕ). first_line (behind_lines n bytes)) (let e : length messages ≡ length messages + 1 - 1 = omega arith in e)
 
--- at a finding of that fault
-stops_found : (mode : Mode) (bytes : List ℕ) (earlier : List Message) (checker : Checker) (line : List ℕ) (number : ℕ) (fault : Fault) (finding : Finding) → finding ≡ record { line = number; fault = fault; passed = passed_of mode earlier }
-    → HasRead checker (judged mode (cut_lines bytes)) → (tells_line fault ≡ true → line ≡ line_at number bytes) → StopsAt mode bytes finding checker line
-stops_found mode bytes earlier checker line number fault finding is read told =
-    subst (λ (f : Finding). StopsAt mode bytes f checker line) (sym is) (record { has_read = read; is_line = told })
+-- and whether a line feed ends it
+feed_is : (messages : List Message) (bytes rest : List ℕ) (feed : Bool) → rest ≡ behind_lines (length messages) bytes → feed ≡ has_feed rest → feed ≡ feed_at (length messages + 1) bytes
+feed_is messages bytes rest feed place is =
+    is ∙ ap has_feed place ∙ ap (λ (n : ℕ). has_feed (behind_lines n bytes)) (let e : length messages ≡ length messages + 1 - 1 = omega arith in e)
 
-stops_at : (mode : Mode) (bytes : List ℕ) (earlier : List Message) (checker : Checker) (line : List ℕ) (number : ℕ) (fault : Fault) (r : ReadFault) → IsFaultAt mode earlier number fault r
-    → (fault ≢ Memory → HasRead checker (judged mode (cut_lines bytes))) → (tells_line fault ≡ true → line ≡ line_at number bytes) → Stops mode (Some bytes) checker line (Err r)
-stops_at mode bytes earlier checker line number fault (read.Found finding) is read told = stops_found mode bytes earlier checker line number fault finding is.1 (read is.0) told
-stops_at mode bytes earlier checker line number fault read.Memory is read told = tt
-stops_at mode bytes earlier checker line number fault read.TooMany is read told = tt
-stops_at mode bytes earlier checker line number fault (read.Unread n) is read told = tt
+-- at a finding of that fault
+stops_found : (mode : Mode) (bytes : List ℕ) (earlier : List Message) (checker : Checker) (line : List ℕ) (feed : Bool) (number : ℕ) (fault : Fault) (finding : Finding) → finding ≡ record { line = number; fault = fault; passed = passed_of mode earlier }
+    → HasRead checker (judged mode (cut_lines bytes)) → (tells_line fault ≡ true → line ≡ line_at number bytes) → (tells_line fault ≡ true → feed ≡ feed_at number bytes) → StopsAt mode bytes finding checker line feed
+stops_found mode bytes earlier checker line feed number fault finding is read told ends =
+    subst (λ (f : Finding). StopsAt mode bytes f checker line feed) (sym is) (record { has_read = read; is_line = told; is_feed = ends })
+
+stops_at : (mode : Mode) (bytes : List ℕ) (earlier : List Message) (checker : Checker) (line : List ℕ) (feed : Bool) (number : ℕ) (fault : Fault) (r : ReadFault) → IsFaultAt mode earlier number fault r
+    → (fault ≢ Memory → HasRead checker (judged mode (cut_lines bytes))) → (tells_line fault ≡ true → line ≡ line_at number bytes) → (tells_line fault ≡ true → feed ≡ feed_at number bytes) → Stops mode (Some bytes) checker line feed (Err r)
+stops_at mode bytes earlier checker line feed number fault (read.Found finding) is read told ends = stops_found mode bytes earlier checker line feed number fault finding is.1 (read is.0) told ends
+stops_at mode bytes earlier checker line feed number fault read.Memory is read told ends = tt
+stops_at mode bytes earlier checker line feed number fault read.TooMany is read told ends = tt
+stops_at mode bytes earlier checker line feed number fault (read.Unread n) is read told ends = tt
 
 -- nothing is known of the bytes
-stops_unseen : (mode : Mode) (checker : Checker) (line : List ℕ) (r : ReadFault) → Stops mode None checker line (Err r)
-stops_unseen mode checker line (read.Found finding) = tt
-stops_unseen mode checker line read.Memory = tt
-stops_unseen mode checker line read.TooMany = tt
-stops_unseen mode checker line (read.Unread n) = tt
+stops_unseen : (mode : Mode) (checker : Checker) (line : List ℕ) (feed : Bool) (r : ReadFault) → Stops mode None checker line feed (Err r)
+stops_unseen mode checker line feed (read.Found finding) = tt
+stops_unseen mode checker line feed read.Memory = tt
+stops_unseen mode checker line feed read.TooMany = tt
+stops_unseen mode checker line feed (read.Unread n) = tt
 
-pub stops_nowhere : (mode : Mode) (o : Option (List ℕ)) (checker : Checker) (line : List ℕ) (r : ReadFault) → IsNoAnswer r → Stops mode o checker line (Err r)
-stops_nowhere mode o checker line (read.Found finding) none = absurd none
-stops_nowhere mode o checker line read.Memory none = tt
-stops_nowhere mode o checker line read.TooMany none = tt
-stops_nowhere mode o checker line (read.Unread n) none = tt
+pub stops_nowhere : (mode : Mode) (o : Option (List ℕ)) (checker : Checker) (line : List ℕ) (feed : Bool) (r : ReadFault) → IsNoAnswer r → Stops mode o checker line feed (Err r)
+stops_nowhere mode o checker line feed (read.Found finding) none = absurd none
+stops_nowhere mode o checker line feed read.Memory none = tt
+stops_nowhere mode o checker line feed read.TooMany none = tt
+stops_nowhere mode o checker line feed (read.Unread n) none = tt
 
 -- at a faulty line
 pub stops_wrong : (mode : Mode) (all left rest : Option (List ℕ)) (messages : List Message) (checker : Checker) (line : List ℕ) (feed : Bool) (fault : Fault) (r : ReadFault) → Leads mode all left messages → IfSome left (Gives (next.Line feed) line rest)
-    → (fault ≢ Memory → read_line mode.find messages line ≡ Err fault) → HasRead checker messages → IsFaultAt mode messages (length messages + 1) fault r → Stops mode all checker line (Err r)
-stops_wrong mode None left rest messages checker line feed fault r h gives e read is = stops_unseen mode checker line r
+    → (fault ≢ Memory → read_line mode.find messages line ≡ Err fault) → HasRead checker messages → IsFaultAt mode messages (length messages + 1) fault r → Stops mode all checker line feed (Err r)
+stops_wrong mode None left rest messages checker line feed fault r h gives e read is = stops_unseen mode checker line feed r
 stops_wrong mode (Some bytes) left rest messages checker line feed fault r h gives e read is =
     let k = given left rest (next.Line feed) line h.0 h.1 gives in
     let at = ahead mode messages bytes h.0 k.0 h.2 in
-    stops_at mode bytes messages checker line (length messages + 1) fault r is
+    stops_at mode bytes messages checker line feed (length messages + 1) fault r is
     (λ memory. subst (λ (ms : List Message). HasRead checker ms)
     (judged_here mode messages line (cut_lines (drop_through 10 h.0)) fault (judged mode (cut_lines bytes)) (e memory) (ap (λ (l : List ℕ). judged_behind mode messages (l ∷ cut_lines (drop_through 10 h.0))) k.1 ∙ at.reached)) read)
     (λ tells. here_is messages bytes h.0 line h.2.place k.1)
+    (λ tells. feed_is messages bytes h.0 feed h.2.place k.3)
 
 -- at a line that is too long
-pub stops_too_long : (mode : Mode) (all left rest : Option (List ℕ)) (messages : List Message) (checker : Checker) (line : List ℕ) (r : ReadFault) → Leads mode all left messages → IfSome left (Gives next.TooLong line rest)
-    → HasRead checker messages → IsFaultAt mode messages (length messages + 1) TooLong r → Stops mode all checker line (Err r)
-stops_too_long mode None left rest messages checker line r h gives read is = stops_unseen mode checker line r
-stops_too_long mode (Some bytes) left rest messages checker line r h gives read is =
+pub stops_too_long : (mode : Mode) (all left rest : Option (List ℕ)) (messages : List Message) (checker : Checker) (line : List ℕ) (feed : Bool) (r : ReadFault) → Leads mode all left messages → IfSome left (Gives next.TooLong line rest)
+    → HasRead checker messages → IsFaultAt mode messages (length messages + 1) TooLong r → Stops mode all checker line feed (Err r)
+stops_too_long mode None left rest messages checker line feed r h gives read is = stops_unseen mode checker line feed r
+stops_too_long mode (Some bytes) left rest messages checker line feed r h gives read is =
     let k = given left rest next.TooLong line h.0 h.1 gives in
     let at = ahead mode messages bytes h.0 k.0 h.2 in
-    stops_at mode bytes messages checker line (length messages + 1) TooLong r is
+    stops_at mode bytes messages checker line feed (length messages + 1) TooLong r is
     (λ memory. subst (λ (ms : List Message). HasRead checker ms)
     (judged_here mode messages (first_line h.0) (cut_lines (drop_through 10 h.0)) TooLong (judged mode (cut_lines bytes)) (too_long mode.find (first_line h.0) messages k.1) at.reached) read)
     (not_then (tells_line TooLong) line (line_at (length messages + 1) bytes) refl)
+    (not_then (tells_line TooLong) feed (feed_at (length messages + 1) bytes) refl)
 
 abbrev no_such : Fault → Result Whole Fault
 no_such fault = Err fault
@@ -263,22 +270,23 @@ end_tells_none mode messages fault e = by_open (any_open messages) e
     by_open false e = by_plan (mode.plan && is_plan_stream messages) e
 
 -- at the end
-pub stops_out : (mode : Mode) (all left rest : Option (List ℕ)) (messages : List Message) (checker : Checker) (line : List ℕ) (fault : Fault) (r : ReadFault) → Leads mode all left messages → IfSome left (Gives next.End line rest)
-    → HasRead checker messages → end_of mode messages ≡ Err fault → IsFaultAt mode messages (length messages) fault r → Stops mode all checker line (Err r)
-stops_out mode None left rest messages checker line fault r h gives read e is = stops_unseen mode checker line r
-stops_out mode (Some bytes) left rest messages checker line fault r h gives read e is =
+pub stops_out : (mode : Mode) (all left rest : Option (List ℕ)) (messages : List Message) (checker : Checker) (line : List ℕ) (feed : Bool) (fault : Fault) (r : ReadFault) → Leads mode all left messages → IfSome left (Gives next.End line rest)
+    → HasRead checker messages → end_of mode messages ≡ Err fault → IsFaultAt mode messages (length messages) fault r → Stops mode all checker line feed (Err r)
+stops_out mode None left rest messages checker line feed fault r h gives read e is = stops_unseen mode checker line feed r
+stops_out mode (Some bytes) left rest messages checker line feed fault r h gives read e is =
     let none = (given left rest next.End line h.0 h.1 gives).0 in
-    stops_at mode bytes messages checker line (length messages) fault r is
+    stops_at mode bytes messages checker line feed (length messages) fault r is
     (λ memory. subst (λ (ms : List Message). HasRead checker ms)
     (judged_all mode messages (judged mode (cut_lines bytes)) (ap (λ (xs : List ℕ). judged_behind mode messages (cut_lines xs)) (sym none) ∙ h.2.reached)) read)
     (not_then (tells_line fault) line (line_at (length messages) bytes) (end_tells_none mode messages fault e))
+    (not_then (tells_line fault) feed (feed_at (length messages) bytes) (end_tells_none mode messages fault e))
 
-pub stops_ended : (mode : Mode) (all left rest : Option (List ℕ)) (messages : List Message) (checker : Checker) (line : List ℕ) (r : Result Whole ReadFault) → Leads mode all left messages → IfSome left (Gives next.End line rest)
-    → HasRead checker messages → IfErr r (λ answer. (ms : List Message) → HasRead checker ms → (fault : Fault) × (end_of mode ms ≡ Err fault) × IsFaultAt mode ms (length ms) fault answer) → Stops mode all checker line r
-stops_ended mode all left rest messages checker line (Ok whole) h gives read why = tt
-stops_ended mode all left rest messages checker line (Err answer) h gives read why =
+pub stops_ended : (mode : Mode) (all left rest : Option (List ℕ)) (messages : List Message) (checker : Checker) (line : List ℕ) (feed : Bool) (r : Result Whole ReadFault) → Leads mode all left messages → IfSome left (Gives next.End line rest)
+    → HasRead checker messages → IfErr r (λ answer. (ms : List Message) → HasRead checker ms → (fault : Fault) × (end_of mode ms ≡ Err fault) × IsFaultAt mode ms (length ms) fault answer) → Stops mode all checker line feed r
+stops_ended mode all left rest messages checker line feed (Ok whole) h gives read why = tt
+stops_ended mode all left rest messages checker line feed (Err answer) h gives read why =
     let w = why messages read in
-    stops_out mode all left rest messages checker line w.0 answer h gives read w.1 w.2
+    stops_out mode all left rest messages checker line feed w.0 answer h gives read w.1 w.2
 
 -- ---- what is told of it
 
@@ -292,16 +300,24 @@ object_is_line fault e = or_true (tells_front fault) (tells_object fault) e
     or_true true b is = refl
     or_true false b is = is
 
+-- whether the line is cut off, as is told
+cut_same : (a b : Fault) (here there is : Bool) → a ≡ b → is ≡ (is_no_json b && not here) → here ≡ there → is ≡ (is_no_json a && not there)
+cut_same a b here there is same so feeds = so ∙ ap (λ (f : Fault). is_no_json f && not here) (sym same) ∙ ap (λ (feed : Bool). is_no_json a && not feed) feeds
+
 about_same : (find b : Bool) (line there : List ℕ) → (b ≡ true → line ≡ there) → cond b (about_line find line) None ≡ cond b (about_line find there) None
 about_same find true line there same = ap (about_line find) (same refl)
 about_same find false line there same = refl
 
-pub told_there : (mode : Mode) (bytes : List ℕ) (finding : Finding) (checker : Checker) (line : List ℕ) (told : Told) → told.finding ≡ finding → told.text.now ≡ line
+pub told_there : (mode : Mode) (bytes : List ℕ) (finding : Finding) (checker : Checker) (line : List ℕ) (feed : Bool) (told : Told) → told.finding ≡ finding → told.text.now ≡ line
+    → told.is_cut_off ≡ (is_no_json finding.fault && not feed)
     → option_map object_view told.object ≡ cond (tells_object finding.fault) (about_line mode.find line) None
     → (finding.fault ≡ Unended → (messages : List Message) → HasRead checker messages → AreAllOpen messages told.«open».now)
-    → StopsAt mode bytes finding checker line → IsToldOf mode bytes told
-told_there mode bytes finding checker line told same text about open_there stops = record {
-  text = λ front. text ∙ stops.is_line (front_is_line finding.fault (sym (ap (λ (f : Finding). tells_front f.fault) same) ∙ front)) ∙ number;
+    → StopsAt mode bytes finding checker line feed → IsToldOf mode bytes told
+told_there mode bytes finding checker line feed told same text cut about open_there stops = record {
+  text = λ front. text ∙ stops.is_line (shown front) ∙ number;
+  cut_off = λ front.
+      cut_same told.finding.fault finding.fault feed (feed_at told.finding.line bytes) told.is_cut_off (ap (λ (f : Finding). f.fault) same) cut
+      (stops.is_feed (shown front) ∙ sym (ap (λ (f : Finding). feed_at f.line bytes) same));
   object = about
       ∙ about_same mode.find (tells_object finding.fault) line (line_at finding.line bytes) (λ tells. stops.is_line (object_is_line finding.fault tells))
       ∙ sym (ap (λ (f : Finding). cond (tells_object f.fault) (about_line mode.find (line_at f.line bytes)) None) same);
@@ -311,9 +327,13 @@ told_there mode bytes finding checker line told same text about open_there stops
     number : line_at finding.line bytes ≡ line_at told.finding.line bytes
     number = sym (ap (λ (f : Finding). line_at f.line bytes) same)
 
-pub told_if : (mode : Mode) (seen : Option (List ℕ)) (finding : Finding) (checker : Checker) (line : List ℕ) (told : Told) → told.finding ≡ finding → told.text.now ≡ line
+    shown : tells_front told.finding.fault ≡ true → tells_line finding.fault ≡ true
+    shown front = front_is_line finding.fault (sym (ap (λ (f : Finding). tells_front f.fault) same) ∙ front)
+
+pub told_if : (mode : Mode) (seen : Option (List ℕ)) (finding : Finding) (checker : Checker) (line : List ℕ) (feed : Bool) (told : Told) → told.finding ≡ finding → told.text.now ≡ line
+    → told.is_cut_off ≡ (is_no_json finding.fault && not feed)
     → option_map object_view told.object ≡ cond (tells_object finding.fault) (about_line mode.find line) None
     → (finding.fault ≡ Unended → (messages : List Message) → HasRead checker messages → AreAllOpen messages told.«open».now)
-    → IfSome seen (λ bytes. StopsAt mode bytes finding checker line) → IfSome seen (λ bytes. IsToldOf mode bytes told)
-told_if mode None finding checker line told same text about open_there stops = tt
-told_if mode (Some bytes) finding checker line told same text about open_there stops = told_there mode bytes finding checker line told same text about open_there stops
+    → IfSome seen (λ bytes. StopsAt mode bytes finding checker line feed) → IfSome seen (λ bytes. IsToldOf mode bytes told)
+told_if mode None finding checker line feed told same text cut about open_there stops = tt
+told_if mode (Some bytes) finding checker line feed told same text cut about open_there stops = told_there mode bytes finding checker line feed told same text cut about open_there stops

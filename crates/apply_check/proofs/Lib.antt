@@ -1,4 +1,5 @@
 pub mod Accepted
+pub mod Actions
 pub mod Balance
 pub mod Continuing
 pub mod Counting
@@ -13,6 +14,7 @@ pub mod Marks
 pub mod OneLine
 pub mod OpenSteps
 pub mod Parsed
+pub mod Summaries
 pub mod Summing
 pub mod Trimmed
 pub mod WholeStream

@@ -95,19 +95,24 @@ WereRefused words usage.Memory = ⊤
 
 -- ---- what is done
 
--- the bytes of the input, where no file is named; of a file no byte is known
-abbrev pub unless_named : {A : Type 0} → Option A → Option (List ℕ) → Option (List ℕ)
-unless_named None input = input
-unless_named (Some name) input = None
+-- what a reader has to give: the input where no file is named, and else a file that was opened, never the input
+abbrev pub IsGivenBy : {A File : Type 0} → (remaining : File → Option (List ℕ)) → (input : Option (List ℕ)) → (name : Option A)
+    → (given : Option (List ℕ)) → Type 0
+IsGivenBy remaining input None given = given ≡ input
+IsGivenBy {File = File} remaining input (Some name) given = (file : File) × (given ≡ remaining file)
 
--- a stream was checked as the words say, the one of the input where they name no file, and the answer is told
-pub record WasChecked (words : List Text) (input before after : Option (List ℕ)) (followed : Followed) : Type 0 where
+-- a stream was checked as the words say, and the answer is told: the stream of the input where they name no file, else
+-- that of a file; what such a file has to give, `remaining` says
+pub record WasChecked {File : Type 0} (remaining : File → Option (List ℕ)) (words : List Text)
+    (input before after : Option (List ℕ)) (followed : Followed) : Type 0 where
   pub settings : Settings
   pub said : HaveSaid words settings
   pub answer : Result Whole ReadFault
   pub answered : followed.answer ≡ Some answer
-  pub of_input : IfSome (unless_named settings.file input) (λ bytes. IsAnswer settings.mode (cut_lines bytes) answer)
-  pub told : IsTold settings.mode (unless_named settings.file input) settings.form answer followed.status before after
+  pub bytes : Option (List ℕ)
+  pub given : IsGivenBy remaining input settings.file bytes
+  pub judged : IfSome bytes (λ bytes. IsAnswer settings.mode (cut_lines bytes) answer)
+  pub told : IsTold settings.mode bytes settings.form answer followed.status before after
 
 -- they name a file
 pub record NameAFile (words : List Text) : Type 0 where

@@ -48,6 +48,11 @@ tells_front fault.NotJson = true
 tells_front fault.NoType = true
 tells_front _ = false
 
+-- what is to be the message of the faulty line is no JSON
+abbrev pub is_no_json : Fault → Bool
+is_no_json fault.NotJson = true
+is_no_json _ = false
+
 -- it is told what the message of the faulty line is about
 abbrev pub tells_object : Fault → Bool
 tells_object fault.TooLong = false

@@ -2,7 +2,7 @@
 use Rattle.std.specs.Prelude.{◌≡◌, ◌≢◌, ◌<◌, ◌^◌, ◌++◌, ⊤, ℕ, List, [], ◌∷◌, length, Option, Some, OnSome, Result, Ok, Err}
 use Rattle.std.specs.Io.BufRead.{drop_through}
 use Rattle.std.specs.Io.KnownBytes.{Consumes, IsAtEnd}
-use Rattle.apply_check.specs.Cut.{first_line}
+use Rattle.apply_check.specs.Cut.{first_line, has_feed}
 use Rattle.apply_check.specs.Limits.{max_bytes}
 use Rattle.apply_check.specs.declared.rules.mode.Mode.{Mode}
 use Rattle.apply_check.specs.Lines.{passed_of, verdict_of}
@@ -23,10 +23,11 @@ Shows shown.Part piece old new = Consumes old new piece
 Shows shown.Line piece old new = Consumes old new (piece ++ 10 ∷ [])
 Shows shown.End piece old new = Consumes old new piece × OnSome old (IsAtEnd new)
 
--- of those bytes: that there is none, or the first line and what remains behind it, or that the first line is too long
+-- of those bytes: that there is none, or the first line, what remains behind it and whether a line feed ended it, or that
+-- the first line is too long
 abbrev pub Gives : LineEnd → List ℕ → Option (List ℕ) → List ℕ → Type 0
 Gives next.End line rest bytes = (bytes ≡ []) × IsAtEnd rest
-Gives (next.Line has_feed) line rest bytes = (bytes ≢ []) × (line ≡ first_line bytes) × (rest ≡ Some (drop_through 10 bytes))
+Gives (next.Line feed) line rest bytes = (bytes ≢ []) × (line ≡ first_line bytes) × (rest ≡ Some (drop_through 10 bytes)) × (feed ≡ has_feed bytes)
 Gives next.TooLong line rest bytes = (bytes ≢ []) × (max_bytes < length (first_line bytes))
 
 -- the read failed or memory was refused, and nothing is said of the stream

@@ -1,5 +1,5 @@
 -- What is said of a stream, and with which exit status: for people a line, for programs an object.
-use Rattle.std.specs.Prelude.{◌≡◌, ◌⊎◌, ℕ, List, [], ◌∷◌, ◌++◌, codes, decimal, ◌==◌, Bool, true, false, if◌then◌else◌, Option, Some, None, IfSome, option_map, Result, Ok, Err}
+use Rattle.std.specs.Prelude.{◌≡◌, ◌⊎◌, ℕ, List, [], ◌∷◌, ◌++◌, codes, decimal, ◌==◌, Bool, true, false, ◌&&◌, not, if◌then◌else◌, Option, Some, None, IfSome, option_map, Result, Ok, Err}
 use Rattle.std.specs.Io.KnownBytes.{Appends, Keeps}
 use Rattle.serde_json.specs.Data.{no_members, object}
 use Rattle.serde_json.specs.Written.{compact_text}
@@ -15,8 +15,8 @@ use Rattle.apply_check.specs.declared.verdict.whole.Whole.{Whole}
 use Rattle.apply_check.specs.declared.rules.fault.Fault.TheVariants.{Unended}
 use Rattle.apply_check.specs.declared.rules.mode.Mode.{Mode}
 use Rattle.apply_check.specs.About.{about_line, object_view}
-use Rattle.apply_check.specs.Cut.{cut_lines, line_at}
-use Rattle.apply_check.specs.Faults.{tells_front, tells_object}
+use Rattle.apply_check.specs.Cut.{cut_lines, feed_at, line_at}
+use Rattle.apply_check.specs.Faults.{is_no_json, tells_front, tells_object}
 use Rattle.apply_check.specs.Judged.{judged}
 use Rattle.apply_check.specs.Objects.{with_whole}
 use Rattle.apply_check.specs.ToldObject.{with_told}
@@ -70,10 +70,12 @@ usage_status_of usage.Memory = 3
 
 -- ---- what is written
 
--- What is told of a faulty stream is what is so of these bytes: the text of the line of that number, what its message is
--- about, and all that stands open behind the messages before the fault.
+-- What is told of a faulty stream is what is so of these bytes: the text of the line of that number, whether it is no JSON
+-- and no line feed ends it, what its message is about, and all that stands open behind the messages before the fault.
 pub record IsToldOf (mode : Mode) (bytes : List ℕ) (told : Told) : Type 0 where
   pub text : tells_front told.finding.fault ≡ true → told.text.now ≡ line_at told.finding.line bytes
+  pub cut_off : tells_front told.finding.fault ≡ true
+      → told.is_cut_off ≡ (is_no_json told.finding.fault && not (feed_at told.finding.line bytes))
   pub object : option_map object_view told.object
       ≡ (if tells_object told.finding.fault then about_line mode.find (line_at told.finding.line bytes) else None)
   pub «open» : told.finding.fault ≡ Unended → AreAllOpen (judged mode (cut_lines bytes)) told.«open».now

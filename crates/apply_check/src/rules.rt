@@ -1,6 +1,7 @@
 //! What may come behind what.
 
 pub(crate) mod checker;
+pub(crate) mod ending;
 pub(crate) mod failures;
 pub(crate) mod fault;
 pub(crate) mod limits;

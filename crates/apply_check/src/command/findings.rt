@@ -1,11 +1,11 @@
 //! Streams that are not whole, as people and programs are told of them.
 
-ghost use Rattle.std.specs.Prelude.{◌≡◌, ◌≤◌, ◌⊎◌, ℕ, List, IfOk, IfSome, None, Option, Err, if◌then◌else◌, option_map};
+ghost use Rattle.std.specs.Prelude.{◌≡◌, ◌≤◌, ◌⊎◌, ◌&&◌, not, ℕ, List, IfOk, IfSome, None, Option, Err, if◌then◌else◌, option_map};
 ghost use Rattle.std.specs.Option.{option_map_or};
 ghost use Rattle.serde_json.specs.View.{view};
 ghost use Rattle.apply_check.specs.About.{about_line, about_tree, object_view};
 ghost use Rattle.apply_check.specs.Checking.{HasRead};
-ghost use Rattle.apply_check.specs.Faults.{tells_object};
+ghost use Rattle.apply_check.specs.Faults.{is_no_json, tells_object};
 ghost use Rattle.apply_check.specs.Judged.{StopsAt};
 ghost use Rattle.apply_check.specs.Message.{Message};
 ghost use Rattle.apply_check.specs.Telling.{IsTold, IsToldOf};
@@ -43,7 +43,7 @@ pub fn tell_finding<W: Write, E: Write>(
     out: &mut W,
     faults: &mut E,
 ) -> u8
-    ensures told { (seen : Option (List ℕ)) → IfSome seen (λ bytes. StopsAt mode bytes finding.now checker.now line.now.text.items)
+    ensures told { (seen : Option (List ℕ)) → IfSome seen (λ bytes. StopsAt mode bytes finding.now checker.now line.now.text.items line.now.has_feed)
         → IsTold mode seen form (Err (fault_type.Found finding.now)) result (W.contents out.old) (W.contents out.new) }
     ensures bad { (2 ≤ result) × (result ≤ 4) }
 {
@@ -67,7 +67,9 @@ pub fn tell_finding<W: Write, E: Write>(
 }
 
 /// Whether the line is the last one and breaks off.
-fn is_cut_off(line: &Line, fault: Fault) -> bool {
+fn is_cut_off(line: &Line, fault: Fault) -> bool
+    ensures { result ≡ (is_no_json fault && not line.now.has_feed) }
+{
     match fault {
         Fault::NotJson => !line.has_feed,
         _ => false,

@@ -48,7 +48,7 @@ pub fn follow<F: Files, R: Read, W: Write, E: Write>(
     out: &mut W,
     faults: &mut E,
 ) -> Followed
-    ensures told { WasChecked (map string_bytes words.now) (R.remaining input.old) (W.contents out.old) (W.contents out.new) result
+    ensures told { WasChecked F.File.remaining (map string_bytes words.now) (R.remaining input.old) (W.contents out.old) (W.contents out.new) result
         ⊎ WasNotChecked (map string_bytes words.now) (W.contents out.old) (W.contents out.new) result.status }
     ensures help { fault_of command_line (map string_bytes words.now) ≡ DisplayHelp ∷ [] → (result.status ≡ 0) ⊎ (result.status ≡ 3) }
     ensures quiet { result.status ≤ 1 → Keeps (E.contents faults.old) (E.contents faults.new) }
@@ -180,7 +180,7 @@ fn tell_fault<W: Write, E: Write>(
     out: &mut W,
     faults: &mut E,
 ) -> u8
-    ensures told { (seen : Option (List ℕ)) → Stops mode seen checker.now line.now.text.items (Err fault)
+    ensures told { (seen : Option (List ℕ)) → Stops mode seen checker.now line.now.text.items line.now.has_feed (Err fault)
         → IsTold mode seen form (Err fault) result (W.contents out.old) (W.contents out.new) }
     ensures bad { (2 ≤ result) × (result ≤ 4) }
 {

@@ -2,7 +2,8 @@
 
 use std::io;
 
-/// That a read failed. Only what reads the input makes one, so that nobody can say so of an input that was not read.
+/// That some reader's read failed. Only the module that reads makes one, from the error of a read or where it had no try left, so that nobody says so
+/// without a read that failed; of which reader that was, it says nothing.
 #[derive(Clone, Copy, Debug, PartialEq, Eq)]
 pub struct FailedRead {
     number: Option<i32>,

@@ -1,6 +1,6 @@
 //! A checker of the lines of a stream.
 
-ghost use Rattle.std.specs.Prelude.{◌≡◌, ◌<◌, ◌≤◌, ◌^◌, ◌↔◌, ℕ, List, [], Some, true, false, not, nat_lt, length, IfOk};
+ghost use Rattle.std.specs.Prelude.{◌≡◌, ◌<◌, ◌≤◌, ◌^◌, ◌↔◌, ℕ, List, [], Some, true, false, length};
 ghost use Rattle.std.specs.List.{list_any};
 ghost use Rattle.std.specs.Option.{option_copied};
 ghost use Rattle.serde_json.specs.View.{view};
@@ -19,17 +19,14 @@ use crate::messages::totals::{Totals, agree};
 use crate::rules::failures::Failures;
 use crate::rules::fault::Fault;
 use crate::rules::limits::{MAX_BYTES, MAX_LINES};
-use crate::rules::matters::Matters;
 use crate::rules::mode::Mode;
-use crate::rules::open_entry::OpenEntry;
 use crate::rules::open_steps::OpenSteps;
 use crate::rules::standing::{explained, provision_on, step_on};
 use crate::rules::tally::Tally;
-use crate::verdict::whole::Whole;
 use apply_json::members::text_member;
 use apply_json::{JsonFault, Scratch, parse_trimmed};
 use serde_json::Value;
-use std::alloc::{AllocError, Global};
+use std::alloc::Global;
 
 /// What is needed of the lines so far: it grows only with the number of addresses at which something stands open, and
 /// with the longest line.
@@ -44,12 +41,10 @@ pub struct Checker {
 
 impl Checker {
     ghost use Rattle.apply_check.specs.Checking.{Continues, HasRead, lines_read};
-    ghost use Rattle.apply_check.specs.Lines.{as_first, behind, end_of, next, passed_of, read_found, read_line, read_text, read_tree, read_untyped, whole_with};
+    ghost use Rattle.apply_check.specs.Lines.{as_first, behind, next, passed_of, read_found, read_line, read_text, read_tree, read_untyped};
     ghost use Rattle.apply_check.specs.Message.{Message as said, step, provision, planned, plan_summary, summary, diagnostic, outputs};
     ghost use Rattle.apply_check.specs.MessageView.{message_view};
-    ghost use Rattle.apply_check.specs.Open.{any_open};
     ghost use Rattle.apply_check.specs.Tally.{is_error};
-    ghost use Rattle.apply_check.specs.Unended.{AreAllOpen};
 
     /// No line was read.
     pub fn new(alloc: Global) -> Self
@@ -335,31 +330,6 @@ impl Checker {
         Ok(())
     }
 
-    /// Whether a refresh that stands open matters, and whether failures that are left do.
-    pub(crate) fn matters(&self) -> Matters
-        ensures refreshes { result.refreshes ≡ not self.now.tally.has_failed }
-        ensures failures { result.failures ≡ nat_lt self.now.tally.errors_alone self.now.tally.failures }
-    {
-        Matters {
-            refreshes: !self.tally.has_failed,
-            failures: self.tally.errors_alone < self.tally.failures,
-        }
-    }
-
-    /// Whether something stands open.
-    fn is_open(&self) -> bool
-        ensures { (messages : List said) → HasRead self.now messages → result ≡ any_open messages }
-    {
-        self.pending.has_open(self.matters())
-    }
-
-    /// All that stands open: the addresses in the order of their bytes, and at each its kinds in theirs.
-    pub fn open_entries(&self, alloc: Global) -> Result<Vec<OpenEntry<'_>>, AllocError>
-        ensures { IfOk result (λ entries. (messages : List said) → HasRead self.now messages → AreAllOpen messages entries.items) }
-    {
-        self.pending.open_entries(alloc, self.matters())
-    }
-
     /// The number of lines that were taken.
     pub fn count(&self) -> u64
         ensures { result ≡ lines_read self.now }
@@ -389,35 +359,6 @@ impl Checker {
             Some(self.tally.foreign)
         } else {
             None
-        }
-    }
-
-    /// The end of the stream: what it tells, or what is wrong with it.
-    pub fn end(&self, mode: Mode) -> Result<Whole, Fault>
-        ensures { (messages : List said) → HasRead self.now messages → result ≡ end_of mode messages }
-    {
-        if self.is_open() {
-            return Err(Fault::Unended);
-        }
-        if self.tally.ends_as_plan(mode) {
-            return Ok(self.whole(mode, true, self.tally.planned));
-        }
-        if self.tally.ends_as_apply() {
-            return Ok(self.whole(mode, false, self.tally.completed));
-        }
-        Err(self.tally.why_no_end())
-    }
-
-    /// What the lines tell, with those totals.
-    fn whole(&self, mode: Mode, is_plan: bool, totals: Totals) -> Whole
-        ensures { (messages : List said) → HasRead self.now messages → result ≡ whole_with mode is_plan totals messages }
-    {
-        Whole {
-            totals,
-            has_errors: self.tally.has_failed,
-            lines: self.tally.lines,
-            is_plan,
-            passed: self.passed(mode),
         }
     }
 }

@@ -28,7 +28,7 @@ V Sc Pc20 s Cc => applystream: line 5 tells of seconds that do not rise since li
 V Sc s Cc => applystream: line 4 ends what the provisioner of line 3 runs in: create of a
 V s => applystream: line 2 tells of a provisioner outside of a create or a delete: x of a
 V s0 => applystream: line 2 tells of a provisioner outside of a create or a delete: provisioner of a
-V Sr s7 => applystream: line 3 tells of a provisioner outside of a create or a delete: provisioner of a
+V Sr sn => applystream: line 3 tells of a provisioner outside of a create or a delete: provisioner of a
 V Sc s s => applystream: line 4 starts a provisioner while that of line 3 runs: x of a
 V Sc s0 s0 => applystream: line 4 starts a provisioner while that of line 3 runs: provisioner of a
 V Sc p => applystream: line 3 tells of a provisioner that does not run: x of a
@@ -90,7 +90,7 @@ V Sc s Cc => {"action":"create","address":"a","fault":"leaves_provisioner","line
 V s => {"address":"a","fault":"no_step","line":2,"provisioner":"x","whole":false}
 V s0 => {"address":"a","fault":"no_step","line":2,"whole":false}
 V Sc s s => {"address":"a","fault":"provisioner_runs","line":4,"other":3,"provisioner":"x","whole":false}
-V Sc s7 s7 => {"address":"a","fault":"provisioner_runs","line":4,"other":3,"whole":false}
+V Sc sn sn => {"address":"a","fault":"provisioner_runs","line":4,"other":3,"whole":false}
 V Sc p => {"address":"a","fault":"no_provisioner","line":3,"provisioner":"x","whole":false}
 V Sh Sh => {"action":"create","address":"a\n\u001b[2Jb","fault":"starts_again","line":3,"other":2,"whole":false}
 V sh => {"address":"a","fault":"no_step","line":2,"provisioner":"x\ny","whole":false}
@@ -163,7 +163,7 @@ Sf => applystream: line 10002 is one of more than 10000 that overlap since line 
 "#;
 
 /// The version, and one start of that name more than may overlap.
-fn overlapping(rt: &impl Abort, alloc: Global, name: &str) -> String {
+pub(super) fn overlapping(rt: &impl Abort, alloc: Global, name: &str) -> String {
     let version = line_named(rt, LINES, "V");
     let start = format!(in alloc; "\n{}", line_named(rt, LINES, name)).expect(rt, "memory");
     let starts = start.repeat(alloc, 10_001).expect(rt, "memory");

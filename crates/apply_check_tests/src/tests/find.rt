@@ -5,7 +5,7 @@ use super::faults::stream_of;
 use super::*;
 
 /// A line of a log for each name.
-const LOG: &str = r#"
+pub(super) const LOG: &str = r#"
 v => 12:00:00 {"@level":"info","type":"version"}
 z => [apply] {"@level":"info","type":"change_summary","changes":{"operation":"apply","add":0,"change":0,"remove":0}} done
 y => {"@level":"info","type":"change_summary","changes":{"operation":"plan","add":0,"change":0,"remove":0}}

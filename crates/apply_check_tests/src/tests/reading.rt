@@ -180,6 +180,24 @@ fn file_fails(rt: HostRuntime) {
     unreadable_is(&rt, alloc, Some("a\n\u{1b}[2J"), said);
 }
 
+/// A text that is longer than what goes out at once goes out whole all the same, with its line feed.
+#[test]
+fn a_long_name_goes_out_whole(rt: HostRuntime) {
+    let alloc = rt.alloc();
+    for length in 940..960 {
+        let name = "a".repeat(alloc, length).expect(&rt, "memory");
+        long_name_is(&rt, alloc, name.as_str());
+    }
+}
+
+/// Fails where the file of that name is told otherwise, which can't be read.
+fn long_name_is(rt: &impl Abort, alloc: Global, name: &str) {
+    let said = format!(in alloc;
+        "applystream: the file {name} could not be read: Input/output error (os error 5)\n"
+    ).expect(rt, "memory");
+    unreadable_is(rt, alloc, Some(name), said.as_str());
+}
+
 /// What is wrong is told before the reader fails behind it.
 #[test]
 fn finding_comes_first(rt: HostRuntime) {

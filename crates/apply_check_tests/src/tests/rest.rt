@@ -1,6 +1,7 @@
 //! The input is read to its end, whatever ends the judgement.
 
-use super::faults::stream_of;
+use super::faults::{overlapping, stream_of};
+use super::find::LOG;
 use super::*;
 
 /// Names of lines, the last of which is faulty by itself or behind the others.
@@ -25,32 +26,50 @@ V Sc Z000
 V Z100
 "#;
 
-/// A reader that counts the bytes that it gave, and is interrupted before each of its reads.
+/// The same of lines of a log.
+const LOG_ROWS: &str = r#"
+words half
+words open
+words bad
+words S
+words v S words S
+words v z words v
+"#;
+
+/// The starts of which more come than may overlap.
+const OVERLAPPING: &str = "Sd Sr Sf";
+
+/// A reader that counts the bytes that another one gave, and is interrupted before each of its reads.
 #[derive(Drop)]
-struct Counting<'a> {
-    rest: &'a [u8],
+struct Counting<R> {
+    reader: R,
     given: usize,
     is_interrupted: bool,
 }
 
-impl Read for Counting<'_> {
+impl<R: Read> Read for Counting<R> {
     fn read(&mut self, buf: &mut [u8]) -> io::Result<usize> {
         self.is_interrupted = !self.is_interrupted;
         if self.is_interrupted {
             return Err(io::Error::from(ErrorKind::Interrupted));
         }
-        let count = buf.len().min(self.rest.len());
-        buf[..count].copy_from_slice(&self.rest[..count]);
-        self.rest = &self.rest[count..];
+        let count = self.reader.read(buf)?;
         self.given = self.given.saturating_add(count);
         Ok(count)
     }
 }
 
-/// Fails where the check of the bytes leaves some of them unread.
-fn all_is_read(rt: &impl Abort, alloc: Global, form: Form, bytes: &[u8]) {
+/// Fails where the check of what the reader gives finds nothing wrong, or leaves some of that many bytes unread.
+fn all_is_read<R: Read + Drop>(
+    rt: &impl Abort,
+    alloc: Global,
+    mode: Mode,
+    form: Form,
+    reader: R,
+    len: usize,
+) {
     let mut input = Counting {
-        rest: bytes,
+        reader,
         given: 0,
         is_interrupted: false,
     };
@@ -58,36 +77,73 @@ fn all_is_read(rt: &impl Abort, alloc: Global, form: Form, bytes: &[u8]) {
     let mut said = Vec::new(alloc);
     let checked = check_input(
         alloc,
-        Mode::PLAIN,
+        mode,
         form,
         None,
         &mut input,
         &mut printed,
         &mut said,
     );
+    assert_eq!(rt; checked.status, 4);
     assert!(rt; checked.rest.is_ok());
-    assert_eq!(rt; input.given, bytes.len());
+    assert_eq!(rt; input.given, len);
 }
 
-/// Fails where what stands behind the lines of those names is left unread: as many bytes again, and more than one read
-/// gives.
-fn row_is_read(rt: &impl Abort, alloc: Global, row: &str) {
-    let stream = stream_of(rt, alloc, LINES, row);
-    let rest = stream.as_str().repeat(alloc, 1_000).expect(rt, "memory");
-    let all = format!(in alloc; "{stream}{rest}").expect(rt, "memory");
-    all_is_read(rt, alloc, Form::Text, all.as_str().as_bytes());
-    all_is_read(rt, alloc, Form::Json, all.as_str().as_bytes());
+/// Fails where what stands behind the front is left unread: as many bytes again, so many times.
+fn front_is_read(rt: &impl Abort, alloc: Global, mode: Mode, front: &str, times: usize) {
+    let rest = front.repeat(alloc, times).expect(rt, "memory");
+    let all = format!(in alloc; "{front}{rest}").expect(rt, "memory");
+    let bytes = all.as_str().as_bytes();
+    all_is_read(rt, alloc, mode, Form::Text, bytes, bytes.len());
+    all_is_read(rt, alloc, mode, Form::Json, bytes, bytes.len());
+}
+
+/// Fails where what stands behind the lines of those names is left unread, which is more than one read gives.
+fn row_is_read(rt: &impl Abort, alloc: Global, mode: Mode, lines: &str, row: &str) {
+    let stream = stream_of(rt, alloc, lines, row);
+    front_is_read(rt, alloc, mode, stream.as_str(), 1_000);
 }
 
 #[test]
 fn behind_each_fault(rt: HostRuntime) {
     for row in ROWS.trim().lines() {
-        row_is_read(&rt, rt.alloc(), row);
+        row_is_read(&rt, rt.alloc(), Mode::PLAIN, LINES, row);
     }
 }
 
-/// Fails where other arguments leave another number of bytes unread, or end with another status.
-fn arguments_leave<F: Files>(
+#[test]
+fn behind_faults_of_a_log(rt: HostRuntime) {
+    for row in LOG_ROWS.trim().lines() {
+        row_is_read(&rt, rt.alloc(), FIND, LOG, row);
+    }
+}
+
+#[test]
+fn behind_steps_that_are_too_many(rt: HostRuntime) {
+    let alloc = rt.alloc();
+    for name in OVERLAPPING.split(' ') {
+        let front = overlapping(&rt, alloc, name);
+        front_is_read(&rt, alloc, Mode::PLAIN, front.as_str(), 1);
+    }
+}
+
+/// The line is longer than a line may be by half of what is read.
+#[test]
+fn behind_a_line_that_is_too_long(rt: HostRuntime) {
+    let alloc = rt.alloc();
+    let line = io::repeat(b' ').take(134_217_730);
+    all_is_read(
+        &rt,
+        alloc,
+        Mode::PLAIN,
+        Form::Json,
+        line,
+        134_217_730,
+    );
+}
+
+/// Fails where that argument leaves another number of bytes unread, or ends with another status.
+fn argument_leaves<F: Files>(
     rt: &impl Abort,
     files: &F,
     alloc: Global,
@@ -119,7 +175,17 @@ fn arguments_leave<F: Files>(
 #[test]
 fn behind_refused_arguments(rt: HostRuntime) {
     let alloc = rt.alloc();
-    arguments_leave(&rt, &rt, alloc, "--jsonl", false, 2, 0);
-    arguments_leave(&rt, &rt, alloc, "--jsonl", true, 2, 6);
-    arguments_leave(&rt, &rt, alloc, "--help", false, 0, 6);
+    argument_leaves(&rt, &rt, alloc, "--jsonl", false, 2, 0);
+    argument_leaves(&rt, &rt, alloc, "--jsonl", true, 2, 6);
+    argument_leaves(&rt, &rt, alloc, "--help", false, 0, 6);
+}
+
+/// Standard input is read to its end where the file that is named can't be opened, but not at a terminal; and it is left
+/// alone where there is the file, also where that can't be read, as of a folder.
+#[test]
+fn behind_a_file_that_is_named(rt: HostRuntime) {
+    let alloc = rt.alloc();
+    argument_leaves(&rt, &rt, alloc, "no_such_file.jsonl", false, 2, 0);
+    argument_leaves(&rt, &rt, alloc, "no_such_file.jsonl", true, 2, 6);
+    argument_leaves(&rt, &rt, alloc, ".", false, 2, 6);
 }

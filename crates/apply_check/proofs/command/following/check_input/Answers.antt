@@ -1,4 +1,4 @@
-use Rattle.std.proofs.Common.{Option, None, Some, Err, inl, List, ℕ}
+use Rattle.std.proofs.Common.{Option, None, Some, Err, List, ℕ}
 use Rattle.std.specs.Prelude.{IfSome}
 use Rattle.apply_check.specs.Cut.{cut_lines}
 use Rattle.apply_check.specs.Reading.{IsAnswer}

@@ -72,13 +72,13 @@ returns-in-Err-line-clause-answer g c =
     (λ memory. ap (read_line c.args.mode.find k.0) (sym c.deref.ensures.value) ∙ after.1 memory) (c.found-in-Err-line.ensures k.0 after.0)
 
 pub returns-in-Err-clause-stops : goal.returns-in-Err-clause-stops
-returns-in-Err-clause-stops g c = stops_nowhere c.args.mode (g.R.Read.remaining c.args.reader.now) _ _ _ c.in-Err.ensures.refused
+returns-in-Err-clause-stops g c = stops_nowhere c.args.mode (g.R.Read.remaining c.args.reader.now) _ _ _ _ c.in-Err.ensures.refused
 
 pub returns-in-TooLong-clause-stops : goal.returns-in-TooLong-clause-stops
 returns-in-TooLong-clause-stops g c =
     let k = c.lines.invariant.known in
     let gives = subst (λ (w : LineEnd). IfSome (g.R.Read.remaining c.lines.reader) (Gives w c.next_line.new.line.items (g.R.Read.remaining c.next_line.new.reader))) c.in-TooLong.is c.in-Ok.ensures.next in
-    stops_too_long c.args.mode (g.R.Read.remaining c.args.reader.now) (g.R.Read.remaining c.lines.reader) (g.R.Read.remaining c.next_line.new.reader) k.0 c.lines.checker c.next_line.new.line.items _ k.2 gives k.1 (c.found.ensures k.0 k.1)
+    stops_too_long c.args.mode (g.R.Read.remaining c.args.reader.now) (g.R.Read.remaining c.lines.reader) (g.R.Read.remaining c.next_line.new.reader) k.0 c.lines.checker c.next_line.new.line.items _ _ k.2 gives k.1 (c.found.ensures k.0 k.1)
 
 pub returns-in-Err-line-clause-stops : goal.returns-in-Err-line-clause-stops
 returns-in-Err-line-clause-stops g c =
@@ -92,4 +92,4 @@ pub returns-in-End-clause-stops : goal.returns-in-End-clause-stops
 returns-in-End-clause-stops g c =
     let k = c.lines.invariant.known in
     let gives = subst (λ (w : LineEnd). IfSome (g.R.Read.remaining c.lines.reader) (Gives w c.next_line.new.line.items (g.R.Read.remaining c.next_line.new.reader))) c.in-End.is c.in-Ok.ensures.next in
-    stops_ended c.args.mode (g.R.Read.remaining c.args.reader.now) (g.R.Read.remaining c.lines.reader) (g.R.Read.remaining c.next_line.new.reader) k.0 c.lines.checker c.next_line.new.line.items c.ended.result k.2 gives k.1 c.ended.ensures.fault
+    stops_ended c.args.mode (g.R.Read.remaining c.args.reader.now) (g.R.Read.remaining c.lines.reader) (g.R.Read.remaining c.next_line.new.reader) k.0 c.lines.checker c.next_line.new.line.items _ c.ended.result k.2 gives k.1 c.ended.ensures.fault
