@@ -1,7 +1,7 @@
 -- The events among items, and one item more.
-use Rattle.std.proofs.Common.{◌≡◌, ℕ, ◌+◌, ◌-◌, ◌<◌, ◌≤◌, ◌↔◌, Bool, true, false, IsTrue, List, [], ◌∷◌, ◌++◌, All, Option, length, length-append, sym, refl, ap, ◌∙◌, subst, arith}
+use Rattle.std.proofs.Common.{◌≡◌, ℕ, ◌+◌, ◌-◌, ◌<◌, ◌≤◌, List, [], ◌∷◌, ◌++◌, All, Option, length, length-append, sym, ap, ◌∙◌, subst, arith}
 use Rattle.std.proofs.Math.Seq.{take-append_seam, drop-append_seam}
-use Rattle.std.proofs.lemmas.List.Elements.{All-append, All-drop, All-nil, All-take, filter_map-append}
+use Rattle.std.proofs.lemmas.List.Elements.{All-drop, All-take, filter_map-append}
 use Rattle.apply_plan.specs.Plan.SavedPlan.{SavedPlan}
 use Rattle.apply_plan.specs.Script.OutcomeMap.{OutcomeMap}
 use Rattle.apply_events.specs.declared.event.Event.{Event}
@@ -14,10 +14,6 @@ use Rattle.apply_run.proofs.Runs.Headline.{same_of}
 
 events_more : (taken new : List Item) (item : Item) → new ≡ taken ++ item ∷ [] → events new ≡ events taken ++ events (item ∷ [])
 events_more taken new item is = ap events is ∙ filter_map-append event_of taken (item ∷ [])
-
--- what holds of the events, and of one item more
-all_more : (P : Event → Type 0) (taken new : List Item) (item : Item) → new ≡ taken ++ item ∷ [] → All P (events taken) → All P (events (item ∷ [])) → All P (events new)
-all_more P taken new item is so_far more = subst (All P) (sym (events_more taken new item is)) (All-append P (events taken) (events (item ∷ [])) so_far more)
 
 front : (P : Event → Type 0) (xs ys : List Event) → All P (xs ++ ys) → All P xs
 front P xs ys all = subst (All P) (take-append_seam xs ys) (All-take P (length xs) (xs ++ ys) all)
@@ -45,29 +41,6 @@ told_more_items plan plan' script script' start start' before failures taken new
     let on = same_of (λ p s t. All (IsOfPlan p) one → HasTold p s t before failures (events taken) old → HasTold p s t before failures (events taken ++ one) now) plan' plan script' script start' start e f g step in
     subst (λ es. HasTold plan script start before failures es now) (sym joined)
     (on (back (IsOfPlan plan) (events taken) one both) (so_far (front (IsOfPlan plan) (events taken) one both)))
-
-all_before : (P : Event → Type 0) (taken new : List Item) (item : Item) → new ≡ taken ++ item ∷ [] → All P (events new) → All P (events taken)
-all_before P taken new item is all = front P (events taken) (events (item ∷ [])) (subst (All P) (events_more taken new item is) all)
-
-all_here : (P : Event → Type 0) (taken new : List Item) (item : Item) → new ≡ taken ++ item ∷ [] → All P (events new) → All P (events (item ∷ []))
-all_here P taken new item is all = back P (events taken) (events (item ∷ [])) (subst (All P) (events_more taken new item is) all)
-
--- ---- whether each event is of the plan
-
-pub no_misfit : (P : Event → Type 0) (taken : List Item) → taken ≡ [] → (false ≡ false) ↔ All P (events taken)
-no_misfit P taken none = (λ _. subst (λ items. All P (events items)) (sym none) (All-nil P), λ _. refl)
-
-pub one_misfit : (plan plan' : SavedPlan) (fits : Bool) (taken new : List Item) (item : Item) → plan' ≡ plan → new ≡ taken ++ item ∷ []
-    → IsTrue fits ↔ All (IsOfPlan plan') (events (item ∷ [])) → fits ≡ false → (true ≡ false) ↔ All (IsOfPlan plan) (events new)
-one_misfit plan plan' fits taken new item same is tested failed =
-    (λ e. absurd cc, λ all. let passed : fits ≡ true = tested.1 (subst (λ p. All (IsOfPlan p) (events (item ∷ []))) (sym same) (all_here (IsOfPlan plan) taken new item is all)) in absurd cc)
-
-pub no_misfit_more : (plan plan' : SavedPlan) (fits misfit : Bool) (taken new : List Item) (item : Item) → plan' ≡ plan → new ≡ taken ++ item ∷ []
-    → IsTrue fits ↔ All (IsOfPlan plan') (events (item ∷ [])) → fits ≡ true → (misfit ≡ false) ↔ All (IsOfPlan plan) (events taken) → (misfit ≡ false) ↔ All (IsOfPlan plan) (events new)
-no_misfit_more plan plan' fits misfit taken new item same is tested passed so_far = (
-  λ e. all_more (IsOfPlan plan) taken new item is (so_far.0 e) (subst (λ p. All (IsOfPlan p) (events (item ∷ []))) same (tested.0 passed)),
-  λ all. so_far.1 (all_before (IsOfPlan plan) taken new item is all),
-)
 
 -- ---- counts
 

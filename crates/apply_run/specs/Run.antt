@@ -1,6 +1,7 @@
 -- How a run has ended: what it was about, what its workers reported, and what its sink took.
 pub mod Endpoints
 pub mod Finished
+pub mod NotBegun
 pub mod Reconciled
 pub mod RunName
 pub mod Threads

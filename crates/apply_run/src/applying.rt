@@ -89,6 +89,11 @@ pub fn apply_stream<'a, S: Sink + Drop, G: Gate, R: Threads + Wait + Sync>(
                 (sink, Err(fault))
             }
         }
-        Err(NotBegun { stream, why }) => (stream.into_sink(), Err(Fault::at_once(why))),
+        Err(NotBegun::NoThread(stream)) => {
+            (stream.into_sink(), Err(Fault::at_once(Why::Workers)))
+        }
+        Err(NotBegun::NoMemory(stream, _endpoints)) => {
+            (stream.into_sink(), Err(Fault::at_once(Why::Memory)))
+        }
     }
 }

@@ -1,6 +1,6 @@
 //! The collector: takes events from a bus, and tells them.
 
-ghost use Rattle.std.specs.Prelude.{◌≡◌, ◌<◌, ◌≤◌, ◌+◌, ◌∷◌, ◌++◌, ◌↔◌, ℕ, List, [], All, IsTrue, Option, false, length};
+ghost use Rattle.std.specs.Prelude.{◌≡◌, ◌<◌, ◌≤◌, ◌+◌, ◌∷◌, ◌++◌, ℕ, List, [], All, Option, false, length};
 ghost use Rattle.apply_events.specs.declared.event.Event.{Event};
 ghost use Rattle.apply_bus.specs.Bus.{NamesWorkersBelow};
 ghost use Rattle.apply_bus.specs.Items.{closes, events};
@@ -15,12 +15,12 @@ use apply_events::is_of_plan;
 use std::sync::Wait;
 
 /// What a collector gives back: the stream as far as it was told, with the notes that it keeps, what was taken, and
-/// whether the bus failed.
+/// whether a take was lost.
 #[derive(Drop)]
 pub(crate) struct Collected<'a, S: Drop> {
     pub stream: StreamWriter<'a, S>,
     pub taken: Taken,
-    /// Whether a take was lost, an event is not of the plan, or a worker's close was not taken.
+    /// Whether a take was lost. What was taken does not tell it: a later take may have given what was missing.
     pub lost: bool,
 }
 
@@ -43,19 +43,13 @@ pub(crate) fn collect<'a, S: Sink + Drop, R: Wait>(
     ensures told { All (IsOfPlan stream.entry.plan.now) (events result.taken.taken)
         → IsToldSince S.bytes S.failed stream.entry (events result.taken.taken) result.stream }
     ensures room { HasRoom result.stream.plan.now (telling_of S.bytes S.failed result.stream) }
-    ensures lost { result.lost ≡ false → All (IsOfPlan stream.entry.plan.now) (events result.taken.taken)
-        × (closes result.taken.taken ≡ rx.workers) }
+    ensures lost { result.lost ≡ false → closes result.taken.taken ≡ rx.workers }
 {
     stream.write_version();
-    let mut misfit = false;
     let mut lost_takes = 0;
     while rx.open_left() > 0 && lost_takes < MAX_LOST {
         match rx.take(rt) {
-            Ok(item) => {
-                if !note(&mut stream, &item) {
-                    misfit = true;
-                }
-            }
+            Ok(item) => note(&mut stream, &item),
             Err(_) => lost_takes += 1,
         }
     }
@@ -65,15 +59,14 @@ pub(crate) fn collect<'a, S: Sink + Drop, R: Wait>(
     Collected {
         stream,
         taken: rx.give_up(),
-        lost: misfit || lost_takes > 0 || left > 0,
+        lost: lost_takes > 0,
     }
 }
 
-/// Tells the item where it is an event of the plan, and says whether it is that or a close.
-fn note<S: Sink + Drop>(stream: &mut StreamWriter<'_, S>, item: &Item) -> bool
+/// Tells the item where it is an event of the plan.
+fn note<S: Sink + Drop>(stream: &mut StreamWriter<'_, S>, item: &Item)
     requires room { HasRoom stream.old.plan.now (telling_of S.bytes S.failed stream.old) }
     requires few { stream.old.taken < max_told }
-    ensures fits { IsTrue result ↔ All (IsOfPlan stream.old.plan.now) (events (item.now ∷ [])) }
     ensures told { (before : Option (List ℕ)) (failures : ℕ) (so_far : List Event)
         → All (IsOfPlan stream.old.plan.now) (events (item.now ∷ []))
         → HasTold stream.old.plan.now stream.old.script.now stream.old.start before failures so_far
@@ -86,12 +79,10 @@ fn note<S: Sink + Drop>(stream: &mut StreamWriter<'_, S>, item: &Item) -> bool
 {
     match item {
         Item::Event(event) => {
-            let fits = is_of_plan(stream.plan, event);
-            if fits {
+            if is_of_plan(stream.plan, event) {
                 stream.tell(event);
             }
-            fits
         }
-        Item::Close(_) => true,
+        Item::Close(_) => {}
     }
 }

@@ -1,9 +1,10 @@
 //! The run over threads: what is made ready, and the start, the join and the reconciling of its workers.
 
-ghost use Rattle.std.specs.Prelude.{◌≡◌, ◌≤◌, ◌⊎◌, [], length, vec_capacity, IfErr, IfOk};
+ghost use Rattle.std.specs.Prelude.{◌≡◌, ◌≤◌, [], length, vec_capacity, IfErr, IfOk};
 ghost use Rattle.apply_hooks.specs.Registry.{rules_of};
 ghost use Rattle.apply_run.specs.Run.Endpoints.{AreReady};
 ghost use Rattle.apply_run.specs.Run.Finished.{IsFinishedRun, IsJoinedRun};
+ghost use Rattle.apply_run.specs.Run.NotBegun.{GivesBack};
 ghost use Rattle.apply_run.specs.Stream.Room.{IsNew};
 ghost use Rattle.apply_run.specs.Stream.Telling.{telling_of};
 ghost use Rattle.apply_run.specs.Run.Threads.{IsRun};
@@ -20,7 +21,6 @@ use crate::run::run_name::RunName;
 use crate::run::threads::{WorkerThread, join_all, start_all};
 use crate::sinks::sink::Sink;
 use crate::stream::StreamWriter;
-use crate::why::Why;
 use crate::worker::StoppedWorker;
 use crate::worker::gate::Gate;
 use crate::worker::signal::Signal;
@@ -32,11 +32,13 @@ use std::sync::Wait;
 use std::thread;
 use std::thread::{Scope, Threads};
 
-/// A run that was given up before anything was taken: nothing was told or written.
+/// A run that was given up before anything was taken: nothing was told or written, and the stream is as before.
 #[derive(Drop)]
-pub(crate) struct NotBegun<'a, S: Drop> {
-    pub stream: StreamWriter<'a, S>,
-    pub why: Why,
+pub(crate) enum NotBegun<'a, S: Drop> {
+    /// A thread was refused.
+    NoThread(StreamWriter<'a, S>),
+    /// Memory was refused for the list of the threads. What the workers and the collector would have had comes back.
+    NoMemory(StreamWriter<'a, S>, Endpoints),
 }
 
 /// A run whose threads were joined.
@@ -48,7 +50,7 @@ pub(crate) struct JoinedRun<'a, S: Drop> {
     pub taken: Taken,
     /// What each worker leaves behind, in their order.
     pub stopped: Vec<StoppedWorker>,
-    /// Whether the bus failed.
+    /// Whether a take was lost.
     pub lost: bool,
 }
 
@@ -63,8 +65,8 @@ pub(crate) struct FinishedRun<'a, S: Drop> {
 
 /// Lets workers apply the plan in threads while this thread collects what they send, and tells what all of them have done.
 ///
-/// `Err` with `Why::Workers` where a thread was refused, and with `Why::Memory` where memory was refused for the list of the
-/// threads. Then the stream is as before. That no worker has begun then rests on `signal`, of which no clause speaks.
+/// `Err` where a thread was refused, and where memory was refused for the list of the threads. Then the stream is as
+/// before. That no worker has begun then rests on `signal`, of which no clause speaks.
 pub(crate) fn run_workers<
     'a,
     K: RunName + Send + Sync + 'static,
@@ -89,18 +91,17 @@ pub(crate) fn run_workers<
     requires plan { stream.plan.now ≡ plan.now }
     ensures finished { IfOk result (λ finished.
         IsFinishedRun S.bytes S.failed K.work K.claims.workers stream.entry finished) }
-    ensures not_begun { IfErr result (λ not_begun. not_begun.stream ≡ stream.entry) }
-    ensures why { IfErr result (λ not_begun. (not_begun.why ≡ Why.Workers) ⊎ (not_begun.why ≡ Why.Memory)) }
+    ensures not_begun { IfErr result (λ not_begun. GivesBack stream.entry endpoints not_begun) }
 {
     let Ok(started) = Vec::with_capacity(alloc, endpoints.drawers.len()) else {
-        return Err(NotBegun {
-            stream,
-            why: Why::Memory,
-        });
+        return Err(NotBegun::NoMemory(stream, endpoints));
     };
-    run_threads::<K, S, G, R>(
+    match run_threads::<K, S, G, R>(
         rt, plan, script, registry, gate, claims, signal, endpoints, started, stream,
-    )
+    ) {
+        Ok(finished) => Ok(finished),
+        Err(stream) => Err(NotBegun::NoThread(stream)),
+    }
 }
 
 /// Runs the workers, with a list for their threads, and reconciles them with what was taken. `Err` only where a thread was
@@ -122,7 +123,7 @@ fn run_threads<
     endpoints: Endpoints,
     started: Vec<WorkerThread<K>>,
     stream: StreamWriter<'a, S>,
-) -> Result<FinishedRun<'a, S>, NotBegun<'a, S>>
+) -> Result<FinishedRun<'a, S>, StreamWriter<'a, S>>
     requires run { IsRun K.work K.claims plan.now script.now (rules_of registry.now) claims.now }
     requires endpoints { AreReady K.claims K.bus endpoints }
     requires stream { IsNew (telling_of S.bytes S.failed stream) }
@@ -131,13 +132,12 @@ fn run_threads<
     requires room { length endpoints.drawers.items ≤ vec_capacity started }
     ensures finished { IfOk result (λ finished.
         IsFinishedRun S.bytes S.failed K.work K.claims.workers stream.entry finished) }
-    ensures not_begun { IfErr result (λ not_begun. not_begun.stream ≡ stream.entry) }
-    ensures why { IfErr result (λ not_begun. not_begun.why ≡ Why.Workers) }
+    ensures not_begun { IfErr result (λ back. back ≡ stream.entry) }
 {
     let joined = thread::scope(
         thread::scope_env(),
         rt,
-        move |scope| -> Result<JoinedRun<'_, S>, NotBegun<'_, S>>
+        move |scope| -> Result<JoinedRun<'_, S>, StreamWriter<'_, S>>
             requires run { IsRun K.work K.claims plan.now script.now (rules_of registry.now) claims.now }
             requires endpoints { AreReady K.claims K.bus endpoints }
             requires stream { IsNew (telling_of S.bytes S.failed stream) }
@@ -145,8 +145,7 @@ fn run_threads<
             requires room { length endpoints.drawers.items ≤ vec_capacity started }
             ensures joined { IfOk result (λ joined.
                 IsJoinedRun S.bytes S.failed K.work K.claims K.bus stream.entry joined) }
-            ensures not_begun { IfErr result (λ not_begun. not_begun.stream ≡ stream.entry) }
-            ensures why { IfErr result (λ not_begun. not_begun.why ≡ Why.Workers) }
+            ensures not_begun { IfErr result (λ back. back ≡ stream.entry) }
         {
             run_in_scope::<_, K, S, G, R>(
                 scope, rt, plan, script, registry, gate, claims, signal, endpoints, started, stream,
@@ -168,7 +167,7 @@ fn run_threads<
                 whole: whole && !lost,
             })
         }
-        Err(not_begun) => Err(not_begun),
+        Err(stream) => Err(stream),
     }
 }
 
@@ -193,7 +192,7 @@ fn run_in_scope<
     endpoints: Endpoints,
     mut started: Vec<WorkerThread<K>>,
     stream: StreamWriter<'a, S>,
-) -> Result<JoinedRun<'a, S>, NotBegun<'a, S>>
+) -> Result<JoinedRun<'a, S>, StreamWriter<'a, S>>
     requires run { IsRun K.work K.claims plan.now script.now (rules_of registry.now) claims.now }
     requires endpoints { AreReady K.claims K.bus endpoints }
     requires stream { IsNew (telling_of S.bytes S.failed stream) }
@@ -201,8 +200,7 @@ fn run_in_scope<
     requires room { length endpoints.drawers.items ≤ vec_capacity started }
     ensures joined { IfOk result (λ joined.
         IsJoinedRun S.bytes S.failed K.work K.claims K.bus stream.entry joined) }
-    ensures not_begun { IfErr result (λ not_begun. not_begun.stream ≡ stream.entry) }
-    ensures why { IfErr result (λ not_begun. not_begun.why ≡ Why.Workers) }
+    ensures not_begun { IfErr result (λ back. back ≡ stream.entry) }
 {
     let Endpoints {
         drawers,
@@ -226,10 +224,7 @@ fn run_in_scope<
     signal.announce(all);
     if !all {
         join_all(rt, started, &mut stopped);
-        return Err(NotBegun {
-            stream,
-            why: Why::Workers,
-        });
+        return Err(stream);
     }
     let Collected {
         stream,

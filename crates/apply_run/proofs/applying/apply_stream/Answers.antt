@@ -1,14 +1,14 @@
-use Rattle.std.proofs.Common.{◌≡◌, ◌+◌, ap, ◌∙◌, subst, refl, ⊎_elim}
+use Rattle.std.proofs.Common.{◌≡◌, ◌+◌, ap, ◌∙◌, subst, refl}
 use Rattle.apply_hooks.specs.Registry.{rules_of}
 use Rattle.apply_events.specs.Step.{Work}
 use Rattle.apply_text.specs.Lines.{lines_of, stream_of}
 use Rattle.apply_text.specs.Order.{hook_messages_of}
 use Rattle.apply_run.specs.Applied.{IsApplied, IsAppliedInPart}
 use Rattle.apply_run.specs.declared.stream.StreamWriter.{StreamWriter}
-use Rattle.apply_run.specs.declared.why.Why.TheVariants.{Memory, Workers}
 use Rattle.apply_run.specs.Stream.Ended.{IsCutOff, IsFaulted, IsWhole}
 use Rattle.apply_run.specs.Stream.Outlet.{failed_writes}
 use Rattle.apply_run.specs.Run.{Sight, sight_of}
+use Rattle.apply_run.specs.Run.NotBegun.{GivesBack}
 use Rattle.apply_run.proofs.Runs.Headline.{faulted, for_work, if_err, if_ok, lost, not_started, refused, streamed, told_for}
 use Rattle.apply_run.proofs.applying.apply_stream.Goals as goal
 
@@ -71,15 +71,26 @@ returns-in-Ok-finished-clause-err g c =
     (λ p s t. IsCutOff p events (lines_of p s t (hook_messages_of events)) fault.report before.bytes after.bytes (before.failed + failed_writes stream.output.stop) after.failed)
     told (c.give_up-sink.ensures.part before.bytes before.failed events told.told))
 
+pub returns-in-Err-NoThread-clause-err : goal.returns-in-Err-NoThread-clause-err
+returns-in-Err-NoThread-clause-err g c =
+    let work : Work = record { plan = c.args.plan.now; script = c.args.script.now; hooks = rules_of c.args.registry.now } in
+    let options = c.args.options in
+    let before : Sight = sight_of g.S.Sink.bytes g.S.Sink.failed c.args.sink in
+    let after : Sight = sight_of g.S.Sink.bytes g.S.Sink.failed c.into_sink.result in
+    let back = rw c.in-Err-NoThread.field-0-is at c.into_sink.ensures in
+    let sink = back ∙ ap (λ (s : StreamWriter g.row.S.Denot). s.output.sink) (subst (GivesBack c.new-stream.result c.in-Ok.prepared.endpoints) c.in-Err-NoThread.field-0-is c.in-Err-NoThread.ensures.not_begun) ∙ c.new-stream.ensures.sink in
+    let same : after ≡ before = ap (λ (s : g.row.S.Denot). sight_of g.S.Sink.bytes g.S.Sink.failed s) sink in
+    let fault = c.at_once-in-Err-NoThread in
+    not_started work options fault.result.why fault.result.report before after fault.ensures.why fault.ensures.nothing same
+
 pub returns-clause-err : goal.returns-clause-err
 returns-clause-err g c =
     let work : Work = record { plan = c.args.plan.now; script = c.args.script.now; hooks = rules_of c.args.registry.now } in
     let options = c.args.options in
     let before : Sight = sight_of g.S.Sink.bytes g.S.Sink.failed c.args.sink in
-    let after : Sight = sight_of g.S.Sink.bytes g.S.Sink.failed c.into_sink.result in
-    let sink = c.into_sink.ensures ∙ ap (λ (s : StreamWriter g.row.S.Denot). s.output.sink) c.in-Err.ensures.not_begun ∙ c.new-stream.ensures.sink in
+    let after : Sight = sight_of g.S.Sink.bytes g.S.Sink.failed c.into_sink-in-Err-NoMemory.result in
+    let back = rw c.in-Err-NoMemory.field-0-is at c.into_sink-in-Err-NoMemory.ensures in
+    let sink = back ∙ ap (λ (s : StreamWriter g.row.S.Denot). s.output.sink) (subst (GivesBack c.new-stream.result c.in-Ok.prepared.endpoints) c.in-Err-NoMemory.field-0-is c.in-Err-NoMemory.ensures.not_begun).0 ∙ c.new-stream.ensures.sink in
     let same : after ≡ before = ap (λ (s : g.row.S.Denot). sight_of g.S.Sink.bytes g.S.Sink.failed s) sink in
-    ⊎_elim
-    (λ (w : c.in-Err.field-0.why ≡ Workers). not_started work options c.at_once-in-Err.result.why c.at_once-in-Err.result.report before after (c.at_once-in-Err.ensures.why ∙ w) c.at_once-in-Err.ensures.nothing same)
-    (λ (m : c.in-Err.field-0.why ≡ Memory). refused work options c.at_once-in-Err.result.why c.at_once-in-Err.result.report before after (c.at_once-in-Err.ensures.why ∙ m) c.at_once-in-Err.ensures.nothing same)
-    c.in-Err.ensures.why
+    let fault = c.at_once-in-Err-NoMemory in
+    refused work options fault.result.why fault.result.report before after fault.ensures.why fault.ensures.nothing same

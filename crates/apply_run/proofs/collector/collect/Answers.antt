@@ -1,9 +1,9 @@
-use Rattle.std.proofs.Common.{◌≡◌, ◌≤◌, ◌↔◌, ◌∙◌, All, false, length, refl, sym, ap, subst, subst₂, arith}
+use Rattle.std.proofs.Common.{◌≤◌, ◌∙◌, All, length, refl, sym, ap, subst, subst₂, arith}
 use Rattle.apply_bus.specs.Bus.{Account, NamesWorkersBelow}
 use Rattle.apply_bus.specs.Items.{events}
 use Rattle.apply_events.specs.Fits.{IsOfPlan}
 use Rattle.apply_run.specs.Stream.Telling.{HasTold, telling_of}
-use Rattle.apply_run.proofs.Taken.{count_more, fewer_to_lose, fewer_to_take, no_misfit, no_misfit_more, one_misfit, room_to_tell, told_more_items, told_no_items}
+use Rattle.apply_run.proofs.Taken.{count_more, fewer_to_lose, fewer_to_take, room_to_tell, told_more_items, told_no_items}
 use Rattle.apply_run.proofs.collector.collect.Goals as goal
 
 pub loop-rx-init : goal.loop-rx-init
@@ -18,18 +18,17 @@ loop-rx-init g c =
       room = w.room;
       few = let none = w.none in omega (arith, none);
       told = told_no_items _ _ _ _ _ c.args.rx.taken (telling_of g.S.Sink.bytes g.S.Sink.failed c.write_version.new.self) c.requires.none w.told;
-      fits = no_misfit (IsOfPlan c.args.stream.plan.now) c.args.rx.taken c.requires.none;
       lost = omega arith;
     }
 
 pub note-requires-clause-few : goal.note-requires-clause-few
 note-requires-clause-few g c = room_to_tell _ c.loop-rx.rx.taken c.take.new.self.taken c.in-Ok.item (ap (λ rx. rx.taken) c.in-Ok.ensures.ok) c.take.ensures.few c.loop-rx.invariant.few
 
-pub loop-rx-smaller-then-not-note : goal.loop-rx-smaller-then-not-note
-loop-rx-smaller-then-not-note g c = fewer_to_take _ c.loop-rx.rx.taken c.take.new.self.taken c.in-Ok.item (ap (λ rx. rx.taken) c.in-Ok.ensures.ok) c.take.ensures.few
+pub loop-rx-smaller-in-Ok : goal.loop-rx-smaller-in-Ok
+loop-rx-smaller-in-Ok g c = fewer_to_take _ c.loop-rx.rx.taken c.take.new.self.taken c.in-Ok.item (ap (λ rx. rx.taken) c.in-Ok.ensures.ok) c.take.ensures.few
 
-pub loop-rx-preserved-then-not-note : goal.loop-rx-preserved-then-not-note
-loop-rx-preserved-then-not-note g c =
+pub loop-rx-preserved-in-Ok : goal.loop-rx-preserved-in-Ok
+loop-rx-preserved-in-Ok g c =
     let i = c.loop-rx.invariant in
     let n = c.note.ensures in
     let taken = c.loop-rx.rx.taken in
@@ -44,30 +43,6 @@ loop-rx-preserved-then-not-note g c =
       room = n.room;
       few = count_more _ _ taken new c.in-Ok.item is n.one_more i.few;
       told = told_more_items _ _ _ _ _ _ _ _ taken new c.in-Ok.item (telling_of g.S.Sink.bytes g.S.Sink.failed c.loop-rx.stream) _ i.plan i.script i.start is i.told (n.told _ _ _);
-      fits = one_misfit _ _ c.note.result taken new c.in-Ok.item i.plan is n.fits c.if-not-note.true;
-      lost = i.lost;
-    }
-
-pub loop-rx-smaller-else-not-note : goal.loop-rx-smaller-else-not-note
-loop-rx-smaller-else-not-note g c = fewer_to_take _ c.loop-rx.rx.taken c.take.new.self.taken c.in-Ok.item (ap (λ rx. rx.taken) c.in-Ok.ensures.ok) c.take.ensures.few
-
-pub loop-rx-preserved-else-not-note : goal.loop-rx-preserved-else-not-note
-loop-rx-preserved-else-not-note g c =
-    let i = c.loop-rx.invariant in
-    let n = c.note.ensures in
-    let taken = c.loop-rx.rx.taken in
-    let new = c.take.new.self.taken in
-    let is = ap (λ rx. rx.taken) c.in-Ok.ensures.ok in
-    record {
-      bus = ap (λ rx. rx.bus) c.in-Ok.ensures.ok ∙ i.bus;
-      workers = ap (λ rx. rx.workers) c.in-Ok.ensures.ok ∙ i.workers;
-      plan = n.same.plan ∙ i.plan;
-      script = n.same.script ∙ i.script;
-      start = n.same.start ∙ i.start;
-      room = n.room;
-      few = count_more _ _ taken new c.in-Ok.item is n.one_more i.few;
-      told = told_more_items _ _ _ _ _ _ _ _ taken new c.in-Ok.item (telling_of g.S.Sink.bytes g.S.Sink.failed c.loop-rx.stream) _ i.plan i.script i.start is i.told (n.told _ _ _);
-      fits = no_misfit_more _ _ c.note.result c.loop-rx.misfit taken new c.in-Ok.item i.plan is n.fits c.if-not-note.false i.fits;
       lost = i.lost;
     }
 
@@ -89,7 +64,6 @@ loop-rx-preserved g c =
       room = i.room;
       few = subst (λ items. c.loop-rx.stream.taken ≤ length items) is i.few;
       told = subst (λ items. All (IsOfPlan s.plan.now) (events items) → HasTold s.plan.now s.script.now s.start (g.S.Sink.bytes s.output.sink) (g.S.Sink.failed s.output.sink) (events items) (telling_of g.S.Sink.bytes g.S.Sink.failed c.loop-rx.stream)) is i.told;
-      fits = subst (λ items. (c.loop-rx.misfit ≡ false) ↔ All (IsOfPlan s.plan.now) (events items)) is i.fits;
       lost = let low = c.if-lost_takes-lt-MAX_LOST.true in omega (arith, low);
     }
 

@@ -1,4 +1,4 @@
-use Rattle.std.proofs.Common.{◌≡◌, ◌↔◌, ◌≤◌, ◌+◌, ◌-◌, All, false, length}
+use Rattle.std.proofs.Common.{◌≡◌, ◌≤◌, ◌+◌, ◌-◌, All, length}
 use Rattle.apply_bus.specs.Items.{events, max_taken}
 use Rattle.apply_run.specs.Stream.Room.{HasRoom}
 use Rattle.apply_events.specs.Fits.{IsOfPlan}
@@ -18,7 +18,6 @@ invariant-loop-rx g l = record {
   told : All (IsOfPlan l.fn.stream.plan.now) (events l.rx.taken)
       → HasTold l.fn.stream.plan.now l.fn.stream.script.now l.fn.stream.start (g.S.Sink.bytes l.fn.stream.output.sink) (g.S.Sink.failed l.fn.stream.output.sink) (events l.rx.taken)
       (telling_of g.S.Sink.bytes g.S.Sink.failed l.stream);
-  fits : l.misfit ≡ false ↔ All (IsOfPlan l.fn.stream.plan.now) (events l.rx.taken);
   lost : l.lost_takes ≤ 1000;
 }
 

@@ -5,14 +5,14 @@ use Rattle.apply_events.specs.Fits.{IsOfPlan}
 use Rattle.apply_run.specs.Stream.Telling.{HasTold, telling_of}
 use Rattle.apply_run.proofs.collector.note.Goals as goal
 
-pub returns-then-fits-clause-told : goal.returns-then-fits-clause-told
-returns-then-fits-clause-told g c before failures so_far fits was =
+pub returns-then-is_of_plan-clause-told : goal.returns-then-is_of_plan-clause-told
+returns-then-is_of_plan-clause-told g c before failures so_far fits was =
     let s = c.args.stream.now in
     subst (λ item. HasTold s.plan.now s.script.now s.start before failures (so_far ++ events (item ∷ [])) (telling_of g.S.Sink.bytes g.S.Sink.failed c.tell.new.self)) (sym c.in-Event.is) (c.tell.ensures.told before failures so_far was)
 
-pub returns-else-fits-clause-told : goal.returns-else-fits-clause-told
-returns-else-fits-clause-told g c before failures so_far fits was =
+pub returns-else-is_of_plan-clause-told : goal.returns-else-is_of_plan-clause-told
+returns-else-is_of_plan-clause-told g c before failures so_far fits was =
     let plan = c.args.stream.now.plan.now in
     let here : IsOfPlan plan c.in-Event.event = All-head (IsOfPlan plan) c.in-Event.event [] (subst (λ item. All (IsOfPlan plan) (events (item ∷ []))) c.in-Event.is fits) in
-    let told = c.is_of_plan-fits.ensures.1 here in
+    let told = c.is_of_plan.ensures.1 here in
     absurd cc

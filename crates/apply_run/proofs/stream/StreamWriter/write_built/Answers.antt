@@ -1,4 +1,4 @@
-use Rattle.std.proofs.Common.{◌≡◌, ◌∙◌, ap, refl, sym, subst}
+use Rattle.std.proofs.Common.{◌≡◌, ◌∙◌, ap, sym, subst}
 use Rattle.std.specs.Prelude.{OnOk}
 use Rattle.apply_run.specs.Stream.Outlet.{Writes, failed_writes, outlet_of}
 use Rattle.apply_run.proofs.Streams.Writing.{refused_for_memory, stopped_for_memory}
