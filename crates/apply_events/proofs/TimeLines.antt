@@ -6,6 +6,7 @@ pub mod Ends
 pub mod Few
 pub mod Merge
 pub mod OneLane
+pub mod Open
 pub mod Order
 pub mod Partition
 pub mod Sharing

@@ -128,10 +128,10 @@ abbrev begin_in_change : Work → (c k at : ℕ) → ℕ
 begin_in_change work c k at = step_begin k at (begun (steps_of work c))
 
 -- an event of change c, which begins at a moment
-abbrev IsOfChange : Work → (c at : ℕ) → Event → Type 0
+abbrev pub IsOfChange : Work → (c at : ℕ) → Event → Type 0
 IsOfChange work c at e = (e.change ≡ c) × ComesAsTold (begin_in_change work c e.step at) e
 
-change_on_time : (work : Work) (w c at : ℕ) → All (IsOfChange work c at) (change_events work w c at)
+pub change_on_time : (work : Work) (w c at : ℕ) → All (IsOfChange work c at) (change_events work w c at)
 change_on_time work w c at =
     All-weaker (IsInTurn c 0 at (begun (steps_of work c))) (IsOfChange work c at) (λ e h. (h.0, h.2)) (change_events work w c at)
     (steps_in_turn w c 0 at (begun (steps_of work c)) (begun_of c 0 (steps_of work c) (enumerated work c 0 (kinds_of work.plan c))))

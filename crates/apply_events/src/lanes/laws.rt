@@ -1,6 +1,6 @@
 //! Laws of time lines. Each function does nothing; its contract is the law.
 
-ghost use Rattle.std.specs.Prelude.{◌≡◌, ◌*◌, ◌<◌, ◌≤◌, [], ℕ, All, get_or, length, List, sum_by};
+ghost use Rattle.std.specs.Prelude.{◌≡◌, ◌*◌, ◌<◌, ◌≤◌, ◌++◌, [], ℕ, All, get_or, length, List, sum_by};
 ghost use Rattle.std.specs.List.{range_with_len};
 ghost use Rattle.std.specs.List.Sorted.{IsNonDecreasingBy};
 ghost use Rattle.apply_events.specs.Partition.{IsPartition};
@@ -10,6 +10,7 @@ ghost use Rattle.apply_events.specs.Step.{Work};
 ghost use Rattle.apply_events.specs.WorkerEvents.{worker_events};
 ghost use Rattle.apply_events.specs.Lanes.Dealing.{lanes};
 ghost use Rattle.apply_events.specs.Lanes.Merging.{time_line};
+ghost use Rattle.apply_events.specs.Lanes.Progress.{open_after};
 ghost use Rattle.apply_events.specs.Lanes.Sharing.{free_before, under_way};
 ghost use Rattle.apply_events.specs.Lanes.StepTimes.{HasOneBegin};
 ghost use Rattle.apply_events.specs.Lanes.TimeLine.{IsTimeLine};
@@ -55,9 +56,12 @@ pub fn a_time_line_ends_by_the_sum_of_all_spans()
         → All (λ event. event.at ≤ sum_by (span_of work) (range_with_len 0 (length work.plan.changes))) events }
 {}
 
-/// No more changes are under way at once than there are lanes.
+/// No more changes are under way at once than there are lanes: at no place of a time line more have a step that has
+/// started and has not ended, and at no moment more have begun whose spans are not over.
 pub fn no_more_changes_are_under_way_than_lanes()
-    ensures { (work : Work) (n moment : ℕ) → under_way work n moment ≤ n }
+    ensures at_a_place { (work : Work) (n : ℕ) (front rest : List Event) → IsTimeLine work n (front ++ rest)
+        → open_after work front ≤ n }
+    ensures at_a_moment { (work : Work) (n moment : ℕ) → under_way work n moment ≤ n }
 {}
 
 /// No lane is idle while a change waits: the lane that has a change is free of its changes before that one no later than
