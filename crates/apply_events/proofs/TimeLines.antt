@@ -1,5 +1,6 @@
 -- Lanes and their time line.
 pub mod Along
+pub mod Busy
 pub mod Changes
 pub mod Dealt
 pub mod Ends

@@ -187,7 +187,7 @@ steps_balanced c w at (s ∷ steps) =
 
 -- ---- within a lane
 
-abbrev Names : (c : ℕ) → Event → Type 0
+abbrev pub Names : (c : ℕ) → Event → Type 0
 Names c e = e.change ≡ c
 
 others_closed : (c d : ℕ) (es : List Event) → All (Names c) es → d ≢ c → starts_of d es ≡ 0
@@ -215,7 +215,7 @@ open_behind m es fs over = sum_by-le-sum_by (λ d. bit (is_open_after (es ++ fs)
     (λ (le : starts_of d fs ≤ ends_of d fs). let off = bit_off (ends_of d (es ++ fs)) (starts_of d (es ++ fs)) (omega arith) in omega arith)
     (cases_lt (ends_of d fs) (starts_of d fs)))
 
-change_names : (work : Work) (w c at : ℕ) → All (Names c) (change_events work w c at)
+pub change_names : (work : Work) (w c at : ℕ) → All (Names c) (change_events work w c at)
 change_names work w c at = All-weaker (IsOfChange work c at) (Names c) (λ e h. h.0) (change_events work w c at) (change_on_time work w c at)
 
 none_open : (m : ℕ) → sum_by (λ d. bit (is_open_after [] d)) (range_with_len 0 m) ≤ 1

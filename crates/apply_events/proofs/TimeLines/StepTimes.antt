@@ -144,7 +144,7 @@ change_begin work c at [] = at
 change_begin work c at (x ∷ xs) = if x == c then at else change_begin work c (at + span_of work x) xs
 
 -- an event of one of these changes
-abbrev IsOfLane : Work → (at : ℕ) → List ℕ → Event → Type 0
+abbrev pub IsOfLane : Work → (at : ℕ) → List ℕ → Event → Type 0
 IsOfLane work at changes e = (1 ≤ count_of e.change changes) × ComesAsTold (begin_in_change work e.change e.step (change_begin work e.change at changes)) e
 
 of_first : (work : Work) (c at : ℕ) (changes : List ℕ) (e : Event) → IsOfChange work c at e → IsOfLane work at (c ∷ changes) e
@@ -162,7 +162,7 @@ of_later work c at changes e rise h =
     let later : change_begin work e.change at (c ∷ changes) ≡ change_begin work e.change (at + span_of work c) changes = ap (λ b. cond b at (change_begin work e.change (at + span_of work c) changes)) (ne_eqb c e.change other) in
     (omega arith, subst (λ b. ComesAsTold (begin_in_change work e.change e.step b) e) (sym later) h.1)
 
-lane_on_time : (work : Work) (w low at : ℕ) (changes : List ℕ) → RisesFrom low changes → All (IsOfLane work at changes) (in_turn (change_events work w) (span_of work) changes at)
+pub lane_on_time : (work : Work) (w low at : ℕ) (changes : List ℕ) → RisesFrom low changes → All (IsOfLane work at changes) (in_turn (change_events work w) (span_of work) changes at)
 lane_on_time work w low at [] rise = All-nil (IsOfLane work at [])
 lane_on_time work w low at (c ∷ changes) rise =
     let first = change_events work w c at in let later = in_turn (change_events work w) (span_of work) changes (at + span_of work c) in
