@@ -6,8 +6,8 @@ ghost use Rattle.apply_bus.specs.Claims.{lists_drawn, workers_of, IsDealtOut};
 
 use crate::claims::Claims;
 use crate::claims_rule::{EntersEmpty, Hand, JoinsShares, LooksAtShares};
-use crate::drawer::Drawer;
 use crate::dealt_numbers::Shared;
+use crate::drawer::Drawer;
 use atomic_table::Seat;
 use std::marker::Model;
 

@@ -1,5 +1,5 @@
 -- The progress times of a step, one by one.
-use Rattle.std.proofs.Common.{◌≡◌, ℕ, zero, suc, ◌+◌, ◌-◌, ◌*◌, ◌/◌, ◌%◌, ◌<◌, ◌≤◌, nat_eq, nat_le, nat_lt, Bool, true, false, ◌&&◌, List, [], ◌∷◌, cond, filter, length, refl, ap, sym, subst, ◌∙◌, arith, zero-add, add-zero, ◌⊎◌, inl, inr, ⊎_elim, le-ltb, lt-ltb}
+use Rattle.std.proofs.Common.{◌≡◌, ℕ, zero, suc, ◌+◌, ◌-◌, ◌*◌, ◌/◌, ◌%◌, ◌<◌, ◌≤◌, nat_eq, nat_le, nat_lt, Bool, true, false, ◌&&◌, List, [], ◌∷◌, cond, filter, length, refl, ap, sym, subst, ◌∙◌, arith, zero-add, add-zero, ◌⊎◌, inl, inr, ⊎_elim, le-ltb, lt-ltb, if◌then◌else◌}
 use Rattle.std.specs.List.{list_any, range_with_len}
 use Rattle.std.proofs.lemmas.Bool.{cases_lt, le-leb, lt-leb}
 use Rattle.std.proofs.lemmas.Bool.Decides.{eqb_tells}
@@ -121,17 +121,50 @@ no_time d a b out =
     (λ (early : b < next_ten a). ⊎_elim (λ (lt : 1 + i < next_ten a). before_next a b (1 + i) lt) (λ (le : next_ten a ≤ 1 + i). too_late a b (1 + i) (omega arith)) (cases_lt (1 + i) (next_ten a)))
     (λ (short : d ≤ next_ten a). before_next a b (1 + i) (omega arith)) out)
 
--- so many at most
-pub few_times : (n d a b : ℕ) → b / 10 ≤ a / 10 + n → length (times_within d a b) ≤ n
-few_times zero d a b few = let none = ap length (no_time d a b (inl (omega arith))) in omega arith
-few_times (suc n) d a b few = ⊎_elim
+-- so many at most, where those that count end by some number
+few_times : (n d a b top : ℕ) → (b ≤ top) ⊎ (d ≤ top + 1) → top / 10 ≤ a / 10 + n → length (times_within d a b) ≤ n
+few_times zero d a b top ends few =
+    let none = ap length (no_time d a b (⊎_elim (λ (le : b ≤ top). inl (omega arith)) (λ (le : d ≤ top + 1). inr (omega arith)) ends)) in omega arith
+few_times (suc n) d a b top ends few = ⊎_elim
     (λ (le : next_ten a < b + 1). ⊎_elim
     (λ (lt : next_ten a < d).
-    let rest = few_times n d (next_ten a) b (omega arith) in let one = ap length (next_time d a b (omega arith) lt) in omega arith)
+    let rest = few_times n d (next_ten a) b top ends (omega arith) in let one = ap length (next_time d a b (omega arith) lt) in omega arith)
     (λ (short : d ≤ next_ten a). let none = ap length (no_time d a b (inr short)) in omega arith)
     (cases_lt (next_ten a) d))
     (λ (early : b + 1 ≤ next_ten a). let none = ap length (no_time d a b (inl (omega arith))) in omega arith)
     (cases_lt (next_ten a) (b + 1))
+
+-- how many progress times a step of d seconds has up to some seconds
+pub times_up_to : (d seconds : ℕ) → ℕ
+times_up_to d seconds = (if nat_lt seconds d then seconds else d - 1) / 10
+
+up_to_early : (d seconds : ℕ) → seconds < d → times_up_to d seconds ≡ seconds / 10
+unfolding times_up_to
+up_to_early d seconds lt = ap (λ b. (if b then seconds else d - 1) / 10) (lt-ltb seconds d lt)
+
+up_to_late : (d seconds : ℕ) → d ≤ seconds → times_up_to d seconds ≡ (d - 1) / 10
+unfolding times_up_to
+up_to_late d seconds le = ap (λ b. (if b then seconds else d - 1) / 10) (le-ltb seconds d le)
+
+pub up_to_end : (d : ℕ) → times_up_to d d ≡ (d - 1) / 10
+up_to_end d = up_to_late d d (omega arith)
+
+pub few_within : (d a b : ℕ) → a ≤ b → length (times_within d a b) + times_up_to d a ≤ times_up_to d b
+few_within d a b le = ⊎_elim
+    (λ (early : b < d).
+    let begin = up_to_early d a (omega arith) in let end = up_to_early d b early in
+    let few = few_times (b / 10 - a / 10) d a b b (inl (omega arith)) (omega arith) in omega arith)
+    (λ (over : d ≤ b).
+    let end = up_to_late d b over in
+    ⊎_elim
+    (λ (lt : a < d).
+    let begin = up_to_early d a lt in
+    let few = few_times ((d - 1) / 10 - a / 10) d a b (d - 1) (inr (omega arith)) (omega arith) in omega arith)
+    (λ (late : d ≤ a).
+    let begin = up_to_late d a late in
+    let few = few_times 0 d a b (d - 1) (inr (omega arith)) (omega arith) in omega arith)
+    (cases_lt a d))
+    (cases_lt b d)
 
 -- they stand in order within the two numbers
 after : (a b p : ℕ) → is_within a b p ≡ true → a < p

@@ -1,5 +1,5 @@
 -- What happens to a step between its start and its end: what holds of all of it, when it happens, and how much it is.
-use Rattle.std.proofs.Common.{◌≡◌, ℕ, zero, suc, ◌+◌, ◌-◌, ◌*◌, ◌/◌, ◌<◌, ◌≤◌, All, List, [], ◌∷◌, ◌++◌, get_or, length, length-append, map, Some, refl, ap, arith, sym}
+use Rattle.std.proofs.Common.{◌≡◌, ℕ, zero, suc, ◌+◌, ◌-◌, ◌*◌, ◌/◌, ◌<◌, ◌≤◌, All, List, [], ◌∷◌, ◌++◌, get_or, length, length-append, map, Some, refl, ap, ◌∙◌, arith, sym}
 use Rattle.std.specs.Prelude.{slice_get, sum_by}
 use Rattle.std.specs.List.{range_with_len}
 use Rattle.std.proofs.lemmas.List.{length-map}
@@ -11,7 +11,7 @@ use Rattle.apply_plan.specs.Script.Outcome.{seconds_of_all}
 use Rattle.apply_events.specs.declared.what.What.{What}
 use Rattle.apply_events.specs.declared.what.What.TheVariants.{Progress, ProvisionOutput, ProvisionStart}
 use Rattle.apply_events.specs.Provisions.{along, progress, provision_end, provisions, results, times_within}
-use Rattle.apply_events.proofs.ProgressTimes.{few_times, times_rise}
+use Rattle.apply_events.proofs.ProgressTimes.{few_within, times_rise, times_up_to, up_to_end}
 use Rattle.apply_events.proofs.Rising.{Rises, Rises-append, Rises-lower, Rises-map_same}
 
 all-map : {X Y : Type 0} (P : Y → Type 0) (g : X → Y) (xs : List X) → ((x : X) → P (g x)) → All P (map g xs)
@@ -93,8 +93,8 @@ few_results i p few =
     omega arith
 
 few_provisions : (d i since : ℕ) (ps : List Provisioner) → All (λ p. length p.output ≤ 100) ps
-    → length (provisions d i since ps) + since / 10 ≤ 102 * length ps + (since + seconds_of_all ps) / 10
-few_provisions d i since [] few = omega arith
+    → length (provisions d i since ps) + times_up_to d since ≤ 102 * length ps + times_up_to d (since + seconds_of_all ps)
+few_provisions d i since [] few = let same = ap (times_up_to d) (let none : since + seconds_of_all [] ≡ since = omega arith in none) in omega arith
 few_provisions d i since (p ∷ ps) few =
     let until = since + p.seconds in
     let beats = progress d since until in
@@ -103,19 +103,21 @@ few_provisions d i since (p ∷ ps) few =
     let here : length p.output ≤ 100 = All-head (λ (q : Provisioner). length q.output ≤ 100) p ps few in
     let many : length (results i 0 p) ≤ 101 = few_results i p here in
     let as_many : length told ≡ length (results i 0 p) = length-map (results i 0 p) (λ (what : What). (until, what)) in
-    let times = few_times (until / 10 - since / 10) d since until (omega arith) in
+    let times = few_within d since until (omega arith) in
     let as_times : length beats ≡ length (times_within d since until) = length-map (times_within d since until) (λ (t : ℕ). (t, Progress t)) in
     let front : length ((since, ProvisionStart i) ∷ beats ++ told) ≡ suc (length beats) + length told = length-append ((since, ProvisionStart i) ∷ beats) told in
     let all : length ((since, ProvisionStart i) ∷ beats ++ told ++ provisions d (i + 1) until ps) ≡ length ((since, ProvisionStart i) ∷ beats ++ told) + length (provisions d (i + 1) until ps) = length-append ((since, ProvisionStart i) ∷ beats ++ told) (provisions d (i + 1) until ps) in
     let seconds = sum_by-cons (λ (q : Provisioner). q.seconds) p ps in
     let whole : since + seconds_of_all (p ∷ ps) ≡ until + seconds_of_all ps = omega arith in
-    let tens = ap (λ n. n / 10) whole in
+    let last = ap (times_up_to d) whole in
     omega arith
 
-pub few_along : (d since : ℕ) (ps : List Provisioner) → All (λ p. length p.output ≤ 100) ps → length ps ≤ 8 → since + seconds_of_all ps ≤ 86400
-    → length (along d 0 0 since ps) ≤ 9456
-few_along d since ps little few short =
-    let times = few_times (since / 10) d 0 since (omega arith) in
+-- up to the end of a day, with few provisioners
+pub few_along : (d since : ℕ) (ps : List Provisioner) → All (λ p. length p.output ≤ 100) ps → length ps ≤ 8 → d ≡ since + seconds_of_all ps → d ≤ 86400
+    → length (along d 0 0 since ps) ≤ 9455
+few_along d since ps little few whole short =
+    let times = few_within d 0 since (omega arith) in
+    let last = sym (ap (times_up_to d) whole) ∙ up_to_end d in
     let as_times : length (progress d 0 since) ≡ length (times_within d 0 since) = length-map (times_within d 0 since) (λ (t : ℕ). (t, Progress t)) in
     let rest = few_provisions d 0 since ps little in
     let all : length (along d 0 0 since ps) ≡ length (progress d 0 since) + length (provisions d 0 since ps) = length-append (progress d 0 since) (provisions d 0 since ps) in

@@ -3,6 +3,7 @@ pub mod Dealing
 pub mod Lane
 pub mod LaneState
 pub mod Merging
+pub mod Progress
 pub mod Props
 pub mod Sharing
 pub mod StepTimes

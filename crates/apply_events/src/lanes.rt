@@ -32,7 +32,7 @@ pub struct Lanes<'a> {
     ghost some: { 0 < length lanes.items },
     ghost steady: { IsSteady (map state_of lanes.items) } by { IsSteady-prop (map state_of lanes.items) },
     ghost sound: { All (λ lane. IsSound plan.now change lane) lanes.items } by { AllSound-prop plan.now change lanes.items },
-    ghost counted: { told + sum_by count_left (map state_of lanes.items) ≤ 20000 * change },
+    ghost counted: { told + sum_by count_left (map state_of lanes.items) ≤ 18918 * change },
 }
 
 impl<'a> Lanes<'a> {

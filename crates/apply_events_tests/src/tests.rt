@@ -15,7 +15,7 @@ mod lanes;
 mod notes;
 mod provisioners;
 
-use apply_events::{Counts, Event, LATEST, Lanes, Runner, What, fits};
+use apply_events::{Counts, Event, LATEST, Lanes, Runner, What, fits, is_of_plan};
 use apply_hooks::{FnHook, HookCall, HookClosure, Phase, Registry, Rules, Verdict};
 use apply_plan::{Plan, Script, StepKind, read_plan, read_script};
 use std::alloc::Global;

@@ -9,8 +9,8 @@ ghost use Rattle.apply_text.specs.Lines.{event_text, message_line, summary_text,
 ghost use Rattle.apply_text.specs.Message.{progress_message};
 
 use crate::applied_step::AppliedStep;
-use crate::display::moment::Moment;
 use crate::cached_parts::frames::ProgressFrames;
+use crate::display::moment::Moment;
 use crate::messages::{put_event, put_summary, put_version};
 use crate::operation::Operation;
 use crate::start::Start;

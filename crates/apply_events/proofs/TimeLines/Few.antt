@@ -1,5 +1,5 @@
 -- How many events a change has at most, and the lanes of some changes.
-use Rattle.std.proofs.Common.{◌≡◌, ℕ, zero, suc, ◌+◌, ◌*◌, ◌<◌, ◌≤◌, All, true, false, List, [], ◌∷◌, ◌++◌, cond, get_or, length, length-append, map, replicate, set, sum_by, Option, Some, None, sym, ap, subst, ◌∙◌, arith, ⊎_elim}
+use Rattle.std.proofs.Common.{◌≡◌, ℕ, zero, suc, ◌+◌, ◌*◌, ◌<◌, ◌≤◌, All, true, false, List, [], ◌∷◌, ◌++◌, cond, get_or, length, length-append, map, replicate, set, sum_by, Option, Some, None, sym, refl, ap, subst, ◌∙◌, arith, ⊎_elim}
 use Rattle.std.specs.Prelude.{is_some, option_map, option_to_list, slice_get, unwrap_or, IfSome}
 use Rattle.std.specs.List.{enumerate_from}
 use Rattle.std.specs.Option.{option_map_or}
@@ -41,7 +41,7 @@ few_found w s phase at None = omega arith
 few_found w s phase at (Some hook) = omega arith
 
 -- a start, what lies between, and what comes at the end
-few_joined : (e : Event) (progress ends halt : List Event) → length progress ≤ 9456 → length ends ≤ 2 → length halt ≤ 1 → length (e ∷ (progress ++ ends ++ halt)) ≤ 10000
+few_joined : (e : Event) (progress ends halt : List Event) → length progress ≤ 9455 → length ends ≤ 2 → length halt ≤ 1 → length (e ∷ (progress ++ ends ++ halt)) ≤ 9459
 few_joined e progress ends halt p q r =
     let front : length (progress ++ ends) ≡ length progress + length ends = length-append progress ends in
     let all : length (progress ++ ends ++ halt) ≡ length (progress ++ ends) + length halt = length-append (progress ++ ends) halt in
@@ -53,18 +53,18 @@ pub record IsSmall (s : Step) : Type 0 where
   pub few : length s.ran ≤ 8
   pub little : All (λ p. length p.output ≤ 100) s.ran
 
-few_started : (w : ℕ) (s : Step) (at : ℕ) → IsSmall s → length (started w s at) ≤ 10000
+few_started : (w : ℕ) (s : Step) (at : ℕ) → IsSmall s → length (started w s at) ≤ 9459
 few_started w s at small =
     let beat : ℕ × What → Event = (λ p. event w s (at + p.0) p.1) in
     let tell : What → Event = (λ what. event w s (at + seconds_of s) what) in
-    let inside : length (between s) ≤ 9456 = few_along (seconds_of s) s.provider_seconds s.ran small.little small.few small.short in
+    let inside : length (between s) ≤ 9455 = few_along (seconds_of s) s.provider_seconds s.ran small.little small.few refl small.short in
     let same : length (map beat (between s)) ≡ length (between s) = length-map (between s) beat in
     let last : length (map tell (endings s)) ≡ length (endings s) = length-map (endings s) tell in
     let note : length (notes s.fails s.warns) ≤ 1 = few_notes s.fails s.warns in
     few_joined (event w s at Start) (map beat (between s)) (map tell (endings s)) (halts w s (phase_after s.fails) (at + seconds_of s))
     (omega arith) (omega arith) (few_found w s (phase_after s.fails) (at + seconds_of s) (s.halts (phase_after s.fails)))
 
-few_step : (w : ℕ) (s : Step) (at : ℕ) (found : Option ℕ) → IsSmall s → length (cond (is_some found) (option_to_list (option_map (λ hook. event w s at (Halted Pre hook)) found)) (started w s at)) ≤ 10000
+few_step : (w : ℕ) (s : Step) (at : ℕ) (found : Option ℕ) → IsSmall s → length (cond (is_some found) (option_to_list (option_map (λ hook. event w s at (Halted Pre hook)) found)) (started w s at)) ≤ 9459
 few_step w s at None short = few_started w s at short
 few_step w s at (Some hook) short = let one = few_found w s Pre at (Some hook) in omega arith
 
@@ -82,14 +82,14 @@ small_step work c n kind bounded =
     }
 
 few_steps : (work : Work) (w c n : ℕ) (kinds : List StepKind) (at : ℕ) → n + length kinds ≤ 2 → ((k : ℕ) → k < 2 → IsBounded (outcome_of work.script c k))
-    → length (in_turn (step_events w) step_time (begun (map (λ p. step_of work c p.0 p.1) (enumerate_from n kinds))) at) ≤ 10000 * length kinds
+    → length (in_turn (step_events w) step_time (begun (map (λ p. step_of work c p.0 p.1) (enumerate_from n kinds))) at) ≤ 9459 * length kinds
 few_steps work w c n [] at few short = omega arith
 few_steps work w c n (kind ∷ kinds) at few short =
     let s = step_of work c n kind in
     let steps = begun (map (λ p. step_of work c p.0 p.1) (enumerate_from (n + 1) kinds)) in
-    let here : length (step_events w s at) ≤ 10000 = few_step w s at (s.halts Pre) (small_step work c n kind (short n (omega arith))) in
+    let here : length (step_events w s at) ≤ 9459 = few_step w s at (s.halts Pre) (small_step work c n kind (short n (omega arith))) in
     let rest = few_steps work w c (n + 1) kinds (at + step_time s) (omega arith) short in
-    elim (goes_on s) as (λ b. length (in_turn (step_events w) step_time (s ∷ cond b steps []) at) ≤ 10000 * suc (length kinds)) [
+    elim (goes_on s) as (λ b. length (in_turn (step_events w) step_time (s ∷ cond b steps []) at) ≤ 9459 * suc (length kinds)) [
       | true ↦ (let both = length-append (step_events w s at) (in_turn (step_events w) step_time steps (at + step_time s)) in omega arith)
       | false ↦ (let both = length-append (step_events w s at) [] in omega arith)
     ]
@@ -103,7 +103,7 @@ pub bounded : (found : Option Outcome) → IfSome found IsBounded → IsBounded 
 bounded None within = record { short = omega arith; few_provisioners = omega arith; little_output = All-nil (λ (p : Provisioner). length p.output ≤ 100) }
 bounded (Some outcome) within = within
 
-pub few_events : (work : Work) (w c at : ℕ) → length (kinds_of work.plan c) ≤ 2 → IsBounded (outcome_of work.script c 0) → IsBounded (outcome_of work.script c 1) → length (change_events work w c at) ≤ 20000
+pub few_events : (work : Work) (w c at : ℕ) → length (kinds_of work.plan c) ≤ 2 → IsBounded (outcome_of work.script c 0) → IsBounded (outcome_of work.script c 1) → length (change_events work w c at) ≤ 18918
 few_events work w c at few first second =
     let all = few_steps work w c 0 (kinds_of work.plan c) at (omega arith) (λ k lt. short_at k lt) in omega arith
   where
@@ -118,32 +118,32 @@ pub few_unused : (n : ℕ) → sum_by count_left (replicate n unused) ≡ 0
 few_unused n = sum_by-replicate count_left n unused ∙ omega arith
 
 -- a lane with no event left gets a change
-few_taken : (told begun : ℕ) (states : List LaneState) (w : ℕ) (s : LaneState) → w < length states → (get_or states w unused).events ≡ [] → length s.events ≤ 20000
-    → told + sum_by count_left states ≤ 20000 * begun → told + sum_by count_left (set states w s) ≤ 20000 * (begun + 1)
+few_taken : (told begun : ℕ) (states : List LaneState) (w : ℕ) (s : LaneState) → w < length states → (get_or states w unused).events ≡ [] → length s.events ≤ 18918
+    → told + sum_by count_left states ≤ 18918 * begun → told + sum_by count_left (set states w s) ≤ 18918 * (begun + 1)
 few_taken told begun states w s lt none few h =
     let sum = sum_by-set count_left states w s unused lt in let gone = ap length none in omega arith
 
 -- a lane tells an event
 few_told : (told begun : ℕ) (states : List LaneState) (w : ℕ) (s : LaneState) (e : Event) → w < length states → (get_or states w unused).events ≡ e ∷ s.events
-    → told + sum_by count_left states ≤ 20000 * begun → told + 1 + sum_by count_left (set states w s) ≤ 20000 * begun
+    → told + sum_by count_left states ≤ 18918 * begun → told + 1 + sum_by count_left (set states w s) ≤ 18918 * begun
 few_told told begun states w s e lt one h =
     let sum = sum_by-set count_left states w s unused lt in let more = ap length one in omega arith
 
 -- a lane that is not free tells one
 pub few_tells : (told begun : ℕ) (before after : List LaneState) (w : ℕ) (result : Option Event) → w < length before → None ≡ free_in (get_or before w unused).events (get_or before w unused).free
-    → TellsNext before w result after → told + sum_by count_left before ≤ 20000 * begun → told + 1 + sum_by count_left after ≤ 20000 * begun
+    → TellsNext before w result after → told + sum_by count_left before ≤ 18918 * begun → told + 1 + sum_by count_left after ≤ 18918 * begun
 few_tells told begun before after w None lt busy tells h = absurd (busy_parts (get_or before w unused).events (get_or before w unused).free busy tells.2.0)
 few_tells told begun before after w (Some e) lt busy tells h =
-    subst (λ l. told + 1 + sum_by count_left l ≤ 20000 * begun) (sym tells.1) (few_told told begun before w tells.0 e lt tells.2 h)
+    subst (λ l. told + 1 + sum_by count_left l ≤ 18918 * begun) (sym tells.1) (few_told told begun before w tells.0 e lt tells.2 h)
 
 -- a free lane begins a change
 pub begin_counted : {a b : _} {g : _} (told begun : ℕ) (items : List (Lane a b g)) (w at : ℕ) (new : Lane a b g) → w < length items
-    → Some at ≡ free_in (get_or (map state_of items) w unused).events (get_or (map state_of items) w unused).free → length (state_of new).events ≤ 20000
-    → told + sum_by count_left (map state_of items) ≤ 20000 * begun → told + sum_by count_left (map state_of (set items w new)) ≤ 20000 * (begun + 1)
+    → Some at ≡ free_in (get_or (map state_of items) w unused).events (get_or (map state_of items) w unused).free → length (state_of new).events ≤ 18918
+    → told + sum_by count_left (map state_of items) ≤ 18918 * begun → told + sum_by count_left (map state_of (set items w new)) ≤ 18918 * (begun + 1)
 begin_counted told begun items w at new lt free few h =
     let states = map state_of items in
     let count = length-map items state_of in
-    subst (λ l. told + sum_by count_left l ≤ 20000 * (begun + 1)) (sym (map-set state_of items w new))
+    subst (λ l. told + sum_by count_left l ≤ 18918 * (begun + 1)) (sym (map-set state_of items w new))
     (few_taken told begun states w (state_of new) (omega arith) (idle_parts (get_or states w unused).events (get_or states w unused).free at free).0 few h)
 
 pub if_some_any : {X P : Type 0} (found : Option X) → P → IfSome found (λ _. P)

@@ -128,10 +128,10 @@ abbrev begin_in_change : Work → (c k at : ℕ) → ℕ
 begin_in_change work c k at = step_begin k at (begun (steps_of work c))
 
 -- an event of change c, which begins at a moment
-abbrev IsOfChange : Work → (c at : ℕ) → Event → Type 0
+abbrev pub IsOfChange : Work → (c at : ℕ) → Event → Type 0
 IsOfChange work c at e = (e.change ≡ c) × ComesAsTold (begin_in_change work c e.step at) e
 
-change_on_time : (work : Work) (w c at : ℕ) → All (IsOfChange work c at) (change_events work w c at)
+pub change_on_time : (work : Work) (w c at : ℕ) → All (IsOfChange work c at) (change_events work w c at)
 change_on_time work w c at =
     All-weaker (IsInTurn c 0 at (begun (steps_of work c))) (IsOfChange work c at) (λ e h. (h.0, h.2)) (change_events work w c at)
     (steps_in_turn w c 0 at (begun (steps_of work c)) (begun_of c 0 (steps_of work c) (enumerated work c 0 (kinds_of work.plan c))))
@@ -144,7 +144,7 @@ change_begin work c at [] = at
 change_begin work c at (x ∷ xs) = if x == c then at else change_begin work c (at + span_of work x) xs
 
 -- an event of one of these changes
-abbrev IsOfLane : Work → (at : ℕ) → List ℕ → Event → Type 0
+abbrev pub IsOfLane : Work → (at : ℕ) → List ℕ → Event → Type 0
 IsOfLane work at changes e = (1 ≤ count_of e.change changes) × ComesAsTold (begin_in_change work e.change e.step (change_begin work e.change at changes)) e
 
 of_first : (work : Work) (c at : ℕ) (changes : List ℕ) (e : Event) → IsOfChange work c at e → IsOfLane work at (c ∷ changes) e
@@ -162,7 +162,7 @@ of_later work c at changes e rise h =
     let later : change_begin work e.change at (c ∷ changes) ≡ change_begin work e.change (at + span_of work c) changes = ap (λ b. cond b at (change_begin work e.change (at + span_of work c) changes)) (ne_eqb c e.change other) in
     (omega arith, subst (λ b. ComesAsTold (begin_in_change work e.change e.step b) e) (sym later) h.1)
 
-lane_on_time : (work : Work) (w low at : ℕ) (changes : List ℕ) → RisesFrom low changes → All (IsOfLane work at changes) (in_turn (change_events work w) (span_of work) changes at)
+pub lane_on_time : (work : Work) (w low at : ℕ) (changes : List ℕ) → RisesFrom low changes → All (IsOfLane work at changes) (in_turn (change_events work w) (span_of work) changes at)
 lane_on_time work w low at [] rise = All-nil (IsOfLane work at [])
 lane_on_time work w low at (c ∷ changes) rise =
     let first = change_events work w c at in let later = in_turn (change_events work w) (span_of work) changes (at + span_of work c) in

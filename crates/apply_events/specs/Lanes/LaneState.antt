@@ -61,4 +61,3 @@ moment_of waits s = moment_in waits s.events s.free
 abbrev pub IsEarly : List Event → Type 0
 IsEarly [] = Unit {0}
 IsEarly (e ∷ es) = e.at ≤ last_moment
-

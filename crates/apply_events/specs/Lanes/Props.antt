@@ -20,9 +20,10 @@ IsSteady-prop states = Π_prop λ lane. Π_prop λ _. Runs-prop lane 0 _ _
 IsSound-prop : {a b : _} {g : _} (plan : SavedPlan) (begun : ℕ) (lane : Lane a b g) → IsProp (IsSound plan begun lane)
 IsSound-prop plan begun (Free at) = le_prop
 IsSound-prop plan begun (Busy busy) = λ p q i. (
-      record { has_step = le_prop p.0.has_step q.0.has_step i; in_time = le_prop p.0.in_time q.0.in_time i },
-      le_prop p.1 q.1 i, λ c k h. le_prop (p.2 c k h) (q.2 c k h) i,
-    )
+  record { has_step = le_prop p.0.has_step q.0.has_step i; in_time = le_prop p.0.in_time q.0.in_time i },
+  le_prop p.1 q.1 i,
+  λ c k h. le_prop (p.2 c k h) (q.2 c k h) i,
+)
 
 pub AllSound-prop : {a b : _} {g : _} (plan : SavedPlan) (begun : ℕ) (lanes : List (Lane a b g))
     → IsProp (All (λ lane. IsSound plan begun lane) lanes)

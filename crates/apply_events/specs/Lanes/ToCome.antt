@@ -40,10 +40,11 @@ free_at l lane = free_in (get_or (states_of l) lane unused).events (get_or (stat
 abbrev pub told_count : {a b : _} {g : _} → Lanes a b g → ℕ
 told_count l = l.told
 
--- the most events that a change has
+-- the most events that a change has: two steps of 9,459 each, which are 1 start, 8,639 of progress, 8 provisioners with
+-- 1 start, 100 outputs and 1 end each, and 1 end, 1 note and 1 halt
 abbrev pub max_of_change : ℕ
-max_of_change = 20000
+max_of_change = 18918
 
 -- the most that there are of 10,000 changes
 abbrev pub max_events : ℕ
-max_events = 200000000
+max_events = 189180000

@@ -176,3 +176,20 @@ fn events_happen_in_time_to_changes_of_the_plan(rt: HostRuntime) {
     start_fits(&rt, plan, 0, 1_728_000_001, false);
     start_fits(&rt, plan, 1, 0, false);
 }
+
+/// Fails where that of a step at that moment is of the plan and should not be, or the other way round.
+fn is_told_of(rt: &impl Abort, plan: &Plan, change: u32, step: u8, at: u64, wanted: bool) {
+    // It takes another time than the script says, and is of the plan for all that.
+    let found = is_of_plan(plan, &event(change, step, What::Complete(99), at));
+    holds(rt, "an event of the plan", found == wanted);
+}
+
+#[test]
+fn events_of_the_plan_have_its_steps_and_come_in_time(rt: HostRuntime) {
+    let plan = plan_of(&rt, rt.alloc(), REPLACEMENT);
+    is_told_of(&rt, plan, 0, 0, 0, true);
+    is_told_of(&rt, plan, 0, 1, LATEST, true);
+    is_told_of(&rt, plan, 0, 1, 1_728_000_001, false);
+    is_told_of(&rt, plan, 0, 2, 0, false);
+    is_told_of(&rt, plan, 1, 0, 0, false);
+}

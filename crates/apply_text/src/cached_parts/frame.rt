@@ -5,9 +5,9 @@ ghost use Rattle.apply_text.specs.Elapsed.{elapsed_of};
 ghost use Rattle.apply_text.specs.CachedParts.{back_text, front_text, kept_step};
 ghost use Rattle.apply_text.specs.Words.{action_word};
 
-use crate::display::elapsed::Elapsed;
 use crate::cached_parts::key::{copy_of, is_same};
 use crate::cached_parts::open_text::open_text;
+use crate::display::elapsed::Elapsed;
 use crate::objects::resource_object::put_resource;
 use crate::step_words::StepWords;
 use apply_plan::{Change, Key, StepKind, Text};

@@ -1,0 +1,51 @@
+-- Changes that are under way at a place of a list of events, and at a moment.
+use Rattle.std.specs.Prelude.{◌≡◌, ℕ, ◌==◌, ◌&&◌, ◌||◌, Bool, true, false, List, count_by, length, nat_le, nat_lt, not}
+use Rattle.std.specs.List.{list_any, range_with_len}
+use Rattle.apply_events.specs.declared.event.Event.{Event}
+use Rattle.apply_events.specs.declared.what.What.{What}
+use Rattle.apply_events.specs.declared.what.What.TheVariants.{Start}
+use Rattle.apply_events.specs.Step.{Work}
+use Rattle.apply_events.specs.Totals.{is_complete, is_errored}
+
+-- ---- at a place: behind some events, and before all others
+
+abbrev pub is_start : What → Bool
+is_start Start = true
+is_start _ = false
+
+abbrev pub is_end : What → Bool
+is_end what = is_complete what || is_errored what
+
+-- how many steps of change c have started
+abbrev pub starts_of : (c : ℕ) → List Event → ℕ
+starts_of c events = count_by (λ event. event.change == c && is_start event.what) events
+
+-- how many of them have ended: completed, or failed
+abbrev pub ends_of : (c : ℕ) → List Event → ℕ
+ends_of c events = count_by (λ event. event.change == c && is_end event.what) events
+
+-- a step of change c has started, and has not ended
+abbrev pub is_open_after : List Event → (c : ℕ) → Bool
+is_open_after events c = nat_lt (ends_of c events) (starts_of c events)
+
+-- of how many of the plan's changes a step has started, and has not ended
+abbrev pub open_after : Work → List Event → ℕ
+open_after work events = count_by (is_open_after events) (range_with_len 0 (length work.plan.changes))
+
+-- ---- at a moment
+
+-- change c has an event by the moment
+abbrev pub has_event_by : (moment c : ℕ) → List Event → Bool
+has_event_by moment c events = list_any (λ event. event.change == c && nat_le event.at moment) events
+
+-- change c has an event behind the moment
+abbrev pub has_event_behind : (moment c : ℕ) → List Event → Bool
+has_event_behind moment c events = list_any (λ event. event.change == c && nat_lt moment event.at) events
+
+-- change c waits at the moment: it has events, all of them later
+abbrev pub waits_at : (moment c : ℕ) → List Event → Bool
+waits_at moment c events = has_event_behind moment c events && not (has_event_by moment c events)
+
+-- change c is under way at the moment: it has an event by then, and one later
+abbrev pub is_under_way_at : (moment c : ℕ) → List Event → Bool
+is_under_way_at moment c events = has_event_by moment c events && has_event_behind moment c events
