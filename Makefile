@@ -10,7 +10,7 @@ LIBS := $(CURDIR)/crates/applystream/out/rlib
 PREFIX ?= /usr/local
 # A job for each of up to four processors, and up to three crates at a time, where there are 7 GiB of memory for each.
 JOBS ?= $(shell n=$$(nproc); echo $$((n < 4 ? n : 4)))
-MAKEFLAGS += -j$(shell awk '/^MemAvailable/ { n = int($$2 / 7340032); print n < 1 ? 1 : n > 3 ? 3 : n }' /proc/meminfo)
+MAKEFLAGS += -j$(shell awk '/^MemAvailable/ { n = int($$2 / 7340032); print (n < 1 ? 1 : n > 3 ? 3 : n) }' /proc/meminfo)
 OWN := $(shell sed -n 's/^\([a-z_]*\)[ :].*/\1/p' crates.txt)
 uses = $(shell sed -n 's/^$(1)\( [^:]*\)\{0,1\}: *//p' crates.txt)
 below = $(filter $(OWN),$(call uses,$(1)))
