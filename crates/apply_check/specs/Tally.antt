@@ -3,7 +3,7 @@ use Rattle.std.specs.Prelude.{ℕ, ◌+◌, ◌-◌, ◌==◌, List, [], ◌∷�
 use Rattle.apply_check.specs.declared.messages.action.Action.{Action}
 use Rattle.apply_check.specs.declared.messages.action.Action.TheVariants.{Create, Update, Delete, Read, Refresh}
 use Rattle.apply_check.specs.declared.messages.timed_stage.TimedStage.{TimedStage}
-use Rattle.apply_check.specs.declared.messages.timed_stage.TimedStage.TheVariants.{Start, Progress, Complete, Errored}
+use Rattle.apply_check.specs.declared.messages.timed_stage.TimedStage.TheVariants.{Start, Complete, Errored}
 use Rattle.apply_check.specs.declared.messages.totals.Totals.{Totals}
 use Rattle.apply_check.specs.declared.rules.failures.Failures.{Failures}
 use Rattle.apply_check.specs.Intents.{creates, deletes, intent_of, updates}
