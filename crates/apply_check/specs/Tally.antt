@@ -3,7 +3,7 @@ use Rattle.std.specs.Prelude.{ℕ, ◌+◌, ◌-◌, ◌==◌, List, [], ◌∷�
 use Rattle.apply_check.specs.declared.messages.action.Action.{Action}
 use Rattle.apply_check.specs.declared.messages.action.Action.TheVariants.{Create, Update, Delete, Read, Refresh}
 use Rattle.apply_check.specs.declared.messages.timed_stage.TimedStage.{TimedStage}
-use Rattle.apply_check.specs.declared.messages.timed_stage.TimedStage.TheVariants.{Start, Progress, Complete, Errored}
+use Rattle.apply_check.specs.declared.messages.timed_stage.TimedStage.TheVariants.{Start, Complete, Errored}
 use Rattle.apply_check.specs.declared.messages.totals.Totals.{Totals}
 use Rattle.apply_check.specs.declared.rules.failures.Failures.{Failures}
 use Rattle.apply_check.specs.Intents.{creates, deletes, intent_of, updates}
@@ -15,90 +15,33 @@ use Rattle.apply_check.specs.Words.{same_action}
 
 abbrev pub is_version : Message → Bool
 is_version version = true
-is_version (step address action stage) = false
-is_version (provision address stage) = false
-is_version (planned intent) = false
-is_version (plan_summary totals) = false
-is_version (summary totals) = false
-is_version (diagnostic is_error address) = false
-is_version outputs = false
-is_version other = false
-is_version foreign = false
+is_version _ = false
 
 abbrev pub is_planned : Message → Bool
 is_planned (planned intent) = true
-is_planned version = false
-is_planned (step address action stage) = false
-is_planned (provision address stage) = false
-is_planned (plan_summary totals) = false
-is_planned (summary totals) = false
-is_planned (diagnostic is_error address) = false
-is_planned outputs = false
-is_planned other = false
-is_planned foreign = false
+is_planned _ = false
 
 abbrev pub is_plan_summary : Message → Bool
 is_plan_summary (plan_summary totals) = true
-is_plan_summary version = false
-is_plan_summary (step address action stage) = false
-is_plan_summary (provision address stage) = false
-is_plan_summary (planned intent) = false
-is_plan_summary (summary totals) = false
-is_plan_summary (diagnostic is_error address) = false
-is_plan_summary outputs = false
-is_plan_summary other = false
-is_plan_summary foreign = false
+is_plan_summary _ = false
 
 abbrev pub is_summary : Message → Bool
 is_summary (summary totals) = true
-is_summary version = false
-is_summary (step address action stage) = false
-is_summary (provision address stage) = false
-is_summary (planned intent) = false
-is_summary (plan_summary totals) = false
-is_summary (diagnostic is_error address) = false
-is_summary outputs = false
-is_summary other = false
-is_summary foreign = false
+is_summary _ = false
 
 -- an error, whether it names an address or not
 abbrev pub is_error : Message → Bool
 is_error (diagnostic b address) = b
-is_error version = false
-is_error (step address action stage) = false
-is_error (provision address stage) = false
-is_error (planned intent) = false
-is_error (plan_summary totals) = false
-is_error (summary totals) = false
-is_error outputs = false
-is_error other = false
-is_error foreign = false
+is_error _ = false
 
 -- an error that names no address
 abbrev pub is_error_alone : Message → Bool
 is_error_alone (diagnostic b None) = b
-is_error_alone (diagnostic b (Some address)) = false
-is_error_alone version = false
-is_error_alone (step address action stage) = false
-is_error_alone (provision address stage) = false
-is_error_alone (planned intent) = false
-is_error_alone (plan_summary totals) = false
-is_error_alone (summary totals) = false
-is_error_alone outputs = false
-is_error_alone other = false
-is_error_alone foreign = false
+is_error_alone _ = false
 
 abbrev pub is_foreign : Message → Bool
 is_foreign foreign = true
-is_foreign version = false
-is_foreign (step address action stage) = false
-is_foreign (provision address stage) = false
-is_foreign (planned intent) = false
-is_foreign (plan_summary totals) = false
-is_foreign (summary totals) = false
-is_foreign (diagnostic is_error address) = false
-is_foreign outputs = false
-is_foreign other = false
+is_foreign _ = false
 
 -- the line of the latest message that passes, where one does
 abbrev pub line_of : (Message → Bool) → List Message → Option ℕ
@@ -110,27 +53,15 @@ line_of test (message ∷ earlier) = if test message then Some (length earlier +
 -- a step of that action, at a stage that passes
 abbrev pub is_step : Action → (TimedStage → Bool) → Message → Bool
 is_step action test (step address k stage) = test stage && same_action k action
-is_step action test version = false
-is_step action test (provision address stage) = false
-is_step action test (planned intent) = false
-is_step action test (plan_summary totals) = false
-is_step action test (summary totals) = false
-is_step action test (diagnostic is_error address) = false
-is_step action test outputs = false
-is_step action test other = false
-is_step action test foreign = false
+is_step action test _ = false
 
 abbrev pub is_begin : TimedStage → Bool
 is_begin Start = true
-is_begin (Progress seconds) = false
-is_begin (Complete seconds) = false
-is_begin (Errored seconds) = false
+is_begin _ = false
 
 abbrev pub is_completion : TimedStage → Bool
 is_completion (Complete seconds) = true
-is_completion Start = false
-is_completion (Progress seconds) = false
-is_completion (Errored seconds) = false
+is_completion _ = false
 
 -- it tells that the action was completed
 abbrev pub completes : Action → Message → Bool
@@ -198,20 +129,8 @@ failure_count (Some failures) = failures.count
 -- how many failures are left: an error with an address takes away all failures there that were told before it
 abbrev pub failures_behind : Message → (earlier : List Message) → ℕ → ℕ
 failures_behind (step address action (Errored seconds)) earlier n = if may_fail action then n + 1 else n
-failures_behind (step address action Start) earlier n = n
-failures_behind (step address action (Progress seconds)) earlier n = n
-failures_behind (step address action (Complete seconds)) earlier n = n
 failures_behind (diagnostic true (Some address)) earlier n = n - failure_count (standing_of address earlier).failures
-failures_behind (diagnostic true None) earlier n = n
-failures_behind (diagnostic false address) earlier n = n
-failures_behind version earlier n = n
-failures_behind (provision address stage) earlier n = n
-failures_behind (planned intent) earlier n = n
-failures_behind (plan_summary totals) earlier n = n
-failures_behind (summary totals) earlier n = n
-failures_behind outputs earlier n = n
-failures_behind other earlier n = n
-failures_behind foreign earlier n = n
+failures_behind _ earlier n = n
 
 unfoldable pub failures_left : List Message → ℕ
 failures_left [] = 0

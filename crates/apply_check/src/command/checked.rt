@@ -5,7 +5,7 @@ use crate::verdict::read_fault::ReadFault;
 use crate::verdict::whole::Whole;
 
 /// What a check came to.
-#[derive(Clone, Copy, Debug, PartialEq, Eq)]
+#[derive(Clone, Copy)]
 pub struct Checked {
     /// The exit status.
     pub status: u8,

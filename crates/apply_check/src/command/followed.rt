@@ -7,7 +7,7 @@ use crate::verdict::read_fault::ReadFault;
 use crate::verdict::whole::Whole;
 
 /// What became of the words behind `check`.
-#[derive(Clone, Copy, Debug, PartialEq, Eq)]
+#[derive(Clone, Copy)]
 pub struct Followed {
     /// The exit status.
     pub status: u8,

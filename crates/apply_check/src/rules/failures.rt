@@ -1,7 +1,7 @@
 //! Steps that failed at an address.
 
 /// How many creates, updates and deletes of an address failed behind which no error with that address was told.
-#[derive(Clone, Copy, Debug, PartialEq, Eq)]
+#[derive(Clone, Copy)]
 pub struct Failures {
     /// The line that told of the first of them, counted from 1.
     pub since: u64,

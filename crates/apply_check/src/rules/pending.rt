@@ -8,7 +8,7 @@ use crate::messages::timed_stage::TimedStage;
 use crate::rules::fault::Fault;
 
 /// A step that has begun and not ended.
-#[derive(Clone, Copy, Debug, PartialEq, Eq)]
+#[derive(Clone, Copy)]
 pub enum Pending {
     /// It began on that line, and so many seconds were told of it last, on the line `since`; its start tells of 0.
     One { begin: u64, told: u64, since: u64 },

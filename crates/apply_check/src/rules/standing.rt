@@ -14,7 +14,7 @@ use crate::rules::matters::Matters;
 use crate::rules::pending::{Pending, after};
 
 /// For each action what stands open of it.
-#[derive(Clone, Copy, Debug, PartialEq, Eq)]
+#[derive(Clone, Copy)]
 pub struct Standing {
     pub create: Option<Pending>,
     pub update: Option<Pending>,

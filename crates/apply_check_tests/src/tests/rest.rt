@@ -75,15 +75,7 @@ fn all_is_read<R: Read + Drop>(
     };
     let mut printed = Vec::new(alloc);
     let mut said = Vec::new(alloc);
-    let checked = check_input(
-        alloc,
-        mode,
-        form,
-        None,
-        &mut input,
-        &mut printed,
-        &mut said,
-    );
+    let checked = check_input(alloc, mode, form, None, &mut input, &mut printed, &mut said);
     assert_eq!(rt; checked.status, 4);
     assert!(rt; checked.rest.is_ok());
     assert_eq!(rt; input.given, len);
@@ -132,14 +124,7 @@ fn behind_steps_that_are_too_many(rt: HostRuntime) {
 fn behind_a_line_that_is_too_long(rt: HostRuntime) {
     let alloc = rt.alloc();
     let line = io::repeat(b' ').take(134_217_730);
-    all_is_read(
-        &rt,
-        alloc,
-        Mode::PLAIN,
-        Form::Json,
-        line,
-        134_217_730,
-    );
+    all_is_read(&rt, alloc, Mode::PLAIN, Form::Json, line, 134_217_730);
 }
 
 /// Fails where that argument leaves another number of bytes unread, or ends with another status.
