@@ -50,7 +50,7 @@ sum_none : {X : Type 0} (f : X → ℕ) (xs : List X) → ((x : X) → f x ≡ 0
 sum_none f [] none = refl
 sum_none f (x ∷ xs) none = let here = none x in let rest = sum_none f xs none in sum_by-cons f x xs ∙ omega arith
 
-sum_plus : {X : Type 0} (f g h : X → ℕ) (xs : List X) → ((x : X) → f x ≡ g x + h x) → sum_by f xs ≡ sum_by g xs + sum_by h xs
+pub sum_plus : {X : Type 0} (f g h : X → ℕ) (xs : List X) → ((x : X) → f x ≡ g x + h x) → sum_by f xs ≡ sum_by g xs + sum_by h xs
 sum_plus f g h [] both = refl
 sum_plus f g h (x ∷ xs) both =
     let here = both x in let rest = sum_plus f g h xs both in
