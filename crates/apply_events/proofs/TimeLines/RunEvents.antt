@@ -1,9 +1,8 @@
 -- How many events a run has, whoever applies its changes.
-use Rattle.std.proofs.Common.{◌≡◌, ℕ, zero, suc, ◌+◌, ◌*◌, ◌<◌, ◌≤◌, ◌==◌, List, [], ◌∷◌, All, cond, get_or, length, length-append, map, sum_by, sym, refl, ap, ◌∙◌, ⊎_elim, arith, eq-eqb, lt-ltb, lt_of_not-le, nat_lt, ne_eqb, ◌≢◌, if◌then◌else◌}
+use Rattle.std.proofs.Common.{◌≡◌, ℕ, zero, suc, ◌+◌, ◌*◌, ◌<◌, ◌≤◌, ◌==◌, List, [], ◌∷◌, All, cond, get_or, length, length-append, map, sum_by, sym, refl, ap, ◌∙◌, ⊎_elim, arith, lt-ltb, lt_of_not-le, nat_lt, ne_eqb, ◌≢◌, if◌then◌else◌}
 use Rattle.std.proofs.lemmas.Bool.Decides.{eqb_tells}
 use Rattle.std.specs.List.{range_with_len}
 use Rattle.std.proofs.lemmas.List.Elements.{All-from_get_or, All-head, All-tail}
-use Rattle.std.proofs.lemmas.List.FromFn.{length-range_with_len}
 use Rattle.std.proofs.lemmas.List.Sums.{sum_by-cons}
 use Rattle.apply_plan.specs.Script.OutcomeMap.{given_outcome}
 use Rattle.apply_events.specs.declared.event.Event.{Event}
@@ -13,7 +12,6 @@ use Rattle.apply_events.specs.Laws.{IsWithinLimits}
 use Rattle.apply_events.specs.Partition.{IsPartition, count_of, places}
 use Rattle.apply_events.specs.Step.{Work}
 use Rattle.apply_events.specs.WorkerEvents.{worker_events}
-use Rattle.apply_events.proofs.Dealing.{count_first, count_later}
 use Rattle.apply_events.proofs.Interleaved.{summed_length}
 use Rattle.apply_events.proofs.Parts.{numbers_below_limit}
 use Rattle.apply_events.proofs.TimeLines.Few.{bounded, few_events}
