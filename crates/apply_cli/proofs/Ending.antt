@@ -1,5 +1,5 @@
 -- From how a run has ended to how the program has.
-use Rattle.std.proofs.Common.{◌≡◌, ◌≤◌, ◌<◌, ◌⊎◌, ◌↔◌, inl, inr, ℕ, zero, suc, List, [], ◌++◌, length, append_assoc, nat_lt, if◌then◌else◌, Option, Result, Ok, Err, IfOk, IfErr, sym, ap, ◌∙◌, subst, arith, ⊎_elim}
+use Rattle.std.proofs.Common.{◌≡◌, ◌≤◌, ◌<◌, ◌⊎◌, ◌↔◌, inl, inr, ℕ, zero, suc, List, [], length, nat_lt, if◌then◌else◌, Result, Ok, Err, IfOk, IfErr, sym, ap, ◌∙◌, subst, arith, ⊎_elim}
 use Rattle.std.specs.Io.KnownBytes.{Keeps}
 use Rattle.std.specs.List.{range_with_len}
 use Rattle.std.proofs.KnownBytes.{Appends-kept, Keeps-refl}
@@ -13,11 +13,7 @@ use Rattle.apply_plan.specs.Plan.SavedPlan.{SavedPlan, plan_of}
 use Rattle.apply_plan.specs.Script.OutcomeMap.{OutcomeMap}
 use Rattle.apply_events.specs.declared.event.Event.{Event}
 use Rattle.apply_events.specs.Step.{Work}
-use Rattle.apply_events.specs.Totals.{totals_of}
 use Rattle.apply_events.specs.WorkerEvents.{worker_events}
-use Rattle.apply_text.specs.Latest.{latest_of}
-use Rattle.apply_text.specs.Lines.{summary_text}
-use Rattle.apply_text.specs.Order.{as_written}
 use Rattle.apply_run.specs.Applied.{IsApplied}
 use Rattle.apply_run.specs.Bytes.{Given, IsRead, WasApplied, WasRefused}
 use Rattle.apply_run.specs.declared.options.Options.{Options}
@@ -71,8 +67,9 @@ applied_kept in_order given options report before after after' status kept faile
 pub prefix_same : {X : Type 0} → (xs : List X) → IsPrefix xs xs
 prefix_same xs = ([], append-nil xs)
 
-pub begun_of_applied : (given : Given) (options : Options) (report : Report) (before after : Sight) (bytes : Option (List ℕ)) → Keeps after.bytes bytes → WasApplied given options report before after → HasBegun given options before.bytes bytes
-begun_of_applied given options report before after bytes kept h =
+-- the whole stream was written, and then a flush failed
+pub begun_of_applied : (given : Given) (options : Options) (report : Report) (before after after' : Sight) → Keeps after.bytes after'.bytes → after.failed < after'.failed → WasApplied given options report before after → HasBegun given options before after'
+begun_of_applied given options report before after after' kept flushed h =
     let work : Work = record { plan = h.plan; script = h.script; hooks = given.hooks } in
     let all = stream_for work options h.streamed.events in
     record {
@@ -82,73 +79,70 @@ begun_of_applied given options report before after bytes kept h =
       lists = h.streamed.lists;
       events = h.streamed.events;
       part = all;
-      front = inl (record { applied = h.streamed.applied; is_prefix = prefix_same all });
-      appended = Appends-kept before.bytes after.bytes bytes all h.streamed.whole.delivered.appended kept;
+      front = inl (subst (λ n. n < after'.failed) h.streamed.whole.failed flushed, record { applied = h.streamed.applied; is_prefix = prefix_same all });
+      appended = Appends-kept before.bytes after.bytes after'.bytes all h.streamed.whole.delivered.appended kept;
     }
 
 -- a write has failed
-begun_of_not_written : (given : Given) (options : Options) (report : Report) (before after : Sight) (bytes : Option (List ℕ)) (plan : SavedPlan) (script : OutcomeMap) → Keeps after.bytes bytes → IsRead given plan script
-    → WasNotWritten (record { plan = plan; script = script; hooks = given.hooks }) options report before after → HasBegun given options before.bytes bytes
-begun_of_not_written given options report before after bytes plan script kept read h = record {
+begun_of_not_written : (given : Given) (options : Options) (report : Report) (before after after' : Sight) (plan : SavedPlan) (script : OutcomeMap) → Keeps after.bytes after'.bytes → after.failed ≤ after'.failed → IsRead given plan script
+    → WasNotWritten (record { plan = plan; script = script; hooks = given.hooks }) options report before after → HasBegun given options before after'
+begun_of_not_written given options report before after after' plan script kept more read h = record {
   plan = plan;
   script = script;
   read = read;
   lists = h.lists;
   events = h.events;
   part = h.part.part;
-  front = inl (record { applied = h.applied; is_prefix = h.part.is_prefix });
-  appended = Appends-kept before.bytes after.bytes bytes h.part.part h.part.delivered.appended kept;
+  front = inl (omega (arith, h.part.failed, more), record { applied = h.applied; is_prefix = h.part.is_prefix });
+  appended = Appends-kept before.bytes after.bytes after'.bytes h.part.part h.part.delivered.appended kept;
 }
 
--- memory was refused for a line: a prefix of the lines is one of the stream
-begun_of_no_memory : (given : Given) (options : Options) (report : Report) (before after : Sight) (bytes : Option (List ℕ)) (plan : SavedPlan) (script : OutcomeMap) → Keeps after.bytes bytes → IsRead given plan script
-    → RanOutOfMemory (record { plan = plan; script = script; hooks = given.hooks }) options report before after → HasBegun given options before.bytes bytes
-begun_of_no_memory given options report before after bytes plan script kept read h =
-    let events = h.events in
-    let last = summary_text options.start (latest_of (as_written events) (length (as_written events))) options.operation (totals_of plan events) in
-    record {
-      plan = plan;
-      script = script;
-      read = read;
-      lists = h.lists;
-      events = events;
-      part = h.part.part;
-      front = inl (record { applied = h.applied; is_prefix = (h.part.is_prefix.0 ++ last, sym (append_assoc h.part.part h.part.is_prefix.0 last) ∙ ap (λ l. l ++ last) h.part.is_prefix.1) });
-      appended = Appends-kept before.bytes after.bytes bytes h.part.part h.part.delivered.appended kept;
-    }
+-- memory was refused for a line
+begun_of_no_memory : (given : Given) (options : Options) (report : Report) (before after after' : Sight) (plan : SavedPlan) (script : OutcomeMap) → Keeps after.bytes after'.bytes → IsRead given plan script
+    → RanOutOfMemory (record { plan = plan; script = script; hooks = given.hooks }) options report before after → HasBegun given options before after'
+begun_of_no_memory given options report before after after' plan script kept read h = record {
+  plan = plan;
+  script = script;
+  read = read;
+  lists = h.lists;
+  events = h.events;
+  part = h.part.part;
+  front = inr (inl (record { applied = h.applied; is_prefix = h.part.is_prefix }));
+  appended = Appends-kept before.bytes after.bytes after'.bytes h.part.part h.part.delivered.appended kept;
+}
 
 -- the bus failed
-begun_of_cut_off : (failed : ℕ) (given : Given) (options : Options) (report : Report) (before after : Sight) (bytes : Option (List ℕ)) (plan : SavedPlan) (script : OutcomeMap) → Keeps after.bytes bytes → IsRead given plan script
-    → WasCutOff failed (record { plan = plan; script = script; hooks = given.hooks }) options report before after → HasBegun given options before.bytes bytes
-begun_of_cut_off failed given options report before after bytes plan script kept read h = record {
+begun_of_cut_off : (failed : ℕ) (given : Given) (options : Options) (report : Report) (before after after' : Sight) (plan : SavedPlan) (script : OutcomeMap) → Keeps after.bytes after'.bytes → IsRead given plan script
+    → WasCutOff failed (record { plan = plan; script = script; hooks = given.hooks }) options report before after → HasBegun given options before after'
+begun_of_cut_off failed given options report before after after' plan script kept read h = record {
   plan = plan;
   script = script;
   read = read;
   lists = h.lists;
   events = h.events;
   part = h.part.part;
-  front = inr (record { applied = h.applied; is_prefix = h.part.is_prefix });
-  appended = Appends-kept before.bytes after.bytes bytes h.part.part h.part.delivered.appended kept;
+  front = inr (inr (record { applied = h.applied; is_prefix = h.part.is_prefix }));
+  appended = Appends-kept before.bytes after.bytes after'.bytes h.part.part h.part.delivered.appended kept;
 }
 
-begun_of_fault : (why : Why) (given : Given) (options : Options) (report : Report) (before after : Sight) (bytes : Option (List ℕ)) (plan : SavedPlan) (script : OutcomeMap) → Keeps after.bytes bytes → IsRead given plan script
-    → HasFailed why (record { plan = plan; script = script; hooks = given.hooks }) options report before after → Keeps before.bytes bytes ⊎ HasBegun given options before.bytes bytes
-begun_of_fault why.Write given options report before after bytes plan script kept read h = inr (begun_of_not_written given options report before after bytes plan script kept read h)
-begun_of_fault why.Workers given options report before after bytes plan script kept read h = inl (subst (λ s. Keeps s.bytes bytes) h.same kept)
-begun_of_fault why.Memory given options report before after bytes plan script kept read h =
+begun_of_fault : (why : Why) (given : Given) (options : Options) (report : Report) (before after after' : Sight) (plan : SavedPlan) (script : OutcomeMap) → Keeps after.bytes after'.bytes → after.failed ≤ after'.failed → IsRead given plan script
+    → HasFailed why (record { plan = plan; script = script; hooks = given.hooks }) options report before after → Keeps before.bytes after'.bytes ⊎ HasBegun given options before after'
+begun_of_fault why.Write given options report before after after' plan script kept more read h = inr (begun_of_not_written given options report before after after' plan script kept more read h)
+begun_of_fault why.Workers given options report before after after' plan script kept more read h = inl (subst (λ s. Keeps s.bytes after'.bytes) h.same kept)
+begun_of_fault why.Memory given options report before after after' plan script kept more read h =
     let work : Work = record { plan = plan; script = script; hooks = given.hooks } in
     ⊎_elim
-    (λ (none : DidNothing report before after). inl (subst (λ s. Keeps s.bytes bytes) none.same kept))
-    (λ (ran : RanOutOfMemory work options report before after). inr (begun_of_no_memory given options report before after bytes plan script kept read ran))
+    (λ (none : DidNothing report before after). inl (subst (λ s. Keeps s.bytes after'.bytes) none.same kept))
+    (λ (ran : RanOutOfMemory work options report before after). inr (begun_of_no_memory given options report before after after' plan script kept read ran))
     h
-begun_of_fault why.Bus given options report before after bytes plan script kept read h = inr (begun_of_cut_off h.failed given options report before after bytes plan script kept read h.cut_off)
+begun_of_fault why.Bus given options report before after after' plan script kept more read h = inr (begun_of_cut_off h.failed given options report before after after' plan script kept read h.cut_off)
 
 -- the output is as it was, or grew by a front of the stream
-pub begun_of_refused : (given : Given) (options : Options) (r : Refusal) (before after : Sight) (bytes : Option (List ℕ)) → Keeps after.bytes bytes → WasRefused given options r before after → Keeps before.bytes bytes ⊎ HasBegun given options before.bytes bytes
-begun_of_refused given options (refusal.Plan r) before after bytes kept h = inl (subst (λ s. Keeps s.bytes bytes) h.1 kept)
-begun_of_refused given options (refusal.Script r) before after bytes kept h = inl (subst (λ s. Keeps s.bytes bytes) h.3 kept)
-begun_of_refused given options refusal.Size before after bytes kept h = inl (subst (λ s. Keeps s.bytes bytes) h.4 kept)
-begun_of_refused given options (refusal.Fault fault) before after bytes kept h = begun_of_fault fault.why given options fault.report before after bytes h.0 h.1 kept h.2 h.4
+pub begun_of_refused : (given : Given) (options : Options) (r : Refusal) (before after after' : Sight) → Keeps after.bytes after'.bytes → after.failed ≤ after'.failed → WasRefused given options r before after → Keeps before.bytes after'.bytes ⊎ HasBegun given options before after'
+begun_of_refused given options (refusal.Plan r) before after after' kept more h = inl (subst (λ s. Keeps s.bytes after'.bytes) h.1 kept)
+begun_of_refused given options (refusal.Script r) before after after' kept more h = inl (subst (λ s. Keeps s.bytes after'.bytes) h.3 kept)
+begun_of_refused given options refusal.Size before after after' kept more h = inl (subst (λ s. Keeps s.bytes after'.bytes) h.4 kept)
+begun_of_refused given options (refusal.Fault fault) before after after' kept more h = begun_of_fault fault.why given options fault.report before after after' h.0 h.1 kept more h.2 h.4
 
 -- with 2 the output is as it was
 pub kept_of_refused : (given : Given) (options : Options) (r : Refusal) (before after : Sight) → refusal_status_of r ≡ 2 → WasRefused given options r before after → Keeps before.bytes after.bytes

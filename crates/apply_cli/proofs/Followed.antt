@@ -51,12 +51,15 @@ pub followed_in_part : {W : Type 0} (contents : W → Option (List ℕ)) (words 
     → IsOfWords words invocation → first ≡ record { writer = output; failures = 0 } → result ≡ last.writer
     → Keeps (contents first.writer) (contents last.writer) ⊎ OfInput input (λ plan. OfFile invocation.settings.script (λ script.
     HasBegunAsAsked (given_of invocation.settings plan script) invocation.settings invocation.parallelism
-    (contents first.writer) (contents last.writer)))
+    (sight_of contents first) (sight_of contents last)))
     → Keeps (contents output) (contents result) ⊎ WereBegun words input (contents output) (contents result)
 followed_in_part {W} contents words invocation input output result first last is_said is into ended =
-    let start : contents first.writer ≡ contents output = ap (λ (s : OverWriter W). contents s.writer) is in
-    let Ends : Option (List ℕ) → Option (List ℕ) → Type 0 = λ before after. Keeps before after ⊎ WereBegun words input before after in
-    let ends : Ends (contents first.writer) (contents last.writer) =
-    ⊎_elim (λ kept. inl kept) (λ found. inr (record { invocation = invocation; is_said = is_said; begun = found })) ended in
-    subst (λ (before : Option (List ℕ)). Ends before (contents result)) start
-    (subst (λ (after : Option (List ℕ)). Ends (contents first.writer) after) (ap contents (sym into)) ends)
+    let settings = invocation.settings in
+    let Begun : Sight → Sight → Type 0 = λ before after. OfInput input (λ plan. OfFile settings.script (λ script.
+    HasBegunAsAsked (given_of settings plan script) settings invocation.parallelism before after)) in
+    let new : sight_of contents first ≡ unfailed (contents output) = ap (λ (s : OverWriter W). sight_of contents s) is in
+    let Ends : Option (List ℕ) → Type 0 = λ after. Keeps (contents output) after ⊎ WereBegun words input (contents output) after in
+    let from_new : Keeps (contents output) (contents last.writer) ⊎ Begun (unfailed (contents output)) (sight_of contents last) =
+    subst (λ (before : Sight). Keeps before.bytes (contents last.writer) ⊎ Begun before (sight_of contents last)) new ended in
+    subst Ends (ap contents (sym into))
+    (⊎_elim (λ kept. inl kept) (λ found. inr (record { invocation = invocation; is_said = is_said; failures = last.failures; begun = found })) from_new)

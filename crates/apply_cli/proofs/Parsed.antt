@@ -15,82 +15,112 @@ use Rattle.clap.specs.declared.error.kind.ErrorKind.{ErrorKind}
 use Rattle.clap.specs.declared.error.kind.ErrorKind.TheVariants.{DisplayHelp, OutOfMemory}
 use Rattle.clap.specs.declared.parser.matches.ArgMatches.{ArgMatches}
 use Rattle.clap.proofs.OnLiterals.{clap_on_literals}
-use Rattle.apply_cli.specs.CommandLine.{Answers, AskForHelp, AskForHelpAlone, IsOneOf, IsSaidWrong, WereRefused, command_line, kind_words}
+use Rattle.apply_cli.specs.CommandLine.{Answers, AreSaid, AreSaidWrong, AskForHelp, AskForHelpAlone, HasCause, HaveSaid, IsOneOf, IsSaidWrong, WereRefused, command_line, kind_words, settings_line}
 use Rattle.apply_cli.specs.Invocation.{HaveInvoked, IsInvoked}
 use Rattle.apply_cli.specs.Status.{usage_status_of}
 use Rattle.apply_cli.specs.declared.invocation.Invocation.{Invocation}
+use Rattle.apply_cli.specs.declared.settings.Settings.{Settings}
 use Rattle.apply_cli.specs.declared.usage.Usage.{Usage}
 use Rattle.apply_cli.specs.declared.usage.Usage.TheVariants as usage
 
--- `clap` states what it makes of words for simple commands; ours is one
-line_is_simple : (kinds : ValueParser) → is_simple (command_line kinds) ≡ true
-unfolding clap_on_literals
-line_is_simple kinds = refl
+-- `clap` states what it makes of words for simple commands
+pub record IsSimple (line : ValueParser → App) : Type 0 where
+  pub simple : (kinds : ValueParser) → is_simple (line kinds) ≡ true
+  pub free : (kinds : ValueParser) → is_simple_and_free (line kinds) ≡ true
 
-line_is_free : (kinds : ValueParser) → is_simple_and_free (command_line kinds) ≡ true
+-- ours are some
+pub command_line_is_simple : IsSimple command_line
 unfolding clap_on_literals
-line_is_free kinds = refl
+command_line_is_simple = record { simple = λ kinds. refl; free = λ kinds. refl }
 
--- a parse of our command, and what is known of it
-pub record IsParse (command : Command) (kinds : ValueParser) (words : List Text) (parse : Result ArgMatches Error) : Type 0 where
+pub settings_line_is_simple : IsSimple settings_line
+unfolding clap_on_literals
+settings_line_is_simple = record { simple = λ kinds. refl; free = λ kinds. refl }
+
+-- a parse by one of our commands, and what is known of it
+pub record IsParse (line : ValueParser → App) (command : Command) (kinds : ValueParser) (words : List Text) (parse : Result ArgMatches Error) : Type 0 where
+  pub of_simple : IsSimple line
   pub are_kinds : IsOneOf kind_words kinds
-  pub line : app_of command ≡ command_line kinds
+  pub is_line : app_of command ≡ line kinds
   pub fails : is_simple_and_free (app_of command) ≡ true → FailsBy (fault_of (app_of command) words) parse
 
-faults_are : (command : Command) (kinds : ValueParser) (words : List Text) (parse result : Result ArgMatches Error)
-    → IsParse command kinds words parse → parse ≡ result → FailsBy (fault_of (command_line kinds) words) result
-faults_are command kinds words parse result is same =
-    subst (FailsBy (fault_of (command_line kinds) words)) same
-    (subst (λ (app : App). FailsBy (fault_of app words) parse) is.line (is.fails (ap is_simple_and_free is.line ∙ line_is_free kinds)))
+faults_are : (line : ValueParser → App) (command : Command) (kinds : ValueParser) (words : List Text) (parse result : Result ArgMatches Error)
+    → IsParse line command kinds words parse → parse ≡ result → FailsBy (fault_of (line kinds) words) result
+faults_are line command kinds words parse result is same =
+    subst (FailsBy (fault_of (line kinds) words)) same
+    (subst (λ (app : App). FailsBy (fault_of app words) parse) is.is_line (is.fails (ap is_simple_and_free is.is_line ∙ is.of_simple.free kinds)))
 
-rows_are : (command : Command) (kinds : ValueParser) (words : List Text) (matches : ArgMatches)
-    → app_of command ≡ command_line kinds → HasMatchesOf (app_of command) words matches
-    → rows_of (found_of matches) ≡ matches_of (command_line kinds) words
-rows_are command kinds words matches line has =
-    (has (ap is_simple line ∙ line_is_simple kinds)).0 ∙ ap (λ (app : App). matches_of app words) line
+rows_are : (line : ValueParser → App) (command : Command) (kinds : ValueParser) (words : List Text) (parse : Result ArgMatches Error) (matches : ArgMatches)
+    → IsParse line command kinds words parse → HasMatchesOf (app_of command) words matches
+    → rows_of (found_of matches) ≡ matches_of (line kinds) words
+rows_are line command kinds words parse matches is has =
+    (has (ap is_simple is.is_line ∙ is.of_simple.simple kinds)).0 ∙ ap (λ (app : App). matches_of app words) is.is_line
+
+-- settings that the matches say are those that the words say
+pub have_said : (command : Command) (kinds : ValueParser) (words : List Text) (parse : Result ArgMatches Error) (matches : ArgMatches) (settings : Result Settings Usage)
+    → IsParse settings_line command kinds words parse → parse ≡ Ok matches → HasMatchesOf (app_of command) words matches
+    → IfOk settings (AreSaid (rows_of (found_of matches))) → IfOk settings (HaveSaid words)
+have_said command kinds words parse matches settings is ok has =
+    IfOk-weaker settings (AreSaid (rows_of (found_of matches))) (HaveSaid words) (λ s said. record {
+      kinds = kinds;
+      are_kinds = is.are_kinds;
+      taken = faults_are settings_line command kinds words parse (Ok matches) is ok;
+      said = subst (λ (rows : List Row). AreSaid rows s) (rows_are settings_line command kinds words parse matches is has) said;
+    })
 
 -- an invocation that the matches say is the one that the words say
 pub have_invoked : (command : Command) (kinds : ValueParser) (words : List Text) (parse : Result ArgMatches Error) (matches : ArgMatches) (invocation : Result Invocation Usage)
-    → IsParse command kinds words parse → parse ≡ Ok matches → HasMatchesOf (app_of command) words matches
+    → IsParse command_line command kinds words parse → parse ≡ Ok matches → HasMatchesOf (app_of command) words matches
     → IfOk invocation (IsInvoked (rows_of (found_of matches))) → IfOk invocation (HaveInvoked words)
 have_invoked command kinds words parse matches invocation is ok has =
     IfOk-weaker invocation (IsInvoked (rows_of (found_of matches))) (HaveInvoked words) (λ i said. record {
       kinds = kinds;
       are_kinds = is.are_kinds;
-      taken = faults_are command kinds words parse (Ok matches) is ok;
-      invoked = subst (λ (rows : List Row). IsInvoked rows i) (rows_are command kinds words matches is.line has) said;
+      taken = faults_are command_line command kinds words parse (Ok matches) is ok;
+      invoked = subst (λ (rows : List Row). IsInvoked rows i) (rows_are command_line command kinds words parse matches is has) said;
     })
 
--- words that were taken, and say no invocation
-pub are_wrong : (command : Command) (kinds : ValueParser) (words : List Text) (parse : Result ArgMatches Error) (matches : ArgMatches) (invocation : Result Invocation Usage)
-    → IsParse command kinds words parse → parse ≡ Ok matches → HasMatchesOf (app_of command) words matches
-    → IfErr invocation (IsSaidWrong (rows_of (found_of matches))) → IfErr invocation (WereRefused words)
-are_wrong command kinds words parse matches invocation is ok has =
-    IfErr-weaker invocation (IsSaidWrong (rows_of (found_of matches))) (WereRefused words)
-    (λ why wrong. cause why (subst (λ (rows : List Row). IsSaidWrong rows why) (rows_are command kinds words matches is.line has) wrong))
-  where
-    taken : fault_of (command_line kinds) words ≡ []
-    taken = faults_are command kinds words parse (Ok matches) is ok
+-- what is wrong with what words say, that were taken, is neither a call for help nor for the parser to say
+pub record IsOfRows (IsWrong : List Row → Usage → Type 0) : Type 0 where
+  pub no_help : (rows : List Row) (text : Text) → IsWrong rows (usage.Help text) → ⊥
+  pub no_words : (rows : List Row) (text : Text) → IsWrong rows (usage.Words text) → ⊥
 
-    cause : (why : Usage) → IsSaidWrong (matches_of (command_line kinds) words) why → WereRefused words why
-    cause (usage.Help text) wrong = absurd wrong.1
-    cause (usage.Words text) wrong = absurd wrong.1
+pub invocation_is_of_rows : IsOfRows (λ rows why. IsSaidWrong rows why)
+invocation_is_of_rows = record { no_help = λ rows text wrong. wrong.1; no_words = λ rows text wrong. wrong.1 }
+
+pub settings_are_of_rows : IsOfRows (λ rows why. AreSaidWrong rows why)
+settings_are_of_rows = record { no_help = λ rows text wrong. wrong; no_words = λ rows text wrong. wrong }
+
+-- words that were taken, and are wrong by what they say
+pub are_wrong : (line : ValueParser → App) (IsWrong : List Row → Usage → Type 0) {X : Type 0} (command : Command) (kinds : ValueParser) (words : List Text) (parse : Result ArgMatches Error) (matches : ArgMatches) (said : Result X Usage)
+    → IsParse line command kinds words parse → IsOfRows IsWrong → parse ≡ Ok matches → HasMatchesOf (app_of command) words matches
+    → IfErr said (IsWrong (rows_of (found_of matches))) → IfErr said (HasCause line IsWrong words)
+are_wrong line IsWrong command kinds words parse matches said is of_rows ok has =
+    IfErr-weaker said (IsWrong (rows_of (found_of matches))) (HasCause line IsWrong words)
+    (λ why wrong. cause why (subst (λ (rows : List Row). IsWrong rows why) (rows_are line command kinds words parse matches is has) wrong))
+  where
+    taken : fault_of (line kinds) words ≡ []
+    taken = faults_are line command kinds words parse (Ok matches) is ok
+
+    cause : (why : Usage) → IsWrong (matches_of (line kinds) words) why → HasCause line IsWrong words why
+    cause (usage.Help text) wrong = absurd (of_rows.no_help _ text wrong)
+    cause (usage.Words text) wrong = absurd (of_rows.no_words _ text wrong)
     cause usage.Beside wrong = inr (kinds, is.are_kinds, (taken, wrong))
     cause (usage.Moment error) wrong = inr (kinds, is.are_kinds, (taken, wrong))
     cause usage.Hooks wrong = inr (kinds, is.are_kinds, (taken, wrong))
     cause usage.Memory wrong = inl refl
 
 -- words that were not taken
-pub are_refused : (command : Command) (kinds : ValueParser) (words : List Text) (parse : Result ArgMatches Error) (error : Error) (why : Usage)
-    → IsParse command kinds words parse → parse ≡ Err error → Answers (kind_of error) why → WereRefused words why
-are_refused command kinds words parse error why is failed = cause why (faults_are command kinds words parse (Err error) is failed)
+pub are_refused : (line : ValueParser → App) (IsWrong : List Row → Usage → Type 0) (command : Command) (kinds : ValueParser) (words : List Text) (parse : Result ArgMatches Error) (error : Error) (why : Usage)
+    → IsParse line command kinds words parse → parse ≡ Err error → Answers (kind_of error) why → HasCause line IsWrong words why
+are_refused line IsWrong command kinds words parse error why is failed = cause why (faults_are line command kinds words parse (Err error) is failed)
   where
-    cause : (u : Usage) → HasKind (fault_of (command_line kinds) words) error → Answers (kind_of error) u → WereRefused words u
+    cause : (u : Usage) → HasKind (fault_of (line kinds) words) error → Answers (kind_of error) u → HasCause line IsWrong words u
     cause (usage.Help text) (inl memory) help =
         let bad : DisplayHelp ≡ OutOfMemory = sym help ∙ memory in
         cc
     cause (usage.Help text) (inr among) help =
-        inr (kinds, is.are_kinds, subst (λ (kind : ErrorKind). IsAmong kind (fault_of (command_line kinds) words)) help among)
+        inr (kinds, is.are_kinds, subst (λ (kind : ErrorKind). IsAmong kind (fault_of (line kinds) words)) help among)
     cause (usage.Words text) (inl memory) other = absurd (other.0 memory)
     cause (usage.Words text) (inr among) other = inr (kinds, is.are_kinds, (kind_of error, other.1, among))
     cause usage.Beside has answers = absurd answers

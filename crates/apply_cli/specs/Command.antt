@@ -9,13 +9,14 @@ use Rattle.apply_events.specs.declared.event.Event.{Event}
 use Rattle.apply_events.specs.Step.{Work}
 use Rattle.apply_events.specs.WorkerEvents.{worker_events}
 use Rattle.apply_run.specs.Applied.{IsApplied, IsAppliedInPart}
-use Rattle.apply_text.specs.Order.{hook_messages_of}
-use Rattle.apply_run.specs.Bytes.{Given, IsRead, WasApplied}
+use Rattle.apply_text.specs.Order.{as_written, hook_messages_of}
+use Rattle.apply_run.specs.Bytes.{Given, IsRead, WasApplied, WasRefused}
 use Rattle.apply_run.specs.declared.options.Options.{Options}
+use Rattle.apply_run.specs.declared.refusal.Refusal.{Refusal}
 use Rattle.apply_run.specs.declared.report.Report.{Report}
 use Rattle.apply_run.specs.Run.{Sight, lines_for, stream_for}
 use Rattle.apply_run.specs.Sinks.{OverWriter}
-use Rattle.apply_cli.specs.Status.{unfinished}
+use Rattle.apply_cli.specs.Status.{refusal_status_of, unfinished}
 
 -- the output, as the run sees it, where the writer tells these contents
 abbrev pub sight_of : {W : Type 0} → (contents : W → Option (List ℕ)) → OverWriter W → Sight
@@ -39,24 +40,39 @@ pub record IsFrontOfStream (work : Work) (options : Options) (lists : List (List
   pub applied : IsApplied work options.workers lists events
   pub is_prefix : IsPrefix part (stream_for work options events)
 
+-- all of the events, and a prefix of their lines, without a summary
+pub record IsFrontOfAllLines (work : Work) (options : Options) (lists : List (List ℕ)) (events : List Event)
+    (part : List ℕ) : Type 0 where
+  pub applied : IsApplied work options.workers lists events
+  pub is_prefix : IsPrefix part (lines_for work options (as_written events))
+
 -- a part of the events, and a prefix of the lines of their hook messages, without a note or a summary
 pub record IsFrontOfLines (work : Work) (options : Options) (lists : List (List ℕ)) (events : List Event)
     (part : List ℕ) : Type 0 where
   pub applied : IsAppliedInPart work options.workers lists events
   pub is_prefix : IsPrefix part (lines_for work options (hook_messages_of events))
 
--- what was given was applied, or a part of it, and the output has a front of the stream behind the bytes that it had:
--- with a summary only where all was applied, and then with that of all
-pub record HasBegun (given : Given) (options : Options) (before after : Option (List ℕ)) : Type 0 where
+-- what was given was applied, or a part of it, and the output has a front of the stream behind the bytes that it had. A
+-- summary may stand in it only where all was applied and a write or a flush has failed since, and then it is that of
+-- all; where none has failed, as after want of memory, no summary does. A thread that was refused is no such beginning:
+-- then the output is as it was
+pub record HasBegun (given : Given) (options : Options) (before after : Sight) : Type 0 where
   pub plan : SavedPlan
   pub script : OutcomeMap
   pub read : IsRead given plan script
   pub lists : List (List ℕ)
   pub events : List Event
   pub part : List ℕ
-  pub front : IsFrontOfStream (record { plan = plan; script = script; hooks = given.hooks }) options lists events part
-      ⊎ IsFrontOfLines (record { plan = plan; script = script; hooks = given.hooks }) options lists events part
-  pub appended : Appends before after part
+  pub front : ((before.failed < after.failed)
+      × IsFrontOfStream (record { plan = plan; script = script; hooks = given.hooks }) options lists events part)
+      ⊎ (IsFrontOfAllLines (record { plan = plan; script = script; hooks = given.hooks }) options lists events part
+      ⊎ IsFrontOfLines (record { plan = plan; script = script; hooks = given.hooks }) options lists events part)
+  pub appended : Appends before.bytes after.bytes part
+
+-- what was given is refused for its own sake, with status 2: the plan or the script as it is defined, or the sizes
+abbrev pub HasRefused : Given → Options → (before after : Sight) → Type 0
+HasRefused given options before after =
+    (refusal : Refusal) × (refusal_status_of refusal ≡ 2) × WasRefused given options refusal before after
 
 -- it is so of some bytes, which are those of the input, where it tells them
 abbrev pub OfInput : (known : Option (List ℕ)) → (List ℕ → Type 0) → Type 0

@@ -1,5 +1,5 @@
 -- How the program has ended, where the changes are under way in lanes.
-use Rattle.std.specs.Prelude.{◌≡◌, ◌<◌, ◌↔◌, ℕ, List, Option}
+use Rattle.std.specs.Prelude.{◌≡◌, ◌<◌, ◌↔◌, ◌⊎◌, ℕ, List}
 use Rattle.std.specs.Io.KnownBytes.{Appends}
 use mathlib.Core.List.{IsPrefix}
 use Rattle.apply_plan.specs.Plan.SavedPlan.{SavedPlan}
@@ -7,12 +7,14 @@ use Rattle.apply_plan.specs.Script.OutcomeMap.{OutcomeMap}
 use Rattle.apply_events.specs.declared.event.Event.{Event}
 use Rattle.apply_events.specs.Lanes.TimeLine.{IsTimeLine}
 use Rattle.apply_text.specs.declared.operation.Operation.{Operation}
-use Rattle.apply_text.specs.Lines.{stream_of}
+use Rattle.apply_text.specs.Lines.{lines_of, stream_of}
+use Rattle.apply_text.specs.Order.{as_written}
 use Rattle.apply_run.specs.Bytes.{Given, IsRead}
+use Rattle.apply_run.specs.declared.refusal.Refusal.{Refusal}
 use Rattle.apply_run.specs.declared.report.Report.{Report}
-use Rattle.apply_run.specs.Lanes.{WasAppliedInLanes}
+use Rattle.apply_run.specs.Lanes.{WasAppliedInLanes, WasRefusedInLanes}
 use Rattle.apply_run.specs.Run.{Sight}
-use Rattle.apply_cli.specs.Status.{unfinished}
+use Rattle.apply_cli.specs.Status.{refusal_status_of, unfinished}
 
 -- what was given was applied in so many lanes, the output has all of the stream of its time line behind the bytes that
 -- it had, and the status is 1 exactly where a step failed or was halted
@@ -22,14 +24,22 @@ pub record HasAppliedInLanes (given : Given) (lanes start : ℕ) (operation : Op
   pub applied : WasAppliedInLanes given lanes start operation report before after
   pub told : (status ≡ 1) ↔ (0 < unfinished report.counts)
 
--- what was given was applied, and the output has a front of the stream of its time line behind the bytes that it had
+-- what was given was applied, and the output has a front of the stream of its time line behind the bytes that it had:
+-- with a summary only where a write or a flush has failed
 pub record HasBegunInLanes (given : Given) (lanes start : ℕ) (operation : Operation)
-    (before after : Option (List ℕ)) : Type 0 where
+    (before after : Sight) : Type 0 where
   pub plan : SavedPlan
   pub script : OutcomeMap
   pub read : IsRead given plan script
   pub events : List Event
   pub time_line : IsTimeLine (record { plan = plan; script = script; hooks = given.hooks }) lanes events
   pub part : List ℕ
-  pub is_prefix : IsPrefix part (stream_of plan script start operation events)
-  pub appended : Appends before after part
+  pub front : ((before.failed < after.failed) × IsPrefix part (stream_of plan script start operation events))
+      ⊎ IsPrefix part (lines_of plan script start (as_written events))
+  pub appended : Appends before.bytes after.bytes part
+
+-- what was given is refused for its own sake, with status 2: the plan or the script as it is defined, or the lanes
+abbrev pub HasRefusedInLanes : Given → (lanes start : ℕ) (operation : Operation) → (before after : Sight) → Type 0
+HasRefusedInLanes given lanes start operation before after =
+    (refusal : Refusal) × (refusal_status_of refusal ≡ 2)
+    × WasRefusedInLanes given lanes start operation refusal before after

@@ -59,8 +59,9 @@ abbrev pub parallelism_rule : Rule
 parallelism_rule =
     record (option_named (codes "parallelism")) { parser = Some (values.Signed (pos 1) (pos 64)) }
 
-abbrev pub options : (kinds : ValueParser) → List Rule
-options kinds =
+-- the options that say the settings
+abbrev pub settings_options : (kinds : ValueParser) → List Rule
+settings_options kinds =
     record (option_named (codes "at")) { defaults = codes "1970-01-01T00:00:00Z" ∷ [] }
     ∷ option_named (codes "script")
     ∷ number_named (codes "workers") 8 (codes "1")
@@ -68,13 +69,23 @@ options kinds =
     ∷ flag_named (codes "destroy")
     ∷ record (list_named (codes "halt-before")) { parser = Some kinds }
     ∷ list_named (codes "halt-in")
-    ∷ parallelism_rule
     ∷ []
+
+-- all of them
+abbrev pub options : (kinds : ValueParser) → List Rule
+options kinds = settings_options kinds ++ parallelism_rule ∷ []
 
 -- the command, whose words are those behind the program's name
 abbrev pub command_line : (kinds : ValueParser) → App
 command_line kinds = record {
   top = record (new_shape (codes "applystream")) { no_binary_name = true; rules = options kinds };
+  subs = [];
+}
+
+-- the same without the option of a parallelism
+abbrev pub settings_line : (kinds : ValueParser) → App
+settings_line kinds = record {
+  top = record (new_shape (codes "applystream")) { no_binary_name = true; rules = settings_options kinds };
   subs = [];
 }
 
@@ -113,6 +124,13 @@ pub record AreSaid (rows : List Row) (settings : Settings) : Type 0 where
   pub destroy : one_of (codes "destroy") rows ≡ Some (codes "true") → settings.operation ≡ Destroy
   pub apply : one_of (codes "destroy") rows ≡ Some (codes "false") → settings.operation ≡ Apply
   pub halts : settings.halts.items ≡ halts_said rows
+
+-- the words were taken by the command without a parallelism, and the settings are what they say
+pub record HaveSaid (words : List Text) (settings : Settings) : Type 0 where
+  pub kinds : ValueParser
+  pub are_kinds : IsOneOf kind_words kinds
+  pub taken : fault_of (settings_line kinds) words ≡ []
+  pub said : AreSaid (matches_of (settings_line kinds) words) settings
 
 -- there is a parallelism where the option is given, and then the number that it says
 pub record IsParallelism (rows : List Row) (parallelism : Option ℕ) : Type 0 where
@@ -160,17 +178,25 @@ Answers kind (usage.Moment error) = ⊥
 Answers kind usage.Hooks = ⊥
 Answers kind usage.Memory = ⊤
 
--- the words are a call for help; or they are none of these options; or they were taken, and say no invocation
-abbrev pub IsCause : App → List Text → Usage → Type 0
-IsCause app words (usage.Help text) = IsAmong DisplayHelp (fault_of app words)
-IsCause app words (usage.Words text) =
+-- the words are a call for help; or they are none of these options; or they were taken, and what they say is wrong
+abbrev pub IsCause : (IsWrong : List Row → Usage → Type 0) → App → List Text → Usage → Type 0
+IsCause IsWrong app words (usage.Help text) = IsAmong DisplayHelp (fault_of app words)
+IsCause IsWrong app words (usage.Words text) =
     (kind : ErrorKind) × (kind ≡ DisplayHelp → ⊥) × IsAmong kind (fault_of app words)
-IsCause app words why = (fault_of app words ≡ []) × IsSaidWrong (matches_of app words) why
+IsCause IsWrong app words why = (fault_of app words ≡ []) × IsWrong (matches_of app words) why
 
 -- memory was refused, or there is a cause for it
+abbrev pub HasCause : (line : ValueParser → App) → (IsWrong : List Row → Usage → Type 0) → List Text → Usage → Type 0
+HasCause line IsWrong words why =
+    (why ≡ usage.Memory) ⊎ ((kinds : ValueParser) × IsOneOf kind_words kinds × IsCause IsWrong (line kinds) words why)
+
+-- the words say no invocation
 abbrev pub WereRefused : List Text → Usage → Type 0
-WereRefused words why =
-    (why ≡ usage.Memory) ⊎ ((kinds : ValueParser) × IsOneOf kind_words kinds × IsCause (command_line kinds) words why)
+WereRefused words why = HasCause command_line IsSaidWrong words why
+
+-- the words say no settings, by the options without a parallelism
+abbrev pub SayNoSettings : List Text → Usage → Type 0
+SayNoSettings words why = HasCause settings_line AreSaidWrong words why
 
 -- the words are a call for help, among whatever else
 abbrev pub AskForHelp : List Text → Type 0

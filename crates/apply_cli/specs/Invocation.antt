@@ -40,7 +40,7 @@ HasAppliedAsAsked given settings (Some lanes) before after status =
     HasAppliedInLanes given lanes settings.at settings.operation before after status
 
 -- the output has a front of the stream
-unfoldable pub HasBegunAsAsked : Given → Settings → (parallelism : Option ℕ) → (before after : Option (List ℕ)) → Type 0
+unfoldable pub HasBegunAsAsked : Given → Settings → (parallelism : Option ℕ) → (before after : Sight) → Type 0
 HasBegunAsAsked given settings None before after = HasBegun given (options_of settings) before after
 HasBegunAsAsked given settings (Some lanes) before after =
     HasBegunInLanes given lanes settings.at settings.operation before after
@@ -70,9 +70,11 @@ pub record WereApplied (words : List Text) (input before after : Option (List �
       HasAppliedAsAsked (given_of invocation.settings plan script) invocation.settings invocation.parallelism
       (unfailed before) (unfailed after) status))
 
--- so it was, but the output has a front of the stream
+-- so it was, but the output has a front of the stream; so many writes and flushes have failed
 pub record WereBegun (words : List Text) (input before after : Option (List ℕ)) : Type 0 where
   pub invocation : Invocation
   pub is_said : IsOfWords words invocation
+  pub failures : ℕ
   pub begun : OfInput input (λ plan. OfFile invocation.settings.script (λ script.
-      HasBegunAsAsked (given_of invocation.settings plan script) invocation.settings invocation.parallelism before after))
+      HasBegunAsAsked (given_of invocation.settings plan script) invocation.settings invocation.parallelism
+      (unfailed before) (record { bytes = after; failed = failures })))

@@ -1,13 +1,13 @@
 //! The words of the command line.
 
-ghost use Rattle.std.specs.Prelude.{◌≡◌, ◌≤◌, ◌∷◌, [], Some, false, Ok, IfOk, IfErr, IfSome, codes};
+ghost use Rattle.std.specs.Prelude.{◌≡◌, ◌≤◌, ◌∷◌, [], Some, false, Ok, IfOk, IfErr, IfSome, codes, map, string_bytes};
 ghost use Rattle.std.specs.Option.{option_map_or};
 ghost use Rattle.clap.specs.Matches.{found_of};
 ghost use Rattle.clap.specs.Simple.{app_of};
 ghost use Rattle.clap.specs.Values.{kind_of};
 ghost use Rattle.clap.specs.Walk.{first_of, one_of, rows_of, rule_of};
 ghost use Rattle.apply_cli.specs.CommandLine as said;
-ghost use Rattle.apply_cli.specs.CommandLine.{Answers, AreSaid, IsNumber, IsOneOf, AreSaidWrong};
+ghost use Rattle.apply_cli.specs.CommandLine.{Answers, AreSaid, HaveSaid, IsNumber, IsOneOf, AreSaidWrong, SayNoSettings};
 ghost use Rattle.apply_cli.specs.CommandLine.{halts_said, kind_of_word};
 ghost use Rattle.apply_text.specs.Start.{start_of as start_said};
 ghost use Rattle.apply_cli.specs.Settings.{AreInRange};
@@ -49,10 +49,36 @@ Exit status:
   2  the options, the plan or the script were refused or could not be read: no message was written
   3  memory or a thread was refused, or the output could not be written: a part of the messages may have been written"#;
 
-/// The options, and their help.
+/// The settings that the words behind the program's name say, by the options without a parallelism: the part of
+/// `read_invocation` that knows workers alone.
+///
+/// `Err` with `Usage::Help` where they ask for help, else with `Usage::Words` where they are none of this program or ask for
+/// a parallelism, else with `Usage::Moment` where the start is no moment, else with `Usage::Hooks` where there are more than
+/// 32 halts. `Err` with `Usage::Memory` where memory is refused.
+pub fn read_words(alloc: Global, words: &[String]) -> Result<Settings, Usage>
+    ensures in_range { IfOk result AreInRange }
+    ensures said { IfOk result (HaveSaid (map string_bytes words.now)) }
+    ensures refused { IfErr result (SayNoSettings (map string_bytes words.now)) }
+{
+    let command = settings_command(alloc)?;
+    match command.try_get_matches_from(words) {
+        Ok(matches) => settings_of(alloc, &matches),
+        Err(error) => Err(usage_of(alloc, &error)?),
+    }
+}
+
+/// All options, and their help.
 pub(crate) fn command<'a>(alloc: Global) -> Result<Command<'a>, AllocError>
     ensures { IfOk result (λ command. (kinds : _) × IsOneOf said.kind_words kinds
         × (app_of command ≡ said.command_line kinds)) }
+{
+    settings_command(alloc)?.arg(parallelism(alloc))
+}
+
+/// The options that say the settings, and their help.
+fn settings_command<'a>(alloc: Global) -> Result<Command<'a>, AllocError>
+    ensures { IfOk result (λ command. (kinds : _) × IsOneOf said.kind_words kinds
+        × (app_of command ≡ said.settings_line kinds)) }
 {
     Command::new(alloc, "applystream")
         .no_binary_name(true)
@@ -64,8 +90,7 @@ pub(crate) fn command<'a>(alloc: Global) -> Result<Command<'a>, AllocError>
         .arg(queue(alloc))?
         .arg(destroy(alloc))?
         .arg(halt_before(alloc))?
-        .arg(halt_in(alloc))?
-        .arg(parallelism(alloc))
+        .arg(halt_in(alloc))
 }
 
 fn at<'a>(alloc: Global) -> Arg<'a>

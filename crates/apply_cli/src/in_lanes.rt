@@ -5,11 +5,9 @@ ghost use Rattle.std.specs.Option.{option_copied};
 ghost use Rattle.std.specs.Io.KnownBytes.{Keeps};
 ghost use Rattle.apply_plan.specs.Bytes.{max_bytes};
 ghost use Rattle.apply_hooks.specs.Registry.{rules_of};
-ghost use Rattle.apply_run.specs.declared.refusal.Refusal.{Refusal};
-ghost use Rattle.apply_run.specs.Lanes.{WasRefusedInLanes};
 ghost use Rattle.apply_cli.specs.Command.{OfInput, sight_of};
-ghost use Rattle.apply_cli.specs.CommandInLanes.{HasAppliedInLanes, HasBegunInLanes};
-ghost use Rattle.apply_cli.specs.Status.{input_status_of, refusal_status_of};
+ghost use Rattle.apply_cli.specs.CommandInLanes.{HasAppliedInLanes, HasBegunInLanes, HasRefusedInLanes};
+ghost use Rattle.apply_cli.specs.Status.{input_status_of};
 
 use crate::input::read_input;
 use crate::input_fault::InputFault;
@@ -44,7 +42,7 @@ pub fn run_in_lanes<R: Read + Drop, W: Write + Drop, E: Write>(
     ensures cut_off { result.1 ≡ 3 → Keeps (W.contents output.writer) (W.contents result.0.writer)
         ⊎ OfInput (R.remaining input) (λ bytes.
         HasBegunInLanes (record { plan = bytes; script = option_copied script.entry; hooks = rules_of registry.now })
-        lanes settings.now.at settings.now.operation (W.contents output.writer) (W.contents result.0.writer)) }
+        lanes settings.now.at settings.now.operation (sight_of W.contents output) (sight_of W.contents result.0)) }
     ensures quiet { result.1 ≤ 1 → Keeps (E.contents faults.old) (E.contents faults.new) }
     ensures statuses { result.1 ≤ 3 }
 {
@@ -71,10 +69,14 @@ fn run_input_in_lanes<W: Write + Drop, E: Write>(
     ensures applied { IfOk input (λ bytes. result.1 ≤ 1 →
         HasAppliedInLanes (record { plan = bytes.items; script = option_copied script.entry; hooks = rules_of registry.now })
         lanes settings.now.at settings.now.operation (sight_of W.contents output) (sight_of W.contents result.0) result.1) }
-    ensures refused { result.1 ≡ 2 → Keeps (W.contents output.writer) (W.contents result.0.writer) }
+    ensures refused { IfOk input (λ bytes. result.1 ≡ 2 →
+        HasRefusedInLanes (record { plan = bytes.items; script = option_copied script.entry; hooks = rules_of registry.now })
+        lanes settings.now.at settings.now.operation (sight_of W.contents output) (sight_of W.contents result.0)) }
+    ensures kept { result.1 ≡ 2 → Keeps (W.contents output.writer) (W.contents result.0.writer) }
     ensures cut_off { IfOk input (λ bytes. result.1 ≡ 3 → Keeps (W.contents output.writer) (W.contents result.0.writer)
         ⊎ HasBegunInLanes (record { plan = bytes.items; script = option_copied script.entry; hooks = rules_of registry.now })
-        lanes settings.now.at settings.now.operation (W.contents output.writer) (W.contents result.0.writer)) }
+        lanes settings.now.at settings.now.operation (sight_of W.contents output) (sight_of W.contents result.0)) }
+    ensures large { IfOk input (λ bytes. max_bytes < length bytes.items → result.1 ≡ 2) }
     ensures unread { IfErr input (λ fault. result.1 ≡ input_status_of fault) }
     ensures untouched { OnErr input (Keeps (W.contents output.writer) (W.contents result.0.writer)) }
     ensures quiet { result.1 ≤ 1 → Keeps (E.contents faults.old) (E.contents faults.new) }
@@ -91,7 +93,8 @@ fn run_input_in_lanes<W: Write + Drop, E: Write>(
     }
 }
 
-/// Does what `run_in_lanes` does, with the bytes of the input.
+/// Does what `run_in_lanes` does, with the bytes of the input. Status 2 is answered only where they are no plan, the script
+/// is none for it, or the lanes are out of range, and always where there are too many.
 fn run_bytes_in_lanes<W: Write + Drop, E: Write>(
     alloc: Global,
     settings: &Settings,
@@ -106,10 +109,14 @@ fn run_bytes_in_lanes<W: Write + Drop, E: Write>(
     ensures applied { result.1 ≤ 1 →
         HasAppliedInLanes (record { plan = bytes.now; script = option_copied script.entry; hooks = rules_of registry.now })
         lanes settings.now.at settings.now.operation (sight_of W.contents output) (sight_of W.contents result.0) result.1 }
+    ensures refused { result.1 ≡ 2 →
+        HasRefusedInLanes (record { plan = bytes.now; script = option_copied script.entry; hooks = rules_of registry.now })
+        lanes settings.now.at settings.now.operation (sight_of W.contents output) (sight_of W.contents result.0) }
     ensures kept { result.1 ≡ 2 → Keeps (W.contents output.writer) (W.contents result.0.writer) }
+    ensures large { max_bytes < length bytes.now → result.1 ≡ 2 }
     ensures cut_off { result.1 ≡ 3 → Keeps (W.contents output.writer) (W.contents result.0.writer)
         ⊎ HasBegunInLanes (record { plan = bytes.now; script = option_copied script.entry; hooks = rules_of registry.now })
-        lanes settings.now.at settings.now.operation (W.contents output.writer) (W.contents result.0.writer) }
+        lanes settings.now.at settings.now.operation (sight_of W.contents output) (sight_of W.contents result.0) }
     ensures quiet { result.1 ≤ 1 → Keeps (E.contents faults.old) (E.contents faults.new) }
     ensures statuses { result.1 ≤ 3 }
 {

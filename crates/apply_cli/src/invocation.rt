@@ -7,9 +7,9 @@ ghost use Rattle.apply_run.specs.Lanes.{AreLanes};
 ghost use Rattle.apply_cli.specs.CommandLine.{IsParallelism, IsSaidWrong, WereRefused};
 ghost use Rattle.apply_cli.specs.Invocation.{HaveInvoked, IsInRange, IsInvoked};
 
+use crate::arguments::{command, is_beside, settings_of, usage_of};
 use crate::settings::Settings;
 use crate::usage::Usage;
-use crate::arguments::{command, is_beside, settings_of, usage_of};
 use apply_run::MAX_LANES;
 use clap::ArgMatches;
 use std::alloc::Global;

@@ -17,6 +17,7 @@ mod usage;
 mod version;
 
 pub use answer::answer_usage;
+pub use arguments::read_words;
 pub use halt::Halt;
 pub use in_lanes::run_in_lanes;
 pub use input::{drop_rest, read_all};

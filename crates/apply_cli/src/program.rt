@@ -127,7 +127,7 @@ pub fn follow_invocation<
     ensures cut_off { result.1 ≡ 3 → Keeps (W.contents output.writer) (W.contents result.0.writer)
         ⊎ OfInput (R.remaining input) (λ plan. OfFile settings.now.script (λ script.
         HasBegunAsAsked (record { plan = plan; script = script; hooks = hooks_of_halts settings.now.halts.items })
-        settings.now parallelism (W.contents output.writer) (W.contents result.0.writer))) }
+        settings.now parallelism (sight_of W.contents output) (sight_of W.contents result.0))) }
     ensures quiet { result.1 ≤ 1 → Keeps (E.contents faults.old) (E.contents faults.new) }
     ensures statuses { result.1 ≤ 3 }
 {
@@ -188,7 +188,7 @@ fn run_with_hooks<F: Files, R: Read + Drop, W: Write + Drop, E: Write, T: Thread
     ensures cut_off { result.1 ≡ 3 → Keeps (W.contents output.writer) (W.contents result.0.writer)
         ⊎ OfInput (R.remaining input) (λ plan. OfFile settings.now.script (λ script.
         HasBegunAsAsked (record { plan = plan; script = script; hooks = hooks_of_halts settings.now.halts.items })
-        settings.now parallelism (W.contents output.writer) (W.contents result.0.writer))) }
+        settings.now parallelism (sight_of W.contents output) (sight_of W.contents result.0))) }
     ensures quiet { result.1 ≤ 1 → Keeps (E.contents faults.old) (E.contents faults.new) }
     ensures statuses { result.1 ≤ 3 }
 {
@@ -232,7 +232,7 @@ fn run_script<R: Read + Drop, W: Write + Drop, E: Write, T: Threads + Wait + Syn
     ensures cut_off { result.1 ≡ 3 → Keeps (W.contents output.writer) (W.contents result.0.writer)
         ⊎ OfInput (R.remaining input) (λ plan.
         HasBegunAsAsked (record { plan = plan; script = option_copied script.entry; hooks = rules_of registry.now })
-        settings.now parallelism (W.contents output.writer) (W.contents result.0.writer)) }
+        settings.now parallelism (sight_of W.contents output) (sight_of W.contents result.0)) }
     ensures quiet { result.1 ≤ 1 → Keeps (E.contents faults.old) (E.contents faults.new) }
     ensures statuses { result.1 ≤ 3 }
 {

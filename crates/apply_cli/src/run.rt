@@ -5,11 +5,9 @@ ghost use Rattle.std.specs.Option.{option_copied};
 ghost use Rattle.std.specs.Io.KnownBytes.{IsAtEnd, Keeps};
 ghost use Rattle.apply_plan.specs.Bytes.{max_bytes};
 ghost use Rattle.apply_hooks.specs.Registry.{rules_of};
-ghost use Rattle.apply_run.specs.declared.refusal.Refusal.{Refusal};
-ghost use Rattle.apply_run.specs.Bytes.{WasRefused};
-ghost use Rattle.apply_cli.specs.Command.{HasApplied, HasBegun, OfInput, sight_of};
+ghost use Rattle.apply_cli.specs.Command.{HasApplied, HasBegun, HasRefused, OfInput, sight_of};
 ghost use Rattle.apply_cli.specs.Settings.{options_of};
-ghost use Rattle.apply_cli.specs.Status.{input_status_of, refusal_status_of};
+ghost use Rattle.apply_cli.specs.Status.{input_status_of};
 
 use crate::input::{drop_rest, read_input};
 use crate::input_fault::InputFault;
@@ -60,7 +58,7 @@ pub fn run_command<R: Read + Drop, W: Write + Drop, E: Write, T: Threads + Wait 
     ensures cut_off { result.1 ≡ 3 → Keeps (W.contents output.writer) (W.contents result.0.writer)
         ⊎ OfInput (R.remaining input) (λ bytes.
         HasBegun (record { plan = bytes; script = option_copied script.entry; hooks = rules_of registry.now })
-        (options_of settings.now) (W.contents output.writer) (W.contents result.0.writer)) }
+        (options_of settings.now) (sight_of W.contents output) (sight_of W.contents result.0)) }
     ensures quiet { result.1 ≤ 1 → Keeps (E.contents faults.old) (E.contents faults.new) }
     ensures statuses { result.1 ≤ 3 }
 {
@@ -88,7 +86,9 @@ pub(crate) fn finish_reading<R: Read, E: Write>(
     drop_rest(input)
 }
 
-/// Does what `run_command` does, with an input that was read or was not.
+/// Does what `run_command` does, with an input that was read or was not. Where it was read, status 2 is answered only where
+/// its bytes are no plan, the script is none for it, or the settings are out of range; where it was not, the status is
+/// that of the fault.
 pub fn run_input<W: Write + Drop, E: Write, T: Threads + Wait + Sync>(
     rt: &T,
     alloc: Global,
@@ -103,10 +103,14 @@ pub fn run_input<W: Write + Drop, E: Write, T: Threads + Wait + Sync>(
     ensures applied { IfOk input (λ bytes. result.1 ≤ 1 →
         HasApplied (record { plan = bytes.items; script = option_copied script.entry; hooks = rules_of registry.now })
         (options_of settings.now) (sight_of W.contents output) (sight_of W.contents result.0) result.1) }
-    ensures refused { result.1 ≡ 2 → Keeps (W.contents output.writer) (W.contents result.0.writer) }
+    ensures refused { IfOk input (λ bytes. result.1 ≡ 2 →
+        HasRefused (record { plan = bytes.items; script = option_copied script.entry; hooks = rules_of registry.now })
+        (options_of settings.now) (sight_of W.contents output) (sight_of W.contents result.0)) }
+    ensures kept { result.1 ≡ 2 → Keeps (W.contents output.writer) (W.contents result.0.writer) }
     ensures cut_off { IfOk input (λ bytes. result.1 ≡ 3 → Keeps (W.contents output.writer) (W.contents result.0.writer)
         ⊎ HasBegun (record { plan = bytes.items; script = option_copied script.entry; hooks = rules_of registry.now })
-        (options_of settings.now) (W.contents output.writer) (W.contents result.0.writer)) }
+        (options_of settings.now) (sight_of W.contents output) (sight_of W.contents result.0)) }
+    ensures large { IfOk input (λ bytes. max_bytes < length bytes.items → result.1 ≡ 2) }
     ensures unread { IfErr input (λ fault. result.1 ≡ input_status_of fault) }
     ensures untouched { OnErr input (Keeps (W.contents output.writer) (W.contents result.0.writer)) }
     ensures quiet { result.1 ≤ 1 → Keeps (E.contents faults.old) (E.contents faults.new) }
@@ -123,8 +127,8 @@ pub fn run_input<W: Write + Drop, E: Write, T: Threads + Wait + Sync>(
     }
 }
 
-/// Does what `run_command` does, with the bytes of the input. Status 2 is answered only where they are no plan, the script is none for it, or the settings are
-/// out of range, and always where there are too many.
+/// Does what `run_command` does, with the bytes of the input. Status 2 is answered only where they are no plan, the script
+/// is none for it, or the settings are out of range, and always where there are too many.
 pub fn run_bytes<W: Write + Drop, E: Write, T: Threads + Wait + Sync>(
     rt: &T,
     alloc: Global,
@@ -139,13 +143,13 @@ pub fn run_bytes<W: Write + Drop, E: Write, T: Threads + Wait + Sync>(
     ensures applied { result.1 ≤ 1 →
         HasApplied (record { plan = bytes.now; script = option_copied script.entry; hooks = rules_of registry.now })
         (options_of settings.now) (sight_of W.contents output) (sight_of W.contents result.0) result.1 }
-    ensures refused { result.1 ≡ 2 → (refusal : Refusal) × (refusal_status_of refusal ≡ 2)
-        × WasRefused (record { plan = bytes.now; script = option_copied script.entry; hooks = rules_of registry.now })
-        (options_of settings.now) refusal (sight_of W.contents output) (sight_of W.contents result.0) }
+    ensures refused { result.1 ≡ 2 →
+        HasRefused (record { plan = bytes.now; script = option_copied script.entry; hooks = rules_of registry.now })
+        (options_of settings.now) (sight_of W.contents output) (sight_of W.contents result.0) }
     ensures kept { result.1 ≡ 2 → Keeps (W.contents output.writer) (W.contents result.0.writer) }
     ensures cut_off { result.1 ≡ 3 → Keeps (W.contents output.writer) (W.contents result.0.writer)
         ⊎ HasBegun (record { plan = bytes.now; script = option_copied script.entry; hooks = rules_of registry.now })
-        (options_of settings.now) (W.contents output.writer) (W.contents result.0.writer) }
+        (options_of settings.now) (sight_of W.contents output) (sight_of W.contents result.0) }
     ensures large { max_bytes < length bytes.now → result.1 ≡ 2 }
     ensures quiet { result.1 ≤ 1 → Keeps (E.contents faults.old) (E.contents faults.new) }
     ensures statuses { result.1 ≤ 3 }
@@ -185,7 +189,8 @@ pub fn run_bytes<W: Write + Drop, E: Write, T: Threads + Wait + Sync>(
 /// Flushes the output where no write has failed since there were so many failures. A flush that fails is dropped.
 pub(crate) fn flush_unless_failed<W: Write + Drop>(output: &mut StdSink<W>, failures: u64)
     requires { failures < 2 ^ 64 - 1 }
-    ensures { Keeps (W.contents output.old.writer) (W.contents output.new.writer) }
+    ensures bytes { Keeps (W.contents output.old.writer) (W.contents output.new.writer) }
+    ensures failed { output.old.failures ≤ output.new.failures }
 {
     if output.failures() == failures {
         let _ = output.flush();

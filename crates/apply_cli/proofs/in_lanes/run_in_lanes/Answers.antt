@@ -16,6 +16,6 @@ returns-clause-applied g c =
 pub returns-clause-cut_off : goal.returns-clause-cut_off
 returns-clause-cut_off g c =
     of_input_in_part c.read_input-plan.result.0 (g.R.Read.remaining c.args.input) c.run_input_in_lanes-output.result.1 (Keeps (g.W.Write.contents c.args.output.writer) (g.W.Write.contents c.run_input_in_lanes-output.result.0.writer))
-    (λ bytes. HasBegunInLanes (record { plan = bytes; script = option_copied c.args.script; hooks = rules_of c.args.registry.now }) c.args.lanes c.args.settings.now.at c.args.settings.now.operation (g.W.Write.contents c.args.output.writer) (g.W.Write.contents c.run_input_in_lanes-output.result.0.writer))
+    (λ bytes. HasBegunInLanes (record { plan = bytes; script = option_copied c.args.script; hooks = rules_of c.args.registry.now }) c.args.lanes c.args.settings.now.at c.args.settings.now.operation (sight_of g.W.Write.contents c.args.output) (sight_of g.W.Write.contents c.run_input_in_lanes-output.result.0))
     (λ bytes h. (h.plan, h.read.plan_is))
     c.read_input-plan.ensures.bytes c.run_input_in_lanes-output.ensures.cut_off c.run_input_in_lanes-output.ensures.untouched

@@ -18,7 +18,7 @@ returns-then-is_err-clause-cut_off g c = λ _.
     let before : Sight = sight_of g.W.Write.contents c.args.output in
     let after : Sight = sight_of g.W.Write.contents c.apply_bytes-output.result.0 in
     let applied = at_ok c.apply_bytes-output.result.1 c.in-Ok.run' c.options.result options (λ o r. WasApplied given o r before after) c.in-Ok.is c.options.ensures c.apply_bytes-output.ensures.ok in
-    inr (begun_of_applied given options c.in-Ok.run' before after (g.W.Write.contents c.flush.new.self.writer) c.flush.ensures.bytes applied)
+    inr (begun_of_applied given options c.in-Ok.run' before after (sight_of g.W.Write.contents c.flush.new.self) c.flush.ensures.bytes (search rules) applied)
 
 pub returns-then-is_err-clause-large : goal.returns-then-is_err-clause-large
 returns-then-is_err-clause-large g c = λ long.
@@ -54,7 +54,7 @@ returns-in-Err-Fault-clause-cut_off g c = λ _.
     let before : Sight = sight_of g.W.Write.contents c.args.output in
     let after : Sight = sight_of g.W.Write.contents c.apply_bytes-output.result.0 in
     let ended = at_err c.apply_bytes-output.result.1 (Fault c.in-Err-Fault.fault) c.options.result options (λ o r. WasRefused given o r before after) (search rules) c.options.ensures c.apply_bytes-output.ensures.err in
-    begun_of_refused given options (Fault c.in-Err-Fault.fault) before after (g.W.Write.contents c.flush_unless_failed.new.output.writer) c.flush_unless_failed.ensures ended
+    begun_of_refused given options (Fault c.in-Err-Fault.fault) before after (sight_of g.W.Write.contents c.flush_unless_failed.new.output) c.flush_unless_failed.ensures.bytes c.flush_unless_failed.ensures.failed ended
 
 pub returns-in-Err-Fault-clause-large : goal.returns-in-Err-Fault-clause-large
 returns-in-Err-Fault-clause-large g c = λ long.
@@ -78,7 +78,7 @@ returns-in-Err g c =
       applied = λ good. absurd (omega arith);
       refused = λ is. (c.in-Err.refusal, sym status_is ∙ is, ended);
       kept = λ is. kept_of_refused given options c.in-Err.refusal before after (sym status_is ∙ is) ended;
-      cut_off = λ _. begun_of_refused given options c.in-Err.refusal before after after.bytes (Keeps-refl after.bytes) ended;
+      cut_off = λ _. begun_of_refused given options c.in-Err.refusal before after after (Keeps-refl after.bytes) (omega arith) ended;
       large = λ long. status_is ∙ refused_large given options c.in-Err.refusal before after ended long;
       quiet = λ good. absurd (omega arith);
       statuses = omega arith;

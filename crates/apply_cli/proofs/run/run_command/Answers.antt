@@ -16,6 +16,6 @@ returns-clause-applied g c =
 pub returns-clause-cut_off : goal.returns-clause-cut_off
 returns-clause-cut_off g c =
     of_input_in_part c.read_input-plan.result.0 (g.R.Read.remaining c.args.input) c.run_input-output.result.1 (Keeps (g.W.Write.contents c.args.output.writer) (g.W.Write.contents c.run_input-output.result.0.writer))
-    (λ bytes. HasBegun (record { plan = bytes; script = option_copied c.args.script; hooks = rules_of c.args.registry.now }) (options_of c.args.settings.now) (g.W.Write.contents c.args.output.writer) (g.W.Write.contents c.run_input-output.result.0.writer))
+    (λ bytes. HasBegun (record { plan = bytes; script = option_copied c.args.script; hooks = rules_of c.args.registry.now }) (options_of c.args.settings.now) (sight_of g.W.Write.contents c.args.output) (sight_of g.W.Write.contents c.run_input-output.result.0))
     (λ bytes h. (h.plan, h.read.plan_is))
     c.read_input-plan.ensures.bytes c.run_input-output.ensures.cut_off c.run_input-output.ensures.untouched

@@ -1,0 +1,51 @@
+# Proves and builds the program out of the crates that crates.txt lists, each over what those below it state.
+#   make                          the program, out/applystream; after a failure it goes on with what is left
+#   make install PREFIX=/usr/local
+#   make check                    the gate: every proof, edit, test and script
+#   make clean                    forgets all of it
+SHELL := bash
+KIT := $(patsubst %/,%,$(dir $(shell rt doc)))
+# rt passes over what lies here, which has the sources of libraries in it.
+LIBS := $(CURDIR)/crates/applystream/out/rlib
+PREFIX ?= /usr/local
+# A job for each of up to four processors, and up to three crates at a time, where there are 7 GiB of memory for each.
+JOBS ?= $(shell n=$$(nproc); echo $$((n < 4 ? n : 4)))
+MAKEFLAGS += -j$(shell awk '/^MemAvailable/ { n = int($$2 / 7340032); print (n < 1 ? 1 : n > 3 ? 3 : n) }' /proc/meminfo)
+OWN := $(shell sed -n 's/^\([a-z_]*\)[ :].*/\1/p' crates.txt)
+uses = $(shell sed -n 's/^$(1)\( [^:]*\)\{0,1\}: *//p' crates.txt)
+below = $(filter $(OWN),$(call uses,$(1)))
+needs = $(sort $(1) $(foreach crate,$(call below,$(1)),$(call needs,$(crate))))
+files = $(shell find crates/$(1)/src crates/$(1)/specs crates/$(1)/proofs -type f ! -path '*/src/tests*' 2>/dev/null)
+CRATES := $(call needs,applystream)
+# What no other crate waits for steps back behind the chain.
+ASIDE := apply_shown apply_check
+left = $$(for crate in $(CRATES); do [ -e $(LIBS)/$$crate.stamp ] || echo $$crate; done)
+
+out/applystream: $(LIBS)/applystream.stamp
+	@$(KIT)/bin/rattle-link --target x86_64-unknown-linux-gnu --toolchain $(KIT)/toolchain -o $@.new \
+	  out/applystream.o $(KIT)/c/libos_c.a $(KIT)/c/liblibc_c.a >out/link.log 2>&1 || { cat out/link.log >&2; false; }
+	@mv $@.new $@
+
+$(LIBS)/%.stamp: out/toolchain
+	@mkdir -p $(LIBS) out
+	@echo "applystream: proving $*; left:" $(left) >&2
+	@cd crates/$* && nice -n $(if $(filter $*,$(ASIDE)),19,0) $(KIT)/bin/rattle build --crate-name $* --jobs $(JOBS) -L dependency=$(KIT)/rlibs -L dependency=$(LIBS) \
+	  --antt-project $(KIT)/rattle/logic/antt-project.json --logic-built $(KIT)/logic_built \
+	  $(foreach it,std $(call uses,$*),--extern $(it)=$(if $(filter $(it),$(OWN)),$(LIBS),$(KIT)/rlibs)/$(it).rlib) \
+	  $(if $(filter applystream,$*),src/main.rt --toolchain $(KIT)/toolchain --backend llvm -o $(CURDIR)/out/applystream.o,src/lib.rt --statements -o $(LIBS)/$*.rlib) \
+	  </dev/null >$(CURDIR)/out/$*.log 2>&1 || { echo "applystream: $* was not proved or not built; out/$*.log says why" >&2; false; }
+	@touch $@
+$(foreach crate,$(CRATES),$(eval $(LIBS)/$(crate).stamp: $(call files,$(crate)) $(patsubst %,$(LIBS)/%.stamp,$(call below,$(crate)))))
+
+# What another toolchain made is made anew.
+out/toolchain: FORCE
+	@mkdir -p out; rt version | cmp -s - $@ || rt version >$@
+install: out/applystream
+	install -D out/applystream $(DESTDIR)$(PREFIX)/bin/applystream
+check:
+	./check
+clean:
+	rm -rf out crates/*/out
+FORCE:
+.PHONY: FORCE install check clean
+.DELETE_ON_ERROR:
