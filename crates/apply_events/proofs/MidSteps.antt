@@ -1,18 +1,16 @@
 -- What is left of a step between its start and its end, one by one.
-use Rattle.std.proofs.Common.{◌≡◌, ℕ, zero, suc, ◌+◌, ◌-◌, ◌<◌, ◌≤◌, All, Bool, Bor, true, false, List, [], ◌∷◌, ◌++◌, cond, drop, length, map, take, min, Option, Some, None, sym, refl, ap, ◌∙◌, arith, ⊎_elim}
+use Rattle.std.proofs.Common.{◌≡◌, ℕ, zero, suc, ◌+◌, ◌-◌, ◌<◌, ◌≤◌, All, Bool, Bor, true, false, List, [], ◌∷◌, cond, drop, length, Option, Some, None, sym, refl, ap, ◌∙◌, arith}
 use Rattle.std.specs.Prelude.{is_some, not, slice_get}
 use Rattle.std.specs.Option.{option_copied}
-use Rattle.std.specs.List.{range_with_len}
 use Rattle.std.proofs.lemmas.List.{drop_more}
 use Rattle.std.proofs.lemmas.List.Sums.{sum_by-cons, sum_by-take-le, sum_by_more, sum_by_more_le}
 use Rattle.std.proofs.lemmas.List.Elements.{All-cons, All-head, All-nil, All-tail}
 use Rattle.std.proofs.lemmas.Option.{get_or_from_slice_get, slice_get_within}
 use Rattle.apply_plan.specs.declared.script.provisioner.Provisioner.{Provisioner}
 use Rattle.apply_plan.specs.Script.Outcome.{has_failed, ran, seconds_of_all}
-use Rattle.apply_events.specs.declared.what.What.{What}
 use Rattle.apply_events.specs.declared.what.What.TheVariants.{Progress, ProvisionOutput, ProvisionStart}
-use Rattle.apply_events.specs.MidStep.{amid, left_at, since}
-use Rattle.apply_events.specs.Provisions.{along, provision_end, provisions, results, times_within}
+use Rattle.apply_events.specs.MidStep.{left_at, since}
+use Rattle.apply_events.specs.Provisions.{provision_end, results, times_within}
 
 -- ---- the provisioner at a number
 

@@ -1,12 +1,11 @@
 -- The moments along lists of events.
-use Rattle.std.proofs.Common.{◌≡◌, ℕ, zero, suc, ◌+◌, ◌-◌, ◌*◌, ◌<◌, ◌≤◌, nat_eq, Bool, true, false, List, [], ◌∷◌, ◌++◌, cond, filter, length, map, Option, Some, None, IfSome, refl, ap, arith, ⊎_elim}
+use Rattle.std.proofs.Common.{◌≡◌, ℕ, suc, ◌+◌, ◌*◌, ◌<◌, ◌≤◌, nat_eq, true, false, List, [], ◌∷◌, ◌++◌, cond, length, map, Option, Some, None, IfSome, refl, ap, arith, ⊎_elim}
 use Rattle.std.specs.Prelude.{All, is_some, option_map, option_to_list, slice_get, sum_by}
-use Rattle.std.specs.List.{enumerate_from, list_any, range_with_len}
+use Rattle.std.specs.List.{enumerate_from, list_any}
 use Rattle.std.proofs.lemmas.Bool.Decides.{eqb_tells}
 use Rattle.std.proofs.lemmas.List.Sums.{sum_by-cons}
 use Rattle.std.proofs.lemmas.Map.Steps.{length-le_from_distinct_below}
 use Rattle.apply_plan.specs.declared.plan.step_kind.StepKind.{StepKind}
-use Rattle.apply_plan.specs.Script.Limits.{max_seconds}
 use Rattle.apply_plan.specs.Script.OutcomeMap.{IsInRange, given_outcome}
 use Rattle.apply_plan.specs.declared.script.outcome.Outcome.{Outcome}
 use Rattle.apply_plan.specs.Script.Outcome.{IsBounded, default_outcome, took}
@@ -24,7 +23,7 @@ use Rattle.apply_events.specs.StepEvents.{between, endings, event, goes_on, halt
 use Rattle.apply_events.specs.WorkerEvents.{worker_events}
 use Rattle.apply_events.proofs.MidSteps.{ran_short}
 use Rattle.apply_events.proofs.Provisions.{along_rises, time_of}
-use Rattle.apply_events.proofs.Rising.{Rises, Rises-append, Rises-at_most, Rises-higher, Rises-lower, Rises-map_more, Rises-map_same}
+use Rattle.apply_events.proofs.Rising.{Rises, Rises-append, Rises-at_most, Rises-higher, Rises-map_same}
 
 abbrev pub moment_of : Event → ℕ
 moment_of e = e.at

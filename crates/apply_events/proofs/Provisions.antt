@@ -1,6 +1,5 @@
 -- What happens to a step between its start and its end: what holds of all of it, when it happens, and how much it is.
-use Rattle.std.proofs.Common.{◌≡◌, ℕ, zero, suc, ◌+◌, ◌-◌, ◌*◌, ◌/◌, ◌<◌, ◌≤◌, All, List, [], ◌∷◌, ◌++◌, get_or, length, length-append, map, Some, refl, ap, ◌∙◌, arith, sym}
-use Rattle.std.specs.Prelude.{slice_get, sum_by}
+use Rattle.std.proofs.Common.{◌≡◌, ℕ, suc, ◌+◌, ◌-◌, ◌*◌, ◌≤◌, All, List, [], ◌∷◌, ◌++◌, length, length-append, map, refl, ap, ◌∙◌, arith, sym}
 use Rattle.std.specs.List.{range_with_len}
 use Rattle.std.proofs.lemmas.List.{length-map}
 use Rattle.std.proofs.lemmas.List.Elements.{All-append, All-cons, All-head, All-nil, All-tail}
@@ -12,7 +11,7 @@ use Rattle.apply_events.specs.declared.what.What.{What}
 use Rattle.apply_events.specs.declared.what.What.TheVariants.{Progress, ProvisionOutput, ProvisionStart}
 use Rattle.apply_events.specs.Provisions.{along, progress, provision_end, provisions, results, times_within}
 use Rattle.apply_events.proofs.ProgressTimes.{few_within, times_rise, times_up_to, up_to_end}
-use Rattle.apply_events.proofs.Rising.{Rises, Rises-append, Rises-lower, Rises-map_same}
+use Rattle.apply_events.proofs.Rising.{Rises, Rises-append, Rises-map_same}
 
 all-map : {X Y : Type 0} (P : Y → Type 0) (g : X → Y) (xs : List X) → ((x : X) → P (g x)) → All P (map g xs)
 all-map P g [] h = All-nil P

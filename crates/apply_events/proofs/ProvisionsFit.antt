@@ -1,5 +1,5 @@
 -- What happens to a step between its start and its end can happen to it.
-use Rattle.std.proofs.Common.{◌≡◌, ℕ, zero, suc, ◌+◌, ◌-◌, ◌<◌, ◌≤◌, All, nat_eq, nat_lt, Bool, true, false, not, List, [], ◌∷◌, ◌++◌, cond, drop, get_or, length, map, Some, refl, ap, arith, ⊎_elim, lt-ltb, add-one}
+use Rattle.std.proofs.Common.{◌≡◌, ℕ, zero, suc, ◌+◌, ◌-◌, ◌≤◌, All, nat_eq, nat_lt, Bool, true, false, not, List, [], ◌∷◌, ◌++◌, cond, drop, get_or, length, map, Some, refl, ap, arith, ⊎_elim, lt-ltb, add-one}
 use Rattle.std.specs.Prelude.{IsTrue, slice_get}
 use Rattle.std.specs.List.{list_any, range_with_len}
 use Rattle.std.proofs.lemmas.Bool.Decides.{eqb_tells}

@@ -10,6 +10,7 @@ pub mod OneLane
 pub mod Open
 pub mod Order
 pub mod Partition
+pub mod RunEvents
 pub mod Sharing
 pub mod States
 pub mod StepTimes

@@ -1,9 +1,9 @@
 -- Changes under way at once, in lanes.
+pub mod ChangesUnderWay
 pub mod Dealing
 pub mod Lane
 pub mod LaneState
 pub mod Merging
-pub mod Progress
 pub mod Props
 pub mod Sharing
 pub mod StepTimes

@@ -21,7 +21,7 @@ pub use event::{Event, LATEST};
 pub use fitting::{fits, is_of_plan};
 pub use interleaving::{
     an_interleaving_has_the_summed_length, an_interleaving_of_one_worker_is_its_list,
-    totals_of_an_interleaving_add_up,
+    changes_that_are_dealt_out_have_few_events, totals_of_an_interleaving_add_up,
 };
 pub use lanes::Lanes;
 pub use lanes::laws::{

@@ -1,13 +1,14 @@
 //! What no clause says: that the definitions are the ones that were meant, and that calls succeed with ample memory.
 //!
-//! A test is proved before it runs: rows are texts, and these functions are short and end the test at once where memory is
-//! refused.
+//! A test is proved before it runs: rows are texts, these functions are short and end the test at once where memory is
+//! refused, and what they make is kept until it ends.
 
+ghost use Rattle.std.specs.Prelude.{◌≡◌, true};
 ghost use Rattle.apply_events.specs.Fits.{HasStep};
 
+mod cached_parts;
 mod escapes;
 mod events;
-mod kept;
 mod moments;
 mod provisioners;
 mod streams;
@@ -25,24 +26,32 @@ use std::process::Abort;
 /// A script without entries.
 const NOTHING_SAID: &str = r#"{"changes":[]}"#;
 
+/// Fails where it is not so. A proof grows by each assertion, and by less where it is a call.
+fn holds(rt: &impl Abort, case: &str, is_so: bool)
+    ensures { is_so ≡ true }
+{
+    assert!(rt; is_so, "{case}");
+}
+
+/// The value, for as long as the test runs: a proof grows with each place at which something has to be dropped.
+fn kept<'a, T: Drop + 'a>(rt: &impl Abort, alloc: Global, value: T) -> &'a T {
+    let kept = Box::new(alloc, value).expect(rt, "memory");
+    &*Box::leak(kept)
+}
+
 /// What stands before the first mark, and what behind it.
 fn parted<'a>(rt: &impl Abort, text: &'a str, mark: &str) -> (&'a str, &'a str) {
-    match text.split_once(mark) {
-        Some(parts) => parts,
-        None => panic!(rt; "no mark in {text}"),
-    }
+    text.split_once(mark).expect(rt, "a mark")
 }
 
 fn number_of(rt: &impl Abort, text: &str) -> u32 {
-    match text.parse::<u32>() {
-        Ok(number) => number,
-        Err(_) => panic!(rt; "no number: {text}"),
-    }
+    text.parse::<u32>().ok().expect(rt, "a number")
 }
 
 /// What `Display` prints of it.
-fn shown(rt: &impl Abort, alloc: Global, value: &impl Display) -> String {
-    value.to_string(alloc).expect(rt, "memory")
+fn shown(rt: &impl Abort, alloc: Global, value: &impl Display) -> &'static str {
+    let text = value.to_string(alloc).expect(rt, "memory");
+    kept(rt, alloc, text).as_str()
 }
 
 /// Adds more to a text.
@@ -51,8 +60,9 @@ fn push(rt: &impl Abort, text: &mut String, more: &str) {
 }
 
 /// The text with another one in each place of the mark.
-fn put(rt: &impl Abort, alloc: Global, text: &str, mark: &str, other: &str) -> String {
-    text.replace(alloc, mark, other).expect(rt, "memory")
+fn put(rt: &impl Abort, alloc: Global, text: &str, mark: &str, other: &str) -> &'static str {
+    let text = text.replace(alloc, mark, other).expect(rt, "memory");
+    kept(rt, alloc, text).as_str()
 }
 
 /// Fails where another text was found for the case, byte for byte.
@@ -62,34 +72,27 @@ fn compare(rt: &impl Abort, case: &str, found: &str, wanted: &str) {
 
 /// Fails where anything but this line and its line feed was found for the case, byte for byte.
 fn compare_line(rt: &impl Abort, case: &str, found: &str, wanted: &str) {
-    match found.strip_suffix("\n") {
-        Some(line) => compare(rt, case, line, wanted),
-        None => panic!(rt; "at {case}: no line feed at the end of {found}"),
-    }
+    let line = found
+        .strip_suffix("\n")
+        .expect(rt, "a line feed at the end");
+    compare(rt, case, line, wanted);
 }
 
 /// A plan that has to be accepted.
-fn plan_of(rt: &impl Abort, alloc: Global, text: &str) -> Plan {
-    match read_plan(alloc, text.as_bytes()) {
-        Ok(plan) => plan,
-        Err(error) => panic!(rt; "{text}: {error}"),
-    }
+fn plan_of(rt: &impl Abort, alloc: Global, text: &str) -> &'static Plan {
+    let plan = read_plan(alloc, text.as_bytes());
+    kept(rt, alloc, plan.ok().expect(rt, "a plan"))
 }
 
 /// A script that has to be accepted.
-fn script_of(rt: &impl Abort, alloc: Global, text: &str, plan: &Plan) -> Script {
-    match read_script(alloc, text.as_bytes(), plan) {
-        Ok(script) => script,
-        Err(error) => panic!(rt; "{text}: {error}"),
-    }
+fn script_of(rt: &impl Abort, alloc: Global, text: &str, plan: &Plan) -> &'static Script {
+    let script = read_script(alloc, text.as_bytes(), plan);
+    kept(rt, alloc, script.ok().expect(rt, "a script"))
 }
 
 /// A start that has to be accepted.
 fn start_of(rt: &impl Abort, text: &str) -> Start {
-    match Start::read(text) {
-        Ok(start) => start,
-        Err(_) => panic!(rt; "no start: {text}"),
-    }
+    Start::read(text).ok().expect(rt, "a start")
 }
 
 /// The line of an event that the plan has to have.
@@ -101,18 +104,21 @@ fn line_of(
     start: Start,
     latest: u64,
     event: &Event,
-) -> String {
-    assert!(rt; latest <= LATEST);
+) -> &'static str {
+    holds(rt, "in time", latest <= LATEST);
     check_step(rt, plan, event);
     let line = event_line(alloc, plan, script, start, latest, event);
-    line.expect(rt, "memory")
+    kept(rt, alloc, line.expect(rt, "memory")).as_str()
 }
 
 /// Counts an event that the plan has to have, where there is room.
 fn count(rt: &impl Abort, counts: &mut Counts, plan: &Plan, event: &Event) {
     check_step(rt, plan, event);
-    assert!(rt; counts.added < 1_000 && counts.changed < 1_000 && counts.removed < 1_000);
-    assert!(rt; counts.failed < 1_000 && counts.halted < 1_000);
+    holds(rt, "few are added", counts.added < 1_000);
+    holds(rt, "few are changed", counts.changed < 1_000);
+    holds(rt, "few are removed", counts.removed < 1_000);
+    holds(rt, "few fail", counts.failed < 1_000);
+    holds(rt, "few are halted", counts.halted < 1_000);
     counts.count(plan, event);
 }
 
@@ -120,8 +126,9 @@ fn count(rt: &impl Abort, counts: &mut Counts, plan: &Plan, event: &Event) {
 fn check_step(rt: &impl Abort, plan: &Plan, event: &Event)
     ensures { HasStep plan.now event.now.change event.now.step }
 {
-    assert!(rt; event.change < plan.len());
-    assert!(rt; (event.step as usize) < plan.change(event.change).steps().len());
+    holds(rt, "a change", event.change < plan.len());
+    let steps = plan.change(event.change).steps();
+    holds(rt, "a step", (event.step as usize) < steps.len());
 }
 
 /// The summary of these counts, so many seconds after a start.
@@ -132,25 +139,27 @@ fn summary_of(
     latest: u64,
     operation: Operation,
     counts: &Counts,
-) -> String {
-    assert!(rt; latest <= LATEST);
-    summary_line(alloc, start, latest, operation, counts).expect(rt, "memory")
+) -> &'static str {
+    holds(rt, "in time", latest <= LATEST);
+    let line = summary_line(alloc, start, latest, operation, counts);
+    kept(rt, alloc, line.expect(rt, "memory")).as_str()
 }
 
 /// Adds the lines of a change that begins at a moment, each made by itself, and counts its events. Returns when it ends.
-fn push_change(
+fn push_change<'a>(
     rt: &impl Abort,
     alloc: Global,
     text: &mut String,
     counts: &mut Counts,
-    plan: &Plan,
-    script: &Script,
+    plan: &'a Plan,
+    script: &'a Script,
     number: u32,
     begin: u64,
 ) -> u64 {
-    let registry = Registry::new(alloc);
-    assert!(rt; number < plan.len() && begin <= LATEST - 172_800);
-    let mut runner = Runner::start(plan, script, &registry, 0, number, begin);
+    let registry = kept(rt, alloc, Registry::new(alloc));
+    holds(rt, "a change", number < plan.len());
+    holds(rt, "early enough", begin <= LATEST - 172_800);
+    let mut runner = Runner::start(plan, script, registry, 0, number, begin);
     let mut at = begin;
     for _ in 0..20_000 {
         let Some(event) = runner.next() else {
@@ -173,7 +182,7 @@ fn push_event(
     event: &Event,
 ) {
     let line = line_of(rt, alloc, plan, script, Start::zero(), event.at, event);
-    push(rt, text, line.as_str());
+    push(rt, text, line);
 }
 
 /// Adds the lines of all changes, and the summary.
@@ -184,14 +193,14 @@ fn push_changes(rt: &impl Abort, alloc: Global, text: &mut String, plan: &Plan, 
         at = push_change(rt, alloc, text, &mut counts, plan, script, number, at);
     }
     let line = summary_of(rt, alloc, Start::zero(), at, Operation::Apply, &counts);
-    push(rt, text, line.as_str());
+    push(rt, text, line);
 }
 
 /// The stream of one worker who applies all changes in their order, each line made by itself.
-fn stream(rt: &impl Abort, alloc: Global, plan: &str, script: &str) -> String {
+fn stream(rt: &impl Abort, alloc: Global, plan: &str, script: &str) -> &'static str {
     let plan = plan_of(rt, alloc, plan);
-    let script = script_of(rt, alloc, script, &plan);
-    let mut text = version_line(alloc, &plan, Start::zero()).expect(rt, "memory");
-    push_changes(rt, alloc, &mut text, &plan, &script);
-    text
+    let script = script_of(rt, alloc, script, plan);
+    let mut text = version_line(alloc, plan, Start::zero()).expect(rt, "memory");
+    push_changes(rt, alloc, &mut text, plan, script);
+    kept(rt, alloc, text).as_str()
 }

@@ -1,9 +1,9 @@
 -- By when lanes end, and when they are at work.
-use Rattle.std.proofs.Common.{◌≡◌, ◌≢◌, ℕ, zero, suc, ◌+◌, ◌*◌, ◌<◌, ◌≤◌, nat_eq, nat_le, nat_lt, Bool, true, false, ◌&&◌, ◌||◌, not, List, [], ◌∷◌, ◌++◌, All, cond, filter, get_or, length, map, sum_by, sym, refl, ap, ◌∙◌, subst, ⊎_elim, arith, eq-eqb, ne_eqb, lt-ltb, le-ltb, Option, Some, None}
+use Rattle.std.proofs.Common.{◌≡◌, ◌≢◌, ℕ, suc, ◌+◌, ◌*◌, ◌<◌, ◌≤◌, nat_eq, nat_le, nat_lt, Bool, true, false, ◌&&◌, ◌||◌, not, List, [], ◌∷◌, ◌++◌, All, cond, filter, get_or, length, map, sum_by, sym, refl, ap, ◌∙◌, subst, ⊎_elim, arith, eq-eqb, ne_eqb, lt-ltb, Option, Some, None}
 use Rattle.std.specs.Prelude.{is_some, option_map, option_to_list, slice_get, IfSome}
-use Rattle.std.specs.List.{list_any, range_with_len}
-use Rattle.std.proofs.Math.Bool.{and-false, or-true}
-use Rattle.std.proofs.lemmas.Bool.{and_from, and_parts, cases_Bool, cases_lt, le-leb, leb-false, ltb-false, true≢false}
+use Rattle.std.specs.List.{range_with_len}
+use Rattle.std.proofs.Math.Bool.{or-true}
+use Rattle.std.proofs.lemmas.Bool.{and_from, and_parts, cases_Bool, cases_lt, leb-false, ltb-false, true≢false}
 use Rattle.std.proofs.lemmas.Bool.Decides.{eqb_tells}
 use Rattle.std.proofs.lemmas.List.Elements.{All-cons, All-filter, All-head, All-nil, All-tail, All-weaker}
 use Rattle.std.proofs.lemmas.List.Folds.{list_any-append, list_any_none}
@@ -18,10 +18,10 @@ use Rattle.apply_events.specs.Partition.{count_of}
 use Rattle.apply_events.specs.Step.{Step, Work, steps_of}
 use Rattle.apply_events.specs.StepEvents.{between, endings, event, halts, phase_after, seconds_of, started, step_events, step_time}
 use Rattle.apply_events.specs.Lanes.Dealing.{lanes}
-use Rattle.apply_events.specs.Lanes.Progress.{has_event_behind, has_event_by, is_under_way_at, waits_at}
+use Rattle.apply_events.specs.Lanes.ChangesUnderWay.{has_event_behind, has_event_by, is_under_way_at, waits_at}
 use Rattle.apply_events.specs.Lanes.Sharing.{free_before}
 use Rattle.apply_events.specs.Lanes.TimeLine.{IsTimeLine, lane_events}
-use Rattle.apply_events.proofs.Dealing.{count_first, count_later}
+use Rattle.apply_events.proofs.Dealing.{count_later}
 use Rattle.apply_events.proofs.Moments.{change_first}
 use Rattle.apply_events.proofs.Parts.{RisesFrom, none_below, rises_from_zero}
 use Rattle.apply_events.proofs.TimeLines.Open.{Names, change_names}

@@ -1,5 +1,5 @@
 -- How many events a change has at most, and the lanes of some changes.
-use Rattle.std.proofs.Common.{◌≡◌, ℕ, zero, suc, ◌+◌, ◌*◌, ◌<◌, ◌≤◌, All, true, false, List, [], ◌∷◌, ◌++◌, cond, get_or, length, length-append, map, replicate, set, sum_by, Option, Some, None, sym, refl, ap, subst, ◌∙◌, arith, ⊎_elim}
+use Rattle.std.proofs.Common.{◌≡◌, ℕ, zero, suc, ◌+◌, ◌*◌, ◌<◌, ◌≤◌, All, true, false, List, [], ◌∷◌, ◌++◌, cond, get_or, length, length-append, map, replicate, set, sum_by, Option, Some, None, sym, refl, ap, subst, ◌∙◌, arith}
 use Rattle.std.specs.Prelude.{is_some, option_map, option_to_list, slice_get, unwrap_or, IfSome}
 use Rattle.std.specs.List.{enumerate_from}
 use Rattle.std.specs.Option.{option_map_or}

@@ -1,5 +1,5 @@
 -- At no place of a time line more changes are under way than there are lanes.
-use Rattle.std.proofs.Common.{◌≡◌, ◌≢◌, ℕ, zero, suc, ◌+◌, ◌-◌, ◌*◌, ◌<◌, ◌≤◌, nat_eq, Bool, true, false, ◌&&◌, List, [], ◌∷◌, ◌++◌, All, cond, filter, get_or, length, length-append, map, nat_lt, sum_by, sym, refl, ap, ◌∙◌, subst, ⊎_elim, arith, ne_eqb, lt-ltb, le-ltb, Option, Some, None}
+use Rattle.std.proofs.Common.{◌≡◌, ◌≢◌, ℕ, zero, suc, ◌+◌, ◌-◌, ◌<◌, ◌≤◌, nat_eq, Bool, true, false, ◌&&◌, List, [], ◌∷◌, ◌++◌, All, cond, get_or, length, map, nat_lt, sum_by, sym, refl, ap, ◌∙◌, subst, ⊎_elim, arith, ne_eqb, lt-ltb, le-ltb, Option, Some, None}
 use Rattle.std.specs.Prelude.{is_some, option_map, option_to_list, take}
 use Rattle.std.specs.List.{range_with_len}
 use Rattle.std.proofs.Math.Bool.{and-false}
@@ -7,7 +7,7 @@ use Rattle.std.proofs.Math.Seq.{take-append_seam, take-append-add}
 use Rattle.std.proofs.lemmas.Bool.{cases_lt}
 use Rattle.std.proofs.lemmas.Bool.Decides.{eqb_tells}
 use Rattle.std.proofs.lemmas.List.{length-map, take-append-le}
-use Rattle.std.proofs.lemmas.List.Elements.{All-append, All-cons, All-head, All-map, All-nil, All-tail, All-take, All-weaker}
+use Rattle.std.proofs.lemmas.List.Elements.{All-cons, All-head, All-map, All-nil, All-tail, All-take, All-weaker}
 use Rattle.std.proofs.lemmas.List.FromFn.{length-range_with_len}
 use Rattle.std.proofs.lemmas.List.Sums.{sum_by-append, sum_by-cons, sum_by-le, sum_by-le-sum_by}
 use Rattle.apply_plan.specs.declared.script.provisioner.Provisioner.{Provisioner}
@@ -16,7 +16,7 @@ use Rattle.apply_hooks.specs.declared.phase.Phase.{Phase}
 use Rattle.apply_hooks.specs.declared.phase.Phase.TheVariants.{Pre}
 use Rattle.apply_events.specs.declared.event.Event.{Event}
 use Rattle.apply_events.specs.declared.what.What.{What}
-use Rattle.apply_events.specs.declared.what.What.TheVariants.{Complete, ErrorNote, Errored, Halted, ProvisionComplete, ProvisionErrored, Start, WarnNote}
+use Rattle.apply_events.specs.declared.what.What.TheVariants.{Halted, ProvisionComplete, ProvisionErrored, Start}
 use Rattle.apply_events.specs.ChangeEvents.{begun, change_events, in_turn, span_of}
 use Rattle.apply_events.specs.Interleaving.{IsInterleaving, lists_of}
 use Rattle.apply_events.specs.OfWorker.{of_worker}
@@ -24,7 +24,7 @@ use Rattle.apply_events.specs.Provisions.{provision_end}
 use Rattle.apply_events.specs.Step.{Step, Work, steps_of}
 use Rattle.apply_events.specs.StepEvents.{between, end_of, endings, event, halts, notes, phase_after, seconds_of, started, step_events, step_time}
 use Rattle.apply_events.specs.Lanes.Dealing.{lanes}
-use Rattle.apply_events.specs.Lanes.Progress.{ends_of, is_end, is_open_after, is_start, open_after, starts_of}
+use Rattle.apply_events.specs.Lanes.ChangesUnderWay.{ends_of, is_end, is_open_after, is_start, open_after, starts_of}
 use Rattle.apply_events.specs.Lanes.TimeLine.{IsTimeLine, lane_events}
 use Rattle.apply_events.proofs.Interleaved.{summed}
 use Rattle.apply_events.proofs.Joined.{of_worker-append}
@@ -50,7 +50,7 @@ sum_none : {X : Type 0} (f : X → ℕ) (xs : List X) → ((x : X) → f x ≡ 0
 sum_none f [] none = refl
 sum_none f (x ∷ xs) none = let here = none x in let rest = sum_none f xs none in sum_by-cons f x xs ∙ omega arith
 
-sum_plus : {X : Type 0} (f g h : X → ℕ) (xs : List X) → ((x : X) → f x ≡ g x + h x) → sum_by f xs ≡ sum_by g xs + sum_by h xs
+pub sum_plus : {X : Type 0} (f g h : X → ℕ) (xs : List X) → ((x : X) → f x ≡ g x + h x) → sum_by f xs ≡ sum_by g xs + sum_by h xs
 sum_plus f g h [] both = refl
 sum_plus f g h (x ∷ xs) both =
     let here = both x in let rest = sum_plus f g h xs both in

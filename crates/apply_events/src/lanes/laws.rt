@@ -11,7 +11,7 @@ ghost use Rattle.apply_events.specs.Step.{Work};
 ghost use Rattle.apply_events.specs.WorkerEvents.{worker_events};
 ghost use Rattle.apply_events.specs.Lanes.Dealing.{lanes};
 ghost use Rattle.apply_events.specs.Lanes.Merging.{time_line};
-ghost use Rattle.apply_events.specs.Lanes.Progress.{is_under_way_at, open_after, waits_at};
+ghost use Rattle.apply_events.specs.Lanes.ChangesUnderWay.{is_under_way_at, open_after, waits_at};
 ghost use Rattle.apply_events.specs.Lanes.Sharing.{free_before, under_way};
 ghost use Rattle.apply_events.specs.Lanes.StepTimes.{HasOneBegin};
 ghost use Rattle.apply_events.specs.Lanes.TimeLine.{IsTimeLine};

@@ -85,35 +85,35 @@ fn texts_are_escaped(rt: HostRuntime) {
 fn is_escaped(rt: &impl Abort, alloc: Global, given: &str, escaped: &str) {
     let plan = put(rt, alloc, PLAN, "%", given);
     let script = put(rt, alloc, SCRIPT, "%", given);
-    let written = stream(rt, alloc, plan.as_str(), script.as_str());
-    let wanted = wanted_with(rt, alloc, given, escaped);
-    compare(rt, given, written.as_str(), wanted.as_str());
-    let plan = plan_of(rt, alloc, plan.as_str());
-    reads_back(rt, alloc, written.as_str(), &plan);
+    let written = stream(rt, alloc, plan, script);
+    compare(rt, given, written, wanted_with(rt, alloc, given, escaped));
+    reads_back(rt, alloc, written, plan_of(rt, alloc, plan));
 }
 
 /// The stream with the character as it has to be escaped.
-fn wanted_with(rt: &impl Abort, alloc: Global, given: &str, escaped: &str) -> String {
+fn wanted_with(rt: &impl Abort, alloc: Global, given: &str, escaped: &str) -> &'static str {
     if escaped == "itself" {
-        let character = character_of(rt, alloc, given);
-        put(rt, alloc, STREAM, "%", character.as_str())
+        put(rt, alloc, STREAM, "%", character_of(rt, alloc, given))
     } else {
         put(rt, alloc, STREAM, "%", escaped)
     }
 }
 
 /// The text that an escape stands for.
-fn character_of(rt: &impl Abort, alloc: Global, escape: &str) -> String {
+fn character_of(rt: &impl Abort, alloc: Global, escape: &str) -> &'static str {
     let quoted = put(rt, alloc, "\"%\"", "%", escape);
-    match Value::from_str(alloc, quoted.as_str()) {
-        Ok(Value::String(text)) => text,
-        _ => panic!(rt; "no text: {escape}"),
-    }
+    text_at(rt, value_of(rt, alloc, quoted), "")
+}
+
+/// The value that a text is as JSON.
+fn value_of(rt: &impl Abort, alloc: Global, text: &str) -> &'static Value {
+    let value = Value::from_str(alloc, text);
+    kept(rt, alloc, value.ok().expect(rt, "JSON"))
 }
 
 /// Reads lines as JSON: the version and the address of the first change are as the plan has them.
 fn reads_back(rt: &impl Abort, alloc: Global, written: &str, plan: &Plan) {
-    assert!(rt; plan.len() == 3);
+    holds(rt, "three changes", plan.len() == 3);
     let address = plan.change(0).address();
     let mut lines = written.split_terminator("\n");
     reads_as(rt, alloc, lines.next(), "/terraform", plan.version());
@@ -124,13 +124,11 @@ fn reads_back(rt: &impl Abort, alloc: Global, written: &str, plan: &Plan) {
 
 /// Fails where the line, read as JSON, has another text at the pointer.
 fn reads_as(rt: &impl Abort, alloc: Global, line: Option<&str>, pointer: &str, wanted: &str) {
-    let line = line.unwrap_or("");
-    match Value::from_str(alloc, line) {
-        Ok(value) => compare(rt, pointer, text_at(rt, &value, pointer), wanted),
-        Err(_) => panic!(rt; "no JSON: {line}"),
-    }
+    let value = value_of(rt, alloc, line.unwrap_or(""));
+    compare(rt, pointer, text_at(rt, value, pointer), wanted);
 }
 
+/// The text that stands at the pointer.
 fn text_at<'a>(rt: &impl Abort, value: &'a Value, pointer: &str) -> &'a str {
     match value.pointer(pointer) {
         Some(Value::String(text)) => text.as_str(),

@@ -26,9 +26,9 @@ fn is_told(
     wanted: &str,
 ) {
     let plan = plan_of(rt, alloc, plan);
-    let script = script_of(rt, alloc, script, &plan);
-    let written = line_of(rt, alloc, &plan, &script, start, latest, event);
-    compare_line(rt, case, written.as_str(), wanted);
+    let script = script_of(rt, alloc, script, plan);
+    let written = line_of(rt, alloc, plan, script, start, latest, event);
+    compare_line(rt, case, written, wanted);
 }
 
 /// A replacement that destroys first.
@@ -132,27 +132,43 @@ const FAILED_LINE: &str =
 "#;
 
 /// The text with a summary and a detail of 100,000 bytes each in their places.
-fn lengthened(rt: &impl Abort, alloc: Global, text: &str) -> String {
-    let summary = "ab".repeat(alloc, 50_000).expect(rt, "memory");
-    let detail = "cdefg".repeat(alloc, 20_000).expect(rt, "memory");
-    let text = put(rt, alloc, text, "SUMMARY", summary.as_str());
-    put(rt, alloc, text.as_str(), "DETAIL", detail.as_str())
+fn lengthened(rt: &impl Abort, alloc: Global, text: &str) -> &'static str {
+    let text = put(
+        rt,
+        alloc,
+        text,
+        "SUMMARY",
+        repeated(rt, alloc, "ab", 50_000),
+    );
+    put(
+        rt,
+        alloc,
+        text,
+        "DETAIL",
+        repeated(rt, alloc, "cdefg", 20_000),
+    )
+}
+
+/// So many times the text.
+fn repeated(rt: &impl Abort, alloc: Global, text: &str, times: usize) -> &'static str {
+    let text = text.repeat(alloc, times).expect(rt, "memory");
+    kept(rt, alloc, text).as_str()
 }
 
 /// The line of the error of the only change, whose texts are long.
-fn long_line(rt: &impl Abort, alloc: Global) -> String {
+fn long_line(rt: &impl Abort, alloc: Global) -> &'static str {
     let plan = plan_of(rt, alloc, ONE_CREATE);
     let text = lengthened(rt, alloc, FAILED);
-    let script = script_of(rt, alloc, text.as_str(), &plan);
+    let script = script_of(rt, alloc, text, plan);
     let event = event_of(0, What::ErrorNote, 0);
-    line_of(rt, alloc, &plan, &script, Start::zero(), 0, &event)
+    line_of(rt, alloc, plan, script, Start::zero(), 0, &event)
 }
 
 /// Fails where the line has another length, another front or another end.
 fn has_ends(rt: &impl Abort, line: &str, length: usize, front: &str, end: &str) {
-    assert!(rt; line.len() == length, "{} bytes", line.len());
-    assert!(rt; line.starts_with(front), "not at the front: {front}");
-    assert!(rt; line.ends_with(end), "not at the end: {end}");
+    holds(rt, "its length", line.len() == length);
+    holds(rt, front, line.starts_with(front));
+    holds(rt, end, line.ends_with(end));
 }
 
 /// No message is too long.
@@ -162,9 +178,9 @@ fn long_texts_are_told(rt: HostRuntime) {
     let line = long_line(&rt, alloc);
     let front = r#"{"@level":"error","@message":"Error: ababab"#;
     let end = "ababab\"},\"type\":\"diagnostic\"}\n";
-    has_ends(&rt, line.as_str(), 300_208, front, end);
+    has_ends(&rt, line, 300_208, front, end);
     let wanted = lengthened(&rt, alloc, FAILED_LINE);
-    assert!(rt; line.as_str() == wanted.as_str(), "not the long texts");
+    holds(&rt, "the long texts", line == wanted);
 }
 
 const DESTROYED: &str =
@@ -188,7 +204,7 @@ fn destroy(rt: HostRuntime) {
         Operation::Destroy,
         &counts,
     );
-    compare_line(&rt, "a destroy", summary.as_str(), DESTROYED);
+    compare_line(&rt, "a destroy", summary, DESTROYED);
 }
 
 /// An object and a deposed one, both deleted.
@@ -202,10 +218,10 @@ const TWO_DESTROYED: &str =
 fn two_deletes(rt: &impl Abort, alloc: Global) -> Counts {
     let plan = plan_of(rt, alloc, TWO_DELETES);
     let mut counts = Counts::new();
-    count(rt, &mut counts, &plan, &event_of(0, What::Start, 0));
-    count(rt, &mut counts, &plan, &event_of(0, What::Complete(0), 0));
-    count(rt, &mut counts, &plan, &event_of(1, What::Start, 0));
-    count(rt, &mut counts, &plan, &event_of(1, What::Complete(0), 0));
+    count(rt, &mut counts, plan, &event_of(0, What::Start, 0));
+    count(rt, &mut counts, plan, &event_of(0, What::Complete(0), 0));
+    count(rt, &mut counts, plan, &event_of(1, What::Start, 0));
+    count(rt, &mut counts, plan, &event_of(1, What::Complete(0), 0));
     counts
 }
 
@@ -220,5 +236,5 @@ fn two_deletes_are_summed_up(rt: HostRuntime) {
         Operation::Destroy,
         &counts,
     );
-    compare_line(&rt, "two deletes", summary.as_str(), TWO_DESTROYED);
+    compare_line(&rt, "two deletes", summary, TWO_DESTROYED);
 }

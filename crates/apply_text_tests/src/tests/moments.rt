@@ -105,11 +105,17 @@ const DURATIONS: &str = r#"0 => 0s
 4294967295 => 1193046h28m15s"#;
 
 /// What the text is read as: a start, or why it is none.
-fn start_read(rt: &impl Abort, alloc: Global, text: &str) -> String {
+fn start_read(rt: &impl Abort, alloc: Global, text: &str) -> &'static str {
     match Start::read(text) {
-        Ok(start) => format!(in alloc; "{start:?}").expect(rt, "memory"),
+        Ok(start) => printed(rt, alloc, &start),
         Err(error) => shown(rt, alloc, &error),
     }
+}
+
+/// What `Debug` prints of it.
+fn printed(rt: &impl Abort, alloc: Global, start: &Start) -> &'static str {
+    let text = format!(in alloc; "{start:?}").expect(rt, "memory");
+    kept(rt, alloc, text).as_str()
 }
 
 #[test]
@@ -117,7 +123,7 @@ fn starts_are_read(rt: HostRuntime) {
     for row in STARTS.lines() {
         let (text, wanted) = parted(&rt, row, " => ");
         let found = start_read(&rt, rt.alloc(), text);
-        compare(&rt, text, found.as_str(), wanted);
+        compare(&rt, text, found, wanted);
     }
 }
 
@@ -132,7 +138,7 @@ fn is_printed(rt: &impl Abort, alloc: Global, moment: &str, wanted: &str) {
     let counts = Counts::new();
     let found = summary_of(rt, alloc, start, seconds, Operation::Apply, &counts);
     let wanted = put(rt, alloc, NOTHING_DONE, "%", wanted);
-    compare_line(rt, moment, found.as_str(), wanted.as_str());
+    compare_line(rt, moment, found, wanted);
 }
 
 #[test]
@@ -144,8 +150,9 @@ fn moments_are_printed(rt: HostRuntime) {
 }
 
 /// The duration of so many seconds.
-fn duration_of(rt: &impl Abort, alloc: Global, seconds: &str) -> String {
-    elapsed_text(alloc, number_of(rt, seconds)).expect(rt, "memory")
+fn duration_of(rt: &impl Abort, alloc: Global, seconds: &str) -> &'static str {
+    let text = elapsed_text(alloc, number_of(rt, seconds)).expect(rt, "memory");
+    kept(rt, alloc, text).as_str()
 }
 
 #[test]
@@ -153,6 +160,6 @@ fn durations_are_printed(rt: HostRuntime) {
     for row in DURATIONS.lines() {
         let (seconds, wanted) = parted(&rt, row, " => ");
         let found = duration_of(&rt, rt.alloc(), seconds);
-        compare(&rt, seconds, found.as_str(), wanted);
+        compare(&rt, seconds, found, wanted);
     }
 }

@@ -86,8 +86,8 @@ fn is_empty(rt: &impl Abort, alloc: Global, plan: &Plan, row: &str) {
     let (script, wanted) = parted(rt, rest, " => ");
     let script = script_of(rt, alloc, script, plan);
     let event = output_of(rt, numbers);
-    let written = line_of(rt, alloc, plan, &script, Start::zero(), 0, &event);
-    compare_line(rt, numbers, written.as_str(), wanted);
+    let written = line_of(rt, alloc, plan, script, Start::zero(), 0, &event);
+    compare_line(rt, numbers, written, wanted);
 }
 
 /// Texts that the script does not have are empty.
@@ -96,7 +96,7 @@ fn what_is_not_said_of_provisioners_is_empty(rt: HostRuntime) {
     let alloc = rt.alloc();
     let plan = plan_of(&rt, alloc, ONE_CREATE);
     for row in UNSAID.lines() {
-        is_empty(&rt, alloc, &plan, row);
+        is_empty(&rt, alloc, plan, row);
     }
 }
 
@@ -104,7 +104,8 @@ fn what_is_not_said_of_provisioners_is_empty(rt: HostRuntime) {
 fn output_of(rt: &impl Abort, numbers: &str) -> Event {
     let (prov, line) = parted(rt, numbers, " ");
     let (prov, line) = (number_of(rt, prov), number_of(rt, line));
-    assert!(rt; prov < 8 && line < 100);
+    holds(rt, "a provisioner", prov < 8);
+    holds(rt, "an output", line < 100);
     let what = What::ProvisionOutput {
         prov: prov as u8,
         line: line as u8,

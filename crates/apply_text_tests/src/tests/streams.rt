@@ -179,5 +179,5 @@ pub(super) fn is_written(rt: &impl Abort, alloc: Global, case: &str) {
     let (plan, rest) = parted(rt, rest, "\n");
     let (script, wanted) = parted(rt, rest, "\n");
     let written = stream(rt, alloc, plan, script);
-    compare(rt, name, written.as_str(), wanted);
+    compare(rt, name, written, wanted);
 }

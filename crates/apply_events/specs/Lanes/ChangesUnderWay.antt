@@ -1,5 +1,5 @@
 -- Changes that are under way at a place of a list of events, and at a moment.
-use Rattle.std.specs.Prelude.{◌≡◌, ℕ, ◌==◌, ◌&&◌, ◌||◌, Bool, true, false, List, count_by, length, nat_le, nat_lt, not}
+use Rattle.std.specs.Prelude.{ℕ, ◌==◌, ◌&&◌, ◌||◌, Bool, true, false, List, count_by, length, nat_le, nat_lt, not}
 use Rattle.std.specs.List.{list_any, range_with_len}
 use Rattle.apply_events.specs.declared.event.Event.{Event}
 use Rattle.apply_events.specs.declared.what.What.{What}

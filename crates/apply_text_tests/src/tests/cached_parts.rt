@@ -16,6 +16,7 @@ fn progress_of(change: u32, step: u8, seconds: u32) -> Event {
 /// Adds the line of an event that the plan has to have.
 fn add(
     rt: &impl Abort,
+    alloc: Global,
     buffer: &mut LineBuffer,
     plan: &Plan,
     start: Start,
@@ -23,10 +24,10 @@ fn add(
     event: &Event,
 ) {
     check_step(rt, plan, event);
-    assert!(rt; latest <= LATEST);
-    buffer
-        .push_event(plan, &Script::empty(), start, latest, event)
-        .expect(rt, "memory");
+    holds(rt, "in time", latest <= LATEST);
+    let script = kept(rt, alloc, Script::empty());
+    let pushed = buffer.push_event(plan, script, start, latest, event);
+    holds(rt, "memory", pushed.is_ok());
 }
 
 /// Fails where the line of an event is another, by itself or as the only one that a used buffer holds.
@@ -40,19 +41,17 @@ fn is_told(
     event: &Event,
     wanted: &str,
 ) {
-    let alone = line_of(rt, alloc, plan, &Script::empty(), start, latest, event);
-    compare_line(rt, "a line by itself", alone.as_str(), wanted);
+    let script = kept(rt, alloc, Script::empty());
+    let alone = line_of(rt, alloc, plan, script, start, latest, event);
+    compare_line(rt, "a line by itself", alone, wanted);
     buffer.clear();
-    add(rt, buffer, plan, start, latest, event);
-    holds(rt, wanted, buffer, alone.as_str());
+    add(rt, alloc, buffer, plan, start, latest, event);
+    has_lines(rt, wanted, buffer, alone);
 }
 
 /// Fails where a buffer holds other lines at the case.
-fn holds(rt: &impl Abort, case: &str, buffer: &LineBuffer, wanted: &str) {
-    assert!(rt;
-        buffer.as_bytes() == wanted.as_bytes(),
-        "other lines at {case}"
-    );
+fn has_lines(rt: &impl Abort, case: &str, buffer: &LineBuffer, wanted: &str) {
+    holds(rt, case, buffer.as_bytes() == wanted.as_bytes());
 }
 
 /// A case, a plan of one change, and its line after 20 seconds. Each change shows something else, or takes another step.
@@ -77,7 +76,7 @@ fn is_shown(rt: &impl Abort, alloc: Global, buffer: &mut LineBuffer, row: &str) 
     let (plan, wanted) = parted(rt, rest, " => ");
     let plan = plan_of(rt, alloc, plan);
     let event = progress_of(0, 0, 20);
-    is_told(rt, alloc, buffer, &plan, Start::zero(), 20, &event, wanted);
+    is_told(rt, alloc, buffer, plan, Start::zero(), 20, &event, wanted);
 }
 
 /// Fails where the change of a row is told as another, before or behind one of another row.
@@ -106,7 +105,7 @@ const UPDATE_LINE: &str =
     r#"{"@level":"info","@message":"a.b%: Still modifying... [#s elapsed]","@module":"terraform.ui","@timestamp":"1970-01-01T00:00:00Z","hook":{"action":"update","elapsed_seconds":#,"resource":{"addr":"a.b%","implied_provider":"a","module":"","resource":"a.b%","resource_key":null,"resource_name":"b%","resource_type":"a"}},"type":"apply_progress"}"#;
 
 /// So many updates.
-fn updates(rt: &impl Abort, alloc: Global, count: u32) -> Plan {
+fn updates(rt: &impl Abort, alloc: Global, count: u32) -> &'static Plan {
     let mut text = String::new(alloc);
     push(
         rt,
@@ -115,14 +114,13 @@ fn updates(rt: &impl Abort, alloc: Global, count: u32) -> Plan {
     );
     for number in 0..count {
         let number = shown(rt, alloc, &number);
-        let change = put(rt, alloc, UPDATE, "%", number.as_str());
-        if number.as_str() != "0" {
+        if number != "0" {
             push(rt, &mut text, ",");
         }
-        push(rt, &mut text, change.as_str());
+        push(rt, &mut text, put(rt, alloc, UPDATE, "%", number));
     }
     push(rt, &mut text, "]}");
-    plan_of(rt, alloc, text.as_str())
+    plan_of(rt, alloc, kept(rt, alloc, text).as_str())
 }
 
 /// Numbers of changes, and after how many seconds they are told: the same place, once and again, and others beside it.
@@ -149,18 +147,10 @@ fn changes_that_share_a_place_are_told_in_turn(rt: HostRuntime) {
     for row in PLACES.lines() {
         let (number, seconds) = parted(&rt, row, " ");
         let line = put(&rt, alloc, UPDATE_LINE, "%", number);
-        let line = put(&rt, alloc, line.as_str(), "#", seconds);
+        let line = put(&rt, alloc, line, "#", seconds);
         let event = progress_of(number_of(&rt, number), 0, number_of(&rt, seconds));
-        is_told(
-            &rt,
-            alloc,
-            &mut buffer,
-            &plan,
-            Start::zero(),
-            0,
-            &event,
-            line.as_str(),
-        );
+        let zero = Start::zero();
+        is_told(&rt, alloc, &mut buffer, plan, zero, 0, &event, line);
     }
 }
 
@@ -178,11 +168,18 @@ const STEPS: &str =
 1 86390 => {"@level":"info","@message":"a.b: Still creating... [23h59m50s elapsed]","@module":"terraform.ui","@timestamp":"1970-01-01T00:00:00Z","hook":{"action":"create","elapsed_seconds":86390,"resource":{"addr":"a.b","implied_provider":"a","module":"","resource":"a.b","resource_key":null,"resource_name":"b","resource_type":"a"}},"type":"apply_progress"}"#;
 
 /// Adds the line of a row to a buffer, and to the lines that are wanted.
-fn add_step(rt: &impl Abort, buffer: &mut LineBuffer, wanted: &mut String, plan: &Plan, row: &str) {
+fn add_step(
+    rt: &impl Abort,
+    alloc: Global,
+    buffer: &mut LineBuffer,
+    wanted: &mut String,
+    plan: &Plan,
+    row: &str,
+) {
     let (numbers, line) = parted(rt, row, " => ");
     let (step, seconds) = parted(rt, numbers, " ");
     let event = progress_of(0, if step == "0" { 0 } else { 1 }, number_of(rt, seconds));
-    add(rt, buffer, plan, Start::zero(), 0, &event);
+    add(rt, alloc, buffer, plan, Start::zero(), 0, &event);
     push(rt, wanted, line);
     push(rt, wanted, "\n");
 }
@@ -192,9 +189,10 @@ fn is_told_again(rt: &impl Abort, alloc: Global, buffer: &mut LineBuffer, plan: 
     let mut wanted = String::new(alloc);
     buffer.clear();
     for row in STEPS.lines() {
-        add_step(rt, buffer, &mut wanted, plan, row);
+        add_step(rt, alloc, buffer, &mut wanted, plan, row);
     }
-    holds(rt, "a replacement", buffer, wanted.as_str());
+    let wanted = kept(rt, alloc, wanted).as_str();
+    has_lines(rt, "a replacement", buffer, wanted);
 }
 
 /// Step by step, and once more when the lines are dropped.
@@ -203,8 +201,8 @@ fn steps_of_one_change_are_told_apart(rt: HostRuntime) {
     let alloc = rt.alloc();
     let plan = plan_of(&rt, alloc, REPLACEMENT);
     let mut buffer = LineBuffer::new(alloc);
-    is_told_again(&rt, alloc, &mut buffer, &plan);
-    is_told_again(&rt, alloc, &mut buffer, &plan);
+    is_told_again(&rt, alloc, &mut buffer, plan);
+    is_told_again(&rt, alloc, &mut buffer, plan);
 }
 
 /// A start and the seconds after it, and the moment that is: within a day, at its ends, and of a day before.
@@ -233,7 +231,6 @@ fn has_its_day(rt: &impl Abort, alloc: Global, buffer: &mut LineBuffer, plan: &P
     let (start, seconds) = (start_of(rt, start), number_of(rt, seconds) as u64);
     let line = put(rt, alloc, DAY_LINE, "%", wanted);
     let event = progress_of(0, 0, 20);
-    let line = line.as_str();
     is_told(rt, alloc, buffer, plan, start, seconds, &event, line);
 }
 
@@ -243,6 +240,6 @@ fn each_line_has_its_own_day(rt: HostRuntime) {
     let plan = plan_of(&rt, alloc, REPLACEMENT);
     let mut buffer = LineBuffer::new(alloc);
     for row in DAYS.lines() {
-        has_its_day(&rt, alloc, &mut buffer, &plan, row);
+        has_its_day(&rt, alloc, &mut buffer, plan, row);
     }
 }
