@@ -2,7 +2,7 @@
 //! laws that its own follows from. The checker takes each line for a message (`plain`), and the stream of a plan for
 //! whole too or not.
 
-ghost use Rattle.std.specs.Prelude.{◌≡◌, ◌≤◌, ◌*◌, ℕ, Bool, List, [], Some, length, slice_index_or, Ok};
+ghost use Rattle.std.specs.Prelude.{◌≡◌, ◌≤◌, ℕ, Bool, List, [], Some, length, slice_index_or, Ok};
 ghost use Rattle.apply_plan.specs.Plan.SavedPlan.{SavedPlan};
 ghost use Rattle.apply_plan.specs.Script.OutcomeMap.{OutcomeMap};
 ghost use Rattle.apply_hooks.specs.Hooks.{max_hooks};
@@ -10,6 +10,7 @@ ghost use Rattle.apply_check.specs.Cut.{cut_lines};
 ghost use Rattle.apply_check.specs.Lines.{verdict_of};
 ghost use Rattle.apply_events.specs.declared.event.Event.{Event};
 ghost use Rattle.apply_events.specs.Interleaving.{IsInterleaving};
+ghost use Rattle.apply_events.specs.Lanes.ToCome.{max_events};
 ghost use Rattle.apply_events.specs.Laws.{AllFit, IsWithinLimits};
 ghost use Rattle.apply_events.specs.Partition.{IsPartition};
 ghost use Rattle.apply_events.specs.Step.{Work};
@@ -31,8 +32,8 @@ use crate::laws::{
     a_stream_of_texts_can_be_read, events_that_can_happen_fit_bits, every_stream_is_accepted,
 };
 use apply_events::{
-    a_list_of_a_partition_names_each_number_once, a_rising_list_fits_below_its_limit,
-    an_interleaving_has_the_summed_length, every_event_fits, lanes_deal_out_the_changes,
+    a_list_of_a_partition_names_each_number_once, changes_that_are_dealt_out_have_few_events,
+    every_event_fits, lanes_deal_out_the_changes,
 };
 use apply_plan::{each_object_is_named_once, relative_addresses_join_their_module};
 use apply_text::a_line_has_one_line_feed;
@@ -62,16 +63,15 @@ pub fn a_plan_that_was_read_is_ordinary()
     each_object_is_named_once();
 }
 
-/// A run of a plan and a script within the limits has at most 200,000,000 events for each worker, whatever the hooks.
+/// A run of a plan and a script within the limits has at most 189,180,000 events, whatever the hooks and however many
+/// workers there are.
 pub fn a_run_has_few_events()
     ensures { (work : Work) (workers : ℕ) (lists : List (List ℕ)) (events : List Event) → IsWithinLimits work
         → IsPartition workers (length work.plan.changes) lists
         → IsInterleaving workers (λ worker. worker_events work worker (slice_index_or lists worker [])) events
-        → length events ≤ workers * 200000000 }
+        → length events ≤ max_events }
 {
-    a_list_of_a_partition_names_each_number_once();
-    a_rising_list_fits_below_its_limit();
-    an_interleaving_has_the_summed_length();
+    changes_that_are_dealt_out_have_few_events();
 }
 
 /// With at most 32 hooks each of its events can happen.

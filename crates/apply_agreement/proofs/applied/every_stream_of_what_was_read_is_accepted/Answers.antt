@@ -1,4 +1,5 @@
-use Rattle.std.proofs.Common.{◌<◌, ◌≤◌, ◌*◌, ◌^◌, length, arith}
+use Rattle.std.proofs.Common.{◌<◌, ◌≤◌, ◌^◌, length, arith}
+use Rattle.apply_events.specs.Lanes.ToCome.{max_events}
 use Rattle.apply_agreement.proofs.Bytes.{short_objects}
 use Rattle.apply_agreement.proofs.applied.every_stream_of_what_was_read_is_accepted.Goals as goal
 
@@ -7,7 +8,7 @@ returns c plans given work workers start lists events operation read deleted few
     let plan = work.plan in
     let script = work.script in
     let limits = c.what_was_read_is_within_limits.ensures given work read in
-    let most : length events ≤ workers * 200000000 = c.a_run_has_few_events.ensures work workers lists events limits dealt told in
+    let most : length events ≤ max_events = c.a_run_has_few_events.ensures work workers lists events limits dealt told in
     let few : length events < 2 ^ 64 = omega arith in
     let fit = c.every_event_of_a_run_fits.ensures work workers lists events limits few_hooks dealt told in
     let bits = c.events_that_can_happen_fit_bits.ensures plan script events limits.short_steps fit few in
