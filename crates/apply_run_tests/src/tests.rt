@@ -108,18 +108,30 @@ fn parted<'a>(rt: &impl Abort, text: &'a str, mark: &str) -> (&'a str, &'a str) 
     text.split_once(mark).expect(rt, mark)
 }
 
+/// The value, for as long as the test runs: a proof grows with each place at which something has to be dropped.
+fn kept<'a, T: Drop + 'a>(rt: &impl Abort, alloc: Global, value: T) -> &'a T {
+    let kept = Box::new(alloc, value).expect(rt, "memory");
+    &*Box::leak(kept)
+}
+
 /// A plan that has to be accepted.
-fn plan_of(rt: &impl Abort, alloc: Global, text: &str) -> Plan {
-    read_plan(alloc, text.as_bytes()).ok().expect(rt, text)
+fn plan_of(rt: &impl Abort, alloc: Global, text: &str) -> &'static Plan {
+    let plan = read_plan(alloc, text.as_bytes());
+    kept(rt, alloc, plan.ok().expect(rt, text))
 }
 
 /// A script that has to be accepted, or the empty one.
-fn script_of(rt: &impl Abort, alloc: Global, text: &str, plan: &Plan) -> Script {
+fn script_of(rt: &impl Abort, alloc: Global, text: &str, plan: &Plan) -> &'static Script {
     if text == NO_SCRIPT {
-        return Script::empty();
+        return kept(rt, alloc, Script::empty());
     }
     let script = read_script(alloc, text.as_bytes(), plan);
-    script.ok().expect(rt, text)
+    kept(rt, alloc, script.ok().expect(rt, text))
+}
+
+/// No hooks.
+fn no_hooks(rt: &impl Abort, alloc: Global) -> &'static Registry {
+    kept(rt, alloc, Registry::new(alloc))
 }
 
 /// A sink with room for whatever comes.
@@ -144,19 +156,20 @@ fn script_bytes(script: &str) -> Option<&[u8]> {
 }
 
 /// Applies what both say into memory, and holds nothing back.
-fn apply_into_memory<R: Threads + Wait + Sync>(
+fn apply_into_memory<R: Threads + Wait + Sync + Abort>(
     rt: &R,
     alloc: Global,
-    plan: &str,
+    plan: &[u8],
     script: Option<&[u8]>,
     registry: &Registry,
     options: Options,
-) -> (MemorySink, Result<Report, Refusal>) {
-    let (plan, sink) = (plan.as_bytes(), memory(alloc));
-    apply_bytes(rt, alloc, plan, script, registry, options, sink, &NoGate)
+) -> (&'static MemorySink, Result<Report, Refusal>) {
+    let sink = memory(alloc);
+    let (sink, result) = apply_bytes(rt, alloc, plan, script, registry, options, sink, &NoGate);
+    (kept(rt, alloc, sink), result)
 }
 
-/// The same where it has to succeed. What was written.
+/// The same of texts, where it has to succeed. What was written.
 fn applied<R: Threads + Wait + Sync + Abort>(
     rt: &R,
     alloc: Global,
@@ -164,13 +177,18 @@ fn applied<R: Threads + Wait + Sync + Abort>(
     script: &str,
     registry: &Registry,
     options: Options,
-) -> MemorySink {
-    let script = script_bytes(script);
-    let (sink, result) = apply_into_memory(rt, alloc, plan, script, registry, options);
-    let report = result.ok().expect(rt, plan);
-    has_taken(rt, &sink, report.written);
+) -> &'static str {
+    let (bytes, script) = (plan.as_bytes(), script_bytes(script));
+    let (sink, result) = apply_into_memory(rt, alloc, bytes, script, registry, options);
+    has_all(rt, plan, sink, result);
+    text_of(rt, sink)
+}
+
+/// Fails where the run did not end well, or the sink has not as many bytes as are told, or a write failed.
+fn has_all(rt: &impl Abort, plan: &str, sink: &MemorySink, end: Result<Report, Refusal>) {
+    let report = end.ok().expect(rt, plan);
+    has_taken(rt, sink, report.written);
     number_is(rt, "failed writes", sink.failures(), 0);
-    sink
 }
 
 /// Fails where the sink has not as many bytes as are told.
@@ -189,8 +207,8 @@ fn stream_is<R: Threads + Wait + Sync + Abort>(
     options: Options,
     wanted: &str,
 ) {
-    let sink = applied(rt, alloc, plan, script, registry, options);
-    lines_are(rt, name, text_of(rt, &sink), wanted);
+    let found = applied(rt, alloc, plan, script, registry, options);
+    lines_are(rt, name, found, wanted);
 }
 
 /// The same of the whole text, without hooks.
@@ -203,9 +221,9 @@ fn writes<R: Threads + Wait + Sync + Abort>(
     options: Options,
     wanted: &str,
 ) {
-    let registry = Registry::new(alloc);
-    let sink = applied(rt, alloc, plan, script, &registry, options);
-    text_is(rt, name, text_of(rt, &sink), wanted);
+    let registry = no_hooks(rt, alloc);
+    let found = applied(rt, alloc, plan, script, registry, options);
+    text_is(rt, name, found, wanted);
 }
 
 /// Reads both texts and applies them, without hooks.
@@ -221,14 +239,14 @@ fn apply_texts<S: Sink + Drop, G: Gate, R: Threads + Wait + Sync + Abort>(
     requires { S.failed sink < 2 ^ 64 - 1 }
 {
     let plan = plan_of(rt, alloc, plan);
-    let script = script_of(rt, alloc, script, &plan);
-    let registry = Registry::new(alloc);
+    let script = script_of(rt, alloc, script, plan);
+    let registry = no_hooks(rt, alloc);
     assert!(rt; options.in_range());
-    apply_stream(rt, alloc, &plan, &script, &registry, options, sink, gate)
+    apply_stream(rt, alloc, plan, script, registry, options, sink, gate)
 }
 
 /// The same where it has to succeed.
-fn apply_plan<S: Sink + Drop, G: Gate, R: Threads + Wait + Sync + Abort>(
+fn apply_plan<'a, S: Sink + Drop + 'a, G: Gate, R: Threads + Wait + Sync + Abort>(
     rt: &R,
     alloc: Global,
     plan: &str,
@@ -236,11 +254,11 @@ fn apply_plan<S: Sink + Drop, G: Gate, R: Threads + Wait + Sync + Abort>(
     options: Options,
     sink: S,
     gate: &G,
-) -> (S, Report)
+) -> (&'a S, Report)
     requires { S.failed sink < 2 ^ 64 - 1 }
 {
     let (sink, result) = apply_texts(rt, alloc, plan, script, options, sink, gate);
-    (sink, report_of(rt, result))
+    (kept(rt, alloc, sink), report_of(rt, result))
 }
 
 /// What a run has done that had to end well.
@@ -275,16 +293,10 @@ fn passes_of<R: Threads + Wait + Sync + Abort>(rt: &R, alloc: Global, registry: 
     let gate = Passes {
         passes: AtomicU64::new(0),
     };
-    let (_sink, result) = apply_bytes(
-        rt,
-        alloc,
-        REPLACEMENT_AND_CREATE.as_bytes(),
-        None,
-        registry,
-        options(1, 64),
-        memory(alloc),
-        &gate,
-    );
+    let (plan, options, sink) = (REPLACEMENT_AND_CREATE, options(1, 64), memory(alloc));
+    let plan = plan.as_bytes();
+    let (sink, result) = apply_bytes(rt, alloc, plan, None, registry, options, sink, &gate);
+    let _sink = kept(rt, alloc, sink);
     holds(rt, "an end that is well", result.is_ok());
     gate.passes.load(Ordering::SeqCst)
 }

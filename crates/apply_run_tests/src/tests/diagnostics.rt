@@ -84,13 +84,12 @@ fn diagnostics_stand_last(rt: &impl Abort, text: &str) {
 #[test]
 fn eight_workers_tell_diagnostics_last(rt: HostRuntime) {
     let alloc = rt.alloc();
-    let registry = Registry::new(alloc);
-    let alone = applied(&rt, alloc, EIGHT, EIGHT_GIVE_TWO, &registry, options(1, 64));
-    let sink = applied(&rt, alloc, EIGHT, EIGHT_GIVE_TWO, &registry, options(8, 1));
-    let text = text_of(&rt, &sink);
+    let registry = no_hooks(&rt, alloc);
+    let alone = applied(&rt, alloc, EIGHT, EIGHT_GIVE_TWO, registry, options(1, 64));
+    let text = applied(&rt, alloc, EIGHT, EIGHT_GIVE_TWO, registry, options(8, 1));
     number_is(&rt, "diagnostics", diagnostics_of(text), 16);
     diagnostics_stand_last(&rt, text);
-    diagnostics_stand_last(&rt, text_of(&rt, &alone));
-    lines_are_of_changes(&rt, text, text_of(&rt, &alone));
+    diagnostics_stand_last(&rt, alone);
+    lines_are_of_changes(&rt, text, alone);
     moments_never_go_back(&rt, text);
 }

@@ -64,7 +64,8 @@ fn create_into_memory<R: Threads + Wait + Sync + Abort>(
     requires { sink.failures < 2 ^ 64 - 1 }
 {
     let (sink, result) = create_into(rt, alloc, 1, sink);
-    text_is(rt, "stream", text_of(rt, &sink), wanted);
+    let sink = kept(rt, alloc, sink);
+    text_is(rt, "stream", text_of(rt, sink), wanted);
     number_is(rt, "failed writes", sink.failures(), failures);
     result
 }
@@ -97,6 +98,7 @@ impl Write for Idle {
 #[test]
 fn ok_of_nothing(rt: HostRuntime) {
     let (sink, result) = create_into(&rt, rt.alloc(), 1, StdSink::new(Idle));
+    let sink = kept(&rt, rt.alloc(), sink);
     end_is(&rt, 0, result, failed(counts(1, 0, 0, 0), 2, 0));
     number_is(&rt, "failed writes", sink.failures(), 1);
 }
@@ -245,6 +247,7 @@ fn takes_so_many<R: Threads + Wait + Sync + Abort>(
     let sink = MemorySink::new(alloc, per_write, Some(room));
     let options = options(workers, 64);
     let (sink, result) = apply_texts(rt, alloc, run.plan, run.script, options, sink, &NoGate);
+    let sink = kept(rt, alloc, sink);
     is_cut_off(rt, sink.bytes(), run.stream, room);
     fails_once_cut_off(rt, run, result, sink.failures(), room);
 }

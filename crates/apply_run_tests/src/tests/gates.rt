@@ -127,7 +127,7 @@ fn workers_pass<R: Threads + Wait + Sync + Abort>(rt: &R, alloc: Global, workers
     let (options, sink) = (options(workers, 64), memory(alloc));
     let (sink, _report) = apply_plan(rt, alloc, FOUR_CREATES, FOUR_SPANS, options, sink, &gate);
     word_is(rt, "missed", &gate.missed, 0);
-    let (text, passed) = (text_of(rt, &sink), gate.passed.load(Ordering::SeqCst));
+    let (text, passed) = (text_of(rt, sink), gate.passed.load(Ordering::SeqCst));
     let workers = u64::from(workers);
     was_begun_by_its_worker(rt, text, "null_resource.a: Creating...", passed, 0, workers);
     was_begun_by_its_worker(rt, text, "null_resource.b: Creating...", passed, 1, workers);

@@ -94,10 +94,10 @@ fn ends_so<R: Threads + Wait + Sync + Abort>(
     registry: &Registry,
     case: &Case,
 ) {
-    let script = script_bytes(case.script);
+    let (plan, script) = (case.plan.as_bytes(), script_bytes(case.script));
     let options = options(1, 64);
-    let (sink, found) = apply_into_memory(rt, alloc, case.plan, script, registry, options);
-    text_is(rt, case.plan, text_of(rt, &sink), case.stream);
+    let (sink, found) = apply_into_memory(rt, alloc, plan, script, registry, options);
+    text_is(rt, case.plan, text_of(rt, sink), case.stream);
     number_is(rt, "failed writes", sink.failures(), 0);
     let wanted = whole(case.counts, case.taken, case.stream.len());
     report_is(rt, case.plan, found, wanted);

@@ -8,6 +8,7 @@ use super::*;
 
 /// Applies what both texts say in so many lanes.
 pub(super) fn apply_texts_in_lanes<S: Sink + Drop>(
+    rt: &impl Abort,
     alloc: Global,
     plan: &str,
     script: &str,
@@ -17,14 +18,14 @@ pub(super) fn apply_texts_in_lanes<S: Sink + Drop>(
 ) -> (S, Result<Report, Refusal>)
     requires { S.failed sink < 2 ^ 64 - 1 }
 {
-    let registry = Registry::new(alloc);
+    let registry = no_hooks(rt, alloc);
     let script = script_bytes(script);
     let plan = plan.as_bytes();
     apply_bytes_in_lanes(
         alloc,
         plan,
         script,
-        &registry,
+        registry,
         lanes,
         Start::zero(),
         operation,
@@ -40,13 +41,12 @@ pub(super) fn written_in_lanes(
     script: &str,
     lanes: u8,
     operation: Operation,
-) -> MemorySink {
+) -> &'static str {
     let sink = memory(alloc);
-    let (sink, result) = apply_texts_in_lanes(alloc, plan, script, lanes, operation, sink);
-    let report = result.ok().expect(rt, plan);
-    has_taken(rt, &sink, report.written);
-    number_is(rt, "failed writes", sink.failures(), 0);
-    sink
+    let (sink, result) = apply_texts_in_lanes(rt, alloc, plan, script, lanes, operation, sink);
+    let sink = kept(rt, alloc, sink);
+    has_all(rt, plan, sink, result);
+    text_of(rt, sink)
 }
 
 /// Two creates of twelve seconds, and one of three.
@@ -90,8 +90,8 @@ fn all_tell(rt: &impl Abort, text: &str, wanted: &str) {
 #[test]
 fn lines_have_the_moments_of_their_events(rt: HostRuntime) {
     let (plan, script) = (THREE_CREATES, TWELVE_AND_THREE);
-    let sink = written_in_lanes(&rt, rt.alloc(), plan, script, 2, Operation::Apply);
-    all_tell(&rt, text_of(&rt, &sink), TWO_LANES);
+    let found = written_in_lanes(&rt, rt.alloc(), plan, script, 2, Operation::Apply);
+    all_tell(&rt, found, TWO_LANES);
 }
 
 /// Fails where one lane writes another text.
@@ -103,8 +103,8 @@ fn one_lane_writes(
     operation: Operation,
     wanted: &str,
 ) {
-    let sink = written_in_lanes(rt, alloc, plan, script, 1, operation);
-    text_is(rt, "one lane", text_of(rt, &sink), wanted);
+    let found = written_in_lanes(rt, alloc, plan, script, 1, operation);
+    text_is(rt, "one lane", found, wanted);
 }
 
 /// One lane writes what one worker does.
@@ -117,36 +117,41 @@ fn one_lane_is_one_worker(rt: HostRuntime) {
     let (plan, script) = (THREE_CREATES, TWELVE_AND_THREE);
     let mut options = options(1, 64);
     options.operation = Operation::Destroy;
-    let sink = applied(&rt, alloc, plan, script, &Registry::new(alloc), options);
-    let (operation, wanted) = (Operation::Destroy, text_of(&rt, &sink));
-    one_lane_writes(&rt, alloc, plan, script, operation, wanted);
+    let registry = no_hooks(&rt, alloc);
+    let wanted = applied(&rt, alloc, plan, script, registry, options);
+    one_lane_writes(&rt, alloc, plan, script, Operation::Destroy, wanted);
 }
 
 /// What 64 lanes make of a plan that was read, without a script.
-fn applied_in_lanes(alloc: Global, plan: &Plan) -> (MemorySink, Result<Report, Fault>) {
-    let (script, registry) = (Script::empty(), Registry::new(alloc));
-    apply_in_lanes(
+fn applied_in_lanes(
+    rt: &impl Abort,
+    alloc: Global,
+    plan: &Plan,
+) -> (&'static MemorySink, Result<Report, Fault>) {
+    let script = script_of(rt, alloc, NO_SCRIPT, plan);
+    let (sink, result) = apply_in_lanes(
         alloc,
         plan,
-        &script,
-        &registry,
+        script,
+        no_hooks(rt, alloc),
         64,
         Start::zero(),
         Operation::Apply,
         memory(alloc),
-    )
+    );
+    (kept(rt, alloc, sink), result)
 }
 
 /// A plan and a script that were read, and what was done.
 #[test]
 fn a_plan_that_was_read_in_lanes(rt: HostRuntime) {
     let alloc = rt.alloc();
-    let (sink, result) = applied_in_lanes(alloc, &plan_of(&rt, alloc, ONE_CREATE));
-    text_is(&rt, "64 lanes", text_of(&rt, &sink), ONE_CREATE_STREAM);
+    let (sink, result) = applied_in_lanes(&rt, alloc, plan_of(&rt, alloc, ONE_CREATE));
+    text_is(&rt, "64 lanes", text_of(&rt, sink), ONE_CREATE_STREAM);
     let report = report_of(&rt, result);
     counts_are(&rt, report.counts, counts(1, 0, 0, 0));
     number_is(&rt, "events", report.taken, 2);
-    has_taken(&rt, &sink, report.written);
+    has_taken(&rt, sink, report.written);
 }
 
 /// Fails where the texts are not refused so in so many lanes, or anything was written.
@@ -158,10 +163,11 @@ fn lanes_refuse(
     lanes: u8,
     wanted: Refusal,
 ) {
-    let sink = memory(alloc);
-    let (sink, result) = apply_texts_in_lanes(alloc, plan, script, lanes, Operation::Apply, sink);
+    let (sink, operation) = (memory(alloc), Operation::Apply);
+    let (sink, result) = apply_texts_in_lanes(rt, alloc, plan, script, lanes, operation, sink);
+    let sink = kept(rt, alloc, sink);
     assert!(rt; result == Err(wanted), "{plan} {script} in {lanes} lanes");
-    is_untouched(rt, plan, script, &sink);
+    is_untouched(rt, plan, script, sink);
 }
 
 /// The plan is refused before the script, and the script before the number of lanes.
@@ -188,9 +194,10 @@ fn fails_at_each_byte_in_lanes(rt: HostRuntime) {
 
 /// Fails where a sink with room for so many bytes of the stream gets others, or the run does not end as it has to.
 fn is_cut_off_in_lanes(rt: &impl Abort, alloc: Global, room: usize) {
-    let sink = MemorySink::new(alloc, 7, Some(room));
+    let (sink, operation) = (MemorySink::new(alloc, 7, Some(room)), Operation::Apply);
     let (plan, script) = (FAILED_DESTROY, FAILED_DESTROY_SCRIPT);
-    let (sink, result) = apply_texts_in_lanes(alloc, plan, script, 10, Operation::Apply, sink);
+    let (sink, result) = apply_texts_in_lanes(rt, alloc, plan, script, 10, operation, sink);
+    let sink = kept(rt, alloc, sink);
     is_cut_off(rt, sink.bytes(), FAILED_DESTROY_STREAM, room);
     let report = Report {
         counts: counts(1, 0, 0, 1),

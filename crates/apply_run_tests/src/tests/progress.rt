@@ -140,23 +140,22 @@ fn add_lines(
 }
 
 /// An hour's lines of progress, and four others.
-fn an_hour(rt: &impl Abort, alloc: Global) -> String {
+fn an_hour(rt: &impl Abort, alloc: Global) -> &'static str {
     let mut text = String::from_str(alloc, BEGIN_OF_AN_HOUR).expect(rt, "memory");
     add_lines(rt, alloc, &mut text, &UPDATE, 360, 0);
     add(rt, &mut text, END_OF_AN_HOUR);
-    text
+    kept(rt, alloc, text).as_str()
 }
 
 #[test]
 fn hour_of_progress(rt: HostRuntime) {
     let alloc = rt.alloc();
-    let registry = Registry::new(alloc);
-    let sink = applied(&rt, alloc, ONE_UPDATE, AN_HOUR, &registry, options(1, 64));
-    let text = text_of(&rt, &sink);
+    let registry = no_hooks(&rt, alloc);
+    let text = applied(&rt, alloc, ONE_UPDATE, AN_HOUR, registry, options(1, 64));
     number_is(&rt, "lines of progress", progress_of(text), 360);
     number_is(&rt, "lines", lines_of(text), 364);
     holds(&rt, "an end", text.ends_with(LINES_OF_AN_HOUR));
-    holds(&rt, "an hour", text == an_hour(&rt, alloc).as_str());
+    holds(&rt, "an hour", text == an_hour(&rt, alloc));
 }
 
 /// A plan with one create.
@@ -179,21 +178,20 @@ const BEGIN_OF_A_DAY: &str =
 "#;
 
 /// A day's lines of progress, and four others. The year 9000 begins one second after the step.
-fn a_day(rt: &impl Abort, alloc: Global) -> String {
+fn a_day(rt: &impl Abort, alloc: Global) -> &'static str {
     let mut text = String::from_str(alloc, BEGIN_OF_A_DAY).expect(rt, "memory");
     add_lines(rt, alloc, &mut text, &CREATE, 8_639, 1);
     let (_, end) = parted(rt, LINES_OF_A_DAY, "\n");
     add(rt, &mut text, end);
-    text
+    kept(rt, alloc, text).as_str()
 }
 
 #[test]
 fn moments(rt: HostRuntime) {
     let alloc = rt.alloc();
-    let registry = Registry::new(alloc);
+    let registry = no_hooks(&rt, alloc);
     let options = options_of(&rt, "apply 8999-12-31T23:59:59Z");
-    let sink = applied(&rt, alloc, NULL_CREATE, A_DAY, &registry, options);
-    let text = text_of(&rt, &sink);
+    let text = applied(&rt, alloc, NULL_CREATE, A_DAY, registry, options);
     holds(&rt, "an end", text.ends_with(LINES_OF_A_DAY));
-    holds(&rt, "a day", text == a_day(&rt, alloc).as_str());
+    holds(&rt, "a day", text == a_day(&rt, alloc));
 }

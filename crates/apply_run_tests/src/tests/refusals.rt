@@ -49,10 +49,10 @@ fn refuses_bytes<R: Threads + Wait + Sync + Abort>(
     options: Options,
     wanted: Refusal,
 ) {
-    let registry = Registry::new(alloc);
-    let (sink, result) = apply_into_memory(rt, alloc, plan, bytes, &registry, options);
+    let registry = no_hooks(rt, alloc);
+    let (sink, result) = apply_into_memory(rt, alloc, plan.as_bytes(), bytes, registry, options);
     refusal_is(rt, plan, script, result, wanted);
-    is_untouched(rt, plan, script, &sink);
+    is_untouched(rt, plan, script, sink);
 }
 
 /// Fails where it is not so of a plan and a script.
@@ -227,6 +227,25 @@ fn sizes_and_limits_of_plans(rt: HostRuntime) -> Result<(), Fail> {
         too_many,
     );
     Ok(())
+}
+
+/// As many changes as a plan may have, all of them updates, by eight workers over a bus with room for one event.
+#[test]
+fn the_most_changes_are_applied(rt: HostRuntime) -> Result<(), Fail> {
+    let creates = many_changes(rt.alloc(), 10_000)?;
+    let updates = creates.replace(rt.alloc(), r#""create""#, r#""update""#)?;
+    let (plan, registry) = (updates.as_bytes(), no_hooks(&rt, rt.alloc()));
+    let (sink, result) = apply_into_memory(&rt, rt.alloc(), plan, None, registry, options(8, 1));
+    many_are_told(&rt, sink, result);
+    Ok(())
+}
+
+/// Fails where not 10,000 updates were told: two lines of each, the version and the summary.
+fn many_are_told(rt: &impl Abort, sink: &MemorySink, end: Result<Report, Refusal>) {
+    let report = end.ok().expect(rt, "an end that is well");
+    counts_are(rt, report.counts, counts(0, 10_000, 0, 0));
+    number_is(rt, "events", report.taken, 20_000);
+    number_is(rt, "lines", lines_of(text_of(rt, sink)), 20_002);
 }
 
 /// Fails where the error has another text.

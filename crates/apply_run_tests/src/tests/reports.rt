@@ -29,9 +29,9 @@ fn run_is_told<R: Threads + Wait + Sync + Abort>(
     script: &str,
     wanted: Result<Report, Refusal>,
 ) {
-    let registry = Registry::new(alloc);
-    let script = script_bytes(script);
-    let (_sink, found) = apply_into_memory(rt, alloc, plan, script, &registry, options(1, 64));
+    let registry = no_hooks(rt, alloc);
+    let (bytes, script) = (plan.as_bytes(), script_bytes(script));
+    let (_sink, found) = apply_into_memory(rt, alloc, bytes, script, registry, options(1, 64));
     report_is(rt, plan, found, wanted);
 }
 

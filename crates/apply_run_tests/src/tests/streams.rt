@@ -178,8 +178,8 @@ fn has_its_stream<R: Threads + Wait + Sync + Abort>(rt: &R, alloc: Global, case:
     let (plan, rest) = parted(rt, rest, "\n");
     let (script, wanted) = parted(rt, rest, "\n");
     let options = options_of(rt, how);
-    let registry = Registry::new(alloc);
-    stream_is(rt, alloc, name, plan, script, &registry, options, wanted);
+    let registry = no_hooks(rt, alloc);
+    stream_is(rt, alloc, name, plan, script, registry, options, wanted);
 }
 
 /// Fails where one of the cases has another stream.

@@ -33,7 +33,7 @@ struct Case {
 }
 
 /// The lines without their moments.
-fn without_moments(rt: &impl Abort, alloc: Global, text: &str) -> String {
+fn without_moments(rt: &impl Abort, alloc: Global, text: &str) -> &'static str {
     let mut bare = String::new(alloc);
     for line in text.lines() {
         let (before, behind) = around_moment(line);
@@ -42,7 +42,7 @@ fn without_moments(rt: &impl Abort, alloc: Global, text: &str) -> String {
         bare.push_str(behind).expect(rt, "memory");
         bare.push_str("\n").expect(rt, "memory");
     }
-    bare
+    kept(rt, alloc, bare).as_str()
 }
 
 /// What so many workers write of the case, in their time, without the moments.
@@ -51,12 +51,12 @@ fn bare_stream<R: Threads + Wait + Sync + Abort>(
     alloc: Global,
     case: &Case,
     workers: u8,
-) -> String {
+) -> &'static str {
     let mut options = options(workers, 64);
     options.operation = case.operation;
     let (plan, script) = (case.plan, case.script);
     let (sink, _report) = apply_plan(rt, alloc, plan, script, options, memory(alloc), &NoGate);
-    let text = text_of(rt, &sink);
+    let text = text_of(rt, sink);
     moments_never_go_back(rt, text);
     without_moments(rt, alloc, text)
 }
@@ -69,7 +69,7 @@ fn changes_are_as_of_terraform<R: Threads + Wait + Sync + Abort>(
     workers: u8,
 ) {
     let bare = bare_stream(rt, alloc, case, workers);
-    lines_are_of_changes(rt, bare.as_str(), case.stream);
+    lines_are_of_changes(rt, bare, case.stream);
 }
 
 /// Fails where one worker writes other lines.
@@ -79,15 +79,15 @@ fn one_worker_is_as_of_terraform<R: Threads + Wait + Sync + Abort>(
     case: &Case,
 ) {
     let bare = bare_stream(rt, alloc, case, 1);
-    text_is(rt, "one worker", bare.as_str(), case.stream);
+    text_is(rt, "one worker", bare, case.stream);
 }
 
 /// Fails where ten lanes write other lines. All that Terraform printed came within a second, and no step takes any time:
 /// so the lines stand change by change, as in the case.
 fn lanes_are_as_of_terraform(rt: &impl Abort, alloc: Global, case: &Case) {
-    let sink = written_in_lanes(rt, alloc, case.plan, case.script, 10, case.operation);
-    let bare = without_moments(rt, alloc, text_of(rt, &sink));
-    text_is(rt, "ten lanes", bare.as_str(), case.stream);
+    let found = written_in_lanes(rt, alloc, case.plan, case.script, 10, case.operation);
+    let bare = without_moments(rt, alloc, found);
+    text_is(rt, "ten lanes", bare, case.stream);
 }
 
 /// Fails where one worker or ten lanes write other lines, or the lines of a change are others where there are more workers.

@@ -137,8 +137,7 @@ fn fixed_assignment(rt: HostRuntime) {
 /// Both steps of the first change, and then the only one of the second.
 #[test]
 fn a_gate_is_passed_before_each_step(rt: HostRuntime) {
-    let registry = Registry::new(rt.alloc());
-    let passes = passes_of(&rt, rt.alloc(), &registry);
+    let passes = passes_of(&rt, rt.alloc(), no_hooks(&rt, rt.alloc()));
     number_is(&rt, "passes", passes, 0x123);
 }
 
@@ -212,16 +211,18 @@ fn lines_while_workers_run(rt: HostRuntime) {
     counts_are(&rt, counted, counts(1, 0, 1, 0));
 }
 
-/// For how many turns the slow sink holds a line.
+/// For how many turns the slow sink holds a line once as many changes have begun as may.
 const SLOW_TURNS: u32 = 1_000_000;
 
-/// A sink that is slow to take the first start, and then looks whether the third change was begun meanwhile.
+/// A sink that is slow to take the first start, until so many changes have begun and for a while more, and then looks how
+/// many have.
 #[derive(Drop)]
 struct Slow<'a, S: Drop> {
     inner: S,
     begun: &'a AtomicU64,
+    least: u64,
     held: bool,
-    begun_meanwhile: bool,
+    begun_meanwhile: u64,
 }
 
 impl<S: Sink + Drop> Sink for Slow<'_, S> {
@@ -232,10 +233,11 @@ impl<S: Sink + Drop> Sink for Slow<'_, S> {
     fn write(&mut self, slice: &[u8]) -> Result<usize, SinkFault> {
         if !self.held && is_of_type(slice, r#","type":"apply_start"}"#) {
             self.held = true;
+            let _all_may = comes_to(self.begun, self.least);
             for _ in 0..SLOW_TURNS {
                 yield_now();
             }
-            self.begun_meanwhile = self.begun.load(Ordering::SeqCst) != 0;
+            self.begun_meanwhile = self.begun.load(Ordering::SeqCst);
         }
         self.inner.write(slice)
     }
@@ -245,44 +247,56 @@ impl<S: Sink + Drop> Sink for Slow<'_, S> {
     }
 }
 
-/// Notes when the third change is begun.
+/// Counts the changes that are begun.
 #[derive(Drop)]
 struct Noting<'a> {
     begun: &'a AtomicU64,
 }
 
 impl Gate for Noting<'_> {
-    fn pass(&self, _worker: u8, change: u32, _step: u8) {
-        if change == 2 {
-            self.begun.store(1, Ordering::SeqCst);
-        }
+    fn pass(&self, _worker: u8, _change: u32, _step: u8) {
+        self.begun.fetch_add(1, Ordering::SeqCst);
     }
 }
 
-/// A worker waits where there is no room for what it has to tell.
-#[test]
-fn lines_while_workers_run_into_a_slow_sink(rt: HostRuntime) {
+/// Fails where of four changes, which one worker applies over a bus with that room, not so many are begun while the first
+/// start is held.
+fn so_many_begin<R: Threads + Wait + Sync + Abort>(
+    rt: &R,
+    alloc: Global,
+    capacity: u16,
+    wanted: u64,
+) {
     let begun = AtomicU64::new(0);
     let gate = Noting { begun: &begun };
     let sink = Slow {
-        inner: memory(rt.alloc()),
+        inner: memory(alloc),
         begun: &begun,
+        least: wanted,
         held: false,
-        begun_meanwhile: false,
+        begun_meanwhile: 0,
     };
-    let (sink, report) = apply_plan(
-        &rt,
-        rt.alloc(),
-        THREE_CREATES,
-        NO_SCRIPT,
-        options(1, 1),
-        sink,
-        &gate,
-    );
-    holds(&rt, "held", sink.held);
-    holds(&rt, "not begun meanwhile", !sink.begun_meanwhile);
-    word_is(&rt, "begun", &begun, 1);
-    counts_are(&rt, report.counts, counts(3, 0, 0, 0));
+    let options = options(1, capacity);
+    let (sink, report) = apply_plan(rt, alloc, FOUR_CREATES, NO_SCRIPT, options, sink, &gate);
+    holds(rt, "held", sink.held);
+    number_is(rt, "begun meanwhile", sink.begun_meanwhile, wanted);
+    word_is(rt, "begun", &begun, 4);
+    counts_are(rt, report.counts, counts(4, 0, 0, 0));
+}
+
+/// A worker waits where there is no room for what it has to tell: with room for one, the completion of the first change
+/// waits there, and the start of the second, which has begun, finds none.
+#[test]
+fn lines_while_workers_run_into_a_slow_sink(rt: HostRuntime) {
+    so_many_begin(&rt, rt.alloc(), 1, 2);
+}
+
+/// It goes on as long as there is room: with room for three, what is told of the second change waits there too, and the
+/// start of the third finds none.
+#[test]
+fn as_much_waits_as_there_is_room(rt: HostRuntime) {
+    so_many_begin(&rt, rt.alloc(), 2, 2);
+    so_many_begin(&rt, rt.alloc(), 3, 3);
 }
 
 /// The second takes 20 seconds and the third 5.
@@ -312,7 +326,7 @@ fn eight_workers_capacity_one(rt: HostRuntime) {
         memory(rt.alloc()),
         &NoGate,
     );
-    let text = text_of(&rt, &sink);
+    let text = text_of(&rt, sink);
     lines_are_of_changes(&rt, text, THREE_STREAM);
     moments_never_go_back(&rt, text);
     let last = text.lines().last().unwrap_or("");
