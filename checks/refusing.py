@@ -39,7 +39,7 @@ def examples():
 
 def checked_streams():
     """The names of the examples that check a stream."""
-    return cases_with("input.jsonl")
+    return sorted(cases_with("input.jsonl") + cases_with("input.of"))
 
 
 def folder_of(name):
@@ -49,6 +49,10 @@ def folder_of(name):
 
 def plan_of(name):
     """The plan of an example, or the stream that it checks."""
+    given = f"{CASES}/{name}/input.of"
+    if os.path.exists(given):
+        with open(given) as path, open(f"{CASES}/{name}/{path.read().strip()}", "rb") as text:
+            return text.read()
     for given in "plan.json", "input.jsonl":
         if os.path.exists(f"{CASES}/{name}/{given}"):
             with open(f"{CASES}/{name}/{given}", "rb") as text:

@@ -11,4 +11,5 @@ read_case() {
   input=/dev/null
   [ ! -e plan.json ] || input=plan.json
   [ ! -e input.jsonl ] || input=input.jsonl
+  [ ! -e input.of ] || input=$(cat input.of)
 }
