@@ -1,6 +1,7 @@
 # Proves and builds the program out of the crates that crates.txt lists, each over what those below it state.
 #   make                          the program, out/applystream; after a failure it goes on with what is left
-#   make install PREFIX=/usr/local
+#   make install PREFIX=/usr/local    it, its man pages and completions
+#   make static · make deb        the same without need of a C library; a Debian package
 #   make check                    the gate: every proof, edit, test and script
 #   make clean                    forgets all of it
 SHELL := bash
@@ -41,11 +42,15 @@ $(foreach crate,$(CRATES),$(eval $(LIBS)/$(crate).stamp: $(call files,$(crate)) 
 out/toolchain: FORCE
 	@mkdir -p out; rt version | cmp -s - $@ || rt version >$@
 install: out/applystream
-	install -D out/applystream $(DESTDIR)$(PREFIX)/bin/applystream
+	packaging/install $(DESTDIR)$(PREFIX)
+static: out/applystream
+	cc -static -o out/applystream-static out/applystream.o $(KIT)/c/libos_c.a $(KIT)/c/liblibc_c.a
+deb: out/applystream
+	packaging/deb
 check:
 	./check
 clean:
 	rm -rf out crates/*/out
 FORCE:
-.PHONY: FORCE install check clean
+.PHONY: FORCE install static deb check clean
 .DELETE_ON_ERROR:

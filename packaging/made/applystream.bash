@@ -1,0 +1,21 @@
+# Completions of applystream for bash.
+_applystream() {
+  local word=${COMP_WORDS[COMP_CWORD]} before=${COMP_WORDS[COMP_CWORD - 1]}
+  if [ "${COMP_WORDS[1]}" = check ] && [ "$COMP_CWORD" -gt 1 ]; then
+    COMPREPLY=($(compgen -W "--json --find --plan --help" -- "$word") $(compgen -f -- "$word"))
+    return
+  fi
+  case $before in
+    --at) return ;;
+    --script) COMPREPLY=($(compgen -f -- "$word")); return ;;
+    --workers) return ;;
+    --queue) return ;;
+    --halt-before) COMPREPLY=($(compgen -W "create update delete read" -- "$word")); return ;;
+    --halt-in) return ;;
+    --parallelism) return ;;
+  esac
+  local words="--at --script --workers --queue --destroy --halt-before --halt-in --parallelism --help --version"
+  [ "$COMP_CWORD" != 1 ] || words+=" check"
+  COMPREPLY=($(compgen -W "$words" -- "$word"))
+}
+complete -o filenames -F _applystream applystream
