@@ -8,6 +8,7 @@ mod failing_outputs;
 mod faults;
 mod following;
 mod invocations;
+mod lanes;
 mod rests;
 mod settings;
 mod streams;
@@ -15,11 +16,12 @@ mod words;
 
 use apply_cli::{
     Halt, InputFault, Invocation, Settings, Usage, VERSION, answer_usage, follow,
-    follow_invocation, read_all, read_invocation, refusal_status, report, run_command, run_input,
+    follow_invocation, read_all, read_invocation, read_words, refusal_status, report, run_command,
+    run_input,
 };
 use apply_hooks::Registry;
 use apply_plan::{PlanError, ScriptError, StepKind, Text};
-use apply_run::{Refusal, StdSink};
+use apply_run::{MAX_LANES, Options, Refusal, StdSink};
 use apply_text::{MomentError, Operation, Start};
 use std::alloc::Global;
 use std::io;

@@ -8,7 +8,7 @@ const ONE_CREATE: &str =
     r#"{"format_version":"1.2","terraform_version":"1.9.0","resource_changes":[{"address":"random_pet.animal","mode":"managed","type":"random_pet","name":"animal","change":{"actions":["create"]}}]}"#;
 
 /// Plans that are refused, and what is said of them.
-const REFUSED_PLANS: &str = r#" => the plan is not JSON
+pub(super) const REFUSED_PLANS: &str = r#" => the plan is not JSON
 { => the plan is not JSON
 [] => the plan is not a plan of format 1.x
 {"format_version":"2.0"} => the plan is not a plan of format 1.x

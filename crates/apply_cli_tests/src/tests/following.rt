@@ -27,6 +27,14 @@ const TABLE: &str = "--workers 2 --halt-before delete => 1 =>
 --halt-before read => 0 =>
 --script no_such_file.json => 2 => applystream: the script file could not be read
 --script . => 2 => applystream: the script file could not be read
+--script /dev/null => 2 => applystream: the script is not JSON
+--script=~/dev/null => 2 => applystream: the script file could not be read
+--script=/dev/null~ => 2 => applystream: the script file could not be read
+--parallelism 2 => 0 =>
+--parallelism 64 --halt-before delete => 1 =>
+--parallelism 1 --halt-in=null_resource.~ => 0 =>
+--parallelism 2 --script no_such_file.json => 2 => applystream: the script file could not be read
+--parallelism 2 --script /dev/null => 2 => applystream: the script is not JSON
 --parallelism 2 --workers 2 --at x => 2 => applystream: --parallelism takes no --workers and no --queue beside it
 --at x => 2 => applystream: the moment is not a moment
 --at 1969-12-31T23:59:59Z --script no_such_file.json => 2 => applystream: the moment is out of range";
@@ -113,6 +121,14 @@ fn a_hook_halts_beside_two_workers(rt: HostRuntime) {
     stream_is(&rt, &rt, rt.alloc(), words, 1, HALTED);
 }
 
+#[test]
+fn a_hook_halts_in_lanes(rt: HostRuntime) {
+    let words = "--parallelism 2 --halt-before delete";
+    stream_is(&rt, &rt, rt.alloc(), words, 1, HALTED);
+    let words = "--halt-in null_resource.a --parallelism 64";
+    stream_is(&rt, &rt, rt.alloc(), words, 1, HALTED);
+}
+
 /// Fails where nothing printed has this text.
 fn prints(rt: &impl Abort, outcome: &Outcome, text: &str) {
     let printed = text_of(rt, &outcome.printed);
@@ -134,6 +150,73 @@ fn help_is_printed(rt: HostRuntime) {
     status_is(&rt, "help", &outcome, 0);
     is_text(&rt, "help", &outcome.said, "");
     prints(&rt, &outcome, "Exit status:");
+}
+
+/// Holds back what it is given until it is flushed.
+#[derive(Drop)]
+struct HoldingBack {
+    held: Vec<u8>,
+    out: Vec<u8>,
+}
+
+impl Write for HoldingBack {
+    fn write(&mut self, bytes: &[u8]) -> io::Result<usize> {
+        self.held.extend_from_slice(bytes)?;
+        Ok(bytes.len())
+    }
+
+    fn flush(&mut self) -> io::Result<()> {
+        self.out.extend_from_slice(&self.held)?;
+        self.held.clear();
+        Ok(())
+    }
+}
+
+/// What the words of a text bring out.
+fn brought_out<T: Threads + Wait + Sync + Abort, F: Files>(
+    rt: &T,
+    files: &F,
+    alloc: Global,
+    words: &str,
+) -> Outcome {
+    let output = HoldingBack {
+        held: Vec::new(alloc),
+        out: Vec::new(alloc),
+    };
+    let words = words_of(rt, alloc, words);
+    let mut said = Vec::new(alloc);
+    let input = REPLACEMENT.as_bytes();
+    let (output, status) = follow(rt, files, alloc, &words, input, output, &mut said);
+    assert_eq!(rt; output.held.len(), 0);
+    Outcome {
+        status,
+        printed: output.out,
+        said,
+    }
+}
+
+/// Fails where what the words print is not all flushed.
+fn all_is_flushed<T: Threads + Wait + Sync + Abort, F: Files>(
+    rt: &T,
+    files: &F,
+    alloc: Global,
+    words: &str,
+    status: u8,
+) {
+    let wanted = answered(rt, files, alloc, words);
+    let found = brought_out(rt, files, alloc, words);
+    let text = text_of(rt, &wanted.printed);
+    assert!(rt; text.ends_with("\n"), "{words}");
+    outcome_is(rt, words, &found, status, text, "");
+}
+
+#[test]
+fn what_is_printed_is_flushed(rt: HostRuntime) {
+    all_is_flushed(&rt, &rt, rt.alloc(), "--help", 0);
+    all_is_flushed(&rt, &rt, rt.alloc(), "--version", 0);
+    all_is_flushed(&rt, &rt, rt.alloc(), "", 0);
+    all_is_flushed(&rt, &rt, rt.alloc(), "--halt-before delete", 1);
+    all_is_flushed(&rt, &rt, rt.alloc(), "--parallelism 2", 0);
 }
 
 /// Asks for the version over this output.

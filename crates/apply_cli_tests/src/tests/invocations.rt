@@ -61,7 +61,8 @@ fn help_says_how_many_at_once(rt: HostRuntime) {
     match read_invocation(rt.alloc(), &words) {
         Err(Usage::Help(help)) => {
             assert!(rt; help.as_str().contains("--parallelism <N>"));
-            assert!(rt; help.as_str().contains("1 to 64"));
+            let most = format!(in rt.alloc(); "1 to {MAX_LANES}").expect(&rt, "memory");
+            assert!(rt; help.as_str().contains(most.as_str()));
         }
         _ => panic!(rt; "no help"),
     }

@@ -62,22 +62,35 @@ plan.json => Words
 --help --workers 9 => Help
 --workers 9 --help => Words"#;
 
-/// What the words are answered.
+/// What the words are answered, by all options.
 fn answer_to(rt: &impl Abort, alloc: Global, text: &str) -> String {
     let words = words_of(rt, alloc, text);
-    shown(alloc, &read_invocation(alloc, &words)).expect(rt, "memory")
+    let answer = match read_invocation(alloc, &words) {
+        Ok(invocation) => format!(in alloc; "{:?}", invocation.settings),
+        Err(usage) => shown(alloc, &usage),
+    };
+    answer.expect(rt, "memory")
 }
 
-/// The settings, the fault of a moment, or the name of any other usage.
-fn shown(alloc: Global, read: &Result<Invocation, Usage>) -> Result<String, AllocError> {
-    match read {
-        Ok(invocation) => format!(in alloc; "{:?}", invocation.settings),
-        Err(Usage::Help(_)) => String::from_str(alloc, "Help"),
-        Err(Usage::Words(_)) => String::from_str(alloc, "Words"),
-        Err(Usage::Beside) => String::from_str(alloc, "Beside"),
-        Err(Usage::Moment(error)) => format!(in alloc; "{error:?}"),
-        Err(Usage::Hooks) => String::from_str(alloc, "Hooks"),
-        Err(Usage::Memory) => String::from_str(alloc, "Memory"),
+/// What they are answered by the options without a parallelism.
+fn settings_answer_to(rt: &impl Abort, alloc: Global, text: &str) -> String {
+    let words = words_of(rt, alloc, text);
+    let answer = match read_words(alloc, &words) {
+        Ok(settings) => format!(in alloc; "{settings:?}"),
+        Err(usage) => shown(alloc, &usage),
+    };
+    answer.expect(rt, "memory")
+}
+
+/// The fault of a moment, or the name of any other usage.
+fn shown(alloc: Global, usage: &Usage) -> Result<String, AllocError> {
+    match usage {
+        Usage::Help(_) => String::from_str(alloc, "Help"),
+        Usage::Words(_) => String::from_str(alloc, "Words"),
+        Usage::Beside => String::from_str(alloc, "Beside"),
+        Usage::Moment(error) => format!(in alloc; "{error:?}"),
+        Usage::Hooks => String::from_str(alloc, "Hooks"),
+        Usage::Memory => String::from_str(alloc, "Memory"),
     }
 }
 
@@ -87,6 +100,64 @@ fn words_say_settings(rt: HostRuntime) {
         let (words, wanted) = parted(&rt, row, " => ");
         let answer = answer_to(&rt, rt.alloc(), words);
         assert_eq!(rt; answer.as_str(), wanted, "{words}");
+        let answer = settings_answer_to(&rt, rt.alloc(), words);
+        assert_eq!(rt; answer.as_str(), wanted, "{words}");
+    }
+}
+
+/// Words of a parallelism, and what they are answered by the options without one.
+const PARALLEL: &str = "--parallelism 2 => Words
+--parallelism 2 --workers 2 => Words
+--parallelism=x --at x => Words
+--help --parallelism 2 => Help";
+
+#[test]
+fn settings_know_no_parallelism(rt: HostRuntime) {
+    for row in PARALLEL.lines() {
+        let (words, wanted) = parted(&rt, row, " => ");
+        let answer = settings_answer_to(&rt, rt.alloc(), words);
+        assert_eq!(rt; answer.as_str(), wanted, "{words}");
+    }
+}
+
+/// Fails where the words are not taken just where a run takes their numbers.
+fn are_taken(rt: &impl Abort, alloc: Global, words: &str, in_range: bool) {
+    let words = words_of(rt, alloc, words);
+    let taken = read_invocation(alloc, &words).is_ok();
+    assert_eq!(rt; taken, in_range, "{words:?}");
+}
+
+/// Fails where the option takes another number than a run.
+fn number_is_taken(rt: &impl Abort, alloc: Global, option: &str, number: u16, in_range: bool) {
+    let words = format!(in alloc; "{option} {number}").expect(rt, "memory");
+    are_taken(rt, alloc, words.as_str(), in_range);
+}
+
+/// Whether a run takes so many workers and such a queue.
+fn is_size(workers: u8, capacity: u16) -> bool {
+    let options = Options {
+        workers,
+        capacity,
+        start: Start::zero(),
+        operation: Operation::Apply,
+    };
+    options.in_range()
+}
+
+/// The parser's bounds are numbers of their own: they are those of a run.
+#[test]
+fn options_take_the_numbers_that_a_run_takes(rt: HostRuntime) {
+    let alloc = rt.alloc();
+    for workers in 0..=20u8 {
+        let in_range = is_size(workers, 64);
+        number_is_taken(&rt, alloc, "--workers", u16::from(workers), in_range);
+    }
+    for queue in [0, 1, 2, 1023, 1024, 1025, 2048] {
+        number_is_taken(&rt, alloc, "--queue", queue, is_size(1, queue));
+    }
+    let most = u16::from(MAX_LANES);
+    for (lanes, in_range) in [(0, false), (1, true), (most, true), (most + 1, false)] {
+        number_is_taken(&rt, alloc, "--parallelism", lanes, in_range);
     }
 }
 
@@ -120,6 +191,8 @@ fn there_are_32_halts_at_most(rt: HostRuntime) {
             number(&rt, before),
         );
         let answer = answer_to(&rt, rt.alloc(), words.as_str());
+        assert!(rt; answer.starts_with(wanted), "{row}: {answer}");
+        let answer = settings_answer_to(&rt, rt.alloc(), words.as_str());
         assert!(rt; answer.starts_with(wanted), "{row}: {answer}");
     }
 }
