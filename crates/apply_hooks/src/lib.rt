@@ -26,6 +26,3 @@ pub use registry::{MAX_HOOKS, Registry};
 pub use rule::Rule;
 pub use rules::Rules;
 pub use verdict::Verdict;
-
-#[cfg(test)]
-mod tests;

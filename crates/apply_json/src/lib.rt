@@ -14,6 +14,3 @@ pub use json::Scratch;
 pub use json_fault::JsonFault;
 pub use parsing::{parse, parse_trimmed};
 pub use shape::Shape;
-
-#[cfg(test)]
-mod tests;

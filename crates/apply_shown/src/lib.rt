@@ -17,6 +17,3 @@ pub use laws::{
 };
 pub use reading::readable;
 pub use showing::{push_shown, shown};
-
-#[cfg(test)]
-mod tests;

@@ -8,7 +8,7 @@ mod asking;
 mod closures;
 mod matching;
 
-use crate::{
+use apply_hooks::{
     Asked, FnHook, Hook, HookCall, HookClosure, HookError, MAX_HOOKS, Phase, Registry, Rule, Rules,
     Verdict,
 };

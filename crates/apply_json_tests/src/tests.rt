@@ -1,9 +1,9 @@
 //! What no clause says: that the definitions are the ones that were meant, and that calls succeed with ample memory.
 
-use crate::members::{
+use apply_json::members::{
     array_or_empty, is_text, member, non_empty, non_empty_text_member, text_member, text_member_or,
 };
-use crate::{JsonFault, Scratch, Shape, parse, parse_trimmed};
+use apply_json::{JsonFault, Scratch, Shape, parse, parse_trimmed};
 use serde_json::Value;
 use std::alloc::Global;
 use std::process::Abort;
@@ -18,7 +18,7 @@ enum TestShape {
 impl Shape for TestShape {
     ghost use Rattle.std.specs.Prelude.{codes, zero, Some, None, if◌then◌else◌};
     ghost use Rattle.std.specs.Str.{bytes_eq};
-    ghost use Rattle.apply_json.specs.declared.tests.TestShape.TheVariants as shape;
+    ghost use Rattle.apply_json_tests.specs.declared.tests.TestShape.TheVariants as shape;
 
     ghost selection = { record {
       member_shape = λ s name. if bytes_eq name (codes "a") then Some shape.Object

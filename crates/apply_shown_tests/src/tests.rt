@@ -1,6 +1,6 @@
 //! What no clause says: that the definitions are the ones that were meant, and that calls succeed with ample memory.
 
-use crate::{front, push_shown, readable, shown, shown_within};
+use apply_shown::{front, push_shown, readable, shown, shown_within};
 use std::alloc::Global;
 use std::process::Abort;
 
