@@ -1,7 +1,8 @@
 # Proves and builds the program out of the crates that crates.txt lists, each over what those below it state.
-#   make                          the program, out/applystream; after a failure it goes on with what is left
-#   make install PREFIX=/usr/local    it, its man pages and completions
-#   make static · make deb        the same without need of a C library; a Debian package
+#   make                          the program with its tools, out/applystream; after a failure it goes on with what is left
+#   make out/applystream_alone    the same without the tools, which needs fewer crates: what ./applystream builds first
+#   make install PREFIX=/usr/local    the program, its man pages and completions
+#   make static · make deb        it without need of a C library; a Debian package
 #   make check                    the gate: every proof, edit, test and script
 #   make clean                    forgets all of it
 SHELL := bash
@@ -17,40 +18,39 @@ uses = $(shell sed -n 's/^$(1)\( [^:]*\)\{0,1\}: *//p' crates.txt)
 below = $(filter $(OWN),$(call uses,$(1)))
 needs = $(sort $(1) $(foreach crate,$(call below,$(1)),$(call needs,$(crate))))
 files = $(shell find crates/$(1)/src crates/$(1)/specs crates/$(1)/proofs -type f ! -path '*/src/tests*' 2>/dev/null)
-CRATES := $(call needs,applystream)
+CRATES := $(call needs,applystream) applystream_alone
 # What no other crate waits for steps back behind the chain.
-ASIDE := apply_shown apply_check
-left = $$(for crate in $(CRATES); do [ -e $(LIBS)/$$crate.stamp ] || echo $$crate; done)
+ASIDE := apply_shown apply_check apply_lines apply_words apply_play
+above = $(foreach it,$(CRATES),$(if $(filter $(1),$(call needs,$(it))),$(it)))
+left = $$(for crate in $(if $(filter %_alone,$(MAKECMDGOALS)),$(filter-out $(ASIDE) applystream,$(CRATES)),$(filter-out %_alone,$(CRATES))); do [ -e $(LIBS)/$$crate.stamp ] || echo $$crate; done)
 
-out/applystream: $(LIBS)/applystream.stamp
+out/applystream out/applystream_alone: out/%: $(LIBS)/%.stamp
 	@$(KIT)/bin/rattle-link --target x86_64-unknown-linux-gnu --toolchain $(KIT)/toolchain -o $@.new \
-	  out/applystream.o $(KIT)/c/libos_c.a $(KIT)/c/liblibc_c.a >out/link.log 2>&1 || { cat out/link.log >&2; false; }
+	  $@.o $(KIT)/c/libos_c.a $(KIT)/c/liblibc_c.a >$@.link.log 2>&1 || { cat $@.link.log >&2; false; }
 	@mv $@.new $@
 
 $(LIBS)/%.stamp: out/toolchain
-	@mkdir -p $(LIBS) out
+	@mkdir -p $(LIBS) out; rm -f $(patsubst %,$(LIBS)/%.stamp,$(call above,$*))
 	@echo "applystream: proving $*; left:" $(left) >&2
 	@cd crates/$* && nice -n $(if $(filter $*,$(ASIDE)),19,0) $(KIT)/bin/rattle build --crate-name $* --jobs $(JOBS) -L dependency=$(KIT)/rlibs -L dependency=$(LIBS) \
 	  --antt-project $(KIT)/rattle/logic/antt-project.json --logic-built $(KIT)/logic_built \
 	  $(foreach it,std $(call uses,$*),--extern $(it)=$(if $(filter $(it),$(OWN)),$(LIBS),$(KIT)/rlibs)/$(it).rlib) \
-	  $(if $(filter applystream,$*),src/main.rt --toolchain $(KIT)/toolchain --backend llvm -o $(CURDIR)/out/applystream.o,src/lib.rt --statements -o $(LIBS)/$*.rlib) \
+	  $(if $(filter applystream%,$*),src/main.rt --toolchain $(KIT)/toolchain --backend llvm -o $(CURDIR)/out/$*.o,src/lib.rt --statements -o $(LIBS)/$*.rlib) \
 	  </dev/null >$(CURDIR)/out/$*.log 2>&1 || { echo "applystream: $* was not proved or not built; out/$*.log says why" >&2; false; }
 	@touch $@
 $(foreach crate,$(CRATES),$(eval $(LIBS)/$(crate).stamp: $(call files,$(crate)) $(patsubst %,$(LIBS)/%.stamp,$(call below,$(crate)))))
 
 # What another toolchain made is made anew.
 out/toolchain: FORCE
-	@mkdir -p out; rt version | cmp -s - $@ || rt version >$@
+	@mkdir -p out; version=$$(rt version) && { [ "$$version" = "$$(cat $@ 2>/dev/null)" ] || { rm -f $(LIBS)/*.stamp; echo "$$version" >$@; }; }
 install: out/applystream
 	packaging/install $(DESTDIR)$(PREFIX)
 static: out/applystream
 	cc -static -o out/applystream-static out/applystream.o $(KIT)/c/libos_c.a $(KIT)/c/liblibc_c.a
 deb: out/applystream
 	packaging/deb
-check:
-	./check
-clean:
-	rm -rf out crates/*/out
+check:; ./check
+clean:; rm -rf out crates/*/out
 FORCE:
 .PHONY: FORCE install static deb check clean
 .DELETE_ON_ERROR:

@@ -191,16 +191,16 @@ def disorder(printed, wanted, plan, whole):
     return None
 
 
-def mistake(found, wanted, plan, in_order, own=frozenset()):
+def mistake(found, wanted, plan, in_order, own=frozenset(), unwritten=OUTPUT):
     """What is wrong with how a run ended in which something was refused, beside one in which nothing was; or nothing.
-    The allocations in `own` are threads' own."""
+    The allocations in `own` are threads' own, and `unwritten` has to be said of an output that could not be written."""
     met = met_first(found.told, own)
     if (found.status, found.said) == (wanted.status, wanted.said):
         # It could do without, or nothing was refused.
         if in_order:
             return None if found.printed == wanted.printed else "another stream"
         return disorder(found.printed, wanted.printed, plan, whole=True) if wanted.printed else None
-    if met is None or found.status != 3 or found.said != SAID[met]:
+    if met is None or found.status != 3 or found.said != (unwritten if met == "output" else SAID[met]):
         return f"status {found.status} and {found.said!r} where {met} was refused first"
     if met in ("thread", "memory_of_thread") and found.printed:
         return "something was printed though a thread was refused"

@@ -5,6 +5,10 @@ _applystream() {
     COMPREPLY=($(compgen -W "--json --find --plan --help" -- "$word") $(compgen -f -- "$word"))
     return
   fi
+  if [ "${COMP_WORDS[1]}" = play ] && [ "$COMP_CWORD" -gt 1 ]; then
+    COMPREPLY=($(compgen -W "--speed --help" -- "$word") $(compgen -f -- "$word"))
+    return
+  fi
   case $before in
     --at) return ;;
     --script) COMPREPLY=($(compgen -f -- "$word")); return ;;
@@ -15,7 +19,7 @@ _applystream() {
     --parallelism) return ;;
   esac
   local words="--at --script --workers --queue --destroy --halt-before --halt-in --parallelism --help --version"
-  [ "$COMP_CWORD" != 1 ] || words+=" check"
+  [ "$COMP_CWORD" != 1 ] || words+=" check play"
   COMPREPLY=($(compgen -W "$words" -- "$word"))
 }
 complete -o filenames -F _applystream applystream

@@ -4,7 +4,7 @@ use Rattle.std.specs.Prelude.{◌&&◌}
 use Rattle.std.specs.List.{range_with_len}
 use Rattle.std.proofs.lemmas.Bool.{and_parts, leb-true, ltb-true}
 use Rattle.std.proofs.lemmas.List.Sums.{sum_by-cons}
-use Rattle.apply_plan.specs.declared.script.provisioner.Provisioner.{Provisioner}
+use Rattle.apply_model.specs.declared.script.provisioner.Provisioner.{Provisioner}
 use Rattle.apply_plan.specs.Script.Outcome.{has_failed, seconds_of_all}
 use Rattle.apply_check.specs.declared.messages.action.Action.{Action}
 use Rattle.apply_check.specs.declared.messages.action.Action.TheVariants.{Create}

@@ -6,7 +6,7 @@ use Rattle.std.proofs.lemmas.Bool.{cases_Bool}
 use Rattle.std.proofs.lemmas.List.Sums.{sum_by-append, sum_by-cons}
 use Rattle.serde_json.specs.Data.{Data}
 use Rattle.serde_json.specs.Written.{compact_text}
-use Rattle.apply_plan.specs.declared.plan.step_kind.StepKind.{StepKind}
+use Rattle.apply_model.specs.declared.plan.step_kind.StepKind.{StepKind}
 use Rattle.apply_plan.specs.Plan.ResourceChange.{ResourceChange}
 use Rattle.apply_plan.specs.Plan.SavedPlan.{SavedPlan}
 use Rattle.apply_plan.specs.Script.OutcomeMap.{OutcomeMap, outcome_of}
@@ -14,10 +14,10 @@ use Rattle.apply_check.specs.declared.rules.fault.Fault.{Fault}
 use Rattle.apply_check.specs.declared.rules.fault.Fault.TheVariants.{NotJson, TooLong}
 use Rattle.apply_check.specs.declared.verdict.finding.Finding.{Finding}
 use Rattle.apply_check.specs.declared.verdict.whole.Whole.{Whole}
-use Rattle.apply_check.specs.Cut as cut
-use Rattle.apply_check.specs.Cut.{onto_first}
+use Rattle.apply_lines.specs.Cut as cut
+use Rattle.apply_lines.specs.Cut.{onto_first}
 use Rattle.apply_json.specs.Tree.{tree_of}
-use Rattle.apply_check.specs.Limits.{max_bytes}
+use Rattle.apply_lines.specs.Limits.{max_bytes}
 use Rattle.apply_check.specs.Lines.{at_line, end_of, line_message, tree_message, next, read_line, read_tree, verdict_behind, verdict_of}
 use Rattle.apply_check.specs.Message.{Message}
 use Rattle.apply_check.specs.Results.{◌>>=◌, or_refuse}

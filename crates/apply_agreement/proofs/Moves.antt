@@ -14,9 +14,10 @@ use Rattle.apply_check.specs.Lines.{next}
 use Rattle.apply_check.specs.Message.{Message, step, provision, diagnostic}
 use Rattle.apply_check.specs.Standing.{explained, pending_at, provision_on, standing_of, step_on}
 use Rattle.apply_check.specs.Words.{same_action}
+use Rattle.apply_check.proofs.Actions.{same_is}
 use Rattle.apply_agreement.proofs.Fitting.{MatchesPending, fits_same, something_open}
 use Rattle.apply_agreement.proofs.Phases.{IsProvisioning, Phase, between, under_way, unexplained, put, put_elsewhere, put_here, seconds_in, shown, shown_same}
-use Rattle.apply_agreement.proofs.Standings.{IsAmid, IsNoFailure, diagnostic_elsewhere, diagnostic_there, explained_keeps, failures_same, next_diagnostic, next_provision, next_step, pending_other, pending_same, pending_still, provision_elsewhere, provision_there, provisioner_in, provisioner_kept, provisioner_same, same_is, same_itself, same_text, step_elsewhere, step_in, step_is, step_there}
+use Rattle.apply_agreement.proofs.Standings.{IsAmid, IsNoFailure, diagnostic_elsewhere, diagnostic_there, explained_keeps, failures_same, next_diagnostic, next_provision, next_step, pending_other, pending_same, pending_still, provision_elsewhere, provision_there, provisioner_in, provisioner_kept, provisioner_same, same_itself, same_text, step_elsewhere, step_in, step_is, step_there}
 
 -- after the messages the checker stands, at each address of some, where the changes below the limit stand
 pub record Agrees (limit : ℕ) (addresses : ℕ → List ℕ) (Within : List ℕ → Type 0) (Does : ℕ → Action → Type 0) (phases : ℕ → Phase) (ms : List Message) : Type 0 where

@@ -10,10 +10,10 @@ use Rattle.serde_json.specs.Events.{items_len}
 use Rattle.serde_json.specs.Find.{as_array, as_i64}
 use Rattle.apply_json.specs.Tree as json
 use Rattle.apply_json.specs.Tree.{is_word, items_or_empty, list_of, member_of, non_empty_text_of, text_of, text_or}
-use Rattle.apply_plan.specs.declared.plan.key.Key.TheVariants as key
+use Rattle.apply_model.specs.declared.plan.key.Key.TheVariants as key
 use Rattle.apply_plan.specs.declared.plan.plan_error.PlanError.TheVariants.{TooLarge, NotJson, NotAPlan, TooMany, BadChange, BadActions, BadAddress, Duplicate}
-use Rattle.apply_plan.specs.declared.plan.step_kind.StepKind.{StepKind}
-use Rattle.apply_plan.specs.declared.plan.step_kind.StepKind.TheVariants.{Create, Update, Delete, Read}
+use Rattle.apply_model.specs.declared.plan.step_kind.StepKind.{StepKind}
+use Rattle.apply_model.specs.declared.plan.step_kind.StepKind.TheVariants.{Create, Update, Delete, Read}
 use Rattle.apply_plan.specs.Bytes.{of_bytes}
 use Rattle.apply_plan.specs.Plan.Address.{relative_address}
 use Rattle.apply_plan.specs.Plan.Element.{Element, element_of, hides_id, key_of, mode_named, planned_change_of, prior_id_of}

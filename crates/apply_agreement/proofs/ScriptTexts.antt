@@ -6,11 +6,11 @@ use Rattle.std.proofs.lemmas.Str.{IsUtf8-nil}
 use Rattle.serde_json.specs.Data.{Data}
 use Rattle.serde_json.specs.Find.{as_array, as_str}
 use Rattle.apply_json.specs.Tree.{items_or_empty, list_of, member_of, non_empty_text_of, text_of, text_or, unless_empty}
-use Rattle.apply_plan.specs.declared.script.diag.Diag.{Diag}
-use Rattle.apply_plan.specs.declared.script.ending.Ending.{Ending}
-use Rattle.apply_plan.specs.declared.script.ending.Ending.TheVariants.{Done, Failed}
-use Rattle.apply_plan.specs.declared.script.outcome.Outcome.{Outcome}
-use Rattle.apply_plan.specs.declared.script.provisioner.Provisioner.{Provisioner}
+use Rattle.apply_model.specs.declared.script.diag.Diag.{Diag}
+use Rattle.apply_model.specs.declared.script.ending.Ending.{Ending}
+use Rattle.apply_model.specs.declared.script.ending.Ending.TheVariants.{Done, Failed}
+use Rattle.apply_model.specs.declared.script.outcome.Outcome.{Outcome}
+use Rattle.apply_model.specs.declared.script.provisioner.Provisioner.{Provisioner}
 use Rattle.apply_plan.specs.declared.script.script_error.ScriptError.{ScriptError}
 use Rattle.apply_plan.specs.declared.script.script_error.ScriptError.TheVariants.{TooLarge, NotJson, BadShape, UnknownChange, Duplicate}
 use Rattle.apply_plan.specs.Bytes.{of_bytes}
@@ -23,7 +23,7 @@ use Rattle.apply_plan.specs.Script.OutcomeMap.{OutcomeMap, by_number, change_of_
 use Rattle.apply_plan.specs.Script.Refusals.{fault_of_steps}
 use Rattle.apply_plan.proofs.Scripts.Limits.{none_is_bounded}
 use Rattle.apply_agreement.specs.Texts.{HasDiagTexts}
-use Rattle.apply_agreement.proofs.Given.{AreAnswers, all_given, any_given, each_answered, each_held, held_at, is_answered, mapped, next_of, refused_or, then_of}
+use Rattle.apply_agreement.proofs.Given.{AreAnswers, all_given, any_given, each_answered, each_held, gone_on, held_at, is_answered, mapped, next_of, refused_or, then_of}
 use Rattle.apply_agreement.proofs.Legible.{AreLegible, IsLegible}
 use Rattle.apply_agreement.proofs.LookUps.{array_legible, filled_utf8, items_legible, list_legible, member_legible, non_empty_utf8, str_utf8, text_or_utf8, text_utf8}
 use Rattle.apply_agreement.proofs.ReadBytes.{made_of_bytes}
@@ -165,10 +165,9 @@ by_number_said low (suc n) c entries h = (said_by entries low h, by_number_said 
 entries_readable : (count : ℕ) (entries : List (ℕ × List Outcome)) → AllByRecursion AreSaid entries → IsReadableScript (by_number count entries)
 entries_readable count entries h c k =
     let script = by_number count entries in
-    next_of (AllByRecursion IsSaid) IsSaid (said_at script c) _
-    (next_of (λ said. IfSome said (AllByRecursion IsSaid)) (AllByRecursion IsSaid) (slice_get script c) (λ said. said)
-    (held_at (λ said. IfSome said (AllByRecursion IsSaid)) script c (by_number_said 0 count c entries h)) (λ said all. all))
-    (λ outcomes all. held_at IsSaid outcomes k all)
+    gone_on (AllByRecursion IsSaid) IsSaid _ (said_at script c) (λ outcomes all. held_at IsSaid outcomes k all)
+    (gone_on (λ said. IfSome said (AllByRecursion IsSaid)) (AllByRecursion IsSaid) (λ said. said) (slice_get script c) (λ said all. all)
+    (held_at (λ said. IfSome said (AllByRecursion IsSaid)) script c (by_number_said 0 count c entries h)))
 
 all_entries : (plan : SavedPlan) (elements : List Data) → AllByRecursion IsLegible elements → IfOk (script_of_entries plan elements) IsReadableScript
 unfolding script_of_entries

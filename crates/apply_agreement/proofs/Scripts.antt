@@ -1,19 +1,18 @@
 -- A script that was read has provisioners at creates alone.
 use Rattle.std.proofs.Common.{◌≡◌, ◌≢◌, ℕ, zero, suc, ◌+◌, ◌==◌, List, [], ◌∷◌, length, map, find, Bool, true, false, cond, Option, Some, None, Result, Ok, Err, refl, sym, ap, ◌∙◌, subst, ◌⊎◌, inl, inr, ⊎_elim, slice_get, unwrap_or, option_map, take, arith}
-use Rattle.std.specs.Prelude.{◌&&◌, ◌||◌, nat_lt}
+use Rattle.std.specs.Prelude.{◌&&◌, ◌||◌, nat_lt, option_and_then}
 use Rattle.std.specs.List.{AllByRecursion, enumerate_from, list_any, range_with_len, zip}
 use Rattle.std.specs.Option.{option_map_or}
 use Rattle.std.proofs.lemmas.Bool.{both_ways, lt-ltb}
 use Rattle.std.proofs.lemmas.Bool.Decides.{eqb_tells}
 use Rattle.std.proofs.lemmas.Option.{same_Some}
 use Rattle.serde_json.specs.Data.{Data, Items}
-use Rattle.apply_plan.specs.declared.plan.step_kind.StepKind.{StepKind}
-use Rattle.apply_plan.specs.declared.plan.step_kind.StepKind.TheVariants.{Create, Update, Delete, Read}
-use Rattle.apply_plan.specs.declared.script.outcome.Outcome.{Outcome}
-use Rattle.apply_plan.specs.declared.script.provisioner.Provisioner.{Provisioner}
+use Rattle.apply_model.specs.declared.plan.step_kind.StepKind.{StepKind}
+use Rattle.apply_model.specs.declared.plan.step_kind.StepKind.TheVariants.{Create, Update, Delete, Read}
+use Rattle.apply_model.specs.declared.script.outcome.Outcome.{Outcome}
+use Rattle.apply_model.specs.declared.script.provisioner.Provisioner.{Provisioner}
 use Rattle.apply_plan.specs.declared.script.script_error.ScriptError.{ScriptError}
 use Rattle.apply_plan.specs.declared.script.script_error.ScriptError.TheVariants.{TooLarge, NotJson, BadShape, UnknownChange, Duplicate, TooManySteps, SecondsRange, TooManyProvisioners, TooMuchOutput, NotACreate}
-use Rattle.apply_json.specs.Tree as json
 use Rattle.apply_json.specs.Tree.{list_of, tree_of}
 use Rattle.apply_plan.specs.Bytes.{max_bytes}
 use Rattle.apply_plan.specs.Plan.ResourceChange.{ResourceChange}
@@ -164,7 +163,7 @@ number_at {X} g low (suc n) (suc c) =
 
 -- the step's outcome, by what stands at the change's number
 abbrev outcome_at : Option (Option (List Outcome)) → ℕ → Outcome
-outcome_at o k = unwrap_or (json.◌>>=◌ (json.◌>>=◌ o (λ said. said)) (λ outcomes. slice_get outcomes k)) default_outcome
+outcome_at o k = unwrap_or (option_and_then (λ outcomes. slice_get outcomes k) (option_and_then (λ said. said) o)) default_outcome
 
 said_has_none : (plan : SavedPlan) (entries : List (ℕ × List Outcome)) (c k : ℕ) (kind : StepKind) (said : Option (List Outcome)) → AllByRecursion (Suits plan.changes) entries → said_of entries c ≡ said
     → slice_get (kinds_of plan c) k ≡ Some kind → kind ≢ Create → (outcome_at (Some said) k).provisioners ≡ []

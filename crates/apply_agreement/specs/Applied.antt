@@ -2,8 +2,8 @@
 use Rattle.std.specs.Prelude.{ℕ, ◌+◌, ◌≤◌, List, false, length, nat_lt, None}
 use Rattle.std.specs.List.{AllByRecursion}
 use Rattle.apply_check.specs.declared.verdict.whole.Whole.{Whole}
-use Rattle.apply_check.specs.Cut.{cut_lines}
-use Rattle.apply_check.specs.Limits.{max_bytes}
+use Rattle.apply_lines.specs.Cut.{cut_lines}
+use Rattle.apply_lines.specs.Limits.{max_bytes}
 use Rattle.apply_run.specs.declared.report.Report.{Report}
 use Rattle.apply_agreement.specs.Accepted.{totals_said}
 

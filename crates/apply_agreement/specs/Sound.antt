@@ -3,7 +3,7 @@ use Rattle.std.specs.Prelude.{◌<◌, ◌≤◌, ◌^◌, List, length, pos, ne
 use Rattle.std.specs.List.{AllByRecursion}
 use Rattle.serde_json.specs.Data.{Num, unsigned, negative, float, Data, null, boolean, number, string, array, object, Items, no_items, item, Members, no_members, member}
 use Rattle.serde_json.specs.Written.{compact_text}
-use Rattle.apply_check.specs.Limits.{max_bytes}
+use Rattle.apply_lines.specs.Limits.{max_bytes}
 
 abbrev pub FitsBits : Num → Type 0
 FitsBits (unsigned n) = n < 2 ^ 64

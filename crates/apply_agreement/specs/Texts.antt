@@ -1,8 +1,8 @@
 -- Plans and scripts whose texts are UTF-8, and events whose numbers fit 64 bits.
 use Rattle.std.specs.Prelude.{ℕ, ◌<◌, ◌^◌, List, IsUtf8, IfSome, ⊤}
 use Rattle.std.specs.List.{AllByRecursion}
-use Rattle.apply_plan.specs.declared.script.diag.Diag.{Diag}
-use Rattle.apply_plan.specs.declared.script.outcome.Outcome.{Outcome}
+use Rattle.apply_model.specs.declared.script.diag.Diag.{Diag}
+use Rattle.apply_model.specs.declared.script.outcome.Outcome.{Outcome}
 use Rattle.apply_plan.specs.Plan.Address.{provider_of}
 use Rattle.apply_plan.specs.Plan.ResourceChange.{ResourceChange, resource_of}
 use Rattle.apply_plan.specs.Plan.SavedPlan.{SavedPlan}

@@ -1,8 +1,8 @@
 -- What the messages of events tell a checker of streams.
 use Rattle.std.specs.Prelude.{ℕ, List, [], ◌∷◌, true, false, Some, flat_map, slice_get}
 use Rattle.std.specs.Option.{option_map_or}
-use Rattle.apply_plan.specs.declared.plan.step_kind.StepKind.{StepKind}
-use Rattle.apply_plan.specs.declared.plan.step_kind.StepKind.TheVariants as kind
+use Rattle.apply_model.specs.declared.plan.step_kind.StepKind.{StepKind}
+use Rattle.apply_model.specs.declared.plan.step_kind.StepKind.TheVariants as kind
 use Rattle.apply_plan.specs.Plan.SavedPlan.{SavedPlan}
 use Rattle.apply_check.specs.declared.messages.action.Action.{Action}
 use Rattle.apply_check.specs.declared.messages.action.Action.TheVariants as action

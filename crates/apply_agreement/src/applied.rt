@@ -6,7 +6,7 @@ ghost use Rattle.std.specs.Prelude.{◌≡◌, ◌≤◌, ℕ, Bool, List, [], S
 ghost use Rattle.apply_plan.specs.Plan.SavedPlan.{SavedPlan};
 ghost use Rattle.apply_plan.specs.Script.OutcomeMap.{OutcomeMap};
 ghost use Rattle.apply_hooks.specs.Hooks.{max_hooks};
-ghost use Rattle.apply_check.specs.Cut.{cut_lines};
+ghost use Rattle.apply_lines.specs.Cut.{cut_lines};
 ghost use Rattle.apply_check.specs.Lines.{verdict_of};
 ghost use Rattle.apply_events.specs.declared.event.Event.{Event};
 ghost use Rattle.apply_events.specs.Interleaving.{IsInterleaving};

@@ -3,12 +3,12 @@
 
 ghost use Rattle.std.specs.Prelude.{◌≡◌, ◌<◌, ◌^◌, ℕ, All, Bool, List, [], length, slice_index_or, Ok};
 ghost use Rattle.std.specs.List.{AllByRecursion};
-ghost use Rattle.apply_plan.specs.declared.plan.step_kind.StepKind.{StepKind};
-ghost use Rattle.apply_plan.specs.declared.script.outcome.Outcome.{Outcome};
+ghost use Rattle.apply_model.specs.declared.plan.step_kind.StepKind.{StepKind};
+ghost use Rattle.apply_model.specs.declared.script.outcome.Outcome.{Outcome};
 ghost use Rattle.apply_plan.specs.Plan.ResourceChange.{ResourceChange};
 ghost use Rattle.apply_plan.specs.Plan.SavedPlan.{SavedPlan};
 ghost use Rattle.apply_plan.specs.Script.OutcomeMap.{IsInRange, OutcomeMap, script_of};
-ghost use Rattle.apply_check.specs.Cut.{cut_lines};
+ghost use Rattle.apply_lines.specs.Cut.{cut_lines};
 ghost use Rattle.apply_check.specs.Lines.{tree_message, verdict_of};
 ghost use Rattle.apply_events.specs.declared.event.Event.{Event};
 ghost use Rattle.apply_events.specs.declared.what.What.{What};

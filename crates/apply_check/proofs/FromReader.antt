@@ -8,8 +8,8 @@ use Rattle.apply_check.specs.declared.rules.fault.Fault.{Fault}
 use Rattle.apply_check.specs.declared.rules.fault.Fault.TheVariants.{Memory, NoApply, NoEnd, TooLong, Unended}
 use Rattle.apply_check.specs.declared.rules.mode.Mode.{Mode}
 use Rattle.apply_check.specs.declared.verdict.finding.Finding.{Finding}
-use Rattle.apply_check.specs.declared.lines.line_end.LineEnd.{LineEnd}
-use Rattle.apply_check.specs.declared.lines.line_end.LineEnd.TheVariants as next
+use Rattle.apply_lines.specs.declared.line_end.LineEnd.{LineEnd}
+use Rattle.apply_lines.specs.declared.line_end.LineEnd.TheVariants as next
 use Rattle.apply_check.specs.declared.verdict.read_fault.ReadFault.{ReadFault}
 use Rattle.apply_check.specs.declared.verdict.read_fault.ReadFault.TheVariants as read
 use Rattle.apply_check.specs.declared.verdict.whole.Whole.{Whole}
@@ -17,7 +17,7 @@ use Rattle.apply_check.specs.declared.rules.checker.Checker.{Checker}
 use Rattle.apply_check.specs.declared.command.told.Told.{Told}
 use Rattle.apply_check.specs.About.{about_line, object_view}
 use Rattle.apply_check.specs.Checking.{HasRead}
-use Rattle.apply_check.specs.Cut.{behind_lines, first_line, has_feed, cut_lines, feed_at, line_at}
+use Rattle.apply_lines.specs.Cut.{behind_lines, first_line, has_feed, cut_lines, feed_at, line_at}
 use Rattle.apply_check.specs.Faults.{is_no_json, tells_front, tells_line, tells_object}
 use Rattle.apply_check.specs.Judged.{judged, judged_behind, Stops, StopsAt}
 use Rattle.apply_check.specs.Lines.{at_line, end_of, is_plan_stream, passed_of, read_line, verdict_behind, verdict_of, whole_of, whole_plan_of}
@@ -26,7 +26,8 @@ use Rattle.apply_check.specs.Tally.{is_error, is_summary}
 use Rattle.apply_check.specs.Telling.{IsToldOf}
 use Rattle.apply_check.specs.Unended.{AreAllOpen}
 use Rattle.apply_check.specs.Message.{Message}
-use Rattle.apply_check.specs.Reading.{Gives, IsAnswer, IsFaultAt, IsNoAnswer}
+use Rattle.apply_lines.specs.Reading.{Gives}
+use Rattle.apply_check.specs.Reading.{IsAnswer, IsFaultAt, IsNoAnswer}
 use Rattle.apply_check.proofs.Cut.{cut_first}
 use Rattle.apply_check.proofs.OneLine.{too_long}
 use Rattle.apply_check.proofs.WholeStream.{finding_at, goes_on, is_done, is_faulty, one_more}

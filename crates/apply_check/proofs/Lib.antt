@@ -5,7 +5,6 @@ pub mod Continuing
 pub mod Counting
 pub mod Cut
 pub mod Doubling
-pub mod Feeds
 pub mod Floats
 pub mod FromReader
 pub mod Held
@@ -14,6 +13,7 @@ pub mod Marks
 pub mod OneLine
 pub mod OpenSteps
 pub mod Parsed
+pub mod Progress
 pub mod Summaries
 pub mod Summing
 pub mod Trimmed

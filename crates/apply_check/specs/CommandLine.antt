@@ -1,8 +1,8 @@
 -- What the words behind `check` say, and what is done: the options that there are, as `clap` takes them, and which of
 -- them gives which setting.
-use Rattle.std.specs.Prelude.{◌≡◌, ◌⊎◌, ⊤, ℕ, List, [], ◌∷◌, if◌then◌else◌, Option, Some, None, IfSome, IsSome, Result, true, false, codes, option_map, string_bytes}
+use Rattle.std.specs.Prelude.{◌≡◌, ◌⊎◌, ⊤, ℕ, List, [], ◌∷◌, if◌then◌else◌, Option, Some, None, IfErr, IfSome, OnOk, IsSome, Result, true, false, codes, option_map, string_bytes}
 use Rattle.std.specs.Str.{bytes_eq}
-use Rattle.std.specs.Io.KnownBytes.{Keeps}
+use Rattle.std.specs.Io.KnownBytes.{IsAtEnd, Keeps}
 use Rattle.clap.specs.Faults.{fault_of}
 use Rattle.clap.specs.Kinds.{IsAmong}
 use Rattle.clap.specs.Simple.{App, matches_of, new_rule, new_shape}
@@ -10,7 +10,7 @@ use Rattle.clap.specs.Walk.{Row, Rule, Text, first_of, one_of}
 use Rattle.clap.specs.declared.builder.action.ArgAction.TheVariants.{SetTrue}
 use Rattle.clap.specs.declared.error.kind.ErrorKind.{ErrorKind}
 use Rattle.clap.specs.declared.error.kind.ErrorKind.TheVariants.{DisplayHelp, OutOfMemory}
-use Rattle.apply_check.specs.Cut.{cut_lines}
+use Rattle.apply_lines.specs.Cut.{cut_lines}
 use Rattle.apply_check.specs.Reading.{IsAnswer}
 use Rattle.apply_check.specs.Telling.{IsTold}
 use Rattle.apply_check.specs.declared.command.followed.Followed.{Followed}
@@ -102,9 +102,10 @@ IsGivenBy remaining input None given = given ≡ input
 IsGivenBy {File = File} remaining input (Some name) given = (file : File) × (given ≡ remaining file)
 
 -- a stream was checked as the words say, and the answer is told: the stream of the input where they name no file, else
--- that of a file; what such a file has to give, `remaining` says
+-- that of a file; what such a file has to give, `remaining` says. Behind what is not whole, the input was read to its end:
+-- `left` is what it has left
 pub record WasChecked {File : Type 0} (remaining : File → Option (List ℕ)) (words : List Text)
-    (input before after : Option (List ℕ)) (followed : Followed) : Type 0 where
+    (input left before after : Option (List ℕ)) (followed : Followed) : Type 0 where
   pub settings : Settings
   pub said : HaveSaid words settings
   pub answer : Result Whole ReadFault
@@ -113,6 +114,7 @@ pub record WasChecked {File : Type 0} (remaining : File → Option (List ℕ)) (
   pub given : IsGivenBy remaining input settings.file bytes
   pub judged : IfSome bytes (λ bytes. IsAnswer settings.mode (cut_lines bytes) answer)
   pub told : IsTold settings.mode bytes settings.form answer followed.status before after
+  pub read : settings.file ≡ None → IfErr answer (λ fault. OnOk followed.rest (IsAtEnd left))
 
 -- they name a file
 pub record NameAFile (words : List Text) : Type 0 where

@@ -7,7 +7,7 @@ use Rattle.apply_check.specs.declared.verdict.read_fault.ReadFault.{ReadFault}
 use Rattle.apply_check.specs.declared.verdict.read_fault.ReadFault.TheVariants as read
 use Rattle.apply_check.specs.declared.verdict.whole.Whole.{Whole}
 use Rattle.apply_check.specs.Checking.{HasRead}
-use Rattle.apply_check.specs.Cut.{cut_lines, feed_at, line_at}
+use Rattle.apply_lines.specs.Cut.{cut_lines, feed_at, line_at}
 use Rattle.apply_check.specs.Faults.{tells_line}
 use Rattle.apply_check.specs.Lines.{read_line}
 use Rattle.apply_check.specs.Message.{Message}

@@ -4,7 +4,6 @@ pub mod Checking
 pub mod CommandLine
 pub mod Counted
 pub mod Course
-pub mod Cut
 pub mod Faults
 pub mod Found
 pub mod Intents

@@ -1,10 +1,6 @@
 -- How much is read.
 use Rattle.std.specs.Prelude.{ℕ}
 
--- the greatest size of a line, 64 MiB
-abbrev pub max_bytes : ℕ
-max_bytes = 67108864
-
 -- the greatest number of lines
 abbrev pub max_lines : ℕ
 max_lines = 4294967296

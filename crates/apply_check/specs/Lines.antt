@@ -13,7 +13,7 @@ use Rattle.apply_check.specs.declared.rules.mode.Mode.{Mode}
 use Rattle.apply_check.specs.declared.verdict.finding.Finding.{Finding}
 use Rattle.apply_check.specs.declared.verdict.whole.Whole.{Whole}
 use Rattle.apply_check.specs.Counted.{is_used_up}
-use Rattle.apply_check.specs.Limits.{max_bytes}
+use Rattle.apply_lines.specs.Limits.{max_bytes}
 use Rattle.apply_check.specs.Found.{from_mark, through_brace}
 use Rattle.apply_check.specs.Message.{Message, version, step, provision, planned, plan_summary, summary, diagnostic, outputs, other, foreign, typed_message}
 use Rattle.apply_check.specs.Open.{any_open}

@@ -15,7 +15,7 @@ use Rattle.apply_check.specs.declared.verdict.whole.Whole.{Whole}
 use Rattle.apply_check.specs.declared.rules.fault.Fault.TheVariants.{Unended}
 use Rattle.apply_check.specs.declared.rules.mode.Mode.{Mode}
 use Rattle.apply_check.specs.About.{about_line, object_view}
-use Rattle.apply_check.specs.Cut.{cut_lines, feed_at, line_at}
+use Rattle.apply_lines.specs.Cut.{cut_lines, feed_at, line_at}
 use Rattle.apply_check.specs.Faults.{is_no_json, tells_front, tells_object}
 use Rattle.apply_check.specs.Judged.{judged}
 use Rattle.apply_check.specs.Objects.{with_whole}

@@ -8,6 +8,7 @@ mod messages;
 mod rules;
 mod verdict;
 
+pub use apply_lines::{FailedRead, Line, drop_rest};
 pub use command::arguments::read_words;
 pub use command::checked::Checked;
 pub use command::followed::Followed;
@@ -16,9 +17,6 @@ pub use command::form::Form;
 pub use command::refusals::answer_usage;
 pub use command::settings::Settings;
 pub use command::usage::Usage;
-pub use lines::failed_read::FailedRead;
-pub use lines::line::Line;
-pub use lines::rest::drop_rest;
 pub use messages::action::Action;
 pub use messages::lack::Lack;
 pub use messages::path::Path;

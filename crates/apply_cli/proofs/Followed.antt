@@ -1,5 +1,5 @@
 -- From a run of settings to the words that say them.
-use Rattle.std.proofs.Common.{◌≡◌, ◌⊎◌, inl, inr, ⊎_elim, ℕ, List, Option, Some, None, ap, subst, sym}
+use Rattle.std.proofs.Common.{◌≡◌, ◌⊎◌, inl, inr, ⊎_elim, ℕ, List, Option, Some, None, false, ap, subst, sym}
 use Rattle.std.specs.Io.KnownBytes.{Keeps}
 use Rattle.clap.specs.Walk.{Text}
 use Rattle.apply_run.specs.Bytes.{Given}
@@ -27,7 +27,7 @@ none_failed given settings (Some lanes) before after status h =
 -- a run of the invocation that the words say, to its end, over an output that was new
 pub followed : {W : Type 0} (contents : W → Option (List ℕ)) (words : List Text) (invocation : Invocation) (input : Option (List ℕ))
     (output result : W) (first last : OverWriter W) (status : ℕ)
-    → IsOfWords words invocation → first ≡ record { writer = output; failures = 0 } → result ≡ last.writer
+    → IsOfWords words invocation → first ≡ record { writer = output; failures = 0; is_reader_gone = false } → result ≡ last.writer
     → OfInput input (λ plan. OfFile invocation.settings.script (λ script.
     HasAppliedAsAsked (given_of invocation.settings plan script) invocation.settings invocation.parallelism
     (sight_of contents first) (sight_of contents last) status))
@@ -48,7 +48,7 @@ followed {W} contents words invocation input output result first last status is_
 -- and one that was cut off
 pub followed_in_part : {W : Type 0} (contents : W → Option (List ℕ)) (words : List Text) (invocation : Invocation) (input : Option (List ℕ))
     (output result : W) (first last : OverWriter W)
-    → IsOfWords words invocation → first ≡ record { writer = output; failures = 0 } → result ≡ last.writer
+    → IsOfWords words invocation → first ≡ record { writer = output; failures = 0; is_reader_gone = false } → result ≡ last.writer
     → Keeps (contents first.writer) (contents last.writer) ⊎ OfInput input (λ plan. OfFile invocation.settings.script (λ script.
     HasBegunAsAsked (given_of invocation.settings plan script) invocation.settings invocation.parallelism
     (sight_of contents first) (sight_of contents last)))

@@ -12,10 +12,10 @@ use Rattle.clap.specs.declared.builder.command.Command.{Command}
 use Rattle.clap.specs.declared.builder.value_parser.ValueParser.{ValueParser}
 use Rattle.clap.specs.declared.error.Error.{Error}
 use Rattle.clap.specs.declared.error.kind.ErrorKind.{ErrorKind}
-use Rattle.clap.specs.declared.error.kind.ErrorKind.TheVariants.{DisplayHelp, OutOfMemory}
+use Rattle.clap.specs.declared.error.kind.ErrorKind.TheVariants.{DisplayHelp, DisplayVersion, OutOfMemory}
 use Rattle.clap.specs.declared.parser.matches.ArgMatches.{ArgMatches}
 use Rattle.clap.proofs.OnLiterals.{clap_on_literals}
-use Rattle.apply_cli.specs.CommandLine.{Answers, AreSaid, AreSaidWrong, AskForHelp, AskForHelpAlone, HasCause, HaveSaid, IsOneOf, IsSaidWrong, WereRefused, command_line, kind_words, settings_line}
+use Rattle.apply_cli.specs.CommandLine.{Answers, AreSaid, AreSaidWrong, AskAlone, AskForHelp, AskForHelpAlone, AskForVersionToo, HasCause, HaveSaid, IsOneOf, IsSaidWrong, WereRefused, command_line, kind_words, settings_line}
 use Rattle.apply_cli.specs.Invocation.{HaveInvoked, IsInvoked}
 use Rattle.apply_cli.specs.Status.{usage_status_of}
 use Rattle.apply_cli.specs.declared.invocation.Invocation.{Invocation}
@@ -38,118 +38,154 @@ unfolding clap_on_literals
 settings_line_is_simple = record { simple = λ kinds. refl; free = λ kinds. refl }
 
 -- a parse by one of our commands, and what is known of it
-pub record IsParse (line : ValueParser → App) (command : Command) (kinds : ValueParser) (words : List Text) (parse : Result ArgMatches Error) : Type 0 where
+pub record IsParse (line : ValueParser → App) (command : Command) (words : List Text) (parse : Result ArgMatches Error) : Type 0 where
   pub of_simple : IsSimple line
+  pub kinds : ValueParser
   pub are_kinds : IsOneOf kind_words kinds
   pub is_line : app_of command ≡ line kinds
   pub fails : is_simple_and_free (app_of command) ≡ true → FailsBy (fault_of (app_of command) words) parse
 
-faults_are : (line : ValueParser → App) (command : Command) (kinds : ValueParser) (words : List Text) (parse result : Result ArgMatches Error)
-    → IsParse line command kinds words parse → parse ≡ result → FailsBy (fault_of (line kinds) words) result
-faults_are line command kinds words parse result is same =
-    subst (FailsBy (fault_of (line kinds) words)) same
-    (subst (λ (app : App). FailsBy (fault_of app words) parse) is.is_line (is.fails (ap is_simple_and_free is.is_line ∙ is.of_simple.free kinds)))
+-- by what the maker of the command promises, and what `clap` does
+pub is_parse : (line : ValueParser → App) (command : Command) (words : List Text) (parse : Result ArgMatches Error)
+    → IsSimple line → (kinds : ValueParser) × IsOneOf kind_words kinds × (app_of command ≡ line kinds)
+    → (is_simple_and_free (app_of command) ≡ true → FailsBy (fault_of (app_of command) words) parse) → IsParse line command words parse
+is_parse line command words parse of_simple made fails =
+    record { of_simple = of_simple; kinds = made.0; are_kinds = made.1; is_line = made.2; fails = fails }
 
-rows_are : (line : ValueParser → App) (command : Command) (kinds : ValueParser) (words : List Text) (parse : Result ArgMatches Error) (matches : ArgMatches)
-    → IsParse line command kinds words parse → HasMatchesOf (app_of command) words matches
-    → rows_of (found_of matches) ≡ matches_of (line kinds) words
-rows_are line command kinds words parse matches is has =
-    (has (ap is_simple is.is_line ∙ is.of_simple.simple kinds)).0 ∙ ap (λ (app : App). matches_of app words) is.is_line
+faults_are : {line : ValueParser → App} {command : Command} {words : List Text} {parse : Result ArgMatches Error} (result : Result ArgMatches Error)
+    → (is : IsParse line command words parse) → parse ≡ result → FailsBy (fault_of (line is.kinds) words) result
+faults_are {line} {command} {words} {parse} result is same =
+    subst (FailsBy (fault_of (line is.kinds) words)) same
+    (subst (λ (app : App). FailsBy (fault_of app words) parse) is.is_line (is.fails (ap is_simple_and_free is.is_line ∙ is.of_simple.free is.kinds)))
+
+rows_are : {line : ValueParser → App} {command : Command} {words : List Text} {parse : Result ArgMatches Error} (matches : ArgMatches)
+    → (is : IsParse line command words parse) → HasMatchesOf (app_of command) words matches
+    → rows_of (found_of matches) ≡ matches_of (line is.kinds) words
+rows_are {line} {command} {words} {parse} matches is has =
+    (has (ap is_simple is.is_line ∙ is.of_simple.simple is.kinds)).0 ∙ ap (λ (app : App). matches_of app words) is.is_line
 
 -- settings that the matches say are those that the words say
-pub have_said : (command : Command) (kinds : ValueParser) (words : List Text) (parse : Result ArgMatches Error) (matches : ArgMatches) (settings : Result Settings Usage)
-    → IsParse settings_line command kinds words parse → parse ≡ Ok matches → HasMatchesOf (app_of command) words matches
+pub have_said : {command : Command} {words : List Text} {parse : Result ArgMatches Error} (matches : ArgMatches) (settings : Result Settings Usage)
+    → IsParse settings_line command words parse → parse ≡ Ok matches → HasMatchesOf (app_of command) words matches
     → IfOk settings (AreSaid (rows_of (found_of matches))) → IfOk settings (HaveSaid words)
-have_said command kinds words parse matches settings is ok has =
+have_said {command} {words} {parse} matches settings is ok has =
     IfOk-weaker settings (AreSaid (rows_of (found_of matches))) (HaveSaid words) (λ s said. record {
-      kinds = kinds;
+      kinds = is.kinds;
       are_kinds = is.are_kinds;
-      taken = faults_are settings_line command kinds words parse (Ok matches) is ok;
-      said = subst (λ (rows : List Row). AreSaid rows s) (rows_are settings_line command kinds words parse matches is has) said;
+      taken = faults_are (Ok matches) is ok;
+      said = subst (λ (rows : List Row). AreSaid rows s) (rows_are matches is has) said;
     })
 
 -- an invocation that the matches say is the one that the words say
-pub have_invoked : (command : Command) (kinds : ValueParser) (words : List Text) (parse : Result ArgMatches Error) (matches : ArgMatches) (invocation : Result Invocation Usage)
-    → IsParse command_line command kinds words parse → parse ≡ Ok matches → HasMatchesOf (app_of command) words matches
+pub have_invoked : {command : Command} {words : List Text} {parse : Result ArgMatches Error} (matches : ArgMatches) (invocation : Result Invocation Usage)
+    → IsParse command_line command words parse → parse ≡ Ok matches → HasMatchesOf (app_of command) words matches
     → IfOk invocation (IsInvoked (rows_of (found_of matches))) → IfOk invocation (HaveInvoked words)
-have_invoked command kinds words parse matches invocation is ok has =
+have_invoked {command} {words} {parse} matches invocation is ok has =
     IfOk-weaker invocation (IsInvoked (rows_of (found_of matches))) (HaveInvoked words) (λ i said. record {
-      kinds = kinds;
+      kinds = is.kinds;
       are_kinds = is.are_kinds;
-      taken = faults_are command_line command kinds words parse (Ok matches) is ok;
-      invoked = subst (λ (rows : List Row). IsInvoked rows i) (rows_are command_line command kinds words parse matches is has) said;
+      taken = faults_are (Ok matches) is ok;
+      invoked = subst (λ (rows : List Row). IsInvoked rows i) (rows_are matches is has) said;
     })
 
--- what is wrong with what words say, that were taken, is neither a call for help nor for the parser to say
+-- what is wrong with what words say, that were taken, is neither a call for help or the version nor for the parser to say
 pub record IsOfRows (IsWrong : List Row → Usage → Type 0) : Type 0 where
   pub no_help : (rows : List Row) (text : Text) → IsWrong rows (usage.Help text) → ⊥
+  pub no_version : (rows : List Row) → IsWrong rows usage.Version → ⊥
   pub no_words : (rows : List Row) (text : Text) → IsWrong rows (usage.Words text) → ⊥
 
 pub invocation_is_of_rows : IsOfRows (λ rows why. IsSaidWrong rows why)
-invocation_is_of_rows = record { no_help = λ rows text wrong. wrong.1; no_words = λ rows text wrong. wrong.1 }
+invocation_is_of_rows = record { no_help = λ rows text wrong. wrong.1; no_version = λ rows wrong. wrong.1; no_words = λ rows text wrong. wrong.1 }
 
 pub settings_are_of_rows : IsOfRows (λ rows why. AreSaidWrong rows why)
-settings_are_of_rows = record { no_help = λ rows text wrong. wrong; no_words = λ rows text wrong. wrong }
+settings_are_of_rows = record { no_help = λ rows text wrong. wrong; no_version = λ rows wrong. wrong; no_words = λ rows text wrong. wrong }
 
 -- words that were taken, and are wrong by what they say
-pub are_wrong : (line : ValueParser → App) (IsWrong : List Row → Usage → Type 0) {X : Type 0} (command : Command) (kinds : ValueParser) (words : List Text) (parse : Result ArgMatches Error) (matches : ArgMatches) (said : Result X Usage)
-    → IsParse line command kinds words parse → IsOfRows IsWrong → parse ≡ Ok matches → HasMatchesOf (app_of command) words matches
+pub are_wrong : {line : ValueParser → App} {command : Command} {words : List Text} {parse : Result ArgMatches Error} {X : Type 0} (IsWrong : List Row → Usage → Type 0) (matches : ArgMatches) (said : Result X Usage)
+    → IsParse line command words parse → IsOfRows IsWrong → parse ≡ Ok matches → HasMatchesOf (app_of command) words matches
     → IfErr said (IsWrong (rows_of (found_of matches))) → IfErr said (HasCause line IsWrong words)
-are_wrong line IsWrong command kinds words parse matches said is of_rows ok has =
+are_wrong {line} {command} {words} {parse} IsWrong matches said is of_rows ok has =
     IfErr-weaker said (IsWrong (rows_of (found_of matches))) (HasCause line IsWrong words)
-    (λ why wrong. cause why (subst (λ (rows : List Row). IsWrong rows why) (rows_are line command kinds words parse matches is has) wrong))
+    (λ why wrong. cause why (subst (λ (rows : List Row). IsWrong rows why) (rows_are matches is has) wrong))
   where
-    taken : fault_of (line kinds) words ≡ []
-    taken = faults_are line command kinds words parse (Ok matches) is ok
+    taken : fault_of (line is.kinds) words ≡ []
+    taken = faults_are (Ok matches) is ok
 
-    cause : (why : Usage) → IsWrong (matches_of (line kinds) words) why → HasCause line IsWrong words why
+    cause : (why : Usage) → IsWrong (matches_of (line is.kinds) words) why → HasCause line IsWrong words why
     cause (usage.Help text) wrong = absurd (of_rows.no_help _ text wrong)
+    cause usage.Version wrong = absurd (of_rows.no_version _ wrong)
     cause (usage.Words text) wrong = absurd (of_rows.no_words _ text wrong)
-    cause usage.Beside wrong = inr (kinds, is.are_kinds, (taken, wrong))
-    cause (usage.Moment error) wrong = inr (kinds, is.are_kinds, (taken, wrong))
-    cause usage.Hooks wrong = inr (kinds, is.are_kinds, (taken, wrong))
+    cause usage.Beside wrong = inr (is.kinds, is.are_kinds, (taken, wrong))
+    cause (usage.Moment error) wrong = inr (is.kinds, is.are_kinds, (taken, wrong))
+    cause usage.Hooks wrong = inr (is.kinds, is.are_kinds, (taken, wrong))
     cause usage.Memory wrong = inl refl
 
 -- words that were not taken
-pub are_refused : (line : ValueParser → App) (IsWrong : List Row → Usage → Type 0) (command : Command) (kinds : ValueParser) (words : List Text) (parse : Result ArgMatches Error) (error : Error) (why : Usage)
-    → IsParse line command kinds words parse → parse ≡ Err error → Answers (kind_of error) why → HasCause line IsWrong words why
-are_refused line IsWrong command kinds words parse error why is failed = cause why (faults_are line command kinds words parse (Err error) is failed)
+pub are_refused : {line : ValueParser → App} {command : Command} {words : List Text} {parse : Result ArgMatches Error} (IsWrong : List Row → Usage → Type 0) (error : Error) (why : Usage)
+    → IsParse line command words parse → parse ≡ Err error → Answers (kind_of error) why → HasCause line IsWrong words why
+are_refused {line} {command} {words} {parse} IsWrong error why is failed = cause why (faults_are (Err error) is failed)
   where
-    cause : (u : Usage) → HasKind (fault_of (line kinds) words) error → Answers (kind_of error) u → HasCause line IsWrong words u
+    cause : (u : Usage) → HasKind (fault_of (line is.kinds) words) error → Answers (kind_of error) u → HasCause line IsWrong words u
     cause (usage.Help text) (inl memory) help =
         let bad : DisplayHelp ≡ OutOfMemory = sym help ∙ memory in
         cc
     cause (usage.Help text) (inr among) help =
-        inr (kinds, is.are_kinds, subst (λ (kind : ErrorKind). IsAmong kind (fault_of (line kinds) words)) help among)
+        inr (is.kinds, is.are_kinds, subst (λ (kind : ErrorKind). IsAmong kind (fault_of (line is.kinds) words)) help among)
+    cause usage.Version (inl memory) version =
+        let bad : DisplayVersion ≡ OutOfMemory = sym version ∙ memory in
+        cc
+    cause usage.Version (inr among) version =
+        inr (is.kinds, is.are_kinds, subst (λ (kind : ErrorKind). IsAmong kind (fault_of (line is.kinds) words)) version among)
     cause (usage.Words text) (inl memory) other = absurd (other.0 memory)
-    cause (usage.Words text) (inr among) other = inr (kinds, is.are_kinds, (kind_of error, other.1, among))
+    cause (usage.Words text) (inr among) other = inr (is.kinds, is.are_kinds, (kind_of error, other.1, other.2, among))
     cause usage.Beside has answers = absurd answers
     cause (usage.Moment wrong) has answers = absurd answers
     cause usage.Hooks has answers = absurd answers
     cause usage.Memory has answers = inl refl
 
--- of words that are answered and not followed, status 0 is that of help that was asked for
+-- of words that are answered and not followed, status 0 is that of help, or the version, that was asked for
 pub asked_for_help : (words : List Text) (why : Usage) (status : ℕ)
-    → status ≡ usage_status_of why → status ≤ 1 → WereRefused words why → (status ≡ 0) × AskForHelp words
+    → status ≡ usage_status_of why → status ≤ 1 → WereRefused words why
+    → (status ≡ 0) × (AskForVersionToo words ⊎ AskForHelp words)
 asked_for_help words (usage.Help text) status is good (inl memory) = cc
-asked_for_help words (usage.Help text) status is good (inr cause) = (is, cause)
+asked_for_help words (usage.Help text) status is good (inr cause) = (is, inr cause)
+asked_for_help words usage.Version status is good (inl memory) = cc
+asked_for_help words usage.Version status is good (inr cause) = (is, inl cause)
 asked_for_help words (usage.Words text) status is good why = absurd (omega (arith, is, good))
 asked_for_help words usage.Beside status is good why = absurd (omega (arith, is, good))
 asked_for_help words (usage.Moment error) status is good why = absurd (omega (arith, is, good))
 asked_for_help words usage.Hooks status is good why = absurd (omega (arith, is, good))
 asked_for_help words usage.Memory status is good why = absurd (omega (arith, is, good))
 
--- words that are a call for help alone are not followed
-pub help_is_not_followed : (words : List Text) (invocation : Invocation) → AskForHelpAlone words → HaveInvoked words invocation → ⊥
-help_is_not_followed words invocation alone said =
-    let bad : DisplayHelp ∷ [] ≡ [] = sym (alone said.kinds said.are_kinds) ∙ said.taken in
+-- words that ask for the version, among whatever else
+pub asked_for_version : (words : List Text) (why : Usage) → why ≡ usage.Version → WereRefused words why → AskForVersionToo words
+asked_for_version words why is refused = cause (subst (WereRefused words) is refused)
+  where
+    cause : WereRefused words usage.Version → AskForVersionToo words
+    cause (inl memory) = cc
+    cause (inr found) = found
+
+-- no answer has another status than these
+pub few_statuses : (why : Usage) (status : ℕ) → status ≡ usage_status_of why → status ≤ 3
+few_statuses (usage.Help text) status is = omega (arith, is)
+few_statuses usage.Version status is = omega (arith, is)
+few_statuses (usage.Words text) status is = omega (arith, is)
+few_statuses usage.Beside status is = omega (arith, is)
+few_statuses (usage.Moment error) status is = omega (arith, is)
+few_statuses usage.Hooks status is = omega (arith, is)
+few_statuses usage.Memory status is = omega (arith, is)
+
+-- words that are a call for help or the version alone are not followed
+pub alone_is_not_followed : (asked : ErrorKind) (words : List Text) (invocation : Invocation) → AskAlone asked words → HaveInvoked words invocation → ⊥
+alone_is_not_followed asked words invocation alone said =
+    let bad : asked ∷ [] ≡ [] = sym (alone said.kinds said.are_kinds) ∙ said.taken in
     cc
 
-only_help : (kind : ErrorKind) → (kind ≡ DisplayHelp) ⊎ ⊥ → (kind ≡ DisplayHelp → ⊥) → ⊥
-only_help kind (inl help) other = other help
-only_help kind (inr none) other = none
+only_this : (asked kind : ErrorKind) → (kind ≡ asked) ⊎ ⊥ → (kind ≡ asked → ⊥) → ⊥
+only_this asked kind (inl is) other = other is
+only_this asked kind (inr none) other = none
 
--- and they are answered by help, or by want of memory
+-- and those for help are answered by help, or by want of memory
 pub help_is_answered : (words : List Text) (why : Usage) (status : ℕ)
     → status ≡ usage_status_of why → AskForHelpAlone words → WereRefused words why → (status ≡ 0) ⊎ (status ≡ 3)
 help_is_answered words why status is alone refused = cause why is refused
@@ -161,9 +197,10 @@ help_is_answered words why status is alone refused = cause why is refused
 
     cause : (u : Usage) → status ≡ usage_status_of u → WereRefused words u → (status ≡ 0) ⊎ (status ≡ 3)
     cause (usage.Help text) same any = inl same
+    cause usage.Version same any = inl same
     cause (usage.Words text) same (inl memory) = cc
     cause (usage.Words text) same (inr found) =
-        absurd (only_help found.2.0 (subst (IsAmong found.2.0) (alone found.0 found.1) found.2.2) found.2.1)
+        absurd (only_this DisplayHelp found.2.0 (subst (IsAmong found.2.0) (alone found.0 found.1) found.2.3) found.2.1)
     cause usage.Beside same (inl memory) = cc
     cause usage.Beside same (inr found) = bad found.0 found.1 found.2.0
     cause (usage.Moment error) same (inl memory) = cc

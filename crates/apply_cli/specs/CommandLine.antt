@@ -13,11 +13,11 @@ use Rattle.clap.specs.declared.builder.action.ArgAction.TheVariants.{Append, Set
 use Rattle.clap.specs.declared.builder.value_parser.ValueParser.{ValueParser}
 use Rattle.clap.specs.declared.builder.value_parser.ValueParser.TheVariants as values
 use Rattle.clap.specs.declared.error.kind.ErrorKind.{ErrorKind}
-use Rattle.clap.specs.declared.error.kind.ErrorKind.TheVariants.{DisplayHelp, OutOfMemory}
+use Rattle.clap.specs.declared.error.kind.ErrorKind.TheVariants.{DisplayHelp, DisplayVersion, OutOfMemory}
 use Rattle.clap.specs.declared.parser.matches.ValueSource.{ValueSource}
 use Rattle.clap.specs.declared.parser.matches.ValueSource.TheVariants as source
-use Rattle.apply_plan.specs.declared.plan.step_kind.StepKind.{StepKind}
-use Rattle.apply_plan.specs.declared.plan.step_kind.StepKind.TheVariants.{Create, Update, Delete, Read}
+use Rattle.apply_model.specs.declared.plan.step_kind.StepKind.{StepKind}
+use Rattle.apply_model.specs.declared.plan.step_kind.StepKind.TheVariants.{Create, Update, Delete, Read}
 use Rattle.apply_hooks.specs.Hooks.{max_hooks}
 use Rattle.apply_text.specs.Start.{start_of}
 use Rattle.apply_text.specs.declared.operation.Operation.TheVariants.{Apply, Destroy}
@@ -78,14 +78,14 @@ options kinds = settings_options kinds ++ parallelism_rule ∷ []
 -- the command, whose words are those behind the program's name
 abbrev pub command_line : (kinds : ValueParser) → App
 command_line kinds = record {
-  top = record (new_shape (codes "applystream")) { no_binary_name = true; rules = options kinds };
+  top = record (new_shape (codes "applystream")) { no_binary_name = true; has_version = true; rules = options kinds };
   subs = [];
 }
 
 -- the same without the option of a parallelism
 abbrev pub settings_line : (kinds : ValueParser) → App
 settings_line kinds = record {
-  top = record (new_shape (codes "applystream")) { no_binary_name = true; rules = settings_options kinds };
+  top = record (new_shape (codes "applystream")) { no_binary_name = true; has_version = true; rules = settings_options kinds };
   subs = [];
 }
 
@@ -157,6 +157,7 @@ is_beside rows =
 -- the options that were taken say no settings
 abbrev pub AreSaidWrong : List Row → Usage → Type 0
 AreSaidWrong rows (usage.Help text) = ⊥
+AreSaidWrong rows usage.Version = ⊥
 AreSaidWrong rows (usage.Words text) = ⊥
 AreSaidWrong rows usage.Beside = ⊥
 AreSaidWrong rows (usage.Moment error) = option_map_or start_of (first_of (codes "at") rows) (Ok 0) ≡ Err error
@@ -169,20 +170,23 @@ abbrev pub IsSaidWrong : List Row → Usage → Type 0
 IsSaidWrong rows usage.Beside = is_beside rows ≡ true
 IsSaidWrong rows why = (is_beside rows ≡ false) × AreSaidWrong rows why
 
--- what is answered to an error of that kind: help where help was asked for
+-- what is answered to an error of that kind: help where help was asked for, the version where that was
 abbrev pub Answers : ErrorKind → Usage → Type 0
 Answers kind (usage.Help text) = kind ≡ DisplayHelp
-Answers kind (usage.Words text) = (kind ≡ OutOfMemory → ⊥) × (kind ≡ DisplayHelp → ⊥)
+Answers kind usage.Version = kind ≡ DisplayVersion
+Answers kind (usage.Words text) = (kind ≡ OutOfMemory → ⊥) × (kind ≡ DisplayHelp → ⊥) × (kind ≡ DisplayVersion → ⊥)
 Answers kind usage.Beside = ⊥
 Answers kind (usage.Moment error) = ⊥
 Answers kind usage.Hooks = ⊥
 Answers kind usage.Memory = ⊤
 
--- the words are a call for help; or they are none of these options; or they were taken, and what they say is wrong
+-- the words are a call for help or for the version; or they are none of these options; or they were taken, and what they
+-- say is wrong
 abbrev pub IsCause : (IsWrong : List Row → Usage → Type 0) → App → List Text → Usage → Type 0
 IsCause IsWrong app words (usage.Help text) = IsAmong DisplayHelp (fault_of app words)
+IsCause IsWrong app words usage.Version = IsAmong DisplayVersion (fault_of app words)
 IsCause IsWrong app words (usage.Words text) =
-    (kind : ErrorKind) × (kind ≡ DisplayHelp → ⊥) × IsAmong kind (fault_of app words)
+    (kind : ErrorKind) × (kind ≡ DisplayHelp → ⊥) × (kind ≡ DisplayVersion → ⊥) × IsAmong kind (fault_of app words)
 IsCause IsWrong app words why = (fault_of app words ≡ []) × IsWrong (matches_of app words) why
 
 -- memory was refused, or there is a cause for it
@@ -198,12 +202,23 @@ WereRefused words why = HasCause command_line IsSaidWrong words why
 abbrev pub SayNoSettings : List Text → Usage → Type 0
 SayNoSettings words why = HasCause settings_line AreSaidWrong words why
 
--- the words are a call for help, among whatever else
-abbrev pub AskForHelp : List Text → Type 0
-AskForHelp words =
-    (kinds : ValueParser) × IsOneOf kind_words kinds × IsAmong DisplayHelp (fault_of (command_line kinds) words)
+-- the words ask for this, among whatever else
+abbrev pub AskAmong : ErrorKind → List Text → Type 0
+AskAmong asked words =
+    (kinds : ValueParser) × IsOneOf kind_words kinds × IsAmong asked (fault_of (command_line kinds) words)
 
--- the words are a call for help, and nothing else is wrong with them
+-- the words ask for this, and nothing else is wrong with them
+abbrev pub AskAlone : ErrorKind → List Text → Type 0
+AskAlone asked words =
+    (kinds : ValueParser) → IsOneOf kind_words kinds → fault_of (command_line kinds) words ≡ asked ∷ []
+
+-- for help
+abbrev pub AskForHelp : List Text → Type 0
+AskForHelp words = AskAmong DisplayHelp words
+
 abbrev pub AskForHelpAlone : List Text → Type 0
-AskForHelpAlone words =
-    (kinds : ValueParser) → IsOneOf kind_words kinds → fault_of (command_line kinds) words ≡ DisplayHelp ∷ []
+AskForHelpAlone words = AskAlone DisplayHelp words
+
+-- for the version, beside other options
+abbrev pub AskForVersionToo : List Text → Type 0
+AskForVersionToo words = AskAmong DisplayVersion words

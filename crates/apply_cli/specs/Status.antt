@@ -58,6 +58,7 @@ counts_status_of counts = if nat_lt 0 (unfinished counts) then 1 else 0
 
 abbrev pub usage_status_of : Usage → ℕ
 usage_status_of (usage.Help text) = 0
+usage_status_of usage.Version = 0
 usage_status_of (usage.Words text) = 2
 usage_status_of usage.Beside = 2
 usage_status_of (usage.Moment error) = 2

@@ -7,12 +7,13 @@ ghost use Rattle.apply_cli.specs.Status.{hook_status_of, usage_status_of};
 use crate::run::report;
 use crate::status::{FAILED, REFUSED};
 use crate::usage::Usage;
+use crate::version::VERSION;
 use apply_hooks::HookError;
 use std::io::Write;
 
-/// Says why the words are not followed, and answers the exit status: 0 for help, 3 where memory was refused, else 2.
+/// Says why the words are not followed, and answers the exit status: 0 for help and the version, 3 where memory was refused, else 2.
 ///
-/// Help is printed on `out`, everything else on `faults`; the other one is as it was. A text that cannot be written is
+/// Help and the version are printed on `out`, everything else on `faults`; the other one is as it was. A text that cannot be written is
 /// dropped.
 pub fn answer_usage<W: Write, E: Write>(usage: &Usage, out: &mut W, faults: &mut E) -> u8
     ensures status { result ≡ usage_status_of usage.now }
@@ -22,6 +23,11 @@ pub fn answer_usage<W: Write, E: Write>(usage: &Usage, out: &mut W, faults: &mut
     match usage {
         Usage::Help(text) => {
             let _ = out.write_all(text.as_str().as_bytes());
+            let _ = out.flush();
+            0
+        }
+        Usage::Version => {
+            let _ = writeln!(out, "applystream {VERSION}");
             let _ = out.flush();
             0
         }

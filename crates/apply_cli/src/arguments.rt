@@ -15,6 +15,7 @@ ghost use Rattle.apply_cli.specs.Settings.{AreInRange};
 use crate::halt::Halt;
 use crate::settings::Settings;
 use crate::usage::Usage;
+use crate::version::VERSION;
 use apply_hooks::MAX_HOOKS;
 use apply_plan::{StepKind, Text};
 use apply_text::{MomentError, Operation, Start};
@@ -34,7 +35,7 @@ Standard output: the messages, one JSON object a line.
 Standard error: what went wrong, if anything did.
 
 `applystream check` says whether a stream that was written is whole: applystream check --help explains it.
-`applystream --version` prints the version of this program.";
+`applystream play` writes such a stream in its own time: applystream play --help explains it.";
 
 const AFTER: &str = r#"Example, with two workers, a start, and no deletes:
   terraform show -json tfplan | applystream --workers 2 --at 2024-05-01T12:00:00Z --halt-before delete
@@ -49,11 +50,14 @@ Exit status:
   2  the options, the plan or the script were refused or could not be read: no message was written
   3  memory or a thread was refused, or the output could not be written: a part of the messages may have been written"#;
 
+/// Said behind the fault of a word that is no option: mostly it is the file of a plan.
+const TIP: &str = "\n  tip: a plan is read from standard input, as in: applystream < plan.json\n";
+
 /// The settings that the words behind the program's name say, by the options without a parallelism: the part of
 /// `read_invocation` that knows workers alone.
 ///
-/// `Err` with `Usage::Help` where they ask for help, else with `Usage::Words` where they are none of this program or ask for
-/// a parallelism, else with `Usage::Moment` where the start is no moment, else with `Usage::Hooks` where there are more than
+/// `Err` with `Usage::Help` where they ask for help, with `Usage::Version` where they ask for the version, else with
+/// `Usage::Words` where they are none of this program or ask for a parallelism, else with `Usage::Moment` where the start is no moment, else with `Usage::Hooks` where there are more than
 /// 32 halts. `Err` with `Usage::Memory` where memory is refused.
 pub fn read_words(alloc: Global, words: &[String]) -> Result<Settings, Usage>
     ensures in_range { IfOk result AreInRange }
@@ -83,6 +87,7 @@ fn settings_command<'a>(alloc: Global) -> Result<Command<'a>, AllocError>
     Command::new(alloc, "applystream")
         .no_binary_name(true)
         .about(ABOUT)
+        .version(VERSION)
         .after_help(AFTER)
         .arg(at(alloc))?
         .arg(script(alloc))?
@@ -311,11 +316,20 @@ pub(crate) fn usage_of(alloc: Global, error: &clap::Error) -> Result<Usage, Allo
     if error.kind() == ErrorKind::OutOfMemory {
         return Ok(Usage::Memory);
     }
-    let text = format!(in alloc; "{error}")?;
-    let text = Text::new(alloc, text.as_str())?;
-    if error.kind() == ErrorKind::DisplayHelp {
-        Ok(Usage::Help(text))
-    } else {
-        Ok(Usage::Words(text))
+    if error.kind() == ErrorKind::DisplayVersion {
+        return Ok(Usage::Version);
     }
+    let mut text = format!(in alloc; "{error}")?;
+    if error.kind() == ErrorKind::DisplayHelp {
+        return Ok(Usage::Help(Text::new(alloc, text.as_str())?));
+    }
+    if is_stray(error.kind(), text.as_str()) {
+        text.push_str(TIP)?;
+    }
+    Ok(Usage::Words(Text::new(alloc, text.as_str())?))
+}
+
+/// Whether the parser refuses a word that is no option. Its own text alone tells which word it is.
+fn is_stray(kind: ErrorKind, text: &str) -> bool {
+    kind == ErrorKind::UnknownArgument && !text.starts_with("error: unexpected argument '-")
 }

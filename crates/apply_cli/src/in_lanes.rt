@@ -1,6 +1,6 @@
 //! The program with changes under way in lanes, from its input to its exit status.
 
-ghost use Rattle.std.specs.Prelude.{◌≡◌, ◌<◌, ◌≤◌, ◌-◌, ◌^◌, ◌⊎◌, length, IfOk, IfErr, OnErr};
+ghost use Rattle.std.specs.Prelude.{◌≡◌, ◌<◌, ◌≤◌, ◌-◌, ◌^◌, ◌⊎◌, length, true, IfOk, IfErr, OnErr};
 ghost use Rattle.std.specs.Option.{option_copied};
 ghost use Rattle.std.specs.Io.KnownBytes.{Keeps};
 ghost use Rattle.apply_plan.specs.Bytes.{max_bytes};
@@ -11,7 +11,7 @@ ghost use Rattle.apply_cli.specs.Status.{input_status_of};
 
 use crate::input::read_input;
 use crate::input_fault::InputFault;
-use crate::run::{finish_reading, flush_unless_failed, report};
+use crate::run::{finish_reading, flush_unless_failed, report_unless_gone};
 use crate::settings::Settings;
 use crate::status::{FAILED, counts_status, input_status, refusal_status};
 use apply_hooks::Registry;
@@ -44,6 +44,7 @@ pub fn run_in_lanes<R: Read + Drop, W: Write + Drop, E: Write>(
         HasBegunInLanes (record { plan = bytes; script = option_copied script.entry; hooks = rules_of registry.now })
         lanes settings.now.at settings.now.operation (sight_of W.contents output) (sight_of W.contents result.0)) }
     ensures quiet { result.1 ≤ 1 → Keeps (E.contents faults.old) (E.contents faults.new) }
+    ensures gone { result.0.is_reader_gone ≡ true → Keeps (E.contents faults.old) (E.contents faults.new) }
     ensures statuses { result.1 ≤ 3 }
 {
     let (plan, is_whole) = read_input(alloc, &mut input);
@@ -80,6 +81,7 @@ fn run_input_in_lanes<W: Write + Drop, E: Write>(
     ensures unread { IfErr input (λ fault. result.1 ≡ input_status_of fault) }
     ensures untouched { OnErr input (Keeps (W.contents output.writer) (W.contents result.0.writer)) }
     ensures quiet { result.1 ≤ 1 → Keeps (E.contents faults.old) (E.contents faults.new) }
+    ensures gone { result.0.is_reader_gone ≡ true → Keeps (E.contents faults.old) (E.contents faults.new) }
     ensures statuses { result.1 ≤ 3 }
 {
     match input {
@@ -87,7 +89,7 @@ fn run_input_in_lanes<W: Write + Drop, E: Write>(
             alloc, settings, lanes, registry, script, &bytes, output, faults,
         ),
         Err(fault) => {
-            report(faults, fault);
+            report_unless_gone(&output, faults, fault);
             (output, input_status(fault))
         }
     }
@@ -118,6 +120,7 @@ fn run_bytes_in_lanes<W: Write + Drop, E: Write>(
         ⊎ HasBegunInLanes (record { plan = bytes.now; script = option_copied script.entry; hooks = rules_of registry.now })
         lanes settings.now.at settings.now.operation (sight_of W.contents output) (sight_of W.contents result.0) }
     ensures quiet { result.1 ≤ 1 → Keeps (E.contents faults.old) (E.contents faults.new) }
+    ensures gone { result.0.is_reader_gone ≡ true → Keeps (E.contents faults.old) (E.contents faults.new) }
     ensures statuses { result.1 ≤ 3 }
 {
     let failures = output.failures();
@@ -134,18 +137,18 @@ fn run_bytes_in_lanes<W: Write + Drop, E: Write>(
     match result {
         Ok(run) => {
             if output.flush().is_err() {
-                report(faults, Why::Write);
+                report_unless_gone(&output, faults, Why::Write);
                 return (output, FAILED);
             }
             (output, counts_status(&run.counts))
         }
         Err(Refusal::Fault(fault)) => {
             flush_unless_failed(&mut output, failures);
-            report(faults, fault);
+            report_unless_gone(&output, faults, fault);
             (output, FAILED)
         }
         Err(refusal) => {
-            report(faults, refusal);
+            report_unless_gone(&output, faults, refusal);
             (output, refusal_status(refusal))
         }
     }

@@ -26,7 +26,7 @@ pub struct Invocation {
 
 /// All that the words behind the program's name say.
 ///
-/// `Err` with `Usage::Help` where they ask for help, else with `Usage::Words` where they are none of this program, else
+/// `Err` with `Usage::Help` where they ask for help, with `Usage::Version` where they ask for the version, else with `Usage::Words` where they are none of this program, else
 /// with `Usage::Beside` where a parallelism stands beside workers or a queue, else with `Usage::Moment` where the start is
 /// no moment, else with `Usage::Hooks` where there are more than 32 halts. `Err` with `Usage::Memory` where memory is
 /// refused.

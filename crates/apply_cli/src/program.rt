@@ -1,11 +1,11 @@
 //! What the words behind the program's name say is done, from the words to the exit status.
 
-ghost use Rattle.std.specs.Prelude.{◌≡◌, ◌<◌, ◌≤◌, ◌-◌, ◌^◌, ◌⊎◌, is_some, map, string_bytes, IfOk};
+ghost use Rattle.std.specs.Prelude.{◌≡◌, ◌<◌, ◌≤◌, ◌-◌, ◌^◌, ◌⊎◌, false, is_some, map, string_bytes, true, IfOk};
 ghost use Rattle.std.specs.Io.KnownBytes.{Appends, Keeps};
 ghost use Rattle.std.specs.Option.{option_copied};
 ghost use Rattle.apply_hooks.specs.Registry.{rules_of};
 ghost use Rattle.apply_cli.specs.Command.{OfFile, OfInput, sight_of};
-ghost use Rattle.apply_cli.specs.CommandLine.{AskForHelp, AskForHelpAlone};
+ghost use Rattle.apply_cli.specs.CommandLine.{AskForHelp, AskForHelpAlone, AskForVersionToo};
 ghost use Rattle.apply_cli.specs.Halt.{hooks_of_halts, rules_of_halt};
 ghost use Rattle.apply_cli.specs.Invocation.{HasAppliedAsAsked, HasBegunAsAsked, WereApplied, WereBegun};
 ghost use Rattle.apply_cli.specs.Version.{AskForVersion, version_line};
@@ -47,7 +47,8 @@ pub fn given_words<R: Env + AllocGlobal>(rt: &R) -> Result<Vec<String>, Usage> {
 /// Does what the words behind the program's name say, and answers the exit status. The output comes back.
 ///
 /// Words that ask for the version are answered as `answer_version` does, words that `read_invocation` refuses as `answer_usage`
-/// does, and all others as `follow_invocation` does.
+/// does, and all others as `follow_invocation` does. Where a write fails since the reader of the output is gone, nothing is
+/// said of it.
 pub fn follow<F: Files, R: Read + Drop, W: Write + Drop, E: Write, T: Threads + Wait + Sync>(
     rt: &T,
     files: &F,
@@ -62,12 +63,13 @@ pub fn follow<F: Files, R: Read + Drop, W: Write + Drop, E: Write, T: Threads + 
 
     ensures applied { result.1 ≤ 1 →
         WereApplied (map string_bytes words.now) (R.remaining input) (W.contents output) (W.contents result.0) result.1
-        ⊎ ((result.1 ≡ 0) × (AskForVersion (map string_bytes words.now) ⊎ AskForHelp (map string_bytes words.now))) }
+        ⊎ ((result.1 ≡ 0) × (AskForVersion (map string_bytes words.now)
+        ⊎ (AskForVersionToo (map string_bytes words.now) ⊎ AskForHelp (map string_bytes words.now)))) }
     ensures help { AskForHelpAlone (map string_bytes words.now) → (result.1 ≡ 0) ⊎ (result.1 ≡ 3) }
     ensures refused { result.1 ≡ 2 → Keeps (W.contents output) (W.contents result.0) }
     ensures cut_off { result.1 ≡ 3 → Keeps (W.contents output) (W.contents result.0)
         ⊎ (WereBegun (map string_bytes words.now) (R.remaining input) (W.contents output) (W.contents result.0)
-        ⊎ AskForVersion (map string_bytes words.now)) }
+        ⊎ (AskForVersion (map string_bytes words.now) ⊎ AskForVersionToo (map string_bytes words.now))) }
     ensures quiet { result.1 ≤ 1 → Keeps (E.contents faults.old) (E.contents faults.new) }
     ensures statuses { result.1 ≤ 3 }
 {
@@ -89,6 +91,10 @@ pub fn follow<F: Files, R: Read + Drop, W: Write + Drop, E: Write, T: Threads + 
                 faults,
             );
             (output.into_inner(), status)
+        }
+        Err(Usage::Version) => {
+            let status = answer_version(&mut output, faults);
+            (output, status)
         }
         Err(usage) => {
             let status = answer_usage(&usage, &mut output, faults);
@@ -129,6 +135,8 @@ pub fn follow_invocation<
         HasBegunAsAsked (record { plan = plan; script = script; hooks = hooks_of_halts settings.now.halts.items })
         settings.now parallelism (sight_of W.contents output) (sight_of W.contents result.0))) }
     ensures quiet { result.1 ≤ 1 → Keeps (E.contents faults.old) (E.contents faults.new) }
+    ensures gone { output.is_reader_gone ≡ false → result.0.is_reader_gone ≡ true
+        → Keeps (E.contents faults.old) (E.contents faults.new) }
     ensures statuses { result.1 ≤ 3 }
 {
     // The closures are boxed here, where the registry is owned: a function that handed them out would hide what they answer.
@@ -190,6 +198,8 @@ fn run_with_hooks<F: Files, R: Read + Drop, W: Write + Drop, E: Write, T: Thread
         HasBegunAsAsked (record { plan = plan; script = script; hooks = hooks_of_halts settings.now.halts.items })
         settings.now parallelism (sight_of W.contents output) (sight_of W.contents result.0))) }
     ensures quiet { result.1 ≤ 1 → Keeps (E.contents faults.old) (E.contents faults.new) }
+    ensures gone { output.is_reader_gone ≡ false → result.0.is_reader_gone ≡ true
+        → Keeps (E.contents faults.old) (E.contents faults.new) }
     ensures statuses { result.1 ≤ 3 }
 {
     let script = match script_of(files, alloc, settings) {
@@ -234,6 +244,8 @@ fn run_script<R: Read + Drop, W: Write + Drop, E: Write, T: Threads + Wait + Syn
         HasBegunAsAsked (record { plan = plan; script = option_copied script.entry; hooks = rules_of registry.now })
         settings.now parallelism (sight_of W.contents output) (sight_of W.contents result.0)) }
     ensures quiet { result.1 ≤ 1 → Keeps (E.contents faults.old) (E.contents faults.new) }
+    ensures gone { output.is_reader_gone ≡ false → result.0.is_reader_gone ≡ true
+        → Keeps (E.contents faults.old) (E.contents faults.new) }
     ensures statuses { result.1 ≤ 3 }
 {
     match parallelism {

@@ -33,7 +33,7 @@ const LINE_ROOM: usize = 256;
 /// written and some step failed or was halted. It is 2 where the input could not be read or is no plan, where the script is
 /// none for it, or where the settings are out of range: nothing was written then. It is 3 where memory or a thread was
 /// refused or the output could not be written: a front of the stream may have been written then, with a summary only where
-/// all of the plan was applied. What went wrong is said on `faults`, unless that fails too.
+/// all of the plan was applied. What went wrong is said on `faults`, unless that fails too, or the output's reader is gone.
 ///
 /// Where the plan is too large, or a read failed or memory was refused while it was read, the rest of the input is read and
 /// dropped behind what is said: who writes it into a pipe is not stopped. A read that fails meanwhile changes nothing.
@@ -60,6 +60,7 @@ pub fn run_command<R: Read + Drop, W: Write + Drop, E: Write, T: Threads + Wait 
         HasBegun (record { plan = bytes; script = option_copied script.entry; hooks = rules_of registry.now })
         (options_of settings.now) (sight_of W.contents output) (sight_of W.contents result.0)) }
     ensures quiet { result.1 ≤ 1 → Keeps (E.contents faults.old) (E.contents faults.new) }
+    ensures gone { result.0.is_reader_gone ≡ true → Keeps (E.contents faults.old) (E.contents faults.new) }
     ensures statuses { result.1 ≤ 3 }
 {
     let (plan, is_whole) = read_input(alloc, &mut input);
@@ -114,6 +115,7 @@ pub fn run_input<W: Write + Drop, E: Write, T: Threads + Wait + Sync>(
     ensures unread { IfErr input (λ fault. result.1 ≡ input_status_of fault) }
     ensures untouched { OnErr input (Keeps (W.contents output.writer) (W.contents result.0.writer)) }
     ensures quiet { result.1 ≤ 1 → Keeps (E.contents faults.old) (E.contents faults.new) }
+    ensures gone { result.0.is_reader_gone ≡ true → Keeps (E.contents faults.old) (E.contents faults.new) }
     ensures statuses { result.1 ≤ 3 }
 {
     match input {
@@ -121,7 +123,7 @@ pub fn run_input<W: Write + Drop, E: Write, T: Threads + Wait + Sync>(
             rt, alloc, settings, registry, script, &bytes, output, faults,
         ),
         Err(fault) => {
-            report(faults, fault);
+            report_unless_gone(&output, faults, fault);
             (output, input_status(fault))
         }
     }
@@ -152,6 +154,7 @@ pub fn run_bytes<W: Write + Drop, E: Write, T: Threads + Wait + Sync>(
         (options_of settings.now) (sight_of W.contents output) (sight_of W.contents result.0) }
     ensures large { max_bytes < length bytes.now → result.1 ≡ 2 }
     ensures quiet { result.1 ≤ 1 → Keeps (E.contents faults.old) (E.contents faults.new) }
+    ensures gone { result.0.is_reader_gone ≡ true → Keeps (E.contents faults.old) (E.contents faults.new) }
     ensures statuses { result.1 ≤ 3 }
 {
     let failures = output.failures();
@@ -168,7 +171,7 @@ pub fn run_bytes<W: Write + Drop, E: Write, T: Threads + Wait + Sync>(
     match result {
         Ok(run) => {
             if output.flush().is_err() {
-                report(faults, Why::Write);
+                report_unless_gone(&output, faults, Why::Write);
                 return (output, FAILED);
             }
             one_worker_applies_all_changes_in_order();
@@ -176,11 +179,11 @@ pub fn run_bytes<W: Write + Drop, E: Write, T: Threads + Wait + Sync>(
         }
         Err(Refusal::Fault(fault)) => {
             flush_unless_failed(&mut output, failures);
-            report(faults, fault);
+            report_unless_gone(&output, faults, fault);
             (output, FAILED)
         }
         Err(refusal) => {
-            report(faults, refusal);
+            report_unless_gone(&output, faults, refusal);
             (output, refusal_status(refusal))
         }
     }
@@ -194,6 +197,19 @@ pub(crate) fn flush_unless_failed<W: Write + Drop>(output: &mut StdSink<W>, fail
 {
     if output.failures() == failures {
         let _ = output.flush();
+    }
+}
+
+/// Says what went wrong, unless the reader of the output is gone: whoever ended it, as `head` ends, knows that.
+pub(crate) fn report_unless_gone<W: Write + Drop, E: Write, D: Display + Drop>(
+    output: &StdSink<W>,
+    faults: &mut E,
+    fault: D,
+)
+    ensures { output.now.is_reader_gone ≡ true → Keeps (E.contents faults.old) (E.contents faults.new) }
+{
+    if !output.is_reader_gone() {
+        report(faults, fault);
     }
 }
 

@@ -7,11 +7,14 @@ use apply_plan::Text;
 use apply_text::MomentError;
 use std::alloc::{AllocError, AllocFailed};
 
-/// Why the words say no invocation. The variants are tested in this order, but for `Memory`.
+/// Why the words say no invocation. The variants are tested in this order, but for `Memory`; of help and the
+/// version the one that comes first is asked for.
 #[derive(Debug, Drop)]
 pub enum Usage {
     /// They ask for help, which is this text.
     Help(Text),
+    /// They ask for the version.
+    Version,
     /// They are none of this program. The text says why, and how the words go.
     Words(Text),
     /// They ask for a parallelism beside workers or a queue.

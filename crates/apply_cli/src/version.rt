@@ -1,36 +1,57 @@
 //! Which version this is, and how the program answers it.
 
-ghost use Rattle.std.specs.Prelude.{◌≡◌, ◌⊎◌, IsTrue, ◌↔◌, map, string_bytes};
+ghost use Rattle.std.specs.Prelude.{◌≡◌, ◌⊎◌, IsTrue, OnOk, ◌↔◌, ◌||◌, codes, map, string_bytes};
 ghost use Rattle.std.specs.Io.KnownBytes.{Appends, Keeps};
+ghost use Rattle.std.specs.Str.{bytes_eq};
 ghost use Rattle.apply_cli.specs.Version.{AskForVersion, version_line};
 
 use crate::run::report;
 use crate::status::FAILED;
 use apply_run::Why;
-use std::io::Write;
+use std::io::{self, ErrorKind, Write};
 
 /// The version of the project. The launcher reads it here too.
-pub const VERSION: &str = "0.1.0";
+pub const VERSION: &str = "0.4.0";
 
-/// Whether the words behind the program's name ask for its version: they are the one word `--version`, and no other.
+/// Whether the words behind the program's name ask for its version alone: they are the one word `--version` or `-V`, and no
+/// other.
 pub fn ask_for_version(words: &[String]) -> bool
     ensures { IsTrue result ↔ AskForVersion (map string_bytes words.now) }
 {
     match words {
-        [word] => word.as_str() == "--version",
+        [word] => is_version(word.as_str()),
         _ => false,
     }
 }
 
+/// Whether the word is the option of the version.
+fn is_version(word: &str) -> bool
+    ensures { result ≡ (bytes_eq word.now (codes "--version") || bytes_eq word.now (codes "-V")) }
+{
+    word == "--version" || word == "-V"
+}
+
 /// Writes the line of the version, and answers the exit status: 0, or 3 where it could not be written, which is said on
-/// `faults`.
+/// `faults` unless its reader is gone.
 pub fn answer_version<W: Write, E: Write>(out: &mut W, faults: &mut E) -> u8
     ensures told { ((result ≡ 0) × Appends (W.contents out.old) (W.contents out.new) version_line) ⊎ (result ≡ 3) }
     ensures quiet { result ≡ 0 → Keeps (E.contents faults.old) (E.contents faults.new) }
 {
-    if writeln!(out, "applystream {VERSION}").is_err() || out.flush().is_err() {
-        report(faults, Why::Write);
-        return FAILED;
+    match write_version(out) {
+        Ok(()) => 0,
+        Err(error) => {
+            if error.kind() != ErrorKind::BrokenPipe {
+                report(faults, Why::Write);
+            }
+            FAILED
+        }
     }
-    0
+}
+
+/// Writes the line of the version.
+fn write_version<W: Write>(out: &mut W) -> io::Result<()>
+    ensures { OnOk result (Appends (W.contents out.old) (W.contents out.new) version_line) }
+{
+    writeln!(out, "applystream {VERSION}")?;
+    out.flush()
 }

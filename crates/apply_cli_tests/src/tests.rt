@@ -15,7 +15,7 @@ mod streams;
 mod words;
 
 use apply_cli::{
-    Halt, InputFault, Invocation, Settings, Usage, VERSION, answer_usage, follow,
+    Awaited, Halt, InputFault, Invocation, Settings, Usage, VERSION, answer_usage, follow,
     follow_invocation, read_all, read_invocation, read_words, refusal_status, report, run_command,
     run_input,
 };
@@ -217,13 +217,14 @@ struct FailingWriter {
     per_write: usize,
     room: usize,
     fails_to_flush: bool,
+    error: ErrorKind,
 }
 
 impl Write for FailingWriter {
     fn write(&mut self, bytes: &[u8]) -> io::Result<usize> {
         let count = bytes.len().min(self.per_write).min(self.room);
         if count == 0 && !bytes.is_empty() {
-            return Err(io::Error::from(ErrorKind::BrokenPipe));
+            return Err(io::Error::from(self.error));
         }
         self.taken.extend_from_slice(&bytes[..count])?;
         self.room -= count;
@@ -232,7 +233,7 @@ impl Write for FailingWriter {
 
     fn flush(&mut self) -> io::Result<()> {
         if self.fails_to_flush {
-            return Err(io::Error::from(ErrorKind::BrokenPipe));
+            return Err(io::Error::from(self.error));
         }
         Ok(())
     }
@@ -245,6 +246,7 @@ fn unflushed(alloc: Global, room: usize) -> FailingWriter {
         per_write: 7,
         room,
         fails_to_flush: true,
+        error: ErrorKind::StorageFull,
     }
 }
 

@@ -6,10 +6,10 @@ use Rattle.std.proofs.lemmas.Bool.{lt-ltb}
 use Rattle.std.proofs.lemmas.Bool.Decides.{eqb_tells}
 use Rattle.std.proofs.lemmas.List.Elements.{All-append, All-cons, All-map, All-nil}
 use Rattle.std.proofs.lemmas.List.Quantifiers.{position-Some}
-use Rattle.apply_plan.specs.declared.plan.step_kind.StepKind.{StepKind}
-use Rattle.apply_plan.specs.declared.script.outcome.Outcome.{Outcome}
-use Rattle.apply_plan.specs.Script.Outcome.{fails, took}
-use Rattle.apply_plan.specs.Script.OutcomeMap.{outcome_of}
+use Rattle.apply_model.specs.declared.plan.step_kind.StepKind.{StepKind}
+use Rattle.apply_model.specs.declared.script.outcome.Outcome.{Outcome}
+use Rattle.apply_model.specs.Script.Outcome.{fails, took}
+use Rattle.apply_model.specs.Script.OutcomeMap.{outcome_of}
 use Rattle.apply_hooks.specs.HookCall.{Call}
 use Rattle.apply_hooks.specs.Hooks.{first_halting, max_hooks}
 use Rattle.apply_hooks.specs.Rules.{verdict_of}

@@ -4,8 +4,8 @@ use Rattle.std.proofs.lemmas.Bool.Decides.{eqb_tells}
 use Rattle.std.proofs.lemmas.List.Elements.{All-head, All-tail}
 use Rattle.std.proofs.lemmas.List.Sums.{sum_by-cons}
 use Rattle.std.specs.List.{range_with_len}
-use Rattle.apply_plan.specs.declared.plan.step_kind.StepKind.TheVariants.{Create, Update, Delete}
-use Rattle.apply_plan.specs.Plan.SavedPlan.{SavedPlan}
+use Rattle.apply_model.specs.declared.plan.step_kind.StepKind.TheVariants.{Create, Update, Delete}
+use Rattle.apply_model.specs.Plan.SavedPlan.{SavedPlan}
 use Rattle.apply_events.specs.declared.counts.Counts.{Counts}
 use Rattle.apply_events.specs.declared.event.Event.{Event}
 use Rattle.apply_events.specs.OfWorker.{of_worker}

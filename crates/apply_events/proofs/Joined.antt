@@ -4,8 +4,8 @@ use Rattle.std.specs.Prelude.{count_by, is_some, option_map, option_to_list}
 use Rattle.std.proofs.lemmas.Bool.Decides.{eqb_tells}
 use Rattle.std.proofs.lemmas.List.Elements.{filter-append}
 use Rattle.std.proofs.lemmas.List.Sums.{sum_by-append}
-use Rattle.apply_plan.specs.Plan.SavedPlan.{SavedPlan}
-use Rattle.apply_plan.specs.declared.plan.step_kind.StepKind.TheVariants.{Create, Update, Delete}
+use Rattle.apply_model.specs.Plan.SavedPlan.{SavedPlan}
+use Rattle.apply_model.specs.declared.plan.step_kind.StepKind.TheVariants.{Create, Update, Delete}
 use Rattle.apply_hooks.specs.declared.phase.Phase.{Phase}
 use Rattle.apply_hooks.specs.declared.phase.Phase.TheVariants.{Pre}
 use Rattle.apply_events.specs.declared.event.Event.{Event}

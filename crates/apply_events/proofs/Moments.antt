@@ -5,10 +5,10 @@ use Rattle.std.specs.List.{enumerate_from, list_any}
 use Rattle.std.proofs.lemmas.Bool.Decides.{eqb_tells}
 use Rattle.std.proofs.lemmas.List.Sums.{sum_by-cons}
 use Rattle.std.proofs.lemmas.Map.Steps.{length-le_from_distinct_below}
-use Rattle.apply_plan.specs.declared.plan.step_kind.StepKind.{StepKind}
-use Rattle.apply_plan.specs.Script.OutcomeMap.{IsInRange, given_outcome}
-use Rattle.apply_plan.specs.declared.script.outcome.Outcome.{Outcome}
-use Rattle.apply_plan.specs.Script.Outcome.{IsBounded, default_outcome, took}
+use Rattle.apply_model.specs.declared.plan.step_kind.StepKind.{StepKind}
+use Rattle.apply_model.specs.Script.OutcomeMap.{IsInRange, given_outcome}
+use Rattle.apply_model.specs.declared.script.outcome.Outcome.{Outcome}
+use Rattle.apply_model.specs.Script.Outcome.{IsBounded, default_outcome, took}
 use Rattle.std.specs.Prelude.{unwrap_or}
 use Rattle.apply_hooks.specs.declared.phase.Phase.{Phase}
 use Rattle.apply_hooks.specs.declared.phase.Phase.TheVariants.{Pre}

@@ -2,9 +2,9 @@
 use Rattle.std.proofs.Common.{◌≡◌, ℕ, zero, suc, ◌+◌, ◌<◌, ◌≤◌, List, [], ◌∷◌, length, map, drop, Option, Some, None, IfSome, IfNone, refl, sym, subst₂, arith, add-zero, add-one}
 use Rattle.std.specs.Prelude.{slice_get}
 use Rattle.std.specs.List.{enumerate_from}
-use Rattle.apply_plan.specs.declared.plan.step_kind.StepKind.{StepKind}
-use Rattle.apply_plan.specs.Plan.ResourceChange.{ResourceChange}
-use Rattle.apply_plan.specs.Plan.SavedPlan.{SavedPlan}
+use Rattle.apply_model.specs.declared.plan.step_kind.StepKind.{StepKind}
+use Rattle.apply_model.specs.Plan.ResourceChange.{ResourceChange}
+use Rattle.apply_model.specs.Plan.SavedPlan.{SavedPlan}
 use Rattle.apply_events.specs.declared.event.Event.{Event}
 use Rattle.apply_events.specs.Fits.{HasStep}
 use Rattle.apply_events.specs.Step.{Work, kinds_of, step_of, steps_of}

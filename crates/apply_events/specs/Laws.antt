@@ -1,8 +1,8 @@
 -- Words of the laws of events.
 use Rattle.std.specs.Prelude.{ℕ, ◌<◌, ◌≤◌, ◌==◌, Bool, ◌&&◌, ◌||◌, List, length, All, nat_eq}
 use Rattle.std.specs.List.{IsDistinct}
-use Rattle.apply_plan.specs.Plan.SavedPlan.{max_changes}
-use Rattle.apply_plan.specs.Script.OutcomeMap.{IsInRange}
+use Rattle.apply_model.specs.Plan.SavedPlan.{max_changes}
+use Rattle.apply_model.specs.Script.OutcomeMap.{IsInRange}
 use Rattle.apply_events.specs.declared.event.Event.{Event}
 use Rattle.apply_events.specs.Fits.{Fits}
 use Rattle.apply_events.specs.Step.{Work, kinds_of}

@@ -1,7 +1,7 @@
 -- What contracts see of how far a step is between its start and its end: what still happens to it.
 use Rattle.std.specs.Prelude.{ℕ, ◌+◌, List, [], ◌∷◌, ◌++◌, drop, map, take, Option, Some, None}
-use Rattle.apply_plan.specs.declared.script.provisioner.Provisioner.{Provisioner}
-use Rattle.apply_plan.specs.Script.Outcome.{seconds_of_all}
+use Rattle.apply_model.specs.declared.script.provisioner.Provisioner.{Provisioner}
+use Rattle.apply_model.specs.Script.Outcome.{seconds_of_all}
 use Rattle.apply_events.specs.declared.mid_step.MidStep.{MidStep}
 use Rattle.apply_events.specs.declared.what.What.{What}
 use Rattle.apply_events.specs.Provisions.{along, progress, provisions, results}

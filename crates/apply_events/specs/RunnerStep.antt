@@ -1,8 +1,8 @@
 -- The step that a runner has at hand, for private clauses.
 use Rattle.std.specs.Prelude.{ℕ, ◌+◌, List, drop}
-use Rattle.apply_plan.specs.declared.plan.step_kind.StepKind.{StepKind}
-use Rattle.apply_plan.specs.Script.Outcome.{ran}
-use Rattle.apply_plan.specs.Script.OutcomeMap.{outcome_of}
+use Rattle.apply_model.specs.declared.plan.step_kind.StepKind.{StepKind}
+use Rattle.apply_model.specs.Script.Outcome.{ran}
+use Rattle.apply_model.specs.Script.OutcomeMap.{outcome_of}
 use Rattle.apply_events.specs.declared.mid_step.MidStep.{MidStep}
 use Rattle.apply_events.specs.declared.runner.Runner.{Runner}
 use Rattle.apply_events.specs.declared.what.What.{What}

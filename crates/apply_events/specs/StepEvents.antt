@@ -1,6 +1,6 @@
 -- The events of one step (Machine-Readable UI, "Operation Messages"; hooks before and after each action).
 use Rattle.std.specs.Prelude.{ℕ, ◌+◌, List, [], ◌∷◌, ◌++◌, map, Bool, not, ◌&&◌, is_some, is_none, if◌then◌else◌, option_map, option_to_list}
-use Rattle.apply_plan.specs.Script.Outcome.{seconds_of_all}
+use Rattle.apply_model.specs.Script.Outcome.{seconds_of_all}
 use Rattle.apply_hooks.specs.declared.phase.Phase.{Phase}
 use Rattle.apply_hooks.specs.declared.phase.Phase.TheVariants.{Pre, PostDone, PostFailed}
 use Rattle.apply_events.specs.declared.event.Event.{Event}

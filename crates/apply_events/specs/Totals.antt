@@ -1,10 +1,10 @@
 -- How many steps were completed, failed and halted.
 use Rattle.std.specs.Prelude.{◌+◌, List, count_by, Bool, true, false, ◌&&◌, slice_get}
 use Rattle.std.specs.Option.{option_map_or}
-use Rattle.apply_plan.specs.declared.plan.step_kind.StepKind.{StepKind}
-use Rattle.apply_plan.specs.declared.plan.step_kind.StepKind.TheVariants.{Create, Update, Delete}
-use Rattle.apply_plan.specs.Plan.SavedPlan.{SavedPlan}
-use Rattle.apply_plan.specs.Plan.StepKind.{is_kind}
+use Rattle.apply_model.specs.declared.plan.step_kind.StepKind.{StepKind}
+use Rattle.apply_model.specs.declared.plan.step_kind.StepKind.TheVariants.{Create, Update, Delete}
+use Rattle.apply_model.specs.Plan.SavedPlan.{SavedPlan}
+use Rattle.apply_model.specs.Plan.StepKind.{is_kind}
 use Rattle.apply_events.specs.declared.counts.Counts.{Counts}
 use Rattle.apply_events.specs.declared.event.Event.{Event}
 use Rattle.apply_events.specs.declared.what.What.{What}

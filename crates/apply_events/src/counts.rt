@@ -5,7 +5,7 @@ ghost use Rattle.apply_events.specs.Fits.{HasStep};
 
 use crate::event::Event;
 use crate::what::What;
-use apply_plan::{Plan, StepKind};
+use apply_model::{Plan, StepKind};
 
 /// How many steps were completed, by kind, and how many failed or were halted. A read that completes is counted nowhere.
 #[derive(Clone, Copy, Debug, PartialEq, Eq)]

@@ -3,8 +3,8 @@
 ghost use Rattle.std.specs.Prelude.{◌≡◌, ◌↔◌, ◌==◌, false, length, nat_lt, not, slice_get, IsTrue};
 ghost use Rattle.std.specs.List.{list_any};
 ghost use Rattle.std.specs.Option.{option_copied, option_map_or};
-ghost use Rattle.apply_plan.specs.Script.Outcome.{has_failed, ran};
-ghost use Rattle.apply_plan.specs.Script.OutcomeMap.{outcome_of};
+ghost use Rattle.apply_model.specs.Script.Outcome.{has_failed, ran};
+ghost use Rattle.apply_model.specs.Script.OutcomeMap.{outcome_of};
 ghost use Rattle.apply_events.specs.Fits.{Fits, HasStep, IsOfPlan, can_happen, may_be_asked};
 ghost use Rattle.apply_events.specs.ProgressTimes.{progress_times};
 
@@ -13,7 +13,7 @@ use crate::provisioners_that_run::that_ran;
 use crate::step_facts::StepFacts;
 use crate::what::What;
 use apply_hooks::{MAX_HOOKS, Phase};
-use apply_plan::{Plan, Provisioner, Script};
+use apply_model::{Plan, Provisioner, Script};
 
 /// Whether the event can happen under some hooks: the plan has its step, `at` is `LATEST` at most, and `what` can happen
 /// to a step with that outcome. The worker is not looked at.

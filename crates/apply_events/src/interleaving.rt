@@ -1,7 +1,7 @@
 //! Laws of interleavings. Each function does nothing; its contract is the law.
 
 ghost use Rattle.std.specs.Prelude.{◌≡◌, ◌≤◌, [], ℕ, List, length, slice_index_or, sum_by};
-ghost use Rattle.apply_plan.specs.Plan.SavedPlan.{SavedPlan};
+ghost use Rattle.apply_model.specs.Plan.SavedPlan.{SavedPlan};
 ghost use Rattle.apply_events.specs.declared.event.Event.{Event};
 ghost use Rattle.apply_events.specs.Interleaving.{lists_of, sum_of_totals, IsInterleaving};
 ghost use Rattle.apply_events.specs.Lanes.ToCome.{max_events};

@@ -1,7 +1,7 @@
 //! The events of a plan that is applied in lanes, one by one.
 
 ghost use Rattle.std.specs.Prelude.{◌≡◌, ℕ, ◌+◌, ◌*◌, ◌<◌, ◌≤◌, All, IfOk, None, Some, length, map, replicate, sum_by};
-ghost use Rattle.apply_plan.specs.Plan.SavedPlan.{SavedPlan, max_changes};
+ghost use Rattle.apply_model.specs.Plan.SavedPlan.{SavedPlan, max_changes};
 ghost use Rattle.apply_events.specs.Lanes.Lane.{IsSound, state_of};
 ghost use Rattle.apply_events.specs.Lanes.LaneState.{IsSteady, count_left, unused};
 ghost use Rattle.apply_events.specs.Lanes.Props.{AllSound-prop, IsSteady-prop};
@@ -12,7 +12,7 @@ pub mod laws;
 use crate::event::Event;
 use crate::lanes::lane::Lane;
 use apply_hooks::Registry;
-use apply_plan::{Plan, Script};
+use apply_model::{Plan, Script};
 use std::alloc::{AllocError, Global};
 
 /// A plan that is applied in lanes.

@@ -1,14 +1,14 @@
 //! How far a step is between its start and its end.
 
 ghost use Rattle.std.specs.Prelude.{◌≡◌, ◌+◌, ◌≤◌, ◌∷◌, [], ℕ, List, None, Some, IfNone, IfSome};
-ghost use Rattle.apply_plan.specs.declared.script.provisioner.Provisioner.{Provisioner};
-ghost use Rattle.apply_plan.specs.Script.Limits.{max_seconds};
-ghost use Rattle.apply_plan.specs.Script.Outcome.{ran, seconds_of_all, took};
+ghost use Rattle.apply_model.specs.declared.script.provisioner.Provisioner.{Provisioner};
+ghost use Rattle.apply_model.specs.Script.Limits.{max_seconds};
+ghost use Rattle.apply_model.specs.Script.Outcome.{ran, seconds_of_all, took};
 ghost use Rattle.apply_events.specs.Provisions.{provision_end};
 
 use crate::provisioners_that_run::{begin_of, that_ran};
 use crate::what::What;
-use apply_plan::{Outcome, Provisioner};
+use apply_model::{Outcome, Provisioner};
 
 /// How far a step is that has started and has not ended.
 #[derive(Clone, Copy)]

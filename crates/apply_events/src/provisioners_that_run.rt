@@ -2,11 +2,11 @@
 
 ghost use Rattle.std.specs.Prelude.{◌≡◌, ◌<◌, ◌≤◌, slice_get, IfSome};
 ghost use Rattle.std.specs.Option.{option_copied};
-ghost use Rattle.apply_plan.specs.Script.Limits.{max_provisioners, max_seconds};
-ghost use Rattle.apply_plan.specs.Script.Outcome.{ran, took};
+ghost use Rattle.apply_model.specs.Script.Limits.{max_provisioners, max_seconds};
+ghost use Rattle.apply_model.specs.Script.Outcome.{ran, took};
 ghost use Rattle.apply_events.specs.MidStep.{since};
 
-use apply_plan::{Outcome, Provisioner};
+use apply_model::{Outcome, Provisioner};
 
 /// The provisioner of that number, where it runs.
 pub fn that_ran(outcome: &Outcome, number: u8) -> Option<&Provisioner>

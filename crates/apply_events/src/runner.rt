@@ -2,7 +2,7 @@
 
 ghost use Rattle.std.specs.Prelude.{◌≡◌, ◌+◌, ◌-◌, ◌*◌, ◌<◌, ◌≤◌, length, true};
 ghost use Rattle.apply_hooks.specs.Registry.{rules_of};
-ghost use Rattle.apply_plan.specs.Script.Limits.{max_seconds};
+ghost use Rattle.apply_model.specs.Script.Limits.{max_seconds};
 ghost use Rattle.apply_events.specs.Fits.{last_moment, max_span};
 ghost use Rattle.apply_events.specs.Stages.{is_on_course, time_behind};
 ghost use Rattle.apply_events.specs.Step.{steps_of};
@@ -14,7 +14,7 @@ use crate::stage::Stage;
 use crate::step_facts::StepFacts;
 use crate::what::What;
 use apply_hooks::{Asked, HookCall, Phase, Registry};
-use apply_plan::{Plan, Script, StepKind};
+use apply_model::{Plan, Script, StepKind};
 
 /// A change that is being applied: it gives the change's events one by one, and keeps but a few words.
 ///
@@ -52,8 +52,8 @@ pub struct Runner<'a> {
 
 impl<'a> Runner<'a> {
     ghost use Rattle.std.specs.Prelude.{[], ◌∷◌, ◌++◌, ◌↔◌, Some, IfSome, IfNone};
-    ghost use Rattle.apply_plan.specs.Script.Outcome.{fails, took};
-    ghost use Rattle.apply_plan.specs.Script.OutcomeMap.{outcome_of};
+    ghost use Rattle.apply_model.specs.Script.Outcome.{fails, took};
+    ghost use Rattle.apply_model.specs.Script.OutcomeMap.{outcome_of};
     ghost use Rattle.apply_events.specs.ChangeEvents.{change_events, span_of};
     ghost use Rattle.apply_events.specs.Fits.{HasStep};
     ghost use Rattle.apply_events.specs.Course.{GivesNext, beginning_of, ended_of};

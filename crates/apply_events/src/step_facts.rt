@@ -1,16 +1,16 @@
 //! What the events of a step take from its outcome.
 
 ghost use Rattle.std.specs.Prelude.{◌≡◌, ◌≤◌, ◌||◌};
-ghost use Rattle.apply_plan.specs.Script.Limits.{max_seconds};
-ghost use Rattle.apply_plan.specs.Script.Outcome.{fails, took};
-ghost use Rattle.apply_plan.specs.Script.OutcomeMap.{outcome_of};
+ghost use Rattle.apply_model.specs.Script.Limits.{max_seconds};
+ghost use Rattle.apply_model.specs.Script.Outcome.{fails, took};
+ghost use Rattle.apply_model.specs.Script.OutcomeMap.{outcome_of};
 ghost use Rattle.apply_events.specs.Step.{has_warning};
 ghost use Rattle.apply_events.specs.Notes.{note_of};
 ghost use Rattle.apply_events.specs.StepEvents.{end_of, phase_after};
 
 use crate::what::What;
 use apply_hooks::Phase;
-use apply_plan::{Ending, Script};
+use apply_model::{Ending, Script};
 
 /// What the events of a step take from its outcome, without its texts.
 #[derive(Clone, Copy)]

@@ -1,6 +1,6 @@
 -- What a hook is told.
 use Rattle.std.specs.Prelude.{ℕ, List}
-use Rattle.apply_plan.specs.declared.plan.step_kind.StepKind.{StepKind}
+use Rattle.apply_model.specs.declared.plan.step_kind.StepKind.{StepKind}
 use Rattle.apply_hooks.specs.declared.hook_call.HookCall.{HookCall}
 use Rattle.apply_hooks.specs.declared.phase.Phase.{Phase}
 

@@ -4,7 +4,7 @@ use Rattle.std.specs.List.{starts_with}
 use Rattle.std.specs.Option.{option_map_or}
 use Rattle.apply_hooks.specs.HookCall.{Call}
 use Rattle.apply_hooks.specs.Phase.{is_phase}
-use Rattle.apply_plan.specs.Plan.StepKind.{is_kind}
+use Rattle.apply_model.specs.Plan.StepKind.{is_kind}
 use Rattle.apply_hooks.specs.declared.rule.Rule.{Rule}
 
 -- each part that is given is equal, and the address begins with the text

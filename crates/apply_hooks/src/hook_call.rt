@@ -4,7 +4,7 @@ ghost use Rattle.std.specs.Prelude.{◌≡◌, nat_eq};
 ghost use Rattle.std.specs.List.{starts_with};
 
 use crate::phase::Phase;
-use apply_plan::StepKind;
+use apply_model::StepKind;
 
 /// What a hook is told when it is asked.
 #[derive(Clone, Copy, Debug)]

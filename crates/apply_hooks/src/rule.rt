@@ -4,12 +4,12 @@ ghost use Rattle.std.specs.Prelude.{◌≡◌, true};
 ghost use Rattle.std.specs.Option.{option_map_or};
 ghost use Rattle.apply_hooks.specs.HookCall.{call_of};
 ghost use Rattle.apply_hooks.specs.Phase.{is_phase};
-ghost use Rattle.apply_plan.specs.Plan.StepKind.{is_kind};
+ghost use Rattle.apply_model.specs.Plan.StepKind.{is_kind};
 
 use crate::hook_call::HookCall;
 use crate::phase::Phase;
 use crate::verdict::Verdict;
-use apply_plan::{StepKind, Text};
+use apply_model::{StepKind, Text};
 
 /// A rule: what is answered to the calls that it matches.
 ///

@@ -10,7 +10,7 @@ use crate::hook_call::HookCall;
 use crate::phase::Phase;
 use crate::rule::Rule;
 use crate::verdict::Verdict;
-use apply_plan::{StepKind, Text};
+use apply_model::{StepKind, Text};
 use std::alloc::{AllocError, Global};
 use std::marker::Model;
 

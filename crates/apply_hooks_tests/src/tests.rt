@@ -12,7 +12,7 @@ use apply_hooks::{
     Asked, FnHook, Hook, HookCall, HookClosure, HookError, MAX_HOOKS, Phase, Registry, Rule, Rules,
     Verdict,
 };
-use apply_plan::{StepKind, Text};
+use apply_model::{StepKind, Text};
 use std::alloc::Global;
 use std::fmt::Debug;
 use std::process::Abort;

@@ -1,7 +1,5 @@
 pub mod ListReading
-pub mod Options
 pub mod Plans
-pub mod Prefixes
 pub mod Results
 pub mod Scripts
 pub mod WholeList

@@ -4,7 +4,6 @@ pub mod Limits
 pub mod Numbers
 pub mod OneEntry
 pub mod Parts
-pub mod Provisioners
 pub mod Refusals
 pub mod Trimmed
 pub mod TreeSteps

@@ -1,6 +1,8 @@
--- Plans: what they are, and what is seen of the types that read one.
-pub mod Action
-pub mod Address
+-- Plans: how they are read, and what is seen of the types that read one. What they are is passed on.
+pub use Rattle.apply_model.specs.Plan.Action
+pub use Rattle.apply_model.specs.Plan.Address
+pub use Rattle.apply_model.specs.Plan.ResourceChange
+pub use Rattle.apply_model.specs.Plan.StepKind
 pub mod Element
 pub mod ElementView
 pub mod Header
@@ -9,9 +11,7 @@ pub mod Laws
 pub mod NextChange
 pub mod ObjectName
 pub mod PlannedView
-pub mod ResourceChange
 pub mod SavedPlan
 pub mod SeenObjects
 pub mod Selection
-pub mod StepKind
 pub mod Steps

@@ -1,68 +1,12 @@
-//! A saved plan, and how it is read.
-
-ghost use Rattle.std.specs.Prelude.{◌≡◌, ◌<◌, ◌≤◌, length, Some, slice_get};
-ghost use Rattle.apply_plan.specs.Plan.SavedPlan.{max_changes};
+//! How a saved plan is read.
 
 pub mod action;
-pub mod address;
-pub mod change;
 pub mod element;
 pub mod header;
-pub mod key;
 pub mod laws;
-pub mod mode;
 pub mod object_id;
 pub mod plan_error;
 pub mod plan_shape;
 pub mod planned;
 pub mod reading;
 pub mod seen_objects;
-pub mod step_kind;
-
-use crate::plan::change::Change;
-use crate::text::Text;
-use std::marker::Model;
-
-/// A saved plan (JSON Output Format, "Plan Representation"): the version of Terraform that made it, and the list
-/// of its changes, 10,000 at most.
-#[derive(Debug, Drop)]
-pub struct Plan {
-    pub(crate) version: Text,
-    pub(crate) changes: Vec<Change>,
-}
-
-impl Model for Plan {
-    ghost use Rattle.std.specs.Prelude.{◌≤◌, vec_len};
-    ghost use Rattle.apply_plan.specs.Plan.SavedPlan.{SavedPlan, max_changes};
-
-    ghost Value = { SavedPlan };
-
-    ghost view = { λ p. record { version = p.version; changes = p.changes.items } };
-
-    ghost invariant = { λ p. vec_len p.changes ≤ max_changes };
-}
-
-impl Plan {
-    /// The number of changes, 10,000 at most.
-    pub fn len(&self) -> u32
-        ensures len { result ≡ length self.now.changes }
-        ensures few { length self.now.changes ≤ max_changes }
-    {
-        self.changes.len() as u32
-    }
-
-    /// The change of that number, counted from 0.
-    pub fn change(&self, number: u32) -> &Change
-        requires { number < length self.now.changes }
-        ensures { Some result.now ≡ slice_get self.now.changes number }
-    {
-        &self.changes[number as usize]
-    }
-
-    /// The version of Terraform that made the plan; `0.0.0` where it does not say.
-    pub fn version(&self) -> &str
-        ensures { result.now ≡ self.now.version }
-    {
-        self.version.as_str()
-    }
-}

@@ -8,7 +8,7 @@ use Rattle.apply_events.specs.declared.event.Event.{Event}
 use Rattle.apply_bus.specs.declared.item.Item.{Item}
 use Rattle.apply_bus.specs.Items.{event_of, events, max_taken}
 use Rattle.apply_events.specs.Fits.{IsOfPlan}
-use Rattle.apply_run.specs.Stream.Room.{max_told}
+use Rattle.apply_run.specs.Stream.Counting.{max_told}
 use Rattle.apply_run.specs.Stream.Telling.{HasTold, Telling}
 use Rattle.apply_run.proofs.Runs.Headline.{same_of}
 

@@ -2,5 +2,5 @@
 pub mod Delivered
 pub mod Ended
 pub mod Outlet
-pub mod Room
+pub mod Counting
 pub mod Telling

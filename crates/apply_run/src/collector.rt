@@ -4,7 +4,7 @@ ghost use Rattle.std.specs.Prelude.{◌≡◌, ◌<◌, ◌≤◌, ◌+◌, ◌�
 ghost use Rattle.apply_events.specs.declared.event.Event.{Event};
 ghost use Rattle.apply_bus.specs.Bus.{NamesWorkersBelow};
 ghost use Rattle.apply_bus.specs.Items.{closes, events};
-ghost use Rattle.apply_run.specs.Stream.Room.{HasRoom, IsNew, max_told};
+ghost use Rattle.apply_run.specs.Stream.Counting.{CountsFit, IsNew, max_told};
 ghost use Rattle.apply_events.specs.Fits.{IsOfPlan};
 ghost use Rattle.apply_run.specs.Stream.Telling.{HasTold, IsSameStream, IsToldSince, telling_of};
 
@@ -42,7 +42,7 @@ pub(crate) fn collect<'a, S: Sink + Drop, R: Wait>(
     ensures same { IsSameStream stream.entry result.stream }
     ensures told { All (IsOfPlan stream.entry.plan.now) (events result.taken.taken)
         → IsToldSince S.bytes S.failed stream.entry (events result.taken.taken) result.stream }
-    ensures room { HasRoom result.stream.plan.now (telling_of S.bytes S.failed result.stream) }
+    ensures counts_fit { CountsFit result.stream.plan.now (telling_of S.bytes S.failed result.stream) }
     ensures lost { result.lost ≡ false → closes result.taken.taken ≡ rx.workers }
 {
     stream.write_version();
@@ -65,7 +65,7 @@ pub(crate) fn collect<'a, S: Sink + Drop, R: Wait>(
 
 /// Tells the item where it is an event of the plan.
 fn note<S: Sink + Drop>(stream: &mut StreamWriter<'_, S>, item: &Item)
-    requires room { HasRoom stream.old.plan.now (telling_of S.bytes S.failed stream.old) }
+    requires counts_fit { CountsFit stream.old.plan.now (telling_of S.bytes S.failed stream.old) }
     requires few { stream.old.taken < max_told }
     ensures told { (before : Option (List ℕ)) (failures : ℕ) (so_far : List Event)
         → All (IsOfPlan stream.old.plan.now) (events (item.now ∷ []))
@@ -73,7 +73,7 @@ fn note<S: Sink + Drop>(stream: &mut StreamWriter<'_, S>, item: &Item)
         (telling_of S.bytes S.failed stream.old)
         → HasTold stream.old.plan.now stream.old.script.now stream.old.start before failures
         (so_far ++ events (item.now ∷ [])) (telling_of S.bytes S.failed stream.new) }
-    ensures room { HasRoom stream.new.plan.now (telling_of S.bytes S.failed stream.new) }
+    ensures counts_fit { CountsFit stream.new.plan.now (telling_of S.bytes S.failed stream.new) }
     ensures one_more { stream.new.taken ≤ stream.old.taken + 1 }
     ensures same { IsSameStream stream.old stream.new }
 {

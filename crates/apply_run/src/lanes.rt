@@ -6,7 +6,7 @@ ghost use Rattle.apply_hooks.specs.Registry.{rules_of};
 ghost use Rattle.apply_events.specs.Lanes.ToCome.{to_come, told_count, work_of};
 ghost use Rattle.apply_run.specs.Lanes.{AreLanes, HasFailedInLanes, HasStreamedInLanes, WasAppliedInLanes, WasRefusedInLanes};
 ghost use Rattle.apply_run.specs.Run.{sight_of};
-ghost use Rattle.apply_run.specs.Stream.Room.{HasRoom, IsNew};
+ghost use Rattle.apply_run.specs.Stream.Counting.{CountsFit, IsNew};
 ghost use Rattle.apply_run.specs.Stream.Telling.{IsSameStream, IsToldSince, telling_of};
 
 use crate::bytes::read_given;
@@ -82,7 +82,7 @@ fn tell_all<'a, S: Sink + Drop>(
     requires plan { stream.plan.now ≡ (work_of lanes).plan }
     ensures same { IsSameStream stream.entry result }
     ensures told { IsToldSince S.bytes S.failed stream.entry (to_come lanes.entry) result }
-    ensures room { HasRoom result.plan.now (telling_of S.bytes S.failed result) }
+    ensures counts_fit { CountsFit result.plan.now (telling_of S.bytes S.failed result) }
 {
     stream.write_version();
     while let Some(event) = lanes.next() {

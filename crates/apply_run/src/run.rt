@@ -5,7 +5,7 @@ ghost use Rattle.apply_hooks.specs.Registry.{rules_of};
 ghost use Rattle.apply_run.specs.Run.Endpoints.{AreReady};
 ghost use Rattle.apply_run.specs.Run.Finished.{IsFinishedRun, IsJoinedRun};
 ghost use Rattle.apply_run.specs.Run.NotBegun.{GivesBack};
-ghost use Rattle.apply_run.specs.Stream.Room.{IsNew};
+ghost use Rattle.apply_run.specs.Stream.Counting.{IsNew};
 ghost use Rattle.apply_run.specs.Stream.Telling.{telling_of};
 ghost use Rattle.apply_run.specs.Run.Threads.{IsRun};
 

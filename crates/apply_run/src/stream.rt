@@ -7,7 +7,7 @@ ghost use Rattle.apply_text.specs.Order.{as_written, hook_messages_of};
 ghost use Rattle.apply_events.specs.Fits.{last_moment};
 ghost use Rattle.apply_run.specs.Stream.Ended.{IsCutOff, IsFaulted, IsWhole};
 ghost use Rattle.apply_run.specs.Stream.Outlet.{HasWritten, IsRefused, Writes, failed_writes, outlet_of};
-ghost use Rattle.apply_run.specs.Stream.Room.{HasRoom, IsNew, MayWrite, max_told};
+ghost use Rattle.apply_run.specs.Stream.Counting.{CountsFit, IsNew, MayWrite, max_told};
 ghost use Rattle.apply_events.specs.Fits.{IsOfPlan};
 ghost use Rattle.apply_run.specs.Stream.Telling.{HasLines, HasTold, IsSameStream, IsToldSince, telling_of};
 
@@ -75,7 +75,7 @@ impl<'a, S: Sink + Drop> StreamWriter<'a, S> {
     pub fn write_version(&mut self)
         requires { IsNew (telling_of S.bytes S.failed self.old) }
         ensures told { IsToldSince S.bytes S.failed self.old [] self.new }
-        ensures room { HasRoom self.new.plan.now (telling_of S.bytes S.failed self.new) }
+        ensures counts_fit { CountsFit self.new.plan.now (telling_of S.bytes S.failed self.new) }
         ensures none { self.new.taken ≡ 0 }
         ensures same { IsSameStream self.old self.new }
     {
@@ -88,14 +88,14 @@ impl<'a, S: Sink + Drop> StreamWriter<'a, S> {
     /// note.
     pub fn tell(&mut self, event: &Event)
         requires event { IsOfPlan self.old.plan.now event.now }
-        requires room { HasRoom self.old.plan.now (telling_of S.bytes S.failed self.old) }
+        requires counts_fit { CountsFit self.old.plan.now (telling_of S.bytes S.failed self.old) }
         requires few { self.old.taken < max_told }
         ensures told { (before : Option (List ℕ)) (failures : ℕ) (events : List Event)
             → HasTold self.old.plan.now self.old.script.now self.old.start before failures events
             (telling_of S.bytes S.failed self.old)
             → HasTold self.old.plan.now self.old.script.now self.old.start before failures (events ++ event.now ∷ [])
             (telling_of S.bytes S.failed self.new) }
-        ensures room { HasRoom self.new.plan.now (telling_of S.bytes S.failed self.new) }
+        ensures counts_fit { CountsFit self.new.plan.now (telling_of S.bytes S.failed self.new) }
         ensures one_more { self.new.taken ≡ self.old.taken + 1 }
         ensures same { IsSameStream self.old self.new }
     {
@@ -116,7 +116,7 @@ impl<'a, S: Sink + Drop> StreamWriter<'a, S> {
     /// for a line or to keep a note: then the sink has a prefix of the stream, and without the summary in the second
     /// case.
     pub fn end(mut self, operation: Operation) -> (S, Result<Report, Fault>)
-        requires { HasRoom self.plan.now (telling_of S.bytes S.failed self) }
+        requires { CountsFit self.plan.now (telling_of S.bytes S.failed self) }
         ensures ok { IfOk result.1 (λ report. (before : Option (List ℕ)) (failures : ℕ) (events : List Event)
             → HasTold self.entry.plan.now self.entry.script.now self.entry.start before failures events
             (telling_of S.bytes S.failed self.entry)
@@ -189,7 +189,7 @@ impl<'a, S: Sink + Drop> StreamWriter<'a, S> {
     /// built.
     fn write_event(&mut self, event: &Event)
         requires event { IsOfPlan self.old.plan.now event.now }
-        requires room { MayWrite (telling_of S.bytes S.failed self.old) }
+        requires may_write { MayWrite (telling_of S.bytes S.failed self.old) }
         ensures written { (before : Option (List ℕ)) (failures : ℕ) (events : List Event)
             → HasLines self.old.plan.now self.old.script.now self.old.start before failures events
             (telling_of S.bytes S.failed self.old)
@@ -215,7 +215,7 @@ impl<'a, S: Sink + Drop> StreamWriter<'a, S> {
 
     /// Writes the notes and the summary, unless the writing has stopped.
     fn write_rest(&mut self, operation: Operation)
-        requires { HasRoom self.old.plan.now (telling_of S.bytes S.failed self.old) }
+        requires { CountsFit self.old.plan.now (telling_of S.bytes S.failed self.old) }
         ensures written { (before : Option (List ℕ)) (failures : ℕ) (events : List Event)
             → HasTold self.old.plan.now self.old.script.now self.old.start before failures events
             (telling_of S.bytes S.failed self.old)
@@ -239,13 +239,13 @@ impl<'a, S: Sink + Drop> StreamWriter<'a, S> {
 
     /// Writes the lines of the notes that are kept, in their order, up to where the writing stops.
     fn write_notes(&mut self)
-        requires { HasRoom self.old.plan.now (telling_of S.bytes S.failed self.old) }
+        requires { CountsFit self.old.plan.now (telling_of S.bytes S.failed self.old) }
         ensures written { (before : Option (List ℕ)) (failures : ℕ) (events : List Event)
             → HasLines self.old.plan.now self.old.script.now self.old.start before failures events
             (telling_of S.bytes S.failed self.old)
             → HasLines self.old.plan.now self.old.script.now self.old.start before failures
             (events ++ self.old.notes.items) (telling_of S.bytes S.failed self.new) }
-        ensures room { MayWrite (telling_of S.bytes S.failed self.new) }
+        ensures may_write { MayWrite (telling_of S.bytes S.failed self.new) }
         ensures told { (self.new.counts ≡ self.old.counts) × (self.new.taken ≡ self.old.taken) }
         ensures same { IsSameStream self.old self.new }
     {
@@ -294,11 +294,11 @@ impl<'a, S: Sink + Drop> StreamWriter<'a, S> {
     /// Writes the line in the buffer. Where it could not be built, nothing more is written.
     fn write_built(&mut self, built: Result<(), AllocError>)
         requires open { self.old.output.stop ≡ Stop.Going → S.failed self.old.output.sink < 2 ^ 64 - 1 }
-        requires room { self.old.output.written ≤ 2 ^ 127 }
+        requires few { self.old.output.written ≤ 2 ^ 127 }
         ensures written { (line : List ℕ) → OnOk built (self.old.buffer ≡ line)
             → Writes (outlet_of S.bytes S.failed self.old.output) (outlet_of S.bytes S.failed self.new.output) line }
         ensures open { self.new.output.stop ≡ Stop.Going → S.failed self.new.output.sink < 2 ^ 64 - 1 }
-        ensures room { self.new.output.written ≤ self.old.output.written + 2 ^ 64 }
+        ensures more { self.new.output.written ≤ self.old.output.written + 2 ^ 64 }
         ensures memory { self.new.output.stop ≡ Stop.NoMemory
             → IsRefused (outlet_of S.bytes S.failed self.old.output) (outlet_of S.bytes S.failed self.new.output) }
         ensures told { (self.new.counts ≡ self.old.counts) × (self.new.taken ≡ self.old.taken)

@@ -13,9 +13,9 @@ use Rattle.json.proofs.OnLiterals.{json_on_literals}
 use Rattle.serde_json.specs.Data.{Data}
 use Rattle.serde_json.specs.Written.{compact_text}
 use Rattle.serde_json.proofs.Texts.{print-outline}
-use Rattle.apply_plan.specs.declared.plan.key.Key.{Key}
-use Rattle.apply_plan.specs.declared.plan.step_kind.StepKind.{StepKind}
-use Rattle.apply_plan.specs.Plan.ResourceChange.{ResourceChange}
+use Rattle.apply_model.specs.declared.plan.key.Key.{Key}
+use Rattle.apply_model.specs.declared.plan.step_kind.StepKind.{StepKind}
+use Rattle.apply_model.specs.Plan.ResourceChange.{ResourceChange}
 use Rattle.apply_text.specs.Calendar.{date_of_day}
 use Rattle.apply_text.specs.CachedParts.{back_text, front_text, open_date, open_text, rest_of_day, shown}
 use Rattle.apply_text.specs.Moment.{date_text, moment_text, time_text, two_digits}

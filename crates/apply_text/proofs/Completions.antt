@@ -4,16 +4,16 @@ use Rattle.std.specs.Prelude.{count_by, slice_get}
 use Rattle.std.specs.Option.{option_map_or}
 use Rattle.std.specs.Str.{bytes_eq}
 use Rattle.std.proofs.lemmas.Grind.{common_steps}
-use Rattle.apply_plan.specs.declared.plan.step_kind.StepKind.{StepKind}
-use Rattle.apply_plan.specs.declared.plan.step_kind.StepKind.TheVariants.{Create, Update, Delete, Read}
-use Rattle.apply_plan.specs.declared.script.outcome.Outcome.{Outcome}
-use Rattle.apply_plan.specs.Plan.ResourceChange.{ResourceChange}
-use Rattle.apply_plan.specs.Plan.SavedPlan.{SavedPlan}
-use Rattle.apply_plan.specs.Script.OutcomeMap.{OutcomeMap, outcome_of}
+use Rattle.apply_model.specs.declared.plan.step_kind.StepKind.{StepKind}
+use Rattle.apply_model.specs.declared.plan.step_kind.StepKind.TheVariants.{Create, Update, Delete, Read}
+use Rattle.apply_model.specs.declared.script.outcome.Outcome.{Outcome}
+use Rattle.apply_model.specs.Plan.ResourceChange.{ResourceChange}
+use Rattle.apply_model.specs.Plan.SavedPlan.{SavedPlan}
+use Rattle.apply_model.specs.Script.OutcomeMap.{OutcomeMap, outcome_of}
 use Rattle.apply_events.specs.declared.event.Event.{Event}
 use Rattle.apply_events.specs.declared.what.What.{What}
 use Rattle.apply_events.specs.declared.what.What.TheVariants.{Start, Progress, Complete, Errored, ErrorNote, WarnNote, Halted, ProvisionStart, ProvisionOutput, ProvisionComplete, ProvisionErrored}
-use Rattle.apply_plan.specs.Plan.StepKind.{is_kind}
+use Rattle.apply_model.specs.Plan.StepKind.{is_kind}
 use Rattle.apply_events.specs.Totals.{completes, is_complete, totals_of}
 use Rattle.apply_text.specs.Laws.{tells_of_completion}
 use Rattle.apply_text.specs.Message.{event_message}

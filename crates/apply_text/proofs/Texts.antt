@@ -1,7 +1,7 @@
 -- Texts that are put together in an empty buffer.
 use Rattle.std.proofs.Common.{◌≡◌, ℕ, List, [], ◌++◌, codes, decimal, Option, ap, ◌∙◌, append_assoc}
-use Rattle.apply_plan.specs.declared.plan.step_kind.StepKind.{StepKind}
-use Rattle.apply_plan.specs.Plan.ResourceChange.{ResourceChange}
+use Rattle.apply_model.specs.declared.plan.step_kind.StepKind.{StepKind}
+use Rattle.apply_model.specs.Plan.ResourceChange.{ResourceChange}
 use Rattle.apply_hooks.specs.declared.phase.Phase.{Phase}
 use Rattle.apply_text.specs.Elapsed.{elapsed_of}
 use Rattle.apply_text.specs.Message.{complete_message, halt_of, id_note, provision_complete_message, provision_errored_message}

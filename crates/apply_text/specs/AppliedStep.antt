@@ -1,10 +1,10 @@
 -- A step of a change with what the script says of it, for private clauses.
 use Rattle.std.specs.Prelude.{unwrap_or}
 use Rattle.std.specs.Option.{option_copied}
-use Rattle.apply_plan.specs.declared.script.diag.Diag.{Diag}
-use Rattle.apply_plan.specs.declared.script.ending.Ending.{Ending}
-use Rattle.apply_plan.specs.declared.script.outcome.Outcome.{Outcome}
-use Rattle.apply_plan.specs.Script.Outcome.{default_outcome}
+use Rattle.apply_model.specs.declared.script.diag.Diag.{Diag}
+use Rattle.apply_model.specs.declared.script.ending.Ending.{Ending}
+use Rattle.apply_model.specs.declared.script.outcome.Outcome.{Outcome}
+use Rattle.apply_model.specs.Script.Outcome.{default_outcome}
 use Rattle.apply_events.specs.declared.what.What.{What}
 use Rattle.apply_text.specs.declared.applied_step.AppliedStep.{AppliedStep}
 use Rattle.apply_text.specs.declared.applied_step.DiagTexts.{DiagTexts}

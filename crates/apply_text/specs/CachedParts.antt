@@ -3,10 +3,10 @@ use Rattle.std.specs.Prelude.{ℕ, ◌/◌, ◌%◌, List, [], ◌∷◌, ◌++�
 use Rattle.std.specs.Option.{option_map_or}
 use Rattle.json.specs.Print.{escape}
 use Rattle.serde_json.specs.Written.{compact_text}
-use Rattle.apply_plan.specs.declared.plan.key.Key.{Key}
-use Rattle.apply_plan.specs.declared.plan.mode.Mode.TheVariants.{Managed}
-use Rattle.apply_plan.specs.declared.plan.step_kind.StepKind.{StepKind}
-use Rattle.apply_plan.specs.Plan.ResourceChange.{ResourceChange}
+use Rattle.apply_model.specs.declared.plan.key.Key.{Key}
+use Rattle.apply_model.specs.declared.plan.mode.Mode.TheVariants.{Managed}
+use Rattle.apply_model.specs.declared.plan.step_kind.StepKind.{StepKind}
+use Rattle.apply_model.specs.Plan.ResourceChange.{ResourceChange}
 use Rattle.apply_text.specs.Calendar.{date_of_day}
 use Rattle.apply_text.specs.Moment.{date_text, two_digits}
 use Rattle.apply_text.specs.Objects.{resource_object}

@@ -2,10 +2,10 @@
 use Rattle.std.specs.Prelude.{ℕ, List, count_by, codes, ◌==◌, Bool, false, not, ◌&&◌, slice_get}
 use Rattle.std.specs.Option.{option_map_or}
 use Rattle.std.specs.Str.{bytes_eq}
-use Rattle.apply_plan.specs.declared.plan.step_kind.StepKind.TheVariants.{Read}
-use Rattle.apply_plan.specs.Plan.SavedPlan.{SavedPlan}
-use Rattle.apply_plan.specs.Script.OutcomeMap.{OutcomeMap, outcome_of}
-use Rattle.apply_plan.specs.Plan.StepKind.{is_kind}
+use Rattle.apply_model.specs.declared.plan.step_kind.StepKind.TheVariants.{Read}
+use Rattle.apply_model.specs.Plan.SavedPlan.{SavedPlan}
+use Rattle.apply_model.specs.Script.OutcomeMap.{OutcomeMap, outcome_of}
+use Rattle.apply_model.specs.Plan.StepKind.{is_kind}
 use Rattle.apply_events.specs.declared.event.Event.{Event}
 use Rattle.apply_text.specs.Message.{event_message}
 

@@ -2,14 +2,14 @@
 use Rattle.std.specs.Prelude.{ℕ, List, [], ◌++◌, codes, decimal, slice_get, Option, Some, None, unwrap_or}
 use Rattle.std.specs.Option.{option_map_or}
 use Rattle.serde_json.specs.Data.{Data}
-use Rattle.apply_plan.specs.declared.plan.step_kind.StepKind.{StepKind}
-use Rattle.apply_plan.specs.declared.plan.step_kind.StepKind.TheVariants.{Create, Update, Delete, Read}
-use Rattle.apply_plan.specs.declared.script.diag.Diag.{Diag}
-use Rattle.apply_plan.specs.declared.script.ending.Ending.{Ending}
-use Rattle.apply_plan.specs.declared.script.ending.Ending.TheVariants.{Done, Failed}
-use Rattle.apply_plan.specs.declared.script.outcome.Outcome.{Outcome}
-use Rattle.apply_plan.specs.Plan.ResourceChange.{ResourceChange}
-use Rattle.apply_plan.specs.Script.Outcome.{failure_of}
+use Rattle.apply_model.specs.declared.plan.step_kind.StepKind.{StepKind}
+use Rattle.apply_model.specs.declared.plan.step_kind.StepKind.TheVariants.{Create, Update, Delete, Read}
+use Rattle.apply_model.specs.declared.script.diag.Diag.{Diag}
+use Rattle.apply_model.specs.declared.script.ending.Ending.{Ending}
+use Rattle.apply_model.specs.declared.script.ending.Ending.TheVariants.{Done, Failed}
+use Rattle.apply_model.specs.declared.script.outcome.Outcome.{Outcome}
+use Rattle.apply_model.specs.Plan.ResourceChange.{ResourceChange}
+use Rattle.apply_model.specs.Script.Outcome.{failure_of}
 use Rattle.apply_hooks.specs.declared.phase.Phase.{Phase}
 use Rattle.apply_events.specs.declared.counts.Counts.{Counts}
 use Rattle.apply_events.specs.declared.what.What.{What}

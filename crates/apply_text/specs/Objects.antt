@@ -2,12 +2,12 @@
 use Rattle.std.specs.Prelude.{ℕ, List, codes, Option, Some, None}
 use Rattle.serde_json.specs.Data.{Data, null, number, string, object, unsigned, Members, no_members, member}
 use Rattle.serde_json.specs.Find.{of_integer}
-use Rattle.apply_plan.specs.declared.plan.key.Key.{Key}
-use Rattle.apply_plan.specs.declared.plan.key.Key.TheVariants as key
-use Rattle.apply_plan.specs.declared.plan.step_kind.StepKind.{StepKind}
-use Rattle.apply_plan.specs.declared.script.diag.Diag.{Diag}
-use Rattle.apply_plan.specs.Plan.Address.{provider_of}
-use Rattle.apply_plan.specs.Plan.ResourceChange.{ResourceChange, resource_of}
+use Rattle.apply_model.specs.declared.plan.key.Key.{Key}
+use Rattle.apply_model.specs.declared.plan.key.Key.TheVariants as key
+use Rattle.apply_model.specs.declared.plan.step_kind.StepKind.{StepKind}
+use Rattle.apply_model.specs.declared.script.diag.Diag.{Diag}
+use Rattle.apply_model.specs.Plan.Address.{provider_of}
+use Rattle.apply_model.specs.Plan.ResourceChange.{ResourceChange, resource_of}
 use Rattle.apply_events.specs.declared.counts.Counts.{Counts}
 use Rattle.apply_text.specs.declared.operation.Operation.{Operation}
 use Rattle.apply_text.specs.declared.operation.Operation.TheVariants.{Apply, Destroy}

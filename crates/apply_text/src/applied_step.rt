@@ -6,7 +6,7 @@ ghost use Rattle.apply_text.specs.AppliedStep.{diag_view, ending_view, outcome_v
 ghost use Rattle.apply_text.specs.Message as messages;
 ghost use Rattle.apply_text.specs.Message.{no_diag};
 
-use apply_plan::{Change, Diag, Ending, Outcome, Provisioner, StepKind};
+use apply_model::{Change, Diag, Ending, Outcome, Provisioner, StepKind};
 
 /// A step of a change, with what the script says of it. Where it says nothing, the step is done and nothing is told.
 #[derive(Clone, Copy, Drop)]

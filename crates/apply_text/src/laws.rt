@@ -4,8 +4,8 @@ ghost use Rattle.std.specs.Prelude.{◌≡◌, ◌≤◌, ◌<◌, ◌+◌, ◌*
 ghost use Rattle.std.specs.Prelude.{IfSome, slice_get};
 ghost use Rattle.std.specs.List.Sorted.{IsNonDecreasingBy};
 ghost use Rattle.serde_json.specs.Data.{Data};
-ghost use Rattle.apply_plan.specs.Plan.SavedPlan.{SavedPlan};
-ghost use Rattle.apply_plan.specs.Script.OutcomeMap.{OutcomeMap};
+ghost use Rattle.apply_model.specs.Plan.SavedPlan.{SavedPlan};
+ghost use Rattle.apply_model.specs.Script.OutcomeMap.{OutcomeMap};
 ghost use Rattle.apply_events.specs.declared.event.Event.{Event};
 ghost use Rattle.apply_events.specs.OfWorker.{of_worker};
 ghost use Rattle.apply_events.specs.Totals.{totals_of};

@@ -15,7 +15,7 @@ use crate::messages::{put_event, put_summary, put_version};
 use crate::operation::Operation;
 use crate::start::Start;
 use apply_events::{Counts, Event, What};
-use apply_plan::{Change, Plan, Script, StepKind};
+use apply_model::{Change, Plan, Script, StepKind};
 use json::Writer;
 use std::alloc::{AllocError, Global};
 use std::marker::Model;

@@ -8,7 +8,7 @@ use crate::line_buffer::LineBuffer;
 use crate::operation::Operation;
 use crate::start::Start;
 use apply_events::{Counts, Event};
-use apply_plan::{Plan, Script};
+use apply_model::{Plan, Script};
 use std::alloc::{AllocError, Global};
 
 /// The first line of a stream, with its line feed: the version of Terraform that made the plan, at the start

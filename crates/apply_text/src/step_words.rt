@@ -4,7 +4,7 @@ ghost use Rattle.std.specs.Prelude.{◌≡◌};
 ghost use Rattle.apply_text.specs.Words as words;
 
 use apply_hooks::Phase;
-use apply_plan::StepKind;
+use apply_model::StepKind;
 
 /// The words that messages have for a step.
 #[derive(Clone, Copy, Drop)]

@@ -1,55 +1,31 @@
 //! Prints the stream of messages for applying a saved plan, which is read from standard input, as the words of the command
-//! line say; or checks such a stream, where the first of them is `check`.
+//! line say; or checks such a stream, where the first of them is `check`, or plays it, where it is `play`.
 #![tactic(auto)]
 
-use apply_cli::{Usage, answer_usage, drop_rest, follow, given_words};
+use apply_cli::{Awaited, Usage, follow_standard, given_words, refuse_standard};
 use std::io::{BufWriter, IsTerminal};
 use std::process::ExitCode;
-use std::sync::Wait;
-use std::thread::Threads;
+
+/// Said where somebody has typed `applystream check` alone.
+const NO_STREAM: &str =
+    "a stream is awaited from this terminal: name its file, as in applystream check stream.jsonl";
+
+/// Said where somebody has typed `applystream play` alone.
+const NO_STREAM_TO_PLAY: &str =
+    "a stream is awaited from this terminal: name its file, as in applystream play stream.jsonl";
 
 /// How many bytes of output are gathered before they are written.
 const OUTPUT_ROOM: usize = 65_536;
 
 fn main(rt: HostRuntime) -> ExitCode {
-    let status = match run(&rt, &rt) {
-        Ok(status) => status,
-        Err(usage) => refuse(&rt, &usage),
+    let status = match given_words(&rt) {
+        Ok(words) => match check_stream(&rt, &words).or_else(|| play_stream(&rt, &words)) {
+            Some(status) => status,
+            None => follow_standard(&rt, &rt, words.get(1..).unwrap_or(&[])),
+        },
+        Err(usage) => refuse_standard(&rt, &usage),
     };
     ExitCode::from(status)
-}
-
-/// Says why the words can't be followed, and answers the exit status. Then the input is read to its end: whoever writes
-/// into a pipe must not be ended because nobody reads on. At a terminal nobody waits for that.
-fn refuse(rt: &HostRuntime, usage: &Usage) -> u8 {
-    let status = answer_usage(usage, &mut rt.stdout(), &mut rt.stderr());
-    if !rt.stdin().is_terminal() {
-        let _ = drop_rest(&mut rt.reader());
-    }
-    status
-}
-
-/// Follows the words over the standard streams, and answers the exit status.
-fn run<T: Threads + Wait + Sync>(rt: &HostRuntime, threads: &T) -> Result<u8, Usage> {
-    let words = given_words(rt)?;
-    if let Some(status) = check_stream(rt, &words) {
-        return Ok(status);
-    }
-    let Ok(output) = BufWriter::with_capacity(rt.alloc(), OUTPUT_ROOM, rt.stdout()) else {
-        return Err(Usage::Memory);
-    };
-    let (output, status) = follow(
-        threads,
-        rt,
-        rt.alloc(),
-        words.get(1..).unwrap_or(&[]),
-        rt.reader(),
-        output,
-        &mut rt.stderr(),
-    );
-    // What a failed write left behind is given up: a drop would write it once more, behind the fault.
-    let (_stdout, _unwritten) = output.into_parts();
-    Ok(status)
 }
 
 /// Checks a stream, where the first word behind the program's name is `check`, and answers the exit status.
@@ -58,14 +34,42 @@ fn check_stream(rt: &HostRuntime, words: &[String]) -> Option<u8> {
         return None;
     }
     let words = words.get(2..).unwrap_or(&[]);
+    let is_terminal = rt.stdin().is_terminal();
+    let text = is_terminal.then_some(NO_STREAM);
     let followed = apply_check::follow(
         rt,
         rt.alloc(),
         words,
-        rt.stdin().is_terminal(),
-        &mut rt.reader(),
+        is_terminal,
+        &mut Awaited::new(rt.reader(), rt.stderr(), text),
         &mut rt.stdout(),
         &mut rt.stderr(),
     );
     Some(followed.status)
+}
+
+/// Plays a stream, where the first word behind the program's name is `play`, and answers the exit status.
+fn play_stream(rt: &HostRuntime, words: &[String]) -> Option<u8> {
+    if words.get(1)?.as_str() != "play" {
+        return None;
+    }
+    let words = words.get(2..).unwrap_or(&[]);
+    let Ok(mut output) = BufWriter::with_capacity(rt.alloc(), OUTPUT_ROOM, rt.stdout()) else {
+        return Some(refuse_standard(rt, &Usage::Memory));
+    };
+    let is_terminal = rt.stdin().is_terminal();
+    let text = is_terminal.then_some(NO_STREAM_TO_PLAY);
+    let status = apply_play::follow(
+        rt,
+        rt,
+        rt.alloc(),
+        words,
+        is_terminal,
+        &mut Awaited::new(rt.reader(), rt.stderr(), text),
+        &mut output,
+        &mut rt.stderr(),
+    );
+    // What a failed write left behind is given up: a drop would write it once more, behind the fault.
+    let (_stdout, _unwritten) = output.into_parts();
+    Some(status)
 }

@@ -1,8 +1,8 @@
 //! What a check came to.
 
-use crate::lines::failed_read::FailedRead;
 use crate::verdict::read_fault::ReadFault;
 use crate::verdict::whole::Whole;
+use apply_lines::FailedRead;
 
 /// What a check came to.
 #[derive(Clone, Copy)]

@@ -21,13 +21,13 @@ use crate::command::status::{FAILED, NOT_WHOLE};
 use crate::command::telling::told_line;
 use crate::command::texts::finding_text;
 use crate::command::told::Told;
-use crate::command::writing::{report, write_line};
-use crate::lines::line::Line;
+use crate::command::writing::write_line;
 use crate::rules::checker::Checker;
 use crate::rules::fault::Fault;
 use crate::rules::mode::Mode;
 use crate::rules::open_entry::OpenEntry;
 use crate::verdict::finding::Finding;
+use apply_lines::Line;
 use serde_json::Value;
 use std::alloc::{AllocError, Global};
 use std::io::Write;
@@ -104,10 +104,9 @@ fn tell_object<W: Write, E: Write>(
     let Ok(text) = told_line(alloc, told) else {
         return refuse_memory(faults);
     };
-    if write_line(out, text.as_str()) {
+    if write_line(out, faults, text.as_str()) {
         NOT_WHOLE
     } else {
-        report(faults, "the output could not be written");
         FAILED
     }
 }

@@ -1,11 +1,11 @@
 //! The command `check`, from its arguments to its exit status, over any files and streams.
 
-ghost use Rattle.std.specs.Prelude.{◌≡◌, ◌≤◌, ◌⊎◌, ◌∷◌, [], ℕ, List, IfSome, OnOk, OnSome, Option, Ok, Err, map, string_bytes};
+ghost use Rattle.std.specs.Prelude.{◌≡◌, ◌≤◌, ◌⊎◌, ◌∷◌, [], ℕ, List, IfErr, IfSome, OnOk, OnSome, None, Option, Ok, Err, false, map, string_bytes, true};
 ghost use Rattle.std.specs.Io.KnownBytes.{IsAtEnd, Keeps};
 ghost use Rattle.clap.specs.Faults.{fault_of};
 ghost use Rattle.clap.specs.declared.error.kind.ErrorKind.TheVariants.{DisplayHelp};
 ghost use Rattle.apply_check.specs.CommandLine.{WasChecked, WasNotChecked, command_line};
-ghost use Rattle.apply_check.specs.Cut.{cut_lines};
+ghost use Rattle.apply_lines.specs.Cut.{cut_lines};
 ghost use Rattle.apply_check.specs.Judged.{Stops};
 ghost use Rattle.apply_check.specs.Reading.{IsAnswer};
 ghost use Rattle.apply_check.specs.Telling.{IsTold};
@@ -19,14 +19,13 @@ use crate::command::form::Form;
 use crate::command::refusals::{answer_usage, refuse, refuse_file, refuse_memory};
 use crate::command::status::{ERRORS, FAILED};
 use crate::command::telling::whole_line;
-use crate::command::writing::{report, write_line};
-use crate::lines::line::Line;
-use crate::lines::rest::drop_rest;
+use crate::command::writing::write_line;
 use crate::rules::checker::Checker;
 use crate::rules::mode::Mode;
 use crate::verdict::read_fault::ReadFault;
 use crate::verdict::stream_given::check_with;
 use crate::verdict::whole::Whole;
+use apply_lines::{FailedRead, Line, drop_rest};
 use std::alloc::Global;
 use std::fs;
 use std::io::{BufRead, BufReader, Read, Write};
@@ -48,20 +47,19 @@ pub fn follow<F: Files, R: Read, W: Write, E: Write>(
     out: &mut W,
     faults: &mut E,
 ) -> Followed
-    ensures told { WasChecked F.File.remaining (map string_bytes words.now) (R.remaining input.old) (W.contents out.old) (W.contents out.new) result
+    ensures told { WasChecked F.File.remaining (map string_bytes words.now) (R.remaining input.old) (R.remaining input.new) (W.contents out.old) (W.contents out.new) result
         ⊎ WasNotChecked (map string_bytes words.now) (W.contents out.old) (W.contents out.new) result.status }
     ensures help { fault_of command_line (map string_bytes words.now) ≡ DisplayHelp ∷ [] → (result.status ≡ 0) ⊎ (result.status ≡ 3) }
     ensures quiet { result.status ≤ 1 → Keeps (E.contents faults.old) (E.contents faults.new) }
     ensures statuses { result.status ≤ 4 }
+    ensures read { result.answer ≡ None → 1 ≤ result.status → is_terminal ≡ false → OnOk result.rest (IsAtEnd (R.remaining input.new)) }
 {
     let settings = match read_words(alloc, words) {
         Ok(settings) => settings,
         Err(usage) => {
             let status = answer_usage(&usage, out, faults);
-            if status > 0 && !is_terminal {
-                let _ = drop_rest(input);
-            }
-            return Followed::without_answer(status);
+            let is_awaited = status > 0 && !is_terminal;
+            return Followed::without_answer(status, finish(is_awaited, input, faults));
         }
     };
     let Some(name) = &settings.file else {
@@ -92,12 +90,25 @@ pub fn follow<F: Files, R: Read, W: Write, E: Write>(
         }
         Err(error) => {
             let status = refuse_file(alloc, faults, name, "opened", Some(&error));
-            if !is_terminal {
-                let _ = drop_rest(input);
-            }
-            Followed::without_answer(status)
+            Followed::without_answer(status, finish(!is_terminal, input, faults))
         }
     }
+}
+
+/// Reads the input to its end where somebody may write it. What was said is out before.
+fn finish<R: Read, E: Write>(
+    is_awaited: bool,
+    input: &mut R,
+    faults: &mut E,
+) -> Result<(), FailedRead>
+    ensures read { is_awaited ≡ true → OnOk result (IsAtEnd (R.remaining input.new)) }
+    ensures keeps { Keeps (E.contents faults.old) (E.contents faults.new) }
+{
+    if !is_awaited {
+        return Ok(());
+    }
+    let _ = faults.flush();
+    drop_rest(input)
 }
 
 /// Does what `check_command` does, with a reader that has no buffer.
@@ -114,15 +125,28 @@ pub fn check_input<R: Read, W: Write, E: Write>(
     ensures told { IsTold mode (R.remaining input.old) form result.answer result.status (W.contents out.old) (W.contents out.new) }
     ensures quiet { result.status ≤ 1 → Keeps (E.contents faults.old) (E.contents faults.new) }
     ensures statuses { result.status ≤ 4 }
+    ensures read { IfErr result.answer (λ fault. OnOk result.rest (IsAtEnd (R.remaining input.new))) }
 {
-    if let Ok(mut reader) = BufReader::with_capacity(alloc, BUFFER_LEN, &mut *input) {
-        return check_command(alloc, mode, form, name, &mut reader, out, faults);
-    }
-    let status = refuse_memory(faults);
+    let Ok(mut reader) = BufReader::with_capacity(alloc, BUFFER_LEN, &mut *input) else {
+        let status = refuse_memory(faults);
+        return Checked {
+            status,
+            answer: Err(ReadFault::Memory),
+            rest: finish(true, input, faults),
+        };
+    };
+    let checked = check_reader(alloc, mode, form, name, false, &mut reader, out, faults);
+    drop(reader);
+    // What the buffer held is dropped with it; behind a whole stream nothing is asked for again, for which a terminal
+    // would wait.
+    let rest = match checked.answer {
+        Ok(_) => checked.rest,
+        Err(_) => finish(true, input, faults),
+    };
     Checked {
-        status,
-        answer: Err(ReadFault::Memory),
-        rest: drop_rest(input),
+        status: checked.status,
+        answer: checked.answer,
+        rest,
     }
 }
 
@@ -132,8 +156,8 @@ pub fn check_input<R: Read, W: Write, E: Write>(
 /// The status is 0 where the stream is whole and tells of no error, and 1 where it is whole and tells of an error:
 /// what was done is said on `out` then. It is 4 where the stream is not whole, which is said on `out` as an object or
 /// on `faults` as a text. It is 2 where it has too many lines or could not be read, which is said on `faults`, of the file
-/// of that name where one is given. It is 3 where memory was refused or `out` could not be written. A text for `faults`
-/// that cannot be written is dropped.
+/// of that name where one is given. It is 3 where memory was refused, or `out` could not be written, which is said unless
+/// its reader is gone. A text for `faults` that cannot be written is dropped.
 pub fn check_command<R: BufRead, W: Write, E: Write>(
     alloc: Global,
     mode: Mode,
@@ -149,6 +173,26 @@ pub fn check_command<R: BufRead, W: Write, E: Write>(
     ensures statuses { result.status ≤ 4 }
     ensures read { OnOk result.rest (OnSome (R.remaining reader.old) (IsAtEnd (R.remaining reader.new))) }
 {
+    check_reader(alloc, mode, form, name, true, reader, out, faults)
+}
+
+/// Does what `check_command` does, but reads on behind what is not whole only where it is asked to.
+fn check_reader<R: BufRead, W: Write, E: Write>(
+    alloc: Global,
+    mode: Mode,
+    form: Form,
+    name: Option<&str>,
+    reads_on: bool,
+    reader: &mut R,
+    out: &mut W,
+    faults: &mut E,
+) -> Checked
+    ensures answer { IfSome (R.remaining reader.old) (λ bytes. IsAnswer mode (cut_lines bytes) result.answer) }
+    ensures told { IsTold mode (R.remaining reader.old) form result.answer result.status (W.contents out.old) (W.contents out.new) }
+    ensures quiet { result.status ≤ 1 → Keeps (E.contents faults.old) (E.contents faults.new) }
+    ensures statuses { result.status ≤ 4 }
+    ensures read { reads_on ≡ true → OnOk result.rest (OnSome (R.remaining reader.old) (IsAtEnd (R.remaining reader.new))) }
+{
     let mut checker = Checker::new(alloc);
     let mut line = Line::new(alloc);
     match check_with(alloc, mode, &mut checker, reader, &mut line) {
@@ -162,7 +206,7 @@ pub fn check_command<R: BufRead, W: Write, E: Write>(
             Checked {
                 status,
                 answer: Err(fault),
-                rest: drop_rest(reader),
+                rest: finish(reads_on, reader, faults),
             }
         }
     }
@@ -207,8 +251,7 @@ fn tell_whole<W: Write, E: Write>(
     let Ok(text) = whole_line(alloc, form, whole) else {
         return refuse_memory(faults);
     };
-    if !write_line(out, text.as_str()) {
-        report(faults, "the output could not be written");
+    if !write_line(out, faults, text.as_str()) {
         return FAILED;
     }
     if whole.has_errors { ERRORS } else { 0 }

@@ -4,7 +4,7 @@ ghost use Rattle.std.specs.Prelude.{◌≡◌, ◌<◌, ◌≤◌, ◌^◌, ◌�
 ghost use Rattle.std.specs.List.{list_any};
 ghost use Rattle.std.specs.Option.{option_copied};
 ghost use Rattle.serde_json.specs.View.{view};
-ghost use Rattle.apply_check.specs.Limits.{max_bytes};
+ghost use Rattle.apply_lines.specs.Limits.{max_bytes};
 ghost use Rattle.apply_check.specs.Tally.{failure_count};
 ghost use Rattle.apply_check.specs.Small.{IsSmall};
 
@@ -180,6 +180,43 @@ impl Checker {
 
     /// Takes a message about a step.
     fn step(
+        &mut self,
+        alloc: Global,
+        address: &str,
+        action: Action,
+        stage: TimedStage,
+    ) -> Result<(), Fault>
+        requires { lines_read self.old < 2 ^ 32 }
+        ensures { Continues self.old self.new (λ messages. behind messages 0 (step address.now action stage)) result }
+    {
+        match stage {
+            TimedStage::Progress(seconds) => self.progress(address, action, seconds),
+            _ => self.turn(alloc, address, action, stage),
+        }
+    }
+
+    /// Takes progress of a step.
+    fn progress(&mut self, address: &str, action: Action, seconds: u64) -> Result<(), Fault>
+        requires { lines_read self.old < 2 ^ 32 }
+        ensures { Continues self.old self.new (λ messages. behind messages 0 (step address.now action (TimedStage.Progress seconds))) result }
+    {
+        if let Some(line) = self.tally.summary {
+            return Err(Fault::AfterSummary(line));
+        }
+        match self
+            .pending
+            .tell(address, action, seconds, self.tally.lines + 1)
+        {
+            Ok(()) => {
+                self.tally = self.tally.with_line();
+                Ok(())
+            }
+            Err(fault) => Err(fault),
+        }
+    }
+
+    /// Takes the start or the end of a step.
+    fn turn(
         &mut self,
         alloc: Global,
         address: &str,

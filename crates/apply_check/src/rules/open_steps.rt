@@ -1,6 +1,6 @@
 //! The steps that stand open, by address.
 
-ghost use Rattle.std.specs.Prelude.{◌≡◌, ◌∷◌, ◌++◌, [], ℕ, List, map, true, false, IfOk, OnOk, OnErr, None, unwrap_or, if◌then◌else◌};
+ghost use Rattle.std.specs.Prelude.{◌≡◌, ◌∷◌, ◌++◌, [], ℕ, List, map, true, false, IfErr, IfOk, OnOk, OnErr, None, unwrap_or, if◌then◌else◌};
 ghost use Rattle.std.specs.BTreeMap.{get_by_text};
 ghost use Rattle.std.specs.Cmp.Lexicographic.{slice_cmp};
 ghost use Rattle.std.specs.List.{flat_map};
@@ -9,15 +9,18 @@ ghost use Rattle.std.specs.Ordering.{nat_cmp};
 ghost use Rattle.std.specs.Str.{bytes_eq};
 ghost use Rattle.apply_check.specs.Addresses.{addresses_in};
 ghost use Rattle.apply_check.specs.Open.{stands_open};
-ghost use Rattle.apply_check.specs.Standing.{idle, unless_idle};
+ghost use Rattle.apply_check.specs.Standing.{idle, step_on, unless_idle};
 ghost use Rattle.apply_check.specs.Unended.{open_failures, open_step, opened, opens_of, where_so};
+ghost use Rattle.apply_check.specs.declared.messages.timed_stage.TimedStage.TheVariants.{Progress};
 
+use crate::messages::action::Action;
 use crate::rules::failures::Failures;
+use crate::rules::fault::Fault;
 use crate::rules::matters::Matters;
 use crate::rules::open_entry::OpenEntry;
 use crate::rules::open_kind::OpenKind;
 use crate::rules::pending::Pending;
-use crate::rules::standing::{Standing, nothing, nothing_open, stands_open};
+use crate::rules::standing::{Standing, nothing, nothing_open, stands_open, tell};
 use std::alloc::{AllocError, Global};
 use std::collections::BTreeMap;
 
@@ -60,11 +63,34 @@ impl OpenSteps {
     {
         if nothing_open(&standing) {
             let _ = self.standings.remove(address);
+        } else if let Some(kept) = self.standings.get_mut(address) {
+            *kept = standing;
         } else {
             let key = String::from_str(alloc, address)?;
             self.standings.insert(key, standing)?;
         }
         Ok(())
+    }
+
+    /// Takes progress of the action at the address on that line: so many seconds. An `Err` changes nothing.
+    pub fn tell(
+        &mut self,
+        address: &str,
+        action: Action,
+        seconds: u64,
+        line: u64,
+    ) -> Result<(), Fault>
+        ensures ok { OnOk result ((standing : Standing)
+            × (step_on action (Progress seconds) line (unwrap_or (get_by_text self.old.standings address.now) idle) ≡ Ok standing)
+            × ((other : List ℕ) → get_by_text self.new.standings other
+            ≡ (if bytes_eq address.now other then unless_idle standing else get_by_text self.old.standings other))) }
+        ensures err { IfErr result (λ fault. (step_on action (Progress seconds) line (unwrap_or (get_by_text self.old.standings address.now) idle) ≡ Err fault)
+            × ((other : List ℕ) → get_by_text self.new.standings other ≡ get_by_text self.old.standings other)) }
+    {
+        match self.standings.get_mut(address) {
+            Some(standing) => tell(standing, action, seconds, line),
+            None => Err(Fault::NotOpen),
+        }
     }
 
     /// Whether something stands open that matters.

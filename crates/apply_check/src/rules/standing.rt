@@ -1,7 +1,8 @@
 //! What stands open of the steps of an address.
 
-ghost use Rattle.std.specs.Prelude.{◌≡◌};
+ghost use Rattle.std.specs.Prelude.{◌≡◌, false, OnErr, OnOk};
 ghost use Rattle.apply_check.specs.Open.{stands_open};
+ghost use Rattle.apply_check.specs.Results.{mapped};
 ghost use Rattle.apply_check.specs.Standing.{explained, failed_by, idle, is_idle, may_fail, may_provision, one_failure_more, pending_at, provision_on, provisioned, step_on, unless_left, with_pending};
 
 use crate::messages::action::Action;
@@ -43,8 +44,8 @@ pub fn nothing() -> Standing
 }
 
 /// What stands open of the action.
-fn pending_of(standing: Standing, action: Action) -> Option<Pending>
-    ensures { result ≡ pending_at action standing }
+fn pending_of(standing: &Standing, action: Action) -> Option<Pending>
+    ensures { result ≡ pending_at action standing.now }
 {
     match action {
         Action::Create => standing.create,
@@ -55,18 +56,25 @@ fn pending_of(standing: Standing, action: Action) -> Option<Pending>
     }
 }
 
+/// Sets what stands open of the action.
+fn put(standing: &mut Standing, action: Action, pending: Option<Pending>)
+    ensures { standing.new ≡ with_pending action pending standing.old }
+{
+    match action {
+        Action::Create => standing.create = pending,
+        Action::Update => standing.update = pending,
+        Action::Delete => standing.delete = pending,
+        Action::Read => standing.read = pending,
+        Action::Refresh => standing.refresh = pending,
+    }
+}
+
 /// How an object stands that stands as another one, but for the action.
 fn with(standing: Standing, action: Action, pending: Option<Pending>) -> Standing
     ensures { result ≡ with_pending action pending standing }
 {
     let mut new = standing;
-    match action {
-        Action::Create => new.create = pending,
-        Action::Update => new.update = pending,
-        Action::Delete => new.delete = pending,
-        Action::Read => new.read = pending,
-        Action::Refresh => new.refresh = pending,
-    }
+    put(&mut new, action, pending);
     new
 }
 
@@ -98,6 +106,20 @@ fn unless_left(provisioner: Option<u64>, standing: Standing) -> Result<Standing,
         None => Ok(standing),
         Some(begin) => if may_provision(&standing) {
             Ok(standing)
+        } else {
+            Err(Fault::LeavesProvisioner(begin))
+        },
+    }
+}
+
+/// Whether no provisioner runs without a step that it belongs to.
+fn leaves_none(standing: &Standing) -> Result<(), Fault>
+    ensures { mapped (λ _. standing.now) result ≡ unless_left standing.now.provisioner standing.now }
+{
+    match standing.provisioner {
+        None => Ok(()),
+        Some(begin) => if may_provision(standing) {
+            Ok(())
         } else {
             Err(Fault::LeavesProvisioner(begin))
         },
@@ -159,11 +181,32 @@ pub fn step_on(
 ) -> Result<Standing, Fault>
     ensures { result ≡ step_on action stage line standing }
 {
-    match after(action, stage, line, pending_of(standing, action)) {
+    match after(action, stage, line, pending_of(&standing, action)) {
         Ok(pending) => unless_left(
             standing.provisioner,
             failed_by(action, stage, line, with(standing, action, pending)),
         ),
+        Err(fault) => Err(fault),
+    }
+}
+
+/// Takes progress of the action, told on that line: so many seconds. What stands open is changed where it is, since most
+/// of a stream is progress. An `Err` says the fault, and changes nothing.
+pub fn tell(standing: &mut Standing, action: Action, seconds: u64, line: u64) -> Result<(), Fault>
+    ensures told { mapped (λ _. standing.new) result ≡ step_on action (TimedStage.Progress seconds) line standing.old }
+    ensures open { OnOk result (is_idle standing.new ≡ false) }
+    ensures kept { OnErr result (standing.new ≡ standing.old) }
+{
+    let stage = TimedStage::Progress(seconds);
+    let pending = match after(action, stage, line, pending_of(standing, action)) {
+        Ok(pending) => pending,
+        Err(fault) => return Err(fault),
+    };
+    match leaves_none(standing) {
+        Ok(()) => {
+            put(standing, action, pending);
+            Ok(())
+        }
         Err(fault) => Err(fault),
     }
 }

@@ -1,10 +1,11 @@
 //! Why a stream that was read is not found to be whole.
 
 ghost use Rattle.std.specs.Prelude.{◌≡◌};
+ghost use Rattle.apply_check.specs.Reading.{IsNoAnswer};
 ghost use Rattle.apply_check.specs.declared.verdict.read_fault.ReadFault.TheVariants.{Memory};
 
-use crate::lines::failed_read::FailedRead;
 use crate::verdict::finding::Finding;
+use apply_lines::{FailedRead, LineFault};
 use std::alloc::AllocError;
 use thiserror::Error;
 
@@ -23,6 +24,17 @@ pub enum ReadFault {
     /// Memory was refused.
     #[error("out of memory")]
     Memory,
+}
+
+impl From<LineFault> for ReadFault {
+    ghost from_gives = { λ _ fault. IsNoAnswer fault };
+
+    fn from(given: LineFault) -> ReadFault {
+        match given {
+            LineFault::Unread(failed) => ReadFault::Unread(failed),
+            LineFault::Memory => ReadFault::Memory,
+        }
+    }
 }
 
 impl From<AllocError> for ReadFault {

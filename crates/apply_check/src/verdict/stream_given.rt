@@ -2,7 +2,7 @@
 
 ghost use Rattle.std.specs.Prelude.{◌≡◌, ◌+◌, ℕ, List, [], length, Err, IfErr, IfSome, OnOk, OnSome};
 ghost use Rattle.std.specs.Io.KnownBytes.{IsAtEnd};
-ghost use Rattle.apply_check.specs.Cut.{cut_lines};
+ghost use Rattle.apply_lines.specs.Cut.{cut_lines};
 ghost use Rattle.apply_check.specs.Lines.{at_line, end_of, verdict_of};
 ghost use Rattle.apply_check.specs.Checking.{HasRead};
 ghost use Rattle.apply_check.specs.Judged.{Stops};
@@ -10,15 +10,13 @@ ghost use Rattle.apply_check.specs.Message.{Message};
 ghost use Rattle.apply_check.specs.Reading.{IsAnswer, IsFaultAt};
 ghost use Rattle.apply_check.specs.declared.rules.fault.Fault.{Fault as fault_type};
 
-use crate::lines::line::Line;
-use crate::lines::line_end::LineEnd;
-use crate::lines::line_reader::next_line;
 use crate::rules::checker::Checker;
 use crate::rules::fault::Fault;
 use crate::rules::mode::Mode;
 use crate::verdict::finding::Finding;
 use crate::verdict::read_fault::ReadFault;
 use crate::verdict::whole::Whole;
+use apply_lines::{Line, LineEnd, next_line};
 use std::alloc::Global;
 use std::io::BufRead;
 
@@ -53,7 +51,7 @@ pub fn check_with<R: BufRead>(
     'lines: loop {
         let next = match next_line(reader, &mut line.text) {
             Ok(next) => next,
-            Err(fault) => return Err(fault),
+            Err(fault) => return Err(ReadFault::from(fault)),
         };
         match next {
             LineEnd::End => return ended(mode, checker),

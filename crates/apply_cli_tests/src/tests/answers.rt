@@ -31,6 +31,8 @@ fn each_usage_has_its_answer(rt: HostRuntime) {
     let alloc = rt.alloc();
     let help = Usage::Help(text(&rt, alloc, "how it goes\n"));
     answer_is(&rt, alloc, help, 0, "how it goes\n", "");
+    let line = format!(in alloc; "applystream {VERSION}\n").expect(&rt, "memory");
+    answer_is(&rt, alloc, Usage::Version, 0, line.as_str(), "");
     let words = Usage::Words(text(&rt, alloc, "error: no\n"));
     answer_is(&rt, alloc, words, 2, "", "error: no\n");
     let said = "applystream: --parallelism takes no --workers and no --queue beside it\n";
@@ -58,8 +60,58 @@ fn an_answer_that_cannot_be_printed_is_dropped(rt: HostRuntime) {
     let alloc = rt.alloc();
     let help = Usage::Help(text(&rt, alloc, "how it goes\n"));
     is_dropped(&rt, alloc, help, 0);
+    is_dropped(&rt, alloc, Usage::Version, 0);
     let words = Usage::Words(text(&rt, alloc, "error: no\n"));
     is_dropped(&rt, alloc, words, 2);
     is_dropped(&rt, alloc, Usage::Hooks, 2);
     is_dropped(&rt, alloc, Usage::Memory, 3);
+}
+
+#[test]
+fn a_word_that_is_no_option_gets_a_tip(rt: HostRuntime) {
+    let tip = "\n  tip: a plan is read from standard input, as in: applystream < plan.json\n";
+    assert!(rt;
+        refusal_of(&rt, rt.alloc(), "plan.json")
+            .as_str()
+            .ends_with(tip)
+    );
+    assert!(rt;
+        !refusal_of(&rt, rt.alloc(), "--plan")
+            .as_str()
+            .contains("tip: a plan")
+    );
+    assert!(rt;
+        !refusal_of(&rt, rt.alloc(), "--at")
+            .as_str()
+            .contains("tip: a plan")
+    );
+}
+
+/// What is said of a word that is refused.
+fn refusal_of(rt: &impl Abort, alloc: Global, word: &str) -> Text {
+    let words = words_of(rt, alloc, word);
+    match read_invocation(alloc, &words) {
+        Err(Usage::Words(said)) => said,
+        _ => panic!(rt; "{word} is not refused"),
+    }
+}
+
+/// What is said when the input is read twice, where there is such a text.
+fn said_of_reads(rt: &impl Abort, alloc: Global, text: Option<&'static str>) -> Vec<u8> {
+    let mut said = Vec::new(alloc);
+    let mut input = Awaited::new(b"ab".as_slice(), &mut said, text);
+    let mut bytes = [0u8; 1];
+    for byte in b"ab" {
+        let read = input.read(&mut bytes).expect(rt, "a read");
+        assert!(rt; read == 1 && bytes == [*byte]);
+    }
+    said
+}
+
+#[test]
+fn what_is_awaited_is_said_once(rt: HostRuntime) {
+    let alloc = rt.alloc();
+    let said = said_of_reads(&rt, alloc, Some("a plan"));
+    assert_eq!(rt; text_of(&rt, &said), "applystream: a plan\n");
+    assert_eq!(rt; said_of_reads(&rt, alloc, None).len(), 0);
 }

@@ -178,6 +178,7 @@ pub(super) fn with_room(alloc: Global, per_write: usize, room: usize) -> Failing
         per_write,
         room,
         fails_to_flush: false,
+        error: ErrorKind::StorageFull,
     }
 }
 
@@ -187,7 +188,7 @@ fn an_output_that_fails_is_said_so(rt: HostRuntime) {
     let outcome = run(&rt, alloc, ONE_CREATE.as_bytes());
     let bytes = outcome.printed.as_slice();
     for room in 0..bytes.len() {
-        let front = text_of(&rt, &bytes[..room]);
+        let front = text_of(&rt, bytes.get(..room).unwrap_or(&[]));
         for per_write in [1, 7, 4096] {
             let output = with_room(alloc, per_write, room);
             is_written(&rt, alloc, output, 3, front, UNWRITTEN);
@@ -197,6 +198,28 @@ fn an_output_that_fails_is_said_so(rt: HostRuntime) {
     let room = bytes.len();
     is_written(&rt, alloc, with_room(alloc, 7, room), 0, whole, "");
     is_written(&rt, alloc, unflushed(alloc, room), 3, whole, UNWRITTEN);
+}
+
+/// An output with room for so many bytes, whose reader is gone then.
+pub(super) fn with_reader_gone(alloc: Global, room: usize) -> FailingWriter {
+    FailingWriter {
+        taken: Vec::new(alloc),
+        per_write: 7,
+        room,
+        fails_to_flush: true,
+        error: ErrorKind::BrokenPipe,
+    }
+}
+
+#[test]
+fn nothing_is_said_where_the_reader_is_gone(rt: HostRuntime) {
+    let alloc = rt.alloc();
+    let outcome = run(&rt, alloc, ONE_CREATE.as_bytes());
+    let bytes = outcome.printed.as_slice();
+    for room in [0, 1, bytes.len()] {
+        let front = text_of(&rt, bytes.get(..room).unwrap_or(&[]));
+        is_written(&rt, alloc, with_reader_gone(alloc, room), 3, front, "");
+    }
 }
 
 #[test]

@@ -1,6 +1,6 @@
 //! What is done with the words, from the first to the exit status.
 
-use super::faults::{UNWRITTEN, with_room};
+use super::faults::{UNWRITTEN, with_reader_gone, with_room};
 use super::*;
 
 /// A replacement that destroys first.
@@ -219,14 +219,15 @@ fn what_is_printed_is_flushed(rt: HostRuntime) {
     all_is_flushed(&rt, &rt, rt.alloc(), "--parallelism 2", 0);
 }
 
-/// Asks for the version over this output.
+/// Asks for the version by these words over this output.
 fn versioned<T: Threads + Wait + Sync + Abort, F: Files>(
     rt: &T,
     files: &F,
     alloc: Global,
+    words: &str,
     output: FailingWriter,
 ) -> Outcome {
-    let words = words_with_blanks(rt, alloc, "--version");
+    let words = words_with_blanks(rt, alloc, words);
     let mut said = Vec::new(alloc);
     let input = b"".as_slice();
     let (output, status) = follow(rt, files, alloc, &words, input, output, &mut said);
@@ -242,12 +243,13 @@ fn version_is<T: Threads + Wait + Sync + Abort, F: Files>(
     rt: &T,
     files: &F,
     alloc: Global,
+    words: &str,
     output: FailingWriter,
     status: u8,
     printed: &str,
     said: &str,
 ) {
-    let outcome = versioned(rt, files, alloc, output);
+    let outcome = versioned(rt, files, alloc, words, output);
     outcome_is(rt, printed, &outcome, status, printed, said);
 }
 
@@ -259,12 +261,34 @@ fn the_version_is_printed(rt: HostRuntime) {
     for room in 0..bytes.len() {
         let front = text_of(&rt, &bytes[..room]);
         let output = with_room(alloc, 7, room);
-        version_is(&rt, &rt, alloc, output, 3, front, UNWRITTEN);
+        version_is(&rt, &rt, alloc, "--version", output, 3, front, UNWRITTEN);
+        let output = with_reader_gone(alloc, room);
+        version_is(&rt, &rt, alloc, "-V", output, 3, front, "");
     }
     let room = bytes.len();
     let whole = text_of(&rt, bytes);
-    version_is(&rt, &rt, alloc, with_room(alloc, 7, room), 0, whole, "");
-    version_is(&rt, &rt, alloc, unflushed(alloc, room), 3, whole, UNWRITTEN);
+    for words in ["--version", "-V", "--destroy -V"] {
+        version_is(
+            &rt,
+            &rt,
+            alloc,
+            words,
+            with_room(alloc, 7, room),
+            0,
+            whole,
+            "",
+        );
+        version_is(
+            &rt,
+            &rt,
+            alloc,
+            words,
+            unflushed(alloc, room),
+            3,
+            whole,
+            UNWRITTEN,
+        );
+    }
 }
 
 /// Follows settings, with the replacement as the input.

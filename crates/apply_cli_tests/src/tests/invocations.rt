@@ -25,6 +25,8 @@ const TABLE: &str = r#" => None
 --parallelism 2 --workers 2 --help => Help
 --workers 2 --queue 1 => None
 --parallelism 2 --at x => Moment
+--workers 2 --version => Version
+-V --parallelism 2 => Version
 --help => Help"#;
 
 /// What the words are answered.
@@ -38,6 +40,7 @@ fn shown(alloc: Global, read: &Result<Invocation, Usage>) -> Result<String, Allo
     match read {
         Ok(invocation) => format!(in alloc; "{:?}", invocation.parallelism),
         Err(Usage::Help(_)) => String::from_str(alloc, "Help"),
+        Err(Usage::Version) => String::from_str(alloc, "Version"),
         Err(Usage::Words(_)) => String::from_str(alloc, "Words"),
         Err(Usage::Beside) => String::from_str(alloc, "Beside"),
         Err(Usage::Moment(_)) => String::from_str(alloc, "Moment"),

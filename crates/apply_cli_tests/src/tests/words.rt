@@ -56,7 +56,13 @@ const TABLE: &str =
 plan.json => Words
 --plan => Words
 -w 2 => Words
---version => Words
+--version => Version
+-V => Version
+--destroy --version => Version
+--version --workers 9 => Version
+--workers 9 --version => Words
+--help --version => Help
+--version --help => Version
 --help => Help
 -h => Help
 --help --workers 9 => Help
@@ -86,6 +92,7 @@ fn settings_answer_to(rt: &impl Abort, alloc: Global, text: &str) -> String {
 fn shown(alloc: Global, usage: &Usage) -> Result<String, AllocError> {
     match usage {
         Usage::Help(_) => String::from_str(alloc, "Help"),
+        Usage::Version => String::from_str(alloc, "Version"),
         Usage::Words(_) => String::from_str(alloc, "Words"),
         Usage::Beside => String::from_str(alloc, "Beside"),
         Usage::Moment(error) => format!(in alloc; "{error:?}"),

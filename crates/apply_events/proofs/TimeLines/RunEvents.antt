@@ -4,7 +4,7 @@ use Rattle.std.proofs.lemmas.Bool.Decides.{eqb_tells}
 use Rattle.std.specs.List.{range_with_len}
 use Rattle.std.proofs.lemmas.List.Elements.{All-from_get_or, All-head, All-tail}
 use Rattle.std.proofs.lemmas.List.Sums.{sum_by-cons}
-use Rattle.apply_plan.specs.Script.OutcomeMap.{given_outcome}
+use Rattle.apply_model.specs.Script.OutcomeMap.{given_outcome}
 use Rattle.apply_events.specs.declared.event.Event.{Event}
 use Rattle.apply_events.specs.ChangeEvents.{change_events, in_turn, span_of}
 use Rattle.apply_events.specs.Interleaving.{IsInterleaving, lists_of}

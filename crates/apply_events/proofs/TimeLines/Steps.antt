@@ -5,7 +5,7 @@ use Rattle.std.proofs.lemmas.List.MinMax.{IsFirstBest-keeps, IsFirstBest-takes, 
 use Rattle.std.proofs.lemmas.List.{length-map, length-replicate, map-set}
 use Rattle.std.proofs.lemmas.List.Elements.{All-head, All-set, All-tail, All-weaker}
 use Rattle.std.specs.List.{IsFirstBest, range_with_len}
-use Rattle.apply_plan.specs.Plan.SavedPlan.{SavedPlan}
+use Rattle.apply_model.specs.Plan.SavedPlan.{SavedPlan}
 use Rattle.apply_events.specs.declared.event.Event.{Event}
 use Rattle.apply_events.specs.ChangeEvents.{change_events, span_of}
 use Rattle.apply_events.specs.declared.runner.Runner.{Runner}

@@ -5,7 +5,7 @@ use Rattle.apply_events.specs.declared.event.Event.{Event}
 use Rattle.apply_events.specs.Course.{GivesNext}
 use Rattle.apply_events.specs.Fits.{HasStep, IsOfPlan, max_span}
 use Rattle.apply_events.specs.Runner.{course_of, to_come}
-use Rattle.apply_plan.specs.Plan.SavedPlan.{SavedPlan}
+use Rattle.apply_model.specs.Plan.SavedPlan.{SavedPlan}
 use Rattle.apply_events.specs.declared.lanes.lane.Lane.{Lane}
 use Rattle.apply_events.specs.declared.lanes.lane.Lane.TheVariants.{Free, Busy}
 use Rattle.apply_events.specs.Lanes.LaneState.{LaneState, unused}

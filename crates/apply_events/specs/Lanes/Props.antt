@@ -2,7 +2,7 @@
 use Rattle.std.specs.Prelude.{ℕ, All, List, [], ◌∷◌, get_or}
 use Rattle.std.specs.Coded.{le_prop, Π_prop}
 use native.Mathlib.Nat.{ℕ_set}
-use Rattle.apply_plan.specs.Plan.SavedPlan.{SavedPlan}
+use Rattle.apply_model.specs.Plan.SavedPlan.{SavedPlan}
 use Rattle.apply_events.specs.declared.event.Event.{Event}
 use Rattle.apply_events.specs.declared.lanes.lane.Lane.{Lane}
 use Rattle.apply_events.specs.declared.lanes.lane.Lane.TheVariants.{Free, Busy}

@@ -8,7 +8,7 @@ ghost use Rattle.apply_events.specs.Lanes.ToCome.{max_of_change};
 use crate::event::Event;
 use crate::runner::Runner;
 use apply_hooks::Registry;
-use apply_plan::{Plan, Script};
+use apply_model::{Plan, Script};
 
 /// A lane.
 #[derive(Drop)]
@@ -31,7 +31,7 @@ pub struct UnderWay<'a> {
 impl<'a> Lane<'a> {
     ghost use Rattle.std.specs.Prelude.{IfSome};
     ghost use Rattle.apply_hooks.specs.Registry.{rules_of};
-    ghost use Rattle.apply_plan.specs.Plan.SavedPlan.{SavedPlan, max_changes};
+    ghost use Rattle.apply_model.specs.Plan.SavedPlan.{SavedPlan, max_changes};
     ghost use Rattle.apply_events.specs.ChangeEvents.{span_of};
     ghost use Rattle.apply_events.specs.Course.{GivesNext};
     ghost use Rattle.apply_events.specs.Fits.{IsOfPlan, max_span};

@@ -8,14 +8,16 @@ use Rattle.std.proofs.lemmas.Slice.Eq.{bytes_eq-Decides}
 use Rattle.serde_json.specs.Data.{Data, Items, no_items, item}
 use Rattle.serde_json.specs.Events.{items_len}
 use Rattle.apply_plan.specs.declared.plan.plan_error.PlanError.TheVariants.{TooLarge, NotJson, NotAPlan, TooMany, BadChange, BadActions, BadAddress, Duplicate}
-use Rattle.apply_plan.specs.Plan.Address.{relative_address}
+use Rattle.apply_model.specs.Plan.Address.{relative_address}
 use Rattle.apply_plan.specs.Plan.Element.{element_of}
 use Rattle.apply_plan.specs.Plan.Header.{header_of}
 use Rattle.apply_plan.specs.Plan.Laws.{HasRelativeAddress, NamesEachObjectOnce}
-use Rattle.apply_plan.specs.Plan.SavedPlan.{SavedPlan, changes_of, change_of, max_changes, plan_of, plan_of_tree, planned_at}
+use Rattle.apply_model.specs.Plan.SavedPlan.{SavedPlan, max_changes}
+use Rattle.apply_plan.specs.Plan.SavedPlan.{changes_of, change_of, plan_of, plan_of_tree, planned_at}
 use Rattle.apply_plan.specs.ListReading.{made_after}
 use Rattle.apply_plan.specs.Plan.NextChange.{change_after}
-use Rattle.apply_plan.specs.Plan.ResourceChange.{ResourceChange, is_same_object}
+use Rattle.apply_model.specs.Plan.ResourceChange.{ResourceChange}
+use Rattle.apply_plan.specs.Plan.ObjectName.{is_same_object}
 use Rattle.apply_plan.specs.Plan.Steps.{steps_of_actions}
 use Rattle.apply_json.specs.Tree.{list_of, tree_of}
 use Rattle.apply_plan.specs.Bytes.{max_bytes}

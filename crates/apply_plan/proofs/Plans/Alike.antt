@@ -11,8 +11,9 @@ use Rattle.apply_plan.specs.Plan.Element.{element_of, planned_change_of, prior_i
 use Rattle.apply_plan.specs.Plan.Header.{Header, header_of}
 use Rattle.apply_plan.specs.Plan.Laws.{AreAlike, SaySameArray, SaySameChange, SaySameElement, SaySameElements, SaySamePlan}
 use Rattle.apply_plan.specs.Plan.NextChange.{change_after}
-use Rattle.apply_plan.specs.Plan.ResourceChange.{ResourceChange}
-use Rattle.apply_plan.specs.Plan.SavedPlan.{SavedPlan, changes_of, max_changes, plan_of_tree, planned_at}
+use Rattle.apply_model.specs.Plan.ResourceChange.{ResourceChange}
+use Rattle.apply_model.specs.Plan.SavedPlan.{SavedPlan, max_changes}
+use Rattle.apply_plan.specs.Plan.SavedPlan.{changes_of, plan_of_tree, planned_at}
 use Rattle.apply_plan.specs.Results as results
 use Rattle.apply_plan.specs.Results.{or_refuse}
 use Rattle.apply_plan.proofs.Results.{bind_same}

@@ -2,8 +2,8 @@
 use Rattle.std.proofs.Common.{◌≡◌, ℕ, List, [], Option, Some, refl}
 use Rattle.std.specs.Prelude.{codes}
 use Rattle.serde_json.specs.Data.{Data, Items}
-use Rattle.apply_plan.specs.declared.plan.key.Key.{Key}
-use Rattle.apply_plan.specs.declared.plan.mode.Mode.{Mode}
+use Rattle.apply_model.specs.declared.plan.key.Key.{Key}
+use Rattle.apply_model.specs.declared.plan.mode.Mode.{Mode}
 use Rattle.apply_plan.specs.Plan.Element.{element_of, key_of, mode_named, planned_change_of}
 use Rattle.apply_json.specs.Tree.{member_of, non_empty_text_of, text_of, text_or, unless_empty}
 

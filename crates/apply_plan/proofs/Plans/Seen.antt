@@ -15,7 +15,8 @@ use Rattle.apply_plan.specs.declared.plan.object_id.ObjectId.{ObjectId}
 use Rattle.apply_plan.specs.declared.plan.planned.Planned.{Planned}
 use Rattle.apply_plan.specs.declared.plan.seen_objects.SeenObjects.{SeenObjects}
 use Rattle.apply_plan.specs.Plan.PlannedView.{planned_view}
-use Rattle.apply_plan.specs.Plan.ResourceChange.{ResourceChange, is_same_object}
+use Rattle.apply_model.specs.Plan.ResourceChange.{ResourceChange}
+use Rattle.apply_plan.specs.Plan.ObjectName.{is_same_object}
 use Rattle.apply_plan.specs.Plan.SeenObjects.{has_seen, is_of, is_same_id}
 
 -- the order finds two objects equal just where they are the same

@@ -5,8 +5,8 @@ use Rattle.std.proofs.lemmas.Bool.{cases_Bool, le-ltb, lt-ltb, ltb-false, ltb-tr
 use Rattle.serde_json.specs.Data.{Data, null, boolean, number, string, array, object, Items, no_items, item}
 use Rattle.serde_json.specs.Events.{items_len}
 use Rattle.serde_json.specs.Find.{as_array}
-use Rattle.apply_plan.specs.declared.plan.key.Key.{Key}
-use Rattle.apply_plan.specs.declared.plan.mode.Mode.{Mode}
+use Rattle.apply_model.specs.declared.plan.key.Key.{Key}
+use Rattle.apply_model.specs.declared.plan.mode.Mode.{Mode}
 use Rattle.apply_plan.specs.declared.plan.plan_error.PlanError.{PlanError}
 use Rattle.apply_plan.specs.declared.plan.plan_error.PlanError.TheVariants.{NotAPlan, TooMany, BadActions, BadAddress, BadChange}
 use Rattle.apply_plan.specs.declared.plan.plan_shape.PlanShape.{PlanShape}
@@ -16,13 +16,14 @@ use Rattle.apply_plan.specs.Bytes.{max_bytes}
 use Rattle.apply_json.specs.Parsed.{IsTrimmedTree}
 use Rattle.apply_json.specs.Trimmed.{trimmed, trimmed_items}
 use Rattle.apply_plan.specs.ListReading.{made_after}
-use Rattle.apply_plan.specs.Plan.Address.{relative_address}
+use Rattle.apply_model.specs.Plan.Address.{relative_address}
 use Rattle.apply_plan.specs.Plan.Element.{Element, element_of, hides_id, is_true, key_of, mode_named, planned_change_of, prior_id_of}
 use Rattle.apply_plan.specs.Plan.Header.{Header, header_of}
 use Rattle.apply_plan.specs.Plan.NextChange.{change_after}
-use Rattle.apply_plan.specs.Plan.ResourceChange.{ResourceChange}
+use Rattle.apply_model.specs.Plan.ResourceChange.{ResourceChange}
 use Rattle.apply_plan.specs.Plan.Selection.{plan_selection}
-use Rattle.apply_plan.specs.Plan.SavedPlan.{SavedPlan, change_of, changes_of, max_changes, plan_of, plan_of_tree, planned_at}
+use Rattle.apply_model.specs.Plan.SavedPlan.{SavedPlan, max_changes}
+use Rattle.apply_plan.specs.Plan.SavedPlan.{change_of, changes_of, plan_of, plan_of_tree, planned_at}
 use Rattle.apply_plan.specs.Plan.Steps.{steps_of_actions}
 use Rattle.apply_plan.specs.Results as results
 use Rattle.apply_plan.specs.Results.{or_refuse}

@@ -10,8 +10,9 @@ use Rattle.apply_plan.specs.declared.plan.plan_error.PlanError.TheVariants.{TooM
 use Rattle.apply_json.specs.Tree.{list_of}
 use Rattle.apply_plan.specs.Plan.Header.{header_of}
 use Rattle.apply_plan.specs.Plan.HeaderView.{header_view}
-use Rattle.apply_plan.specs.Plan.ResourceChange.{ResourceChange}
-use Rattle.apply_plan.specs.Plan.SavedPlan.{changes_of, max_changes, plan_of_tree}
+use Rattle.apply_model.specs.Plan.ResourceChange.{ResourceChange}
+use Rattle.apply_model.specs.Plan.SavedPlan.{max_changes}
+use Rattle.apply_plan.specs.Plan.SavedPlan.{changes_of, plan_of_tree}
 use Rattle.apply_json.proofs.Trees.{items_len-view}
 
 -- too many elements

@@ -1,6 +1,6 @@
 -- What entries say: the change that one is about, and what several say of each change.
 use Rattle.std.proofs.Common.{◌≡◌, ℕ, zero, suc, ◌+◌, ◌<◌, ◌≤◌, Bool, true, false, cond, List, [], ◌∷◌, ◌++◌, length, map, get_or, set, Option, Some, None, option_map, IfSome, refl, sym, ap, subst, ◌∙◌, add-one, arith, ⊎_elim}
-use Rattle.std.specs.Prelude.{◌&&◌, ◌||◌, find, is_some, slice_get, ◌==◌}
+use Rattle.std.specs.Prelude.{◌&&◌, ◌||◌, find, is_some, option_and_then, slice_get, ◌==◌}
 use Rattle.std.specs.List.{All, count_by, enumerate_from, range_with_len}
 use Rattle.std.specs.Option.{option_eq, option_or}
 use Rattle.std.specs.Str.{bytes_eq}
@@ -11,12 +11,12 @@ use Rattle.std.proofs.lemmas.List.FromFn.{get_or-map-range_with_len, length-map-
 use Rattle.std.proofs.lemmas.List.Sums.{sum_by-cons, sum_by-set}
 use Rattle.std.proofs.lemmas.Option.{get_or_from_slice_get, slice_get-get_or, slice_get_past, slice_get_within, some_pair_parts}
 use Rattle.std.proofs.lemmas.Slice.Eq.{bytes_eq-Decides}
-use Rattle.apply_plan.specs.declared.script.outcome.Outcome.{Outcome}
-use Rattle.apply_plan.specs.Plan.ResourceChange.{ResourceChange}
-use Rattle.apply_json.specs.Tree.{◌>>=◌}
+use Rattle.apply_model.specs.declared.script.outcome.Outcome.{Outcome}
+use Rattle.apply_model.specs.Plan.ResourceChange.{ResourceChange}
 use Rattle.apply_plan.specs.Script.Entry.{Entry}
-use Rattle.apply_plan.specs.Script.Outcome.{IsBounded}
-use Rattle.apply_plan.specs.Script.OutcomeMap.{IsInRange, OutcomeMap, by_number, change_of_entry, is_about, said_at, said_of}
+use Rattle.apply_model.specs.Script.Outcome.{IsBounded}
+use Rattle.apply_model.specs.Script.OutcomeMap.{IsInRange, OutcomeMap, said_at}
+use Rattle.apply_plan.specs.Script.OutcomeMap.{by_number, change_of_entry, is_about, said_of}
 
 -- ---- the change that an entry is about
 
@@ -197,7 +197,7 @@ none_counted count = from 0 count
 pub counted_more : (said : OutcomeMap) (number : ℕ) (outcomes : List Outcome) → number < length said → said_at said number ≡ None → count_by is_some (set said number (Some outcomes)) ≡ count_by is_some said + 1
 counted_more said number outcomes below none =
     let at = slice_get-get_or said number None below in
-    let nothing : get_or said number None ≡ None = sym (ap (λ (o : Option (Option (List Outcome))). o >>= λ said. said) at) ∙ none in
+    let nothing : get_or said number None ≡ None = sym (ap (λ (o : Option (Option (List Outcome))). option_and_then (λ said. said) o) at) ∙ none in
     let grown = sum_by-set counted said number (Some outcomes) None below in
     let none_before : counted (get_or said number None) ≡ 0 = ap counted nothing in
     omega (arith, grown, none_before)
@@ -221,13 +221,13 @@ bounded_at outcomes k None bounded at = tt
 bounded_at outcomes k (Some outcome) bounded at =
     subst IsBounded (get_or_from_slice_get outcomes k outcome outcome at) (bounded k outcome (slice_get_within outcomes k outcome at))
 
-given_in_range : (said : Option (List Outcome)) (k : ℕ) → IfSome said (All IsBounded) → IfSome (said >>= λ outcomes. slice_get outcomes k) IsBounded
+given_in_range : (said : Option (List Outcome)) (k : ℕ) → IfSome said (All IsBounded) → IfSome (option_and_then (λ outcomes. slice_get outcomes k) said) IsBounded
 given_in_range None k h = tt
 given_in_range (Some outcomes) k h = bounded_at outcomes k (slice_get outcomes k) h refl
 
 pub is_in_range : (count : ℕ) (made : List (ℕ × List Outcome)) → SaysInRange made → IsInRange (by_number count made)
 is_in_range count made says c k =
     ⊎_elim
-    (λ (below : c < count). subst (λ (said : Option (List Outcome)). IfSome (said >>= λ outcomes. slice_get outcomes k) IsBounded) (sym (at_number count made c below)) (given_in_range (said_of made c) k (says c)))
-    (λ (past : count ≤ c). subst (λ (said : Option (List Outcome)). IfSome (said >>= λ outcomes. slice_get outcomes k) IsBounded) (sym (none_past count made c past)) tt)
+    (λ (below : c < count). subst (λ (said : Option (List Outcome)). IfSome (option_and_then (λ outcomes. slice_get outcomes k) said) IsBounded) (sym (at_number count made c below)) (given_in_range (said_of made c) k (says c)))
+    (λ (past : count ≤ c). subst (λ (said : Option (List Outcome)). IfSome (option_and_then (λ outcomes. slice_get outcomes k) said) IsBounded) (sym (none_past count made c past)) tt)
     (cases_lt c count)

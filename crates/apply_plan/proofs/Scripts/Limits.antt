@@ -1,18 +1,18 @@
--- The limits of steps and provisioners: what is within them, and what follows.
-use Rattle.std.proofs.Common.{◌≡◌, ℕ, ◌<◌, ◌≤◌, Bool, true, false, cond, List, [], ◌∷◌, length, map, get_or, Option, Some, None, refl, sym, ap, subst, ◌∙◌, arith, ⊎_elim}
-use Rattle.std.specs.Prelude.{nat_lt, IfSome}
+-- The limits of steps and provisioners: what is within them.
+use Rattle.std.proofs.Common.{◌≡◌, ℕ, ◌<◌, Bool, true, false, cond, List, length, map, get_or, Option, Some, None, refl, sym, ap, subst, ◌∙◌, arith, ⊎_elim}
+use Rattle.std.specs.Prelude.{nat_lt}
 use Rattle.std.specs.List.{All, list_any}
 use Rattle.std.proofs.lemmas.Bool.{cases_Bool, ltb-false}
 use Rattle.std.proofs.lemmas.List.{get_or-map, length-map}
 use Rattle.std.proofs.lemmas.List.Folds.{list_any_at}
-use Rattle.std.proofs.lemmas.List.Sums.{sum_by-cons, sum_by_more_le}
-use Rattle.apply_plan.specs.declared.plan.step_kind.StepKind.{StepKind}
-use Rattle.apply_plan.specs.declared.script.outcome.Outcome.{Outcome}
-use Rattle.apply_plan.specs.declared.script.provisioner.Provisioner.{Provisioner}
+use Rattle.std.proofs.lemmas.List.Sums.{sum_by_more_le}
+use Rattle.apply_model.specs.declared.plan.step_kind.StepKind.{StepKind}
+use Rattle.apply_model.specs.declared.script.outcome.Outcome.{Outcome}
+use Rattle.apply_model.specs.declared.script.provisioner.Provisioner.{Provisioner}
 use Rattle.apply_plan.specs.declared.script.script_error.ScriptError.{ScriptError}
 use Rattle.apply_plan.specs.declared.script.script_error.ScriptError.TheVariants.{TooManySteps, SecondsRange, TooManyProvisioners, TooMuchOutput}
-use Rattle.apply_plan.specs.Script.Limits.{max_outputs, max_provisioners, max_seconds}
-use Rattle.apply_plan.specs.Script.Outcome.{IsBounded, IsSmall, has_failed, has_too_many_provisioners, has_too_much_output, is_too_long, puts_out_too_much, ran, seconds_in_all, seconds_of_all, took}
+use Rattle.apply_model.specs.Script.Limits.{max_outputs, max_provisioners, max_seconds}
+use Rattle.apply_model.specs.Script.Outcome.{IsBounded, IsSmall, has_too_many_provisioners, has_too_much_output, is_too_long, puts_out_too_much, seconds_in_all}
 use Rattle.apply_plan.specs.Script.Refusals.{fault_of_steps}
 
 none_passes : {X : Type 0} (p : X → Bool) (xs : List X) → list_any p xs ≡ false → (k : ℕ) (d : X) → k < length xs → p (get_or xs k d) ≡ false
@@ -57,19 +57,3 @@ pub all_seen : {T A : Type 0} (P : A → Type 0) (see : T → A) (xs : List T) (
 all_seen P see xs k x all below is =
     let within : k < length (map see xs) = rw (length-map xs see) below in
     subst P (get_or-map see xs k x (see x) below ∙ ap see (sym is)) (all k (see x) within)
-
--- ---- how long a step takes
-
-ran_takes : (provisioners : List Provisioner) → seconds_of_all (ran provisioners) ≤ seconds_of_all provisioners
-ran_takes [] = omega arith
-ran_takes (p ∷ ps) =
-    let f = λ (p : Provisioner). p.seconds in
-    ⊎_elim
-    (λ (yes : has_failed p ≡ true). rw yes (omega (arith, sum_by-cons f p [], sum_by-cons f p ps)))
-    (λ (no : has_failed p ≡ false). rw no (omega (arith, sum_by-cons f p (ran ps), sum_by-cons f p ps, ran_takes ps)))
-    (cases_Bool (has_failed p))
-
--- a step within the limits takes a day at most
-pub in_time : (found : Option Outcome) → IfSome found IsBounded → IfSome found (λ outcome. took outcome ≤ max_seconds)
-in_time None bounded = tt
-in_time (Some outcome) bounded = omega (arith, ran_takes outcome.provisioners, bounded.short)

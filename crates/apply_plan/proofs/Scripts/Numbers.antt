@@ -9,7 +9,7 @@ use Rattle.std.proofs.Math.Seq.{drop-cons}
 use Rattle.std.proofs.lemmas.List.{drop_all}
 use Rattle.std.proofs.lemmas.Option.{get_or_from_slice_get, slice_get_within}
 use Rattle.apply_plan.specs.declared.plan.object_id.ObjectId.{ObjectId}
-use Rattle.apply_plan.specs.Plan.ResourceChange.{ResourceChange}
+use Rattle.apply_model.specs.Plan.ResourceChange.{ResourceChange}
 use Rattle.apply_plan.specs.Plan.SeenObjects.{is_of, is_same_id}
 use Rattle.apply_plan.proofs.Plans.Seen.{by_address_and_key, orders}
 

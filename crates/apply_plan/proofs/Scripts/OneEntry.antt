@@ -1,18 +1,18 @@
 -- What one entry says, in the steps of a reader.
 use Rattle.std.proofs.Common.{◌≡◌, ℕ, ◌<◌, true, false, cond, List, length, map, get_or, Option, Some, None, option_map, Result, Ok, Err, refl, sym, ap, ◌∙◌}
-use Rattle.std.specs.Prelude.{is_some}
+use Rattle.std.specs.Prelude.{is_some, option_and_then}
 use Rattle.std.proofs.lemmas.Option.{slice_get_read}
 use Rattle.serde_json.specs.Data.{Data}
-use Rattle.apply_plan.specs.declared.script.outcome.Outcome.{Outcome}
+use Rattle.apply_model.specs.declared.script.outcome.Outcome.{Outcome}
 use Rattle.apply_plan.specs.declared.script.script_error.ScriptError.{ScriptError}
 use Rattle.apply_plan.specs.declared.script.script_error.ScriptError.TheVariants.{BadShape, UnknownChange, Duplicate}
 use Rattle.apply_plan.specs.declared.script.tree_entry.TreeEntry.{TreeEntry}
-use Rattle.apply_json.specs.Tree.{◌>>=◌}
-use Rattle.apply_plan.specs.Plan.ResourceChange.{ResourceChange}
+use Rattle.apply_model.specs.Plan.ResourceChange.{ResourceChange}
 use Rattle.apply_plan.specs.Results.{unless_refused}
 use Rattle.apply_plan.specs.Script.Entry.{Entry, entry_of}
 use Rattle.apply_plan.specs.Script.NextEntry.{entry_beside}
-use Rattle.apply_plan.specs.Script.OutcomeMap.{OutcomeMap, change_of_entry, said_at}
+use Rattle.apply_model.specs.Script.OutcomeMap.{OutcomeMap, said_at}
+use Rattle.apply_plan.specs.Script.OutcomeMap.{change_of_entry}
 use Rattle.apply_plan.specs.Script.Refusals.{fault_of_steps}
 use Rattle.apply_plan.specs.Script.TreeView.{entry_view, step_view}
 use Rattle.apply_plan.proofs.Scripts.Entries.{IsChangeOf}
@@ -48,7 +48,7 @@ unfolding entry_beside
 known changes said n d entry number change there is = rw (← is.entry_is, is.change_is.found) refl
 
 said_there : (said : OutcomeMap) (number : ℕ) (there : Option (List Outcome)) → number < length said → there ≡ get_or said number there → said_at said number ≡ there
-said_there said number there below is = ap (λ (o : Option (Option (List Outcome))). o >>= λ said. said) (slice_get_read said (length said) number there refl below is)
+said_there said number there below is = ap (λ (o : Option (Option (List Outcome))). option_and_then (λ said. said) o) (slice_get_read said (length said) number there refl below is)
 
 pub repeats : (changes : List ResourceChange) (said : OutcomeMap) (n : ℕ) (d : Data) (entry : TreeEntry) (number : ℕ) (change : ResourceChange) (there : Option (List Outcome)) → IsFound changes said d entry number change there
     → is_some there ≡ true → entry_beside changes said n d ≡ Err (Duplicate n)

@@ -1,10 +1,10 @@
 -- The values of an array, one by one, where each has to be of some kind.
-use Rattle.std.proofs.Common.{◌≡◌, ℕ, suc, ◌+◌, ◌<◌, ◌≤◌, List, [], ◌∷◌, ◌++◌, length, map, drop, get_or, take, Option, Some, None, option_map, refl, sym, ap, ◌∙◌, add-one, append_assoc}
-use Rattle.std.proofs.Math.Seq.{drop-cons}
+use Rattle.std.proofs.Common.{◌≡◌, ℕ, ◌+◌, ◌<◌, ◌≤◌, List, [], ◌∷◌, ◌++◌, length, map, drop, get_or, take, Option, Some, None, option_map, refl, sym, ap, ◌∙◌, append_assoc}
 use Rattle.std.proofs.lemmas.List.{append-nil, drop_all, map-append, take_more}
 use Rattle.serde_json.specs.Data.{Data}
 use Rattle.serde_json.specs.View.{view, items_view}
 use Rattle.serde_json.specs.declared.value.Value.{Value}
+use Rattle.apply_model.proofs.Lists.{left_at}
 use Rattle.apply_json.specs.Tree.{◌>>=◌, items_or_empty, list_of}
 use Rattle.apply_plan.specs.Script.Entry.{all_some, each_of}
 
@@ -15,10 +15,6 @@ parts_from part values = all_some (map part (list_of (items_view values)))
 -- the parts so far, and those that the values are
 abbrev pub parts_behind : {A : Type 0} → (Data → Option A) → List A → List Value → Option (List A)
 parts_behind part front values = option_map (λ others. front ++ others) (parts_from part values)
-
--- what is left of a list begins with the element at hand
-pub left_at : {X : Type 0} (xs : List X) (i : ℕ) (x : X) → i < length xs → x ≡ get_or xs i x → drop i xs ≡ x ∷ drop (i + 1) xs
-left_at {X = X} xs i x below is = rw (add-one, drop-cons xs i x) (ap (λ (y : X). y ∷ drop (suc i) xs) (sym is))
 
 -- no part so far
 pub no_part : {A : Type 0} (part : Data → Option A) (values : List Value) → parts_behind part [] values ≡ parts_from part values

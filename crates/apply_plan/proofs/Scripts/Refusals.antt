@@ -6,10 +6,10 @@ use Rattle.std.proofs.lemmas.Bool.{le-ltb}
 use Rattle.std.proofs.lemmas.List.{get_or-map, length-map, take_all}
 use Rattle.std.proofs.lemmas.List.Folds.{list_any_at, list_any_more}
 use Rattle.std.proofs.lemmas.Slice.Zip.{get_or-zip, length-zip}
-use Rattle.apply_plan.specs.declared.plan.step_kind.StepKind.{StepKind}
+use Rattle.apply_model.specs.declared.plan.step_kind.StepKind.{StepKind}
 use Rattle.apply_plan.specs.declared.script.script_error.ScriptError.TheVariants.{SecondsRange, TooManyProvisioners, TooMuchOutput, NotACreate}
 use Rattle.apply_plan.specs.declared.script.tree_step.TreeStep.{TreeStep}
-use Rattle.apply_plan.specs.Script.Outcome.{has_too_many_provisioners, has_too_much_output, is_too_long}
+use Rattle.apply_model.specs.Script.Outcome.{has_too_many_provisioners, has_too_much_output, is_too_long}
 use Rattle.apply_plan.specs.Script.Refusals.{fault_of_steps, misplaces_provisioners}
 use Rattle.apply_plan.specs.Script.TreeView.{step_view}
 

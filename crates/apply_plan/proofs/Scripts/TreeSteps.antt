@@ -4,11 +4,11 @@ use Rattle.std.specs.Prelude.{sum_by}
 use Rattle.std.proofs.lemmas.Bool.{le-ltb, lt-ltb}
 use Rattle.std.proofs.lemmas.List.{take_all}
 use Rattle.std.proofs.lemmas.List.Sums.{sum_by-cons, sum_by_more, sum_by_more_le}
-use Rattle.apply_plan.specs.declared.script.provisioner.Provisioner.{Provisioner}
+use Rattle.apply_model.specs.declared.script.provisioner.Provisioner.{Provisioner}
 use Rattle.apply_plan.specs.declared.script.tree_provisioner.TreeProvisioner.{TreeProvisioner}
 use Rattle.apply_plan.specs.declared.script.tree_step.TreeStep.{TreeStep}
-use Rattle.apply_plan.specs.Script.Limits.{max_seconds}
-use Rattle.apply_plan.specs.Script.Outcome.{is_too_long, seconds_of_all}
+use Rattle.apply_model.specs.Script.Limits.{max_seconds}
+use Rattle.apply_model.specs.Script.Outcome.{is_too_long, seconds_of_all}
 use Rattle.apply_plan.specs.Script.TreeView.{provisioner_view, step_view}
 
 abbrev pub tree_seconds : List TreeProvisioner → ℕ

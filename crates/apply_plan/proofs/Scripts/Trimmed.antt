@@ -1,26 +1,27 @@
 -- A script is the same when its tree is trimmed.
-use Rattle.std.proofs.Common.{◌≡◌, ◌≤◌, ℕ, length, false, ltb, map, List, [], ◌∷◌, ◌++◌, codes, Option, Some, None, option_map, Result, Ok, Err, refl, sym, ap, ◌∙◌}
+use Rattle.std.proofs.Common.{◌≡◌, ◌≤◌, ℕ, length, false, ltb, map, List, [], ◌∷◌, ◌++◌, codes, Option, Some, None, option_map, Result, Ok, refl, sym, ap, ◌∙◌}
 use Rattle.std.proofs.lemmas.Bool.{le-ltb}
 use Rattle.serde_json.specs.Data.{Data, Items, no_items, item}
 use Rattle.serde_json.specs.Find.{as_array, as_number, as_str, as_u64}
 use Rattle.apply_json.specs.Parsed.{IsTrimmedTree}
-use Rattle.apply_json.specs.Tree.{◌>>=◌, list_of, member_of, non_empty_text_of, text_of, text_or}
+use Rattle.apply_json.specs.Tree.{◌>>=◌, list_of, member_of, text_of, text_or}
 use Rattle.apply_json.specs.Trimmed.{trimmed, trimmed_items}
 use Rattle.apply_json.proofs.Trimmed.Lookups.{as_array_trimmed, as_number_trimmed, as_str_trimmed, behind_trimmed, member_trimmed, non_empty_text_trimmed, text_or_trimmed, text_trimmed}
-use Rattle.apply_plan.specs.declared.script.outcome.Outcome.{Outcome}
+use Rattle.apply_model.specs.declared.script.outcome.Outcome.{Outcome}
 use Rattle.apply_plan.specs.declared.script.script_error.ScriptError.{ScriptError}
 use Rattle.apply_plan.specs.declared.script.script_error.ScriptError.TheVariants.{BadShape}
 use Rattle.apply_plan.specs.declared.script.script_shape.ScriptShape.{ScriptShape}
 use Rattle.apply_plan.specs.declared.script.script_shape.ScriptShape.TheVariants as shape
 use Rattle.apply_plan.specs.Bytes.{max_bytes}
 use Rattle.apply_plan.specs.ListReading.{made_after}
-use Rattle.apply_plan.specs.Plan.ResourceChange.{ResourceChange}
-use Rattle.apply_plan.specs.Plan.SavedPlan.{SavedPlan}
+use Rattle.apply_model.specs.Plan.ResourceChange.{ResourceChange}
+use Rattle.apply_model.specs.Plan.SavedPlan.{SavedPlan}
 use Rattle.apply_plan.specs.Results as results
 use Rattle.apply_plan.specs.Results.{or_refuse}
 use Rattle.apply_plan.specs.Script.Entry.{all_some, diag_from, diag_or_none, each_of, ending_of, entry_of, provisioner_from, seconds_of, step_from}
 use Rattle.apply_plan.specs.Script.NextEntry.{entry_after, entry_beside}
-use Rattle.apply_plan.specs.Script.OutcomeMap.{OutcomeMap, by_number, elements_of, script_of, script_of_entries, script_of_tree}
+use Rattle.apply_model.specs.Script.OutcomeMap.{OutcomeMap}
+use Rattle.apply_plan.specs.Script.OutcomeMap.{by_number, elements_of, script_of, script_of_entries, script_of_tree}
 use Rattle.apply_plan.specs.Script.Selection.{item_limit, item_shape, member_shape, script_selection}
 use Rattle.apply_plan.proofs.Results.{bind_same}
 use Rattle.apply_plan.proofs.Scripts.WholeList.{entries_one_by_one}

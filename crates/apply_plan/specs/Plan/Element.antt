@@ -4,10 +4,10 @@ use Rattle.std.specs.Option.{option_map_or}
 use Rattle.std.specs.Str.{bytes_eq}
 use Rattle.serde_json.specs.Data.{Data, null, boolean, number, string, array, object, Items}
 use Rattle.serde_json.specs.Find.{as_array, as_bool, as_i64}
-use Rattle.apply_plan.specs.declared.plan.key.Key.{Key}
-use Rattle.apply_plan.specs.declared.plan.key.Key.TheVariants as key
-use Rattle.apply_plan.specs.declared.plan.mode.Mode.{Mode}
-use Rattle.apply_plan.specs.declared.plan.mode.Mode.TheVariants.{Managed, DataSource}
+use Rattle.apply_model.specs.declared.plan.key.Key.{Key}
+use Rattle.apply_model.specs.declared.plan.key.Key.TheVariants as key
+use Rattle.apply_model.specs.declared.plan.mode.Mode.{Mode}
+use Rattle.apply_model.specs.declared.plan.mode.Mode.TheVariants.{Managed, DataSource}
 use Rattle.apply_json.specs.Tree.{◌>>=◌, unless_empty, member_of, text_of, non_empty_text_of, text_or}
 
 pub record Element : Type 0 where

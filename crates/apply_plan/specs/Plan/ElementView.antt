@@ -8,8 +8,8 @@ use Rattle.serde_json.specs.View.{items_view}
 use Rattle.apply_plan.specs.declared.plan.element.Element as in_tree
 use Rattle.apply_plan.specs.declared.plan.element.IndexKey.{IndexKey}
 use Rattle.apply_plan.specs.declared.plan.element.IndexKey.TheVariants as index
-use Rattle.apply_plan.specs.declared.plan.key.Key.{Key}
-use Rattle.apply_plan.specs.declared.plan.key.Key.TheVariants as key
+use Rattle.apply_model.specs.declared.plan.key.Key.{Key}
+use Rattle.apply_model.specs.declared.plan.key.Key.TheVariants as key
 use Rattle.apply_plan.specs.Plan.Element.{Element}
 
 abbrev pub key_view : IndexKey → Key

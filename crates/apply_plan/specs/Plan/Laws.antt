@@ -3,7 +3,7 @@ use Rattle.std.specs.Prelude.{◌≡◌, ◌≢◌, ℕ, List, [], ◌∷◌, �
 use Rattle.std.specs.List.{AllByRecursion}
 use Rattle.serde_json.specs.Data.{Data, Items, no_items, item}
 use Rattle.serde_json.specs.Find.{as_array}
-use Rattle.apply_plan.specs.Plan.ResourceChange.{ResourceChange, resource_of}
+use Rattle.apply_model.specs.Plan.ResourceChange.{ResourceChange, resource_of}
 use Rattle.apply_json.specs.Tree.{member_of}
 
 -- no change has the address and the deposed key of a change before it

@@ -4,7 +4,7 @@ use Rattle.std.specs.List.{list_any}
 use Rattle.std.specs.Option.{option_copied}
 use Rattle.apply_plan.specs.declared.plan.object_id.ObjectId.{ObjectId}
 use Rattle.apply_plan.specs.Plan.ObjectName.{name_one_object}
-use Rattle.apply_plan.specs.Plan.ResourceChange.{ResourceChange}
+use Rattle.apply_model.specs.Plan.ResourceChange.{ResourceChange}
 use Rattle.apply_plan.specs.declared.plan.seen_objects.SeenObjects.{SeenObjects}
 
 abbrev pub is_same_id : ObjectId → ObjectId → Bool

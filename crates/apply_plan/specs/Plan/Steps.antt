@@ -1,8 +1,8 @@
 -- The steps of a list of actions (JSON Output Format, "Change Representation", `actions`).
 use Rattle.std.specs.Prelude.{List, [], ◌∷◌, codes, ◌&&◌, if◌then◌else◌, Option, Some, None}
 use Rattle.serde_json.specs.Data.{Data, Items, no_items, item}
-use Rattle.apply_plan.specs.declared.plan.step_kind.StepKind.{StepKind}
-use Rattle.apply_plan.specs.declared.plan.step_kind.StepKind.TheVariants.{Create, Update, Delete, Read}
+use Rattle.apply_model.specs.declared.plan.step_kind.StepKind.{StepKind}
+use Rattle.apply_model.specs.declared.plan.step_kind.StepKind.TheVariants.{Create, Update, Delete, Read}
 use Rattle.apply_json.specs.Tree.{is_word}
 
 -- of a single action

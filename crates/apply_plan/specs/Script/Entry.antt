@@ -2,12 +2,12 @@
 use Rattle.std.specs.Prelude.{ℕ, List, [], ◌∷◌, codes, length, map, ◌&&◌, nat_lt, if◌then◌else◌, Option, Some, None, option_map}
 use Rattle.serde_json.specs.Data.{Data}
 use Rattle.serde_json.specs.Find.{as_array, as_number, as_str, as_u64}
-use Rattle.apply_plan.specs.declared.script.diag.Diag.{Diag}
-use Rattle.apply_plan.specs.declared.script.ending.Ending.{Ending}
-use Rattle.apply_plan.specs.declared.script.ending.Ending.TheVariants.{Done, Failed}
-use Rattle.apply_plan.specs.declared.script.outcome.Outcome.{Outcome}
-use Rattle.apply_plan.specs.declared.script.provisioner.Provisioner.{Provisioner}
-use Rattle.apply_plan.specs.Script.Outcome.{is_failed}
+use Rattle.apply_model.specs.declared.script.diag.Diag.{Diag}
+use Rattle.apply_model.specs.declared.script.ending.Ending.{Ending}
+use Rattle.apply_model.specs.declared.script.ending.Ending.TheVariants.{Done, Failed}
+use Rattle.apply_model.specs.declared.script.outcome.Outcome.{Outcome}
+use Rattle.apply_model.specs.declared.script.provisioner.Provisioner.{Provisioner}
+use Rattle.apply_model.specs.Script.Outcome.{is_failed}
 use Rattle.apply_json.specs.Tree.{◌>>=◌, unless_empty, items_or_empty, list_of, member_of, non_empty_text_of, text_of, text_or}
 
 pub record Entry : Type 0 where

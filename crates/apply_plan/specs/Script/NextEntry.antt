@@ -1,13 +1,14 @@
 -- What an entry says as a reader meets it, for private clauses: beside what the entries before it have said.
 use Rattle.std.specs.Prelude.{ℕ, List, length, is_some, if◌then◌else◌, Some, Result, Err}
 use Rattle.serde_json.specs.Data.{Data}
-use Rattle.apply_plan.specs.declared.script.outcome.Outcome.{Outcome}
+use Rattle.apply_model.specs.declared.script.outcome.Outcome.{Outcome}
 use Rattle.apply_plan.specs.declared.script.script_error.ScriptError.{ScriptError}
 use Rattle.apply_plan.specs.declared.script.script_error.ScriptError.TheVariants.{BadShape, UnknownChange, Duplicate}
-use Rattle.apply_plan.specs.Plan.ResourceChange.{ResourceChange}
+use Rattle.apply_model.specs.Plan.ResourceChange.{ResourceChange}
 use Rattle.apply_plan.specs.Results.{◌>>=◌, or_refuse, unless_refused}
 use Rattle.apply_plan.specs.Script.Entry.{entry_of}
-use Rattle.apply_plan.specs.Script.OutcomeMap.{OutcomeMap, by_number, change_of_entry, said_at}
+use Rattle.apply_model.specs.Script.OutcomeMap.{OutcomeMap, said_at}
+use Rattle.apply_plan.specs.Script.OutcomeMap.{by_number, change_of_entry}
 use Rattle.apply_plan.specs.Script.Refusals.{fault_of_steps}
 
 -- what entry n says beside what has been said, or its first fault

@@ -1,44 +1,22 @@
 -- What a script says of the steps of a plan, or the first refusal (the script's own format).
-use Rattle.std.specs.Prelude.{ℕ, List, length, map, find, Bool, false, ◌==◌, codes, if◌then◌else◌, Option, Some, None, option_map, unwrap_or, IfSome, slice_get, Result, Ok, Err}
+use Rattle.std.specs.Prelude.{ℕ, List, length, map, find, Bool, false, ◌==◌, codes, if◌then◌else◌, Option, Some, None, option_map, Result, Ok, Err}
 use Rattle.std.specs.List.{enumerate_from, list_any, range_with_len}
 use Rattle.std.specs.Option.{option_map_or}
 use Rattle.serde_json.specs.Data.{Data, Items}
 use Rattle.serde_json.specs.Find.{as_array}
-use Rattle.apply_plan.specs.declared.script.outcome.Outcome.{Outcome}
+use Rattle.apply_model.specs.declared.script.outcome.Outcome.{Outcome}
 use Rattle.apply_plan.specs.declared.script.script_error.ScriptError.{ScriptError}
 use Rattle.apply_plan.specs.declared.script.script_error.ScriptError.TheVariants.{TooLarge, NotJson, BadShape, UnknownChange, Duplicate}
 use Rattle.apply_json.specs.Tree as json
 use Rattle.apply_json.specs.Tree.{list_of, member_of}
 use Rattle.apply_plan.specs.Bytes.{of_bytes}
 use Rattle.apply_plan.specs.Plan.ObjectName.{name_one_object}
-use Rattle.apply_plan.specs.Plan.ResourceChange.{ResourceChange}
-use Rattle.apply_plan.specs.Plan.SavedPlan.{SavedPlan}
+use Rattle.apply_model.specs.Plan.ResourceChange.{ResourceChange}
+use Rattle.apply_model.specs.Plan.SavedPlan.{SavedPlan}
 use Rattle.apply_plan.specs.Results.{◌>>=◌, all_or_first, each_with_earlier, or_refuse, unless_refused}
 use Rattle.apply_plan.specs.Script.Entry.{Entry, entry_of}
-use Rattle.apply_plan.specs.Script.Outcome.{IsBounded, default_outcome}
+pub use Rattle.apply_model.specs.Script.OutcomeMap.{IsInRange, OutcomeMap, given_outcome, outcome_of, said_at}
 use Rattle.apply_plan.specs.Script.Refusals.{fault_of_steps}
-
--- for each change of a plan, by number, the outcomes of its first steps, or nothing
-abbrev pub OutcomeMap : Type 0
-OutcomeMap = List (Option (List Outcome))
-
--- ---- looking up
-
--- what stands at a number, where something stands there
-abbrev pub said_at : OutcomeMap → ℕ → Option (List Outcome)
-said_at script number = json.◌>>=◌ (slice_get script number) (λ said. said)
-
--- what the script says of step k of change c
-abbrev pub given_outcome : OutcomeMap → (c k : ℕ) → Option Outcome
-given_outcome script c k = json.◌>>=◌ (said_at script c) (λ outcomes. slice_get outcomes k)
-
--- the outcome of step k of change c, whatever the script says
-abbrev pub outcome_of : OutcomeMap → (c k : ℕ) → Outcome
-outcome_of script c k = unwrap_or (given_outcome script c k) default_outcome
-
--- each step, with its provisioners, is within the limits
-abbrev pub IsInRange : OutcomeMap → Type 0
-IsInRange script = (c k : ℕ) → IfSome (given_outcome script c k) IsBounded
 
 -- ---- entries
 

@@ -1,15 +1,16 @@
 //! An element of `resource_changes`, as it stands in the tree.
 
-ghost use Rattle.std.specs.Prelude.{◌≡◌, option_map};
+ghost use Rattle.std.specs.Prelude.{◌≡◌, IfOk, option_map};
 ghost use Rattle.std.specs.Option.{option_copied};
 ghost use Rattle.serde_json.specs.View.{view};
 ghost use Rattle.apply_plan.specs.Plan.Element.{element_of, hides_id, is_true, key_of, mode_named, planned_change_of, prior_id_of};
 ghost use Rattle.apply_plan.specs.Plan.ElementView.{element_view, key_view, planned_view};
 ghost use Rattle.apply_json.specs.Tree.{member_of};
 
-use crate::plan::mode::Mode;
 use apply_json::members::{member, non_empty, non_empty_text_member, text_member, text_member_or};
+use apply_model::{Key, Mode, Text};
 use serde_json::Value;
+use std::alloc::{AllocError, Global};
 
 /// An instance key that the tree holds.
 #[derive(Clone, Copy)]
@@ -17,6 +18,19 @@ pub enum IndexKey<'a> {
     None,
     Number(i64),
     Name(&'a str),
+}
+
+impl IndexKey<'_> {
+    /// The key, with a copy of its text.
+    pub fn copied(self, alloc: Global) -> Result<Key, AllocError>
+        ensures { IfOk result (λ key. key ≡ key_view self.entry) }
+    {
+        Ok(match self {
+            IndexKey::None => Key::None,
+            IndexKey::Number(number) => Key::Number(number),
+            IndexKey::Name(name) => Key::Name(Text::new(alloc, name)?),
+        })
+    }
 }
 
 /// The members of an element, each of which obeys its rule.

@@ -4,7 +4,8 @@ ghost use Rattle.std.specs.Prelude.{◌≡◌, ℕ, List, Ok};
 ghost use Rattle.std.specs.List.{AllByRecursion};
 ghost use Rattle.serde_json.specs.Data.{Data};
 ghost use Rattle.apply_plan.specs.Plan.Laws.{HasRelativeAddress, NamesEachObjectOnce, SaySamePlan};
-ghost use Rattle.apply_plan.specs.Plan.SavedPlan.{SavedPlan, plan_of, plan_of_tree};
+ghost use Rattle.apply_model.specs.Plan.SavedPlan.{SavedPlan};
+ghost use Rattle.apply_plan.specs.Plan.SavedPlan.{plan_of, plan_of_tree};
 
 /// An accepted plan changes each object once: no two of its changes have one address and one deposed key.
 pub fn each_object_is_named_once()

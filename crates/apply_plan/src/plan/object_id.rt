@@ -3,8 +3,8 @@
 ghost use Rattle.std.specs.Prelude.{◌≡◌};
 ghost use Rattle.std.specs.Option.{option_copied};
 
-use crate::plan::change::Change;
 use crate::plan::planned::Planned;
+use apply_model::Change;
 
 /// The address of an object, and the key of a deposed one. No two changes of a plan have both in common.
 #[derive(Clone, Copy, PartialEq, Eq, PartialOrd, Ord)]

@@ -3,8 +3,8 @@
 ghost use Rattle.std.specs.Prelude.{◌≡◌};
 ghost use Rattle.apply_plan.specs.Plan.Selection.{is_scalar_of_element, member_shape, plan_selection};
 
-use crate::plan::reading::MAX_CHANGES;
 use apply_json::Shape;
+use apply_model::MAX_CHANGES;
 
 /// What of a value in a plan is looked at. A shape is named after the value that it belongs to.
 #[derive(Clone, Copy)]

@@ -6,25 +6,21 @@ ghost use Rattle.serde_json.specs.View.{view, items_view};
 ghost use Rattle.apply_json.specs.Tree.{list_of};
 ghost use Rattle.apply_plan.specs.Bytes.{max_bytes};
 ghost use Rattle.apply_plan.specs.Plan.Header.{Header as TopLevel, header_of};
-ghost use Rattle.apply_plan.specs.Plan.SavedPlan.{changes_of, max_changes, plan_of, plan_of_tree};
+ghost use Rattle.apply_model.specs.Plan.SavedPlan.{max_changes};
+ghost use Rattle.apply_plan.specs.Plan.SavedPlan.{changes_of, plan_of, plan_of_tree};
 ghost use Rattle.apply_plan.specs.Results.{Gives};
 
 use crate::bytes::MAX_BYTES;
-use crate::plan::Plan;
-use crate::plan::change::Change;
 use crate::plan::header::Header;
 use crate::plan::object_id::ObjectId;
 use crate::plan::plan_error::PlanError;
 use crate::plan::plan_shape::PlanShape;
 use crate::plan::planned::Planned;
 use crate::plan::seen_objects::SeenObjects;
-use crate::text::Text;
 use apply_json::{JsonFault, Scratch, parse_trimmed};
+use apply_model::{Change, MAX_CHANGES, Plan, Text};
 use serde_json::Value;
 use std::alloc::Global;
-
-/// The greatest number of changes in a plan.
-pub const MAX_CHANGES: usize = 10_000;
 
 /// The changes of the elements.
 pub(crate) fn changes_of(alloc: Global, elements: &[Value]) -> Result<Vec<Change>, PlanError>
@@ -41,7 +37,7 @@ pub(crate) fn changes_of(alloc: Global, elements: &[Value]) -> Result<Vec<Change
         if !seen.insert(ObjectId::of(&planned))? {
             return Err(PlanError::Duplicate(number));
         }
-        changes.push(Change::new(alloc, planned)?)?;
+        changes.push(planned.copied(alloc)?)?;
     }
     Ok(changes)
 }
@@ -62,7 +58,7 @@ pub(crate) fn plan_of_value(alloc: Global, tree: &Value) -> Result<Plan, PlanErr
     }
     let changes = changes_of(alloc, header.elements)?;
     let version = Text::new(alloc, header.version)?;
-    Ok(Plan { version, changes })
+    Ok(Plan::new(version, changes))
 }
 
 /// Reads a saved plan (JSON Output Format, "Plan Representation") as `terraform show -json` prints it.

@@ -3,8 +3,8 @@
 ghost use Rattle.std.specs.Prelude.{◌≡◌, IfOk, find, option_map};
 ghost use Rattle.std.specs.List.{enumerate_from};
 
-use crate::plan::Plan;
 use crate::plan::object_id::ObjectId;
+use apply_model::Plan;
 use std::alloc::{AllocError, Global};
 use std::collections::BTreeMap;
 

@@ -12,16 +12,15 @@ ghost use Rattle.apply_plan.specs.Script.NextEntry.{entry_beside};
 ghost use Rattle.apply_plan.specs.Script.OutcomeMap.{by_number, elements_of, script_of, script_of_entries, script_of_tree};
 
 use crate::bytes::MAX_BYTES;
-use crate::plan::Plan;
 use crate::plan::object_id::ObjectId;
-use crate::script::Script;
 use crate::script::change_numbers::ChangeNumbers;
 use crate::script::script_error::ScriptError;
 use crate::script::script_shape::ScriptShape;
-use crate::script::step_outcomes::StepOutcomes;
 use crate::script::tree_entry::TreeEntry;
+use crate::script::tree_step::copied_outcomes;
 use apply_json::members::member;
 use apply_json::{JsonFault, Scratch, parse_trimmed};
+use apply_model::{Plan, Script, StepOutcomes};
 use serde_json::Value;
 use std::alloc::{AllocError, Global};
 
@@ -82,9 +81,7 @@ fn script_of_entries<'a>(
         let (change, outcomes) = read_entry(alloc, number, value, plan, &numbers, &said)?;
         said[change as usize] = Some(outcomes);
     }
-    Ok(Script {
-        changes: Some(said),
-    })
+    Ok(Script::new(said))
 }
 
 /// Nothing said of so many changes.
@@ -130,5 +127,5 @@ fn read_entry<'a>(
     if let Some(fault) = entry.fault(number, plan.change(change).steps()) {
         return Err(fault);
     }
-    Ok((change, StepOutcomes::new(alloc, &entry.steps)?))
+    Ok((change, copied_outcomes(alloc, &entry.steps)?))
 }

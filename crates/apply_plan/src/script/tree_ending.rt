@@ -1,15 +1,17 @@
 //! How a step ends, as it stands in the tree.
 
-ghost use Rattle.std.specs.Prelude.{◌≡◌, option_map};
+ghost use Rattle.std.specs.Prelude.{◌≡◌, IfOk, option_map};
 ghost use Rattle.std.specs.Option.{option_copied};
 ghost use Rattle.serde_json.specs.View.{view};
 ghost use Rattle.apply_plan.specs.Script.Entry.{ending_from, ending_of};
-ghost use Rattle.apply_plan.specs.Script.Outcome.{is_failed};
+ghost use Rattle.apply_model.specs.Script.Outcome.{is_failed};
 ghost use Rattle.apply_plan.specs.Script.TreeView.{diag_view, ending_view};
 
 use crate::script::tree_diag::TreeDiag;
 use apply_json::members::{member, non_empty, text_member_or};
+use apply_model::{Ending, Text};
 use serde_json::Value;
+use std::alloc::{AllocError, Global};
 
 /// An ending that the tree holds.
 #[derive(Clone, Copy)]
@@ -54,6 +56,7 @@ impl<'a> TreeEnding<'a> {
             }
         }
     }
+
     /// Whether the provider fails.
     pub fn is_failed(self) -> bool
         ensures { result ≡ is_failed (ending_view self.entry) }
@@ -61,6 +64,21 @@ impl<'a> TreeEnding<'a> {
         match self {
             TreeEnding::Done { .. } => false,
             TreeEnding::Failed { .. } => true,
+        }
+    }
+
+    /// The ending, with copies of its texts.
+    pub fn copied(self, alloc: Global) -> Result<Ending, AllocError>
+        ensures { IfOk result (λ copy. copy ≡ ending_view self.entry) }
+    {
+        match self {
+            TreeEnding::Done { id, warning } => Ok(Ending::Done {
+                id: Text::of_option(alloc, id)?,
+                warning: TreeDiag::copied_option(alloc, warning)?,
+            }),
+            TreeEnding::Failed { diag } => Ok(Ending::Failed {
+                diag: diag.copied(alloc)?,
+            }),
         }
     }
 }

@@ -5,14 +5,14 @@ ghost use Rattle.std.specs.List.{list_any, zip};
 ghost use Rattle.serde_json.specs.View.{view, items_view};
 ghost use Rattle.apply_json.specs.Tree.{list_of};
 ghost use Rattle.apply_plan.specs.Script.Entry.{all_some, entry_of, step_from};
-ghost use Rattle.apply_plan.specs.Script.Outcome.{has_too_many_provisioners, has_too_much_output, is_too_long};
+ghost use Rattle.apply_model.specs.Script.Outcome.{has_too_many_provisioners, has_too_much_output, is_too_long};
 ghost use Rattle.apply_plan.specs.Script.Refusals.{fault_of_steps, misplaces_provisioners};
 ghost use Rattle.apply_plan.specs.Script.TreeView.{entry_view, members_of, members_view, step_view};
 
-use crate::plan::step_kind::StepKind;
 use crate::script::script_error::ScriptError;
 use crate::script::tree_step::TreeStep;
 use apply_json::members::{member, non_empty, text_member, text_member_or};
+use apply_model::StepKind;
 use serde_json::Value;
 use std::alloc::{AllocError, Global};
 

@@ -1,16 +1,17 @@
 //! A provisioner of a script, as it stands in the tree.
 
-ghost use Rattle.std.specs.Prelude.{◌≡◌, IfOk, option_map};
+ghost use Rattle.std.specs.Prelude.{◌≡◌, ◌≤◌, All, IfOk, length, map, option_map};
 ghost use Rattle.serde_json.specs.Find.{as_str};
 ghost use Rattle.serde_json.specs.View.{view};
 ghost use Rattle.apply_plan.specs.Script.Entry.{each_of, provisioner_from};
-ghost use Rattle.apply_plan.specs.Script.Outcome.{puts_out_too_much};
+ghost use Rattle.apply_model.specs.Script.Outcome.{IsSmall, puts_out_too_much};
+ghost use Rattle.apply_model.specs.Script.Limits.{max_outputs, max_provisioners};
 ghost use Rattle.apply_plan.specs.Script.TreeView.{provisioner_view, texts_view};
 
-use crate::script::texts::MAX_OUTPUTS;
 use crate::script::tree_diag::TreeDiag;
 use crate::script::tree_step::seconds;
 use apply_json::members::{array_or_empty, member, non_empty_text_member};
+use apply_model::{MAX_OUTPUTS, Provisioner, Provisioners, Text, Texts};
 use serde_json::Value;
 use std::alloc::{AllocError, Global};
 
@@ -57,6 +58,19 @@ impl<'a> TreeProvisioner<'a> {
     {
         self.output.len() > MAX_OUTPUTS
     }
+
+    /// The provisioner, with copies of its texts.
+    pub fn copied(&self, alloc: Global) -> Result<Provisioner, AllocError>
+        requires { IsSmall (provisioner_view self.now) }
+        ensures { IfOk result (λ copy. copy ≡ provisioner_view self.now) }
+    {
+        Ok(Provisioner {
+            name: Text::new(alloc, self.name)?,
+            seconds: self.seconds as u32,
+            output: copied_texts(alloc, &self.output)?,
+            failed: TreeDiag::copied_option(alloc, self.failed)?,
+        })
+    }
 }
 
 /// The texts of an array, none where it is absent. `None` where it is no array, or holds something else.
@@ -75,4 +89,32 @@ fn texts(alloc: Global, found: Option<&Value>) -> Result<Option<Vec<&str>>, Allo
         texts.push(text)?;
     }
     Ok(Some(texts))
+}
+
+/// Copies of the texts.
+fn copied_texts(alloc: Global, borrowed: &[&str]) -> Result<Texts, AllocError>
+    requires { length borrowed.now ≤ max_outputs }
+    ensures { IfOk result (λ copy. copy ≡ texts_view borrowed.now) }
+{
+    let mut texts = Vec::with_capacity(alloc, borrowed.len())?;
+    for text in borrowed {
+        texts.push(Text::new(alloc, text)?)?;
+    }
+    Ok(Texts::new(texts))
+}
+
+/// The provisioners, with copies of their texts.
+pub fn copied_provisioners(
+    alloc: Global,
+    tree: &[TreeProvisioner<'_>],
+) -> Result<Provisioners, AllocError>
+    requires few { length tree.now ≤ max_provisioners }
+    requires small { All IsSmall (map provisioner_view tree.now) }
+    ensures { IfOk result (λ copy. copy ≡ map provisioner_view tree.now) }
+{
+    let mut provisioners = Vec::with_capacity(alloc, tree.len())?;
+    for provisioner in tree {
+        provisioners.push(provisioner.copied(alloc)?)?;
+    }
+    Ok(Provisioners::new(provisioners))
 }

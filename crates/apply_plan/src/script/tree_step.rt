@@ -1,19 +1,17 @@
 //! A step of a script, as it stands in the tree.
 
-ghost use Rattle.std.specs.Prelude.{◌≡◌, IfOk, map, option_map};
+ghost use Rattle.std.specs.Prelude.{◌≡◌, All, IfOk, map, option_map};
 ghost use Rattle.std.specs.List.{list_any};
 ghost use Rattle.serde_json.specs.View.{view};
 ghost use Rattle.apply_plan.specs.Script.Entry.{each_of, provisioner_from, seconds_of, step_from, with_provisioners};
-ghost use Rattle.apply_plan.specs.Script.Outcome.{has_too_many_provisioners, has_too_much_output, is_too_long, puts_out_too_much};
+ghost use Rattle.apply_model.specs.Script.Outcome.{IsBounded, has_too_many_provisioners, has_too_much_output, is_too_long, puts_out_too_much};
 ghost use Rattle.apply_plan.specs.Script.Refusals.{misplaces_provisioners};
 ghost use Rattle.apply_plan.specs.Script.TreeView.{ending_view, provisioner_view, step_view};
 
-use crate::plan::step_kind::StepKind;
-use crate::script::outcome::MAX_SECONDS;
-use crate::script::provisioners::MAX_PROVISIONERS;
 use crate::script::tree_ending::TreeEnding;
-use crate::script::tree_provisioner::TreeProvisioner;
+use crate::script::tree_provisioner::{TreeProvisioner, copied_provisioners};
 use apply_json::members::{array_or_empty, member};
+use apply_model::{MAX_PROVISIONERS, MAX_SECONDS, Outcome, StepKind, StepOutcomes};
 use serde_json::Value;
 use std::alloc::{AllocError, Global};
 
@@ -100,6 +98,18 @@ impl<'a> TreeStep<'a> {
     {
         !self.provisioners.is_empty() && !kind.is_create()
     }
+
+    /// The outcome that the step is, with copies of its texts.
+    pub fn copied(&self, alloc: Global) -> Result<Outcome, AllocError>
+        requires { IsBounded (step_view self.now) }
+        ensures { IfOk result (λ copy. copy ≡ step_view self.now) }
+    {
+        Ok(Outcome {
+            seconds: self.seconds as u32,
+            provisioners: copied_provisioners(alloc, &self.provisioners)?,
+            result: self.result.copied(alloc)?,
+        })
+    }
 }
 
 /// Whether one of the provisioners puts out more than it may.
@@ -136,4 +146,16 @@ fn provisioners(
         provisioners.push(provisioner)?;
     }
     Ok(Some(provisioners))
+}
+
+/// The outcomes that the steps are, with copies of their texts.
+pub fn copied_outcomes(alloc: Global, steps: &[TreeStep<'_>]) -> Result<StepOutcomes, AllocError>
+    requires { All IsBounded (map step_view steps.now) }
+    ensures { IfOk result (λ outcomes. outcomes ≡ map step_view steps.now) }
+{
+    let mut outcomes = Vec::with_capacity(alloc, steps.len())?;
+    for step in steps {
+        outcomes.push(step.copied(alloc)?)?;
+    }
+    Ok(StepOutcomes::new(outcomes))
 }

@@ -13,7 +13,7 @@ use Rattle.apply_text.specs.Lines.{event_text, lines_of, version_text}
 use Rattle.apply_text.specs.Order.{hook_messages_of, notes_of}
 use Rattle.apply_run.specs.declared.stream.output.Stop.TheVariants.{Going}
 use Rattle.apply_run.specs.Stream.Outlet.{HasWritten, Outlet, Writes, failed_writes}
-use Rattle.apply_run.specs.Stream.Room.{IsNew}
+use Rattle.apply_run.specs.Stream.Counting.{IsNew}
 use Rattle.apply_run.specs.Stream.Telling.{HasLines, HasTold, Telling}
 use Rattle.apply_run.proofs.Streams.Lines.{latest_more, lines_more, lines_none}
 

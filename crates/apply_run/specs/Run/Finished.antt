@@ -10,7 +10,7 @@ use Rattle.apply_run.specs.declared.run.JoinedRun.{JoinedRun}
 use Rattle.apply_run.specs.declared.run.FinishedRun.{FinishedRun}
 use Rattle.apply_run.specs.declared.stream.StreamWriter.{StreamWriter}
 use Rattle.apply_events.specs.Fits.{IsOfPlan}
-use Rattle.apply_run.specs.Stream.Room.{HasRoom}
+use Rattle.apply_run.specs.Stream.Counting.{CountsFit}
 use Rattle.apply_run.specs.Stream.Telling.{IsSameStream, IsToldSince, telling_of}
 use Rattle.apply_run.specs.Run.Threads.{EachAt}
 use Rattle.apply_run.specs.Worker.Stopped.{IsStoppedWorker}
@@ -23,7 +23,7 @@ pub record IsJoinedRun {S : Type 0} (bytes : S → Option (List ℕ)) (failed : 
   pub count : length joined.stopped.items ≡ claims.workers
   pub stopped : EachAt (IsStoppedWorker work claims bus) joined.stopped.items
   pub same : IsSameStream stream joined.stream
-  pub room : HasRoom joined.stream.plan.now (telling_of bytes failed joined.stream)
+  pub counts_fit : CountsFit joined.stream.plan.now (telling_of bytes failed joined.stream)
   pub told : All (IsOfPlan stream.plan.now) (events joined.taken.taken)
       → IsToldSince bytes failed stream (events joined.taken.taken) joined.stream
 
@@ -35,5 +35,5 @@ pub record IsFinishedRun {S : Type 0} (bytes : S → Option (List ℕ)) (failed 
   pub part : IsAppliedInPart work workers lists events
   pub whole : finished.whole ≡ true → IsApplied work workers lists events
   pub same : IsSameStream stream finished.stream
-  pub room : HasRoom finished.stream.plan.now (telling_of bytes failed finished.stream)
+  pub counts_fit : CountsFit finished.stream.plan.now (telling_of bytes failed finished.stream)
   pub told : IsToldSince bytes failed stream events finished.stream

@@ -39,10 +39,10 @@ impl<S: Sink + Drop> Output<S> {
     /// Writes the bytes, unless the writing has stopped. It stops where a write fails.
     pub fn write(&mut self, bytes: &[u8])
         requires open { self.old.stop ≡ Stop.Going → S.failed self.old.sink < 2 ^ 64 - 1 }
-        requires room { self.old.written ≤ 2 ^ 127 }
+        requires few { self.old.written ≤ 2 ^ 127 }
         ensures written { Writes (outlet_of S.bytes S.failed self.old) (outlet_of S.bytes S.failed self.new) bytes.now }
         ensures open { self.new.stop ≡ Stop.Going → S.failed self.new.sink < 2 ^ 64 - 1 }
-        ensures room { self.new.written ≤ self.old.written + length bytes.now }
+        ensures more { self.new.written ≤ self.old.written + length bytes.now }
         ensures memory { self.new.stop ≡ Stop.NoMemory → self.new ≡ self.old }
     {
         if let Stop::Going = self.stop {

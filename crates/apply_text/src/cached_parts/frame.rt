@@ -10,7 +10,7 @@ use crate::cached_parts::open_text::open_text;
 use crate::display::elapsed::Elapsed;
 use crate::objects::resource_object::put_resource;
 use crate::step_words::StepWords;
-use apply_plan::{Change, Key, StepKind, Text};
+use apply_model::{Change, Key, StepKind, Text};
 use json::Writer;
 use std::alloc::{AllocError, Global};
 use std::marker::Model;

@@ -8,7 +8,7 @@ ghost use Rattle.apply_text.specs.Start.{last_second};
 
 use crate::cached_parts::frame::ProgressFrame;
 use crate::cached_parts::kept_date::KeptDate;
-use apply_plan::{Change, StepKind};
+use apply_model::{Change, StepKind};
 use std::alloc::{AllocError, Global};
 
 /// How many steps texts are kept of.

@@ -2,7 +2,7 @@
 
 ghost use Rattle.std.specs.Prelude.{◌≡◌, IfOk, IsTrue};
 
-use apply_plan::{Key, Text};
+use apply_model::{Key, Text};
 use std::alloc::{AllocError, Global};
 
 /// A copy of the key. `Err` where memory is refused.

@@ -8,7 +8,7 @@ ghost use Rattle.apply_text.specs.Sending.{Sends, elapsed_tokens, id_tokens, mem
 use crate::objects::member::{put_number, put_text};
 use crate::objects::resource_object::put_resource;
 use crate::step_words::StepWords;
-use apply_plan::{Change, StepKind};
+use apply_model::{Change, StepKind};
 use json::Writer;
 use std::alloc::AllocError;
 

@@ -3,7 +3,7 @@
 ghost use Rattle.apply_text.specs.Objects.{key_data};
 ghost use Rattle.apply_text.specs.Sending.{Sends, data_tokens};
 
-use apply_plan::Key;
+use apply_model::Key;
 use json::Writer;
 use std::alloc::AllocError;
 

@@ -7,7 +7,7 @@ ghost use Rattle.apply_text.specs.Sending.{Sends, member_tokens, output_tokens};
 
 use crate::objects::member::put_text;
 use crate::objects::resource_object::put_resource;
-use apply_plan::Change;
+use apply_model::Change;
 use json::Writer;
 use std::alloc::AllocError;
 

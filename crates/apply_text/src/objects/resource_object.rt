@@ -6,7 +6,7 @@ ghost use Rattle.apply_text.specs.Sending.{Sends, member_tokens};
 
 use crate::objects::key_value::put_key;
 use crate::objects::member::put_text;
-use apply_plan::Change;
+use apply_model::Change;
 use json::Writer;
 use std::alloc::AllocError;
 

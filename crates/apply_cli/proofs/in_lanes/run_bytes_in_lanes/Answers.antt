@@ -82,5 +82,6 @@ returns-in-Err g c =
       cut_off = λ _. begun_by_refused given c.args.lanes settings.at settings.operation c.in-Err.refusal before after after (Keeps-refl after.bytes) (omega arith) ended;
       large = λ long. status_is ∙ large_by_refused given c.args.lanes settings.at settings.operation c.in-Err.refusal before after ended long;
       quiet = λ good. absurd (omega arith);
+      gone = λ is. search rules;
       statuses = omega arith;
     }

@@ -81,5 +81,6 @@ returns-in-Err g c =
       cut_off = λ _. begun_of_refused given options c.in-Err.refusal before after after (Keeps-refl after.bytes) (omega arith) ended;
       large = λ long. status_is ∙ refused_large given options c.in-Err.refusal before after ended long;
       quiet = λ good. absurd (omega arith);
+      gone = λ is. search rules;
       statuses = omega arith;
     }

@@ -1,5 +1,5 @@
 use Rattle.std.proofs.Common.{arith}
-use Rattle.apply_plan.specs.Script.Outcome.{ran}
+use Rattle.apply_model.specs.Script.Outcome.{ran}
 use Rattle.apply_events.proofs.MidSteps.{ends_in_time, ran_at, ran_few, since_more}
 use Rattle.apply_events.proofs.provisioners_that_run.begin_of.Goals as goal
 

@@ -1,5 +1,5 @@
 use Rattle.std.proofs.Common.{◌≡◌}
-use Rattle.apply_plan.specs.Script.Outcome.{ran}
+use Rattle.apply_model.specs.Script.Outcome.{ran}
 use Rattle.apply_events.specs.MidStep.{since}
 use Rattle.apply_events.proofs.provisioners_that_run.begin_of.Given as goal
 

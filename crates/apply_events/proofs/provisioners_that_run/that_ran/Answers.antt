@@ -1,6 +1,6 @@
 use Rattle.std.proofs.Common.{◌∙◌, arith, sym}
 use Rattle.std.proofs.lemmas.Option.{slice_get_past}
-use Rattle.apply_plan.specs.Script.Outcome.{ran}
+use Rattle.apply_model.specs.Script.Outcome.{ran}
 use Rattle.apply_events.proofs.MidSteps.{ran_few, ran_get}
 use Rattle.apply_events.proofs.provisioners_that_run.that_ran.Goals as goal
 

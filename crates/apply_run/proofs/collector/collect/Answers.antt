@@ -15,7 +15,7 @@ loop-rx-init g c =
       plan = w.same.plan;
       script = w.same.script;
       start = w.same.start;
-      room = w.room;
+      counts_fit = w.counts_fit;
       few = let none = w.none in omega (arith, none);
       told = told_no_items _ _ _ _ _ c.args.rx.taken (telling_of g.S.Sink.bytes g.S.Sink.failed c.write_version.new.self) c.requires.none w.told;
       lost = omega arith;
@@ -40,7 +40,7 @@ loop-rx-preserved-in-Ok g c =
       plan = n.same.plan ∙ i.plan;
       script = n.same.script ∙ i.script;
       start = n.same.start ∙ i.start;
-      room = n.room;
+      counts_fit = n.counts_fit;
       few = count_more _ _ taken new c.in-Ok.item is n.one_more i.few;
       told = told_more_items _ _ _ _ _ _ _ _ taken new c.in-Ok.item (telling_of g.S.Sink.bytes g.S.Sink.failed c.loop-rx.stream) _ i.plan i.script i.start is i.told (n.told _ _ _);
       lost = i.lost;
@@ -61,7 +61,7 @@ loop-rx-preserved g c =
       plan = i.plan;
       script = i.script;
       start = i.start;
-      room = i.room;
+      counts_fit = i.counts_fit;
       few = subst (λ items. c.loop-rx.stream.taken ≤ length items) is i.few;
       told = subst (λ items. All (IsOfPlan s.plan.now) (events items) → HasTold s.plan.now s.script.now s.start (g.S.Sink.bytes s.output.sink) (g.S.Sink.failed s.output.sink) (events items) (telling_of g.S.Sink.bytes g.S.Sink.failed c.loop-rx.stream)) is i.told;
       lost = let low = c.if-lost_takes-lt-MAX_LOST.true in omega (arith, low);
@@ -84,5 +84,5 @@ returns-clause-told g c =
     let s = c.args.stream in
     subst (λ items. All (IsOfPlan s.plan.now) (events items) → HasTold s.plan.now s.script.now s.start (g.S.Sink.bytes s.output.sink) (g.S.Sink.failed s.output.sink) (events items) (telling_of g.S.Sink.bytes g.S.Sink.failed c.loop-rx.stream)) (sym (ap (λ (a : Account). a.taken) c.give_up.ensures.taken)) c.loop-rx.invariant.told
 
-pub returns-clause-room : goal.returns-clause-room
-returns-clause-room g c = c.loop-rx.invariant.room
+pub returns-clause-counts_fit : goal.returns-clause-counts_fit
+returns-clause-counts_fit g c = c.loop-rx.invariant.counts_fit

@@ -1,6 +1,6 @@
 use Rattle.std.proofs.Common.{◌≡◌, ◌≤◌, ◌+◌, ◌-◌, All, length}
 use Rattle.apply_bus.specs.Items.{events, max_taken}
-use Rattle.apply_run.specs.Stream.Room.{HasRoom}
+use Rattle.apply_run.specs.Stream.Counting.{CountsFit}
 use Rattle.apply_events.specs.Fits.{IsOfPlan}
 use Rattle.apply_run.specs.Stream.Telling.{HasTold, telling_of}
 use Rattle.apply_run.proofs.collector.collect.Given as goal
@@ -13,7 +13,7 @@ invariant-loop-rx g l = record {
   plan : l.stream.plan.now ≡ l.fn.stream.plan.now;
   script : l.stream.script.now ≡ l.fn.stream.script.now;
   start : l.stream.start ≡ l.fn.stream.start;
-  room : HasRoom l.stream.plan.now (telling_of g.S.Sink.bytes g.S.Sink.failed l.stream);
+  counts_fit : CountsFit l.stream.plan.now (telling_of g.S.Sink.bytes g.S.Sink.failed l.stream);
   few : l.stream.taken ≤ length l.rx.taken;
   told : All (IsOfPlan l.fn.stream.plan.now) (events l.rx.taken)
       → HasTold l.fn.stream.plan.now l.fn.stream.script.now l.fn.stream.start (g.S.Sink.bytes l.fn.stream.output.sink) (g.S.Sink.failed l.fn.stream.output.sink) (events l.rx.taken)

@@ -12,7 +12,7 @@ loop-event-init g c =
       script = w.same.script;
       start = w.same.start;
       count = w.none ∙ sym c.requires.none_told;
-      room = w.room;
+      counts_fit = w.counts_fit;
       told = ([], refl, w.told);
     }
 
@@ -32,7 +32,7 @@ loop-event-preserved g c =
       script = t.same.script ∙ i.script;
       start = t.same.start ∙ i.start;
       count = t.one_more ∙ ap (λ k. k + 1) i.count ∙ sym n.one_more;
-      room = t.room;
+      counts_fit = t.counts_fit;
       told = (
         events ++ c.in-Some.event ∷ [],
         append_assoc events (c.in-Some.event ∷ []) (to_come c.next.new.self) ∙ ap (λ rest. events ++ rest) (sym n.next) ∙ i.told.1,

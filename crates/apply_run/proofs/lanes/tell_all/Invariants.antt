@@ -1,7 +1,7 @@
 use Rattle.std.proofs.Common.{◌≡◌, ◌++◌, List, length}
 use Rattle.apply_events.specs.declared.event.Event.{Event}
 use Rattle.apply_events.specs.Lanes.ToCome.{to_come, told_count, work_of}
-use Rattle.apply_run.specs.Stream.Room.{HasRoom}
+use Rattle.apply_run.specs.Stream.Counting.{CountsFit}
 use Rattle.apply_run.specs.Stream.Telling.{HasTold, telling_of}
 use Rattle.apply_run.proofs.lanes.tell_all.Given as goal
 
@@ -13,7 +13,7 @@ invariant-loop-event g l = record {
   script : l.stream.script.now ≡ l.fn.stream.script.now;
   start : l.stream.start ≡ l.fn.stream.start;
   count : l.stream.taken ≡ told_count l.lanes;
-  room : HasRoom l.stream.plan.now (telling_of g.S.Sink.bytes g.S.Sink.failed l.stream);
+  counts_fit : CountsFit l.stream.plan.now (telling_of g.S.Sink.bytes g.S.Sink.failed l.stream);
   told : (events : List Event) × (events ++ to_come l.lanes ≡ to_come l.fn.lanes)
       × HasTold l.fn.stream.plan.now l.fn.stream.script.now l.fn.stream.start (g.S.Sink.bytes l.fn.stream.output.sink) (g.S.Sink.failed l.fn.stream.output.sink) events
       (telling_of g.S.Sink.bytes g.S.Sink.failed l.stream);

@@ -30,6 +30,6 @@ returns-after-whole-clause-finished g c =
         | else-whole w ↦ absurd (true≢false (sym all ∙ w.result-is ∙ w.if-whole.false))
       ];
       same = joined.same;
-      room = joined.room;
+      counts_fit = joined.counts_fit;
       told = joined.told (subst (λ p. All (IsOfPlan p) (events_of taken)) (sym (c.requires.plan ∙ ap (λ (work : Work). work.plan) c.requires.run.work_is)) reconciled.fits);
     }

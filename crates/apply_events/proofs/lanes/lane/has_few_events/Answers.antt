@@ -1,5 +1,5 @@
 use Rattle.std.proofs.Common.{ap, arith, length}
-use Rattle.apply_plan.specs.Script.OutcomeMap.{given_outcome}
+use Rattle.apply_model.specs.Script.OutcomeMap.{given_outcome}
 use Rattle.apply_events.specs.Step.{Work}
 use Rattle.apply_events.proofs.TimeLines.Few.{bounded, few_events, few_kinds}
 use Rattle.apply_events.proofs.lanes.lane.has_few_events.Goals as goal

@@ -1,4 +1,4 @@
-use Rattle.apply_plan.specs.Script.Outcome.{ran}
+use Rattle.apply_model.specs.Script.Outcome.{ran}
 use Rattle.apply_events.proofs.MidSteps.{begin_none, begin_starts}
 use Rattle.apply_events.proofs.mid_step.MidStep.begin.Goals as goal
 

@@ -1,5 +1,5 @@
 use Rattle.std.proofs.Common.{◌+◌, arith, refl}
-use Rattle.apply_plan.specs.Script.Outcome.{ran, seconds_of_all}
+use Rattle.apply_model.specs.Script.Outcome.{ran, seconds_of_all}
 use Rattle.apply_events.proofs.MidSteps.{run_ends, run_in_time, run_none, run_tells, run_times}
 use Rattle.apply_events.proofs.mid_step.MidStep.run.Goals as goal
 

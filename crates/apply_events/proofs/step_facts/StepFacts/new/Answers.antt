@@ -1,6 +1,6 @@
 use Rattle.std.proofs.Common.{ap, ◌∙◌}
 use Rattle.std.specs.Prelude.{unwrap_or}
-use Rattle.apply_plan.specs.Script.Outcome.{default_outcome, fails}
+use Rattle.apply_model.specs.Script.Outcome.{default_outcome, fails}
 use Rattle.apply_events.proofs.step_facts.StepFacts.new.Goals as goal
 
 -- a step fails where its outcome does

@@ -36,9 +36,9 @@ loop-number-preserved c =
     let made = c.loop-number.changes.items in
     let new = was_not_named c.loop-number.seen made c.of-in-loop-number.result c.in_ok-planned.planned c.in_ok-insert.field-0 c.of-in-loop-number.ensures.address c.of-in-loop-number.ensures.deposed c.loop-number.invariant.seen c.in_ok-insert.ensures.fresh c.if-not-branch.false in
     record {
-      count = rw c.in_ok-push.ensures.items (omega (arith, length-append made (c.in_ok-new.field-0 ∷ [])));
-      seen = rw (c.in_ok-push.ensures.items, c.in_ok-new.ensures) (HaveBeenSeen-push c.loop-number.seen c.insert.new.self made c.of-in-loop-number.result c.in_ok-planned.planned c.of-in-loop-number.ensures.address c.of-in-loop-number.ensures.deposed c.loop-number.invariant.seen c.in_ok-insert.ensures.added);
-      read = rw (c.in_ok-push.ensures.items, c.in_ok-new.ensures) (goes_on change_after made c.args.elements.now c.loop-number.number c.index-elements-number.result _ _ c.loop-number-test.true c.index-elements-number.is c.loop-number.invariant.read
+      count = rw c.in_ok-push.ensures.items (omega (arith, length-append made (c.in_ok-copied.field-0 ∷ [])));
+      seen = rw (c.in_ok-push.ensures.items, c.in_ok-copied.ensures) (HaveBeenSeen-push c.loop-number.seen c.insert.new.self made c.of-in-loop-number.result c.in_ok-planned.planned c.of-in-loop-number.ensures.address c.of-in-loop-number.ensures.deposed c.loop-number.invariant.seen c.in_ok-insert.ensures.added);
+      read = rw (c.in_ok-push.ensures.items, c.in_ok-copied.ensures) (goes_on change_after made c.args.elements.now c.loop-number.number c.index-elements-number.result _ _ c.loop-number-test.true c.index-elements-number.is c.loop-number.invariant.read
           (is_new made c.loop-number.number (view c.index-elements-number.result) _ c.loop-number.invariant.count c.in_ok-planned.ensures new));
     }
 

@@ -20,4 +20,4 @@ pub returns-in_err-version-clause-memory : goal.returns-in_err-version-clause-me
 returns-in_err-version-clause-memory c = λ memory. (header_view c.in-Some.header, sym c.in-Some.ensures, few_elements c.in-Some.header c.if-header-gt-MAX_CHANGES.false)
 
 pub returns-clause-defined : goal.returns-clause-defined
-returns-clause-defined c = rw c.in_ok-version.ensures (made (view c.args.tree.now) c.in-Some.header c.in_ok-changes.changes.items c.in-Some.ensures c.if-header-gt-MAX_CHANGES.false c.in_ok-changes.ensures.defined)
+returns-clause-defined c = rw (c.new-2.ensures, c.in_ok-version.ensures) (made (view c.args.tree.now) c.in-Some.header c.in_ok-changes.changes.items c.in-Some.ensures c.if-header-gt-MAX_CHANGES.false c.in_ok-changes.ensures.defined)

@@ -53,8 +53,8 @@ returns-then-is_some-clause-defined c = λ memory.
     })
     (sym c.if-is_some.ensures)
 
-pub new-requires : goal.new-requires
-new-requires c =
+pub copied_outcomes-requires : goal.copied_outcomes-requires
+copied_outcomes-requires c =
     rw c.deref.ensures.value (none_is_bounded c.args.number c.steps.result.now (entry_view c.in-Some.entry).steps (sym c.fault.ensures ∙ c.in_default-fault.is))
 
 pub returns-in-Some-fault-clause-defined : goal.returns-in-Some-fault-clause-defined
@@ -64,7 +64,7 @@ returns-in-Some-fault-clause-defined c = λ memory.
 
 pub returns-clause-defined : goal.returns-clause-defined
 returns-clause-defined c =
-    rw (c.in_ok-new.ensures, c.deref.ensures.value)
+    rw (c.in_ok-copied_outcomes.ensures, c.deref.ensures.value)
     (accepted c.args.plan.now.changes c.args.said.now c.args.number (view c.args.value.now) c.in-Some.entry c.in-Some-get.change c.change.result.now c.index-said-change.result
     (found (goal.at.returns-clause-defined c).After-change) (sym c.if-is_some.ensures) (rw c.steps.ensures.steps at c.in_default-fault.ensures))
 

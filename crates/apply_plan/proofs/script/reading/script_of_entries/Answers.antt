@@ -1,7 +1,7 @@
 use Rattle.std.proofs.Common.{ℕ, List, ◌∷◌, [], ◌++◌, ap, length, ◌∙◌, arith}
 use Rattle.std.proofs.lemmas.Result.{err_from_is_err_and}
 use Rattle.serde_json.specs.View.{view, items_view}
-use Rattle.apply_plan.specs.declared.script.outcome.Outcome.{Outcome}
+use Rattle.apply_model.specs.declared.script.outcome.Outcome.{Outcome}
 use Rattle.apply_plan.specs.Script.NextEntry.{entry_after}
 use Rattle.apply_plan.specs.Script.OutcomeMap.{by_number}
 use Rattle.apply_plan.proofs.ListReading.{goes_on, is_done, refused}
@@ -46,12 +46,13 @@ loop-number-preserved c =
           (same_entry changes c.loop-number.said.items c.loop-number.number made d _ c.loop-number.invariant.1 said),
     )
 
-pub invariant_of-result : goal.invariant_of-result
-invariant_of-result c = said_in_range c.args.plan.now.changes c.loop-number.said.items c.loop-number.number c.loop-number.invariant.0 c.loop-number.invariant.1
+pub new-requires : goal.new-requires
+new-requires c = said_in_range c.args.plan.now.changes c.loop-number.said.items c.loop-number.number c.loop-number.invariant.0 c.loop-number.invariant.1
 
 pub returns : goal.returns
 returns c =
     let changes = c.args.plan.now.changes in
     let made = c.loop-number.invariant.0 in
-    made_script c.args.plan.now (items_view c.args.values.now) c.loop-number.said.items c.loop-number.number made c.loop-number.invariant.1
-    (is_done (entry_after changes) made c.args.values.now c.loop-number.number _ c.loop-number-test.false c.loop-number.invariant.2)
+    rw c.new.ensures
+    (made_script c.args.plan.now (items_view c.args.values.now) c.loop-number.said.items c.loop-number.number made c.loop-number.invariant.1
+    (is_done (entry_after changes) made c.args.values.now c.loop-number.number _ c.loop-number-test.false c.loop-number.invariant.2))

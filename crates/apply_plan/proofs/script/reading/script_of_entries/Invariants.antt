@@ -1,6 +1,6 @@
 use Rattle.std.proofs.Common.{◌≡◌, ℕ, List, drop}
 use Rattle.serde_json.specs.View.{items_view}
-use Rattle.apply_plan.specs.declared.script.outcome.Outcome.{Outcome}
+use Rattle.apply_model.specs.declared.script.outcome.Outcome.{Outcome}
 use Rattle.apply_json.specs.Tree.{list_of}
 use Rattle.apply_plan.specs.ListReading.{made_after}
 use Rattle.apply_plan.specs.Results.{all_or_first, each_with_earlier}

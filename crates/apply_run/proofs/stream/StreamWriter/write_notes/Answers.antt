@@ -14,7 +14,7 @@ loop-place-init g c =
       counts = refl;
       taken = refl;
       in_time = c.requires.in_time;
-      room = omega (arith, c.requires.written);
+      few = omega (arith, c.requires.written);
       may_fail = c.requires.may_fail;
       written = λ before failures events was.
           subst (λ es. HasLines s.plan.now s.script.now s.start before failures es (telling_of g.S.Sink.bytes g.S.Sink.failed s)) (sym (append-nil events)) was;
@@ -28,11 +28,11 @@ write_event-requires-clause-event g c =
     let here : note ≡ get_or notes c.loop-place.place note = c.index.ensures ∙ ap (λ xs. get_or xs c.loop-place.place note) i.notes in
     subst (λ p. IsOfPlan p note) (sym i.same.plan) (subst (IsOfPlan plan) (sym here) (All-get_or (IsOfPlan plan) notes c.loop-place.place note low c.requires.notes))
 
-pub write_event-requires-clause-room : goal.write_event-requires-clause-room
-write_event-requires-clause-room g c =
+pub write_event-requires-clause-may_write : goal.write_event-requires-clause-may_write
+write_event-requires-clause-may_write g c =
     let i = c.loop-place.invariant in
     let low : c.loop-place.place < length c.args.self.now.notes.items = omega (arith, c.loop-place-test.true, c.len-place-end.ensures, c.args.self.now.notes.ok.0) in
-    record { in_time = i.in_time; written = omega (arith, i.room, low, c.requires.few); may_fail = i.may_fail }
+    record { in_time = i.in_time; written = omega (arith, i.few, low, c.requires.few); may_fail = i.may_fail }
 
 pub loop-place-preserved : goal.loop-place-preserved
 loop-place-preserved g c =
@@ -48,7 +48,7 @@ loop-place-preserved g c =
       counts = w.told.0 ∙ i.counts;
       taken = w.told.1 ∙ i.taken;
       in_time = w.in_time;
-      room = omega (arith, w.more, i.room);
+      few = omega (arith, w.more, i.few);
       may_fail = w.may_fail;
       written = λ before failures events was.
           subst (λ es. HasLines s.plan.now s.script.now s.start before failures es (telling_of g.S.Sink.bytes g.S.Sink.failed c.write_event.new.self))
@@ -64,12 +64,12 @@ returns-clause-written g c before failures events was =
     subst (λ es. HasLines s.plan.now s.script.now s.start before failures es (telling_of g.S.Sink.bytes g.S.Sink.failed c.loop-place.self))
     (ap (λ l. events ++ l) (take_all c.loop-place.place notes all)) (i.written before failures events was)
 
-pub returns-clause-room : goal.returns-clause-room
-returns-clause-room g c =
+pub returns-clause-may_write : goal.returns-clause-may_write
+returns-clause-may_write g c =
     let i = c.loop-place.invariant in
     record {
       in_time = i.in_time;
-      written = omega (arith, i.room, c.loop-place.auto.place-end, c.len-place-end.ensures, c.args.self.now.notes.ok.0, c.requires.few);
+      written = omega (arith, i.few, c.loop-place.auto.place-end, c.len-place-end.ensures, c.args.self.now.notes.ok.0, c.requires.few);
       may_fail = i.may_fail;
     }
 

@@ -13,7 +13,7 @@ invariant-loop-place g l = record {
   counts : l.self.counts ≡ l.fn.self.counts;
   taken : l.self.taken ≡ l.fn.self.taken;
   in_time : l.self.latest ≤ last_moment;
-  room : l.self.output.written + length l.fn.self.notes.items * 2 ^ 64 ≤ (l.fn.self.taken + 1 + l.place) * 2 ^ 64;
+  few : l.self.output.written + length l.fn.self.notes.items * 2 ^ 64 ≤ (l.fn.self.taken + 1 + l.place) * 2 ^ 64;
   may_fail : l.self.output.stop ≡ Going → g.S.Sink.failed l.self.output.sink < 2 ^ 64 - 1;
   written : (before : Option (List ℕ)) (failures : ℕ) (events : List Event)
       → HasLines l.fn.self.plan.now l.fn.self.script.now l.fn.self.start before failures events (telling_of g.S.Sink.bytes g.S.Sink.failed l.fn.self)

@@ -1,7 +1,7 @@
 use Rattle.std.proofs.Common.{◌++◌, ap, refl, ◌∙◌}
 use Rattle.std.specs.Prelude.{get_or}
 use Rattle.std.proofs.lemmas.Result.{on_ok_weaker}
-use Rattle.apply_plan.specs.declared.plan.step_kind.StepKind.TheVariants.{Create}
+use Rattle.apply_model.specs.declared.plan.step_kind.StepKind.TheVariants.{Create}
 use Rattle.apply_text.specs.declared.applied_step.AppliedStep.{AppliedStep}
 use Rattle.apply_text.proofs.LinesAdded.{event_is}
 use Rattle.apply_text.proofs.line_buffer.LineBuffer.push_event.Goals as goal

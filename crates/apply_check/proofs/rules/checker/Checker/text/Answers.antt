@@ -2,7 +2,7 @@ use Rattle.std.proofs.Common.{◌≤◌, length, subst, arith}
 use Rattle.serde_json.specs.View.{view}
 use Rattle.apply_json.specs.declared.json_fault.JsonFault.{JsonFault}
 use Rattle.apply_json.specs.Parsed.{IsNoTree}
-use Rattle.apply_check.specs.Limits.{max_bytes}
+use Rattle.apply_lines.specs.Limits.{max_bytes}
 use Rattle.apply_check.specs.Lines.{read_text, read_tree}
 use Rattle.apply_check.proofs.OneLine.{continues_as, continues_from, no_tree, of_tree}
 use Rattle.apply_check.proofs.rules.checker.Checker.text.Goals as goal

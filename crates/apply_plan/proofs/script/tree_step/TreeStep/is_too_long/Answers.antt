@@ -1,5 +1,5 @@
 use Rattle.std.proofs.Common.{◌+◌, ◌<◌, ◌≤◌, sym, arith}
-use Rattle.apply_plan.specs.Script.Limits.{max_seconds}
+use Rattle.apply_model.specs.Script.Limits.{max_seconds}
 use Rattle.apply_plan.proofs.Scripts.TreeSteps.{all_tree_seconds, in_tree, more_tree_seconds, not_too_long, too_long, tree_seconds}
 use Rattle.apply_plan.proofs.script.tree_step.TreeStep.is_too_long.Goals as goal
 

@@ -1,5 +1,5 @@
 use Rattle.std.proofs.Common.{◌≡◌, ◌+◌, take}
-use Rattle.apply_plan.specs.Script.Limits.{max_seconds}
+use Rattle.apply_model.specs.Script.Limits.{max_seconds}
 use Rattle.apply_plan.proofs.Scripts.TreeSteps.{tree_seconds}
 use Rattle.apply_plan.proofs.script.tree_step.TreeStep.is_too_long.Given as goal
 

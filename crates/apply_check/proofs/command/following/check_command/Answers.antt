@@ -1,4 +1,0 @@
-use Rattle.apply_check.proofs.command.following.check_command.Goals as goal
-
-pub returns-in-Ok-clause-told : goal.returns-in-Ok-clause-told
-returns-in-Ok-clause-told g c = c.tell_whole.ensures.told (g.R.Read.remaining c.args.reader.now) c.args.mode

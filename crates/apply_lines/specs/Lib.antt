@@ -1,0 +1,3 @@
+pub mod Cut
+pub mod Limits
+pub mod Reading

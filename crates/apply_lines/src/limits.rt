@@ -1,0 +1,4 @@
+//! How much is read.
+
+/// The greatest size of a line, in bytes: 64 MiB.
+pub const MAX_BYTES: usize = 67_108_864;

@@ -1,0 +1,4 @@
+pub mod Lists
+pub mod Plans
+pub mod Prefixes
+pub mod Scripts

@@ -1,0 +1,2 @@
+-- Lemmas on plans.
+pub mod Relative

@@ -1,0 +1,3 @@
+-- Lemmas on scripts.
+pub mod Limits
+pub mod Provisioners

@@ -1,0 +1,7 @@
+-- What plans are.
+pub mod Action
+pub mod Address
+pub mod ChangeParts
+pub mod ResourceChange
+pub mod SavedPlan
+pub mod StepKind

@@ -1,0 +1,4 @@
+-- What scripts are.
+pub mod Limits
+pub mod Outcome
+pub mod OutcomeMap

@@ -1,0 +1,12 @@
+//! Diagnostics that a script gives.
+
+use crate::text::Text;
+
+/// What a provider says of a step that failed, or warns of (Machine-Readable UI, "Diagnostic").
+#[derive(Debug, Drop)]
+pub struct Diag {
+    /// A short text. It may be empty.
+    pub summary: Text,
+    /// More about it. It may be empty.
+    pub detail: Text,
+}

@@ -1,5 +1,0 @@
-use Rattle.apply_plan.proofs.Prefixes.{stripped}
-use Rattle.apply_plan.proofs.plan.address.strip.Goals as goal
-
-pub returns : goal.returns
-returns c = stripped c.args.prefix.now c.args.text.now c.strip_prefix.result c.strip_prefix.ensures.cases

@@ -1,6 +1,0 @@
-use Rattle.apply_plan.proofs.Plans.Relative.{relative_found}
-use Rattle.apply_plan.proofs.plan.change.Change.resource.Goals as goal
-
-pub returns : goal.returns
-returns c =
-    rw (← c.self.view_is) (relative_found c.as_str.result.now c.as_str-2.result.now c.self.inside.module_address c.self.inside.address c.relative.result c.unwrap.result c.as_str.ensures c.as_str-2.ensures c.relative.ensures c.unwrap.ensures)

@@ -1,6 +1,0 @@
-use Rattle.std.proofs.Common.{◌≡◌, drop}
-use Rattle.apply_plan.specs.Script.Outcome.{first_diag}
-use Rattle.apply_plan.proofs.script.provisioners.Provisioners.first_failure.Given as goal
-
-abbrev pub invariant-loop-provisioner : goal.invariant-loop-provisioner
-invariant-loop-provisioner l = first_diag (drop l.provisioner-index l.provisioner-items) ≡ first_diag l.provisioner-items

@@ -1,0 +1,90 @@
+-- What the words behind `play` say, and what is done: the options that there are, as `clap` takes them, and which of them
+-- gives which setting.
+use Rattle.std.specs.Prelude.{◌≡◌, ◌≤◌, ◌⊎◌, ℕ, List, [], ◌∷◌, Option, Some, None, IfSome, IsSome, Result, Ok, Err, true, codes, option_map, pos, string_bytes}
+use Rattle.std.specs.Io.KnownBytes.{Keeps}
+use Rattle.std.specs.Str.Parse.{IsNumeral, digits_value, without_leading_plus}
+use Rattle.clap.specs.Faults.{fault_of}
+use Rattle.clap.specs.Simple.{App, matches_of, new_rule, new_shape}
+use Rattle.clap.specs.Walk.{Row, Rule, Text, first_of, one_of}
+use Rattle.clap.specs.declared.builder.value_parser.ValueParser.TheVariants as values
+use Rattle.apply_words.specs.Words.{AskForHelp, IsGivenBy, WereNotTaken, file_rule, unless_dash}
+use Rattle.apply_play.specs.Due.{most_speed}
+use Rattle.apply_play.specs.Played.{IsPlayed}
+use Rattle.apply_play.specs.declared.command.settings.Settings.{Settings}
+use Rattle.apply_play.specs.declared.play_fault.PlayFault.{PlayFault}
+use Rattle.apply_play.specs.declared.play_fault.PlayFault.TheVariants as play
+
+-- ---- the options
+
+-- `--speed N`, with a number from 1 to 86,400, and 1 where there is none
+abbrev pub speed_rule : Rule
+speed_rule = record (new_rule (codes "speed")) {
+  long = Some (codes "speed");
+  value_names = 1;
+  parser = Some (values.Signed (pos 1) (pos most_speed));
+  defaults = codes "1" ∷ [];
+}
+
+-- the command, whose words are those behind `play`
+abbrev pub command_line : App
+command_line = record {
+  top = record (new_shape (codes "applystream play")) { no_binary_name = true; rules = speed_rule ∷ file_rule ∷ [] };
+  subs = [];
+}
+
+-- ---- what they say
+
+-- where the text is a number in the range, it is that speed
+abbrev pub IsSpeed : Text → ℕ → Type 0
+IsSpeed text speed = IsNumeral 10 (without_leading_plus text) → 1 ≤ digits_value 10 (without_leading_plus text)
+    → digits_value 10 (without_leading_plus text) ≤ most_speed → speed ≡ digits_value 10 (without_leading_plus text)
+
+-- each setting is what its own option says
+pub record AreSaid (rows : List Row) (settings : Settings) : Type 0 where
+  pub file : option_map string_bytes settings.file ≡ unless_dash (first_of (codes "file") rows)
+  pub speed : IfSome (one_of (codes "speed") rows) (λ text. IsSpeed text settings.speed)
+
+-- the words were taken, and the settings are what they say
+pub record HaveSaid (words : List Text) (settings : Settings) : Type 0 where
+  pub taken : fault_of command_line words ≡ []
+  pub said : AreSaid (matches_of command_line words) settings
+
+-- they name a file
+pub record NameAFile (words : List Text) : Type 0 where
+  pub settings : Settings
+  pub said : HaveSaid words settings
+  pub named : IsSome settings.file
+
+-- ---- what is done
+
+abbrev pub fault_status_of : PlayFault → ℕ
+fault_status_of (play.TooLong number) = 2
+fault_status_of play.TooMany = 2
+fault_status_of (play.Unread failed) = 2
+fault_status_of play.Memory = 3
+fault_status_of play.Unwritten = 3
+
+-- 0 where all was played, and flushed; else that of the fault, or 3 where memory was refused to tell it
+abbrev pub IsStatusOf : Result Unit PlayFault → ℕ → Type 0
+IsStatusOf (Ok done) status = status ≡ 0
+IsStatusOf (Err fault) status = (status ≡ 3) ⊎ (status ≡ fault_status_of fault)
+
+-- A stream was played as the words say: that of the input where they name no file, else that of a file. What such a file has
+-- to give, `remaining` says.
+pub record WasPlayed {File : Type 0} (remaining : File → Option (List ℕ)) (words : List Text)
+    (input before after : Option (List ℕ)) (status : ℕ) : Type 0 where
+  pub settings : Settings
+  pub said : HaveSaid words settings
+  pub bytes : Option (List ℕ)
+  pub given : IsGivenBy remaining input settings.file bytes
+  pub answer : Result Unit PlayFault
+  pub played : IfSome bytes (λ bytes. IsPlayed bytes before after answer)
+  pub told : IsStatusOf answer status
+
+-- No stream was played: help was asked for, with status 0; the words were refused, or the file that they name could not be
+-- opened, with status 2 and the output as it was; or memory was refused, with status 3.
+abbrev pub WasNotPlayed : (words : List Text) → (before after : Option (List ℕ)) → (status : ℕ) → Type 0
+WasNotPlayed words before after status =
+    ((status ≡ 0) × AskForHelp command_line words)
+    ⊎ ((status ≡ 2) × Keeps before after × (WereNotTaken command_line words ⊎ NameAFile words))
+    ⊎ ((status ≡ 3) × Keeps before after)

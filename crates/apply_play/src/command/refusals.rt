@@ -1,0 +1,45 @@
+//! Why a stream was not played to its end.
+
+ghost use Rattle.std.specs.Prelude.{◌≡◌, ◌⊎◌};
+ghost use Rattle.std.specs.Io.KnownBytes.{Keeps};
+ghost use Rattle.apply_play.specs.CommandLine.{fault_status_of};
+
+use crate::play_fault::PlayFault;
+use apply_words::{FAILED, REFUSED, refuse_unread, report};
+use std::alloc::Global;
+use std::io::Write;
+
+/// Says why the stream was not played to its end, and answers the exit status: of a file where it has a name.
+pub fn refuse<E: Write>(alloc: Global, faults: &mut E, name: Option<&str>, fault: PlayFault) -> u8
+    ensures { (result ≡ 3) ⊎ (result ≡ fault_status_of fault) }
+{
+    match (fault, name) {
+        (PlayFault::Unread(failed), Some(name)) => refuse_unread(alloc, faults, name, failed),
+        _ => {
+            report(faults, fault);
+            fault_status(fault)
+        }
+    }
+}
+
+/// The exit status of a fault.
+fn fault_status(fault: PlayFault) -> u8
+    ensures { result ≡ fault_status_of fault }
+{
+    match fault {
+        PlayFault::TooLong(_) | PlayFault::TooMany | PlayFault::Unread(_) => REFUSED,
+        PlayFault::Memory | PlayFault::Unwritten => FAILED,
+    }
+}
+
+/// Sends on the lines that were played before the fault. Behind a write that failed nothing is written.
+pub fn send_on<W: Write>(out: &mut W, fault: PlayFault)
+    ensures { Keeps (W.contents out.old) (W.contents out.new) }
+{
+    match fault {
+        PlayFault::Unwritten => {}
+        _ => {
+            let _ = out.flush();
+        }
+    }
+}

@@ -1,0 +1,27 @@
+//! Writes the lines of a stream as they stand, each when its time has come.
+#![tactic(auto)]
+
+mod command;
+mod laws;
+mod moment;
+mod pace;
+mod play_fault;
+mod playing;
+mod shape;
+mod speed;
+mod timing;
+mod watch;
+mod writing;
+
+pub use command::arguments::read_words;
+pub use command::following::{follow, play_command, play_input};
+pub use command::outcome::Outcome;
+pub use command::settings::Settings;
+pub use laws::{
+    at_speed_1_a_due_is_the_time_from_the_first, dues_never_fall, greater_speed_gives_no_later_due,
+};
+pub use moment::moment_of;
+pub use pace::Pace;
+pub use play_fault::PlayFault;
+pub use playing::play;
+pub use speed::Speed;

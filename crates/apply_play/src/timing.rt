@@ -1,0 +1,71 @@
+//! Waiting until a line is due.
+
+ghost use Rattle.std.specs.Prelude.{◌≡◌, IfErr};
+ghost use Rattle.std.specs.Io.KnownBytes.{Keeps};
+ghost use Rattle.apply_play.specs.declared.play_fault.PlayFault.TheVariants.{Memory, Unwritten};
+
+use crate::moment::moment_of;
+use crate::pace::Pace;
+use crate::play_fault::PlayFault;
+use crate::speed::Speed;
+use crate::watch::Watch;
+use crate::writing::flush;
+use apply_json::Scratch;
+use std::alloc::Global;
+use std::io::Write;
+use std::thread;
+use std::time::Clock;
+
+/// What is kept from line to line, to know when the next one is due.
+#[derive(Drop)]
+pub struct Timing {
+    pace: Pace,
+    watch: Watch,
+    /// Room for reading a line.
+    scratch: Scratch,
+}
+
+impl Timing {
+    /// Before any line.
+    pub fn new(alloc: Global, speed: Speed) -> Timing {
+        Timing {
+            pace: Pace::new(speed),
+            watch: Watch::Waiting,
+            scratch: Scratch::new(alloc),
+        }
+    }
+
+    /// When the next line is due, which was read just now, in microseconds since the first message was. `Err` where memory is
+    /// refused.
+    pub fn due<C: Clock>(&mut self, alloc: Global, clock: &C, line: &[u8]) -> Result<u64, PlayFault>
+        ensures { IfErr result (λ fault. fault ≡ Memory) }
+    {
+        let moment = moment_of(alloc, &mut self.scratch, line)?;
+        if let (Watch::Waiting, Some(_)) = (self.watch, moment) {
+            self.watch = Watch::begun(clock);
+        }
+        Ok(self.pace.line(moment))
+    }
+
+    /// Waits until so many microseconds have gone by since the first message was read. What was written is flushed before;
+    /// a sleep that ends early is begun again. `Err` where the flush fails.
+    pub fn wait<C: Clock, W: Write>(
+        &self,
+        clock: &C,
+        due: u64,
+        output: &mut W,
+    ) -> Result<(), PlayFault>
+        ensures bytes { Keeps (W.contents output.old) (W.contents output.new) }
+        ensures err { IfErr result (λ fault. fault ≡ Unwritten) }
+    {
+        for _ in 0..u64::MAX {
+            let rest = self.watch.rest(clock, due);
+            if rest.is_zero() {
+                break;
+            }
+            flush(output)?;
+            thread::sleep(clock, rest);
+        }
+        Ok(())
+    }
+}

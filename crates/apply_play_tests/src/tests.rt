@@ -1,0 +1,25 @@
+//! What no clause says: when a line is waited for and when what was written is sent on, by a clock that counts; readers,
+//! writers and clocks that fail; texts and exit statuses; that calls succeed with ample memory.
+
+mod commands;
+mod rows;
+mod world;
+
+use apply_play::{Outcome, PlayFault, Speed, follow, play, play_command, play_input};
+use std::alloc::Global;
+use std::cell::Cell;
+use std::io;
+use std::io::{BufReader, ErrorKind, Read, Write};
+use std::process::Abort;
+use std::rt::Files;
+use std::time::{Clock, Duration};
+use world::{Pieces, Taker, World};
+
+/// The update of 25 seconds: six lines.
+const UPDATE: &str = r#"{"@timestamp":"2024-05-01T12:00:00Z","type":"version"}
+{"@timestamp":"2024-05-01T12:00:00Z","type":"apply_start"}
+{"@timestamp":"2024-05-01T12:00:10Z","type":"apply_progress"}
+{"@timestamp":"2024-05-01T12:00:20Z","type":"apply_progress"}
+{"@timestamp":"2024-05-01T12:00:25Z","type":"apply_complete"}
+{"@timestamp":"2024-05-01T12:00:25Z","type":"change_summary"}
+"#;

@@ -1,0 +1,156 @@
+//! The command, from its words to its exit status.
+
+use super::*;
+
+/// Fails where playing the bytes, behind which the reader fails, into a writer with that room ends otherwise: with that
+/// status, so many bytes written, and that text.
+fn ends_with(
+    rt: &impl Abort,
+    alloc: Global,
+    bytes: &[u8],
+    is_broken: bool,
+    room: usize,
+    status: u8,
+    said: &str,
+) {
+    let world = World::new();
+    let mut input = Pieces {
+        world: &world,
+        bytes,
+        most: 65_536,
+        is_broken,
+    };
+    let mut taker = Taker {
+        world: &world,
+        taken: Vec::new(alloc),
+        most: 1,
+        room,
+    };
+    let mut faults = Vec::new(alloc);
+    let outcome = play_input(
+        alloc,
+        &world,
+        Speed::new(86_400),
+        None,
+        &mut input,
+        &mut taker,
+        &mut faults,
+    );
+    assert_eq!(rt; outcome.status, status);
+    assert_eq!(rt; faults.as_slice(), said.as_bytes());
+    let count = room.min(bytes.len());
+    assert_eq!(rt; taker.taken.as_slice(), bytes.get(..count).unwrap_or(&[]));
+    assert!(rt; input.bytes.is_empty());
+}
+
+#[test]
+fn reader_that_fails(rt: HostRuntime) {
+    let said = "applystream: the stream could not be read\n";
+    ends_with(
+        &rt,
+        rt.alloc(),
+        UPDATE.as_bytes(),
+        true,
+        usize::MAX,
+        2,
+        said,
+    );
+}
+
+/// At each byte of the first two lines.
+#[test]
+fn writer_that_fails(rt: HostRuntime) {
+    let said = "applystream: the output could not be written\n";
+    for room in 0..112usize {
+        ends_with(&rt, rt.alloc(), UPDATE.as_bytes(), false, room, 3, said);
+    }
+}
+
+/// Lines before one that is too long are played, and all of it is read.
+#[test]
+fn line_that_is_too_long(rt: HostRuntime) {
+    let alloc = rt.alloc();
+    let world = World::new();
+    let front: &[u8] = b"a\nb\n";
+    let mut input = front.chain(io::repeat(b' ').take(67_108_865));
+    let mut taken = Vec::new(alloc);
+    let mut faults = Vec::new(alloc);
+    let outcome = play_input(
+        alloc,
+        &world,
+        Speed::new(1),
+        None,
+        &mut input,
+        &mut taken,
+        &mut faults,
+    );
+    assert_eq!(rt; outcome.status, 2);
+    assert_eq!(rt; taken.as_slice(), b"a\nb\n".as_slice());
+    let said = "applystream: line 3 is longer than 67108864 bytes\n";
+    assert_eq!(rt; faults.as_slice(), said.as_bytes());
+}
+
+/// Fails where the word ends otherwise than with that status and a text that begins so.
+fn word_gets(
+    rt: &impl Abort,
+    files: &impl Files,
+    alloc: Global,
+    word: &str,
+    status: u8,
+    wanted: &str,
+) {
+    let mut words = Vec::new(alloc);
+    words
+        .push(String::from_str(alloc, word).expect(rt, "memory"))
+        .expect(rt, "memory");
+    let world = World::new();
+    let mut input: &[u8] = b"a\n";
+    let mut out = Vec::new(alloc);
+    let mut faults = Vec::new(alloc);
+    let found = follow(
+        files,
+        &world,
+        alloc,
+        &words,
+        false,
+        &mut input,
+        &mut out,
+        &mut faults,
+    );
+    assert_eq!(rt; found, status);
+    let said = if status == 0 {
+        out.as_slice()
+    } else {
+        faults.as_slice()
+    };
+    assert!(rt; said.starts_with(wanted.as_bytes()));
+    if status > 0 {
+        assert!(rt; input.is_empty());
+    }
+}
+
+#[test]
+fn words(rt: HostRuntime) {
+    let alloc = rt.alloc();
+    word_gets(&rt, &rt, alloc, "-", 0, "a\n");
+    word_gets(&rt, &rt, alloc, "--speed=86400", 0, "a\n");
+    word_gets(&rt, &rt, alloc, "--help", 0, "Writes a stream");
+    word_gets(&rt, &rt, alloc, "--speed=0", 2, "error: ");
+    word_gets(&rt, &rt, alloc, "--speed=86401", 2, "error: ");
+    word_gets(
+        &rt,
+        &rt,
+        alloc,
+        "--fast",
+        2,
+        "error: unexpected argument '--fast' found",
+    );
+    word_gets(
+        &rt,
+        &rt,
+        alloc,
+        "no such file",
+        2,
+        "applystream: the file no such file could not be opened: ",
+    );
+}

@@ -1,0 +1,17 @@
+//! What the commands over a stream share: their file, why they are refused, and what is said then.
+#![tactic(auto)]
+
+mod arguments;
+mod file_fault;
+mod parsing;
+mod refusals;
+mod reporting;
+mod status;
+mod usage;
+
+pub use arguments::{file, file_of};
+pub use parsing::matches_of;
+pub use refusals::{answer_usage, refuse_file, refuse_unread};
+pub use reporting::report;
+pub use status::{FAILED, REFUSED};
+pub use usage::Usage;
