@@ -7,10 +7,11 @@ use Rattle.apply_run.specs.Run.{Sight}
 use Rattle.apply_run.specs.Sinks.{OverWriter}
 use Rattle.apply_cli.specs.Command.{HasApplied, OfFile, OfInput, sight_of}
 use Rattle.apply_cli.specs.CommandInLanes.{HasAppliedInLanes}
-use Rattle.apply_cli.specs.Invocation.{IsOfWords, HasAppliedAsAsked, HasBegunAsAsked, WereApplied, WereBegun, given_of, unfailed}
-use Rattle.apply_cli.specs.Settings.{options_of}
-use Rattle.apply_cli.specs.declared.invocation.Invocation.{Invocation}
-use Rattle.apply_cli.specs.declared.settings.Settings.{Settings}
+use Rattle.apply_cli.specs.Invocation.{HasAppliedAsAsked, HasBegunAsAsked, WereApplied, WereBegun, given_of, unfailed}
+use Rattle.apply_settings.specs.Invocation.{IsOfWords}
+use Rattle.apply_cli.specs.Options.{options_of}
+use Rattle.apply_settings.specs.declared.invocation.Invocation.{Invocation}
+use Rattle.apply_settings.specs.declared.settings.Settings.{Settings}
 
 -- where all was written no write has failed, so that the bytes alone say what the output is
 none_failed : (given : Given) (settings : Settings) (parallelism : Option ℕ) (before : Option (List ℕ)) (after : Sight) (status : ℕ)

@@ -2,6 +2,5 @@ mod Ending
 mod Followed
 mod Front
 mod InLanes
-mod Options
-mod Parsed
 mod Statuses
+mod Usages

@@ -1,8 +1,6 @@
 pub mod Command
 pub mod CommandInLanes
-pub mod CommandLine
-pub mod Halt
 pub mod Invocation
-pub mod Settings
+pub mod Options
 pub mod Status
 pub mod Version

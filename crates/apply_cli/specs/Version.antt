@@ -1,7 +1,7 @@
 -- The version of the program: which words ask for it, and what is answered.
 use Rattle.std.specs.Prelude.{◌≡◌, ◌⊎◌, ◌++◌, ℕ, List, [], ◌∷◌, codes}
 use Rattle.clap.specs.Walk.{Text}
-use Rattle.apply_cli.specs.declared.version.TheConstants.{VERSION}
+use Rattle.apply_settings.specs.declared.version.TheConstants.{VERSION}
 
 -- one of two words, and no other
 abbrev pub AskForVersion : List Text → Type 0

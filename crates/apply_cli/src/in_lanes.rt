@@ -12,10 +12,10 @@ ghost use Rattle.apply_cli.specs.Status.{input_status_of};
 use crate::input::read_input;
 use crate::input_fault::InputFault;
 use crate::run::{finish_reading, flush_unless_failed, report_unless_gone};
-use crate::settings::Settings;
 use crate::status::{FAILED, counts_status, input_status, refusal_status};
 use apply_hooks::Registry;
 use apply_run::{Refusal, Sink, StdSink, Why, apply_bytes_in_lanes};
+use apply_settings::Settings;
 use std::alloc::Global;
 use std::io::{Read, Write};
 

@@ -6,17 +6,18 @@ ghost use Rattle.std.specs.Io.KnownBytes.{IsAtEnd, Keeps};
 ghost use Rattle.apply_plan.specs.Bytes.{max_bytes};
 ghost use Rattle.apply_hooks.specs.Registry.{rules_of};
 ghost use Rattle.apply_cli.specs.Command.{HasApplied, HasBegun, HasRefused, OfInput, sight_of};
-ghost use Rattle.apply_cli.specs.Settings.{options_of};
+ghost use Rattle.apply_cli.specs.Options.{options_of};
 ghost use Rattle.apply_cli.specs.Status.{input_status_of};
 
 use crate::input::{drop_rest, read_input};
 use crate::input_fault::InputFault;
-use crate::settings::Settings;
+use crate::options::run_options;
 use crate::status::{FAILED, counts_status, input_status, refusal_status};
 use apply_hooks::Registry;
 use apply_run::{
     NoGate, Refusal, Sink, StdSink, Why, apply_bytes, one_worker_applies_all_changes_in_order,
 };
+use apply_settings::Settings;
 use std::alloc::Global;
 use std::fmt::Display;
 use std::io::{Cursor, Read, Write};
@@ -164,7 +165,7 @@ pub fn run_bytes<W: Write + Drop, E: Write, T: Threads + Wait + Sync>(
         bytes,
         script,
         registry,
-        settings.options(),
+        run_options(settings),
         output,
         &NoGate,
     );

@@ -8,10 +8,8 @@ ghost use Rattle.apply_cli.specs.Version.{AskForVersion, version_line};
 use crate::run::report;
 use crate::status::FAILED;
 use apply_run::Why;
+use apply_settings::VERSION;
 use std::io::{self, ErrorKind, Write};
-
-/// The version of the project. The launcher reads it here too.
-pub const VERSION: &str = "0.4.0";
 
 /// Whether the words behind the program's name ask for its version alone: they are the one word `--version` or `-V`, and no
 /// other.

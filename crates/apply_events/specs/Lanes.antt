@@ -1,4 +1,5 @@
 -- Changes under way at once, in lanes.
+use Rattle.std.specs.Prelude.{◌≤◌, ℕ}
 pub mod ChangesUnderWay
 pub mod Dealing
 pub mod Lane
@@ -9,3 +10,8 @@ pub mod Sharing
 pub mod StepTimes
 pub mod TimeLine
 pub mod ToCome
+
+-- so many lanes may be asked for
+pub record AreLanes (lanes : ℕ) : Type 0 where
+  pub some : 1 ≤ lanes
+  pub few : lanes ≤ 64

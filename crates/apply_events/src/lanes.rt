@@ -15,6 +15,9 @@ use apply_hooks::Registry;
 use apply_model::{Plan, Script};
 use std::alloc::{AllocError, Global};
 
+/// The most lanes that a plan is applied in.
+pub const MAX_LANES: u8 = 64;
+
 /// A plan that is applied in lanes.
 #[derive(Drop)]
 pub struct Lanes<'a> {

@@ -3,6 +3,7 @@ use Rattle.std.specs.Prelude.{◌≡◌, ◌+◌, ◌≤◌, ◌⊎◌, ℕ, Lis
 use Rattle.apply_plan.specs.Plan.SavedPlan.{SavedPlan}
 use Rattle.apply_plan.specs.Script.OutcomeMap.{OutcomeMap}
 use Rattle.apply_events.specs.declared.event.Event.{Event}
+use Rattle.apply_events.specs.Lanes.{AreLanes}
 use Rattle.apply_events.specs.Lanes.TimeLine.{IsTimeLine}
 use Rattle.apply_events.specs.Step.{Work}
 use Rattle.apply_text.specs.declared.operation.Operation.{Operation}
@@ -17,11 +18,6 @@ use Rattle.apply_run.specs.declared.why.Why.{Why}
 use Rattle.apply_run.specs.declared.why.Why.TheVariants.{Bus, Workers, Memory, Write}
 use Rattle.apply_run.specs.Stream.Ended.{IsCutOff, IsWhole}
 use Rattle.apply_run.specs.Run.{DidNothing, Sight}
-
--- so many lanes may be asked for
-pub record AreLanes (lanes : ℕ) : Type 0 where
-  pub some : 1 ≤ lanes
-  pub few : lanes ≤ 64
 
 -- the sink took the stream of the work's time line in so many lanes, all of it
 pub record HasStreamedInLanes (work : Work) (lanes start : ℕ) (operation : Operation) (report : Report)

@@ -3,8 +3,9 @@
 ghost use Rattle.std.specs.Prelude.{◌≡◌, ◌<◌, ◌-◌, ◌^◌, ◌↔◌, Err, IfErr, IfOk, IsTrue};
 ghost use Rattle.std.specs.Option.{option_copied};
 ghost use Rattle.apply_hooks.specs.Registry.{rules_of};
+ghost use Rattle.apply_events.specs.Lanes.{AreLanes};
 ghost use Rattle.apply_events.specs.Lanes.ToCome.{to_come, told_count, work_of};
-ghost use Rattle.apply_run.specs.Lanes.{AreLanes, HasFailedInLanes, HasStreamedInLanes, WasAppliedInLanes, WasRefusedInLanes};
+ghost use Rattle.apply_run.specs.Lanes.{HasFailedInLanes, HasStreamedInLanes, WasAppliedInLanes, WasRefusedInLanes};
 ghost use Rattle.apply_run.specs.Run.{sight_of};
 ghost use Rattle.apply_run.specs.Stream.Counting.{CountsFit, IsNew};
 ghost use Rattle.apply_run.specs.Stream.Telling.{IsSameStream, IsToldSince, telling_of};
@@ -16,14 +17,11 @@ use crate::report::Report;
 use crate::sinks::sink::Sink;
 use crate::stream::StreamWriter;
 use crate::why::Why;
-use apply_events::{Lanes, there_is_a_time_line};
+use apply_events::{Lanes, MAX_LANES, there_is_a_time_line};
 use apply_hooks::Registry;
 use apply_plan::{Plan, Script, read_plan};
 use apply_text::{LineBuffer, Operation, Start};
 use std::alloc::Global;
-
-/// The most lanes that a plan is applied in.
-pub const MAX_LANES: u8 = 64;
 
 /// Applies a plan in 1 to 64 lanes, as `terraform apply -parallelism` has it: each change goes, in the plan's order, to
 /// the lane that is free first, at one moment to the lowest, and of what the lanes report the stream is written in the

@@ -11,7 +11,8 @@ ghost use Rattle.apply_text.specs.declared.operation.Operation.{Operation};
 ghost use Rattle.apply_text.specs.Order.{as_written};
 ghost use Rattle.apply_run.specs.Applied.{IsApplied};
 ghost use Rattle.apply_run.specs.declared.report.Report.{Report};
-ghost use Rattle.apply_run.specs.Lanes.{AreLanes, HasStreamedInLanes};
+ghost use Rattle.apply_events.specs.Lanes.{AreLanes};
+ghost use Rattle.apply_run.specs.Lanes.{HasStreamedInLanes};
 ghost use Rattle.apply_run.specs.LaneLines.{HaveOneBegin};
 ghost use Rattle.apply_run.specs.Run.{HasStreamed, Sight};
 

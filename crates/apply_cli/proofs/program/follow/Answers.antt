@@ -2,8 +2,8 @@ use Rattle.std.proofs.Common.{List, arith, inl, inr, map, rules, string_bytes, â
 use Rattle.clap.specs.Walk.{Text}
 use Rattle.clap.specs.declared.error.kind.ErrorKind.TheVariants.{DisplayHelp}
 use Rattle.apply_cli.proofs.Followed.{followed, followed_in_part}
-use Rattle.apply_cli.proofs.Parsed.{alone_is_not_followed, asked_for_help, asked_for_version, few_statuses, help_is_answered}
-use Rattle.apply_cli.specs.Invocation.{IsOfWords}
+use Rattle.apply_cli.proofs.Usages.{alone_is_not_followed, asked_for_help, asked_for_version, few_statuses, help_is_answered}
+use Rattle.apply_settings.specs.Invocation.{IsOfWords}
 use Rattle.apply_cli.proofs.program.follow.Goals as goal
 
 pub returns-in-Ok-clause-applied : goal.returns-in-Ok-clause-applied

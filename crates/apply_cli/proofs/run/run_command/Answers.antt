@@ -2,7 +2,7 @@ use Rattle.std.specs.Option.{option_copied}
 use Rattle.std.specs.Io.KnownBytes.{Keeps}
 use Rattle.apply_hooks.specs.Registry.{rules_of}
 use Rattle.apply_cli.specs.Command.{HasApplied, HasBegun, sight_of}
-use Rattle.apply_cli.specs.Settings.{options_of}
+use Rattle.apply_cli.specs.Options.{options_of}
 use Rattle.apply_cli.proofs.Statuses.{of_input, of_input_in_part}
 use Rattle.apply_cli.proofs.run.run_command.Goals as goal
 

@@ -1,0 +1,12 @@
+-- What a run takes of settings.
+use Rattle.apply_run.specs.declared.options.Options.{Options}
+use Rattle.apply_settings.specs.declared.settings.Settings.{Settings}
+
+-- how the run applies the plan
+abbrev pub options_of : Settings → Options
+options_of settings = record {
+  workers = settings.workers;
+  capacity = settings.queue;
+  start = settings.at;
+  operation = settings.operation;
+}

@@ -1,0 +1,19 @@
+//! From settings to the options of a run.
+
+ghost use Rattle.std.specs.Prelude.{◌≡◌};
+ghost use Rattle.apply_cli.specs.Options.{options_of};
+
+use apply_run::Options;
+use apply_settings::Settings;
+
+/// How the run applies the plan.
+pub fn run_options(settings: &Settings) -> Options
+    ensures { result ≡ options_of settings.now }
+{
+    Options {
+        workers: settings.workers,
+        capacity: settings.queue,
+        start: settings.at,
+        operation: settings.operation,
+    }
+}

@@ -1,0 +1,4 @@
+pub mod CommandLine
+pub mod Halt
+pub mod Invocation
+pub mod Settings

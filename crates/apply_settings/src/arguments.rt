@@ -1,0 +1,335 @@
+//! The words of the command line.
+
+ghost use Rattle.std.specs.Prelude.{◌≡◌, ◌≤◌, ◌∷◌, [], Some, false, Ok, IfOk, IfErr, IfSome, codes, map, string_bytes};
+ghost use Rattle.std.specs.Option.{option_map_or};
+ghost use Rattle.clap.specs.Matches.{found_of};
+ghost use Rattle.clap.specs.Simple.{app_of};
+ghost use Rattle.clap.specs.Values.{kind_of};
+ghost use Rattle.clap.specs.Walk.{first_of, one_of, rows_of, rule_of};
+ghost use Rattle.apply_settings.specs.CommandLine as said;
+ghost use Rattle.apply_settings.specs.CommandLine.{Answers, AreSaid, HaveSaid, IsNumber, IsOneOf, AreSaidWrong, SayNoSettings};
+ghost use Rattle.apply_settings.specs.CommandLine.{halts_said, kind_of_word};
+ghost use Rattle.apply_text.specs.Start.{start_of as start_said};
+ghost use Rattle.apply_settings.specs.Settings.{AreInRange};
+
+use crate::halt::Halt;
+use crate::settings::Settings;
+use crate::usage::Usage;
+use crate::version::VERSION;
+use apply_hooks::MAX_HOOKS;
+use apply_model::{StepKind, Text};
+use apply_text::{MomentError, Operation, Start};
+use clap::error::ErrorKind;
+use clap::parser::ValueSource;
+use clap::{Arg, ArgAction, ArgMatches, Command, value_parser};
+use std::alloc::{AllocError, Global};
+
+/// The kinds of steps, as words.
+static KINDS: [&str; 4] = ["create", "update", "delete", "read"];
+
+const ABOUT: &str =
+    "Writes the messages of `terraform apply -json` for a saved plan, without applying anything.
+
+Standard input: the plan in JSON, as `terraform show -json PLANFILE` prints it, with at most 10000 changes and 67108864 bytes.
+Standard output: the messages, one JSON object a line.
+Standard error: what went wrong, if anything did.
+
+`applystream check` says whether a stream that was written is whole: applystream check --help explains it.
+`applystream play` writes such a stream in its own time: applystream play --help explains it.";
+
+const AFTER: &str = r#"Example, with two workers, a start, and no deletes:
+  terraform show -json tfplan | applystream --workers 2 --at 2024-05-01T12:00:00Z --halt-before delete
+
+Example of a script, for --script: one step takes 12 seconds and tells an id, one fails after 4 seconds, all others are done at once:
+  {"changes":[{"address":"null_resource.a","steps":[{"seconds":12,"id":"7"}]},
+              {"address":"null_resource.b","steps":[{"seconds":4,"failed":{"summary":"boom"}}]}]}
+
+Exit status:
+  0  all messages were written, and no step failed or was halted; or help or the version was asked for
+  1  all messages were written, and some step failed or was halted
+  2  the options, the plan or the script were refused or could not be read: no message was written
+  3  memory or a thread was refused, or the output could not be written: a part of the messages may have been written"#;
+
+/// Said behind the fault of a word that is no option: mostly it is the file of a plan.
+const TIP: &str = "\n  tip: a plan is read from standard input, as in: applystream < plan.json\n";
+
+/// The settings that the words behind the program's name say, by the options without a parallelism: the part of
+/// `read_invocation` that knows workers alone.
+///
+/// `Err` with `Usage::Help` where they ask for help, with `Usage::Version` where they ask for the version, else with
+/// `Usage::Words` where they are none of this program or ask for a parallelism, else with `Usage::Moment` where the start is no moment, else with `Usage::Hooks` where there are more than
+/// 32 halts. `Err` with `Usage::Memory` where memory is refused.
+pub fn read_words(alloc: Global, words: &[String]) -> Result<Settings, Usage>
+    ensures in_range { IfOk result AreInRange }
+    ensures said { IfOk result (HaveSaid (map string_bytes words.now)) }
+    ensures refused { IfErr result (SayNoSettings (map string_bytes words.now)) }
+{
+    let command = settings_command(alloc)?;
+    match command.try_get_matches_from(words) {
+        Ok(matches) => settings_of(alloc, &matches),
+        Err(error) => Err(usage_of(alloc, &error)?),
+    }
+}
+
+/// All options, and their help.
+pub(crate) fn command<'a>(alloc: Global) -> Result<Command<'a>, AllocError>
+    ensures { IfOk result (λ command. (kinds : _) × IsOneOf said.kind_words kinds
+        × (app_of command ≡ said.command_line kinds)) }
+{
+    settings_command(alloc)?.arg(parallelism(alloc))
+}
+
+/// The options that say the settings, and their help.
+fn settings_command<'a>(alloc: Global) -> Result<Command<'a>, AllocError>
+    ensures { IfOk result (λ command. (kinds : _) × IsOneOf said.kind_words kinds
+        × (app_of command ≡ said.settings_line kinds)) }
+{
+    Command::new(alloc, "applystream")
+        .no_binary_name(true)
+        .about(ABOUT)
+        .version(VERSION)
+        .after_help(AFTER)
+        .arg(at(alloc))?
+        .arg(script(alloc))?
+        .arg(workers(alloc))?
+        .arg(queue(alloc))?
+        .arg(destroy(alloc))?
+        .arg(halt_before(alloc))?
+        .arg(halt_in(alloc))
+}
+
+fn at<'a>(alloc: Global) -> Arg<'a>
+    ensures { (rule_of result ≡ record (said.option_named (codes "at")) { defaults = codes "1970-01-01T00:00:00Z" ∷ [] }) × (result.global ≡ false) }
+{
+    Arg::new(alloc, "at")
+        .long("at")
+        .value_name("MOMENT")
+        .default_value("1970-01-01T00:00:00Z")
+        .help(
+            "When the first steps begin, in whole seconds: 1970-01-01T00:00:00Z to 8999-12-31T23:59:59Z, with any offset",
+        )
+}
+
+fn script<'a>(alloc: Global) -> Arg<'a>
+    ensures { (rule_of result ≡ said.option_named (codes "script")) × (result.global ≡ false) }
+{
+    Arg::new(alloc, "script")
+        .long("script")
+        .value_name("FILE")
+        .help(
+            "A script in JSON, which says how many seconds each step takes and which fail, with at most 67108864 bytes. Without it each step is done at once",
+        )
+}
+
+fn workers<'a>(alloc: Global) -> Arg<'a>
+    ensures { (rule_of result ≡ said.number_named (codes "workers") 8 (codes "1")) × (result.global ≡ false) }
+{
+    Arg::new(alloc, "workers")
+        .long("workers")
+        .value_name("N")
+        .value_parser(value_parser!(u8).range(1..=8))
+        .default_value("1")
+        .help("How many workers apply the changes at once, 1 to 8")
+}
+
+fn queue<'a>(alloc: Global) -> Arg<'a>
+    ensures { (rule_of result ≡ said.number_named (codes "queue") 1024 (codes "64")) × (result.global ≡ false) }
+{
+    Arg::new(alloc, "queue")
+        .long("queue")
+        .value_name("N")
+        .value_parser(value_parser!(u16).range(1..=1024))
+        .default_value("64")
+        .help("How many messages may wait to be written, 1 to 1024")
+}
+
+fn destroy<'a>(alloc: Global) -> Arg<'a>
+    ensures { (rule_of result ≡ said.flag_named (codes "destroy")) × (result.global ≡ false) }
+{
+    Arg::new(alloc, "destroy")
+        .long("destroy")
+        .action(ArgAction::SetTrue)
+        .help("Says in the last message that the apply was a destroy")
+}
+
+fn halt_before<'a>(alloc: Global) -> Arg<'a>
+    ensures { (kinds : _) × IsOneOf said.kind_words kinds
+        × (rule_of result ≡ record (said.list_named (codes "halt-before")) { parser = Some kinds })
+        × (result.global ≡ false) }
+{
+    Arg::new(alloc, "halt-before")
+        .long("halt-before")
+        .value_name("KIND")
+        .action(ArgAction::Append)
+        .value_parser(KINDS.as_slice())
+        .help("Halts each step of this kind before it begins. May be given again: 32 halts at most")
+}
+
+fn halt_in<'a>(alloc: Global) -> Arg<'a>
+    ensures { (rule_of result ≡ said.list_named (codes "halt-in")) × (result.global ≡ false) }
+{
+    Arg::new(alloc, "halt-in")
+        .long("halt-in")
+        .value_name("PREFIX")
+        .action(ArgAction::Append)
+        .help(
+            "Halts each step of a resource whose address begins so before it begins, as module.a. May be given again: 32 halts at most",
+        )
+}
+
+fn parallelism<'a>(alloc: Global) -> Arg<'a>
+    ensures { (rule_of result ≡ said.parallelism_rule) × (result.global ≡ false) }
+{
+    Arg::new(alloc, "parallelism")
+        .long("parallelism")
+        .value_name("N")
+        .value_parser(value_parser!(u8).range(1..=64))
+        .help(
+            "How many changes are under way at once in the stream's own time, as `terraform apply -parallelism=N` has it: the same input gives the same messages. Not together with --workers or --queue. 1 to 64",
+        )
+}
+
+/// Whether a parallelism stands beside workers or a queue.
+pub(crate) fn is_beside(matches: &ArgMatches<'_>) -> bool
+    ensures { result ≡ said.is_beside (rows_of (found_of matches.now)) }
+{
+    is_given(matches, "parallelism") && (is_given(matches, "workers") || is_given(matches, "queue"))
+}
+
+/// Whether the option stands among the words.
+fn is_given(matches: &ArgMatches<'_>, option: &str) -> bool
+    ensures { result ≡ said.is_given option.now (rows_of (found_of matches.now)) }
+{
+    match matches.value_source(option) {
+        Some(ValueSource::CommandLine) => true,
+        Some(ValueSource::DefaultValue) => false,
+        None => false,
+    }
+}
+
+/// What the matches say.
+pub(crate) fn settings_of(alloc: Global, matches: &ArgMatches<'_>) -> Result<Settings, Usage>
+    ensures in_range { IfOk result AreInRange }
+    ensures said { IfOk result (AreSaid (rows_of (found_of matches.now))) }
+    ensures refused { IfErr result (AreSaidWrong (rows_of (found_of matches.now))) }
+{
+    let at = match start_of(matches) {
+        Ok(start) => start,
+        Err(error) => return Err(Usage::Moment(error)),
+    };
+    let halts = halts_of(alloc, matches)?;
+    if halts.len() > MAX_HOOKS {
+        return Err(Usage::Hooks);
+    }
+    Ok(Settings {
+        at,
+        script: script_of(alloc, matches)?,
+        workers: workers_of(matches),
+        queue: queue_of(matches),
+        operation: operation_of(matches),
+        halts,
+    })
+}
+
+/// The start that is said, and else the start of 1970.
+fn start_of(matches: &ArgMatches<'_>) -> Result<Start, MomentError>
+    ensures { result ≡ option_map_or start_said (first_of (codes "at") (rows_of (found_of matches.now))) (Ok 0) }
+{
+    match matches.get_str("at") {
+        Some(moment) => Start::read(moment),
+        None => Ok(Start::zero()),
+    }
+}
+
+/// The file of the script, where one is named.
+fn script_of(alloc: Global, matches: &ArgMatches<'_>) -> Result<Option<Text>, AllocError>
+    ensures { IfOk result (λ script. script ≡ first_of (codes "script") (rows_of (found_of matches.now))) }
+{
+    match matches.get_str("script") {
+        Some(file) => Ok(Some(Text::new(alloc, file)?)),
+        None => Ok(None),
+    }
+}
+
+/// How many workers there are. The parser has tested the number, so that the bounds here do not change it.
+fn workers_of(matches: &ArgMatches<'_>) -> u8
+    ensures in_range { (1 ≤ result) × (result ≤ 8) }
+    ensures said { IfSome (one_of (codes "workers") (rows_of (found_of matches.now)))
+        (λ text. IsNumber 8 text result) }
+{
+    matches.get_one::<u8>("workers").unwrap_or(1).clamp(1, 8)
+}
+
+/// How many events may wait. The parser has tested the number, so that the bounds here do not change it.
+fn queue_of(matches: &ArgMatches<'_>) -> u16
+    ensures in_range { (1 ≤ result) × (result ≤ 1024) }
+    ensures said { IfSome (one_of (codes "queue") (rows_of (found_of matches.now)))
+        (λ text. IsNumber 1024 text result) }
+{
+    matches.get_one::<u16>("queue").unwrap_or(64).clamp(1, 1024)
+}
+
+/// What the apply is for.
+fn operation_of(matches: &ArgMatches<'_>) -> Operation
+    ensures destroy { one_of (codes "destroy") (rows_of (found_of matches.now)) ≡ Some (codes "true")
+        → result ≡ Operation.Destroy }
+    ensures apply { one_of (codes "destroy") (rows_of (found_of matches.now)) ≡ Some (codes "false")
+        → result ≡ Operation.Apply }
+{
+    if matches.get_flag("destroy") {
+        Operation::Destroy
+    } else {
+        Operation::Apply
+    }
+}
+
+/// The halts before a kind of steps, and then those inside a prefix, both in the order of the words.
+fn halts_of(alloc: Global, matches: &ArgMatches<'_>) -> Result<Vec<Halt>, AllocError>
+    ensures { IfOk result (λ halts. halts.items ≡ halts_said (rows_of (found_of matches.now))) }
+{
+    let mut halts = Vec::new(alloc);
+    for kind in matches.get_strs("halt-before").unwrap_or(&[]) {
+        halts.push(Halt::Before(step_kind(kind)))?;
+    }
+    for prefix in matches.get_strs("halt-in").unwrap_or(&[]) {
+        halts.push(Halt::Inside(Text::new(alloc, prefix)?))?;
+    }
+    Ok(halts)
+}
+
+/// The kind that the word says. The parser takes four words.
+fn step_kind(word: &str) -> StepKind
+    ensures { result ≡ kind_of_word word.now }
+{
+    match word {
+        "create" => StepKind::Create,
+        "update" => StepKind::Update,
+        "delete" => StepKind::Delete,
+        _ => StepKind::Read,
+    }
+}
+
+/// What is answered where the parser gives no matches.
+pub(crate) fn usage_of(alloc: Global, error: &clap::Error) -> Result<Usage, AllocError>
+    ensures { IfOk result (Answers (kind_of error.now)) }
+{
+    if error.kind() == ErrorKind::OutOfMemory {
+        return Ok(Usage::Memory);
+    }
+    if error.kind() == ErrorKind::DisplayVersion {
+        return Ok(Usage::Version);
+    }
+    let mut text = format!(in alloc; "{error}")?;
+    if error.kind() == ErrorKind::DisplayHelp {
+        return Ok(Usage::Help(Text::new(alloc, text.as_str())?));
+    }
+    if is_stray(error.kind(), text.as_str()) {
+        text.push_str(TIP)?;
+    }
+    Ok(Usage::Words(Text::new(alloc, text.as_str())?))
+}
+
+/// Whether the parser refuses a word that is no option. Its own text alone tells which word it is.
+fn is_stray(kind: ErrorKind, text: &str) -> bool {
+    kind == ErrorKind::UnknownArgument && !text.starts_with("error: unexpected argument '-")
+}
