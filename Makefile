@@ -22,8 +22,6 @@ CRATES := $(call needs,applystream) applystream_alone
 # What the longest chain of crates does not wait for is proved beside it, and what only tools are made of steps back.
 BESIDE := apply_json apply_plan apply_bus apply_settings
 ASIDE := apply_shown apply_lines apply_words apply_check apply_play
-niceness = $(if $(filter $(1),$(ASIDE)),19,$(if $(filter $(1),$(BESIDE)),5,0))
-jobs = $(if $(filter $(1),$(BESIDE)),$(shell echo $$((($(JOBS) + 1) / 2))),$(JOBS))
 above = $(foreach it,$(CRATES),$(if $(filter $(1),$(call needs,$(it))),$(it)))
 left = $$(for crate in $(if $(filter %_alone,$(MAKECMDGOALS)),$(filter-out $(ASIDE) applystream,$(CRATES)),$(filter-out %_alone,$(CRATES))); do [ -e $(LIBS)/$$crate.stamp ] || echo $$crate; done)
 
@@ -35,7 +33,7 @@ out/applystream out/applystream_alone: out/%: $(LIBS)/%.stamp
 $(LIBS)/%.stamp: out/toolchain
 	@mkdir -p $(LIBS) out; rm -f $(patsubst %,$(LIBS)/%.stamp,$(call above,$*))
 	@echo "applystream: proving $*; left:" $(left) >&2
-	@cd crates/$* && nice -n $(call niceness,$*) $(KIT)/bin/rattle build --crate-name $* --jobs $(call jobs,$*) -L dependency=$(KIT)/rlibs -L dependency=$(LIBS) \
+	@cd crates/$* && nice -n $(if $(filter $*,$(ASIDE)),19,$(if $(filter $*,$(BESIDE)),5,0)) $(KIT)/bin/rattle build --crate-name $* --jobs $(if $(filter $*,$(BESIDE)),$$((($(JOBS) + 1) / 2)),$(JOBS)) -L dependency=$(KIT)/rlibs -L dependency=$(LIBS) \
 	  --antt-project $(KIT)/rattle/logic/antt-project.json --logic-built $(KIT)/logic_built \
 	  $(foreach it,std $(call uses,$*),--extern $(it)=$(if $(filter $(it),$(OWN)),$(LIBS),$(KIT)/rlibs)/$(it).rlib) \
 	  $(if $(filter applystream%,$*),src/main.rt --toolchain $(KIT)/toolchain --backend llvm -o $(CURDIR)/out/$*.o,src/lib.rt --statements -o $(LIBS)/$*.rlib) \
