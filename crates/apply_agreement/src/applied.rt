@@ -31,12 +31,11 @@ ghost use Rattle.apply_agreement.specs.Texts.{HasTexts};
 use crate::laws::{
     a_stream_of_texts_can_be_read, events_that_can_happen_fit_bits, every_stream_is_accepted,
 };
-use apply_events::{
-    a_list_of_a_partition_names_each_number_once, changes_that_are_dealt_out_have_few_events,
-    every_event_fits, lanes_deal_out_the_changes,
+use apply_laws::{
+    a_line_has_one_line_feed, a_list_of_a_partition_names_each_number_once,
+    changes_that_are_dealt_out_have_few_events, every_event_fits, lanes_deal_out_the_changes,
 };
 use apply_plan::{each_object_is_named_once, relative_addresses_join_their_module};
-use apply_text::a_line_has_one_line_feed;
 
 /// Each text that messages tell of a plan and a script that were read is UTF-8, as the bytes are that they were read
 /// from, and an instance key that is a number fits 64 bits.

@@ -29,8 +29,7 @@ ghost use Rattle.apply_agreement.specs.Sound.{CanBeRead, IsShort};
 ghost use Rattle.apply_agreement.specs.Texts.{FitBits, HasTexts};
 ghost use Rattle.apply_agreement.specs.Told.{action_of, told};
 
-use apply_events::lanes_deal_out_the_changes;
-use apply_text::a_line_has_one_line_feed;
+use apply_laws::{a_line_has_one_line_feed, lanes_deal_out_the_changes};
 
 /// The object of an event's message says to a checker what happens to which object: the address, the action, the
 /// seconds, and what becomes of a provisioner, are read as they were written, whenever it was, and whether or not lines

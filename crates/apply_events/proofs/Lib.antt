@@ -1,8 +1,6 @@
 pub mod Begun
 pub mod Dealing
 pub mod Ended
-pub mod Ends
-pub mod EventsFit
 pub mod Interleaved
 pub mod Joined
 pub mod MidSteps
@@ -12,7 +10,6 @@ pub mod Parts
 pub mod PlannedSteps
 pub mod ProgressTimes
 pub mod Provisions
-pub mod ProvisionsFit
 pub mod Rising
 pub mod Stages
 pub mod StepNumbers

@@ -1,13 +1,10 @@
 -- Changes under way at once, in lanes.
 use Rattle.std.specs.Prelude.{◌≤◌, ℕ}
-pub mod ChangesUnderWay
 pub mod Dealing
 pub mod Lane
 pub mod LaneState
 pub mod Merging
 pub mod Props
-pub mod Sharing
-pub mod StepTimes
 pub mod TimeLine
 pub mod ToCome
 

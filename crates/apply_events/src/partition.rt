@@ -1,7 +1,7 @@
 //! Laws of numbers that are dealt out. Each function does nothing; its contract is the law.
 
-ghost use Rattle.std.specs.Prelude.{◌≡◌, ◌<◌, ◌≤◌, ◌++◌, ◌∷◌, [], ℕ, All, List, length, nat_eq, slice_index_or};
-ghost use Rattle.std.specs.List.{IsDistinct, range_with_len};
+ghost use Rattle.std.specs.Prelude.{◌≡◌, ◌<◌, ◌≤◌, ◌++◌, ◌∷◌, [], ℕ, All, List, length};
+ghost use Rattle.std.specs.List.{range_with_len};
 ghost use Rattle.std.specs.List.Sorted.{IsStrictlyIncreasing};
 ghost use Rattle.apply_events.specs.Partition.{IsPartition, NamesEachWorkerOnce};
 
@@ -9,13 +9,6 @@ ghost use Rattle.apply_events.specs.Partition.{IsPartition, NamesEachWorkerOnce}
 pub fn a_partition_for_one_worker_is_all_numbers_in_order()
     ensures { (limit : ℕ) (lists : List (List ℕ)) → IsPartition 1 limit lists
         → lists ≡ range_with_len 0 limit ∷ [] }
-{}
-
-/// The list that a partition has for a worker names numbers below the limit, and each once.
-pub fn a_list_of_a_partition_names_each_number_once()
-    ensures { (workers limit worker : ℕ) (lists : List (List ℕ)) → IsPartition workers limit lists → worker < workers
-        → All (λ number. number < limit) (slice_index_or lists worker [])
-        × IsDistinct nat_eq (slice_index_or lists worker []) }
 {}
 
 /// The workers in their order name each worker once.
@@ -33,9 +26,4 @@ pub fn a_rising_list_fits_below_its_limit()
 pub fn a_rising_list_rises_on()
     ensures { (list : List ℕ) (number : ℕ) → IsStrictlyIncreasing list → All (λ earlier. earlier < number) list
         → IsStrictlyIncreasing (list ++ number ∷ []) }
-{}
-
-/// Numbers below any limit can be dealt out to the workers, if there is one.
-pub fn numbers_can_be_dealt_out()
-    ensures { (workers limit : ℕ) → 0 < workers → (lists : List (List ℕ)) × IsPartition workers limit lists }
 {}

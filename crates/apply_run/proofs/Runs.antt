@@ -2,6 +2,5 @@
 pub mod Headline
 pub mod InLanes
 pub mod Joined
-pub mod LaneLines
 pub mod Places
 pub mod Ready

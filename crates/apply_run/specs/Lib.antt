@@ -1,6 +1,5 @@
 pub mod Applied
 pub mod Bytes
-pub mod LaneLines
 pub mod Lanes
 pub mod Options
 pub mod Run

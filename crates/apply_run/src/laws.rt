@@ -1,27 +1,15 @@
 //! Laws of runs. Each function does nothing; its contract is the law.
 
-ghost use Rattle.std.specs.Prelude.{◌≡◌, ◌<◌, ℕ, List, length};
+ghost use Rattle.std.specs.Prelude.{◌≡◌, ℕ, List, length};
 ghost use Rattle.std.specs.List.{range_with_len};
 ghost use Rattle.apply_events.specs.declared.event.Event.{Event};
-ghost use Rattle.apply_events.specs.Lanes.Dealing.{lanes};
-ghost use Rattle.apply_events.specs.Lanes.TimeLine.{IsTimeLine};
 ghost use Rattle.apply_events.specs.Step.{Work};
 ghost use Rattle.apply_events.specs.WorkerEvents.{worker_events};
-ghost use Rattle.apply_text.specs.declared.operation.Operation.{Operation};
-ghost use Rattle.apply_text.specs.Order.{as_written};
 ghost use Rattle.apply_run.specs.Applied.{IsApplied};
-ghost use Rattle.apply_run.specs.declared.report.Report.{Report};
-ghost use Rattle.apply_events.specs.Lanes.{AreLanes};
-ghost use Rattle.apply_run.specs.Lanes.{HasStreamedInLanes};
-ghost use Rattle.apply_run.specs.LaneLines.{HaveOneBegin};
-ghost use Rattle.apply_run.specs.Run.{HasStreamed, Sight};
 
 use apply_events::{
-    a_partition_for_one_worker_is_all_numbers_in_order, a_step_takes_the_seconds_that_it_tells,
-    an_interleaving_of_one_worker_is_its_list, lanes_deal_out_the_changes,
-    moments_of_a_time_line_never_fall,
+    a_partition_for_one_worker_is_all_numbers_in_order, an_interleaving_of_one_worker_is_its_list,
 };
-use apply_text::a_hook_message_has_its_events_own_moment;
 
 /// One worker applies all changes in the plan's order, so that its run has one stream.
 pub fn one_worker_applies_all_changes_in_order()
@@ -30,34 +18,4 @@ pub fn one_worker_applies_all_changes_in_order()
 {
     a_partition_for_one_worker_is_all_numbers_in_order();
     an_interleaving_of_one_worker_is_its_list();
-}
-
-/// The events of a time line are those of a plan that was applied by as many workers, dealt out as the lanes are.
-pub fn a_time_line_is_applied_by_workers()
-    ensures { (work : Work) (n : ℕ) (events : List Event) → 0 < n → IsTimeLine work n events
-        → IsApplied work n (lanes work n) events }
-{
-    lanes_deal_out_the_changes();
-}
-
-/// So what is said of a run that has streamed holds of lanes that have, with a worker for each lane and any
-/// capacity.
-pub fn what_lanes_stream_is_a_run_of_workers()
-    ensures { (work : Work) (lanes capacity start : ℕ) (operation : Operation) (report : Report) (before after : Sight)
-        → AreLanes lanes → HasStreamedInLanes work lanes start operation report before after
-        → HasStreamed work (record { workers = lanes; capacity = capacity; start = start; operation = operation }) report
-        before after }
-{
-    a_time_line_is_applied_by_workers();
-}
-
-/// The lines of hooks' messages of a time line have their events' own moments: a step begins at one moment, and between
-/// the lines of its start and its end lie exactly the seconds that the end tells.
-pub fn between_the_lines_of_a_step_lie_its_seconds()
-    ensures { (work : Work) (n change step : ℕ) (events : List Event) → IsTimeLine work n events
-        → HaveOneBegin change step (as_written events) }
-{
-    a_step_takes_the_seconds_that_it_tells();
-    moments_of_a_time_line_never_fall();
-    a_hook_message_has_its_events_own_moment();
 }

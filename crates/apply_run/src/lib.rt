@@ -21,10 +21,7 @@ pub use applying::apply_stream;
 pub use bytes::apply_bytes;
 pub use fault::Fault;
 pub use lanes::{apply_bytes_in_lanes, apply_in_lanes};
-pub use laws::{
-    a_time_line_is_applied_by_workers, between_the_lines_of_a_step_lie_its_seconds,
-    one_worker_applies_all_changes_in_order, what_lanes_stream_is_a_run_of_workers,
-};
+pub use laws::one_worker_applies_all_changes_in_order;
 pub use options::Options;
 pub use refusal::Refusal;
 pub use report::Report;

@@ -1,13 +1,8 @@
 mod CachedTexts
-mod Completions
 mod Dates
-mod Durations
-mod Feeds
 mod Hooks
-mod Latest
 mod LinesAdded
 mod Moments
 mod Progress
 mod Sending
 mod Texts
-mod WrittenOrder

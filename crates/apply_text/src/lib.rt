@@ -4,7 +4,6 @@
 mod applied_step;
 mod cached_parts;
 mod display;
-mod laws;
 mod line_buffer;
 mod lines;
 mod messages;
@@ -15,11 +14,6 @@ mod start;
 mod step_words;
 
 pub use display::elapsed::elapsed_text;
-pub use laws::{
-    a_hook_message_has_its_events_own_moment, a_line_has_one_line_feed,
-    moments_of_lines_never_fall, the_order_of_writing_loses_nothing,
-    the_summary_counts_the_lines_of_completion, whole_units_are_told_with_zeros,
-};
 pub use line_buffer::LineBuffer;
 pub use lines::{event_line, summary_line, version_line};
 pub use moment_error::MomentError;

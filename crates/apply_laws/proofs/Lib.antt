@@ -1,0 +1,10 @@
+mod Completions
+mod Durations
+mod Ends
+mod EventsFit
+mod Feeds
+mod LaneLines
+mod Latest
+mod ProvisionsFit
+mod TimeLines
+mod WrittenOrder

@@ -1,0 +1,35 @@
+//! Laws of the events of an apply, of its lines and of its runs, which users of streams can rely on. No code calls one, so
+//! that no program waits for their proofs.
+#![tactic(auto)]
+
+mod dealing;
+mod events;
+mod lines;
+mod runs;
+mod time_lines;
+
+pub use dealing::{
+    a_list_of_a_partition_names_each_number_once, an_interleaving_has_the_summed_length,
+    changes_that_are_dealt_out_have_few_events, numbers_can_be_dealt_out,
+    totals_of_an_interleaving_add_up,
+};
+pub use events::{
+    a_change_ends_with_its_span, a_span_is_short, a_step_ends_once, a_worker_names_itself,
+    every_event_fits, every_event_has_its_step, moments_never_fall, no_event_comes_after_latest,
+    parts_of_joined_lists_join, steps_never_go_back, the_first_event_is_at_the_begin,
+};
+pub use lines::{
+    a_hook_message_has_its_events_own_moment, a_line_has_one_line_feed,
+    moments_of_lines_never_fall, the_order_of_writing_loses_nothing,
+    the_summary_counts_the_lines_of_completion, whole_units_are_told_with_zeros,
+};
+pub use runs::{
+    a_time_line_is_applied_by_workers, between_the_lines_of_a_step_lie_its_seconds,
+    what_lanes_stream_is_a_run_of_workers,
+};
+pub use time_lines::{
+    a_step_takes_the_seconds_that_it_tells, a_time_line_ends_by_the_sum_of_all_spans,
+    lanes_deal_out_the_changes, moments_of_a_time_line_never_fall, no_end_comes_before_the_mean,
+    no_lane_is_idle_while_a_change_waits, no_more_changes_are_under_way_than_lanes,
+    one_lane_has_all_changes_in_order, two_time_lines_are_equal,
+};
