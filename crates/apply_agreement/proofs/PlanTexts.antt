@@ -18,7 +18,7 @@ use Rattle.apply_plan.specs.Bytes.{of_bytes}
 use Rattle.apply_plan.specs.Plan.Address.{relative_address}
 use Rattle.apply_plan.specs.Plan.Element.{Element, element_of, hides_id, key_of, mode_named, planned_change_of, prior_id_of}
 use Rattle.apply_plan.specs.Plan.Header.{Header, header_of}
-use Rattle.apply_plan.specs.Plan.Laws.{HasRelativeAddress, IsJoined}
+use Rattle.apply_laws.specs.Plans.{HasRelativeAddress, IsJoined}
 use Rattle.apply_plan.specs.Plan.ResourceChange.{ResourceChange, resource_of}
 use Rattle.apply_plan.specs.Plan.SavedPlan.{SavedPlan, change_at, changes_of, max_changes, names_object_of, plan_of, plan_of_tree, planned_at}
 use Rattle.apply_plan.specs.Plan.Steps.{steps_alone, steps_of_actions, steps_together}

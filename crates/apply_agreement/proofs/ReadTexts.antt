@@ -8,7 +8,7 @@ use Rattle.apply_model.specs.declared.script.ending.Ending.{Ending}
 use Rattle.apply_model.specs.declared.script.ending.Ending.TheVariants.{Done, Failed}
 use Rattle.apply_model.specs.declared.script.outcome.Outcome.{Outcome}
 use Rattle.apply_model.specs.declared.script.provisioner.Provisioner.{Provisioner}
-use Rattle.apply_plan.specs.Plan.Laws.{HasRelativeAddress}
+use Rattle.apply_laws.specs.Plans.{HasRelativeAddress}
 use Rattle.apply_plan.specs.Plan.SavedPlan.{SavedPlan}
 use Rattle.apply_plan.specs.Script.Outcome.{default_outcome, diag_of_ending, failure_of, first_diag}
 use Rattle.apply_plan.specs.Script.OutcomeMap.{OutcomeMap, given_outcome}

@@ -3,7 +3,7 @@
 use Rattle.std.specs.Prelude.{◌≡◌, ◌≢◌, ◌≤◌, ℕ, All, [], Some, is_some, slice_get, true, length}
 use Rattle.apply_model.specs.declared.plan.step_kind.StepKind.{StepKind}
 use Rattle.apply_model.specs.declared.plan.step_kind.StepKind.TheVariants.{Create, Delete}
-use Rattle.apply_plan.specs.Plan.Laws.{NamesEachObjectOnce}
+use Rattle.apply_laws.specs.Plans.{NamesEachObjectOnce}
 use Rattle.apply_plan.specs.Plan.ResourceChange.{ResourceChange}
 use Rattle.apply_plan.specs.Plan.SavedPlan.{SavedPlan, max_changes}
 use Rattle.apply_plan.specs.Script.OutcomeMap.{OutcomeMap, outcome_of}

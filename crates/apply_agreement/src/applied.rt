@@ -33,9 +33,9 @@ use crate::laws::{
 };
 use apply_laws::{
     a_line_has_one_line_feed, a_list_of_a_partition_names_each_number_once,
-    changes_that_are_dealt_out_have_few_events, every_event_fits, lanes_deal_out_the_changes,
+    changes_that_are_dealt_out_have_few_events, each_object_is_named_once, every_event_fits,
+    lanes_deal_out_the_changes, relative_addresses_join_their_module,
 };
-use apply_plan::{each_object_is_named_once, relative_addresses_join_their_module};
 
 /// Each text that messages tell of a plan and a script that were read is UTF-8, as the bytes are that they were read
 /// from, and an instance key that is a number fits 64 bits.

@@ -1,2 +1,1 @@
-pub mod FirstHalting
 pub mod Positions

@@ -6,7 +6,6 @@ mod fn_hook;
 mod hook;
 mod hook_call;
 mod hook_error;
-mod laws;
 mod phase;
 mod registry;
 mod rule;
@@ -18,9 +17,6 @@ pub use fn_hook::{FnHook, HookClosure};
 pub use hook::Hook;
 pub use hook_call::HookCall;
 pub use hook_error::HookError;
-pub use laws::{
-    a_hook_at_the_end_changes_no_halt, no_hooks_never_halt, the_first_hook_that_halts_is_told,
-};
 pub use phase::Phase;
 pub use registry::{MAX_HOOKS, Registry};
 pub use rule::Rule;

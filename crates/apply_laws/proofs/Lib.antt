@@ -3,8 +3,10 @@ mod Durations
 mod Ends
 mod EventsFit
 mod Feeds
+mod FirstHalting
 mod LaneLines
 mod Latest
+mod Plans
 mod ProvisionsFit
 mod TimeLines
 mod WrittenOrder

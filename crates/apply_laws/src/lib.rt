@@ -1,10 +1,12 @@
-//! Laws of the events of an apply, of its lines and of its runs, which users of streams can rely on. No code calls one, so
-//! that no program waits for their proofs.
+//! Laws of plans, hooks and events, of lines and of runs, which users of streams can rely on. No code calls one, so that no
+//! program waits for their proofs.
 #![tactic(auto)]
 
 mod dealing;
 mod events;
+mod hooks;
 mod lines;
+mod plans;
 mod runs;
 mod time_lines;
 
@@ -18,10 +20,16 @@ pub use events::{
     every_event_fits, every_event_has_its_step, moments_never_fall, no_event_comes_after_latest,
     parts_of_joined_lists_join, steps_never_go_back, the_first_event_is_at_the_begin,
 };
+pub use hooks::{
+    a_hook_at_the_end_changes_no_halt, no_hooks_never_halt, the_first_hook_that_halts_is_told,
+};
 pub use lines::{
     a_hook_message_has_its_events_own_moment, a_line_has_one_line_feed,
     moments_of_lines_never_fall, the_order_of_writing_loses_nothing,
     the_summary_counts_the_lines_of_completion, whole_units_are_told_with_zeros,
+};
+pub use plans::{
+    each_object_is_named_once, other_members_are_ignored, relative_addresses_join_their_module,
 };
 pub use runs::{
     a_time_line_is_applied_by_workers, between_the_lines_of_a_step_lie_its_seconds,

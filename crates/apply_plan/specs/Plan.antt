@@ -7,7 +7,6 @@ pub mod Element
 pub mod ElementView
 pub mod Header
 pub mod HeaderView
-pub mod Laws
 pub mod NextChange
 pub mod ObjectName
 pub mod PlannedView

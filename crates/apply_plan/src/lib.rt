@@ -11,9 +11,6 @@ pub use apply_model::{
     Outcome, Plan, Provisioner, Provisioners, Script, StepKind, Text, Texts,
 };
 pub use bytes::MAX_BYTES;
-pub use plan::laws::{
-    each_object_is_named_once, other_members_are_ignored, relative_addresses_join_their_module,
-};
 pub use plan::plan_error::PlanError;
 pub use plan::reading::read_plan;
 pub use script::reading::read_script;

@@ -3,7 +3,6 @@
 pub mod action;
 pub mod element;
 pub mod header;
-pub mod laws;
 pub mod object_id;
 pub mod plan_error;
 pub mod plan_shape;

@@ -8,7 +8,7 @@ use Rattle.std.proofs.lemmas.Slice.Eq.{starts_is}
 use Rattle.apply_model.specs.Plan.Address.{after_prefix, is_empty, relative_address}
 use Rattle.apply_model.specs.Plan.ResourceChange.{ResourceChange}
 use Rattle.apply_model.proofs.Plans.Relative.{below_module, left_some, relative_is}
-use Rattle.apply_plan.specs.Plan.Laws.{HasRelativeAddress, IsJoined}
+use Rattle.apply_laws.specs.Plans.{HasRelativeAddress, IsJoined}
 
 split_at_prefix : (prefix text rest : List ℕ) → after_prefix prefix text ≡ Some rest → text ≡ prefix ++ rest
 split_at_prefix prefix text rest e =

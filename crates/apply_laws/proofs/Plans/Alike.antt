@@ -9,7 +9,7 @@ use Rattle.apply_json.specs.Tree.{◌>>=◌, items_or_empty, list_of, member_of,
 use Rattle.apply_plan.specs.ListReading.{made_after}
 use Rattle.apply_plan.specs.Plan.Element.{element_of, planned_change_of, prior_id_of}
 use Rattle.apply_plan.specs.Plan.Header.{Header, header_of}
-use Rattle.apply_plan.specs.Plan.Laws.{AreAlike, SaySameArray, SaySameChange, SaySameElement, SaySameElements, SaySamePlan}
+use Rattle.apply_laws.specs.Plans.{AreAlike, SaySameArray, SaySameChange, SaySameElement, SaySameElements, SaySamePlan}
 use Rattle.apply_plan.specs.Plan.NextChange.{change_after}
 use Rattle.apply_model.specs.Plan.ResourceChange.{ResourceChange}
 use Rattle.apply_model.specs.Plan.SavedPlan.{SavedPlan, max_changes}

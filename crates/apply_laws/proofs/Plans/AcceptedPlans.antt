@@ -11,7 +11,7 @@ use Rattle.apply_plan.specs.declared.plan.plan_error.PlanError.TheVariants.{TooL
 use Rattle.apply_model.specs.Plan.Address.{relative_address}
 use Rattle.apply_plan.specs.Plan.Element.{element_of}
 use Rattle.apply_plan.specs.Plan.Header.{header_of}
-use Rattle.apply_plan.specs.Plan.Laws.{HasRelativeAddress, NamesEachObjectOnce}
+use Rattle.apply_laws.specs.Plans.{HasRelativeAddress, NamesEachObjectOnce}
 use Rattle.apply_model.specs.Plan.SavedPlan.{SavedPlan, max_changes}
 use Rattle.apply_plan.specs.Plan.SavedPlan.{changes_of, change_of, plan_of, plan_of_tree, planned_at}
 use Rattle.apply_plan.specs.ListReading.{made_after}
@@ -22,7 +22,7 @@ use Rattle.apply_plan.specs.Plan.Steps.{steps_of_actions}
 use Rattle.apply_json.specs.Tree.{list_of, tree_of}
 use Rattle.apply_plan.specs.Bytes.{max_bytes}
 use Rattle.apply_plan.specs.Results.{or_refuse}
-use Rattle.apply_plan.proofs.Plans.Relative.{relative_joins}
+use Rattle.apply_laws.proofs.Plans.Relative.{relative_joins}
 use Rattle.apply_plan.proofs.Results.{bind_ok, done, guard_ok, ok_is, or_refuse_ok}
 use Rattle.apply_plan.proofs.Plans.WholeList.{changes_one_by_one}
 

@@ -3,7 +3,7 @@
 ghost use Rattle.std.specs.Prelude.{◌≡◌, ℕ, List, Ok};
 ghost use Rattle.std.specs.List.{AllByRecursion};
 ghost use Rattle.serde_json.specs.Data.{Data};
-ghost use Rattle.apply_plan.specs.Plan.Laws.{HasRelativeAddress, NamesEachObjectOnce, SaySamePlan};
+ghost use Rattle.apply_laws.specs.Plans.{HasRelativeAddress, NamesEachObjectOnce, SaySamePlan};
 ghost use Rattle.apply_model.specs.Plan.SavedPlan.{SavedPlan};
 ghost use Rattle.apply_plan.specs.Plan.SavedPlan.{plan_of, plan_of_tree};
 
