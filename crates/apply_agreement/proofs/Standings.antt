@@ -22,6 +22,7 @@ use Rattle.apply_check.specs.Results.{◌>>=◌}
 use Rattle.apply_check.specs.Standing.{explained, failed_by, may_fail, may_provision, one_failure_more, pending_at, provision_on, provisioned, standing_of, step_on, unless_left, with_pending}
 use Rattle.apply_check.specs.Tally.{begun_totals, is_begin, is_planned, is_summary, is_version, line_of, planned_totals, share_of}
 use Rattle.apply_check.specs.Words.{same_action}
+use Rattle.apply_check.proofs.Pendings.{put_other, put_same}
 
 pub same_text : (a : List ℕ) → bytes_eq a a ≡ true
 same_text a = (bytes_eq-Decides a a).1 refl
@@ -91,40 +92,6 @@ next_step a k stage s ms amid e =
 
 -- ---- parts of what stands open then
 
-with_same : (k : Action) (q : Option Pending) (s : Standing) → pending_at k (with_pending k q s) ≡ q
-with_same Create q s = refl
-with_same Update q s = refl
-with_same Delete q s = refl
-with_same Read q s = refl
-with_same Refresh q s = refl
-
-with_keeps : (k l : Action) (q : Option Pending) (s : Standing) → same_action k l ≡ false → pending_at l (with_pending k q s) ≡ pending_at l s
-with_keeps Create Create q s e = absurd cc
-with_keeps Create Update q s e = refl
-with_keeps Create Delete q s e = refl
-with_keeps Create Read q s e = refl
-with_keeps Create Refresh q s e = refl
-with_keeps Update Create q s e = refl
-with_keeps Update Update q s e = absurd cc
-with_keeps Update Delete q s e = refl
-with_keeps Update Read q s e = refl
-with_keeps Update Refresh q s e = refl
-with_keeps Delete Create q s e = refl
-with_keeps Delete Update q s e = refl
-with_keeps Delete Delete q s e = absurd cc
-with_keeps Delete Read q s e = refl
-with_keeps Delete Refresh q s e = refl
-with_keeps Read Create q s e = refl
-with_keeps Read Update q s e = refl
-with_keeps Read Delete q s e = refl
-with_keeps Read Read q s e = absurd cc
-with_keeps Read Refresh q s e = refl
-with_keeps Refresh Create q s e = refl
-with_keeps Refresh Update q s e = refl
-with_keeps Refresh Delete q s e = refl
-with_keeps Refresh Read q s e = refl
-with_keeps Refresh Refresh q s e = absurd cc
-
 -- the failures, as they were or others
 abbrev failing : Option Failures → Standing → Standing
 failing failures s = record s { failures = failures }
@@ -147,10 +114,10 @@ failed_keeps l k (Errored seconds) line s = either (may_fail k)
     either false = refl
 
 pub pending_same : (k : Action) (stage : TimedStage) (line : ℕ) (q : Option Pending) (s : Standing) → pending_at k (step_in k stage line q s) ≡ q
-pending_same k stage line q s = failed_keeps k k stage line (with_pending k q s) ∙ with_same k q s
+pending_same k stage line q s = failed_keeps k k stage line (with_pending k q s) ∙ put_same k q s
 
 pub pending_other : (k l : Action) (stage : TimedStage) (line : ℕ) (q : Option Pending) (s : Standing) → same_action k l ≡ false → pending_at l (step_in k stage line q s) ≡ pending_at l s
-pending_other k l stage line q s apart = failed_keeps l k stage line (with_pending k q s) ∙ with_keeps k l q s apart
+pending_other k l stage line q s apart = failed_keeps l k stage line (with_pending k q s) ∙ put_other k l q s apart
 
 with_provisioner : (k : Action) (q : Option Pending) (s : Standing) → (with_pending k q s).provisioner ≡ s.provisioner
 with_provisioner Create q s = refl

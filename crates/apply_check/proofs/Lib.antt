@@ -13,6 +13,7 @@ pub mod Marks
 pub mod OneLine
 pub mod OpenSteps
 pub mod Parsed
+pub mod Pendings
 pub mod Progress
 pub mod Summaries
 pub mod Summing
