@@ -1,7 +1,7 @@
 -- What the words behind `check` say, and what is done: the options that there are, as `clap` takes them, and which of
 -- them gives which setting.
-use Rattle.std.specs.Prelude.{◌≡◌, ◌⊎◌, ℕ, List, [], ◌∷◌, Option, Some, None, IfErr, IfSome, OnOk, IsSome, Result, true, false, codes, option_map, string_bytes}
-use Rattle.std.specs.Io.KnownBytes.{IsAtEnd, Keeps}
+use Rattle.std.specs.Prelude.{◌≡◌, ℕ, List, [], ◌∷◌, Option, Some, None, IfErr, IfSome, OnOk, IsSome, Result, true, false, codes, option_map, string_bytes}
+use Rattle.std.specs.Io.KnownBytes.{IsAtEnd}
 use Rattle.clap.specs.Faults.{fault_of}
 use Rattle.clap.specs.Simple.{App, matches_of, new_rule, new_shape}
 use Rattle.clap.specs.Walk.{Row, Rule, Text, first_of, one_of}

@@ -20,8 +20,8 @@ const ABOUT: &str =
 
 Standard input: the stream, one JSON object a line, where FILE is `-` or none is named. It is read to its end, so that
 no finding ends whoever writes it.
-Standard output: what was done, where the stream is whole.
-Standard error: the first line that shows that it is not, and why.";
+Standard output: what was done, where the stream is whole; with --json the verdict, whether it is whole or not.
+Standard error: the first line that shows that it is not, and why; with --json only why there is no verdict.";
 
 const AFTER: &str = r#"Example, while Terraform writes the stream:
   terraform apply -json tfplan | tee stream.jsonl | applystream check
