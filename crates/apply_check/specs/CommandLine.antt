@@ -1,24 +1,19 @@
 -- What the words behind `check` say, and what is done: the options that there are, as `clap` takes them, and which of
 -- them gives which setting.
-use Rattle.std.specs.Prelude.{◌≡◌, ◌⊎◌, ⊤, ℕ, List, [], ◌∷◌, if◌then◌else◌, Option, Some, None, IfErr, IfSome, OnOk, IsSome, Result, true, false, codes, option_map, string_bytes}
-use Rattle.std.specs.Str.{bytes_eq}
-use Rattle.std.specs.Io.KnownBytes.{IsAtEnd, Keeps}
+use Rattle.std.specs.Prelude.{◌≡◌, ℕ, List, [], ◌∷◌, Option, Some, None, IfErr, IfSome, OnOk, IsSome, Result, true, false, codes, option_map, string_bytes}
+use Rattle.std.specs.Io.KnownBytes.{IsAtEnd}
 use Rattle.clap.specs.Faults.{fault_of}
-use Rattle.clap.specs.Kinds.{IsAmong}
 use Rattle.clap.specs.Simple.{App, matches_of, new_rule, new_shape}
 use Rattle.clap.specs.Walk.{Row, Rule, Text, first_of, one_of}
 use Rattle.clap.specs.declared.builder.action.ArgAction.TheVariants.{SetTrue}
-use Rattle.clap.specs.declared.error.kind.ErrorKind.{ErrorKind}
-use Rattle.clap.specs.declared.error.kind.ErrorKind.TheVariants.{DisplayHelp, OutOfMemory}
 use Rattle.apply_lines.specs.Cut.{cut_lines}
+use Rattle.apply_words.specs.Words.{IsGivenBy, WasNotFollowed, file_rule, unless_dash}
 use Rattle.apply_check.specs.Reading.{IsAnswer}
 use Rattle.apply_check.specs.Telling.{IsTold}
 use Rattle.apply_check.specs.declared.command.followed.Followed.{Followed}
 use Rattle.apply_check.specs.declared.command.form.Form.TheVariants as form
 use Rattle.apply_check.specs.declared.verdict.read_fault.ReadFault.{ReadFault}
 use Rattle.apply_check.specs.declared.command.settings.Settings.{Settings}
-use Rattle.apply_check.specs.declared.command.usage.Usage.{Usage}
-use Rattle.apply_check.specs.declared.command.usage.Usage.TheVariants as usage
 use Rattle.apply_check.specs.declared.verdict.whole.Whole.{Whole}
 
 -- ---- the options
@@ -35,10 +30,6 @@ find_rule = record (new_rule (codes "find")) { long = Some (codes "find"); actio
 abbrev pub plan_rule : Rule
 plan_rule = record (new_rule (codes "plan")) { long = Some (codes "plan"); action = Some SetTrue }
 
--- `FILE`
-abbrev pub file_rule : Rule
-file_rule = record (new_rule (codes "file")) { value_names = 1 }
-
 -- the command, whose words are those behind `check`
 abbrev pub command_line : App
 command_line = record {
@@ -50,11 +41,6 @@ command_line = record {
 }
 
 -- ---- what they say
-
--- the name of a file; `-` names none
-abbrev pub unless_dash : Option Text → Option Text
-unless_dash None = None
-unless_dash (Some name) = if bytes_eq name (codes "-") then None else Some name
 
 -- each setting is what its own option says
 pub record AreSaid (rows : List Row) (settings : Settings) : Type 0 where
@@ -71,35 +57,7 @@ pub record HaveSaid (words : List Text) (settings : Settings) : Type 0 where
   pub taken : fault_of command_line words ≡ []
   pub said : AreSaid (matches_of command_line words) settings
 
--- ---- why they are refused
-
--- what is answered to an error of that kind: help where help was asked for
-abbrev pub Answers : ErrorKind → Usage → Type 0
-Answers kind (usage.Help text) = kind ≡ DisplayHelp
-Answers kind (usage.Words text) = (kind ≡ OutOfMemory → ⊥) × (kind ≡ DisplayHelp → ⊥)
-Answers kind usage.Memory = ⊤
-
--- the words are a call for help
-abbrev pub AskForHelp : List Text → Type 0
-AskForHelp words = IsAmong DisplayHelp (fault_of command_line words)
-
--- they are none of these options
-abbrev pub WereNotTaken : List Text → Type 0
-WereNotTaken words = (kind : ErrorKind) × (kind ≡ DisplayHelp → ⊥) × IsAmong kind (fault_of command_line words)
-
--- they are a call for help, or none of these options, or memory was refused
-abbrev pub WereRefused : List Text → Usage → Type 0
-WereRefused words (usage.Help text) = AskForHelp words
-WereRefused words (usage.Words text) = WereNotTaken words
-WereRefused words usage.Memory = ⊤
-
 -- ---- what is done
-
--- what a reader has to give: the input where no file is named, and else a file that was opened, never the input
-abbrev pub IsGivenBy : {A File : Type 0} → (remaining : File → Option (List ℕ)) → (input : Option (List ℕ)) → (name : Option A)
-    → (given : Option (List ℕ)) → Type 0
-IsGivenBy remaining input None given = given ≡ input
-IsGivenBy {File = File} remaining input (Some name) given = (file : File) × (given ≡ remaining file)
 
 -- a stream was checked as the words say, and the answer is told: the stream of the input where they name no file, else
 -- that of a file; what such a file has to give, `remaining` says. Behind what is not whole, the input was read to its end:
@@ -122,10 +80,6 @@ pub record NameAFile (words : List Text) : Type 0 where
   pub said : HaveSaid words settings
   pub named : IsSome settings.file
 
--- No stream was checked: help was asked for, with status 0; the words were refused, or the file that they name could not
--- be opened, with status 2 and the output as it was; or memory was refused, with status 3.
+-- no stream was checked
 abbrev pub WasNotChecked : (words : List Text) → (before after : Option (List ℕ)) → (status : ℕ) → Type 0
-WasNotChecked words before after status =
-    ((status ≡ 0) × AskForHelp words)
-    ⊎ ((status ≡ 2) × Keeps before after × (WereNotTaken words ⊎ NameAFile words))
-    ⊎ ((status ≡ 3) × Keeps before after)
+WasNotChecked words before after status = WasNotFollowed command_line (NameAFile words) words before after status

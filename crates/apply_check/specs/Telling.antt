@@ -6,8 +6,6 @@ use Rattle.serde_json.specs.Written.{compact_text}
 use Rattle.apply_check.specs.declared.command.form.Form.{Form}
 use Rattle.apply_check.specs.declared.command.form.Form.TheVariants as form
 use Rattle.apply_check.specs.declared.command.told.Told.{Told}
-use Rattle.apply_check.specs.declared.command.usage.Usage.{Usage}
-use Rattle.apply_check.specs.declared.command.usage.Usage.TheVariants as usage
 use Rattle.apply_check.specs.declared.messages.totals.Totals.{Totals}
 use Rattle.apply_check.specs.declared.verdict.read_fault.ReadFault.{ReadFault}
 use Rattle.apply_check.specs.declared.verdict.read_fault.ReadFault.TheVariants as read
@@ -62,11 +60,6 @@ fault_status_of (read.Found finding) = 4
 fault_status_of read.TooMany = 2
 fault_status_of (read.Unread number) = 2
 fault_status_of read.Memory = 3
-
-abbrev pub usage_status_of : Usage → ℕ
-usage_status_of (usage.Help text) = 0
-usage_status_of (usage.Words text) = 2
-usage_status_of usage.Memory = 3
 
 -- ---- what is written
 

@@ -2,10 +2,9 @@
 
 pub(crate) mod arguments;
 pub(crate) mod checked;
-pub(crate) mod file_fault;
+pub(crate) mod entry_points;
 pub(crate) mod findings;
 pub(crate) mod followed;
-pub(crate) mod following;
 pub(crate) mod form;
 pub(crate) mod object;
 pub(crate) mod objects;
@@ -15,5 +14,4 @@ pub(crate) mod status;
 pub(crate) mod telling;
 pub(crate) mod texts;
 pub(crate) mod told;
-pub(crate) mod usage;
 pub(crate) mod writing;

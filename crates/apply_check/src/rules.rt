@@ -6,6 +6,7 @@ pub(crate) mod failures;
 pub(crate) mod fault;
 pub(crate) mod limits;
 pub(crate) mod matters;
+pub(crate) mod message_rules;
 pub(crate) mod mode;
 pub(crate) mod open_entry;
 pub(crate) mod open_kind;

@@ -10,9 +10,12 @@ use Rattle.apply_play.proofs.Written.{lines_kept}
 
 fault_kept : (fault : PlayFault) (bytes : List ℕ) (a b c : Option (List ℕ)) → IsPlayed bytes a b (Err fault) → Keeps b c → IsPlayed bytes a c (Err fault)
 fault_kept (play.TooLong number) bytes a b c h keeps = (lines_kept bytes _ a b c h.0 keeps, h.1)
-fault_kept play.TooMany bytes a b c h keeps = (h.0, lines_kept bytes _ a b c h.1 keeps)
+fault_kept play.TooMany bytes a b c h keeps =
+    record { count = h.count; most = h.most; last = h.last; written = lines_kept bytes _ a b c h.written keeps }
 fault_kept (play.Unread failed) bytes a b c h keeps = (h.0, lines_kept bytes _ a b c h.1 keeps)
 fault_kept play.Memory bytes a b c h keeps = (h.0, lines_kept bytes _ a b c h.1 keeps)
+fault_kept play.Gone bytes a b c h keeps =
+    record { front = h.front; rest = h.rest; cut = h.cut; written = Appends-kept a b c h.front h.written keeps }
 fault_kept play.Unwritten bytes a b c h keeps =
     record { front = h.front; rest = h.rest; cut = h.cut; written = Appends-kept a b c h.front h.written keeps }
 

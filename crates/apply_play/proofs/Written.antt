@@ -1,5 +1,5 @@
 -- What is written of a line, and line by line of a stream.
-use Rattle.std.proofs.Common.{◌≡◌, ◌≢◌, ◌+◌, ◌-◌, ◌<◌, ◌++◌, ℕ, suc, List, [], ◌∷◌, length, take, take-add, drop, take-append-drop, append_assoc, append-nil, Bool, true, false, cond, eqb, Option, Some, None, Ok, Err, refl, sym, ap, ap₂, ◌∙◌, ⊎_elim, subst, arith}
+use Rattle.std.proofs.Common.{◌≡◌, ◌≢◌, ◌+◌, ◌-◌, ◌^◌, ◌<◌, ◌++◌, ℕ, suc, List, [], ◌∷◌, length, take, take-add, drop, take-append-drop, append_assoc, append-nil, Bool, true, false, cond, eqb, Option, Some, None, Ok, Err, refl, sym, ap, ap₂, ◌∙◌, ⊎_elim, subst, arith}
 use Rattle.std.specs.Prelude.{IfSome, OnSome}
 use Rattle.std.specs.Io.BufRead.{drop_through}
 use Rattle.std.specs.Io.KnownBytes.{Appends, IsAtEnd, Keeps}
@@ -7,7 +7,7 @@ use Rattle.std.proofs.KnownBytes.{Appends-kept, Appends-nil, Appends-trans}
 use Rattle.std.proofs.lemmas.Bool.{cases_Bool}
 use Rattle.std.proofs.lemmas.List.{take_rest}
 use Rattle.std.proofs.lemmas.Map.Views.{exact_unsigned_eq}
-use Rattle.apply_lines.specs.Cut.{behind_lines, first_line, has_feed, line_at}
+use Rattle.apply_lines.specs.Cut.{behind_lines, first_line, has_feed}
 use Rattle.apply_lines.specs.Limits.{max_bytes}
 use Rattle.apply_lines.specs.Reading.{Gives}
 use Rattle.apply_lines.specs.declared.line_end.LineEnd.TheVariants as next
@@ -28,13 +28,14 @@ written_more a b c bytes i n before more =
 pub record HavePlayed (bytes : List ℕ) (left : Option (List ℕ)) (count : ℕ) (before after : Option (List ℕ)) : Type 0 where
   pub lines : LinesWritten bytes count before after
   pub place : left ≡ Some (behind_lines count bytes)
+  pub last : 0 < count → behind_lines (count - 1) bytes ≢ []
 
 abbrev pub Played : (all left : Option (List ℕ)) → (count : ℕ) → (before after : Option (List ℕ)) → Type 0
 Played all left count before after = IfSome all (λ bytes. HavePlayed bytes left count before after)
 
 pub starts : (all a : Option (List ℕ)) → Played all all 0 a a
 starts None a = tt
-starts (Some bytes) a = record { lines = record { lines = []; cut = refl; written = Appends-nil a }; place = refl }
+starts (Some bytes) a = record { lines = record { lines = []; cut = refl; written = Appends-nil a }; place = refl; last = λ none. absurd (omega (arith, none)) }
 
 -- ---- one line more
 
@@ -74,7 +75,12 @@ one_more None left rest n before mid after line feed h gives more = tt
 one_more (Some bytes) left rest n before mid after line feed h gives more =
     let k = placed bytes left rest n (Gives (next.Line feed) line rest) h.place gives in
     let next : drop_through 10 (behind_lines n bytes) ≡ behind_lines (n + 1) bytes = ap (λ (m : ℕ). behind_lines m bytes) (let e : suc n ≡ n + 1 = omega arith in e) in
-    record { lines = lines_more bytes line feed n before mid after k.1 k.3 h.lines more; place = k.2 ∙ ap Some next }
+    let number : n ≡ n + 1 - 1 = omega arith in
+    record {
+      lines = lines_more bytes line feed n before mid after k.1 k.3 h.lines more;
+      place = k.2 ∙ ap Some next;
+      last = λ some. subst (λ (m : ℕ). behind_lines m bytes ≢ []) number k.0;
+    }
 
 -- ---- what is the same with a flush
 
@@ -83,7 +89,7 @@ lines_kept bytes n a b c h keeps = record { lines = h.lines; cut = h.cut; writte
 
 pub kept : (all left : Option (List ℕ)) (n : ℕ) (a b c : Option (List ℕ)) → Played all left n a b → Keeps b c → Played all left n a c
 kept None left n a b c h keeps = tt
-kept (Some bytes) left n a b c h keeps = record { lines = lines_kept bytes n a b c h.lines keeps; place = h.place }
+kept (Some bytes) left n a b c h keeps = record { lines = lines_kept bytes n a b c h.lines keeps; place = h.place; last = h.last }
 
 -- ---- how it ends
 
@@ -107,9 +113,11 @@ too_long (Some bytes) left rest n a b line h gives =
       subst (λ (m : ℕ). max_bytes < length (first_line (behind_lines m bytes))) number k.1,
     )
 
-pub too_many : (all left : Option (List ℕ)) (n : ℕ) (a b : Option (List ℕ)) → Played all left n a b → IfSome all (λ bytes. IsPlayed bytes a b (Err play.TooMany))
-too_many None left n a b h = tt
-too_many (Some bytes) left n a b h = (n, h.lines)
+pub too_many : (all left : Option (List ℕ)) (n : ℕ) (a b : Option (List ℕ)) → n ≡ 2 ^ 64 - 1 → Played all left n a b → IfSome all (λ bytes. IsPlayed bytes a b (Err play.TooMany))
+too_many None left n a b most h = tt
+too_many (Some bytes) left n a b most h =
+    let some : 0 < n = omega (arith, most) in
+    record { count = n; most = most; last = h.last some; written = h.lines }
 
 -- where nothing of the next line was written
 pub unread : (fault : PlayFault) (all left : Option (List ℕ)) (n : ℕ) (a b c : Option (List ℕ)) → Played all left n a b → Keeps b c → IsReadFault fault → IfSome all (λ bytes. IsPlayed bytes a c (Err fault))
@@ -118,6 +126,8 @@ unread (play.TooLong number) (Some bytes) left n a b c h keeps is = absurd is
 unread play.TooMany (Some bytes) left n a b c h keeps is = absurd is
 unread (play.Unread failed) (Some bytes) left n a b c h keeps is = (n, lines_kept bytes n a b c h.lines keeps)
 unread play.Memory (Some bytes) left n a b c h keeps is = (n, lines_kept bytes n a b c h.lines keeps)
+unread play.Gone (Some bytes) left n a b c h keeps is =
+    record { front = h.lines.lines; rest = behind_lines n bytes; cut = h.lines.cut; written = Appends-kept a b c h.lines.lines h.lines.written keeps }
 unread play.Unwritten (Some bytes) left n a b c h keeps is =
     record { front = h.lines.lines; rest = behind_lines n bytes; cut = h.lines.cut; written = Appends-kept a b c h.lines.lines h.lines.written keeps }
 
@@ -139,6 +149,7 @@ line_fault (play.TooLong number) bytes whole n a b c is h played = absurd played
 line_fault play.TooMany bytes whole n a b c is h played = absurd played
 line_fault (play.Unread failed) bytes whole n a b c is h played = absurd played
 line_fault play.Memory bytes whole n a b c is h played = (n, lines_kept bytes n a b c h played)
+line_fault play.Gone bytes whole n a b c is h played = part_of_line bytes whole n played.0 a b c is h played.1
 line_fault play.Unwritten bytes whole n a b c is h played = part_of_line bytes whole n played.0 a b c is h played.1
 
 pub line_failed : (fault : PlayFault) (all left rest : Option (List ℕ)) (n : ℕ) (a b c : Option (List ℕ)) (line : List ℕ) (feed : Bool)

@@ -1,15 +1,16 @@
 -- What the words behind `play` say, and what is done: the options that there are, as `clap` takes them, and which of them
 -- gives which setting.
-use Rattle.std.specs.Prelude.{◌≡◌, ◌≤◌, ◌⊎◌, ℕ, List, [], ◌∷◌, Option, Some, None, IfSome, IsSome, Result, Ok, Err, true, codes, option_map, pos, string_bytes}
-use Rattle.std.specs.Io.KnownBytes.{Keeps}
+use Rattle.std.specs.Prelude.{◌≡◌, ◌≤◌, ◌⊎◌, ℕ, List, [], ◌∷◌, Option, Some, None, IfErr, IfSome, IsSome, OnOk, Result, Ok, Err, true, codes, option_map, pos, string_bytes}
+use Rattle.std.specs.Io.KnownBytes.{IsAtEnd}
 use Rattle.std.specs.Str.Parse.{IsNumeral, digits_value, without_leading_plus}
 use Rattle.clap.specs.Faults.{fault_of}
 use Rattle.clap.specs.Simple.{App, matches_of, new_rule, new_shape}
 use Rattle.clap.specs.Walk.{Row, Rule, Text, first_of, one_of}
 use Rattle.clap.specs.declared.builder.value_parser.ValueParser.TheVariants as values
-use Rattle.apply_words.specs.Words.{AskForHelp, IsGivenBy, WereNotTaken, file_rule, unless_dash}
+use Rattle.apply_words.specs.Words.{IsGivenBy, WasNotFollowed, file_rule, unless_dash}
 use Rattle.apply_play.specs.Due.{most_speed}
 use Rattle.apply_play.specs.Played.{IsPlayed}
+use Rattle.apply_play.specs.declared.command.followed.Followed.{Followed}
 use Rattle.apply_play.specs.declared.command.settings.Settings.{Settings}
 use Rattle.apply_play.specs.declared.play_fault.PlayFault.{PlayFault}
 use Rattle.apply_play.specs.declared.play_fault.PlayFault.TheVariants as play
@@ -62,6 +63,7 @@ fault_status_of (play.TooLong number) = 2
 fault_status_of play.TooMany = 2
 fault_status_of (play.Unread failed) = 2
 fault_status_of play.Memory = 3
+fault_status_of play.Gone = 3
 fault_status_of play.Unwritten = 3
 
 -- 0 where all was played, and flushed; else that of the fault, or 3 where memory was refused to tell it
@@ -70,21 +72,19 @@ IsStatusOf (Ok done) status = status ≡ 0
 IsStatusOf (Err fault) status = (status ≡ 3) ⊎ (status ≡ fault_status_of fault)
 
 -- A stream was played as the words say: that of the input where they name no file, else that of a file. What such a file has
--- to give, `remaining` says.
+-- to give, `remaining` says. Where the input was not played to its end, it was read to its end: `left` is what it has left.
 pub record WasPlayed {File : Type 0} (remaining : File → Option (List ℕ)) (words : List Text)
-    (input before after : Option (List ℕ)) (status : ℕ) : Type 0 where
+    (input left before after : Option (List ℕ)) (followed : Followed) : Type 0 where
   pub settings : Settings
   pub said : HaveSaid words settings
   pub bytes : Option (List ℕ)
   pub given : IsGivenBy remaining input settings.file bytes
   pub answer : Result Unit PlayFault
+  pub answered : followed.answer ≡ Some answer
   pub played : IfSome bytes (λ bytes. IsPlayed bytes before after answer)
-  pub told : IsStatusOf answer status
+  pub told : IsStatusOf answer followed.status
+  pub read : settings.file ≡ None → IfErr answer (λ fault. OnOk followed.rest (IsAtEnd left))
 
--- No stream was played: help was asked for, with status 0; the words were refused, or the file that they name could not be
--- opened, with status 2 and the output as it was; or memory was refused, with status 3.
+-- no stream was played
 abbrev pub WasNotPlayed : (words : List Text) → (before after : Option (List ℕ)) → (status : ℕ) → Type 0
-WasNotPlayed words before after status =
-    ((status ≡ 0) × AskForHelp command_line words)
-    ⊎ ((status ≡ 2) × Keeps before after × (WereNotTaken command_line words ⊎ NameAFile words))
-    ⊎ ((status ≡ 3) × Keeps before after)
+WasNotPlayed words before after status = WasNotFollowed command_line (NameAFile words) words before after status

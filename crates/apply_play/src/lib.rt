@@ -14,7 +14,8 @@ mod watch;
 mod writing;
 
 pub use command::arguments::read_words;
-pub use command::following::{follow, play_command, play_input};
+pub use command::entry_points::{follow, play_command, play_input};
+pub use command::followed::Followed;
 pub use command::outcome::Outcome;
 pub use command::settings::Settings;
 pub use laws::{

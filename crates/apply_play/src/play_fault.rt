@@ -14,8 +14,8 @@ pub enum PlayFault {
     /// The line of that number, counted from 1, is too long.
     #[error("line {0} is longer than 67108864 bytes")]
     TooLong(u64),
-    /// It has more than 18,446,744,073,709,551,615 lines.
-    #[error("the stream has more than 18446744073709551615 lines")]
+    /// It has more than 18,446,744,073,709,551,614 lines.
+    #[error("the stream has more than 18446744073709551614 lines")]
     TooMany,
     /// A read failed.
     #[error("the stream could not be read")]
@@ -23,7 +23,10 @@ pub enum PlayFault {
     /// Memory was refused.
     #[error("out of memory")]
     Memory,
-    /// A write or a flush failed.
+    /// A write or a flush failed since the reader of the output is gone, as the writer's error says.
+    #[error("the output could not be written")]
+    Gone,
+    /// A write or a flush failed for another reason.
     #[error("the output could not be written")]
     Unwritten,
 }

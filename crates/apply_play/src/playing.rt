@@ -24,8 +24,9 @@ use std::time::Clock;
 /// also before the read that finds its end.
 ///
 /// `Err` with `PlayFault::TooLong` at a line of more than 67,108,864 bytes, with `PlayFault::Unread` where a read fails, and
-/// with `PlayFault::Memory` where memory is refused: then whole lines were written. `Err` with `PlayFault::Unwritten` where a
-/// write or a flush fails: then a front of the stream was written. In each case nothing is read or written behind it.
+/// with `PlayFault::Memory` where memory is refused: then whole lines were written; so they were where there are too many, for
+/// `PlayFault::TooMany`. `Err` with `PlayFault::Gone` or `PlayFault::Unwritten` where a write or a flush fails: then a front of
+/// the stream was written. In each case nothing is read or written behind it.
 pub fn play<R: Read, W: Write, C: Clock>(
     alloc: Global,
     clock: &C,

@@ -1,8 +1,11 @@
 //! Waiting until a line is due.
 
-ghost use Rattle.std.specs.Prelude.{◌≡◌, IfErr};
+ghost use Rattle.std.specs.Prelude.{◌≡◌, ◌++◌, ◌∷◌, [], ℤ, IfErr, IfOk, List, Option};
 ghost use Rattle.std.specs.Io.KnownBytes.{Keeps};
-ghost use Rattle.apply_play.specs.declared.play_fault.PlayFault.TheVariants.{Memory, Unwritten};
+ghost use Rattle.apply_play.specs.Due.{HasTaken};
+ghost use Rattle.apply_play.specs.Moment.{moment_of};
+ghost use Rattle.apply_play.specs.Played.{IsWriteFault};
+ghost use Rattle.apply_play.specs.declared.play_fault.PlayFault.TheVariants.{Memory};
 
 use crate::moment::moment_of;
 use crate::pace::Pace;
@@ -27,7 +30,10 @@ pub struct Timing {
 
 impl Timing {
     /// Before any line.
-    pub fn new(alloc: Global, speed: Speed) -> Timing {
+    pub fn new(alloc: Global, speed: Speed) -> Timing
+        ensures speed { result.pace.speed ≡ speed }
+        ensures taken { HasTaken result.pace [] }
+    {
         Timing {
             pace: Pace::new(speed),
             watch: Watch::Waiting,
@@ -38,12 +44,17 @@ impl Timing {
     /// When the next line is due, which was read just now, in microseconds since the first message was. `Err` where memory is
     /// refused.
     pub fn due<C: Clock>(&mut self, alloc: Global, clock: &C, line: &[u8]) -> Result<u64, PlayFault>
-        ensures { IfErr result (λ fault. fault ≡ Memory) }
+        ensures speed { self.new.pace.speed ≡ self.old.pace.speed }
+        ensures due { IfOk result (λ due. due ≡ self.new.pace.due) }
+        ensures taken { IfOk result (λ due. (moments : List (Option ℤ)) → HasTaken self.old.pace moments
+            → HasTaken self.new.pace (moments ++ moment_of line.now ∷ [])) }
+        ensures err { IfErr result (λ fault. fault ≡ Memory) }
     {
         let moment = moment_of(alloc, &mut self.scratch, line)?;
-        if let (Watch::Waiting, Some(_)) = (self.watch, moment) {
-            self.watch = Watch::begun(clock);
-        }
+        self.watch = match (self.watch, moment) {
+            (Watch::Waiting, Some(_)) => Watch::begun(clock),
+            (watch, _) => watch,
+        };
         Ok(self.pace.line(moment))
     }
 
@@ -56,7 +67,7 @@ impl Timing {
         output: &mut W,
     ) -> Result<(), PlayFault>
         ensures bytes { Keeps (W.contents output.old) (W.contents output.new) }
-        ensures err { IfErr result (λ fault. fault ≡ Unwritten) }
+        ensures err { IfErr result IsWriteFault }
     {
         for _ in 0..u64::MAX {
             let rest = self.watch.rest(clock, due);

@@ -1,5 +1,6 @@
 -- What the words behind a command say of its file, and why they are refused.
-use Rattle.std.specs.Prelude.{◌≡◌, ⊤, ℕ, List, if◌then◌else◌, Option, Some, None, codes}
+use Rattle.std.specs.Prelude.{◌≡◌, ◌⊎◌, ⊤, ℕ, List, if◌then◌else◌, Option, Some, None, codes}
+use Rattle.std.specs.Io.KnownBytes.{Keeps}
 use Rattle.std.specs.Str.{bytes_eq}
 use Rattle.clap.specs.Faults.{fault_of}
 use Rattle.clap.specs.Kinds.{IsAmong}
@@ -44,3 +45,11 @@ abbrev pub IsGivenBy : {A File : Type 0} → (remaining : File → Option (List 
     → (given : Option (List ℕ)) → Type 0
 IsGivenBy remaining input None given = given ≡ input
 IsGivenBy {File = File} remaining input (Some name) given = (file : File) × (given ≡ remaining file)
+
+-- No stream was looked at: help was asked for, with status 0; the words were refused, or the file that they name could not be
+-- opened, with status 2 and the output as it was; or memory was refused, with status 3.
+abbrev pub WasNotFollowed : App → (NameAFile : Type 0) → (words : List Text) → (before after : Option (List ℕ)) → (status : ℕ) → Type 0
+WasNotFollowed app NameAFile words before after status =
+    ((status ≡ 0) × AskForHelp app words)
+    ⊎ ((status ≡ 2) × Keeps before after × (WereNotTaken app words ⊎ NameAFile))
+    ⊎ ((status ≡ 3) × Keeps before after)

@@ -4,6 +4,7 @@
 mod arguments;
 mod file_fault;
 mod parsing;
+mod reading_on;
 mod refusals;
 mod reporting;
 mod status;
@@ -11,7 +12,8 @@ mod usage;
 
 pub use arguments::{file, file_of};
 pub use parsing::matches_of;
-pub use refusals::{answer_usage, refuse_file, refuse_unread};
+pub use reading_on::read_on;
+pub use refusals::{answer_usage, refuse_file, refuse_memory, refuse_unread};
 pub use reporting::report;
 pub use status::{FAILED, REFUSED};
 pub use usage::Usage;

@@ -74,7 +74,7 @@ pub fn refuse_file<E: Write>(
 }
 
 /// Says that memory was refused, and answers the exit status.
-fn refuse_memory<E: Write>(faults: &mut E) -> u8
+pub fn refuse_memory<E: Write>(faults: &mut E) -> u8
     ensures { result ≡ 3 }
 {
     report(faults, LineFault::Memory);

@@ -59,7 +59,7 @@ fn play_stream(rt: &HostRuntime, words: &[String]) -> Option<u8> {
     };
     let is_terminal = rt.stdin().is_terminal();
     let text = is_terminal.then_some(NO_STREAM_TO_PLAY);
-    let status = apply_play::follow(
+    let followed = apply_play::follow(
         rt,
         rt,
         rt.alloc(),
@@ -71,5 +71,5 @@ fn play_stream(rt: &HostRuntime, words: &[String]) -> Option<u8> {
     );
     // What a failed write left behind is given up: a drop would write it once more, behind the fault.
     let (_stdout, _unwritten) = output.into_parts();
-    Some(status)
+    Some(followed.status)
 }

@@ -1,18 +1,17 @@
 //! The words of the command line.
 
-ghost use Rattle.std.specs.Prelude.{◌≡◌, Some, true, false, IfOk, IfErr, codes, map, option_map, string_bytes};
+ghost use Rattle.std.specs.Prelude.{◌≡◌, Some, true, false, IfOk, IfErr, codes, map, string_bytes};
 ghost use Rattle.clap.specs.Matches.{found_of};
 ghost use Rattle.clap.specs.Simple.{app_of};
-ghost use Rattle.clap.specs.Values.{kind_of};
-ghost use Rattle.clap.specs.Walk.{first_of, one_of, rows_of, rule_of};
-ghost use Rattle.apply_check.specs.CommandLine.{Answers, AreSaid, HaveSaid, WereRefused, command_line, file_rule, find_rule, json_rule, plan_rule, unless_dash};
+ghost use Rattle.clap.specs.Walk.{one_of, rows_of, rule_of};
+ghost use Rattle.apply_words.specs.Words.{WereRefused};
+ghost use Rattle.apply_check.specs.CommandLine.{AreSaid, HaveSaid, command_line, find_rule, json_rule, plan_rule};
 ghost use Rattle.apply_check.specs.declared.command.form.Form.TheVariants as forms;
 
 use crate::command::form::Form;
 use crate::command::settings::Settings;
-use crate::command::usage::Usage;
 use crate::rules::mode::Mode;
-use clap::error::ErrorKind;
+use apply_words::{Usage, file, file_of, matches_of};
 use clap::{Arg, ArgAction, ArgMatches, Command};
 use std::alloc::{AllocError, Global};
 
@@ -21,8 +20,8 @@ const ABOUT: &str =
 
 Standard input: the stream, one JSON object a line, where FILE is `-` or none is named. It is read to its end, so that
 no finding ends whoever writes it.
-Standard output: what was done, where the stream is whole.
-Standard error: the first line that shows that it is not, and why.";
+Standard output: what was done, where the stream is whole; with --json the verdict, whether it is whole or not.
+Standard error: the first line that shows that it is not, and why; with --json only why there is no verdict.";
 
 const AFTER: &str = r#"Example, while Terraform writes the stream:
   terraform apply -json tfplan | tee stream.jsonl | applystream check
@@ -45,12 +44,12 @@ Exit status:
 /// `Usage::Words` where they are none of this command, and with `Usage::Memory` where memory is refused.
 pub fn read_words(alloc: Global, words: &[String]) -> Result<Settings, Usage>
     ensures said { IfOk result (HaveSaid (map string_bytes words.now)) }
-    ensures refused { IfErr result (WereRefused (map string_bytes words.now)) }
+    ensures refused { IfErr result (WereRefused command_line (map string_bytes words.now)) }
 {
     let command = command(alloc)?;
-    match command.try_get_matches_from(words) {
+    match matches_of(alloc, command, words) {
         Ok(matches) => Ok(settings_of(alloc, &matches)?),
-        Err(error) => Err(usage_of(alloc, &error)?),
+        Err(usage) => Err(usage),
     }
 }
 
@@ -95,14 +94,6 @@ fn plan<'a>(alloc: Global) -> Arg<'a>
         .help("Takes a stream of `terraform plan -json` too, which ends with the plan's summary")
 }
 
-fn file<'a>(alloc: Global) -> Arg<'a>
-    ensures { (rule_of result ≡ file_rule) × (result.global ≡ false) }
-{
-    Arg::new(alloc, "file")
-        .value_name("FILE")
-        .help("The file with the stream; `-` is standard input")
-}
-
 /// What the matches say.
 fn settings_of(alloc: Global, matches: &ArgMatches<'_>) -> Result<Settings, AllocError>
     ensures { IfOk result (AreSaid (rows_of (found_of matches.now))) }
@@ -116,20 +107,6 @@ fn settings_of(alloc: Global, matches: &ArgMatches<'_>) -> Result<Settings, Allo
         form: form_of(matches),
         file,
     })
-}
-
-/// The file of the stream, where one is named; `-` names standard input.
-fn file_of(alloc: Global, matches: &ArgMatches<'_>) -> Result<Option<String>, AllocError>
-    ensures { IfOk result (λ file. option_map string_bytes file ≡ unless_dash (first_of (codes "file") (rows_of (found_of matches.now)))) }
-{
-    match matches.get_str("file") {
-        Some(file) => if file == "-" {
-            Ok(None)
-        } else {
-            Ok(Some(String::from_str(alloc, file)?))
-        },
-        None => Ok(None),
-    }
 }
 
 /// How the verdict is said.
@@ -150,19 +127,4 @@ fn is_given(matches: &ArgMatches<'_>, name: &str) -> bool
     ensures no { one_of name.now (rows_of (found_of matches.now)) ≡ Some (codes "false") → result ≡ false }
 {
     matches.get_flag(name)
-}
-
-/// What is answered where the parser gives no matches.
-fn usage_of(alloc: Global, error: &clap::Error) -> Result<Usage, AllocError>
-    ensures { IfOk result (Answers (kind_of error.now)) }
-{
-    if error.kind() == ErrorKind::OutOfMemory {
-        return Ok(Usage::Memory);
-    }
-    let text = format!(in alloc; "{error}")?;
-    if error.kind() == ErrorKind::DisplayHelp {
-        Ok(Usage::Help(text))
-    } else {
-        Ok(Usage::Words(text))
-    }
 }

@@ -16,8 +16,7 @@ ghost use Rattle.apply_check.specs.declared.verdict.read_fault.ReadFault.{ReadFa
 
 use crate::command::form::Form;
 use crate::command::object::{Object, message_tree};
-use crate::command::refusals::refuse_memory;
-use crate::command::status::{FAILED, NOT_WHOLE};
+use crate::command::status::NOT_WHOLE;
 use crate::command::telling::told_line;
 use crate::command::texts::finding_text;
 use crate::command::told::Told;
@@ -28,6 +27,7 @@ use crate::rules::mode::Mode;
 use crate::rules::open_entry::OpenEntry;
 use crate::verdict::finding::Finding;
 use apply_lines::Line;
+use apply_words::{FAILED, refuse_memory};
 use serde_json::Value;
 use std::alloc::{AllocError, Global};
 use std::io::Write;

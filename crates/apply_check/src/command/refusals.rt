@@ -1,18 +1,12 @@
 //! Why a stream could not be checked.
 
-ghost use Rattle.std.specs.Prelude.{◌≡◌, ◌≤◌, ◌⊎◌};
-ghost use Rattle.std.specs.Io.KnownBytes.{Keeps};
-ghost use Rattle.apply_check.specs.Telling.{fault_status_of, usage_status_of};
+ghost use Rattle.std.specs.Prelude.{◌≡◌, ◌⊎◌};
+ghost use Rattle.apply_check.specs.Telling.{fault_status_of};
 
-use crate::command::file_fault::FileFault;
-use crate::command::status::{FAILED, NOT_WHOLE, REFUSED};
-use crate::command::usage::Usage;
-use crate::command::writing::report;
+use crate::command::status::NOT_WHOLE;
 use crate::verdict::read_fault::ReadFault;
-use apply_lines::FailedRead;
-use apply_shown::shown;
+use apply_words::{FAILED, REFUSED, refuse_unread, report};
 use std::alloc::Global;
-use std::io;
 use std::io::Write;
 
 /// Says why there is no verdict, and answers the exit status.
@@ -37,71 +31,4 @@ fn fault_status(fault: ReadFault) -> u8
         ReadFault::TooMany | ReadFault::Unread(_) => REFUSED,
         ReadFault::Memory => FAILED,
     }
-}
-
-/// Says that the file of that name could not be read, and answers the exit status.
-pub fn refuse_unread<E: Write>(alloc: Global, faults: &mut E, name: &str, failed: FailedRead) -> u8
-    ensures { (result ≡ 2) ⊎ (result ≡ 3) }
-{
-    match failed.number() {
-        Some(number) => {
-            let error = io::Error::from_raw_os_error(number);
-            refuse_file(alloc, faults, name, "read", Some(&error))
-        }
-        None => refuse_file(alloc, faults, name, "read", None),
-    }
-}
-
-/// Says that memory was refused, and answers the exit status.
-pub fn refuse_memory<E: Write>(faults: &mut E) -> u8
-    ensures { result ≡ 3 }
-{
-    report(faults, ReadFault::Memory);
-    FAILED
-}
-
-/// Says why the words are not followed, and answers the exit status: 0 for help, which is printed on `out`, 3 where
-/// memory was refused, else 2.
-pub fn answer_usage<W: Write, E: Write>(usage: &Usage, out: &mut W, faults: &mut E) -> u8
-    ensures status { result ≡ usage_status_of usage.now }
-    ensures quiet { result ≡ 0 → Keeps (E.contents faults.old) (E.contents faults.new) }
-    ensures refused { 2 ≤ result → Keeps (W.contents out.old) (W.contents out.new) }
-{
-    match usage {
-        Usage::Help(text) => {
-            let _ = out.write_all(text.as_str().as_bytes());
-            let _ = out.flush();
-            0
-        }
-        Usage::Words(text) => {
-            let _ = faults.write_all(text.as_str().as_bytes());
-            REFUSED
-        }
-        Usage::Memory => refuse_memory(faults),
-    }
-}
-
-/// Says that the file of that name could not be opened or read, and why, and answers the exit status. Its name is what was
-/// typed, but shown so that it steers no terminal.
-pub fn refuse_file<E: Write>(
-    alloc: Global,
-    faults: &mut E,
-    name: &str,
-    done: &str,
-    error: Option<&io::Error>,
-) -> u8
-    ensures { (result ≡ 2) ⊎ (result ≡ 3) }
-{
-    let Ok(name) = shown(alloc, name.as_bytes()) else {
-        return refuse_memory(faults);
-    };
-    report(
-        faults,
-        FileFault {
-            name: name.as_str(),
-            done,
-            error,
-        },
-    );
-    REFUSED
 }

@@ -3,11 +3,8 @@
 ghost use Rattle.std.specs.Prelude.{◌≡◌, ◌++◌, ◌∷◌, [], OnOk, true};
 ghost use Rattle.std.specs.Io.KnownBytes.{Appends, Keeps};
 
-use std::fmt::Display;
-use std::io::{self, Cursor, ErrorKind, Write};
-
-/// How many bytes of a line for people go out in one write without memory of the heap.
-const LINE_ROOM: usize = 1_024;
+use apply_words::report;
+use std::io::{self, ErrorKind, Write};
 
 /// Writes the text and a line feed, all of it, and says whether that went well. Where it did not, `faults` is told so, unless
 /// the reader of `out` is gone: whoever ended it, as `head` ends, knows that.
@@ -32,20 +29,4 @@ fn write_whole<W: Write>(out: &mut W, text: &str) -> io::Result<()>
 {
     writeln!(out, "{text}")?;
     out.flush()
-}
-
-/// Says what went wrong, on a line of its own. A text that cannot be written is dropped, since there is nowhere left to
-/// say so.
-///
-/// The line goes out in one write, so that it stays whole beside other writers, and takes no memory of the heap. One
-/// longer than 1,024 bytes, which only the long name of a file makes, goes out in pieces.
-pub fn report<E: Write, D: Display + Drop>(faults: &mut E, fault: D) {
-    let mut line = Cursor::new([0u8; LINE_ROOM]);
-    let _ = match writeln!(line, "applystream: {fault}") {
-        Ok(()) => {
-            let end = (line.position() as usize).min(LINE_ROOM);
-            faults.write_all(&line.get_ref()[..end])
-        }
-        Err(_) => writeln!(faults, "applystream: {fault}"),
-    };
 }

@@ -3,17 +3,21 @@
 ghost use Rattle.std.specs.Prelude.{◌≡◌, ◌⊎◌};
 ghost use Rattle.std.specs.Io.KnownBytes.{Keeps};
 ghost use Rattle.apply_play.specs.CommandLine.{fault_status_of};
+ghost use Rattle.apply_play.specs.declared.play_fault.PlayFault.TheVariants.{Gone};
 
 use crate::play_fault::PlayFault;
 use apply_words::{FAILED, REFUSED, refuse_unread, report};
 use std::alloc::Global;
 use std::io::Write;
 
-/// Says why the stream was not played to its end, and answers the exit status: of a file where it has a name.
+/// Says why the stream was not played to its end, of a file where it has a name, and answers the exit status. Nothing is said
+/// where the reader of the output is gone: whoever ended it, as `head` ends, knows that.
 pub fn refuse<E: Write>(alloc: Global, faults: &mut E, name: Option<&str>, fault: PlayFault) -> u8
-    ensures { (result ≡ 3) ⊎ (result ≡ fault_status_of fault) }
+    ensures status { (result ≡ 3) ⊎ (result ≡ fault_status_of fault) }
+    ensures gone { fault ≡ Gone → Keeps (E.contents faults.old) (E.contents faults.new) }
 {
     match (fault, name) {
+        (PlayFault::Gone, _) => FAILED,
         (PlayFault::Unread(failed), Some(name)) => refuse_unread(alloc, faults, name, failed),
         _ => {
             report(faults, fault);
@@ -28,7 +32,7 @@ fn fault_status(fault: PlayFault) -> u8
 {
     match fault {
         PlayFault::TooLong(_) | PlayFault::TooMany | PlayFault::Unread(_) => REFUSED,
-        PlayFault::Memory | PlayFault::Unwritten => FAILED,
+        PlayFault::Memory | PlayFault::Gone | PlayFault::Unwritten => FAILED,
     }
 }
 
@@ -37,7 +41,7 @@ pub fn send_on<W: Write>(out: &mut W, fault: PlayFault)
     ensures { Keeps (W.contents out.old) (W.contents out.new) }
 {
     match fault {
-        PlayFault::Unwritten => {}
+        PlayFault::Gone | PlayFault::Unwritten => {}
         _ => {
             let _ = out.flush();
         }

@@ -1,5 +1,5 @@
 -- The next of what the reader gives, by what it is.
-use Rattle.std.proofs.Common.{subst}
+use Rattle.std.proofs.Common.{subst, arith}
 use Rattle.std.specs.Prelude.{IfSome}
 use Rattle.std.specs.Io.Buffered.{reader_remaining}
 use Rattle.apply_lines.specs.Reading.{Gives}
@@ -62,4 +62,4 @@ returns-in-Err-play_line-clause-played g c =
 
 pub returns-clause-played : goal.returns-clause-played
 returns-clause-played g c =
-    too_many (reader_remaining g.R.Read.remaining c.args.reader.now) (reader_remaining g.R.Read.remaining c.lines.reader) c.lines.before (g.W.Write.contents c.args.output.now) (g.W.Write.contents c.lines.output) c.lines.invariant
+    too_many (reader_remaining g.R.Read.remaining c.args.reader.now) (reader_remaining g.R.Read.remaining c.lines.reader) c.lines.before (g.W.Write.contents c.args.output.now) (g.W.Write.contents c.lines.output) (omega arith) c.lines.invariant

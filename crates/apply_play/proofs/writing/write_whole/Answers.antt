@@ -1,5 +1,5 @@
 -- What was written, with a write more.
-use Rattle.std.proofs.Common.{◌+◌, ◌≤◌, length, ℕ, arith, ap, sym, subst, take, ◌∙◌}
+use Rattle.std.proofs.Common.{ℕ, arith, sym, subst, take}
 use Rattle.std.specs.Io.KnownBytes.{Appends}
 use Rattle.std.proofs.KnownBytes.{Appends-kept}
 use Rattle.apply_play.proofs.Written.{written_more}

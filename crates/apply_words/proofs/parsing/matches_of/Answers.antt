@@ -1,4 +1,4 @@
-use Rattle.std.proofs.Common.{List, Ok, ap, map, string_bytes, ◌≡◌, ◌∙◌, true}
+use Rattle.std.proofs.Common.{List, Ok, ap, map, string_bytes, ◌∙◌}
 use Rattle.clap.specs.Simple.{App, is_simple, matches_of}
 use Rattle.clap.specs.Walk.{Text}
 use Rattle.apply_words.proofs.Parsed.{are_refused, faults_are}

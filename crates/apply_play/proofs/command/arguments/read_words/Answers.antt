@@ -1,5 +1,5 @@
-use Rattle.std.proofs.Common.{List, map, string_bytes, subst, ◌∙◌}
-use Rattle.clap.specs.Walk.{Row, Text}
+use Rattle.std.proofs.Common.{List, subst}
+use Rattle.clap.specs.Walk.{Row}
 use Rattle.apply_play.specs.CommandLine.{AreSaid, command_line}
 use Rattle.apply_play.proofs.Parsed.{line_is_free, line_is_simple}
 use Rattle.apply_play.proofs.command.arguments.read_words.Goals as goal

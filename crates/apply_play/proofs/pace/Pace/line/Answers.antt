@@ -1,5 +1,5 @@
 -- A line more, by whether it has a moment.
-use Rattle.std.proofs.Common.{◌≡◌, ℤ, List, [], ◌∷◌, ◌++◌, max, Option, Some, SFits, of_z, to_z, w64, ap, ap₂, refl, sym, subst, rules, ◌∙◌}
+use Rattle.std.proofs.Common.{◌≡◌, ℤ, [], ◌∷◌, ◌++◌, max, Option, Some, SFits, of_z, to_z, w64, ap, ap₂, refl, sym, subst, rules, ◌∙◌}
 use Rattle.std.specs.Prelude.{unwrap_or}
 use Rattle.std.proofs.lemmas.Int.{to_z-of_z}
 use Rattle.apply_play.specs.Due.{HasTaken, Pacing, time_of}

@@ -4,7 +4,7 @@ use Rattle.apply_lines.specs.Cut.{cut_lines}
 use Rattle.apply_check.specs.Reading.{IsAnswer}
 use Rattle.apply_check.specs.declared.rules.mode.Mode.{Mode}
 use Rattle.apply_check.specs.declared.verdict.read_fault.ReadFault.TheVariants as read
-use Rattle.apply_check.proofs.command.following.check_input.Goals as goal
+use Rattle.apply_check.proofs.command.entry_points.check_input.Goals as goal
 
 -- want of memory answers nothing, whatever the input holds
 no_answer : (mode : Mode) (known : Option (List ℕ)) → IfSome known (λ bytes. IsAnswer mode (cut_lines bytes) (Err read.Memory))

@@ -16,8 +16,8 @@ use crate::command::checked::Checked;
 use crate::command::findings::tell_finding;
 use crate::command::followed::Followed;
 use crate::command::form::Form;
-use crate::command::refusals::{answer_usage, refuse, refuse_file, refuse_memory};
-use crate::command::status::{ERRORS, FAILED};
+use crate::command::refusals::refuse;
+use crate::command::status::ERRORS;
 use crate::command::telling::whole_line;
 use crate::command::writing::write_line;
 use crate::rules::checker::Checker;
@@ -25,7 +25,8 @@ use crate::rules::mode::Mode;
 use crate::verdict::read_fault::ReadFault;
 use crate::verdict::stream_given::check_with;
 use crate::verdict::whole::Whole;
-use apply_lines::{FailedRead, Line, drop_rest};
+use apply_lines::Line;
+use apply_words::{FAILED, answer_usage, read_on, refuse_file, refuse_memory};
 use std::alloc::Global;
 use std::fs;
 use std::io::{BufRead, BufReader, Read, Write};
@@ -59,7 +60,7 @@ pub fn follow<F: Files, R: Read, W: Write, E: Write>(
         Err(usage) => {
             let status = answer_usage(&usage, out, faults);
             let is_awaited = status > 0 && !is_terminal;
-            return Followed::without_answer(status, finish(is_awaited, input, faults));
+            return Followed::without_answer(status, read_on(is_awaited, input, faults));
         }
     };
     let Some(name) = &settings.file else {
@@ -90,25 +91,9 @@ pub fn follow<F: Files, R: Read, W: Write, E: Write>(
         }
         Err(error) => {
             let status = refuse_file(alloc, faults, name, "opened", Some(&error));
-            Followed::without_answer(status, finish(!is_terminal, input, faults))
+            Followed::without_answer(status, read_on(!is_terminal, input, faults))
         }
     }
-}
-
-/// Reads the input to its end where somebody may write it. What was said is out before.
-fn finish<R: Read, E: Write>(
-    is_awaited: bool,
-    input: &mut R,
-    faults: &mut E,
-) -> Result<(), FailedRead>
-    ensures read { is_awaited ≡ true → OnOk result (IsAtEnd (R.remaining input.new)) }
-    ensures keeps { Keeps (E.contents faults.old) (E.contents faults.new) }
-{
-    if !is_awaited {
-        return Ok(());
-    }
-    let _ = faults.flush();
-    drop_rest(input)
 }
 
 /// Does what `check_command` does, with a reader that has no buffer.
@@ -132,7 +117,7 @@ pub fn check_input<R: Read, W: Write, E: Write>(
         return Checked {
             status,
             answer: Err(ReadFault::Memory),
-            rest: finish(true, input, faults),
+            rest: read_on(true, input, faults),
         };
     };
     let checked = check_reader(alloc, mode, form, name, false, &mut reader, out, faults);
@@ -141,7 +126,7 @@ pub fn check_input<R: Read, W: Write, E: Write>(
     // would wait.
     let rest = match checked.answer {
         Ok(_) => checked.rest,
-        Err(_) => finish(true, input, faults),
+        Err(_) => read_on(true, input, faults),
     };
     Checked {
         status: checked.status,
@@ -206,7 +191,7 @@ fn check_reader<R: BufRead, W: Write, E: Write>(
             Checked {
                 status,
                 answer: Err(fault),
-                rest: finish(reads_on, reader, faults),
+                rest: read_on(reads_on, reader, faults),
             }
         }
     }

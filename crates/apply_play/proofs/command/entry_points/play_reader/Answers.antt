@@ -1,6 +1,6 @@
 use Rattle.std.specs.Io.Buffered.{reader_remaining}
 use Rattle.apply_play.proofs.Sent.{sent_on}
-use Rattle.apply_play.proofs.command.following.play_command.Goals as goal
+use Rattle.apply_play.proofs.command.entry_points.play_reader.Goals as goal
 
 pub returns-in-Err-clause-played : goal.returns-in-Err-clause-played
 returns-in-Err-clause-played g c =
