@@ -2,12 +2,12 @@ mod CachedTexts
 mod Completions
 mod Dates
 mod Durations
-mod Feeds
-mod Hooks
+pub mod Feeds
+pub mod Hooks
 mod Latest
-mod LinesAdded
-mod Moments
+pub mod LinesAdded
+pub mod Moments
 mod Progress
-mod Sending
-mod Texts
+pub mod Sending
+pub mod Texts
 mod WrittenOrder
