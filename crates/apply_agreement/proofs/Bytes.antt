@@ -25,7 +25,7 @@ use Rattle.apply_events.specs.declared.event.Event.{Event}
 use Rattle.apply_events.specs.Totals.{totals_of}
 use Rattle.apply_text.specs.declared.operation.Operation.{Operation}
 use Rattle.apply_text.specs.Latest.{latest_of}
-use Rattle.apply_laws.specs.Lines.{line_feeds}
+use Rattle.apply_text.specs.Laws.{line_feeds}
 use Rattle.apply_text.specs.Lines.{event_text, line_of, stream_of, summary_text, version_text}
 use Rattle.apply_text.specs.Message.{event_message}
 use Rattle.apply_text.specs.Order.{as_written}

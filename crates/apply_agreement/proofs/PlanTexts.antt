@@ -142,18 +142,19 @@ change_texts change has relative = record {
 }
 
 alone : (action : Data) → IfSome (steps_alone action) (λ steps. length steps ≤ 2)
-alone action = of_tests (is_word (codes "no-op") action) (is_word (codes "create") action) (is_word (codes "read") action) (is_word (codes "update") action) (is_word (codes "delete") action)
+alone action = of_tests (is_word (codes "no-op") action) (is_word (codes "create") action) (is_word (codes "read") action) (is_word (codes "update") action) (is_word (codes "delete") action) (is_word (codes "forget") action)
   where
     Few : Option (List StepKind) → Type 0
     Few found = IfSome found (λ steps. length steps ≤ 2)
 
-    of_tests : (a b c d e : Bool) → Few (cond a (Some []) (cond b (Some (Create ∷ [])) (cond c (Some (Read ∷ [])) (cond d (Some (Update ∷ [])) (cond e (Some (Delete ∷ [])) None)))))
-    of_tests true b c d e = omega arith
-    of_tests false true c d e = omega arith
-    of_tests false false true d e = omega arith
-    of_tests false false false true e = omega arith
-    of_tests false false false false true = omega arith
-    of_tests false false false false false = tt
+    of_tests : (a b c d e f : Bool) → Few (cond a (Some []) (cond b (Some (Create ∷ [])) (cond c (Some (Read ∷ [])) (cond d (Some (Update ∷ [])) (cond e (Some (Delete ∷ [])) (cond f (Some []) None))))))
+    of_tests true b c d e f = omega arith
+    of_tests false true c d e f = omega arith
+    of_tests false false true d e f = omega arith
+    of_tests false false false true e f = omega arith
+    of_tests false false false false true f = omega arith
+    of_tests false false false false false true = omega arith
+    of_tests false false false false false false = tt
 
 together : (first second : Data) → IfSome (steps_together first second) (λ steps. length steps ≤ 2)
 together first second = of_tests (is_word (codes "delete") first && is_word (codes "create") second) (is_word (codes "create") first && is_word (codes "delete") second)

@@ -15,7 +15,7 @@ use Rattle.apply_events.specs.declared.what.What.{What}
 use Rattle.apply_events.specs.declared.what.What.TheVariants.{Start, Progress, Complete, Errored, ErrorNote, WarnNote, Halted, ProvisionStart, ProvisionOutput, ProvisionComplete, ProvisionErrored}
 use Rattle.apply_model.specs.Plan.StepKind.{is_kind}
 use Rattle.apply_events.specs.Totals.{completes, is_complete, totals_of}
-use Rattle.apply_laws.specs.Lines.{tells_of_completion}
+use Rattle.apply_text.specs.Laws.{tells_of_completion}
 use Rattle.apply_text.specs.Message.{event_message}
 
 tells : (change : ResourceChange) (step : StepKind) (outcome : Outcome) (what : What) → bytes_eq (event_message change step outcome what).type_name (codes "apply_complete") ≡ is_complete what

@@ -2,7 +2,6 @@ mod Completions
 mod Durations
 mod Ends
 mod EventsFit
-mod Feeds
 mod FirstHalting
 mod LaneLines
 mod Latest

@@ -10,7 +10,7 @@ ghost use Rattle.apply_events.specs.OfWorker.{of_worker};
 ghost use Rattle.apply_events.specs.Totals.{totals_of};
 ghost use Rattle.apply_text.specs.Elapsed.{elapsed_of};
 ghost use Rattle.apply_text.specs.Latest.{latest_of};
-ghost use Rattle.apply_laws.specs.Lines.{line_feeds, tells_of_completion};
+ghost use Rattle.apply_text.specs.Laws.{line_feeds, tells_of_completion};
 ghost use Rattle.apply_text.specs.Lines.{line_of};
 ghost use Rattle.apply_text.specs.Order.{as_written, hook_messages_of};
 

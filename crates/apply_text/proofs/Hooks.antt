@@ -6,11 +6,11 @@ use Rattle.serde_json.specs.Written.{members_outline}
 use Rattle.apply_text.specs.Objects.{elapsed_member, id_members, output_member}
 use Rattle.apply_text.specs.Sending.{elapsed_tokens, id_tokens, output_tokens}
 
-elapsed_first : (elapsed : Option ℕ) (others : Members) → elapsed_tokens elapsed ++ members_tokens (members_outline others) ≡ members_tokens (members_outline (elapsed_member elapsed others))
+pub elapsed_first : (elapsed : Option ℕ) (others : Members) → elapsed_tokens elapsed ++ members_tokens (members_outline others) ≡ members_tokens (members_outline (elapsed_member elapsed others))
 elapsed_first None others = refl
 elapsed_first (Some seconds) others = refl
 
-id_first : (id : Option (List ℕ)) (others : Members) → id_tokens id ++ members_tokens (members_outline others) ≡ members_tokens (members_outline (id_members id others))
+pub id_first : (id : Option (List ℕ)) (others : Members) → id_tokens id ++ members_tokens (members_outline others) ≡ members_tokens (members_outline (id_members id others))
 id_first None others = refl
 id_first (Some id) others = refl
 

@@ -1,8 +1,9 @@
 mod CachedTexts
 mod Dates
-mod Hooks
-mod LinesAdded
-mod Moments
+pub mod Feeds
+pub mod Hooks
+pub mod LinesAdded
+pub mod Moments
 mod Progress
-mod Sending
-mod Texts
+pub mod Sending
+pub mod Texts

@@ -3,6 +3,7 @@ pub mod CachedParts
 pub mod Calendar
 pub mod Elapsed
 pub mod Latest
+pub mod Laws
 pub mod Lines
 pub mod Message
 pub mod Moment

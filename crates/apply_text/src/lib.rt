@@ -10,6 +10,7 @@ mod messages;
 mod moment_error;
 mod objects;
 mod operation;
+pub mod parts;
 mod start;
 mod step_words;
 

@@ -92,8 +92,8 @@ pub fn put_event(
     end_message(out, type_name(what))
 }
 
-/// What is said of an event.
-fn say_event(scratch: &mut String, step: AppliedStep<'_>, what: What) -> Result<(), AllocError>
+/// Puts what is said of an event into `scratch`, in the place of what stood there. `Err` where memory is refused.
+pub fn say_event(scratch: &mut String, step: AppliedStep<'_>, what: What) -> Result<(), AllocError>
     ensures { OnOk result (string_bytes scratch.new ≡ (message_of step.entry what).text) }
 {
     let address = step.change.address();
@@ -152,7 +152,7 @@ fn say_event(scratch: &mut String, step: AppliedStep<'_>, what: What) -> Result<
 }
 
 /// The level of the message of an event.
-fn level(what: What) -> &'static str
+pub fn level(what: What) -> &'static str
     ensures { (step : AppliedStep) → result.now ≡ (message_of step what).level }
 {
     match what {
@@ -165,7 +165,7 @@ fn level(what: What) -> &'static str
 }
 
 /// The type of the message of an event.
-fn type_name(what: What) -> &'static str
+pub fn type_name(what: What) -> &'static str
     ensures { (step : AppliedStep) → result.now ≡ (message_of step what).type_name }
 {
     match what {

@@ -14,7 +14,7 @@ pub enum Operation {
 
 impl Operation {
     /// The member `operation` of a summary.
-    pub(crate) fn word(self) -> &'static str
+    pub fn word(self) -> &'static str
         ensures { result.now ≡ operation_word self }
     {
         match self {

@@ -65,7 +65,7 @@ impl Start {
     }
 
     /// The seconds since 1970-01-01T00:00:00Z.
-    pub(crate) fn seconds(self) -> u64
+    pub fn seconds(self) -> u64
         ensures value { result ≡ self }
         ensures in_range { result < end_of_starts }
     {

@@ -13,7 +13,7 @@ pub(super) const REFUSED_PLANS: &str = r#" => the plan is not JSON
 [] => the plan is not a plan of format 1.x
 {"format_version":"2.0"} => the plan is not a plan of format 1.x
 {"format_version":"1.0","resource_changes":[5]} => change 0 is malformed
-{"format_version":"1.0","resource_changes":[{"address":"a.b","mode":"managed","type":"a","name":"b","change":{"actions":["forget"]}}]} => change 0 has an action list that is out of scope
+{"format_version":"1.0","resource_changes":[{"address":"a.b","mode":"managed","type":"a","name":"b","change":{"actions":["remove"]}}]} => change 0 has an action list that is out of scope
 {"format_version":"1.0","resource_changes":[{"address":"","mode":"managed","type":"a","name":"b","change":{"actions":["create"]}}]} => change 0 has an address that does not fit its module
 {"format_version":"1.0","resource_changes":[{"address":"a.b","mode":"managed","type":"a","name":"b","change":{"actions":["create"]}},{"address":"a.b","mode":"managed","type":"a","name":"b","change":{"actions":["no-op"]}}]} => change 1 repeats an earlier change"#;
 

@@ -13,7 +13,8 @@ const WORKED: &str =
 ["update"] => [{"seconds":0,"id":"i-1","warning":{"summary":"slow"}}] => 0 step 0 Start; 0 step 0 Complete(0); 0 step 0 WarnNote;
 ["delete","create"] => [{"seconds":1,"warning":{"summary":"slow"}},{"seconds":2}] => 0 step 0 Start; 1 step 0 Complete(1); 1 step 0 WarnNote; 1 step 1 Start; 3 step 1 Complete(2);
 ["read"] => [] => 0 step 0 Start; 0 step 0 Complete(0);
-["no-op"] => [] => "#;
+["no-op"] => [] => 
+["forget"] => [] => "#;
 
 #[test]
 fn worked_changes(rt: HostRuntime) {

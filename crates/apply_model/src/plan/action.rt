@@ -22,6 +22,8 @@ pub enum Action {
     DeleteThenCreate,
     /// A replacement: making the new one, and then destroying the old one.
     CreateThenDelete,
+    /// Leaving the object as it is, and no longer tracking it.
+    Forget,
 }
 
 impl Action {
@@ -30,7 +32,7 @@ impl Action {
         ensures { result.now ≡ steps_of_action self }
     {
         match self {
-            Action::NoOp => &[],
+            Action::NoOp | Action::Forget => &[],
             Action::Create => &[StepKind::Create],
             Action::Read => &[StepKind::Read],
             Action::Update => &[StepKind::Update],

@@ -39,7 +39,7 @@ few_actions = trimmed_items plan_selection shape.Scalar (Some 3)
 same_steps : (actions : Items) → steps_of_actions (few_actions actions) ≡ steps_of_actions actions
 same_steps no_items = refl
 same_steps (item one no_items) =
-    rw (is_word_trimmed plan_selection shape.Scalar (codes "no-op") one, is_word_trimmed plan_selection shape.Scalar (codes "create") one, is_word_trimmed plan_selection shape.Scalar (codes "read") one, is_word_trimmed plan_selection shape.Scalar (codes "update") one, is_word_trimmed plan_selection shape.Scalar (codes "delete") one) refl
+    rw (is_word_trimmed plan_selection shape.Scalar (codes "no-op") one, is_word_trimmed plan_selection shape.Scalar (codes "create") one, is_word_trimmed plan_selection shape.Scalar (codes "read") one, is_word_trimmed plan_selection shape.Scalar (codes "update") one, is_word_trimmed plan_selection shape.Scalar (codes "delete") one, is_word_trimmed plan_selection shape.Scalar (codes "forget") one) refl
 same_steps (item one (item two no_items)) =
     rw (is_word_trimmed plan_selection shape.Scalar (codes "delete") one, is_word_trimmed plan_selection shape.Scalar (codes "create") two, is_word_trimmed plan_selection shape.Scalar (codes "create") one, is_word_trimmed plan_selection shape.Scalar (codes "delete") two) refl
 same_steps (item one (item two (item three others))) = refl

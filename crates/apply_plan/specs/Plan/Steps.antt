@@ -13,6 +13,7 @@ steps_alone action =
     else if is_word (codes "read") action then Some (Read ∷ [])
     else if is_word (codes "update") action then Some (Update ∷ [])
     else if is_word (codes "delete") action then Some (Delete ∷ [])
+    else if is_word (codes "forget") action then Some []
     else None
 
 -- of a replacement
@@ -22,7 +23,7 @@ steps_together first second =
     else if is_word (codes "create") first && is_word (codes "delete") second then Some (Create ∷ Delete ∷ [])
     else None
 
--- the steps of an action list; none where it is not one of the seven
+-- the steps of an action list; none where it is not one of the eight
 abbrev pub steps_of_actions : Items → Option (List StepKind)
 steps_of_actions no_items = None
 steps_of_actions (item action no_items) = steps_alone action

@@ -9,7 +9,7 @@ use apply_json::members::is_text;
 use apply_model::Action;
 use serde_json::Value;
 
-/// The action that a list of actions means. `None` where the list is not one of the seven.
+/// The action that a list of actions means. `None` where the list is not one of the eight.
 pub fn action_of(actions: &[Value]) -> Option<Action>
     ensures { option_map steps_of_action result ≡ steps_of_actions (items_view actions.now) }
 {
@@ -33,6 +33,8 @@ fn alone(action: &Value) -> Option<Action>
         Some(Action::Update)
     } else if is_text(action, "delete") {
         Some(Action::Delete)
+    } else if is_text(action, "forget") {
+        Some(Action::Forget)
     } else {
         None
     }

@@ -27,7 +27,7 @@ pub enum PlanError {
     /// A member of the element is missing, or is not what it has to be.
     #[error("change {0} is malformed")]
     BadChange(u32),
-    /// The element's `actions` are none of the seven lists that are in scope.
+    /// The element's `actions` are none of the eight lists that are in scope.
     #[error("change {0} has an action list that is out of scope")]
     BadActions(u32),
     /// The element's `address` is empty, or does not begin with its `module_address`, a dot and something more.

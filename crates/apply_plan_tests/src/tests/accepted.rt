@@ -134,6 +134,7 @@ const STEPS: &str = r#"
 ["delete"] => [Delete]
 ["delete","create"] => [Delete, Create]
 ["create","delete"] => [Create, Delete]
+["forget"] => []
 "#;
 
 #[test]

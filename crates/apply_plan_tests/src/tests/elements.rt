@@ -176,7 +176,7 @@ fn an_index_is_a_text_or_a_whole_number(rt: HostRuntime) {
 }
 
 const ACTIONS: &str = r#"
-change => {"actions":["forget"]} => change 0 has an action list that is out of scope
+change => {"actions":["remove"]} => change 0 has an action list that is out of scope
 change => {"actions":[]} => change 0 has an action list that is out of scope
 change => {"actions":["create","create"]} => change 0 has an action list that is out of scope
 change => {"actions":[1]} => change 0 has an action list that is out of scope
@@ -186,6 +186,7 @@ change => {"actions":[""]} => change 0 has an action list that is out of scope
 change => {"actions":["no-op","create"]} => change 0 has an action list that is out of scope
 change => {"actions":["delete","create","delete"]} => change 0 has an action list that is out of scope
 change => {"actions":["create","forget"]} => change 0 has an action list that is out of scope
+change => {"actions":["forget","forget"]} => change 0 has an action list that is out of scope
 change => {"actions":[["create"]]} => change 0 has an action list that is out of scope
 "#;
 
@@ -211,8 +212,8 @@ fn an_element_is_an_object(rt: HostRuntime) {
 const ELEMENTS: &str = r#"
 usual => {"address":"a.a","mode":"managed","type":"a","name":"a","change":{"actions":["create"]}}
 misplaced => {"address":"a.b","module_address":"module.c","mode":"managed","type":"a","name":"b","change":{"actions":["create"]}}
-malformed => {"address":"a.b","mode":"x","type":"a","name":"b","change":{"actions":["forget"]}}
-out_of_scope => {"address":"a.b","module_address":"module.c","mode":"managed","type":"a","name":"b","change":{"actions":["forget"]}}
+malformed => {"address":"a.b","mode":"x","type":"a","name":"b","change":{"actions":["remove"]}}
+out_of_scope => {"address":"a.b","module_address":"module.c","mode":"managed","type":"a","name":"b","change":{"actions":["remove"]}}
 malformed_again => {"address":"a.a","mode":"x","type":"a","name":"a","change":{"actions":["create"]}}
 out_of_scope_again => {"address":"a.a","mode":"managed","type":"a","name":"a","change":{"actions":[]}}
 misplaced_again => {"address":"a.a","module_address":"b","mode":"managed","type":"a","name":"a","change":{"actions":["create"]}}

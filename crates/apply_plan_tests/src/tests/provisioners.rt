@@ -275,6 +275,7 @@ fn only_a_create_has_provisioners(rt: HostRuntime) {
     steps_are_answered(&rt, alloc, r#""delete","create""#, TO_DELETE_FIRST);
     steps_are_answered(&rt, alloc, r#""create","delete""#, TO_CREATE_FIRST);
     steps_are_answered(&rt, alloc, r#""no-op""#, TO_NOTHING);
+    steps_are_answered(&rt, alloc, r#""forget""#, TO_NOTHING);
 }
 
 /// Steps of a replacement by their faults, where the faults of a later step may come first.

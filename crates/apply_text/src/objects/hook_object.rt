@@ -34,7 +34,7 @@ pub fn put_hook(
 }
 
 /// Writes the member `elapsed_seconds`, where they are told.
-fn put_elapsed(out: &mut Writer, elapsed: Option<u32>) -> Result<(), AllocError>
+pub fn put_elapsed(out: &mut Writer, elapsed: Option<u32>) -> Result<(), AllocError>
     ensures { Sends result out.old out.new (elapsed_tokens elapsed) }
 {
     match elapsed {
@@ -44,7 +44,7 @@ fn put_elapsed(out: &mut Writer, elapsed: Option<u32>) -> Result<(), AllocError>
 }
 
 /// Writes the two members of an id, where it is told.
-fn put_id(out: &mut Writer, id: Option<&str>) -> Result<(), AllocError>
+pub fn put_id(out: &mut Writer, id: Option<&str>) -> Result<(), AllocError>
     ensures { Sends result out.old out.new (id_tokens (option_copied id.entry)) }
 {
     match id {

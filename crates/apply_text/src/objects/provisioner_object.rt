@@ -30,7 +30,7 @@ pub fn put_provisioner(
 }
 
 /// Writes the member `output`, where there is one.
-fn put_output(out: &mut Writer, output: Option<&str>) -> Result<(), AllocError>
+pub fn put_output(out: &mut Writer, output: Option<&str>) -> Result<(), AllocError>
     ensures { Sends result out.old out.new (output_tokens (option_copied output.entry)) }
 {
     match output {
