@@ -1,3 +1,5 @@
+mod AcceptedPlans
+mod AlikePlans
 mod Completions
 mod Durations
 mod Ends
@@ -6,7 +8,7 @@ mod Feeds
 mod FirstHalting
 mod LaneLines
 mod Latest
-mod Plans
 mod ProvisionsFit
+mod RelativeAddresses
 mod TimeLines
 mod WrittenOrder
