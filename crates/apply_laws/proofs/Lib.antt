@@ -1,3 +1,5 @@
+mod AcceptedPlans
+mod AlikePlans
 mod Completions
 mod Durations
 mod Ends
@@ -5,7 +7,7 @@ mod EventsFit
 mod FirstHalting
 mod LaneLines
 mod Latest
-mod Plans
 mod ProvisionsFit
+mod RelativeAddresses
 mod TimeLines
 mod WrittenOrder

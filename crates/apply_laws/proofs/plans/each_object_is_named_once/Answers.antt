@@ -1,4 +1,4 @@
-use Rattle.apply_laws.proofs.Plans.AcceptedPlans.{each_once}
+use Rattle.apply_laws.proofs.AcceptedPlans.{each_once}
 use Rattle.apply_laws.proofs.plans.each_object_is_named_once.Goals as goal
 
 pub returns : goal.returns

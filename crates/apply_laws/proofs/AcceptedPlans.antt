@@ -22,7 +22,7 @@ use Rattle.apply_plan.specs.Plan.Steps.{steps_of_actions}
 use Rattle.apply_json.specs.Tree.{list_of, tree_of}
 use Rattle.apply_plan.specs.Bytes.{max_bytes}
 use Rattle.apply_plan.specs.Results.{or_refuse}
-use Rattle.apply_laws.proofs.Plans.Relative.{relative_joins}
+use Rattle.apply_laws.proofs.RelativeAddresses.{relative_joins}
 use Rattle.apply_plan.proofs.Results.{bind_ok, done, guard_ok, ok_is, or_refuse_ok}
 use Rattle.apply_plan.proofs.Plans.WholeList.{changes_one_by_one}
 
