@@ -9,6 +9,7 @@ mod limits;
 mod malformed;
 mod reading;
 mod rest;
+mod said_first;
 mod shown;
 
 use apply_check::{

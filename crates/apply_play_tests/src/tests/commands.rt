@@ -2,14 +2,15 @@
 
 use super::*;
 
-/// Fails where playing the bytes, behind which the reader fails, into a writer with that room ends otherwise: with that
-/// status, so many bytes written, and that text.
+/// Fails where playing the bytes, behind which the reader fails, into a writer with that room that fails so ends otherwise:
+/// with that status, so many bytes written, and that text.
 fn ends_with(
     rt: &impl Abort,
     alloc: Global,
     bytes: &[u8],
     is_broken: bool,
     room: usize,
+    kind: ErrorKind,
     status: u8,
     said: &str,
 ) {
@@ -25,6 +26,7 @@ fn ends_with(
         taken: Vec::new(alloc),
         most: 1,
         room,
+        kind,
     };
     let mut faults = Vec::new(alloc);
     let outcome = play_input(
@@ -52,17 +54,22 @@ fn reader_that_fails(rt: HostRuntime) {
         UPDATE.as_bytes(),
         true,
         usize::MAX,
+        ErrorKind::StorageFull,
         2,
         said,
     );
 }
 
-/// At each byte of the first two lines.
+/// At each byte of the whole output. Nothing is said where the reader of the output is gone.
 #[test]
 fn writer_that_fails(rt: HostRuntime) {
+    let bytes = UPDATE.as_bytes();
     let said = "applystream: the output could not be written\n";
-    for room in 0..112usize {
-        ends_with(&rt, rt.alloc(), UPDATE.as_bytes(), false, room, 3, said);
+    for room in 0..bytes.len() {
+        let full = ErrorKind::StorageFull;
+        ends_with(&rt, rt.alloc(), bytes, false, room, full, 3, said);
+        let gone = ErrorKind::BrokenPipe;
+        ends_with(&rt, rt.alloc(), bytes, false, room, gone, 3, "");
     }
 }
 
@@ -90,14 +97,17 @@ fn line_that_is_too_long(rt: HostRuntime) {
     assert_eq!(rt; faults.as_slice(), said.as_bytes());
 }
 
-/// Fails where the word ends otherwise than with that status and a text that begins so.
-fn word_gets(
+/// Fails where the word ends otherwise than with that status and a text that begins so, or leaves another number of bytes of the
+/// input, which is a terminal or not.
+fn word_leaves(
     rt: &impl Abort,
     files: &impl Files,
     alloc: Global,
     word: &str,
+    is_terminal: bool,
     status: u8,
     wanted: &str,
+    left: usize,
 ) {
     let mut words = Vec::new(alloc);
     words
@@ -112,21 +122,31 @@ fn word_gets(
         &world,
         alloc,
         &words,
-        false,
+        is_terminal,
         &mut input,
         &mut out,
         &mut faults,
     );
-    assert_eq!(rt; found, status);
+    assert_eq!(rt; found.status, status);
     let said = if status == 0 {
         out.as_slice()
     } else {
         faults.as_slice()
     };
     assert!(rt; said.starts_with(wanted.as_bytes()));
-    if status > 0 {
-        assert!(rt; input.is_empty());
-    }
+    assert_eq!(rt; input.len(), left);
+}
+
+/// The same of an input that is no terminal, and is read to its end.
+fn word_gets(
+    rt: &impl Abort,
+    files: &impl Files,
+    alloc: Global,
+    word: &str,
+    status: u8,
+    wanted: &str,
+) {
+    word_leaves(rt, files, alloc, word, false, status, wanted, 0);
 }
 
 #[test]
@@ -134,7 +154,8 @@ fn words(rt: HostRuntime) {
     let alloc = rt.alloc();
     word_gets(&rt, &rt, alloc, "-", 0, "a\n");
     word_gets(&rt, &rt, alloc, "--speed=86400", 0, "a\n");
-    word_gets(&rt, &rt, alloc, "--help", 0, "Writes a stream");
+    let help = "Writes a stream";
+    word_leaves(&rt, &rt, alloc, "--help", false, 0, help, 2);
     word_gets(&rt, &rt, alloc, "--speed=0", 2, "error: ");
     word_gets(&rt, &rt, alloc, "--speed=86401", 2, "error: ");
     word_gets(
@@ -153,4 +174,15 @@ fn words(rt: HostRuntime) {
         2,
         "applystream: the file no such file could not be opened: ",
     );
+}
+
+/// At a terminal, at which nobody writes, refused words and a file that can't be opened leave the input as it is; so does a file
+/// that can't be read, as a folder, which is what was to be read.
+#[test]
+fn input_that_is_left_alone(rt: HostRuntime) {
+    let alloc = rt.alloc();
+    let folder = "applystream: the file . could not be read: ";
+    word_leaves(&rt, &rt, alloc, "--fast", true, 2, "error: ", 2);
+    word_leaves(&rt, &rt, alloc, "no", true, 2, "applystream: ", 2);
+    word_leaves(&rt, &rt, alloc, ".", false, 2, folder, 2);
 }

@@ -30,6 +30,7 @@ fn play_bytes(
         taken: Vec::new(alloc),
         most,
         room: usize::MAX,
+        kind: ErrorKind::StorageFull,
     };
     let answer = play(alloc, world, Speed::new(speed), &mut reader, &mut taker);
     Played {

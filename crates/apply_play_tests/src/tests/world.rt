@@ -123,13 +123,14 @@ impl Read for Pieces<'_> {
     }
 }
 
-/// A writer that takes at most so many bytes at once, and fails behind so many.
+/// A writer that takes at most so many bytes at once, and fails so behind so many.
 #[derive(Drop)]
 pub(super) struct Taker<'a> {
     pub world: &'a World,
     pub taken: Vec<u8>,
     pub most: usize,
     pub room: usize,
+    pub kind: ErrorKind,
 }
 
 impl Write for Taker<'_> {
@@ -137,7 +138,7 @@ impl Write for Taker<'_> {
         let left = self.room.saturating_sub(self.taken.len());
         let count = self.most.min(left).min(buf.len());
         if count == 0 && !buf.is_empty() {
-            return Err(io::Error::from(ErrorKind::StorageFull));
+            return Err(io::Error::from(self.kind));
         }
         self.taken.extend_from_slice(&buf[..count])?;
         self.world
