@@ -1,6 +1,6 @@
 -- What is in no line.
 use Rattle.std.proofs.Common.{◌≡◌, ℕ, ◌+◌, ◌==◌, List, [], ◌∷◌, ◌++◌, codes, cond, drop, length, map, Bool, true, false, refl, sym, ap, ap₂, ◌∙◌, arith}
-use Rattle.std.specs.Prelude.{◌&&◌, ◌||◌, count_by, if◌then◌else◌, decimal}
+use Rattle.std.specs.Prelude.{◌&&◌, ◌||◌, decimal}
 use Rattle.std.proofs.lemmas.List.Sums.{sum_by-append}
 use Rattle.json.specs.Print.{quoted}
 use Rattle.serde_json.specs.Data.{Data}

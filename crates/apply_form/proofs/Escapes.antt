@@ -1,9 +1,8 @@
 -- What escapes do to a text, byte by byte.
-use Rattle.std.proofs.Common.{◌≡◌, ◌≢◌, ℕ, ◌<◌, ◌==◌, List, [], ◌∷◌, ◌++◌, codes, cond, drop, take, length, not, Bool, true, false, refl, sym, ap, ◌∙◌, arith}
-use Rattle.std.specs.Prelude.{◌&&◌, ◌||◌, slice_index}
+use Rattle.std.proofs.Common.{◌≡◌, ℕ, ◌==◌, List, [], ◌∷◌, Bool, true, false, refl, ap}
+use Rattle.std.specs.Prelude.{◌||◌}
 use Rattle.std.specs.List.{list_any}
-use Rattle.std.proofs.lemmas.Bool.{eqb-true, ne_eqb}
-use Rattle.apply_form.specs.Escapes.{begins_with, escaped, escaped_onto, is_special}
+use Rattle.apply_form.specs.Escapes.{escaped, is_special}
 
 -- a text in which no byte is the begin of something with an escape
 pub plain : (text : List ℕ) → list_any is_special text ≡ false → escaped text ≡ text

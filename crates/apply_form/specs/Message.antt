@@ -15,7 +15,6 @@ use Rattle.apply_events.specs.declared.what.What.{What}
 use Rattle.apply_events.specs.declared.what.What.TheVariants.{Start, Progress, Complete, Errored, ErrorNote, WarnNote, Halted, ProvisionStart, ProvisionOutput, ProvisionComplete, ProvisionErrored}
 use Rattle.apply_text.specs.declared.operation.Operation.{Operation}
 use Rattle.apply_text.specs.declared.operation.Operation.TheVariants.{Apply, Destroy}
-use Rattle.apply_text.specs.Message as messages
 use Rattle.apply_text.specs.Message.{Message, complete_message, error_message, errored_message, halt_of, name_of, output_of, progress_message, provision_complete_message, provision_errored_message, provision_output_message, provision_start_message, start_id, start_message, told_failure, told_id, totals_text, warning_message, warning_of}
 use Rattle.apply_form.specs.declared.change_details.ChangeDetails.{ChangeDetails}
 use Rattle.apply_form.specs.declared.plan_note.PlanNote.{PlanNote}

@@ -1,7 +1,6 @@
 use Rattle.std.proofs.Common.{refl}
 use Rattle.apply_text.specs.Lines.{message_object}
 use Rattle.apply_text.proofs.Sending.{same_head, then, then_said}
-use Rattle.apply_text.proofs.Texts.{cleared}
 use Rattle.apply_form.proofs.Texts.{planned_text}
 use Rattle.apply_form.proofs.messages.put_planned.Goals as goal
 

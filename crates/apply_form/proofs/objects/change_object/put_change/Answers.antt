@@ -1,5 +1,4 @@
 use Rattle.std.proofs.Common.{codes, ap, option_map, ◌∷◌, ◌++◌}
-use Rattle.std.specs.Option.{option_copied}
 use Rattle.json.specs.Token.{begin_object, key}
 use Rattle.serde_json.specs.Data.{string}
 use Rattle.apply_text.specs.Sending.{member_tokens}
