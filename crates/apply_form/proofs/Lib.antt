@@ -1,0 +1,7 @@
+pub mod Absent
+pub mod Escapes
+pub mod Events
+pub mod LinesAdded
+pub mod Members
+pub mod Moments
+pub mod Texts

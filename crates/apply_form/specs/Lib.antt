@@ -1,0 +1,10 @@
+pub mod AppliedStep
+pub mod Details
+pub mod Escapes
+pub mod Laws
+pub mod Lines
+pub mod Message
+pub mod Moment
+pub mod Objects
+pub mod Outputs
+pub mod Sending

@@ -1,0 +1,282 @@
+//! A buffer of lines.
+
+ghost use Rattle.std.specs.Prelude.{◌≡◌, ◌≤◌, ◌+◌, ◌++◌, [], IfOk, IsOk, OnOk, OnErr};
+ghost use Rattle.std.specs.Option.{option_copied};
+ghost use Rattle.json.specs.Print.{print};
+ghost use Rattle.apply_events.specs.Fits.{HasStep, last_moment};
+ghost use Rattle.apply_form.specs.AppliedStep.{message_of};
+ghost use Rattle.apply_form.specs.Lines.{event_text, line_of_text, message_line, note_text, outputs_text, planned_text, summary_text, version_text};
+ghost use Rattle.apply_form.specs.Message.{is_silent as is_silent_event, planned_message};
+
+use crate::change_details::ChangeDetails;
+use crate::escaping::push_line;
+use crate::messages::{put_event, put_note, put_planned, put_summary, put_version};
+use crate::moment::FineMoment;
+use crate::output::Output;
+use crate::outputs::say_outputs;
+use crate::plan_note::PlanNote;
+use apply_events::{Counts, Event, What};
+use apply_model::{Change, Plan, Script, StepKind};
+use apply_text::parts::AppliedStep;
+use apply_text::{Operation, Start};
+use json::Writer;
+use std::alloc::{AllocError, Global};
+use std::marker::Model;
+use std::mem::replace;
+
+/// How long a line is that needs no further growth.
+const LINE_LEN: usize = 1_024;
+
+/// How long the texts are that it may be put together of.
+const TEXT_LEN: usize = 256;
+
+/// Lines of a stream in Terraform's form, one behind the other. Room that was made once is kept.
+///
+/// Contracts see the bytes of the lines.
+#[derive(Drop)]
+pub struct FormBuffer {
+    alloc: Global,
+    bytes: Vec<u8>,
+    // A line before its escapes, and with them.
+    line: Vec<u8>,
+    told: Vec<u8>,
+    // The texts that a message is put together of, one after the other.
+    scratch: String,
+}
+
+impl Model for FormBuffer {
+    ghost use Rattle.std.specs.Prelude.{ℕ, List};
+
+    ghost Value = { List ℕ };
+
+    ghost view = { λ buffer. buffer.bytes.items };
+}
+
+impl FormBuffer {
+    /// No line, and no room: the first line makes it.
+    pub fn new(alloc: Global) -> FormBuffer
+        ensures { result ≡ [] }
+    {
+        FormBuffer {
+            alloc,
+            bytes: Vec::new(alloc),
+            line: Vec::new(alloc),
+            told: Vec::new(alloc),
+            scratch: String::new(alloc),
+        }
+    }
+
+    /// No line, and room for one of up to 1,024 bytes, whose texts have up to 256, without a further growth. `Err` where
+    /// memory is refused.
+    pub fn with_room(alloc: Global) -> Result<FormBuffer, AllocError>
+        ensures { IfOk result (λ buffer. buffer ≡ []) }
+    {
+        Ok(FormBuffer {
+            alloc,
+            bytes: Vec::with_capacity(alloc, LINE_LEN)?,
+            line: Vec::with_capacity(alloc, LINE_LEN)?,
+            told: Vec::with_capacity(alloc, LINE_LEN)?,
+            scratch: String::with_capacity(alloc, TEXT_LEN)?,
+        })
+    }
+
+    /// The lines.
+    pub fn as_bytes(&self) -> &[u8]
+        ensures { result.now ≡ self.now }
+    {
+        self.bytes.as_slice()
+    }
+
+    /// Drops the lines, and keeps the room.
+    pub fn clear(&mut self)
+        ensures { self.new ≡ [] }
+    {
+        self.bytes.clear();
+    }
+
+    /// Appends the first line of a stream: the version of Terraform that made the plan, at the start (Machine-Readable UI,
+    /// "Version Message"). `Err` where memory is refused; the lines are then as they were.
+    pub fn push_version(&mut self, plan: &Plan, start: Start) -> Result<(), AllocError>
+        ensures ok { OnOk result (self.new ≡ self.old ++ version_text plan.now start) }
+        ensures err { OnErr result (self.new ≡ self.old) }
+    {
+        let moment = FineMoment::new(start, 0);
+        let mut out = self.begin_line();
+        let written = put_version(&mut out, &mut self.scratch, &moment, plan.version());
+        self.end_line(out, written)
+    }
+
+    /// Appends the line of a planned change, at the start (Machine-Readable UI, "Planned Change"); nothing where the
+    /// change has no step and forgets nothing. `Err` where memory is refused; the lines are then as they were.
+    pub fn push_planned(
+        &mut self,
+        start: Start,
+        change: &Change,
+        details: &ChangeDetails,
+    ) -> Result<(), AllocError>
+        ensures ok { OnOk result (self.new ≡ self.old ++ planned_text start change.now details.now) }
+        ensures err { OnErr result (self.new ≡ self.old) }
+    {
+        match details.planned_word(change.steps()) {
+            Some(word) => self.push_word(start, change, word, details),
+            None => Ok(()),
+        }
+    }
+
+    /// Appends the line of an event, `latest` seconds after the start: the greatest moment of an event up to this one;
+    /// nothing where a read failed, of which no line tells. `planned` is the id that the object is to have, where it is
+    /// known. `Err` where memory is refused; the lines are then as they were.
+    pub fn push_event(
+        &mut self,
+        plan: &Plan,
+        script: &Script,
+        start: Start,
+        latest: u64,
+        planned: Option<&str>,
+        event: &Event,
+    ) -> Result<(), AllocError>
+        requires has_step { HasStep plan.now event.now.change event.now.step }
+        requires in_time { latest ≤ last_moment }
+        ensures ok { OnOk result
+            (self.new ≡ self.old ++ event_text plan.now script.now start latest (option_copied planned.entry) event.now) }
+        ensures err { OnErr result (self.new ≡ self.old) }
+    {
+        let change = plan.change(event.change);
+        let step = AppliedStep {
+            change,
+            kind: change.steps()[event.step as usize],
+            outcome: script.outcome(event.change, event.step),
+        };
+        if is_silent(step.kind, event.what) {
+            return Ok(());
+        }
+        self.push_step(start, latest, step, planned, event.what)
+    }
+
+    /// Appends what is said of a plan as a whole, `latest` seconds after the start (Machine-Readable UI, "Diagnostic").
+    /// `Err` where memory is refused; the lines are then as they were.
+    pub fn push_note(&mut self, start: Start, latest: u64, note: PlanNote) -> Result<(), AllocError>
+        requires in_time { latest ≤ last_moment }
+        ensures ok { OnOk result (self.new ≡ self.old ++ note_text start latest note) }
+        ensures err { OnErr result (self.new ≡ self.old) }
+    {
+        let moment = FineMoment::new(start, latest);
+        let mut out = self.begin_line();
+        let written = put_note(&mut out, &mut self.scratch, &moment, note);
+        self.end_line(out, written)
+    }
+
+    /// Appends the line of how much was completed, and how many changes import (Machine-Readable UI, "Change Summary"),
+    /// `latest` seconds after the start. `Err` where memory is refused; the lines are then as they were.
+    pub fn push_summary(
+        &mut self,
+        start: Start,
+        latest: u64,
+        operation: Operation,
+        counts: &Counts,
+        imported: u64,
+    ) -> Result<(), AllocError>
+        requires in_time { latest ≤ last_moment }
+        ensures ok { OnOk result
+            (self.new ≡ self.old ++ summary_text start latest operation counts.now imported) }
+        ensures err { OnErr result (self.new ≡ self.old) }
+    {
+        let moment = FineMoment::new(start, latest);
+        let mut out = self.begin_line();
+        let written = put_summary(
+            &mut out,
+            &mut self.scratch,
+            &moment,
+            operation,
+            counts,
+            imported,
+        );
+        self.end_line(out, written)
+    }
+
+    /// Appends the line of the outputs, in the order in which they come (Machine-Readable UI, "Outputs"), `latest` seconds
+    /// after the start. `Err` where memory is refused; the lines are then as they were.
+    pub fn push_outputs(
+        &mut self,
+        start: Start,
+        latest: u64,
+        outputs: &[Output],
+    ) -> Result<(), AllocError>
+        requires in_time { latest ≤ last_moment }
+        ensures ok { OnOk result (self.new ≡ self.old ++ outputs_text start latest outputs.now) }
+        ensures err { OnErr result (self.new ≡ self.old) }
+    {
+        let moment = FineMoment::new(start, latest);
+        say_outputs(self.alloc, &mut self.scratch, &moment, outputs)?;
+        push_line(&mut self.bytes, &mut self.told, self.scratch.as_bytes())
+    }
+
+    /// Appends the line of a change that is planned in that word.
+    fn push_word(
+        &mut self,
+        start: Start,
+        change: &Change,
+        word: &str,
+        details: &ChangeDetails,
+    ) -> Result<(), AllocError>
+        ensures ok { OnOk result
+            (self.new ≡ self.old ++ message_line start (planned_message change.now word.now details.now)) }
+        ensures err { OnErr result (self.new ≡ self.old) }
+    {
+        let moment = FineMoment::new(start, 0);
+        let mut out = self.begin_line();
+        let written = put_planned(&mut out, &mut self.scratch, &moment, change, word, details);
+        self.end_line(out, written)
+    }
+
+    /// Appends the line of an event of a step.
+    fn push_step(
+        &mut self,
+        start: Start,
+        latest: u64,
+        step: AppliedStep<'_>,
+        planned: Option<&str>,
+        what: What,
+    ) -> Result<(), AllocError>
+        requires { latest ≤ last_moment }
+        ensures ok { OnOk result (self.new
+            ≡ self.old ++ message_line (start + latest) (message_of step.entry (option_copied planned.entry) what)) }
+        ensures err { OnErr result (self.new ≡ self.old) }
+    {
+        let moment = FineMoment::new(start, latest);
+        let mut out = self.begin_line();
+        let written = put_event(&mut out, &mut self.scratch, &moment, step, planned, what);
+        self.end_line(out, written)
+    }
+
+    /// A writer of a line.
+    fn begin_line(&mut self) -> Writer
+        ensures before { result.before ≡ [] }
+        ensures tokens { result.tokens ≡ [] }
+        ensures lines { self.new ≡ self.old }
+    {
+        let mut line = replace(&mut self.line, Vec::new(self.alloc));
+        line.clear();
+        Writer::new(line)
+    }
+
+    /// Appends the line, where all of it was written, and takes its room back.
+    fn end_line(&mut self, out: Writer, written: Result<(), AllocError>) -> Result<(), AllocError>
+        requires { out.before ≡ [] }
+        ensures ok { OnOk result (IsOk written × (self.new ≡ self.old ++ line_of_text (print out.tokens))) }
+        ensures err { OnErr result (self.new ≡ self.old) }
+    {
+        self.line = out.into_inner();
+        match written {
+            Ok(()) => push_line(&mut self.bytes, &mut self.told, self.line.as_slice()),
+            Err(refused) => Err(refused),
+        }
+    }
+}
+
+/// Whether no line tells of the event of such a step: of a read that fails only its diagnostic does.
+fn is_silent(step: StepKind, what: What) -> bool
+    ensures { result ≡ is_silent_event step what }
+{
+    matches!((step, what), (StepKind::Read, What::Errored(_)))
+}

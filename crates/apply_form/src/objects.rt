@@ -1,0 +1,9 @@
+//! The JSON objects of messages, written token by token into the buffer of a line.
+
+pub mod change_object;
+pub mod changes_object;
+pub mod diagnostic_object;
+pub mod hook_object;
+pub mod provisioner_object;
+pub mod resource_object;
+pub mod text_member;
