@@ -15,7 +15,7 @@ small bytes plan is =
     ⊎_elim (λ (long : max_bytes < length bytes). let refused = too_large bytes long in absurd cc) (λ (short : length bytes ≤ max_bytes). short) (cases_lt max_bytes (length bytes))
 
 -- the limit stands as a variable, so that no tactic counts up to it
-whole_by : (limit : ℕ) (all bytes : List ℕ) → bytes ≡ take (limit + 1) all → length bytes ≤ limit → all ≡ bytes
+pub whole_by : (limit : ℕ) (all bytes : List ℕ) → bytes ≡ take (limit + 1) all → length bytes ≤ limit → all ≡ bytes
 whole_by limit all bytes front short =
     ⊎_elim
     (λ (long : limit < length all).

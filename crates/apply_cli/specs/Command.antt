@@ -1,8 +1,9 @@
 -- How the program has ended.
-use Rattle.std.specs.Prelude.{◌≡◌, ◌<◌, ◌↔◌, ◌⊎◌, ℕ, List, Option, IfSome, is_some, length}
+use Rattle.std.specs.Prelude.{◌≡◌, ◌<◌, ◌+◌, ◌↔◌, ◌⊎◌, ℕ, List, Option, None, Some, IfSome, length, take, ⊤}
 use Rattle.std.specs.List.{range_with_len}
 use Rattle.std.specs.Io.KnownBytes.{Appends}
 use mathlib.Core.List.{IsPrefix}
+use Rattle.apply_plan.specs.Bytes.{max_bytes}
 use Rattle.apply_plan.specs.Plan.SavedPlan.{SavedPlan}
 use Rattle.apply_plan.specs.Script.OutcomeMap.{OutcomeMap}
 use Rattle.apply_events.specs.declared.event.Event.{Event}
@@ -78,6 +79,24 @@ HasRefused given options before after =
 abbrev pub OfInput : (known : Option (List ℕ)) → (List ℕ → Type 0) → Type 0
 OfInput known P = (bytes : List ℕ) × P bytes × IfSome known (λ all. all ≡ bytes)
 
--- it is so of some bytes of a script, where there is a file of that name, and of none where there is none
-abbrev pub OfFile : (name : Option (List ℕ)) → (Option (List ℕ) → Type 0) → Type 0
-OfFile name P = (bytes : Option (List ℕ)) × P bytes × (is_some bytes ≡ is_some name)
+-- they are all bytes of a file that was opened, where it tells them
+abbrev pub IsWholeFile : {File : Type 0} → (remaining : File → Option (List ℕ)) → (bytes : List ℕ) → Type 0
+IsWholeFile {File = File} remaining bytes = (file : File) × IfSome (remaining file) (λ all. all ≡ bytes)
+
+-- they are those of a file that was opened, up to one more than a script may have
+abbrev pub IsFrontOfFile : {File : Type 0} → (remaining : File → Option (List ℕ)) → (bytes : List ℕ) → Type 0
+IsFrontOfFile {File = File} remaining bytes =
+    (file : File) × IfSome (remaining file) (λ all. bytes ≡ take (max_bytes + 1) all)
+
+-- there are bytes exactly where there is a name, and then it is so of them
+abbrev pub AreOfName : (IsOfFile : List ℕ → Type 0) → (name bytes : Option (List ℕ)) → Type 0
+AreOfName IsOfFile None None = ⊤
+AreOfName IsOfFile None (Some bytes) = ⊥
+AreOfName IsOfFile (Some name) None = ⊥
+AreOfName IsOfFile (Some name) (Some bytes) = IsOfFile bytes
+
+-- it is so of all bytes of a file that was opened, where a file is named, and of no bytes where none is; what such a file
+-- has to give, `remaining` says
+abbrev pub OfFile : {File : Type 0} → (remaining : File → Option (List ℕ)) → (name : Option (List ℕ))
+    → (Option (List ℕ) → Type 0) → Type 0
+OfFile remaining name P = (bytes : Option (List ℕ)) × P bytes × AreOfName (IsWholeFile remaining) name bytes

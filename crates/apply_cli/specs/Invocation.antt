@@ -34,20 +34,21 @@ given_of settings plan script =
 abbrev pub unfailed : Option (List ℕ) → Sight
 unfailed bytes = record { bytes = bytes; failed = 0 }
 
--- with what the words say, the plan of the input was applied, with some bytes of a script exactly where they name its
--- file, and the output has all of the stream behind the bytes that it had
-pub record WereApplied (words : List Text) (input before after : Option (List ℕ)) (status : ℕ) : Type 0 where
+-- with what the words say, the plan of the input was applied, with all bytes of a script's file exactly where they name one,
+-- and the output has all of the stream behind the bytes that it had; no write or flush has failed
+pub record WereApplied {File : Type 0} (remaining : File → Option (List ℕ)) (words : List Text) (input before : Option (List ℕ))
+    (after : Sight) (status : ℕ) : Type 0 where
   pub invocation : Invocation
   pub is_said : IsOfWords words invocation
-  pub applied : OfInput input (λ plan. OfFile invocation.settings.script (λ script.
+  pub applied : OfInput input (λ plan. OfFile remaining invocation.settings.script (λ script.
       HasAppliedAsAsked (given_of invocation.settings plan script) invocation.settings invocation.parallelism
-      (unfailed before) (unfailed after) status))
+      (unfailed before) after status))
 
--- so it was, but the output has a front of the stream; so many writes and flushes have failed
-pub record WereBegun (words : List Text) (input before after : Option (List ℕ)) : Type 0 where
+-- so it was, but the output has a front of the stream
+pub record WereBegun {File : Type 0} (remaining : File → Option (List ℕ)) (words : List Text) (input before : Option (List ℕ))
+    (after : Sight) : Type 0 where
   pub invocation : Invocation
   pub is_said : IsOfWords words invocation
-  pub failures : ℕ
-  pub begun : OfInput input (λ plan. OfFile invocation.settings.script (λ script.
+  pub begun : OfInput input (λ plan. OfFile remaining invocation.settings.script (λ script.
       HasBegunAsAsked (given_of invocation.settings plan script) invocation.settings invocation.parallelism
-      (unfailed before) (record { bytes = after; failed = failures })))
+      (unfailed before) after))

@@ -1,14 +1,15 @@
 //! What the words behind the program's name say is done, from the words to the exit status.
 
-ghost use Rattle.std.specs.Prelude.{◌≡◌, ◌<◌, ◌≤◌, ◌-◌, ◌^◌, ◌⊎◌, false, is_some, map, string_bytes, true, IfOk};
-ghost use Rattle.std.specs.Io.KnownBytes.{Appends, Keeps};
+ghost use Rattle.std.specs.Prelude.{◌≡◌, ◌<◌, ◌≤◌, ◌-◌, ◌^◌, ◌⊎◌, false, map, option_map, string_bytes, true, IfOk};
+ghost use Rattle.std.specs.Io.KnownBytes.{Keeps};
 ghost use Rattle.std.specs.Option.{option_copied};
 ghost use Rattle.apply_hooks.specs.Registry.{rules_of};
-ghost use Rattle.apply_cli.specs.Command.{OfFile, OfInput, sight_of};
-ghost use Rattle.apply_settings.specs.CommandLine.{AskForHelp, AskForHelpAlone, AskForVersionToo};
+ghost use Rattle.apply_cli.specs.Command.{AreOfName, IsFrontOfFile, OfFile, OfInput, sight_of};
+ghost use Rattle.apply_settings.specs.CommandLine.{AskForHelp, AskForHelpAlone};
 ghost use Rattle.apply_settings.specs.Halt.{hooks_of_halts, rules_of_halt};
-ghost use Rattle.apply_cli.specs.Invocation.{HasAppliedAsAsked, HasBegunAsAsked, WereApplied, WereBegun};
-ghost use Rattle.apply_cli.specs.Version.{AskForVersion, version_line};
+ghost use Rattle.apply_cli.specs.Invocation.{HasAppliedAsAsked, HasBegunAsAsked, WereApplied, WereBegun, unfailed};
+ghost use Rattle.apply_cli.specs.Status.{usage_status_of};
+ghost use Rattle.apply_cli.specs.Version.{AskForVersion, AskForVersionAlone, WasTold, WereToldVersion};
 
 use crate::answer::{answer_usage, report_hook};
 use crate::in_lanes::run_in_lanes;
@@ -45,57 +46,76 @@ pub fn given_words<R: Env + AllocGlobal>(rt: &R) -> Result<Vec<String>, Usage> {
 ///
 /// Words that ask for the version are answered as `answer_version` does, words that `read_invocation` refuses as `answer_usage`
 /// does, and all others as `follow_invocation` does. Where a write fails since the reader of the output is gone, nothing is
-/// said of it.
+/// said of it. Help that cannot be written is dropped, and no failure is counted for it.
 pub fn follow<F: Files, R: Read + Drop, W: Write + Drop, E: Write, T: Threads + Wait + Sync>(
     rt: &T,
     files: &F,
     alloc: Global,
     words: &[String],
     input: R,
-    mut output: W,
+    output: W,
     faults: &mut E,
-) -> (W, u8)
+) -> (StdSink<W>, u8)
     ensures version { AskForVersion (map string_bytes words.now)
-        → ((result.1 ≡ 0) × Appends (W.contents output) (W.contents result.0) version_line) ⊎ (result.1 ≡ 3) }
-
-    ensures applied { result.1 ≤ 1 →
-        WereApplied (map string_bytes words.now) (R.remaining input) (W.contents output) (W.contents result.0) result.1
-        ⊎ ((result.1 ≡ 0) × (AskForVersion (map string_bytes words.now)
-        ⊎ (AskForVersionToo (map string_bytes words.now) ⊎ AskForHelp (map string_bytes words.now)))) }
+        → WasTold (unfailed (W.contents output)) (sight_of W.contents result.0) result.1 }
+    ensures version_too { AskForVersionAlone (map string_bytes words.now)
+        → WasTold (unfailed (W.contents output)) (sight_of W.contents result.0) result.1
+        ⊎ ((result.1 ≡ 3) × Keeps (W.contents output) (W.contents result.0.writer)) }
+    ensures applied { result.1 ≤ 1
+        → WereApplied F.File.remaining (map string_bytes words.now) (R.remaining input) (W.contents output) (sight_of W.contents result.0) result.1
+        ⊎ ((result.1 ≡ 0) × (WereToldVersion (map string_bytes words.now) (unfailed (W.contents output)) (sight_of W.contents result.0) result.1
+        ⊎ AskForHelp (map string_bytes words.now))) }
     ensures help { AskForHelpAlone (map string_bytes words.now) → (result.1 ≡ 0) ⊎ (result.1 ≡ 3) }
-    ensures refused { result.1 ≡ 2 → Keeps (W.contents output) (W.contents result.0) }
-    ensures cut_off { result.1 ≡ 3 → Keeps (W.contents output) (W.contents result.0)
-        ⊎ (WereBegun (map string_bytes words.now) (R.remaining input) (W.contents output) (W.contents result.0)
-        ⊎ (AskForVersion (map string_bytes words.now) ⊎ AskForVersionToo (map string_bytes words.now))) }
+    ensures refused { result.1 ≡ 2 → Keeps (W.contents output) (W.contents result.0.writer) }
+    ensures cut_off { result.1 ≡ 3 → Keeps (W.contents output) (W.contents result.0.writer)
+        ⊎ (WereBegun F.File.remaining (map string_bytes words.now) (R.remaining input) (W.contents output) (sight_of W.contents result.0)
+        ⊎ WereToldVersion (map string_bytes words.now) (unfailed (W.contents output)) (sight_of W.contents result.0) result.1) }
     ensures quiet { result.1 ≤ 1 → Keeps (E.contents faults.old) (E.contents faults.new) }
+    ensures gone { result.0.is_reader_gone ≡ true → Keeps (E.contents faults.old) (E.contents faults.new) }
     ensures statuses { result.1 ≤ 3 }
 {
     if ask_for_version(words) {
+        let mut output = StdSink::new(output);
         let status = answer_version(&mut output, faults);
         return (output, status);
     }
     match read_invocation(alloc, words) {
-        Ok(invocation) => {
-            let output = StdSink::new(output);
-            let (output, status) = follow_invocation(
-                rt,
-                files,
-                alloc,
-                &invocation.settings,
-                invocation.parallelism,
-                input,
-                output,
-                faults,
-            );
-            (output.into_inner(), status)
-        }
-        Err(Usage::Version) => {
+        Ok(invocation) => follow_invocation(
+            rt,
+            files,
+            alloc,
+            &invocation.settings,
+            invocation.parallelism,
+            input,
+            StdSink::new(output),
+            faults,
+        ),
+        Err(usage) => answer_unfollowed(&usage, output, faults),
+    }
+}
+
+/// Answers words that are not followed: the version as `answer_version` does, and all else as `answer_usage` does.
+fn answer_unfollowed<W: Write + Drop, E: Write>(
+    usage: &Usage,
+    mut output: W,
+    faults: &mut E,
+) -> (StdSink<W>, u8)
+    ensures told { usage.now ≡ Usage.Version
+        → WasTold (unfailed (W.contents output)) (sight_of W.contents result.0) result.1 }
+    ensures answered { ¬ (usage.now ≡ Usage.Version) → (result.1 ≡ usage_status_of usage.now)
+        × (2 ≤ result.1 → Keeps (W.contents output) (W.contents result.0.writer)) }
+    ensures quiet { result.1 ≡ 0 → Keeps (E.contents faults.old) (E.contents faults.new) }
+    ensures gone { result.0.is_reader_gone ≡ true → Keeps (E.contents faults.old) (E.contents faults.new) }
+{
+    match usage {
+        Usage::Version => {
+            let mut output = StdSink::new(output);
             let status = answer_version(&mut output, faults);
             (output, status)
         }
-        Err(usage) => {
-            let status = answer_usage(&usage, &mut output, faults);
-            (output, status)
+        _ => {
+            let status = answer_usage(usage, &mut output, faults);
+            (StdSink::new(output), status)
         }
     }
 }
@@ -123,12 +143,12 @@ pub fn follow_invocation<
     faults: &mut E,
 ) -> (StdSink<W>, u8)
     requires { output.failures < 2 ^ 64 - 1 }
-    ensures applied { result.1 ≤ 1 → OfInput (R.remaining input) (λ plan. OfFile settings.now.script (λ script.
+    ensures applied { result.1 ≤ 1 → OfInput (R.remaining input) (λ plan. OfFile F.File.remaining settings.now.script (λ script.
         HasAppliedAsAsked (record { plan = plan; script = script; hooks = hooks_of_halts settings.now.halts.items })
         settings.now parallelism (sight_of W.contents output) (sight_of W.contents result.0) result.1)) }
     ensures refused { result.1 ≡ 2 → Keeps (W.contents output.writer) (W.contents result.0.writer) }
     ensures cut_off { result.1 ≡ 3 → Keeps (W.contents output.writer) (W.contents result.0.writer)
-        ⊎ OfInput (R.remaining input) (λ plan. OfFile settings.now.script (λ script.
+        ⊎ OfInput (R.remaining input) (λ plan. OfFile F.File.remaining settings.now.script (λ script.
         HasBegunAsAsked (record { plan = plan; script = script; hooks = hooks_of_halts settings.now.halts.items })
         settings.now parallelism (sight_of W.contents output) (sight_of W.contents result.0))) }
     ensures quiet { result.1 ≤ 1 → Keeps (E.contents faults.old) (E.contents faults.new) }
@@ -186,12 +206,12 @@ fn run_with_hooks<F: Files, R: Read + Drop, W: Write + Drop, E: Write, T: Thread
 ) -> (StdSink<W>, u8)
     requires failures { output.failures < 2 ^ 64 - 1 }
     requires hooks { rules_of registry.now ≡ hooks_of_halts settings.now.halts.items }
-    ensures applied { result.1 ≤ 1 → OfInput (R.remaining input) (λ plan. OfFile settings.now.script (λ script.
+    ensures applied { result.1 ≤ 1 → OfInput (R.remaining input) (λ plan. OfFile F.File.remaining settings.now.script (λ script.
         HasAppliedAsAsked (record { plan = plan; script = script; hooks = hooks_of_halts settings.now.halts.items })
         settings.now parallelism (sight_of W.contents output) (sight_of W.contents result.0) result.1)) }
     ensures refused { result.1 ≡ 2 → Keeps (W.contents output.writer) (W.contents result.0.writer) }
     ensures cut_off { result.1 ≡ 3 → Keeps (W.contents output.writer) (W.contents result.0.writer)
-        ⊎ OfInput (R.remaining input) (λ plan. OfFile settings.now.script (λ script.
+        ⊎ OfInput (R.remaining input) (λ plan. OfFile F.File.remaining settings.now.script (λ script.
         HasBegunAsAsked (record { plan = plan; script = script; hooks = hooks_of_halts settings.now.halts.items })
         settings.now parallelism (sight_of W.contents output) (sight_of W.contents result.0))) }
     ensures quiet { result.1 ≤ 1 → Keeps (E.contents faults.old) (E.contents faults.new) }
@@ -259,7 +279,8 @@ fn script_of<F: Files>(
     alloc: Global,
     settings: &Settings,
 ) -> Result<Option<Vec<u8>>, InputFault>
-    ensures { IfOk result (λ bytes. is_some bytes ≡ is_some settings.now.script) }
+    ensures { IfOk result (λ bytes.
+        AreOfName (IsFrontOfFile F.File.remaining) settings.now.script (option_map (λ b. b.items) bytes)) }
 {
     match &settings.script {
         Some(file) => match read_file(files, alloc, file.as_str()) {

@@ -2,6 +2,7 @@
 
 ghost use Rattle.std.specs.Prelude.{◌≡◌, ◌≤◌, ◌+◌, length, IfOk};
 ghost use Rattle.apply_plan.specs.Bytes.{max_bytes};
+ghost use Rattle.apply_cli.specs.Command.{IsFrontOfFile};
 ghost use Rattle.apply_cli.specs.Status.{input_status_of};
 
 use crate::input::read_all;
@@ -15,7 +16,8 @@ use std::rt::Files;
 
 /// The bytes of the file, and no more than 67,108,865 of them. `Err` where it cannot be opened or read, or memory is refused.
 pub fn read_file<R: Files>(rt: &R, alloc: Global, file: &str) -> Result<Vec<u8>, InputFault>
-    ensures { IfOk result (λ bytes. length bytes.items ≤ max_bytes + 1) }
+    ensures bytes { IfOk result (λ bytes. IsFrontOfFile R.File.remaining bytes.items) }
+    ensures few { IfOk result (λ bytes. length bytes.items ≤ max_bytes + 1) }
 {
     match fs::open(rt, file) {
         Ok(file) => read_all(alloc, file),

@@ -41,7 +41,7 @@ pub fn follow_standard<T: Threads + Wait + Sync>(
         &mut rt.stderr(),
     );
     // What a failed write left behind is given up: a drop would write it once more, behind the fault.
-    let (_stdout, _unwritten) = output.into_parts();
+    let (_stdout, _unwritten) = output.into_inner().into_parts();
     status
 }
 

@@ -49,10 +49,10 @@ fn followed<T: Threads + Wait + Sync, F: Files>(
 ) -> Outcome {
     let mut said = Vec::new(alloc);
     let output = Vec::new(alloc);
-    let (printed, status) = follow(rt, files, alloc, words, plan.as_bytes(), output, &mut said);
+    let (output, status) = follow(rt, files, alloc, words, plan.as_bytes(), output, &mut said);
     Outcome {
         status,
-        printed,
+        printed: output.into_inner(),
         said,
     }
 }
@@ -187,6 +187,7 @@ fn brought_out<T: Threads + Wait + Sync + Abort, F: Files>(
     let mut said = Vec::new(alloc);
     let input = REPLACEMENT.as_bytes();
     let (output, status) = follow(rt, files, alloc, &words, input, output, &mut said);
+    let output = output.into_inner();
     assert_eq!(rt; output.held.len(), 0);
     Outcome {
         status,
@@ -233,7 +234,7 @@ fn versioned<T: Threads + Wait + Sync + Abort, F: Files>(
     let (output, status) = follow(rt, files, alloc, &words, input, output, &mut said);
     Outcome {
         status,
-        printed: output.taken,
+        printed: output.into_inner().taken,
         said,
     }
 }
