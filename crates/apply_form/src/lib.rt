@@ -4,6 +4,7 @@
 
 mod change_details;
 mod escaping;
+mod form;
 mod form_buffer;
 mod importing;
 mod laws;
@@ -16,6 +17,7 @@ mod plan_note;
 mod reason;
 
 pub use change_details::ChangeDetails;
+pub use form::Form;
 pub use form_buffer::FormBuffer;
 pub use importing::Importing;
 pub use laws::{a_line_has_no_bracket, a_line_has_one_line_feed, no_sensitive_value_is_told};
