@@ -2,15 +2,13 @@
 use Rattle.std.proofs.Common.{◌≡◌, ℕ, ◌+◌, ◌-◌, ◌<◌, ◌≤◌, List, [], ◌∷◌, ◌++◌, All, Option, length, length-append, sym, ap, ◌∙◌, subst, arith}
 use Rattle.std.proofs.Math.Seq.{take-append_seam, drop-append_seam}
 use Rattle.std.proofs.lemmas.List.Elements.{All-drop, All-take, filter_map-append}
-use Rattle.apply_plan.specs.Plan.SavedPlan.{SavedPlan}
-use Rattle.apply_plan.specs.Script.OutcomeMap.{OutcomeMap}
 use Rattle.apply_events.specs.declared.event.Event.{Event}
 use Rattle.apply_bus.specs.declared.item.Item.{Item}
 use Rattle.apply_bus.specs.Items.{event_of, events, max_taken}
 use Rattle.apply_events.specs.Fits.{IsOfPlan}
 use Rattle.apply_run.specs.Stream.Counting.{max_told}
+use Rattle.apply_run.specs.Stream.Form.{StreamForm}
 use Rattle.apply_run.specs.Stream.Telling.{HasTold, Telling}
-use Rattle.apply_run.proofs.Runs.Headline.{same_of}
 
 events_more : (taken new : List Item) (item : Item) → new ≡ taken ++ item ∷ [] → events new ≡ events taken ++ events (item ∷ [])
 events_more taken new item is = ap events is ∙ filter_map-append event_of taken (item ∷ [])
@@ -22,25 +20,25 @@ back : (P : Event → Type 0) (xs ys : List Event) → All P (xs ++ ys) → All 
 back P xs ys all = subst (All P) (drop-append_seam xs ys) (All-drop P (length xs) (xs ++ ys) all)
 
 -- no item was taken: nothing had to be told
-pub told_no_items : (plan : SavedPlan) (script : OutcomeMap) (start : ℕ) (before : Option (List ℕ)) (failures : ℕ) (taken : List Item) (now : Telling)
-    → taken ≡ [] → HasTold plan script start before failures [] now
-    → All (IsOfPlan plan) (events taken) → HasTold plan script start before failures (events taken) now
-told_no_items plan script start before failures taken now none told all =
-    subst (λ items. HasTold plan script start before failures (events items) now) (sym none) told
+pub told_no_items : (form : StreamForm) (before : Option (List ℕ)) (failures : ℕ) (taken : List Item) (now : Telling)
+    → taken ≡ [] → HasTold form before failures [] now
+    → All (IsOfPlan form.plan) (events taken) → HasTold form before failures (events taken) now
+told_no_items form before failures taken now none told all =
+    subst (λ items. HasTold form before failures (events items) now) (sym none) told
 
 -- the items were told, and so is one item more
-pub told_more_items : (plan plan' : SavedPlan) (script script' : OutcomeMap) (start start' : ℕ) (before : Option (List ℕ)) (failures : ℕ) (taken new : List Item) (item : Item) (old now : Telling)
-    → plan' ≡ plan → script' ≡ script → start' ≡ start → new ≡ taken ++ item ∷ []
-    → (All (IsOfPlan plan) (events taken) → HasTold plan script start before failures (events taken) old)
-    → (All (IsOfPlan plan') (events (item ∷ [])) → HasTold plan' script' start' before failures (events taken) old → HasTold plan' script' start' before failures (events taken ++ events (item ∷ [])) now)
-    → All (IsOfPlan plan) (events new) → HasTold plan script start before failures (events new) now
-told_more_items plan plan' script script' start start' before failures taken new item old now e f g is so_far step all =
+pub told_more_items : (form form' : StreamForm) (before : Option (List ℕ)) (failures : ℕ) (taken new : List Item) (item : Item) (old now : Telling)
+    → form' ≡ form → new ≡ taken ++ item ∷ []
+    → (All (IsOfPlan form.plan) (events taken) → HasTold form before failures (events taken) old)
+    → (All (IsOfPlan form'.plan) (events (item ∷ [])) → HasTold form' before failures (events taken) old → HasTold form' before failures (events taken ++ events (item ∷ [])) now)
+    → All (IsOfPlan form.plan) (events new) → HasTold form before failures (events new) now
+told_more_items form form' before failures taken new item old now same is so_far step all =
     let one = events (item ∷ []) in
     let joined = events_more taken new item is in
-    let both : All (IsOfPlan plan) (events taken ++ one) = subst (All (IsOfPlan plan)) joined all in
-    let on = same_of (λ p s t. All (IsOfPlan p) one → HasTold p s t before failures (events taken) old → HasTold p s t before failures (events taken ++ one) now) plan' plan script' script start' start e f g step in
-    subst (λ es. HasTold plan script start before failures es now) (sym joined)
-    (on (back (IsOfPlan plan) (events taken) one both) (so_far (front (IsOfPlan plan) (events taken) one both)))
+    let both : All (IsOfPlan form.plan) (events taken ++ one) = subst (All (IsOfPlan form.plan)) joined all in
+    let on = subst (λ f. All (IsOfPlan f.plan) one → HasTold f before failures (events taken) old → HasTold f before failures (events taken ++ one) now) same step in
+    subst (λ es. HasTold form before failures es now) (sym joined)
+    (on (back (IsOfPlan form.plan) (events taken) one both) (so_far (front (IsOfPlan form.plan) (events taken) one both)))
 
 -- ---- counts
 

@@ -7,7 +7,6 @@ use Rattle.apply_events.specs.Lanes.{AreLanes}
 use Rattle.apply_events.specs.Lanes.TimeLine.{IsTimeLine}
 use Rattle.apply_events.specs.Step.{Work}
 use Rattle.apply_text.specs.declared.operation.Operation.{Operation}
-use Rattle.apply_text.specs.Lines.{lines_of, stream_of}
 use Rattle.apply_text.specs.Order.{as_written}
 use Rattle.apply_run.specs.Bytes.{Given, IsRead, WasRefused}
 use Rattle.apply_run.specs.declared.options.Options.{Options}
@@ -17,36 +16,46 @@ use Rattle.apply_run.specs.declared.report.Report.{Report}
 use Rattle.apply_run.specs.declared.why.Why.{Why}
 use Rattle.apply_run.specs.declared.why.Why.TheVariants.{Bus, Workers, Memory, Write}
 use Rattle.apply_run.specs.Stream.Ended.{IsCutOff, IsWhole}
+use Rattle.apply_run.specs.Stream.Form.{StreamForm, lines_in, plain_form, stream_in}
 use Rattle.apply_run.specs.Run.{DidNothing, Sight}
 
--- the sink took the stream of the work's time line in so many lanes, all of it
-pub record HasStreamedInLanes (work : Work) (lanes start : ℕ) (operation : Operation) (report : Report)
+-- ---- in any form
+
+-- the sink took the stream of the work's time line in so many lanes, all of it, in this form
+pub record HasStreamedInFormAndLanes (form : StreamForm) (work : Work) (lanes : ℕ) (report : Report)
     (before after : Sight) : Type 0 where
   pub events : List Event
   pub time_line : IsTimeLine work lanes events
-  pub whole : IsWhole work.plan events (stream_of work.plan work.script start operation events) report
+  pub whole : IsWhole form.plan events (stream_in form events) report
       before.bytes after.bytes before.failed after.failed
 
 -- all events of the time line were counted, and the sink took a prefix of these bytes of them; so many writes failed
-pub record IsCutOffInLanes (work : Work) (lanes : ℕ) (bytes_of : List Event → List ℕ) (failed : ℕ) (report : Report)
+pub record IsCutOffInLanes (form : StreamForm) (work : Work) (lanes : ℕ) (bytes_of : List Event → List ℕ) (failed : ℕ) (report : Report)
     (before after : Sight) : Type 0 where
   pub events : List Event
   pub time_line : IsTimeLine work lanes events
-  pub part : IsCutOff work.plan events (bytes_of events) report before.bytes after.bytes failed after.failed
+  pub part : IsCutOff form.plan events (bytes_of events) report before.bytes after.bytes failed after.failed
 
 -- what is so after a fault of each cause: a write failed, or memory was refused, before anything was done, for a line
 -- or to keep a note. Nothing is lost between threads, and no thread is refused
-abbrev pub HasFailedInLanes : Why → (work : Work) (lanes start : ℕ) (operation : Operation) → Report
-    → (before after : Sight) → Type 0
-HasFailedInLanes Write work lanes start operation report before after =
-    IsCutOffInLanes work lanes (stream_of work.plan work.script start operation) (before.failed + 1) report before after
-HasFailedInLanes Memory work lanes start operation report before after =
+abbrev pub HasFailedInFormAndLanes : Why → StreamForm → Work → (lanes : ℕ) → Report → (before after : Sight) → Type 0
+HasFailedInFormAndLanes Write form work lanes report before after =
+    IsCutOffInLanes form work lanes (stream_in form) (before.failed + 1) report before after
+HasFailedInFormAndLanes Memory form work lanes report before after =
     DidNothing report before after
-    ⊎ IsCutOffInLanes work lanes
-    (λ events. lines_of work.plan work.script start (as_written events)) before.failed report
-    before after
-HasFailedInLanes Bus work lanes start operation report before after = ⊥
-HasFailedInLanes Workers work lanes start operation report before after = ⊥
+    ⊎ IsCutOffInLanes form work lanes (λ events. lines_in form (as_written events)) before.failed report before after
+HasFailedInFormAndLanes Bus form work lanes report before after = ⊥
+HasFailedInFormAndLanes Workers form work lanes report before after = ⊥
+
+-- ---- in the default form
+
+abbrev pub HasStreamedInLanes : Work → (lanes start : ℕ) → Operation → Report → (before after : Sight) → Type 0
+HasStreamedInLanes work lanes start operation report before after =
+    HasStreamedInFormAndLanes (plain_form work.plan work.script start operation) work lanes report before after
+
+abbrev pub HasFailedInLanes : Why → Work → (lanes start : ℕ) → Operation → Report → (before after : Sight) → Type 0
+HasFailedInLanes why work lanes start operation report before after =
+    HasFailedInFormAndLanes why (plain_form work.plan work.script start operation) work lanes report before after
 
 -- ---- from bytes
 

@@ -1,5 +1,6 @@
 pub mod Applied
 pub mod Bytes
+pub mod Forms
 pub mod Lanes
 pub mod Options
 pub mod Run

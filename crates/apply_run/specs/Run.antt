@@ -16,6 +16,7 @@ use Rattle.apply_run.specs.declared.report.Report.{Report}
 use Rattle.apply_run.specs.declared.why.Why.{Why}
 use Rattle.apply_run.specs.declared.why.Why.TheVariants.{Bus, Workers, Memory, Write}
 use Rattle.apply_run.specs.Stream.Ended.{IsCutOff, IsWhole}
+use Rattle.apply_run.specs.Stream.Form.{StreamForm, lines_in, plain_form, stream_in}
 
 -- a sink, as contracts see it: the bytes that it has, where it tells them, and how many writes to it have failed
 pub record Sight : Type 0 where
@@ -34,47 +35,53 @@ stream_for work options events = stream_of work.plan work.script options.start o
 abbrev pub lines_for : Work → Options → List Event → List ℕ
 lines_for work options events = lines_of work.plan work.script options.start events
 
+-- ---- in any form
+
 -- for some dealing-out of the changes the events of each worker were taken whole, in its order, and the sink took the
--- stream of them
-pub record HasStreamed (work : Work) (options : Options) (report : Report) (before after : Sight) : Type 0 where
-  pub lists : List (List ℕ)
-  pub events : List Event
-  pub applied : IsApplied work options.workers lists events
-  pub whole : IsWhole work.plan events (stream_for work options events) report
-      before.bytes after.bytes before.failed after.failed
-
--- the same, but a write failed, and the sink took a prefix of the stream
-pub record WasNotWritten (work : Work) (options : Options) (report : Report) (before after : Sight) : Type 0 where
-  pub lists : List (List ℕ)
-  pub events : List Event
-  pub applied : IsApplied work options.workers lists events
-  pub part : IsCutOff work.plan events (stream_for work options events) report
-      before.bytes after.bytes (before.failed + 1) after.failed
-
--- the same, but memory was refused for a line or to keep a note, and the sink took a prefix of the lines, and no
--- summary; no write failed
-pub record RanOutOfMemory (work : Work) (options : Options) (report : Report) (before after : Sight) : Type 0 where
-  pub lists : List (List ℕ)
-  pub events : List Event
-  pub applied : IsApplied work options.workers lists events
-  pub part : IsCutOff work.plan events (lines_for work options (as_written events)) report
-      before.bytes after.bytes before.failed after.failed
-
--- a prefix of the events of each worker was taken, and the sink took a prefix of the lines of their hook messages, no
--- note and no summary; as many writes failed
-pub record WasCutOff (failed : ℕ) (work : Work) (options : Options) (report : Report)
+-- stream of them in this form
+pub record HasStreamedInForm (form : StreamForm) (work : Work) (workers : ℕ) (report : Report)
     (before after : Sight) : Type 0 where
   pub lists : List (List ℕ)
   pub events : List Event
-  pub applied : IsAppliedInPart work options.workers lists events
-  pub part : IsCutOff work.plan events (lines_for work options (hook_messages_of events)) report
+  pub applied : IsApplied work workers lists events
+  pub whole : IsWhole form.plan events (stream_in form events) report
+      before.bytes after.bytes before.failed after.failed
+
+-- the same, but a write failed, and the sink took a prefix of the stream
+pub record WasNotWrittenInForm (form : StreamForm) (work : Work) (workers : ℕ) (report : Report)
+    (before after : Sight) : Type 0 where
+  pub lists : List (List ℕ)
+  pub events : List Event
+  pub applied : IsApplied work workers lists events
+  pub part : IsCutOff form.plan events (stream_in form events) report
+      before.bytes after.bytes (before.failed + 1) after.failed
+
+-- the same, but memory was refused for a line or to keep a note, and the sink took a prefix of the lines, and nothing of
+-- what comes last; no write failed
+pub record RanOutOfMemoryInForm (form : StreamForm) (work : Work) (workers : ℕ) (report : Report)
+    (before after : Sight) : Type 0 where
+  pub lists : List (List ℕ)
+  pub events : List Event
+  pub applied : IsApplied work workers lists events
+  pub part : IsCutOff form.plan events (lines_in form (as_written events)) report
+      before.bytes after.bytes before.failed after.failed
+
+-- a prefix of the events of each worker was taken, and the sink took a prefix of the lines of their hook messages, no
+-- note and nothing of what comes last; as many writes failed
+pub record WasCutOffInForm (failed : ℕ) (form : StreamForm) (work : Work) (workers : ℕ) (report : Report)
+    (before after : Sight) : Type 0 where
+  pub lists : List (List ℕ)
+  pub events : List Event
+  pub applied : IsAppliedInPart work workers lists events
+  pub part : IsCutOff form.plan events (lines_in form (hook_messages_of events)) report
       before.bytes after.bytes (before.failed + failed) after.failed
 
 -- a run that was cut off, after a write had failed or not
-pub record WasCutOffLate (work : Work) (options : Options) (report : Report) (before after : Sight) : Type 0 where
+pub record WasCutOffLateInForm (form : StreamForm) (work : Work) (workers : ℕ) (report : Report)
+    (before after : Sight) : Type 0 where
   pub failed : ℕ
   pub few : failed ≤ 1
-  pub cut_off : WasCutOff failed work options report before after
+  pub cut_off : WasCutOffInForm failed form work workers report before after
 
 -- no event was taken, and the sink is as it was
 pub record DidNothing (report : Report) (before after : Sight) : Type 0 where
@@ -87,9 +94,35 @@ pub record DidNothing (report : Report) (before after : Sight) : Type 0 where
 
 -- what is so after a fault of each cause; memory was refused before the threads, for a line or to keep a
 -- note
+abbrev pub HasFailedInForm : Why → StreamForm → Work → (workers : ℕ) → Report → (before after : Sight) → Type 0
+HasFailedInForm Write form work workers report before after = WasNotWrittenInForm form work workers report before after
+HasFailedInForm Workers form work workers report before after = DidNothing report before after
+HasFailedInForm Memory form work workers report before after =
+    DidNothing report before after ⊎ RanOutOfMemoryInForm form work workers report before after
+HasFailedInForm Bus form work workers report before after = WasCutOffLateInForm form work workers report before after
+
+-- ---- in the default form
+
+-- what is told of the work as the options say
+abbrev pub plain_for : Work → Options → StreamForm
+plain_for work options = plain_form work.plan work.script options.start options.operation
+
+abbrev pub HasStreamed : Work → Options → Report → (before after : Sight) → Type 0
+HasStreamed work options report before after =
+    HasStreamedInForm (plain_for work options) work options.workers report before after
+
+abbrev pub WasNotWritten : Work → Options → Report → (before after : Sight) → Type 0
+WasNotWritten work options report before after =
+    WasNotWrittenInForm (plain_for work options) work options.workers report before after
+
+abbrev pub RanOutOfMemory : Work → Options → Report → (before after : Sight) → Type 0
+RanOutOfMemory work options report before after =
+    RanOutOfMemoryInForm (plain_for work options) work options.workers report before after
+
+abbrev pub WasCutOff : (failed : ℕ) → Work → Options → Report → (before after : Sight) → Type 0
+WasCutOff failed work options report before after =
+    WasCutOffInForm failed (plain_for work options) work options.workers report before after
+
 abbrev pub HasFailed : Why → Work → Options → Report → (before after : Sight) → Type 0
-HasFailed Write work options report before after = WasNotWritten work options report before after
-HasFailed Workers work options report before after = DidNothing report before after
-HasFailed Memory work options report before after =
-    DidNothing report before after ⊎ RanOutOfMemory work options report before after
-HasFailed Bus work options report before after = WasCutOffLate work options report before after
+HasFailed why work options report before after =
+    HasFailedInForm why (plain_for work options) work options.workers report before after

@@ -3,9 +3,11 @@
 ghost use Rattle.std.specs.Prelude.{◌≡◌, ◌<◌, ◌-◌, ◌^◌, IfErr, IfOk};
 ghost use Rattle.apply_hooks.specs.Registry.{rules_of};
 ghost use Rattle.apply_run.specs.Options.{IsInRange};
-ghost use Rattle.apply_run.specs.Run.{HasFailed, HasStreamed, sight_of};
+ghost use Rattle.apply_run.specs.Run.{HasFailed, HasFailedInForm, HasStreamed, HasStreamedInForm, sight_of};
 
 use crate::fault::Fault;
+use crate::forms::form_lines::FormLines;
+use crate::forms::plain_lines::PlainLines;
 use crate::options::Options;
 use crate::report::Report;
 use crate::run::prepared::Prepared;
@@ -62,28 +64,52 @@ pub fn apply_stream<'a, S: Sink + Drop, G: Gate, R: Threads + Wait + Sync>(
         (record { plan = plan.now; script = script.now; hooks = rules_of registry.now }) options fault.report
         (sight_of S.bytes S.failed sink) (sight_of S.bytes S.failed result.0)) }
 {
-    let Options {
-        start,
-        operation,
-        ..
-    } = options;
+    let Ok(lines) = PlainLines::new(alloc, plan, script, options.start, options.operation) else {
+        return (sink, Err(Fault::at_once(Why::Memory)));
+    };
+    apply_in_form(
+        rt, alloc, plan, script, registry, options, lines, sink, gate,
+    )
+}
+
+/// Applies a plan by workers in threads, as `apply_stream` does, and writes what these lines tell of it. `lines` builds
+/// what is told of that plan.
+pub(crate) fn apply_in_form<S: Sink + Drop, F: FormLines, G: Gate, R: Threads + Wait + Sync>(
+    rt: &R,
+    alloc: Global,
+    plan: &Plan,
+    script: &Script,
+    registry: &Registry,
+    options: Options,
+    lines: F,
+    sink: S,
+    gate: &G,
+) -> (S, Result<Report, Fault>)
+    requires sizes { IsInRange options }
+    requires failures { S.failed sink < 2 ^ 64 - 1 }
+    requires plan { (F.form lines).plan ≡ plan.now }
+
+    ensures ok { IfOk result.1 (λ report. HasStreamedInForm (F.form lines)
+        (record { plan = plan.now; script = script.now; hooks = rules_of registry.now }) options.workers report
+        (sight_of S.bytes S.failed sink) (sight_of S.bytes S.failed result.0)) }
+
+    ensures err { IfErr result.1 (λ fault. HasFailedInForm fault.why (F.form lines)
+        (record { plan = plan.now; script = script.now; hooks = rules_of registry.now }) options.workers fault.report
+        (sight_of S.bytes S.failed sink) (sight_of S.bytes S.failed result.0)) }
+{
     let Ok(prepared) = Prepared::new(alloc, options, plan.len()) else {
         return (sink, Err(Fault::at_once(Why::Memory)));
     };
-    let Prepared {
-        claims,
-        endpoints,
-        buffer,
-    } = prepared;
+    let Prepared { claims, endpoints } = prepared;
     let signal = Signal::new();
-    let stream = StreamWriter::new(alloc, plan, script, start, buffer, sink);
-    let finished = run_workers::<Brand, S, G, R>(
+    let stream = StreamWriter::new(alloc, lines, sink);
+    let finished = run_workers::<Brand, S, F, G, R>(
         rt, alloc, plan, script, registry, gate, &claims, &signal, endpoints, stream,
     );
     match finished {
         Ok(FinishedRun { stream, whole }) => {
             if whole {
-                stream.end(operation)
+                stream.end()
             } else {
                 let (sink, fault) = stream.give_up(Why::Bus);
                 (sink, Err(fault))

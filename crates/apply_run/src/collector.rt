@@ -8,6 +8,7 @@ ghost use Rattle.apply_run.specs.Stream.Counting.{CountsFit, IsNew, max_told};
 ghost use Rattle.apply_events.specs.Fits.{IsOfPlan};
 ghost use Rattle.apply_run.specs.Stream.Telling.{HasTold, IsSameStream, IsToldSince, telling_of};
 
+use crate::forms::form_lines::FormLines;
 use crate::sinks::sink::Sink;
 use crate::stream::StreamWriter;
 use apply_bus::{Item, Rx, Taken};
@@ -17,8 +18,8 @@ use std::sync::Wait;
 /// What a collector gives back: the stream as far as it was told, with the notes that it keeps, what was taken, and
 /// whether a take was lost.
 #[derive(Drop)]
-pub(crate) struct Collected<'a, S: Drop> {
-    pub stream: StreamWriter<'a, S>,
+pub(crate) struct Collected<S: Drop, F: Drop> {
+    pub stream: StreamWriter<S, F>,
     pub taken: Taken,
     /// Whether a take was lost. What was taken does not tell it: a later take may have given what was missing.
     pub lost: bool,
@@ -27,25 +28,25 @@ pub(crate) struct Collected<'a, S: Drop> {
 /// After how many failed takes no other is tried.
 const MAX_LOST: u32 = 1_000;
 
-/// Writes the version line, and takes events until each worker has closed. Each event of the plan is told when it is
+/// Writes what comes first, and takes events until each worker has closed. Each event of the plan is told when it is
 /// taken: counted, and written at once unless it is a note, which the stream keeps. A take that fails is tried again,
 /// up to 1,000 times.
-pub(crate) fn collect<'a, S: Sink + Drop, R: Wait>(
+pub(crate) fn collect<S: Sink + Drop, F: FormLines, R: Wait>(
     rt: &R,
     mut rx: Rx,
-    mut stream: StreamWriter<'a, S>,
-) -> Collected<'a, S>
+    mut stream: StreamWriter<S, F>,
+) -> Collected<S, F>
     requires none { rx.taken ≡ [] }
     requires is_new { IsNew (telling_of S.bytes S.failed stream) }
     ensures bus { (result.taken.bus ≡ rx.bus) × (result.taken.workers ≡ rx.workers) × (result.taken.sent_lists ≡ []) }
     ensures named { NamesWorkersBelow rx.workers result.taken.taken }
-    ensures same { IsSameStream stream.entry result.stream }
-    ensures told { All (IsOfPlan stream.entry.plan.now) (events result.taken.taken)
-        → IsToldSince S.bytes S.failed stream.entry (events result.taken.taken) result.stream }
-    ensures counts_fit { CountsFit result.stream.plan.now (telling_of S.bytes S.failed result.stream) }
+    ensures same { IsSameStream F.form stream result.stream }
+    ensures told { All (IsOfPlan (F.form stream.lines).plan) (events result.taken.taken)
+        → IsToldSince S.bytes S.failed F.form stream (events result.taken.taken) result.stream }
+    ensures counts_fit { CountsFit (F.form result.stream.lines).plan (telling_of S.bytes S.failed result.stream) }
     ensures lost { result.lost ≡ false → closes result.taken.taken ≡ rx.workers }
 {
-    stream.write_version();
+    stream.write_head();
     let mut lost_takes = 0;
     while rx.open_left() > 0 && lost_takes < MAX_LOST {
         match rx.take(rt) {
@@ -64,22 +65,22 @@ pub(crate) fn collect<'a, S: Sink + Drop, R: Wait>(
 }
 
 /// Tells the item where it is an event of the plan.
-fn note<S: Sink + Drop>(stream: &mut StreamWriter<'_, S>, item: &Item)
-    requires counts_fit { CountsFit stream.old.plan.now (telling_of S.bytes S.failed stream.old) }
+fn note<S: Sink + Drop, F: FormLines>(stream: &mut StreamWriter<S, F>, item: &Item)
+    requires counts_fit { CountsFit (F.form stream.old.lines).plan (telling_of S.bytes S.failed stream.old) }
     requires few { stream.old.taken < max_told }
     ensures told { (before : Option (List ℕ)) (failures : ℕ) (so_far : List Event)
-        → All (IsOfPlan stream.old.plan.now) (events (item.now ∷ []))
-        → HasTold stream.old.plan.now stream.old.script.now stream.old.start before failures so_far
+        → All (IsOfPlan (F.form stream.old.lines).plan) (events (item.now ∷ []))
+        → HasTold (F.form stream.old.lines) before failures so_far
         (telling_of S.bytes S.failed stream.old)
-        → HasTold stream.old.plan.now stream.old.script.now stream.old.start before failures
+        → HasTold (F.form stream.old.lines) before failures
         (so_far ++ events (item.now ∷ [])) (telling_of S.bytes S.failed stream.new) }
-    ensures counts_fit { CountsFit stream.new.plan.now (telling_of S.bytes S.failed stream.new) }
+    ensures counts_fit { CountsFit (F.form stream.new.lines).plan (telling_of S.bytes S.failed stream.new) }
     ensures one_more { stream.new.taken ≤ stream.old.taken + 1 }
-    ensures same { IsSameStream stream.old stream.new }
+    ensures same { IsSameStream F.form stream.old stream.new }
 {
     match item {
         Item::Event(event) => {
-            if is_of_plan(stream.plan, event) {
+            if is_of_plan(stream.lines.plan(), event) {
                 stream.tell(event);
             }
         }

@@ -5,13 +5,15 @@ ghost use Rattle.std.specs.Option.{option_copied};
 ghost use Rattle.apply_hooks.specs.Registry.{rules_of};
 ghost use Rattle.apply_events.specs.Lanes.{AreLanes};
 ghost use Rattle.apply_events.specs.Lanes.ToCome.{to_come, told_count, work_of};
-ghost use Rattle.apply_run.specs.Lanes.{HasFailedInLanes, HasStreamedInLanes, WasAppliedInLanes, WasRefusedInLanes};
+ghost use Rattle.apply_run.specs.Lanes.{HasFailedInFormAndLanes, HasFailedInLanes, HasStreamedInFormAndLanes, HasStreamedInLanes, WasAppliedInLanes, WasRefusedInLanes};
 ghost use Rattle.apply_run.specs.Run.{sight_of};
 ghost use Rattle.apply_run.specs.Stream.Counting.{CountsFit, IsNew};
 ghost use Rattle.apply_run.specs.Stream.Telling.{IsSameStream, IsToldSince, telling_of};
 
 use crate::bytes::read_given;
 use crate::fault::Fault;
+use crate::forms::form_lines::FormLines;
+use crate::forms::plain_lines::PlainLines;
 use crate::refusal::Refusal;
 use crate::report::Report;
 use crate::sinks::sink::Sink;
@@ -20,7 +22,7 @@ use crate::why::Why;
 use apply_events::{Lanes, MAX_LANES, there_is_a_time_line};
 use apply_hooks::Registry;
 use apply_plan::{Plan, Script, read_plan};
-use apply_text::{LineBuffer, Operation, Start};
+use apply_text::{Operation, Start};
 use std::alloc::Global;
 
 /// Applies a plan in 1 to 64 lanes, as `terraform apply -parallelism` has it: each change goes, in the plan's order, to
@@ -59,30 +61,56 @@ pub fn apply_in_lanes<'a, S: Sink + Drop>(
         (record { plan = plan.now; script = script.now; hooks = rules_of registry.now }) lanes start operation fault.report
         (sight_of S.bytes S.failed sink) (sight_of S.bytes S.failed result.0)) }
 {
-    there_is_a_time_line();
-    let Ok(buffer) = LineBuffer::with_room(alloc) else {
+    let Ok(lines) = PlainLines::new(alloc, plan, script, start, operation) else {
         return (sink, Err(Fault::at_once(Why::Memory)));
     };
+    apply_lanes_in_form(alloc, plan, script, registry, lanes, lines, sink)
+}
+
+/// Applies a plan in 1 to 64 lanes, as `apply_in_lanes` does, and writes what these lines tell of it. `lines` builds what is
+/// told of that plan.
+pub(crate) fn apply_lanes_in_form<S: Sink + Drop, F: FormLines>(
+    alloc: Global,
+    plan: &Plan,
+    script: &Script,
+    registry: &Registry,
+    lanes: u8,
+    lines: F,
+    sink: S,
+) -> (S, Result<Report, Fault>)
+    requires lanes { AreLanes lanes }
+    requires failures { S.failed sink < 2 ^ 64 - 1 }
+    requires plan { (F.form lines).plan ≡ plan.now }
+
+    ensures ok { IfOk result.1 (λ report. HasStreamedInFormAndLanes (F.form lines)
+        (record { plan = plan.now; script = script.now; hooks = rules_of registry.now }) lanes report
+        (sight_of S.bytes S.failed sink) (sight_of S.bytes S.failed result.0)) }
+
+    ensures err { IfErr result.1 (λ fault. HasFailedInFormAndLanes fault.why (F.form lines)
+        (record { plan = plan.now; script = script.now; hooks = rules_of registry.now }) lanes fault.report
+        (sight_of S.bytes S.failed sink) (sight_of S.bytes S.failed result.0)) }
+{
+    there_is_a_time_line();
     let Ok(lanes) = Lanes::start(alloc, plan, script, registry, lanes) else {
         return (sink, Err(Fault::at_once(Why::Memory)));
     };
-    let stream = StreamWriter::new(alloc, plan, script, start, buffer, sink);
-    tell_all(lanes, stream).end(operation)
+    let stream = StreamWriter::new(alloc, lines, sink);
+    tell_all(lanes, stream).end()
 }
 
-/// Writes the version line, and tells all that the lanes report.
-fn tell_all<'a, S: Sink + Drop>(
+/// Writes what comes first, and tells all that the lanes report.
+fn tell_all<S: Sink + Drop, F: FormLines>(
     mut lanes: Lanes<'_>,
-    mut stream: StreamWriter<'a, S>,
-) -> StreamWriter<'a, S>
+    mut stream: StreamWriter<S, F>,
+) -> StreamWriter<S, F>
     requires none_told { told_count lanes ≡ 0 }
     requires is_new { IsNew (telling_of S.bytes S.failed stream) }
-    requires plan { stream.plan.now ≡ (work_of lanes).plan }
-    ensures same { IsSameStream stream.entry result }
-    ensures told { IsToldSince S.bytes S.failed stream.entry (to_come lanes.entry) result }
-    ensures counts_fit { CountsFit result.plan.now (telling_of S.bytes S.failed result) }
+    requires plan { (F.form stream.lines).plan ≡ (work_of lanes).plan }
+    ensures same { IsSameStream F.form stream result }
+    ensures told { IsToldSince S.bytes S.failed F.form stream (to_come lanes.entry) result }
+    ensures counts_fit { CountsFit (F.form result.lines).plan (telling_of S.bytes S.failed result) }
 {
-    stream.write_version();
+    stream.write_head();
     while let Some(event) = lanes.next() {
         stream.tell(&event);
     }

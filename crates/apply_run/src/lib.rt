@@ -5,6 +5,7 @@ mod applying;
 mod bytes;
 mod collector;
 mod fault;
+mod forms;
 mod lanes;
 mod laws;
 mod options;

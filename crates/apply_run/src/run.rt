@@ -15,6 +15,7 @@ pub mod run_name;
 pub mod threads;
 
 use crate::collector::{Collected, collect};
+use crate::forms::form_lines::FormLines;
 use crate::run::prepared::Endpoints;
 use crate::run::reconciling::reconcile;
 use crate::run::run_name::RunName;
@@ -34,18 +35,18 @@ use std::thread::{Scope, Threads};
 
 /// A run that was given up before anything was taken: nothing was told or written, and the stream is as before.
 #[derive(Drop)]
-pub(crate) enum NotBegun<'a, S: Drop> {
+pub(crate) enum NotBegun<S: Drop, F: Drop> {
     /// A thread was refused.
-    NoThread(StreamWriter<'a, S>),
+    NoThread(StreamWriter<S, F>),
     /// Memory was refused for the list of the threads. What the workers and the collector would have had comes back.
-    NoMemory(StreamWriter<'a, S>, Endpoints),
+    NoMemory(StreamWriter<S, F>, Endpoints),
 }
 
 /// A run whose threads were joined.
 #[derive(Drop)]
-pub(crate) struct JoinedRun<'a, S: Drop> {
+pub(crate) struct JoinedRun<S: Drop, F: Drop> {
     /// The stream, as far as it was told.
-    pub stream: StreamWriter<'a, S>,
+    pub stream: StreamWriter<S, F>,
     /// What was taken from the bus.
     pub taken: Taken,
     /// What each worker leaves behind, in their order.
@@ -56,9 +57,9 @@ pub(crate) struct JoinedRun<'a, S: Drop> {
 
 /// A joined run whose workers were reconciled with what was taken.
 #[derive(Drop)]
-pub(crate) struct FinishedRun<'a, S: Drop> {
-    /// The stream, without its notes and its summary.
-    pub stream: StreamWriter<'a, S>,
+pub(crate) struct FinishedRun<S: Drop, F: Drop> {
+    /// The stream, without its notes and what comes last.
+    pub stream: StreamWriter<S, F>,
     /// Whether all that the workers had to tell was told.
     pub whole: bool,
 }
@@ -68,9 +69,9 @@ pub(crate) struct FinishedRun<'a, S: Drop> {
 /// `Err` where a thread was refused, and where memory was refused for the list of the threads. Then the stream is as
 /// before. That no worker has begun then rests on `signal`, of which no clause speaks.
 pub(crate) fn run_workers<
-    'a,
     K: RunName + Send + Sync + 'static,
     S: Sink + Drop,
+    F: FormLines,
     G: Gate,
     R: Threads + Wait + Sync,
 >(
@@ -83,20 +84,20 @@ pub(crate) fn run_workers<
     claims: &Claims,
     signal: &Signal,
     endpoints: Endpoints,
-    stream: StreamWriter<'a, S>,
-) -> Result<FinishedRun<'a, S>, NotBegun<'a, S>>
+    stream: StreamWriter<S, F>,
+) -> Result<FinishedRun<S, F>, NotBegun<S, F>>
     requires run { IsRun K.work K.claims plan.now script.now (rules_of registry.now) claims.now }
     requires endpoints { AreReady K.claims K.bus endpoints }
     requires stream { IsNew (telling_of S.bytes S.failed stream) }
-    requires plan { stream.plan.now ≡ plan.now }
+    requires plan { (F.form stream.lines).plan ≡ plan.now }
     ensures finished { IfOk result (λ finished.
-        IsFinishedRun S.bytes S.failed K.work K.claims.workers stream.entry finished) }
-    ensures not_begun { IfErr result (λ not_begun. GivesBack stream.entry endpoints not_begun) }
+        IsFinishedRun S.bytes S.failed F.form K.work K.claims.workers stream finished) }
+    ensures not_begun { IfErr result (λ not_begun. GivesBack stream endpoints not_begun) }
 {
     let Ok(started) = Vec::with_capacity(alloc, endpoints.drawers.len()) else {
         return Err(NotBegun::NoMemory(stream, endpoints));
     };
-    match run_threads::<K, S, G, R>(
+    match run_threads::<K, S, F, G, R>(
         rt, plan, script, registry, gate, claims, signal, endpoints, started, stream,
     ) {
         Ok(finished) => Ok(finished),
@@ -107,9 +108,9 @@ pub(crate) fn run_workers<
 /// Runs the workers, with a list for their threads, and reconciles them with what was taken. `Err` only where a thread was
 /// refused: then the stream is as before.
 fn run_threads<
-    'a,
     K: RunName + Send + Sync + 'static,
     S: Sink + Drop,
+    F: FormLines,
     G: Gate,
     R: Threads + Wait + Sync,
 >(
@@ -122,32 +123,32 @@ fn run_threads<
     signal: &Signal,
     endpoints: Endpoints,
     started: Vec<WorkerThread<K>>,
-    stream: StreamWriter<'a, S>,
-) -> Result<FinishedRun<'a, S>, StreamWriter<'a, S>>
+    stream: StreamWriter<S, F>,
+) -> Result<FinishedRun<S, F>, StreamWriter<S, F>>
     requires run { IsRun K.work K.claims plan.now script.now (rules_of registry.now) claims.now }
     requires endpoints { AreReady K.claims K.bus endpoints }
     requires stream { IsNew (telling_of S.bytes S.failed stream) }
-    requires plan { stream.plan.now ≡ plan.now }
+    requires plan { (F.form stream.lines).plan ≡ plan.now }
     requires none { started.items ≡ [] }
     requires room { length endpoints.drawers.items ≤ vec_capacity started }
     ensures finished { IfOk result (λ finished.
-        IsFinishedRun S.bytes S.failed K.work K.claims.workers stream.entry finished) }
-    ensures not_begun { IfErr result (λ back. back ≡ stream.entry) }
+        IsFinishedRun S.bytes S.failed F.form K.work K.claims.workers stream finished) }
+    ensures not_begun { IfErr result (λ back. back ≡ stream) }
 {
     let joined = thread::scope(
         thread::scope_env(),
         rt,
-        move |scope| -> Result<JoinedRun<'_, S>, StreamWriter<'_, S>>
+        move |scope| -> Result<JoinedRun<S, F>, StreamWriter<S, F>>
             requires run { IsRun K.work K.claims plan.now script.now (rules_of registry.now) claims.now }
             requires endpoints { AreReady K.claims K.bus endpoints }
             requires stream { IsNew (telling_of S.bytes S.failed stream) }
             requires none { started.items ≡ [] }
             requires room { length endpoints.drawers.items ≤ vec_capacity started }
             ensures joined { IfOk result (λ joined.
-                IsJoinedRun S.bytes S.failed K.work K.claims K.bus stream.entry joined) }
-            ensures not_begun { IfErr result (λ back. back ≡ stream.entry) }
+                IsJoinedRun S.bytes S.failed F.form K.work K.claims K.bus stream joined) }
+            ensures not_begun { IfErr result (λ back. back ≡ stream) }
         {
-            run_in_scope::<_, K, S, G, R>(
+            run_in_scope::<_, K, S, F, G, R>(
                 scope, rt, plan, script, registry, gate, claims, signal, endpoints, started, stream,
             )
         },
@@ -174,10 +175,10 @@ fn run_threads<
 /// Runs the workers within a scope, up to their join.
 fn run_in_scope<
     's,
-    'a,
     E: 's,
     K: RunName + Send + Sync + 's,
     S: Sink + Drop,
+    F: FormLines,
     G: Gate,
     R: Threads + Wait + Sync,
 >(
@@ -191,16 +192,16 @@ fn run_in_scope<
     signal: &'s Signal,
     endpoints: Endpoints,
     mut started: Vec<WorkerThread<K>>,
-    stream: StreamWriter<'a, S>,
-) -> Result<JoinedRun<'a, S>, StreamWriter<'a, S>>
+    stream: StreamWriter<S, F>,
+) -> Result<JoinedRun<S, F>, StreamWriter<S, F>>
     requires run { IsRun K.work K.claims plan.now script.now (rules_of registry.now) claims.now }
     requires endpoints { AreReady K.claims K.bus endpoints }
     requires stream { IsNew (telling_of S.bytes S.failed stream) }
     requires none { started.items ≡ [] }
     requires room { length endpoints.drawers.items ≤ vec_capacity started }
     ensures joined { IfOk result (λ joined.
-        IsJoinedRun S.bytes S.failed K.work K.claims K.bus stream.entry joined) }
-    ensures not_begun { IfErr result (λ back. back ≡ stream.entry) }
+        IsJoinedRun S.bytes S.failed F.form K.work K.claims K.bus stream joined) }
+    ensures not_begun { IfErr result (λ back. back ≡ stream) }
 {
     let Endpoints {
         drawers,

@@ -6,11 +6,9 @@ use Rattle.std.specs.List.{enumerate_from}
 use Rattle.std.proofs.lemmas.Grind.{flat_map-append}
 use Rattle.std.proofs.lemmas.List.{map-append, take-append-le}
 use Rattle.std.proofs.lemmas.List.Sums.{fold-append}
-use Rattle.apply_plan.specs.Plan.SavedPlan.{SavedPlan}
-use Rattle.apply_plan.specs.Script.OutcomeMap.{OutcomeMap}
 use Rattle.apply_events.specs.declared.event.Event.{Event}
 use Rattle.apply_text.specs.Latest.{latest_of}
-use Rattle.apply_text.specs.Lines.{event_text, lines_of, version_text}
+use Rattle.apply_run.specs.Stream.Form.{StreamForm, lines_in}
 use Rattle.apply_run.proofs.Workers.Prefixes.{prefix_more, prefix_same}
 
 -- ---- moments
@@ -32,21 +30,21 @@ latest_more events event =
 
 -- ---- lines
 
-abbrev text_in : SavedPlan → OutcomeMap → (start : ℕ) → (all : List Event) → ℕ × Event → List ℕ
-text_in plan script start all p = event_text plan script start (latest_of all (p.0 + 1)) p.1
+abbrev text_in : StreamForm → (all : List Event) → ℕ × Event → List ℕ
+text_in form all p = form.line (latest_of all (p.0 + 1)) p.1
 
-abbrev texts_from : SavedPlan → OutcomeMap → (start : ℕ) → (all : List Event) (n : ℕ) → List Event → List ℕ
-texts_from plan script start all n events = flat_map (text_in plan script start all) (enumerate_from n events)
+abbrev texts_from : StreamForm → (all : List Event) (n : ℕ) → List Event → List ℕ
+texts_from form all n events = flat_map (text_in form all) (enumerate_from n events)
 
 -- what comes behind is not looked at
-texts_before : (plan : SavedPlan) (script : OutcomeMap) (start : ℕ) (all more : List Event) (n : ℕ) (events : List Event) → n + length events ≤ length all
-    → texts_from plan script start (all ++ more) n events ≡ texts_from plan script start all n events
-texts_before plan script start all more n [] few = refl
-texts_before plan script start all more n (event ∷ events) few =
+texts_before : (form : StreamForm) (all more : List Event) (n : ℕ) (events : List Event) → n + length events ≤ length all
+    → texts_from form (all ++ more) n events ≡ texts_from form all n events
+texts_before form all more n [] few = refl
+texts_before form all more n (event ∷ events) few =
     let here : n + 1 ≤ length all = omega arith in
     let rest : n + 1 + length events ≤ length all = omega arith in
-    ap (λ latest. event_text plan script start latest event ++ texts_from plan script start (all ++ more) (n + 1) events) (latest_before all more (n + 1) here)
-    ∙ ap (λ texts. event_text plan script start (latest_of all (n + 1)) event ++ texts) (texts_before plan script start all more (n + 1) events rest)
+    ap (λ latest. form.line latest event ++ texts_from form (all ++ more) (n + 1) events) (latest_before all more (n + 1) here)
+    ∙ ap (λ texts. form.line (latest_of all (n + 1)) event ++ texts) (texts_before form all more (n + 1) events rest)
 
 enumerate_more : {X : Type 0} (n : ℕ) (xs ys : List X) → enumerate_from n (xs ++ ys) ≡ enumerate_from n xs ++ enumerate_from (n + length xs) ys
 enumerate_more n [] ys = ap (λ m. enumerate_from m ys) (sym (add-zero n))
@@ -54,34 +52,34 @@ enumerate_more n (x ∷ xs) ys =
     let place : n + 1 + length xs ≡ n + length (x ∷ xs) = omega arith in
     ap (λ l. (n, x) ∷ l) (enumerate_more (n + 1) xs ys ∙ ap (λ m. enumerate_from (n + 1) xs ++ enumerate_from m ys) place)
 
-texts_more : (plan : SavedPlan) (script : OutcomeMap) (start : ℕ) (events : List Event) (event : Event)
-    → texts_from plan script start (events ++ event ∷ []) 0 (events ++ event ∷ []) ≡ texts_from plan script start events 0 events ++ event_text plan script start (latest_of (events ++ event ∷ []) (length (events ++ event ∷ []))) event
-texts_more plan script start events event =
+texts_more : (form : StreamForm) (events : List Event) (event : Event)
+    → texts_from form (events ++ event ∷ []) 0 (events ++ event ∷ []) ≡ texts_from form events 0 events ++ form.line (latest_of (events ++ event ∷ []) (length (events ++ event ∷ []))) event
+texts_more form events event =
     let all = events ++ event ∷ [] in
-    let text = text_in plan script start all in
+    let text = text_in form all in
     let place : 0 + length events + 1 ≡ length all = omega (arith, length-append events (event ∷ [])) in
     let none : 0 + length events ≤ length events = omega arith in
     ap (λ ps. flat_map text ps) (enumerate_more 0 events (event ∷ []))
     ∙ flat_map-append text (enumerate_from 0 events) (enumerate_from (0 + length events) (event ∷ []))
-    ∙ ap (λ texts. texts ++ flat_map text (enumerate_from (0 + length events) (event ∷ []))) (texts_before plan script start events (event ∷ []) 0 events none)
-    ∙ ap (λ texts. texts_from plan script start events 0 events ++ texts) (append-nil (text (0 + length events, event)) ∙ ap (λ n. event_text plan script start (latest_of all n) event) place)
+    ∙ ap (λ texts. texts ++ flat_map text (enumerate_from (0 + length events) (event ∷ []))) (texts_before form events (event ∷ []) 0 events none)
+    ∙ ap (λ texts. texts_from form events 0 events ++ texts) (append-nil (text (0 + length events, event)) ∙ ap (λ n. form.line (latest_of all n) event) place)
 
 -- the lines of one event more
-pub lines_more : (plan : SavedPlan) (script : OutcomeMap) (start : ℕ) (events : List Event) (event : Event)
-    → lines_of plan script start (events ++ event ∷ []) ≡ lines_of plan script start events ++ event_text plan script start (latest_of (events ++ event ∷ []) (length (events ++ event ∷ []))) event
-lines_more plan script start events event =
-    ap (λ texts. version_text plan start ++ texts) (texts_more plan script start events event)
-    ∙ sym (append_assoc (version_text plan start) (texts_from plan script start events 0 events) (event_text plan script start (latest_of (events ++ event ∷ []) (length (events ++ event ∷ []))) event))
+pub lines_more : (form : StreamForm) (events : List Event) (event : Event)
+    → lines_in form (events ++ event ∷ []) ≡ lines_in form events ++ form.line (latest_of (events ++ event ∷ []) (length (events ++ event ∷ []))) event
+lines_more form events event =
+    ap (λ texts. form.head ++ texts) (texts_more form events event)
+    ∙ sym (append_assoc form.head (texts_from form events 0 events) (form.line (latest_of (events ++ event ∷ []) (length (events ++ event ∷ []))) event))
 
 -- and of none
-pub lines_none : (plan : SavedPlan) (script : OutcomeMap) (start : ℕ) → lines_of plan script start [] ≡ version_text plan start
-lines_none plan script start = append-nil (version_text plan start)
+pub lines_none : (form : StreamForm) → lines_in form [] ≡ form.head
+lines_none form = append-nil form.head
 
 -- with more events behind them
-pub lines_prefix : (plan : SavedPlan) (script : OutcomeMap) (start : ℕ) (events more : List Event) → IsPrefix (lines_of plan script start events) (lines_of plan script start (events ++ more))
-lines_prefix plan script start events [] = subst (λ es. IsPrefix (lines_of plan script start events) (lines_of plan script start es)) (sym (append-nil events)) (prefix_same (lines_of plan script start events))
-lines_prefix plan script start events (event ∷ more) =
-    let first : IsPrefix (lines_of plan script start events) (lines_of plan script start (events ++ event ∷ [])) = (_, sym (lines_more plan script start events event)) in
-    let rest : IsPrefix (lines_of plan script start (events ++ event ∷ [])) (lines_of plan script start (events ++ event ∷ [] ++ more)) = lines_prefix plan script start (events ++ event ∷ []) more in
-    subst (λ es. IsPrefix (lines_of plan script start events) (lines_of plan script start es)) (append_assoc events (event ∷ []) more)
-    (prefix_more (lines_of plan script start events) (lines_of plan script start (events ++ event ∷ [])) (lines_of plan script start (events ++ event ∷ [] ++ more)) first rest)
+pub lines_prefix : (form : StreamForm) (events more : List Event) → IsPrefix (lines_in form events) (lines_in form (events ++ more))
+lines_prefix form events [] = subst (λ es. IsPrefix (lines_in form events) (lines_in form es)) (sym (append-nil events)) (prefix_same (lines_in form events))
+lines_prefix form events (event ∷ more) =
+    let first : IsPrefix (lines_in form events) (lines_in form (events ++ event ∷ [])) = (_, sym (lines_more form events event)) in
+    let rest : IsPrefix (lines_in form (events ++ event ∷ [])) (lines_in form (events ++ event ∷ [] ++ more)) = lines_prefix form (events ++ event ∷ []) more in
+    subst (λ es. IsPrefix (lines_in form events) (lines_in form es)) (append_assoc events (event ∷ []) more)
+    (prefix_more (lines_in form events) (lines_in form (events ++ event ∷ [])) (lines_in form (events ++ event ∷ [] ++ more)) first rest)

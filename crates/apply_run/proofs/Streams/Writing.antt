@@ -1,7 +1,10 @@
 -- What was written, and what comes behind it.
-use Rattle.std.proofs.Common.{◌≡◌, ◌≢◌, ℕ, ◌+◌, ◌-◌, ◌≤◌, List, [], ◌++◌, Option, length, take, drop, take-append-drop, append-nil, append_assoc, length-append, length-drop, take_all, take-add, sym, refl, ap, ◌∙◌, subst, arith}
+use Rattle.std.proofs.Common.{◌≡◌, ◌≢◌, ℕ, ◌+◌, ◌-◌, ◌≤◌, ◌<◌, List, [], ◌∷◌, ◌++◌, get_or, Option, length, take, drop, take-append-drop, append-nil, append_assoc, length-append, length-drop, take_all, take-add, sym, refl, ap, ◌∙◌, subst, arith}
 use Rattle.std.specs.Io.KnownBytes.{Appends}
 use Rattle.std.proofs.KnownBytes.{Appends-trans}
+use Rattle.std.specs.List.{concat}
+use Rattle.std.proofs.lemmas.List.{take_more}
+use Rattle.std.proofs.lemmas.List.Folds.{concat-append}
 use mathlib.Core.List.{IsPrefix}
 use Rattle.apply_run.specs.declared.stream.output.Stop.{Stop}
 use Rattle.apply_run.specs.declared.stream.output.Stop.TheVariants.{Going, Failed, NoMemory}
@@ -87,3 +90,11 @@ writes_part old new bytes n went ends few appends fails count before failures al
   where
     length_taken : (n : ℕ) (xs : List ℕ) → n ≤ length xs → length (take n xs) ≡ n
     length_taken n xs few = grind (arith, Rattle.std.proofs.lemmas.List.length-take)
+
+-- ---- pieces
+
+-- the pieces up to one more
+pub pieces_more : (pieces : List (List ℕ)) (i : ℕ) → i < length pieces → concat (take i pieces) ++ get_or pieces i [] ≡ concat (take (i + 1) pieces)
+pieces_more pieces i low =
+    sym (ap concat (take_more pieces i [] low) ∙ concat-append (take i pieces) (get_or pieces i [] ∷ [])
+    ∙ ap (λ text. concat (take i pieces) ++ text) (append-nil (get_or pieces i [])))

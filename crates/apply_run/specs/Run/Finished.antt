@@ -11,29 +11,30 @@ use Rattle.apply_run.specs.declared.run.FinishedRun.{FinishedRun}
 use Rattle.apply_run.specs.declared.stream.StreamWriter.{StreamWriter}
 use Rattle.apply_events.specs.Fits.{IsOfPlan}
 use Rattle.apply_run.specs.Stream.Counting.{CountsFit}
+use Rattle.apply_run.specs.Stream.Form.{StreamForm}
 use Rattle.apply_run.specs.Stream.Telling.{IsSameStream, IsToldSince, telling_of}
 use Rattle.apply_run.specs.Run.Threads.{EachAt}
 use Rattle.apply_run.specs.Worker.Stopped.{IsStoppedWorker}
 
 -- each worker has done its part of the work, and what was taken of them was told, if it is of the plan
-pub record IsJoinedRun {S : Type 0} (bytes : S → Option (List ℕ)) (failed : S → ℕ) (work : Work)
-    (claims : ClaimsName) (bus : BusName) (stream : StreamWriter S) (joined : JoinedRun S) : Type 0 where
+pub record IsJoinedRun {S F : Type 0} (bytes : S → Option (List ℕ)) (failed : S → ℕ) (form : F → StreamForm) (work : Work)
+    (claims : ClaimsName) (bus : BusName) (stream : StreamWriter S F) (joined : JoinedRun S F) : Type 0 where
   pub bus_is : joined.taken.bus ≡ bus
   pub workers : joined.taken.workers ≡ claims.workers
   pub count : length joined.stopped.items ≡ claims.workers
   pub stopped : EachAt (IsStoppedWorker work claims bus) joined.stopped.items
-  pub same : IsSameStream stream joined.stream
-  pub counts_fit : CountsFit joined.stream.plan.now (telling_of bytes failed joined.stream)
-  pub told : All (IsOfPlan stream.plan.now) (events joined.taken.taken)
-      → IsToldSince bytes failed stream (events joined.taken.taken) joined.stream
+  pub same : IsSameStream form stream joined.stream
+  pub counts_fit : CountsFit (form joined.stream.lines).plan (telling_of bytes failed joined.stream)
+  pub told : All (IsOfPlan (form stream.lines).plan) (events joined.taken.taken)
+      → IsToldSince bytes failed form stream (events joined.taken.taken) joined.stream
 
 -- what the workers reported of their changes was told, all of it or a prefix for each
-pub record IsFinishedRun {S : Type 0} (bytes : S → Option (List ℕ)) (failed : S → ℕ) (work : Work) (workers : ℕ)
-    (stream : StreamWriter S) (finished : FinishedRun S) : Type 0 where
+pub record IsFinishedRun {S F : Type 0} (bytes : S → Option (List ℕ)) (failed : S → ℕ) (form : F → StreamForm) (work : Work)
+    (workers : ℕ) (stream : StreamWriter S F) (finished : FinishedRun S F) : Type 0 where
   pub lists : List (List ℕ)
   pub events : List Event
   pub part : IsAppliedInPart work workers lists events
   pub whole : finished.whole ≡ true → IsApplied work workers lists events
-  pub same : IsSameStream stream finished.stream
-  pub counts_fit : CountsFit finished.stream.plan.now (telling_of bytes failed finished.stream)
-  pub told : IsToldSince bytes failed stream events finished.stream
+  pub same : IsSameStream form stream finished.stream
+  pub counts_fit : CountsFit (form finished.stream.lines).plan (telling_of bytes failed finished.stream)
+  pub told : IsToldSince bytes failed form stream events finished.stream

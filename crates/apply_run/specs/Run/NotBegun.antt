@@ -7,6 +7,6 @@ use Rattle.apply_run.specs.declared.stream.StreamWriter.{StreamWriter}
 
 -- the stream is as before; where memory was refused, so is what the workers and the collector would have had, so that no
 -- thread was started with it
-abbrev pub GivesBack : {S : Type 0} → StreamWriter S → Endpoints → NotBegun S → Type 0
+abbrev pub GivesBack : {S F : Type 0} → StreamWriter S F → Endpoints → NotBegun S F → Type 0
 GivesBack stream endpoints (NoThread back) = back ≡ stream
 GivesBack stream endpoints (NoMemory back unused) = (back ≡ stream) × (unused ≡ endpoints)

@@ -11,6 +11,10 @@ use Rattle.apply_run.specs.Stream.Telling.{Telling}
 abbrev pub max_told : ℕ
 max_told = 2 ^ 29
 
+-- the greatest number of pieces of what comes first
+abbrev pub max_pieces : ℕ
+max_pieces = 2 ^ 20
+
 -- no count is above n
 pub record IsWithin (n : ℕ) (counts : Counts) : Type 0 where
   pub added : counts.added ≤ n
@@ -26,7 +30,7 @@ pub record CountsFit (plan : SavedPlan) (telling : Telling) : Type 0 where
   pub counts : IsWithin telling.taken telling.counts
   pub in_time : telling.latest ≤ last_moment
   pub notes : All (IsOfPlan plan) telling.notes
-  pub written : telling.outlet.written + length telling.notes * 2 ^ 64 ≤ (telling.taken + 1) * 2 ^ 64
+  pub written : telling.outlet.written + length telling.notes * 2 ^ 64 ≤ (telling.taken + max_pieces) * 2 ^ 64
   pub may_fail : telling.outlet.stop ≡ Going → telling.outlet.failures < 2 ^ 64 - 1
 
 -- what a line more needs

@@ -2,15 +2,13 @@
 use Rattle.std.specs.Prelude.{◌≡◌, ℕ, ◌+◌, ◌⊎◌, List, Option}
 use mathlib.Core.List.{IsPrefix}
 use Rattle.apply_plan.specs.Plan.SavedPlan.{SavedPlan}
-use Rattle.apply_plan.specs.Script.OutcomeMap.{OutcomeMap}
 use Rattle.apply_events.specs.declared.event.Event.{Event}
-use Rattle.apply_text.specs.declared.operation.Operation.{Operation}
-use Rattle.apply_text.specs.Lines.{lines_of, stream_of}
 use Rattle.apply_text.specs.Order.{as_written}
 use Rattle.apply_run.specs.declared.fault.Fault.{Fault}
 use Rattle.apply_run.specs.declared.report.Report.{Report}
 use Rattle.apply_run.specs.declared.why.Why.TheVariants.{Memory, Write}
 use Rattle.apply_run.specs.Stream.Delivered.{IsDelivered}
+use Rattle.apply_run.specs.Stream.Form.{StreamForm, lines_in, stream_in}
 
 -- all of the bytes were delivered, and no write has failed
 pub record IsWhole (plan : SavedPlan) (events : List Event) (all : List ℕ) (report : Report)
@@ -26,11 +24,11 @@ pub record IsCutOff (plan : SavedPlan) (events : List Event) (all : List ℕ) (r
   pub delivered : IsDelivered plan events part report before after
   pub failed : failures' ≡ failures
 
--- a write has failed, or memory was refused for a line, and then no summary was written
-abbrev pub IsFaulted : (plan : SavedPlan) (script : OutcomeMap) (start : ℕ) (operation : Operation) (events : List Event)
+-- a write has failed, or memory was refused for a line, and then nothing of what comes last was written
+abbrev pub IsFaulted : (form : StreamForm) (events : List Event)
     → Fault → (before after : Option (List ℕ)) (failures failed : ℕ) → Type 0
-IsFaulted plan script start operation events fault before after failures failed =
-    ((fault.why ≡ Write) × IsCutOff plan events (stream_of plan script start operation events) fault.report
+IsFaulted form events fault before after failures failed =
+    ((fault.why ≡ Write) × IsCutOff form.plan events (stream_in form events) fault.report
     before after (failures + 1) failed)
-    ⊎ ((fault.why ≡ Memory) × IsCutOff plan events (lines_of plan script start (as_written events)) fault.report
+    ⊎ ((fault.why ≡ Memory) × IsCutOff form.plan events (lines_in form (as_written events)) fault.report
     before after failures failed)

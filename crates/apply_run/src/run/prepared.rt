@@ -8,7 +8,6 @@ ghost use Rattle.apply_run.specs.Options.{IsInRange};
 use crate::options::Options;
 use crate::worker::StoppedWorker;
 use apply_bus::{BusError, Claims, Drawer, Rx, Tx, open};
-use apply_text::LineBuffer;
 use std::alloc::Global;
 
 /// What workers and the collector hold of the claims and of the bus of a run.
@@ -23,12 +22,11 @@ pub(crate) struct Endpoints {
     pub stopped: Vec<StoppedWorker>,
 }
 
-/// All that a run takes memory for before its threads start, but for the list of these threads.
+/// What a run of any form takes memory for before its threads start, but for the list of these threads.
 #[derive(Drop)]
 pub(crate) struct Prepared {
     pub claims: Claims,
     pub endpoints: Endpoints,
-    pub buffer: LineBuffer,
 }
 
 impl Prepared {
@@ -44,17 +42,12 @@ impl Prepared {
         let (claims, drawers) = Claims::open(alloc, options.workers, changes)?;
         let (senders, rx) = open(alloc, options.workers, options.capacity)?;
         let stopped = Vec::with_capacity(alloc, usize::from(options.workers))?;
-        let buffer = LineBuffer::with_room(alloc)?;
         let endpoints = Endpoints {
             drawers,
             senders,
             rx,
             stopped,
         };
-        Ok(Prepared {
-            claims,
-            endpoints,
-            buffer,
-        })
+        Ok(Prepared { claims, endpoints })
     }
 }

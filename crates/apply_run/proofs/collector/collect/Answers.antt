@@ -8,16 +8,14 @@ use Rattle.apply_run.proofs.collector.collect.Goals as goal
 
 pub loop-rx-init : goal.loop-rx-init
 loop-rx-init g c =
-    let w = c.write_version.ensures in
+    let w = c.write_head.ensures in
     record {
       bus = refl;
       workers = refl;
-      plan = w.same.plan;
-      script = w.same.script;
-      start = w.same.start;
+      form = w.same;
       counts_fit = w.counts_fit;
       few = let none = w.none in omega (arith, none);
-      told = told_no_items _ _ _ _ _ c.args.rx.taken (telling_of g.S.Sink.bytes g.S.Sink.failed c.write_version.new.self) c.requires.none w.told;
+      told = told_no_items _ _ _ c.args.rx.taken (telling_of g.S.Sink.bytes g.S.Sink.failed c.write_head.new.self) c.requires.none w.told;
       lost = omega arith;
     }
 
@@ -37,12 +35,10 @@ loop-rx-preserved-in-Ok g c =
     record {
       bus = ap (λ rx. rx.bus) c.in-Ok.ensures.ok ∙ i.bus;
       workers = ap (λ rx. rx.workers) c.in-Ok.ensures.ok ∙ i.workers;
-      plan = n.same.plan ∙ i.plan;
-      script = n.same.script ∙ i.script;
-      start = n.same.start ∙ i.start;
+      form = n.same ∙ i.form;
       counts_fit = n.counts_fit;
       few = count_more _ _ taken new c.in-Ok.item is n.one_more i.few;
-      told = told_more_items _ _ _ _ _ _ _ _ taken new c.in-Ok.item (telling_of g.S.Sink.bytes g.S.Sink.failed c.loop-rx.stream) _ i.plan i.script i.start is i.told (n.told _ _ _);
+      told = told_more_items _ _ _ _ taken new c.in-Ok.item (telling_of g.S.Sink.bytes g.S.Sink.failed c.loop-rx.stream) _ i.form is i.told (n.told _ _ _);
       lost = i.lost;
     }
 
@@ -58,12 +54,10 @@ loop-rx-preserved g c =
     record {
       bus = ap (λ rx. rx.bus) same ∙ i.bus;
       workers = ap (λ rx. rx.workers) same ∙ i.workers;
-      plan = i.plan;
-      script = i.script;
-      start = i.start;
+      form = i.form;
       counts_fit = i.counts_fit;
       few = subst (λ items. c.loop-rx.stream.taken ≤ length items) is i.few;
-      told = subst (λ items. All (IsOfPlan s.plan.now) (events items) → HasTold s.plan.now s.script.now s.start (g.S.Sink.bytes s.output.sink) (g.S.Sink.failed s.output.sink) (events items) (telling_of g.S.Sink.bytes g.S.Sink.failed c.loop-rx.stream)) is i.told;
+      told = subst (λ items. All (IsOfPlan (g.F.FormLines.form s.lines).plan) (events items) → HasTold (g.F.FormLines.form s.lines) (g.S.Sink.bytes s.output.sink) (g.S.Sink.failed s.output.sink) (events items) (telling_of g.S.Sink.bytes g.S.Sink.failed c.loop-rx.stream)) is i.told;
       lost = let low = c.if-lost_takes-lt-MAX_LOST.true in omega (arith, low);
     }
 
@@ -77,12 +71,12 @@ pub returns-clause-named : goal.returns-clause-named
 returns-clause-named g c = subst₂ NamesWorkersBelow c.loop-rx.invariant.workers (sym (ap (λ (a : Account). a.taken) c.give_up.ensures.taken)) c.give_up.ensures.named
 
 pub returns-clause-same : goal.returns-clause-same
-returns-clause-same g c = let i = c.loop-rx.invariant in record { plan = i.plan; script = i.script; start = i.start }
+returns-clause-same g c = c.loop-rx.invariant.form
 
 pub returns-clause-told : goal.returns-clause-told
 returns-clause-told g c =
     let s = c.args.stream in
-    subst (λ items. All (IsOfPlan s.plan.now) (events items) → HasTold s.plan.now s.script.now s.start (g.S.Sink.bytes s.output.sink) (g.S.Sink.failed s.output.sink) (events items) (telling_of g.S.Sink.bytes g.S.Sink.failed c.loop-rx.stream)) (sym (ap (λ (a : Account). a.taken) c.give_up.ensures.taken)) c.loop-rx.invariant.told
+    subst (λ items. All (IsOfPlan (g.F.FormLines.form s.lines).plan) (events items) → HasTold (g.F.FormLines.form s.lines) (g.S.Sink.bytes s.output.sink) (g.S.Sink.failed s.output.sink) (events items) (telling_of g.S.Sink.bytes g.S.Sink.failed c.loop-rx.stream)) (sym (ap (λ (a : Account). a.taken) c.give_up.ensures.taken)) c.loop-rx.invariant.told
 
 pub returns-clause-counts_fit : goal.returns-clause-counts_fit
 returns-clause-counts_fit g c = c.loop-rx.invariant.counts_fit

@@ -10,13 +10,11 @@ abbrev pub invariant-loop-rx : goal.invariant-loop-rx
 invariant-loop-rx g l = record {
   bus : l.rx.bus ≡ l.fn.rx.bus;
   workers : l.rx.workers ≡ l.fn.rx.workers;
-  plan : l.stream.plan.now ≡ l.fn.stream.plan.now;
-  script : l.stream.script.now ≡ l.fn.stream.script.now;
-  start : l.stream.start ≡ l.fn.stream.start;
-  counts_fit : CountsFit l.stream.plan.now (telling_of g.S.Sink.bytes g.S.Sink.failed l.stream);
+  form : g.F.FormLines.form l.stream.lines ≡ g.F.FormLines.form l.fn.stream.lines;
+  counts_fit : CountsFit (g.F.FormLines.form l.stream.lines).plan (telling_of g.S.Sink.bytes g.S.Sink.failed l.stream);
   few : l.stream.taken ≤ length l.rx.taken;
-  told : All (IsOfPlan l.fn.stream.plan.now) (events l.rx.taken)
-      → HasTold l.fn.stream.plan.now l.fn.stream.script.now l.fn.stream.start (g.S.Sink.bytes l.fn.stream.output.sink) (g.S.Sink.failed l.fn.stream.output.sink) (events l.rx.taken)
+  told : All (IsOfPlan (g.F.FormLines.form l.fn.stream.lines).plan) (events l.rx.taken)
+      → HasTold (g.F.FormLines.form l.fn.stream.lines) (g.S.Sink.bytes l.fn.stream.output.sink) (g.S.Sink.failed l.fn.stream.output.sink) (events l.rx.taken)
       (telling_of g.S.Sink.bytes g.S.Sink.failed l.stream);
   lost : l.lost_takes ≤ 1000;
 }

@@ -5,12 +5,10 @@ use Rattle.apply_run.proofs.lanes.tell_all.Goals as goal
 
 pub loop-event-init : goal.loop-event-init
 loop-event-init g c =
-    let w = c.write_version.ensures in
+    let w = c.write_head.ensures in
     record {
       work = refl;
-      plan = w.same.plan;
-      script = w.same.script;
-      start = w.same.start;
+      form = w.same;
       count = w.none ∙ sym c.requires.none_told;
       counts_fit = w.counts_fit;
       told = ([], refl, w.told);
@@ -24,13 +22,11 @@ loop-event-preserved g c =
     let i = c.loop-event.invariant in
     let n = c.in-Some.ensures in
     let t = c.tell.ensures in
-    let told = rw (i.plan, i.script, i.start) at t.told in
+    let told = rw i.form at t.told in
     let events = i.told.0 in
     record {
       work = n.work ∙ i.work;
-      plan = t.same.plan ∙ i.plan;
-      script = t.same.script ∙ i.script;
-      start = t.same.start ∙ i.start;
+      form = t.same ∙ i.form;
       count = t.one_more ∙ ap (λ k. k + 1) i.count ∙ sym n.one_more;
       counts_fit = t.counts_fit;
       told = (
@@ -41,4 +37,4 @@ loop-event-preserved g c =
     }
 
 pub returns-clause-same : goal.returns-clause-same
-returns-clause-same g c = let i = c.loop-event.invariant in record { plan = i.plan; script = i.script; start = i.start }
+returns-clause-same g c = c.loop-event.invariant.form

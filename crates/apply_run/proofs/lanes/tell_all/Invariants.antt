@@ -9,13 +9,11 @@ use Rattle.apply_run.proofs.lanes.tell_all.Given as goal
 abbrev pub invariant-loop-event : goal.invariant-loop-event
 invariant-loop-event g l = record {
   work : work_of l.lanes ≡ work_of l.fn.lanes;
-  plan : l.stream.plan.now ≡ l.fn.stream.plan.now;
-  script : l.stream.script.now ≡ l.fn.stream.script.now;
-  start : l.stream.start ≡ l.fn.stream.start;
+  form : g.F.FormLines.form l.stream.lines ≡ g.F.FormLines.form l.fn.stream.lines;
   count : l.stream.taken ≡ told_count l.lanes;
-  counts_fit : CountsFit l.stream.plan.now (telling_of g.S.Sink.bytes g.S.Sink.failed l.stream);
+  counts_fit : CountsFit (g.F.FormLines.form l.stream.lines).plan (telling_of g.S.Sink.bytes g.S.Sink.failed l.stream);
   told : (events : List Event) × (events ++ to_come l.lanes ≡ to_come l.fn.lanes)
-      × HasTold l.fn.stream.plan.now l.fn.stream.script.now l.fn.stream.start (g.S.Sink.bytes l.fn.stream.output.sink) (g.S.Sink.failed l.fn.stream.output.sink) events
+      × HasTold (g.F.FormLines.form l.fn.stream.lines) (g.S.Sink.bytes l.fn.stream.output.sink) (g.S.Sink.failed l.fn.stream.output.sink) events
       (telling_of g.S.Sink.bytes g.S.Sink.failed l.stream);
 }
 

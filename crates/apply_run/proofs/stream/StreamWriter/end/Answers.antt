@@ -11,7 +11,7 @@ returns-clause-ok g c =
     let e = c.write_rest.ensures in
     elim c.match-self.branch [
       | in-Going w ↦ rw (w.result-is, c.report-report.ensures, e.told.0, e.told.1, c.into_sink.ensures) (λ before failures events told.
-          ended_whole s.plan.now s.script.now s.start c.args.operation before failures events (telling_of g.S.Sink.bytes g.S.Sink.failed s) (outlet_of g.S.Sink.bytes g.S.Sink.failed c.write_rest.new.self.output) w.in-Going.is (e.written before failures events told) told)
+          ended_whole (g.F.FormLines.form s.lines) before failures events (telling_of g.S.Sink.bytes g.S.Sink.failed s) (outlet_of g.S.Sink.bytes g.S.Sink.failed c.write_rest.new.self.output) w.in-Going.is (e.written before failures events told) told)
       | in-Failed w ↦ rw w.result-is tt
       | in-NoMemory w ↦ rw w.result-is tt
     ]
@@ -24,10 +24,10 @@ returns-clause-err g c =
       | in-Going w ↦ rw w.result-is tt
       | in-Failed w ↦ rw (w.result-is, c.report-report.ensures, e.told.0, e.told.1, c.into_sink.ensures) (λ before failures events told. inl (
         refl,
-        ended_in_part s.plan.now s.script.now s.start c.args.operation before failures events (telling_of g.S.Sink.bytes g.S.Sink.failed s) (outlet_of g.S.Sink.bytes g.S.Sink.failed c.write_rest.new.self.output) w.in-Failed.is (e.written before failures events told) told,
+        ended_in_part (g.F.FormLines.form s.lines) before failures events (telling_of g.S.Sink.bytes g.S.Sink.failed s) (outlet_of g.S.Sink.bytes g.S.Sink.failed c.write_rest.new.self.output) w.in-Failed.is (e.written before failures events told) told,
       ))
       | in-NoMemory w ↦ rw (w.result-is, c.report-report.ensures, e.told.0, e.told.1, c.into_sink.ensures) (λ before failures events told. inr (
         refl,
-        ended_in_lines s.plan.now s.script.now s.start before failures events (telling_of g.S.Sink.bytes g.S.Sink.failed s) (outlet_of g.S.Sink.bytes g.S.Sink.failed c.write_rest.new.self.output) w.in-NoMemory.is (e.memory w.in-NoMemory.is before failures events told) told,
+        ended_in_lines (g.F.FormLines.form s.lines) before failures events (telling_of g.S.Sink.bytes g.S.Sink.failed s) (outlet_of g.S.Sink.bytes g.S.Sink.failed c.write_rest.new.self.output) w.in-NoMemory.is (e.memory w.in-NoMemory.is before failures events told) told,
       ))
     ]

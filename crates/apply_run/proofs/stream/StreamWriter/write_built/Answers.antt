@@ -7,7 +7,7 @@ use Rattle.apply_run.proofs.stream.StreamWriter.write_built.Goals as goal
 pub returns-in-Ok-clause-written : goal.returns-in-Ok-clause-written
 returns-in-Ok-clause-written g c line built =
     let s = c.args.self.now in
-    let is : s.buffer ≡ line = subst (λ r. OnOk r (s.buffer ≡ line)) c.in-Ok.is built in
+    let is : g.F.FormLines.built s.lines ≡ line = subst (λ r. OnOk r (g.F.FormLines.built s.lines ≡ line)) c.in-Ok.is built in
     subst (Writes (outlet_of g.S.Sink.bytes g.S.Sink.failed s.output) (outlet_of g.S.Sink.bytes g.S.Sink.failed c.write.new.self)) (c.as_bytes.ensures ∙ is) c.write.ensures.written
 
 pub returns-in-Ok-clause-memory : goal.returns-in-Ok-clause-memory

@@ -9,7 +9,7 @@ pub loop-place-init : goal.loop-place-init
 loop-place-init g c =
     let s = c.args.self.now in
     record {
-      same = record { plan = refl; script = refl; start = refl };
+      same = refl;
       notes = refl;
       counts = refl;
       taken = refl;
@@ -17,16 +17,16 @@ loop-place-init g c =
       few = omega (arith, c.requires.written);
       may_fail = c.requires.may_fail;
       written = λ before failures events was.
-          subst (λ es. HasLines s.plan.now s.script.now s.start before failures es (telling_of g.S.Sink.bytes g.S.Sink.failed s)) (sym (append-nil events)) was;
+          subst (λ es. HasLines (g.F.FormLines.form s.lines) before failures es (telling_of g.S.Sink.bytes g.S.Sink.failed s)) (sym (append-nil events)) was;
     }
 
 pub write_event-requires-clause-event : goal.write_event-requires-clause-event
 write_event-requires-clause-event g c =
     let i = c.loop-place.invariant in
-    let plan = c.args.self.now.plan.now in let notes = c.args.self.now.notes.items in let note = c.index.result.now in
+    let plan = (g.F.FormLines.form c.args.self.now.lines).plan in let notes = c.args.self.now.notes.items in let note = c.index.result.now in
     let low : c.loop-place.place < length notes = omega (arith, c.loop-place-test.true, c.len-place-end.ensures, c.args.self.now.notes.ok.0) in
     let here : note ≡ get_or notes c.loop-place.place note = c.index.ensures ∙ ap (λ xs. get_or xs c.loop-place.place note) i.notes in
-    subst (λ p. IsOfPlan p note) (sym i.same.plan) (subst (IsOfPlan plan) (sym here) (All-get_or (IsOfPlan plan) notes c.loop-place.place note low c.requires.notes))
+    subst (λ p. IsOfPlan p note) (sym (ap (λ f. f.plan) i.same)) (subst (IsOfPlan plan) (sym here) (All-get_or (IsOfPlan plan) notes c.loop-place.place note low c.requires.notes))
 
 pub write_event-requires-clause-may_write : goal.write_event-requires-clause-may_write
 write_event-requires-clause-may_write g c =
@@ -41,9 +41,9 @@ loop-place-preserved g c =
     let low : place < length notes = omega (arith, c.loop-place-test.true, c.len-place-end.ensures, s.notes.ok.0) in
     let here : note ≡ get_or notes place note = c.index.ensures ∙ ap (λ xs. get_or xs place note) i.notes in
     let so_far : take place notes ++ note ∷ [] ≡ take (place + 1) notes = sym (take_more notes place note low ∙ ap (λ n. take place notes ++ n ∷ []) (sym here)) in
-    let written = rw (i.same.plan, i.same.script, i.same.start) at w.written in
+    let written = rw i.same at w.written in
     record {
-      same = record { plan = w.same.plan ∙ i.same.plan; script = w.same.script ∙ i.same.script; start = w.same.start ∙ i.same.start };
+      same = w.same ∙ i.same;
       notes = w.told.2 ∙ i.notes;
       counts = w.told.0 ∙ i.counts;
       taken = w.told.1 ∙ i.taken;
@@ -51,7 +51,7 @@ loop-place-preserved g c =
       few = omega (arith, w.more, i.few);
       may_fail = w.may_fail;
       written = λ before failures events was.
-          subst (λ es. HasLines s.plan.now s.script.now s.start before failures es (telling_of g.S.Sink.bytes g.S.Sink.failed c.write_event.new.self))
+          subst (λ es. HasLines (g.F.FormLines.form s.lines) before failures es (telling_of g.S.Sink.bytes g.S.Sink.failed c.write_event.new.self))
           (append_assoc events (take place notes) (note ∷ []) ∙ ap (λ l. events ++ l) so_far)
           (written before failures (events ++ take place notes) (i.written before failures events was));
     }
@@ -61,7 +61,7 @@ returns-clause-written g c before failures events was =
     let i = c.loop-place.invariant in
     let s = c.args.self.now in let notes = s.notes.items in
     let all : length notes ≤ c.loop-place.place = omega (arith, c.loop-place-test.false, c.len-place-end.ensures, s.notes.ok.0) in
-    subst (λ es. HasLines s.plan.now s.script.now s.start before failures es (telling_of g.S.Sink.bytes g.S.Sink.failed c.loop-place.self))
+    subst (λ es. HasLines (g.F.FormLines.form s.lines) before failures es (telling_of g.S.Sink.bytes g.S.Sink.failed c.loop-place.self))
     (ap (λ l. events ++ l) (take_all c.loop-place.place notes all)) (i.written before failures events was)
 
 pub returns-clause-may_write : goal.returns-clause-may_write

@@ -1,5 +1,5 @@
 use Rattle.apply_hooks.specs.Registry.{rules_of}
-use Rattle.apply_run.proofs.applying.apply_stream.Given as goal
+use Rattle.apply_run.proofs.applying.apply_in_form.Given as goal
 
 -- the run is named for what it applies, and for its claims and its bus
 abbrev pub ghosts-run_workers : goal.ghosts-run_workers

@@ -1,15 +1,12 @@
-use Rattle.std.proofs.Common.{◌++◌, ◌∙◌, ap, refl}
-use Rattle.std.proofs.lemmas.Result.{on_ok_weaker}
-use Rattle.apply_text.specs.Lines.{summary_text}
+use Rattle.std.proofs.Common.{ap, refl}
 use Rattle.apply_run.specs.Stream.Outlet.{failed_writes, outlet_of}
 use Rattle.apply_run.proofs.Streams.Writing.{writes_none}
-use Rattle.apply_run.proofs.stream.StreamWriter.write_summary.Goals as goal
+use Rattle.apply_run.proofs.stream.StreamWriter.write_tail.Goals as goal
 
 pub returns-in-Going-clause-written : goal.returns-in-Going-clause-written
 returns-in-Going-clause-written g c =
-    let s = c.args.self.now in
-    let text = summary_text s.start s.latest c.args.operation s.counts in
-    c.write_built.ensures.written text (on_ok_weaker c.push_summary-built.result (λ is. is ∙ ap (λ bytes. bytes ++ text) c.clear.ensures) c.push_summary-built.ensures.ok)
+    let s = c.args.self.now in let form = g.F.FormLines.form s.lines in
+    c.write_built.ensures.written (form.tail s.latest s.counts) c.build_tail-built.ensures.ok
 
 pub returns-in-Going-clause-memory : goal.returns-in-Going-clause-memory
 returns-in-Going-clause-memory g c = c.write_built.ensures.memory
@@ -19,9 +16,9 @@ returns-in-Going-clause-told g c = let kept = c.write_built.ensures.told in (kep
 
 pub returns-in_default : goal.returns-in_default
 returns-in_default g c =
-    let s = c.args.self.now in
+    let s = c.args.self.now in let form = g.F.FormLines.form s.lines in
     record {
-      written = writes_none (outlet_of g.S.Sink.bytes g.S.Sink.failed s.output) (summary_text s.start s.latest c.args.operation s.counts) c.in_default.not-Going;
+      written = writes_none (outlet_of g.S.Sink.bytes g.S.Sink.failed s.output) (form.tail s.latest s.counts) c.in_default.not-Going;
       memory = λ ends. record { none_failed = ap failed_writes ends; bytes = refl; failures = refl; written = refl };
       told = (refl, refl);
     }
