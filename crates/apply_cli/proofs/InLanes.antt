@@ -18,6 +18,7 @@ use Rattle.apply_run.specs.declared.why.Why.{Why}
 use Rattle.apply_run.specs.declared.why.Why.TheVariants as why
 use Rattle.apply_run.specs.Lanes.{HasFailedInLanes, IsCutOffInLanes, WasAppliedInLanes, WasRefusedInLanes}
 use Rattle.apply_run.specs.Run.{DidNothing, Sight}
+use Rattle.apply_run.specs.Stream.Form.{plain_form}
 use Rattle.apply_cli.specs.CommandInLanes.{HasAppliedInLanes, HasBegunInLanes}
 use Rattle.apply_cli.specs.Status.{counts_status_of, refusal_status_of, unfinished}
 use Rattle.apply_cli.proofs.Ending.{prefix_same, refused_large, told_by}
@@ -68,7 +69,7 @@ module _ (given : Given) (lanes start : ℕ) (operation : Operation) where
 
   -- a write has failed
   begun_by_not_written : (report : Report) (before after after' : Sight) (plan : SavedPlan) (script : OutcomeMap) → Keeps after.bytes after'.bytes → after.failed ≤ after'.failed → IsRead given plan script
-      → IsCutOffInLanes (record { plan = plan; script = script; hooks = given.hooks }) lanes (stream_of plan script start operation) (before.failed + 1) report before after → HasBegunInLanes given lanes start operation before after'
+      → IsCutOffInLanes (plain_form plan script start operation) (record { plan = plan; script = script; hooks = given.hooks }) lanes (stream_of plan script start operation) (before.failed + 1) report before after → HasBegunInLanes given lanes start operation before after'
   begun_by_not_written report before after after' plan script kept more read h = record {
     plan = plan;
     script = script;
@@ -82,7 +83,7 @@ module _ (given : Given) (lanes start : ℕ) (operation : Operation) where
 
   -- memory was refused for a line
   begun_by_no_memory : (report : Report) (before after after' : Sight) (plan : SavedPlan) (script : OutcomeMap) → Keeps after.bytes after'.bytes → IsRead given plan script
-      → IsCutOffInLanes (record { plan = plan; script = script; hooks = given.hooks }) lanes (λ events. lines_of plan script start (as_written events)) before.failed report before after → HasBegunInLanes given lanes start operation before after'
+      → IsCutOffInLanes (plain_form plan script start operation) (record { plan = plan; script = script; hooks = given.hooks }) lanes (λ events. lines_of plan script start (as_written events)) before.failed report before after → HasBegunInLanes given lanes start operation before after'
   begun_by_no_memory report before after after' plan script kept read h = record {
     plan = plan;
     script = script;
@@ -101,7 +102,7 @@ module _ (given : Given) (lanes start : ℕ) (operation : Operation) where
       let work : Work = record { plan = plan; script = script; hooks = given.hooks } in
       ⊎_elim
       (λ (none : DidNothing report before after). inl (subst (λ s. Keeps s.bytes after'.bytes) none.same kept))
-      (λ (ran : IsCutOffInLanes work lanes (λ events. lines_of plan script start (as_written events)) before.failed report before after). inr (begun_by_no_memory report before after after' plan script kept read ran))
+      (λ (ran : IsCutOffInLanes (plain_form plan script start operation) work lanes (λ events. lines_of plan script start (as_written events)) before.failed report before after). inr (begun_by_no_memory report before after after' plan script kept read ran))
       h
   begun_by_fault why.Workers report before after after' plan script kept more read h = absurd h
   begun_by_fault why.Bus report before after after' plan script kept more read h = absurd h

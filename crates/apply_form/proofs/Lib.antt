@@ -4,4 +4,5 @@ pub mod Events
 pub mod LinesAdded
 pub mod Members
 pub mod Moments
+pub mod Separators
 pub mod Texts

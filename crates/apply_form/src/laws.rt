@@ -1,10 +1,10 @@
 //! Laws of lines. Each function does nothing; its contract is the law.
 
-ghost use Rattle.std.specs.Prelude.{◌≡◌, ℕ, List, map};
+ghost use Rattle.std.specs.Prelude.{◌≡◌, ℕ, List, false, map};
 ghost use Rattle.apply_text.specs.Laws.{line_feeds};
 ghost use Rattle.serde_json.specs.Data.{Data};
 ghost use Rattle.apply_form.specs.declared.output.Output.{Output};
-ghost use Rattle.apply_form.specs.Laws.{brackets, without_secret};
+ghost use Rattle.apply_form.specs.Laws.{brackets, has_separator, without_secret};
 ghost use Rattle.apply_form.specs.Lines.{line_of, line_of_text, outputs_text};
 
 /// Outputs that differ in the values of sensitive ones alone give the same line.
@@ -16,6 +16,11 @@ pub fn no_sensitive_value_is_told()
 /// No line has a `<`, a `>` or an `&`.
 pub fn a_line_has_no_bracket()
     ensures { (text : List ℕ) → brackets (line_of_text text) ≡ 0 }
+{}
+
+/// No line has the character U+2028 or U+2029, which end a line of a script.
+pub fn a_line_has_no_separator()
+    ensures { (text : List ℕ) → has_separator (line_of_text text) ≡ false }
 {}
 
 /// A line has one line feed, at its end.

@@ -20,7 +20,10 @@ pub use change_details::ChangeDetails;
 pub use form::Form;
 pub use form_buffer::FormBuffer;
 pub use importing::Importing;
-pub use laws::{a_line_has_no_bracket, a_line_has_one_line_feed, no_sensitive_value_is_told};
+pub use laws::{
+    a_line_has_no_bracket, a_line_has_no_separator, a_line_has_one_line_feed,
+    no_sensitive_value_is_told,
+};
 pub use output::Output;
 pub use plan_note::PlanNote;
 pub use reason::Reason;
