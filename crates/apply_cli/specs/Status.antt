@@ -41,6 +41,8 @@ script_status_of (script.SecondsRange n) = 2
 script_status_of (script.TooManyProvisioners n) = 2
 script_status_of (script.TooMuchOutput n) = 2
 script_status_of (script.NotACreate n) = 2
+script_status_of (script.BadOutput n) = 2
+script_status_of (script.UnknownOutput n) = 2
 script_status_of script.Memory = 3
 
 abbrev pub refusal_status_of : Refusal → ℕ

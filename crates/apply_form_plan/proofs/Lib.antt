@@ -1,1 +1,7 @@
 mod ActionLists
+mod Copying
+mod Documents
+mod ElementLists
+mod KeptTexts
+mod MapMembers
+mod Trimmed

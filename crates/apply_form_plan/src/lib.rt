@@ -1,12 +1,33 @@
-//! What only Terraform's form tells of a plan (JSON Output Format 1.x), read beside the plan itself. A member of another kind
-//! counts as absent, so that no plan is refused for it.
+//! What only Terraform's form tells of a plan (JSON Output Format 1.x) and of a script, read beside both. A member of a plan
+//! that is of another kind counts as absent, so that no plan is refused for it.
 #![tactic(auto)]
 
+mod changes;
 mod details;
+mod details_shape;
+mod elements;
+mod extras;
 mod flags;
 mod notes;
+mod output_changes;
+mod outputs;
+mod plan_details;
+mod plan_outputs;
+mod reading;
 mod reasons;
+mod script_outputs;
+mod taking;
+mod telling;
+mod texts;
 
-pub use details::change_details;
+pub use changes::read_plan_details;
+pub use details::Details;
+pub use elements::change_details;
+pub use extras::Extras;
 pub use notes::{is_errored, is_partial, plan_note};
+pub use plan_details::PlanDetails;
+pub use plan_outputs::PlanOutputs;
+pub use reading::read_details;
 pub use reasons::reason_named;
+pub use script_outputs::read_extras;
+pub use telling::told_outputs;

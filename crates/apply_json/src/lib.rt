@@ -13,4 +13,5 @@ mod trimming;
 pub use json::Scratch;
 pub use json_fault::JsonFault;
 pub use parsing::{parse, parse_trimmed};
+pub use read_fault::ReadFault;
 pub use shape::Shape;

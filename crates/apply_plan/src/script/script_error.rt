@@ -44,6 +44,13 @@ pub enum ScriptError {
     /// A step of the entry that is no create has a provisioner.
     #[error("script entry {0} has a provisioner on a step that is not a create")]
     NotACreate(u32),
+    /// In Terraform's form alone, where no variant above holds: an output of the script, counted from 0 in the order of
+    /// the names' bytes, is no object, has a `sensitive` that is neither `true` nor `false`, or has no `type`.
+    #[error("script output {0} is malformed")]
+    BadOutput(usize),
+    /// In Terraform's form alone, where no variant above holds: the plan has no output of that name, or deletes it.
+    #[error("script output {0} is not an output of the plan")]
+    UnknownOutput(usize),
     /// Memory was refused. It comes where the growth stands, before the refusals that would be found later.
     #[error("out of memory")]
     Memory,

@@ -184,6 +184,8 @@ SecondsRange(7) => script entry 7 has a step over 86400 seconds
 TooManyProvisioners(8) => script entry 8 has a step with more than 8 provisioners
 TooMuchOutput(9) => script entry 9 has a provisioner with more than 100 outputs
 NotACreate(10) => script entry 10 has a provisioner on a step that is not a create
+BadOutput(11) => script output 11 is malformed
+UnknownOutput(12) => script output 12 is not an output of the plan
 Memory => out of memory
 "#;
 
@@ -201,6 +203,8 @@ fn script_refusals_have_their_texts(rt: HostRuntime) {
         ScriptError::TooManyProvisioners(8),
         ScriptError::TooMuchOutput(9),
         ScriptError::NotACreate(10),
+        ScriptError::BadOutput(11),
+        ScriptError::UnknownOutput(12),
         ScriptError::Memory,
     ];
     for refusal in refusals {

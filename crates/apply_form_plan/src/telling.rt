@@ -1,0 +1,61 @@
+//! The outputs that are told.
+
+ghost use Rattle.std.specs.Prelude.{◌≡◌, IfOk, option_map};
+ghost use Rattle.serde_json.specs.View.{view, members_view};
+ghost use Rattle.apply_form_plan.specs.Outputs as told;
+ghost use Rattle.apply_form_plan.specs.Outputs.{seen_outputs};
+
+use crate::extras::Extras;
+use crate::output_changes::is_told;
+use crate::outputs::output_of;
+use crate::plan_outputs::PlanOutputs;
+use apply_form::Output;
+use serde_json::{Map, Value};
+use std::alloc::{AllocError, Global};
+
+/// The outputs that are told, in the order of the names' bytes: those that the plan knows before the apply and does not
+/// delete, and those of the script, which stand in place of the plan's. `Err` where memory is refused.
+pub fn told_outputs(
+    alloc: Global,
+    plan: PlanOutputs,
+    script: Extras,
+) -> Result<Vec<Output>, AllocError>
+    ensures { IfOk result (λ outputs. outputs.items
+        ≡ told.told_outputs (seen_outputs plan) (members_view script.outputs.entries)) }
+{
+    let PlanOutputs { known, changes } = plan;
+    let found = beside(known, changes.as_ref(), script.outputs)?;
+    as_outputs(alloc, found)
+}
+
+/// What was found, and beside it those of the plan that are told.
+fn beside(
+    known: Map<String, Value>,
+    changes: Option<&Value>,
+    found: Map<String, Value>,
+) -> Result<Map<String, Value>, AllocError>
+    ensures { IfOk result (λ all. members_view all.entries
+        ≡ told.beside (option_map (λ value. view value.now) changes.entry)
+        (members_view known.entries) (members_view found.entries)) }
+{
+    let mut known = known;
+    let mut found = found;
+    while let Some((name, output)) = known.pop_first() {
+        if is_told(changes, name.as_str(), &output) && !found.contains_key(name.as_str()) {
+            drop(found.insert(name, output)?);
+        }
+    }
+    Ok(found)
+}
+
+/// All of them as outputs.
+fn as_outputs(alloc: Global, found: Map<String, Value>) -> Result<Vec<Output>, AllocError>
+    ensures { IfOk result (λ outputs. outputs.items ≡ told.as_outputs (members_view found.entries)) }
+{
+    let mut found = found;
+    let mut outputs = Vec::with_capacity(alloc, found.len())?;
+    while let Some((name, output)) = found.pop_first() {
+        outputs.push(output_of(alloc, name.as_str(), &output)?)?;
+    }
+    Ok(outputs)
+}
