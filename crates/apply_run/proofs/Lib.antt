@@ -1,4 +1,5 @@
 pub mod Runs
+pub mod Sizes
 pub mod Streams
 pub mod Taken
 pub mod Workers

@@ -2,5 +2,6 @@
 
 pub mod form_lines;
 pub mod plain_lines;
+pub mod read_besides;
 pub mod terraform_lines;
 pub mod told_besides;

@@ -118,7 +118,7 @@ fn tell_all<S: Sink + Drop, F: FormLines>(
 }
 
 /// Whether there are 1 to 64 lanes.
-fn are_lanes(lanes: u8) -> bool
+pub(crate) fn are_lanes(lanes: u8) -> bool
     ensures { IsTrue result ↔ AreLanes lanes }
 {
     1 <= lanes && lanes <= MAX_LANES

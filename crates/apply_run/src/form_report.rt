@@ -1,0 +1,13 @@
+//! What a run in some form has done.
+
+use crate::report::Report;
+
+/// What a run in some form has done.
+#[derive(Clone, Copy, Debug, PartialEq, Eq)]
+pub struct FormReport {
+    /// What was done.
+    pub run: Report,
+    /// Whether the stream tells of an error: a step failed or was halted, or, in Terraform's form, the making of the plan
+    /// ended with an error.
+    pub tells_error: bool,
+}

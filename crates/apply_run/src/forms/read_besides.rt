@@ -1,0 +1,140 @@
+//! What is read of a plan and a script for Terraform's form.
+
+ghost use Rattle.std.specs.Prelude.{◌≡◌, ◌≤◌, length, Err, IfErr, IfOk, IfSome};
+ghost use Rattle.std.specs.Option.{option_copied};
+ghost use Rattle.serde_json.specs.View.{members_view};
+ghost use Rattle.apply_plan.specs.declared.script.script_error.ScriptError.TheVariants as script_error;
+ghost use Rattle.apply_plan.specs.Bytes.{max_bytes};
+ghost use Rattle.apply_plan.specs.Results.{Gives};
+ghost use Rattle.apply_form_plan.specs.Outputs.{seen_outputs};
+ghost use Rattle.apply_form_plan.specs.Told.{seen_details};
+ghost use Rattle.apply_run.specs.Bytes.{MayBeRead};
+ghost use Rattle.apply_run.specs.Read.{given_outputs, IsReadAsTold, WasNotRead, WasRead};
+
+use crate::bytes::read_given;
+use crate::forms::told_besides::ToldBesides;
+use crate::refusal::Refusal;
+use apply_form::{ChangeDetails, Output, PlanNote};
+use apply_form_plan::{
+    Details, Extras, PlanDetails, PlanOutputs, read_details, read_extras, told_outputs,
+};
+use apply_model::Text;
+use apply_plan::{Plan, PlanError, Script, ScriptError, read_plan};
+use std::alloc::{AllocError, Global};
+
+/// What is read of a plan and a script for Terraform's form.
+#[derive(Debug, Drop)]
+pub(crate) struct ReadBesides {
+    /// The plan as it is applied: without changes where its making ended with an error.
+    pub plan: Plan,
+    /// The script as it is applied.
+    pub script: Script,
+    /// What is told of each change, by its number.
+    pub changes: Vec<ChangeDetails>,
+    /// What is said of the plan as a whole.
+    pub note: Option<PlanNote>,
+    /// The outputs, in their order.
+    pub outputs: Vec<Output>,
+}
+
+impl ReadBesides {
+    /// What is told besides the events.
+    pub fn besides(&self) -> ToldBesides<'_>
+        ensures details { result.details.now ≡ self.now.changes.items }
+        ensures note { result.note ≡ self.now.note }
+        ensures outputs { result.outputs.now ≡ self.now.outputs.items }
+    {
+        ToldBesides {
+            details: &self.changes,
+            note: self.note,
+            outputs: &self.outputs,
+        }
+    }
+}
+
+/// Reads a plan (JSON Output Format, "Plan Representation"), a script of outcomes for it, where there is one, and what both
+/// say besides.
+///
+/// `Err` with `Refusal::Plan` where the bytes are no plan, else with `Refusal::Script` where they are no script for it, or its
+/// outputs are none of the plan. Want of memory is a refusal of what was being read.
+pub(crate) fn read_besides(
+    alloc: Global,
+    plan: &[u8],
+    script: Option<&[u8]>,
+) -> Result<ReadBesides, Refusal>
+    ensures ok { IfOk result (WasRead plan.now (option_copied script.entry)) }
+    ensures err { IfErr result (WasNotRead plan.now (option_copied script.entry)) }
+{
+    let saved = match read_plan(alloc, plan) {
+        Ok(saved) => saved,
+        Err(refusal) => return Err(Refusal::Plan(refusal)),
+    };
+    let outcomes = match read_given(alloc, script, &saved) {
+        Ok(outcomes) => outcomes,
+        Err(refusal) => return Err(Refusal::Script(refusal)),
+    };
+    let Ok(details) = read_details(alloc, plan) else {
+        return Err(Refusal::Plan(PlanError::Memory));
+    };
+    let extras = match read_given_extras(alloc, script, &details.outputs) {
+        Ok(extras) => extras,
+        Err(refusal) => return Err(Refusal::Script(refusal)),
+    };
+    match as_told(alloc, saved, outcomes, details, extras) {
+        Ok(read) => Ok(read),
+        Err(_) => Err(Refusal::Plan(PlanError::Memory)),
+    }
+}
+
+/// What a script says besides, and nothing where there is none.
+fn read_given_extras(
+    alloc: Global,
+    bytes: Option<&[u8]>,
+    plan: &PlanOutputs,
+) -> Result<Extras, ScriptError>
+    requires { IfSome (option_copied bytes) (λ some. length some ≤ max_bytes) }
+    ensures defined { Gives script_error.Memory (λ extras. members_view extras.outputs.entries) result
+        (given_outputs (seen_outputs plan.now) (option_copied bytes.entry)) }
+    ensures memory { result ≡ Err script_error.Memory → MayBeRead (option_copied bytes.entry) }
+{
+    match bytes {
+        Some(bytes) => read_extras(alloc, bytes, plan),
+        None => Ok(Extras::none(alloc)),
+    }
+}
+
+/// What was read, as it is applied. `Err` where memory is refused.
+fn as_told(
+    alloc: Global,
+    plan: Plan,
+    script: Script,
+    details: Details,
+    extras: Extras,
+) -> Result<ReadBesides, AllocError>
+    ensures { IfOk result (IsReadAsTold (record {
+      plan = plan;
+      script = script;
+      details = seen_details details;
+      outputs = members_view extras.outputs.entries;
+    })) }
+{
+    let Details {
+        plan: said,
+        outputs,
+    } = details;
+    let PlanDetails { changes, note } = said;
+    let outputs = told_outputs(alloc, outputs, extras)?;
+    let (plan, script) = if note == Some(PlanNote::Unfinished) {
+        let version = Text::new(alloc, plan.version())?;
+        (Plan::new(version, Vec::new(alloc)), Script::empty())
+    } else {
+        (plan, script)
+    };
+    Ok(ReadBesides {
+        plan,
+        script,
+        changes,
+        note,
+        outputs,
+    })
+}
