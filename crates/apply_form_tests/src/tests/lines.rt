@@ -1,0 +1,112 @@
+//! Single lines. Whole streams are compared in `apply_form_run_tests`, through the run.
+
+use super::*;
+
+/// What a line is made of.
+#[derive(Clone, Copy, Drop)]
+struct Told {
+    plan: &'static Plan,
+    script: &'static Script,
+}
+
+/// Adds the line of an event, at that moment.
+fn push_event(
+    rt: &impl Abort,
+    lines: &mut FormBuffer,
+    told: &Told,
+    details: &ChangeDetails,
+    latest: u64,
+    event: &Event,
+) {
+    check_step(rt, told.plan, event);
+    holds(rt, "in time", latest <= LATEST);
+    let planned = details.planned_id();
+    let (plan, script) = (told.plan, told.script);
+    let pushed = lines.push_event(plan, script, Start::zero(), latest, planned, event);
+    pushed.ok().expect(rt, "memory");
+}
+
+/// What the lines of a plan and a script are made of.
+fn told_of(rt: &impl Abort, alloc: Global, plan: &str, script: &str) -> &'static Told {
+    let plan = plan_of(rt, alloc, plan);
+    let script = script_of(rt, alloc, script, plan);
+    kept(rt, alloc, Told { plan, script })
+}
+
+/// Nothing that is told besides.
+fn no_details(rt: &impl Abort, alloc: Global) -> &'static ChangeDetails {
+    let details = ChangeDetails {
+        forgets: false,
+        reason: None,
+        importing: None,
+        generated_config: None,
+        planned_id: None,
+    };
+    kept(rt, alloc, details)
+}
+
+/// A plan with one create.
+const ONE_CREATE: &str =
+    r##"{"format_version":"1.2","terraform_version":"1.11.4","resource_changes":[{"address":"random_pet.animal","mode":"managed","type":"random_pet","name":"animal","change":{"actions":["create"]}}]}"##;
+
+const HALTED: &str =
+    r##"{"@level":"error","@message":"Error: execution halted","@module":"terraform.ui","@timestamp":"1970-01-01T00:00:00.000000Z","diagnostic":{"severity":"error","summary":"execution halted","detail":"Hook 0 answered Halt before create.","address":"random_pet.animal"},"type":"diagnostic"}
+"##;
+
+/// A hook that halts is told of with the address.
+#[test]
+fn a_halt_has_its_address(rt: HostRuntime) {
+    let alloc = rt.alloc();
+    let told = told_of(&rt, alloc, ONE_CREATE, NOTHING_SAID);
+    let details = no_details(&rt, alloc);
+    let mut lines = FormBuffer::new(alloc);
+    let event = Event {
+        worker: 0,
+        change: 0,
+        step: 0,
+        what: What::Halted {
+            phase: Phase::Pre,
+            hook: 0,
+        },
+        at: 0,
+    };
+    push_event(&rt, &mut lines, told, details, 0, &event);
+    compare(&rt, "a halt", lines.as_bytes(), HALTED);
+}
+
+const IMPORTED: &str =
+    r##"{"@level":"info","@message":"random_pet.animal: Plan to create","@module":"terraform.ui","@timestamp":"1970-01-01T00:00:00.000000Z","change":{"resource":{"addr":"random_pet.animal","module":"","resource":"random_pet.animal","implied_provider":"random","resource_type":"random_pet","resource_name":"animal","resource_key":null},"action":"create","reason":"unknown","importing":{},"generated_config":"a = \u003cb\u003e\n"},"type":"planned_change"}
+"##;
+
+/// What is imported without an id, for a reason that has no word, with a configuration that was made for it.
+#[test]
+fn each_detail_has_its_place(rt: HostRuntime) {
+    let alloc = rt.alloc();
+    let plan = plan_of(&rt, alloc, ONE_CREATE);
+    holds(&rt, "a change", 0 < plan.len());
+    let details = ChangeDetails {
+        forgets: false,
+        reason: Some(Reason::Unknown),
+        importing: Some(Importing { id: None }),
+        generated_config: Some(text_of(&rt, alloc, "a = <b>\n")),
+        planned_id: None,
+    };
+    let details = kept(&rt, alloc, details);
+    let mut lines = FormBuffer::new(alloc);
+    let pushed = lines.push_planned(Start::zero(), plan.change(0), details);
+    pushed.ok().expect(&rt, "memory");
+    compare(&rt, "a planned change", lines.as_bytes(), IMPORTED);
+}
+
+const UNFINISHED: &str =
+    r##"{"@level":"error","@message":"Error: Cannot apply incomplete plan","@module":"terraform.ui","@timestamp":"1970-01-01T00:00:00.000000Z","diagnostic":{"severity":"error","summary":"Cannot apply incomplete plan","detail":"Terraform encountered an error when generating this plan, so it cannot be applied."},"type":"diagnostic"}
+"##;
+
+/// A plan whose making ended with an error.
+#[test]
+fn an_unfinished_plan_is_told_of(rt: HostRuntime) {
+    let mut lines = FormBuffer::new(rt.alloc());
+    let pushed = lines.push_note(Start::zero(), 0, PlanNote::Unfinished);
+    pushed.ok().expect(&rt, "memory");
+    compare(&rt, "a note", lines.as_bytes(), UNFINISHED);
+}
