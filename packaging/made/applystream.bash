@@ -17,8 +17,9 @@ _applystream() {
     --halt-before) COMPREPLY=($(compgen -W "create update delete read" -- "$word")); return ;;
     --halt-in) return ;;
     --parallelism) return ;;
+    --form) COMPREPLY=($(compgen -W "applystream terraform" -- "$word")); return ;;
   esac
-  local words="--at --script --workers --queue --destroy --halt-before --halt-in --parallelism --help --version"
+  local words="--at --script --workers --queue --destroy --halt-before --halt-in --parallelism --form --help --version"
   [ "$COMP_CWORD" != 1 ] || words+=" check play"
   COMPREPLY=($(compgen -W "$words" -- "$word"))
 }

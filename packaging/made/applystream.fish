@@ -9,6 +9,7 @@ complete -c applystream -n 'not __fish_seen_subcommand_from check play' -l destr
 complete -c applystream -n 'not __fish_seen_subcommand_from check play' -l halt-before -x -a 'create update delete read' -d 'Halts each step of this kind before it begins. May be given again: 32 halts at most [possible values: create, update, delete, read]'
 complete -c applystream -n 'not __fish_seen_subcommand_from check play' -l halt-in -x -d 'Halts each step of a resource whose address begins so before it begins, as module.a. May be given again: 32 halts at most'
 complete -c applystream -n 'not __fish_seen_subcommand_from check play' -l parallelism -x -d 'How many changes are under way at once in the stream\'s own time, as `terraform apply -parallelism=N` has it: the same input gives the same messages. Not together with --workers or --queue. 1 to 64'
+complete -c applystream -n 'not __fish_seen_subcommand_from check play' -l form -x -a 'applystream terraform' -d 'In which form the stream is written: applystream, or terraform for the bytes that Terraform 1.11 prints [default: applystream] [possible values: applystream, terraform]'
 complete -c applystream -n 'not __fish_seen_subcommand_from check play' -s h -l help -d 'Print help'
 complete -c applystream -n 'not __fish_seen_subcommand_from check play' -s V -l version -d 'Print version'
 complete -c applystream -n '__fish_seen_subcommand_from check' -l json -d 'Says the verdict as a JSON object, on standard output'

@@ -56,7 +56,7 @@ or_swap false true true d = refl
 or_swap false true false d = refl
 or_swap false false c d = refl
 
-any_both : {X : Type 0} (p : X → Bool) (xs ys : List X) → list_any p (xs ++ ys) ≡ (list_any p xs || list_any p ys)
+pub any_both : {X : Type 0} (p : X → Bool) (xs ys : List X) → list_any p (xs ++ ys) ≡ (list_any p xs || list_any p ys)
 any_both p [] ys = refl
 any_both p (x ∷ xs) ys = ap (λ (b : Bool). p x || b) (any_both p xs ys) ∙ or_assoc (p x) (list_any p xs) (list_any p ys)
 
@@ -93,7 +93,7 @@ any_kept p t (x ∷ xs) = at (t x) (any_kept p t xs)
         swapped false b c = refl
     at false rest = sym (or_assoc (p x) (list_any p (filter (λ y. not (t y)) xs)) (list_any p (filter t xs))) ∙ ap (λ (b : Bool). p x || b) rest
 
-any_written : (p : Event → Bool) (es : List Event) → list_any p (as_written es) ≡ list_any p es
+pub any_written : (p : Event → Bool) (es : List Event) → list_any p (as_written es) ≡ list_any p es
 any_written p es = any_both p (hook_messages_of es) (notes_of es) ∙ any_kept p (λ (e : Event). is_note e.what) es
 
 any_of_kept : {X : Type 0} (p t : X → Bool) (xs : List X) → list_any p (filter t xs) ≡ true → list_any p xs ≡ true
@@ -233,12 +233,18 @@ positive : (m n : ℕ) → (nat_lt 0 m || nat_lt 0 n) ≡ nat_lt 0 (m + n)
 positive zero n = ap (nat_lt 0) (let e : n ≡ 0 + n = omega arith in e)
 positive (suc m) n = ap (λ (b : Bool). b || nat_lt 0 n) (lt-ltb 0 (suc m) (omega arith)) ∙ sym (lt-ltb 0 (suc m + n) (omega arith))
 
+-- an error is noted, or a step is halted, exactly where a step failed or was halted
+pub errors_counted : (work : Work) (limit : ℕ) (es : List Event) → Each (λ e. e.change < limit) es → AreParts work limit es
+    → list_any (λ (e : Event). is_error_note e.what || is_halted e.what) es ≡ nat_lt 0 ((totals_of work.plan es).failed + (totals_of work.plan es).halted)
+errors_counted work limit es within parts =
+    any_either noted (λ (e : Event). is_halted e.what) es
+    ∙ ap (λ (b : Bool). b || list_any (λ (e : Event). is_halted e.what) es) (all_alike work limit es within parts ∙ any_counted failed es)
+    ∙ ap (λ (b : Bool). nat_lt 0 (count_by failed es) || b) (any_counted (λ (e : Event). is_halted e.what) es)
+    ∙ positive (count_by failed es) (count_by (λ (e : Event). is_halted e.what) es)
+
 pub errors_told : (work : Work) (limit : ℕ) (es : List Event) → Each (IsPlanned work.plan) (as_written es) → Each (λ e. e.change < limit) es → AreParts work limit es
     → list_any is_error (all_told work.plan (as_written es)) ≡ nat_lt 0 ((totals_of work.plan es).failed + (totals_of work.plan es).halted)
 errors_told work limit es planned within parts =
     any_told work.plan (as_written es) planned
     ∙ any_written (λ (e : Event). is_error_note e.what || is_halted e.what) es
-    ∙ any_either noted (λ (e : Event). is_halted e.what) es
-    ∙ ap (λ (b : Bool). b || list_any (λ (e : Event). is_halted e.what) es) (all_alike work limit es within parts ∙ any_counted failed es)
-    ∙ ap (λ (b : Bool). nat_lt 0 (count_by failed es) || b) (any_counted (λ (e : Event). is_halted e.what) es)
-    ∙ positive (count_by failed es) (count_by (λ (e : Event). is_halted e.what) es)
+    ∙ errors_counted work limit es within parts

@@ -6,6 +6,8 @@ pub mod Counting
 pub mod Cuts
 pub mod Deeds
 pub mod Delivered
+pub mod EndedLines
+pub mod ErrorLevels
 pub mod Errors
 pub mod Fitting
 pub mod Given

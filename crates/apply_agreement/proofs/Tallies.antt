@@ -160,7 +160,7 @@ whole_is plans plan es lines errors =
     (let all = length_behind (version ∷ []) (all_told plan (as_written es)) in let same = length_written es in let more : suc (length (behind (version ∷ []) (all_told plan (as_written es)))) ≡ length es + 2 = omega arith in more)
 
 -- an event whose step the plan has is of one of its changes
-is_within : (plan : SavedPlan) (e : Event) → IsPlanned plan e → e.change < length plan.changes
+pub is_within : (plan : SavedPlan) (e : Event) → IsPlanned plan e → e.change < length plan.changes
 is_within plan e is = let change = found (slice_get plan.changes e.change) e.step is.0 is.1 in slice_get_within plan.changes e.change change.0 change.1
 
 pub run_accepted : (plans : Bool) (work : Work) (workers : ℕ) (lists : List (List ℕ)) (events : List Event) → IsOrdinary work.plan → ProvisionsCreates work.plan work.script → IsPartition workers (length work.plan.changes) lists

@@ -1,5 +1,6 @@
 pub mod Accepted
 pub mod Applied
+pub mod Levels
 pub mod Objects
 pub mod Passing
 pub mod Plans

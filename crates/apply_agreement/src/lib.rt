@@ -3,6 +3,7 @@
 #![tactic(auto)]
 
 mod applied;
+mod forms;
 mod laws;
 
 pub use applied::{
@@ -11,6 +12,7 @@ pub use applied::{
     every_stream_of_what_was_read_is_accepted, texts_that_were_read_are_utf8,
     what_was_read_is_within_limits,
 };
+pub use forms::{a_stream_has_an_end_or_an_error, no_end_tells_of_an_error};
 pub use laws::{
     a_script_provisions_creates, a_stream_of_texts_can_be_read, an_event_is_heard,
     events_that_can_happen_fit_bits, every_run_is_accepted, every_stream_in_lanes_is_accepted,

@@ -10,7 +10,7 @@ use Rattle.serde_json.specs.Events.{items_len}
 use Rattle.apply_plan.specs.declared.plan.plan_error.PlanError.TheVariants.{TooLarge, NotJson, NotAPlan, TooMany, BadChange, BadActions, BadAddress, Duplicate}
 use Rattle.apply_model.specs.Plan.Address.{relative_address}
 use Rattle.apply_plan.specs.Plan.Element.{element_of}
-use Rattle.apply_plan.specs.Plan.Header.{header_of}
+use Rattle.apply_plan.specs.Plan.Header.{Header, header_of}
 use Rattle.apply_laws.specs.Plans.{HasRelativeAddress, NamesEachObjectOnce}
 use Rattle.apply_model.specs.Plan.SavedPlan.{SavedPlan, max_changes}
 use Rattle.apply_plan.specs.Plan.SavedPlan.{changes_of, change_of, plan_of, plan_of_tree, planned_at}
@@ -26,16 +26,29 @@ use Rattle.apply_laws.proofs.RelativeAddresses.{relative_joins}
 use Rattle.apply_plan.proofs.Results.{bind_ok, done, guard_ok, ok_is, or_refuse_ok}
 use Rattle.apply_plan.proofs.Plans.WholeList.{changes_one_by_one}
 
--- what the elements of an accepted plan lead to
-accepted : (bytes : List ℕ) (plan : SavedPlan) → plan_of bytes ≡ Ok plan → (elements : Items) × (made_after change_after [] elements ≡ Ok plan.changes)
+-- an accepted plan is that of a tree, and what its elements lead to
+pub record IsOfTree (bytes : List ℕ) (plan : SavedPlan) : Type 0 where
+  pub tree : Data
+  pub tree_is : tree_of bytes ≡ Some tree
+  pub header : Header
+  pub header_is : header_of tree ≡ Some header
+  pub made : made_after change_after [] header.elements ≡ Ok plan.changes
+
+pub read_from : (bytes : List ℕ) (plan : SavedPlan) → plan_of bytes ≡ Ok plan → IsOfTree bytes plan
 unfolding plan_of plan_of_tree
-accepted bytes plan e =
+read_from bytes plan e =
     let sized = guard_ok (ltb max_bytes (length bytes)) TooLarge _ plan e in
     let parsed = bind_ok (or_refuse NotJson (tree_of bytes)) plan_of_tree plan sized.1 in
     let top = bind_ok (or_refuse NotAPlan (header_of parsed.0)) _ plan parsed.2 in
     let few = guard_ok (ltb max_changes (items_len top.0.elements)) TooMany _ plan top.2 in
     let listed = bind_ok (changes_of (list_of top.0.elements)) _ plan few.1 in
-    (top.0.elements, changes_one_by_one top.0.elements ∙ listed.1 ∙ ap (λ (p : SavedPlan). done p.changes) (ok_is _ plan listed.2))
+    record {
+      tree = parsed.0;
+      tree_is = or_refuse_ok NotJson (tree_of bytes) parsed.0 parsed.1;
+      header = top.0;
+      header_is = or_refuse_ok NotAPlan (header_of parsed.0) top.0 top.1;
+      made = changes_one_by_one top.0.elements ∙ listed.1 ∙ ap (λ (p : SavedPlan). done p.changes) (ok_is _ plan listed.2);
+    }
 
 -- a property that holds of no change and is kept by each further one holds of all changes of a plan
 kept : (P : List ResourceChange → Type 0) → ((earlier : List ResourceChange) (d : Data) (change : ResourceChange) → change_after earlier d ≡ Ok change → P earlier → P (earlier ++ change ∷ []))
@@ -83,8 +96,8 @@ is_new earlier d change e =
 
 pub each_once : (bytes : List ℕ) (plan : SavedPlan) → plan_of bytes ≡ Ok plan → NamesEachObjectOnce plan.changes
 each_once bytes plan e =
-    let listed = accepted bytes plan e in
-    kept NamesEachObjectOnce (λ earlier d change h once. once_push earlier change once (is_new earlier d change h)) listed.0 [] plan.changes tt listed.1
+    let read = read_from bytes plan e in
+    kept NamesEachObjectOnce (λ earlier d change h once. once_push earlier change once (is_new earlier d change h)) read.header.elements [] plan.changes tt read.made
 
 -- ---- relative addresses
 
@@ -103,5 +116,5 @@ has_relative earlier d change e =
 
 pub all_joined : (bytes : List ℕ) (plan : SavedPlan) → plan_of bytes ≡ Ok plan → AllByRecursion HasRelativeAddress plan.changes
 all_joined bytes plan e =
-    let listed = accepted bytes plan e in
-    kept (AllByRecursion HasRelativeAddress) (λ earlier d change h all. All-push HasRelativeAddress earlier change all (has_relative earlier d change h)) listed.0 [] plan.changes tt listed.1
+    let read = read_from bytes plan e in
+    kept (AllByRecursion HasRelativeAddress) (λ earlier d change h all. All-push HasRelativeAddress earlier change all (has_relative earlier d change h)) read.header.elements [] plan.changes tt read.made

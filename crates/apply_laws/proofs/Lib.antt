@@ -7,6 +7,8 @@ mod EventsFit
 mod FirstHalting
 mod LaneLines
 mod Latest
+mod PlannedElements
+mod PlannedLines
 mod ProvisionsFit
 mod RelativeAddresses
 mod TimeLines

@@ -1,9 +1,10 @@
-//! Laws of plans, hooks and events, of lines and of runs, which users of streams can rely on. No code calls one, so that no
+//! Laws of plans, hooks and events, of lines, forms and runs, which users of streams can rely on. No code calls one, so that no
 //! program waits for their proofs.
 #![tactic(auto)]
 
 mod dealing;
 mod events;
+mod forms;
 mod hooks;
 mod lines;
 mod plans;
@@ -19,6 +20,10 @@ pub use events::{
     a_change_ends_with_its_span, a_span_is_short, a_step_ends_once, a_worker_names_itself,
     every_event_fits, every_event_has_its_step, moments_never_fall, no_event_comes_after_latest,
     parts_of_joined_lists_join, steps_never_go_back, the_first_event_is_at_the_begin,
+};
+pub use forms::{
+    all_but_no_ops_are_planned, each_planned_change_has_one_line,
+    the_default_form_is_that_of_before,
 };
 pub use hooks::{
     a_hook_at_the_end_changes_no_halt, no_hooks_never_halt, the_first_hook_that_halts_is_told,

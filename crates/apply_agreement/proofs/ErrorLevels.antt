@@ -1,0 +1,204 @@
+-- A line of a stream in Terraform's form has the level `error` exactly where the stream has no summary.
+use Rattle.std.proofs.Common.{◌≡◌, ℕ, ◌+◌, ◌<◌, List, [], ◌∷◌, ◌++◌, append-nil, append_assoc, length, map, get_or, Bool, true, false, cond, Option, Some, None, refl, sym, ap, ap₂, ◌∙◌, slice_get}
+use Rattle.std.specs.Prelude.{◌||◌, flat_map}
+use Rattle.std.specs.List.{concat, enumerate_from, list_any}
+use Rattle.std.specs.Option.{option_map_or}
+use Rattle.std.proofs.lemmas.List.Folds.{concat-append}
+use Rattle.json.specs.Print.{escape_byte}
+use Rattle.apply_model.specs.declared.plan.step_kind.StepKind.{StepKind}
+use Rattle.apply_model.specs.declared.plan.step_kind.StepKind.TheVariants.{Create, Update, Delete, Read}
+use Rattle.apply_model.specs.declared.script.outcome.Outcome.{Outcome}
+use Rattle.apply_model.specs.Plan.ResourceChange.{ResourceChange}
+use Rattle.apply_model.specs.Plan.SavedPlan.{SavedPlan}
+use Rattle.apply_model.specs.Script.OutcomeMap.{OutcomeMap, outcome_of}
+use Rattle.apply_hooks.specs.declared.phase.Phase.{Phase}
+use Rattle.apply_hooks.specs.declared.rule.Rule.{Rule}
+use Rattle.apply_events.specs.declared.counts.Counts.{Counts}
+use Rattle.apply_events.specs.declared.event.Event.{Event}
+use Rattle.apply_events.specs.declared.what.What.{What}
+use Rattle.apply_events.specs.declared.what.What.TheVariants.{Start, Progress, Complete, Errored, ErrorNote, WarnNote, Halted, ProvisionStart, ProvisionOutput, ProvisionComplete, ProvisionErrored}
+use Rattle.apply_events.specs.Step.{Work}
+use Rattle.apply_events.specs.Totals.{is_halted, totals_of}
+use Rattle.apply_text.specs.declared.operation.Operation.{Operation}
+use Rattle.apply_text.specs.Latest.{latest_of}
+use Rattle.apply_text.specs.Lines.{message_object}
+use Rattle.apply_text.specs.Order.{as_written}
+use Rattle.apply_form.specs.declared.change_details.ChangeDetails.{ChangeDetails}
+use Rattle.apply_form.specs.declared.output.Output.{Output}
+use Rattle.apply_form.specs.declared.plan_note.PlanNote.{PlanNote}
+use Rattle.apply_form.specs.declared.plan_note.PlanNote.TheVariants.{Partial, Unfinished}
+use Rattle.apply_form.specs.Details.{planned_word}
+use Rattle.apply_form.specs.Lines.{event_text, message_line, note_text, outputs_text, planned_text, summary_text, version_text}
+use Rattle.apply_form.specs.Message.{event_message, is_silent, planned_message}
+use Rattle.apply_run.specs.Applied.{IsApplied}
+use Rattle.apply_run.specs.InForm.{form_of}
+use Rattle.apply_run.specs.Read.{Told, applied_plan, applied_script}
+use Rattle.apply_run.specs.Stream.Form.{lines_in}
+use Rattle.apply_run.specs.Stream.Terraform.{head_pieces, is_error, planned_at, planned_id_of, tells_error}
+use Rattle.apply_agreement.specs.Levels.{HasAnEndOrAnError, end_of, event_lines, has_error_line, is_error_line, lines_before_end}
+use Rattle.apply_agreement.proofs.EndedLines.{all_lines}
+use Rattle.apply_agreement.proofs.Errors.{IsPlanned, any_both, any_written, errors_counted, is_error_note}
+use Rattle.apply_agreement.proofs.Ordinary.{found}
+use Rattle.apply_agreement.proofs.Parts.{Each, IsListed, all_listed, each_weaker, each_written, part_of_change}
+use Rattle.apply_agreement.proofs.Tallies.{is_within}
+
+-- ---- lines that never have the level
+
+version_is_fine : (plan : SavedPlan) (start : ℕ) → is_error_line (version_text plan start) ≡ false
+unfolding message_object escape_byte
+version_is_fine plan start = refl
+
+planned_is_fine : (start : ℕ) (change : ResourceChange) (details : Option ChangeDetails) → is_error_line (option_map_or (planned_text start change) details []) ≡ false
+unfolding message_object escape_byte
+planned_is_fine start change None = refl
+planned_is_fine start change (Some details) = of_word (planned_word change.steps details.forgets)
+  where
+    of_word : (word : Option (List ℕ)) → is_error_line (option_map_or (λ word. message_line start (planned_message change word details)) word []) ≡ false
+    of_word None = refl
+    of_word (Some word) = refl
+
+pub summary_is_fine : (start latest : ℕ) (operation : Operation) (counts : Counts) (imported : ℕ) → is_error_line (summary_text start latest operation counts imported) ≡ false
+unfolding message_object escape_byte
+summary_is_fine start latest operation counts imported = refl
+
+pub outputs_are_fine : (start latest : ℕ) (outputs : List Output) → is_error_line (outputs_text start latest outputs) ≡ false
+outputs_are_fine start latest outputs = refl
+
+none_of_planned : (start : ℕ) (details : List ChangeDetails) (ps : List (ℕ × ResourceChange)) → list_any is_error_line (map (planned_at start details) ps) ≡ false
+none_of_planned start details [] = refl
+none_of_planned start details (p ∷ ps) = ap₂ (λ (a b : Bool). a || b) (planned_is_fine start p.1 (slice_get details p.0)) (none_of_planned start details ps)
+
+none_of_head : (plan : SavedPlan) (details : List ChangeDetails) (start : ℕ) → list_any is_error_line (head_pieces plan details start) ≡ false
+none_of_head plan details start = ap₂ (λ (a b : Bool). a || b) (version_is_fine plan start) (none_of_planned start details (enumerate_from 0 plan.changes))
+
+-- ---- what is said of the plan as a whole
+
+of_note : (start latest : ℕ) (note : Option PlanNote) → list_any is_error_line (option_map_or (λ note. note_text start latest note ∷ []) note []) ≡ is_error note
+unfolding message_object escape_byte
+of_note start latest None = refl
+of_note start latest (Some Partial) = refl
+of_note start latest (Some Unfinished) = refl
+
+-- ---- the line of an event
+
+abbrev event_line : (seconds : ℕ) → ResourceChange → StepKind → Outcome → (planned : Option (List ℕ)) → What → List ℕ
+event_line seconds change step outcome planned what = cond (is_silent step what) [] (message_line seconds (event_message change step outcome planned what))
+
+-- a line that is written or is not
+either : (silent : Bool) (line : List ℕ) → is_error_line line ≡ false → is_error_line (cond silent [] line) ≡ false
+either true line is = refl
+either false line is = is
+
+noted : (step : StepKind) → is_silent step ErrorNote ≡ false
+noted Create = refl
+noted Update = refl
+noted Delete = refl
+noted Read = refl
+
+halted : (step : StepKind) (phase : Phase) (hook : ℕ) → is_silent step (Halted phase hook) ≡ false
+halted Create phase hook = refl
+halted Update phase hook = refl
+halted Delete phase hook = refl
+halted Read phase hook = refl
+
+of_what : (seconds : ℕ) (change : ResourceChange) (step : StepKind) (outcome : Outcome) (planned : Option (List ℕ)) (what : What)
+    → is_error_line (event_line seconds change step outcome planned what) ≡ (is_error_note what || is_halted what)
+unfolding message_object escape_byte
+of_what seconds change step outcome planned Start = either (is_silent step Start) _ refl
+of_what seconds change step outcome planned (Progress n) = either (is_silent step (Progress n)) _ refl
+of_what seconds change step outcome planned (Complete n) = either (is_silent step (Complete n)) _ refl
+of_what seconds change step outcome planned (Errored n) = either (is_silent step (Errored n)) _ refl
+of_what seconds change step outcome planned ErrorNote =
+    ap (λ (b : Bool). is_error_line (cond b [] (message_line seconds (event_message change step outcome planned ErrorNote)))) (noted step)
+of_what seconds change step outcome planned WarnNote = either (is_silent step WarnNote) _ refl
+of_what seconds change step outcome planned (Halted phase hook) =
+    ap (λ (b : Bool). is_error_line (cond b [] (message_line seconds (event_message change step outcome planned (Halted phase hook))))) (halted step phase hook)
+of_what seconds change step outcome planned (ProvisionStart i) = either (is_silent step (ProvisionStart i)) _ refl
+of_what seconds change step outcome planned (ProvisionOutput i line) = either (is_silent step (ProvisionOutput i line)) _ refl
+of_what seconds change step outcome planned (ProvisionComplete i) = either (is_silent step (ProvisionComplete i)) _ refl
+of_what seconds change step outcome planned (ProvisionErrored i) = either (is_silent step (ProvisionErrored i)) _ refl
+
+abbrev tells : Event → Bool
+tells e = is_error_note e.what || is_halted e.what
+
+of_event : (plan : SavedPlan) (script : OutcomeMap) (start latest : ℕ) (planned : Option (List ℕ)) (e : Event) → IsPlanned plan e → is_error_line (event_text plan script start latest planned e) ≡ tells e
+of_event plan script start latest planned e is =
+    let step = found (slice_get plan.changes e.change) e.step is.0 is.1 in
+    let outcome = outcome_of script e.change e.step in
+    ap (λ (o : Option ResourceChange). is_error_line (option_map_or (λ change. option_map_or (λ kind. event_line (start + latest) change kind outcome planned e.what) (slice_get change.steps e.step) []) o [])) step.1
+    ∙ ap (λ (o : Option StepKind). is_error_line (option_map_or (λ kind. event_line (start + latest) step.0 kind outcome planned e.what) o [])) step.2
+    ∙ of_what (start + latest) step.0 is.0 outcome planned e.what
+
+-- ---- the events of a run
+
+module _ (told : Told) (start : ℕ) (operation : Operation) where
+  of_events : (latest : ℕ → ℕ) (n : ℕ) (es : List Event) → Each (IsPlanned (applied_plan told)) es
+      → list_any is_error_line (map (λ p. (form_of told start operation).line (latest (p.0 + 1)) p.1) (enumerate_from n es)) ≡ list_any tells es
+  of_events latest n [] planned = refl
+  of_events latest n (e ∷ es) planned =
+      ap₂ (λ (a b : Bool). a || b)
+      (of_event (applied_plan told) (applied_script told) start (latest (n + 1)) (planned_id_of told.details.changes e.change) e planned.0)
+      (of_events latest (n + 1) es planned.1)
+
+  module _ (hooks : List (List Rule)) where
+    abbrev work : Work
+    work = record { plan = applied_plan told; script = applied_script told; hooks = hooks }
+
+    -- a line has the level exactly where the run says that the stream tells of an error
+    of_run : (workers : ℕ) (lists : List (List ℕ)) (events : List Event) → IsApplied work workers lists events
+        → has_error_line told start operation (as_written events) ≡ tells_error told.details.note (totals_of (applied_plan told) events)
+    of_run workers lists events applied =
+        let plan = applied_plan told in
+        let limit = length plan.changes in
+        let written = as_written events in
+        let head = head_pieces plan told.details.changes start in
+        let lines = event_lines (form_of told start operation) written in
+        let last = option_map_or (λ note. note_text start (latest_of written (length written)) note ∷ []) told.details.note [] in
+        let planned : Each (IsPlanned plan) events =
+        each_weaker (λ e. IsListed work (get_or lists e.worker []) e) (IsPlanned plan) (λ e is. is.planned) events (all_listed work workers limit lists events applied.dealt_out applied.told) in
+        let counted = errors_counted work limit events (each_weaker (IsPlanned plan) (λ e. e.change < limit) (is_within plan) events planned) (part_of_change work workers limit lists events applied.dealt_out applied.told) in
+        any_both is_error_line head (lines ++ last)
+        ∙ ap₂ (λ (a b : Bool). a || b) (none_of_head plan told.details.changes start) (any_both is_error_line lines last)
+        ∙ ap₂ (λ (a b : Bool). a || b)
+        (of_events (latest_of written) 0 written (each_written (IsPlanned plan) events planned) ∙ any_written tells events ∙ counted)
+        (of_note start (latest_of written (length written)) told.details.note)
+
+-- ---- the stream
+
+joined : {X : Type 0} (f : X → List ℕ) (xs : List X) → concat (map f xs) ≡ flat_map f xs
+joined f [] = refl
+joined f (x ∷ xs) = ap (λ (l : List ℕ). f x ++ l) (joined f xs)
+
+one_note : (start latest : ℕ) (note : Option PlanNote) → concat (option_map_or (λ note. note_text start latest note ∷ []) note []) ≡ option_map_or (note_text start latest) note []
+one_note start latest None = refl
+one_note start latest (Some note) = append-nil (note_text start latest note)
+
+-- the lines, joined
+all_joined : (told : Told) (start : ℕ) (operation : Operation) (written : List Event)
+    → concat (lines_before_end told start operation written) ≡ lines_in (form_of told start operation) written ++ option_map_or (note_text start (latest_of written (length written))) told.details.note []
+all_joined told start operation written =
+    let form = form_of told start operation in
+    let head = head_pieces (applied_plan told) told.details.changes start in
+    let lines = event_lines form written in
+    let latest = latest_of written (length written) in
+    let last = option_map_or (λ note. note_text start latest note ∷ []) told.details.note [] in
+    concat-append head (lines ++ last)
+    ∙ ap (λ (l : List ℕ). concat head ++ l)
+    (concat-append lines last
+    ∙ ap₂ (λ (a b : List ℕ). a ++ b) (joined (λ p. form.line (latest_of written (p.0 + 1)) p.1) (enumerate_from 0 written)) (one_note start latest told.details.note))
+    ∙ sym (append_assoc (concat head) (flat_map (λ p. form.line (latest_of written (p.0 + 1)) p.1) (enumerate_from 0 written)) (option_map_or (note_text start latest) told.details.note []))
+
+pub an_end_or_an_error : (told : Told) (start : ℕ) (operation : Operation) (hooks : List (List Rule)) (workers : ℕ) (lists : List (List ℕ)) (events : List Event) (counts : Counts) (said : Bool)
+    → IsApplied (record { plan = applied_plan told; script = applied_script told; hooks = hooks }) workers lists events → counts ≡ totals_of (applied_plan told) events → said ≡ tells_error told.details.note counts
+    → HasAnEndOrAnError told start operation events said
+an_end_or_an_error told start operation hooks workers lists events counts said applied counted reported =
+    let written = as_written events in
+    let latest = latest_of written (length written) in
+    let same = of_run told start operation hooks workers lists events applied in
+    let note = option_map_or (note_text start latest) told.details.note [] in
+    record {
+      lines = all_lines told start operation written;
+      stream = sym (append_assoc (lines_in (form_of told start operation) written) note (cond (tells_error told.details.note (totals_of (applied_plan told) events)) [] (end_of told start operation events)))
+          ∙ ap₂ (λ (a : List ℕ) (b : Bool). a ++ cond b [] (end_of told start operation events)) (sym (all_joined told start operation written)) (sym same);
+      error = reported ∙ ap (tells_error told.details.note) counted ∙ sym same;
+    }

@@ -1,0 +1,19 @@
+use Rattle.std.proofs.Common.{◌<◌, arith}
+use Rattle.apply_events.specs.Lanes.Dealing as dealing
+use Rattle.apply_run.specs.InForm.{work_of}
+use Rattle.apply_agreement.proofs.ErrorLevels.{an_end_or_an_error}
+use Rattle.apply_agreement.proofs.forms.a_stream_has_an_end_or_an_error.Goals as goal
+
+pub returns-clause-workers : goal.returns-clause-workers
+returns-clause-workers c given options report before after applied =
+    let streamed = applied.streamed in
+    an_end_or_an_error applied.told options.start options.operation given.hooks options.workers streamed.lists streamed.events report.run.counts report.tells_error streamed.applied
+    streamed.whole.delivered.counts applied.error
+
+pub returns-clause-lanes : goal.returns-clause-lanes
+returns-clause-lanes c given lanes start operation report before after applied =
+    let streamed = applied.streamed in
+    let work = work_of given applied.told in
+    let some : 0 < lanes = (let low = applied.sizes.some in omega arith) in
+    an_end_or_an_error applied.told start operation given.hooks lanes (dealing.lanes work lanes) streamed.events report.run.counts report.tells_error
+    (c.a_time_line_is_applied_by_workers.ensures work lanes streamed.events some streamed.time_line) streamed.whole.delivered.counts applied.error
