@@ -69,3 +69,9 @@ def large_plan(size):
         resources.append({"address": f"a.b_{len(resources)}", "values": values(len(resources))})
         left -= len(compact(resources[-1]).encode()) + 1
     return plan(changes, planned_values={"root_module": {"resources": resources}})
+
+
+def plan_of_one_output(size):
+    """A plan of one create whose one output has a text of so many bytes."""
+    output = {"sensitive": False, "type": "string", "value": "a" * size}
+    return plan([change(0, "create")], prior_state={"values": {"outputs": {"text": output}}})
