@@ -5,7 +5,7 @@ mod commands;
 mod rows;
 mod world;
 
-use apply_play::{Outcome, PlayFault, Speed, follow, play, play_command, play_input};
+use apply_play::{PlayFault, Speed, follow, play, play_command, play_input};
 use std::alloc::Global;
 use std::cell::Cell;
 use std::io;

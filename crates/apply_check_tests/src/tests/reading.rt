@@ -95,9 +95,9 @@ fn buffers(rt: HostRuntime) {
 
 /// A reader that is interrupted at each second read, gives one byte at a time, and fails behind its bytes.
 #[derive(Drop)]
-struct Broken<'a> {
-    bytes: &'a [u8],
-    is_interrupted: bool,
+pub(super) struct Broken<'a> {
+    pub bytes: &'a [u8],
+    pub is_interrupted: bool,
 }
 
 impl Read for Broken<'_> {

@@ -2,6 +2,7 @@
 
 use super::faults::{overlapping, stream_of};
 use super::find::LOG;
+use super::reading::Broken;
 use super::*;
 
 /// Names of lines, the last of which is faulty by itself or behind the others.
@@ -125,6 +126,32 @@ fn behind_a_line_that_is_too_long(rt: HostRuntime) {
     let alloc = rt.alloc();
     let line = io::repeat(b' ').take(134_217_730);
     all_is_read(&rt, alloc, Mode::PLAIN, Form::Json, line, 134_217_730);
+}
+
+/// A read that fails there ends it, and what was said stays so.
+#[test]
+fn behind_a_fault_a_read_fails(rt: HostRuntime) {
+    let alloc = rt.alloc();
+    let mut input = Broken {
+        bytes: b"no message\nand more\n",
+        is_interrupted: false,
+    };
+    let mut printed = Vec::new(alloc);
+    let mut said = Vec::new(alloc);
+    let checked = check_input(
+        alloc,
+        Mode::PLAIN,
+        Form::Text,
+        None,
+        &mut input,
+        &mut printed,
+        &mut said,
+    );
+    assert_eq!(rt; checked.status, 4);
+    assert!(rt; checked.rest.is_err());
+    assert!(rt; printed.is_empty());
+    let line: &[u8] = b"applystream: line 1 is not a message: no message\n";
+    assert_eq!(rt; said.as_slice(), line);
 }
 
 /// Fails where that argument leaves another number of bytes unread, or ends with another status.

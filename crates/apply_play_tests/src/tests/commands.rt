@@ -60,12 +60,13 @@ fn reader_that_fails(rt: HostRuntime) {
     );
 }
 
-/// At each byte of the whole output. Nothing is said where the reader of the output is gone.
+/// At each byte of the whole output, and behind the last one, where what was written can't be sent on. Nothing is said where
+/// the reader of the output is gone.
 #[test]
 fn writer_that_fails(rt: HostRuntime) {
     let bytes = UPDATE.as_bytes();
     let said = "applystream: the output could not be written\n";
-    for room in 0..bytes.len() {
+    for room in 0..=bytes.len() {
         let full = ErrorKind::StorageFull;
         ends_with(&rt, rt.alloc(), bytes, false, room, full, 3, said);
         let gone = ErrorKind::BrokenPipe;
@@ -95,6 +96,42 @@ fn line_that_is_too_long(rt: HostRuntime) {
     assert_eq!(rt; taken.as_slice(), b"a\nb\n".as_slice());
     let said = "applystream: line 3 is longer than 67108864 bytes\n";
     assert_eq!(rt; faults.as_slice(), said.as_bytes());
+}
+
+/// What a reader with a buffer has not shown yet is read too, where the output fails.
+#[test]
+fn rest_of_a_reader_with_a_buffer(rt: HostRuntime) {
+    let alloc = rt.alloc();
+    let world = World::new();
+    let pieces = Pieces {
+        world: &world,
+        bytes: UPDATE.as_bytes(),
+        most: 7,
+        is_broken: false,
+    };
+    let mut reader = BufReader::new(alloc, pieces).expect(&rt, "memory");
+    let mut taker = Taker {
+        world: &world,
+        taken: Vec::new(alloc),
+        most: 1,
+        room: 3,
+        kind: ErrorKind::StorageFull,
+    };
+    let mut faults = Vec::new(alloc);
+    let outcome = play_command(
+        alloc,
+        &world,
+        Speed::new(1),
+        None,
+        &mut reader,
+        &mut taker,
+        &mut faults,
+    );
+    assert_eq!(rt; outcome.status, 3);
+    assert_eq!(rt; outcome.answer, Err(PlayFault::Unwritten));
+    assert!(rt; outcome.rest.is_ok());
+    assert!(rt; reader.buffer().is_empty());
+    assert!(rt; reader.get_ref().bytes.is_empty());
 }
 
 /// Fails where the word ends otherwise than with that status and a text that begins so, or leaves another number of bytes of the

@@ -53,6 +53,7 @@ fn comes_after(
     assert!(rt; found.answer.is_ok());
     assert_eq!(rt; found.taken.as_slice(), stream.as_bytes());
     assert!(rt; !world.is_held_back.get());
+    assert!(rt; world.is_sent_on());
     let slept = world.sleeps(rt, alloc);
     assert_eq!(rt; slept.as_str().trim(), sleeps);
 }
@@ -102,14 +103,28 @@ fn sleeps_that_end_early(rt: HostRuntime) {
     assert_eq!(rt; world.now(), 25_000_000);
 }
 
-/// Where the clock can't be read nothing is waited for.
+/// Waits do not add up: what reading takes, a second a line, is taken off the next one.
+#[test]
+fn reader_that_takes_its_time(rt: HostRuntime) {
+    let alloc = rt.alloc();
+    let world = World::new();
+    world.read_time.set(1_000_000);
+    let found = play_bytes(&rt, alloc, &world, 1, UPDATE.as_bytes(), 65_536);
+    assert!(rt; found.answer.is_ok());
+    let slept = world.sleeps(&rt, alloc);
+    assert_eq!(rt; slept.as_str().trim(), "8000000 9000000 4000000");
+}
+
+/// Where the clock can't be read, or no more, nothing is waited for.
 #[test]
 fn clock_that_cannot_be_read(rt: HostRuntime) {
     let alloc = rt.alloc();
-    let world = World::new();
-    world.is_blind.set(true);
-    let found = play_bytes(&rt, alloc, &world, 1, UPDATE.as_bytes(), 65_536);
-    assert!(rt; found.answer.is_ok());
-    assert_eq!(rt; found.taken.as_slice(), UPDATE.as_bytes());
-    assert_eq!(rt; world.sleeps(&rt, alloc).as_str(), "");
+    for readings in [0u32, 1] {
+        let world = World::new();
+        world.readings.set(readings);
+        let found = play_bytes(&rt, alloc, &world, 1, UPDATE.as_bytes(), 65_536);
+        assert!(rt; found.answer.is_ok());
+        assert_eq!(rt; found.taken.as_slice(), UPDATE.as_bytes());
+        assert_eq!(rt; world.sleeps(&rt, alloc).as_str(), "");
+    }
 }

@@ -15,8 +15,10 @@ pub(super) struct World {
     sleeps: Cell<[u64; NOTED]>,
     /// How many sleeps more return at once.
     pub lazy: Cell<u32>,
-    /// Whether it can't be read.
-    pub is_blind: Cell<bool>,
+    /// How many times more it can be read.
+    pub readings: Cell<u32>,
+    /// How long each read of the input takes, in microseconds.
+    pub read_time: Cell<u64>,
     /// How many bytes were written and not sent on.
     pending: Cell<usize>,
     /// Whether a sleep or a read came while bytes were.
@@ -31,7 +33,8 @@ impl World {
             count: Cell::new(0),
             sleeps: Cell::new([0; NOTED]),
             lazy: Cell::new(0),
-            is_blind: Cell::new(false),
+            readings: Cell::new(u32::MAX),
+            read_time: Cell::new(0),
             pending: Cell::new(0),
             is_held_back: Cell::new(false),
         }
@@ -50,6 +53,16 @@ impl World {
             text.push_str(one.as_str()).expect(rt, "memory");
         }
         text
+    }
+
+    /// Whether all that was written was sent on.
+    pub fn is_sent_on(&self) -> bool {
+        self.pending.get() == 0
+    }
+
+    /// Lets so many microseconds go by.
+    fn pass(&self, micros: u64) {
+        self.now.set(self.now.get().saturating_add(micros));
     }
 
     /// Notes that somebody may have to wait now.
@@ -73,9 +86,11 @@ impl World {
 
 impl Clock for World {
     fn monotonic(&self) -> io::Result<Duration> {
-        if self.is_blind.get() {
+        let readings = self.readings.get();
+        if readings == 0 {
             return Err(io::Error::from(ErrorKind::Unsupported));
         }
+        self.readings.set(readings - 1);
         Ok(Duration::from_micros(self.now.get()))
     }
 
@@ -91,7 +106,7 @@ impl Clock for World {
         if lazy > 0 {
             self.lazy.set(lazy - 1);
         } else {
-            self.now.set(self.now.get().saturating_add(micros));
+            self.pass(micros);
         }
     }
 }
@@ -109,6 +124,7 @@ pub(super) struct Pieces<'a> {
 impl Read for Pieces<'_> {
     fn read(&mut self, buf: &mut [u8]) -> io::Result<usize> {
         self.world.waits();
+        self.world.pass(self.world.read_time.get());
         if self.bytes.is_empty() && self.is_broken {
             return Err(io::Error::from_raw_os_error(5));
         }
@@ -123,7 +139,7 @@ impl Read for Pieces<'_> {
     }
 }
 
-/// A writer that takes at most so many bytes at once, and fails so behind so many.
+/// A writer that takes at most so many bytes at once, and fails so behind so many, in a write as in a flush.
 #[derive(Drop)]
 pub(super) struct Taker<'a> {
     pub world: &'a World,
@@ -148,6 +164,9 @@ impl Write for Taker<'_> {
     }
 
     fn flush(&mut self) -> io::Result<()> {
+        if self.taken.len() >= self.room {
+            return Err(io::Error::from(self.kind));
+        }
         self.world.pending.set(0);
         Ok(())
     }
