@@ -17,6 +17,7 @@ pub mod Message
 pub mod MessageView
 pub mod Objects
 pub mod Open
+pub mod Pieces
 pub mod Reading
 pub mod Results
 pub mod Selection

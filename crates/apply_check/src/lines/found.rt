@@ -1,13 +1,34 @@
 //! Messages in the lines of a log.
 
-ghost use Rattle.std.specs.Prelude.{◌≡◌, ◌≤◌, IfSome, length};
+ghost use Rattle.std.specs.Prelude.{◌≡◌, ◌≤◌, IfOk, IfSome, length};
 ghost use Rattle.std.specs.Option.{option_copied};
 ghost use Rattle.apply_check.specs.Found.{from_mark, through_brace};
+ghost use Rattle.apply_check.specs.Pieces.{piece_of};
+ghost use Rattle.apply_check.specs.Results.{mapped};
 
+use crate::rules::fault::Fault;
 use memchr::{memmem, memrchr};
 
 /// How Terraform's messages begin.
 const MARK: &[u8; 9] = b"{\"@level\"";
+
+/// The text of a line's message: the line itself, or, where messages have to be found, what begins in it as one and ends with
+/// the last closing brace; none where no message begins. An `Err` says that nothing closes one.
+pub fn piece_of(find: bool, text: &[u8]) -> Result<Option<&[u8]>, Fault>
+    ensures value { mapped option_copied result ≡ piece_of find text.now }
+    ensures bytes { IfOk result (λ found. IfSome found (λ piece. length piece.now ≤ length text.now)) }
+{
+    if !find {
+        return Ok(Some(text));
+    }
+    let Some(rest) = from_mark(text) else {
+        return Ok(None);
+    };
+    match through_brace(rest) {
+        Some(piece) => Ok(Some(piece)),
+        None => Err(Fault::NotJson),
+    }
+}
 
 /// The text from the first place on at which a message begins.
 pub fn from_mark(text: &[u8]) -> Option<&[u8]>

@@ -3,6 +3,7 @@
 ghost use Rattle.std.specs.Prelude.{◌≡◌, codes};
 ghost use Rattle.std.specs.Option.{option_copied};
 ghost use Rattle.serde_json.specs.View.{view};
+ghost use Rattle.apply_check.specs.Lines.{tree_message};
 ghost use Rattle.apply_check.specs.Results.{mapped};
 ghost use Rattle.apply_check.specs.Message.{diagnostic_of, general_message, hook_address_of, planned_of, provision_of, refresh_of, start_of, step_or_other, stepless_message, subject_of, summary_named, summary_of, timed_of, timed_stage_of, totals_said, typed_message};
 
@@ -184,6 +185,22 @@ impl<'a> Message<'a> {
             is_error: severity == "error",
             address: text_member(members, "address"),
         })
+    }
+
+    /// The message that a tree is. One without a type is none, but in a log, in which messages have to be found, it is another
+    /// program's.
+    #[tactic(auto, unfolding(crate::specs::Lines::tree_message))]
+    pub fn of_tree(find: bool, tree: &'a Value) -> Result<Message<'a>, Fault>
+        ensures { mapped message_view result ≡ tree_message find (view tree.now) }
+    {
+        match text_member(tree, "type") {
+            Some(name) => Message::of(name, tree),
+            None => if find {
+                Ok(Message::Foreign)
+            } else {
+                Err(Fault::NoType)
+            },
+        }
     }
 
     /// The message of that type. An `Err` says which member a type that is known lacks.

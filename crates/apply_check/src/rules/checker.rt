@@ -6,7 +6,7 @@ ghost use Rattle.serde_json.specs.View.{view};
 ghost use Rattle.apply_lines.specs.Limits.{max_bytes};
 ghost use Rattle.apply_check.specs.Small.{IsSmall};
 
-use crate::lines::found::{from_mark, through_brace};
+use crate::lines::found::piece_of;
 use crate::messages::line_shape::LineShape;
 use crate::messages::message::Message;
 use crate::rules::fault::Fault;
@@ -14,7 +14,6 @@ use crate::rules::limits::{MAX_BYTES, MAX_LINES};
 use crate::rules::mode::Mode;
 use crate::rules::open_steps::OpenSteps;
 use crate::rules::tally::Tally;
-use apply_json::members::text_member;
 use apply_json::{JsonFault, Scratch, parse_trimmed};
 use serde_json::Value;
 use std::alloc::Global;
@@ -32,8 +31,8 @@ pub struct Checker {
 
 impl Checker {
     ghost use Rattle.apply_check.specs.Checking.{Continues, HasRead, lines_read};
-    ghost use Rattle.apply_check.specs.Lines.{passed_of, read_found, read_line, read_text, read_tree, read_untyped};
-    ghost use Rattle.apply_check.specs.Message.{Message as said};
+    ghost use Rattle.apply_check.specs.Lines.{next, passed_of, read_line, read_text, read_tree};
+    ghost use Rattle.apply_check.specs.Message.{Message as said, foreign};
     ghost use Rattle.apply_check.specs.Tally.{is_error};
 
     /// No line was read.
@@ -56,26 +55,20 @@ impl Checker {
         if text.len() > MAX_BYTES {
             return Err(Fault::TooLong);
         }
-        if mode.find {
-            self.found(alloc, text)
-        } else {
-            self.text(alloc, false, text)
+        match piece_of(mode.find, text) {
+            Ok(Some(piece)) => self.text(alloc, mode.find, piece),
+            Ok(None) => self.foreign(),
+            Err(fault) => Err(fault),
         }
     }
 
-    /// Takes a line of a log.
-    fn found(&mut self, alloc: Global, text: &[u8]) -> Result<(), Fault>
-        requires lines { lines_read self.old < 2 ^ 32 }
-        requires bytes { length text.now ≤ max_bytes }
-        ensures { Continues self.old self.new (λ messages. read_found messages text.now) result }
+    /// Takes a line of a log in which no message begins.
+    fn foreign(&mut self) -> Result<(), Fault>
+        requires { lines_read self.old < 2 ^ 32 }
+        ensures { Continues self.old self.new (λ messages. next messages foreign) result }
     {
-        let Some(rest) = from_mark(text) else {
-            return self.message(alloc, Message::Foreign);
-        };
-        let Some(piece) = through_brace(rest) else {
-            return Err(Fault::NotJson);
-        };
-        self.text(alloc, true, piece)
+        self.tally = self.tally.with_foreign();
+        Ok(())
     }
 
     /// Takes the text of a message.
@@ -97,24 +90,9 @@ impl Checker {
         requires { lines_read self.old < 2 ^ 32 }
         ensures { Continues self.old self.new (λ messages. read_tree find messages (view tree.now)) result }
     {
-        let Some(name) = text_member(tree, "type") else {
-            return self.untyped(alloc, find);
-        };
-        match Message::of(name, tree) {
+        match Message::of_tree(find, tree) {
             Ok(message) => self.message(alloc, message),
             Err(fault) => Err(fault),
-        }
-    }
-
-    /// Takes a tree without a type, which in a log is that of another program.
-    fn untyped(&mut self, alloc: Global, find: bool) -> Result<(), Fault>
-        requires { lines_read self.old < 2 ^ 32 }
-        ensures { Continues self.old self.new (λ messages. read_untyped find messages) result }
-    {
-        if find {
-            self.message(alloc, Message::Foreign)
-        } else {
-            Err(Fault::NoType)
         }
     }
 
