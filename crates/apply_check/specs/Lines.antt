@@ -115,14 +115,6 @@ next earlier message =
 abbrev pub read_tree : (find : Bool) → List Message → Data → Result (List Message) Fault
 read_tree find earlier d = tree_message find d >>= next earlier
 
--- the messages with a tree more that has no type, or its fault
-abbrev pub read_untyped : (find : Bool) → List Message → Result (List Message) Fault
-read_untyped find earlier = untyped_message find >>= next earlier
-
--- the messages with the message of one more line of a log, or its first fault
-abbrev pub read_found : List Message → List ℕ → Result (List Message) Fault
-read_found earlier text = found_message (from_mark text) >>= next earlier
-
 -- the messages with the message of one more text, or its first fault
 abbrev pub read_text : (find : Bool) → List Message → List ℕ → Result (List Message) Fault
 read_text find earlier text = text_message find text >>= next earlier
