@@ -1,0 +1,16 @@
+pub mod Bars
+pub mod Details
+pub mod Faults
+pub mod Intervals
+pub mod Lines
+pub mod Messages
+pub mod Moments
+pub mod Numbers
+pub mod OpenPlaces
+pub mod Rows
+pub mod Selection
+pub mod Steps
+pub mod Stretches
+pub mod Telling
+pub mod Viewing
+pub mod Views

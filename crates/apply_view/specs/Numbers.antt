@@ -1,0 +1,41 @@
+-- How much was done, and how much of it beside one another.
+use Rattle.std.specs.Prelude.{◌≡◌, ◌<◌, ℕ, ◌-◌, ◌==◌, max, nat_lt, List, [], ◌∷◌, codes, length, Bool, false, ◌&&◌, not, if◌then◌else◌, is_some}
+use Rattle.std.specs.List.{count_by, sum_by}
+use Rattle.std.specs.Option.{option_map_or}
+use Rattle.std.specs.Str.{bytes_eq}
+use Rattle.apply_view.specs.declared.numbers.interval.Interval.{Interval}
+use Rattle.apply_view.specs.declared.numbers.stretch.Stretch.{Stretch}
+use Rattle.apply_view.specs.Steps.{ToldStep}
+
+abbrev pub stretch_length : Stretch → ℕ
+stretch_length s = s.end - s.begin
+
+abbrev pub interval_length : Interval → ℕ
+interval_length i = i.end - i.begin
+
+-- how long some step was under way
+abbrev pub busy_in : List Stretch → ℕ
+busy_in stretches = sum_by (λ (s : Stretch). if nat_lt 0 s.number then stretch_length s else 0) stretches
+
+-- the greatest number that was under way; 0 where there is no stretch
+abbrev pub peak_in : List Stretch → ℕ
+peak_in [] = 0
+peak_in (s ∷ ss) = max s.number (peak_in ss)
+
+-- the sum of the lengths
+abbrev pub work_of : List Interval → ℕ
+work_of intervals = sum_by interval_length intervals
+
+abbrev pub is_alone : (place : ℕ) → Stretch → Bool
+is_alone place s = option_map_or (λ only. only == place) s.alone false
+
+-- how long the step of that place was the only one under way
+abbrev pub alone_in : (place : ℕ) → List Stretch → ℕ
+alone_in place stretches = sum_by (λ (s : Stretch). if is_alone place s then stretch_length s else 0) stretches
+
+-- it ended well
+abbrev pub is_completed : (action : List ℕ) → ToldStep → Bool
+is_completed action step = bytes_eq step.action action && (is_some step.end && not step.failed)
+
+abbrev pub completed_of : (action : List ℕ) → List ToldStep → ℕ
+completed_of action steps = count_by (is_completed action) steps

@@ -1,0 +1,28 @@
+//! What the stream of an apply tells, and the numbers that a picture of it needs: which steps ran when, what ran beside what,
+//! and which of them get a row.
+#![tactic(auto)]
+
+mod bars;
+mod numbers;
+mod rows;
+mod told;
+
+pub use bars::halves::{Halves, halves_of};
+pub use bars::levels::levels_of;
+pub use bars::scale::place_on;
+pub use numbers::interval::Interval;
+pub use numbers::measures::{Numbers, numbers_of};
+pub use numbers::stretch::Stretch;
+pub use rows::choosing::{Rows, rows_of};
+pub use told::diagnostic::Diagnostic;
+pub use told::diagnostics::Diagnostics;
+pub use told::limits::{MAX_LINES, MAX_STEPS};
+pub use told::moments::Moments;
+pub use told::provisioner::Provisioner;
+pub use told::reading::read;
+pub use told::step::Step;
+pub use told::stream_told::Told;
+pub use told::totals::Totals;
+pub use told::version::Version;
+pub use told::view_fault::ViewFault;
+pub use told::viewer::Viewer;

@@ -1,0 +1,46 @@
+//! When a step was under way.
+
+ghost use Rattle.std.specs.Prelude.{◌≡◌, IfOk};
+ghost use Rattle.apply_view.specs.Intervals.{interval_of, intervals_of};
+
+use crate::told::moments::Moments;
+use crate::told::step::Step;
+use std::alloc::{AllocError, Global};
+
+/// When the step at that place was under way, in microseconds since the first moment of the stream.
+#[derive(Clone, Copy, Debug, PartialEq, Eq)]
+pub struct Interval {
+    pub place: usize,
+    pub begin: u64,
+    pub end: u64,
+}
+
+impl Interval {
+    /// That of the step at the place.
+    pub fn of(moments: Moments, place: usize, step: &Step) -> Interval
+        ensures { result ≡ interval_of moments place step.now }
+    {
+        Interval {
+            place,
+            begin: moments.offset(step.begin()),
+            end: moments.offset(step.until(moments)),
+        }
+    }
+}
+
+/// Those of the steps that count: not of those that failed and have no end.
+pub(crate) fn intervals_of(
+    alloc: Global,
+    moments: Moments,
+    steps: &[Step],
+) -> Result<Vec<Interval>, AllocError>
+    ensures { IfOk result (λ intervals. intervals.items ≡ intervals_of moments steps.now) }
+{
+    let mut intervals = Vec::new(alloc);
+    for (place, step) in steps.iter().enumerate() {
+        if step.is_counted() {
+            intervals.push(Interval::of(moments, place, step))?;
+        }
+    }
+    Ok(intervals)
+}

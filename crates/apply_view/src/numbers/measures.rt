@@ -1,0 +1,97 @@
+//! The numbers of a stream.
+
+use crate::numbers::interval::{Interval, intervals_of};
+use crate::numbers::stretch::Stretch;
+use crate::numbers::sweep::stretches_of;
+use crate::told::moments::Moments;
+use crate::told::step::Step;
+use std::alloc::{AllocError, Global};
+
+/// How much was done, and how much of it beside one another. Times are microseconds. Steps that failed and whose end is not
+/// told are left out, since nobody knows when they failed.
+#[derive(Drop)]
+pub struct Numbers {
+    /// How long some step was under way.
+    pub busy: u64,
+    /// How many were under way at once, at most.
+    pub peak: usize,
+    /// The sum of the lengths of the steps.
+    pub work: u128,
+    /// How long the step at each place was the only one under way.
+    pub alone: Vec<u64>,
+    /// How many creates, updates and deletes ended well.
+    pub created: usize,
+    pub updated: usize,
+    pub deleted: usize,
+    /// The stretches between the moments at which steps begin and end, in order.
+    pub stretches: Vec<Stretch>,
+}
+
+/// The numbers of steps of a stream with these moments. `Err` where memory is refused.
+pub fn numbers_of(alloc: Global, moments: Moments, steps: &[Step]) -> Result<Numbers, AllocError> {
+    let intervals = intervals_of(alloc, moments, steps)?;
+    let stretches = stretches_of(alloc, &intervals)?;
+    Ok(Numbers {
+        busy: busy_in(&stretches),
+        peak: peak_in(&stretches),
+        work: work_of(&intervals),
+        alone: alone_in(alloc, steps.len(), &stretches)?,
+        created: completed_of("create", steps),
+        updated: completed_of("update", steps),
+        deleted: completed_of("delete", steps),
+        stretches,
+    })
+}
+
+/// How long some step was under way.
+fn busy_in(stretches: &[Stretch]) -> u64 {
+    let mut busy = 0;
+    for stretch in stretches {
+        if stretch.number > 0 {
+            busy += stretch.end - stretch.begin;
+        }
+    }
+    busy
+}
+
+/// The greatest number that was under way.
+fn peak_in(stretches: &[Stretch]) -> usize {
+    let mut peak = 0;
+    for stretch in stretches {
+        peak = peak.max(stretch.number);
+    }
+    peak
+}
+
+/// The sum of the lengths.
+fn work_of(intervals: &[Interval]) -> u128 {
+    let mut work = 0;
+    for interval in intervals {
+        work += (interval.end - interval.begin) as u128;
+    }
+    work
+}
+
+/// How long the step at each place was the only one under way.
+fn alone_in(alloc: Global, count: usize, stretches: &[Stretch]) -> Result<Vec<u64>, AllocError> {
+    let mut alone = vec![in alloc; 0; count]?;
+    for stretch in stretches {
+        if let Some(place) = stretch.alone {
+            if place < alone.len() {
+                alone[place] += stretch.end - stretch.begin;
+            }
+        }
+    }
+    Ok(alone)
+}
+
+/// How many steps of that action ended well.
+fn completed_of(action: &str, steps: &[Step]) -> usize {
+    let mut count = 0;
+    for step in steps {
+        if step.is_completed(action) {
+            count += 1;
+        }
+    }
+    count
+}
