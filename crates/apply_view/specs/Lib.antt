@@ -1,5 +1,6 @@
 pub mod Bars
 pub mod Details
+pub mod Edges
 pub mod Faults
 pub mod Intervals
 pub mod Lines

@@ -1,11 +1,15 @@
 -- How much was done, and how much of it beside one another.
-use Rattle.std.specs.Prelude.{◌≡◌, ◌<◌, ℕ, ◌-◌, ◌==◌, max, nat_lt, List, [], ◌∷◌, codes, length, Bool, false, ◌&&◌, not, if◌then◌else◌, is_some}
+use Rattle.std.specs.Prelude.{◌≡◌, ◌<◌, ℕ, ◌-◌, ◌==◌, max, nat_lt, get_or, List, [], ◌∷◌, codes, length, Bool, false, ◌&&◌, not, if◌then◌else◌, is_some}
 use Rattle.std.specs.List.{count_by, sum_by}
 use Rattle.std.specs.Option.{option_map_or}
 use Rattle.std.specs.Str.{bytes_eq}
 use Rattle.apply_view.specs.declared.numbers.interval.Interval.{Interval}
 use Rattle.apply_view.specs.declared.numbers.stretch.Stretch.{Stretch}
+use Rattle.apply_view.specs.declared.numbers.measures.Numbers.{Numbers}
+use Rattle.apply_view.specs.declared.told.moments.Moments.{Moments}
+use Rattle.apply_view.specs.Intervals.{intervals_of}
 use Rattle.apply_view.specs.Steps.{ToldStep}
+use Rattle.apply_view.specs.Stretches.{stretches_of}
 
 abbrev pub stretch_length : Stretch → ℕ
 stretch_length s = s.end - s.begin
@@ -39,3 +43,16 @@ is_completed action step = bytes_eq step.action action && (is_some step.end && n
 
 abbrev pub completed_of : (action : List ℕ) → List ToldStep → ℕ
 completed_of action steps = count_by (is_completed action) steps
+
+-- the numbers of these steps, of a stream with these moments
+pub record IsNumbersOf (moments : Moments) (steps : List ToldStep) (numbers : Numbers) : Type 0 where
+  pub stretches : numbers.stretches.items ≡ stretches_of (intervals_of moments steps)
+  pub busy : numbers.busy ≡ busy_in (stretches_of (intervals_of moments steps))
+  pub peak : numbers.peak ≡ peak_in (stretches_of (intervals_of moments steps))
+  pub work : numbers.work ≡ work_of (intervals_of moments steps)
+  pub alone : (place : ℕ) → place < length steps
+      → get_or numbers.alone.items place 0 ≡ alone_in place (stretches_of (intervals_of moments steps))
+  pub lone : length numbers.alone.items ≡ length steps
+  pub created : numbers.created ≡ completed_of (codes "create") steps
+  pub updated : numbers.updated ≡ completed_of (codes "update") steps
+  pub deleted : numbers.deleted ≡ completed_of (codes "delete") steps

@@ -1,8 +1,12 @@
 -- The stretches between the moments at which steps begin and end, and how many steps are under way in each.
-use Rattle.std.specs.Prelude.{ℕ, ◌==◌, nat_lt, nat_le, List, [], ◌∷◌, Bool, ◌&&◌, if◌then◌else◌, Option, Some, None}
+use Rattle.std.specs.Prelude.{ℕ, ◌≤◌, ◌==◌, nat_lt, nat_le, List, [], ◌∷◌, Bool, ◌&&◌, if◌then◌else◌, Option, Some, None}
 use Rattle.std.specs.List.{count_by, filter}
 use Rattle.apply_view.specs.declared.numbers.interval.Interval.{Interval}
 use Rattle.apply_view.specs.declared.numbers.stretch.Stretch.{Stretch}
+
+-- it ends no sooner than it begins
+abbrev pub IsOrdered : Interval → Type 0
+IsOrdered i = i.begin ≤ i.end
 
 -- a number among others that ascend, where it is not among them
 abbrev pub put : ℕ → List ℕ → List ℕ

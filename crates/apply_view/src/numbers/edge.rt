@@ -1,5 +1,9 @@
 //! A moment at which a step begins or ends.
 
+ghost use Rattle.std.specs.Prelude.{IfOk};
+ghost use Rattle.std.specs.List.Sorted.{IsNonDecreasingBy, IsPermutation};
+ghost use Rattle.apply_view.specs.Edges.{edges_of};
+
 use crate::numbers::interval::Interval;
 use std::alloc::{AllocError, Global};
 
@@ -12,7 +16,10 @@ pub struct Edge {
 }
 
 /// The begins and ends, in order.
-pub fn edges_of(alloc: Global, intervals: &[Interval]) -> Result<Vec<Edge>, AllocError> {
+pub fn edges_of(alloc: Global, intervals: &[Interval]) -> Result<Vec<Edge>, AllocError>
+    ensures all { IfOk result (λ edges. IsPermutation (edges_of intervals.now) edges.items) }
+    ensures ordered { IfOk result (λ edges. IsNonDecreasingBy (λ edge. edge.moment) edges.items) }
+{
     let mut edges = Vec::new(alloc);
     for interval in intervals {
         edges.push(Edge {

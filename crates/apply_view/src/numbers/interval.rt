@@ -2,6 +2,7 @@
 
 ghost use Rattle.std.specs.Prelude.{◌≡◌, IfOk};
 ghost use Rattle.apply_view.specs.Intervals.{interval_of, intervals_of};
+ghost use Rattle.apply_view.specs.Numbers.{interval_length};
 
 use crate::told::moments::Moments;
 use crate::told::step::Step;
@@ -25,6 +26,13 @@ impl Interval {
             begin: moments.offset(step.begin()),
             end: moments.offset(step.until(moments)),
         }
+    }
+
+    /// How long it is, in microseconds.
+    pub fn length(self) -> u64
+        ensures { result ≡ interval_length self }
+    {
+        self.end.saturating_sub(self.begin)
     }
 }
 

@@ -1,5 +1,10 @@
 //! The numbers of a stream.
 
+ghost use Rattle.std.specs.Prelude.{◌≡◌, ◌<◌, ◌^◌, ℕ, IfOk, codes, get_or, length};
+ghost use Rattle.std.specs.List.{sum_by};
+ghost use Rattle.apply_view.specs.Intervals.{intervals_of};
+ghost use Rattle.apply_view.specs.Numbers.{IsNumbersOf, alone_in, busy_in, completed_of, peak_in, stretch_length, work_of};
+
 use crate::numbers::interval::{Interval, intervals_of};
 use crate::numbers::stretch::Stretch;
 use crate::numbers::sweep::stretches_of;
@@ -28,7 +33,9 @@ pub struct Numbers {
 }
 
 /// The numbers of steps of a stream with these moments. `Err` where memory is refused.
-pub fn numbers_of(alloc: Global, moments: Moments, steps: &[Step]) -> Result<Numbers, AllocError> {
+pub fn numbers_of(alloc: Global, moments: Moments, steps: &[Step]) -> Result<Numbers, AllocError>
+    ensures { IfOk result (λ numbers. IsNumbersOf moments steps.now numbers) }
+{
     let intervals = intervals_of(alloc, moments, steps)?;
     let stretches = stretches_of(alloc, &intervals)?;
     Ok(Numbers {
@@ -44,18 +51,23 @@ pub fn numbers_of(alloc: Global, moments: Moments, steps: &[Step]) -> Result<Num
 }
 
 /// How long some step was under way.
-fn busy_in(stretches: &[Stretch]) -> u64 {
+fn busy_in(stretches: &[Stretch]) -> u64
+    requires { sum_by stretch_length stretches.now < 2 ^ 64 }
+    ensures { result ≡ busy_in stretches.now }
+{
     let mut busy = 0;
     for stretch in stretches {
         if stretch.number > 0 {
-            busy += stretch.end - stretch.begin;
+            busy += stretch.length();
         }
     }
     busy
 }
 
 /// The greatest number that was under way.
-fn peak_in(stretches: &[Stretch]) -> usize {
+fn peak_in(stretches: &[Stretch]) -> usize
+    ensures { result ≡ peak_in stretches.now }
+{
     let mut peak = 0;
     for stretch in stretches {
         peak = peak.max(stretch.number);
@@ -64,21 +76,27 @@ fn peak_in(stretches: &[Stretch]) -> usize {
 }
 
 /// The sum of the lengths.
-fn work_of(intervals: &[Interval]) -> u128 {
+fn work_of(intervals: &[Interval]) -> u128
+    ensures { result ≡ work_of intervals.now }
+{
     let mut work = 0;
     for interval in intervals {
-        work += (interval.end - interval.begin) as u128;
+        work += interval.length() as u128;
     }
     work
 }
 
 /// How long the step at each place was the only one under way.
-fn alone_in(alloc: Global, count: usize, stretches: &[Stretch]) -> Result<Vec<u64>, AllocError> {
+fn alone_in(alloc: Global, count: usize, stretches: &[Stretch]) -> Result<Vec<u64>, AllocError>
+    requires { sum_by stretch_length stretches.now < 2 ^ 64 }
+    ensures len { IfOk result (λ alone. length alone.items ≡ count) }
+    ensures value { IfOk result (λ alone. (place : ℕ) → place < count → get_or alone.items place 0 ≡ alone_in place stretches.now) }
+{
     let mut alone = vec![in alloc; 0; count]?;
     for stretch in stretches {
         if let Some(place) = stretch.alone {
             if place < alone.len() {
-                alone[place] += stretch.end - stretch.begin;
+                alone[place] += stretch.length();
             }
         }
     }
@@ -86,7 +104,9 @@ fn alone_in(alloc: Global, count: usize, stretches: &[Stretch]) -> Result<Vec<u6
 }
 
 /// How many steps of that action ended well.
-fn completed_of(action: &str, steps: &[Step]) -> usize {
+fn completed_of(action: &str, steps: &[Step]) -> usize
+    ensures { result ≡ completed_of action.now steps.now }
+{
     let mut count = 0;
     for step in steps {
         if step.is_completed(action) {

@@ -33,7 +33,6 @@ pub(crate) struct Detail {
 
 impl Model for Diagnostic {
     ghost use Rattle.std.specs.Prelude.{ℕ, List, map, option_map};
-    ghost use Rattle.std.specs.Vec.{Vec};
     ghost use Rattle.apply_view.specs.Details.{ToldDiagnostic};
 
     ghost Value = { ToldDiagnostic };
