@@ -1,3 +1,6 @@
+pub mod Adding
+pub mod Bounds
 pub mod Cuts
+pub mod Kept
 pub mod Sums
 pub mod Swept

@@ -3,7 +3,7 @@ use Rattle.std.proofs.Common.{◌≡◌, ℕ, ◌+◌, ◌<◌, ◌≤◌, List,
 use Rattle.std.specs.Prelude.{◌&&◌, not}
 use Rattle.std.specs.List.{count_by, filter, flat_map, sum_by}
 use Rattle.std.specs.List.Sorted.{IsPermutation}
-use Rattle.std.proofs.lemmas.Bool.{cases_lt, cases_Bool, le-leb, lt-leb, leb-true, leb-false}
+use Rattle.std.proofs.lemmas.Bool.{cases_lt, cases_Bool, le-leb, lt-leb, leb-true, leb-false, ne_eqb}
 use Rattle.std.proofs.lemmas.List.Sorted.{sum_by-IsPermutation}
 use Rattle.std.proofs.lemmas.List.Sums.{sum_by-cons, sum_by-append}
 use Rattle.apply_view.specs.declared.numbers.edge.Edge.{Edge}
@@ -131,8 +131,8 @@ split_sum kind w a front rest by behind =
 
 pub only_sum : (is : List Interval) → only_place is ≡ cond (eqb (length is) 1) (Some (sum_by (λ (i : Interval). i.place) is)) None
 only_sum [] = refl
-only_sum (i ∷ []) = refl
-only_sum (i ∷ (j ∷ is)) = refl
+only_sum (i ∷ []) = let e : i.place ≡ 0 + i.place = omega arith in ap Some e
+only_sum (i ∷ (j ∷ is)) = rw (ne_eqb (length (i ∷ (j ∷ is))) 1 (λ e. omega arith)) refl
 
 pub filtered_sum : (p : Interval → Bool) (w : Interval → ℕ) (is : List Interval) → sum_by w (filter p is) ≡ sum_by (weighed p w) is
 filtered_sum p w [] = refl

@@ -56,17 +56,17 @@ lemma_far : (m k j : ℕ) → m < k → k ≤ j → eqb m j ≡ false
 lemma_far m k j l h = ne_eqb m j (λ e. omega arith)
 
 above_behind : (m k : ℕ) (ks : List ℕ) → m ≤ k → (eqb m k ≡ false) → NoneBelow k ks → Rises ks → Above m (k ∷ behind k ks)
-above_behind m k [] l no n r =
-    let apart : m ≡ k → ⊥ = eqb-false m k no in
+above_behind m k [] l differ n r =
+    let apart : m ≡ k → ⊥ = eqb-false m k differ in
     (⊎_elim (λ (e : m ≡ k). absurd (apart e)) (⊎_elim (λ (less : m < k). less) (λ (more : k < m). omega arith)) (cases_order m k), tt)
-above_behind m k (j ∷ js) l no n r =
-    let apart : m ≡ k → ⊥ = eqb-false m k no in
+above_behind m k (j ∷ js) l differ n r =
+    let apart : m ≡ k → ⊥ = eqb-false m k differ in
     let less : m < k = ⊎_elim (λ (e : m ≡ k). absurd (apart e)) (⊎_elim (λ (less : m < k). less) (λ (more : k < m). omega arith)) (cases_order m k) in
     let on : k ≤ j = n.0 in
     ⊎_elim
     (λ (yes : eqb k j ≡ true).
     let same : k ≡ j = eqb-true k j yes in
-    let rest : Above m (j ∷ behind j js) = above_behind m j js (omega arith) (subst (λ x. eqb m x ≡ false) same no) r.0 r.1 in
+    let rest : Above m (j ∷ behind j js) = above_behind m j js (omega arith) (subst (λ x. eqb m x ≡ false) same differ) r.0 r.1 in
     rw yes (less, rest.1))
     (λ (other : eqb k j ≡ false).
     let far : eqb m j ≡ false = lemma_far m k j less on in

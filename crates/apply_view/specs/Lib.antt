@@ -12,6 +12,7 @@ pub mod Rows
 pub mod Selection
 pub mod Steps
 pub mod Stretches
+pub mod Sweeping
 pub mod Telling
 pub mod Viewing
 pub mod Views

@@ -1,5 +1,5 @@
 -- The stretches between the moments at which steps begin and end, and how many steps are under way in each.
-use Rattle.std.specs.Prelude.{ℕ, ◌≤◌, ◌==◌, nat_lt, nat_le, List, [], ◌∷◌, Bool, ◌&&◌, if◌then◌else◌, Option, Some, None}
+use Rattle.std.specs.Prelude.{ℕ, ◌<◌, ◌≤◌, ◌^◌, ◌==◌, nat_lt, nat_le, List, [], ◌∷◌, Bool, ◌&&◌, if◌then◌else◌, Option, Some, None}
 use Rattle.std.specs.List.{count_by, filter}
 use Rattle.apply_view.specs.declared.numbers.interval.Interval.{Interval}
 use Rattle.apply_view.specs.declared.numbers.stretch.Stretch.{Stretch}
@@ -7,6 +7,11 @@ use Rattle.apply_view.specs.declared.numbers.stretch.Stretch.{Stretch}
 -- it ends no sooner than it begins
 abbrev pub IsOrdered : Interval → Type 0
 IsOrdered i = i.begin ≤ i.end
+
+-- its numbers have 64 bits
+pub record IsSmallInterval (i : Interval) : Type 0 where
+  pub place : i.place < 2 ^ 64
+  pub end : i.end < 2 ^ 64
 
 -- a number among others that ascend, where it is not among them
 abbrev pub put : ℕ → List ℕ → List ℕ

@@ -3,5 +3,6 @@
 pub(crate) mod edge;
 pub(crate) mod interval;
 pub(crate) mod measures;
+pub(crate) mod running;
 pub(crate) mod stretch;
 pub(crate) mod sweep;

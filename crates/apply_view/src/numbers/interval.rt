@@ -1,8 +1,9 @@
 //! When a step was under way.
 
-ghost use Rattle.std.specs.Prelude.{◌≡◌, IfOk};
+ghost use Rattle.std.specs.Prelude.{◌≡◌, All, IfOk};
 ghost use Rattle.apply_view.specs.Intervals.{interval_of, intervals_of};
 ghost use Rattle.apply_view.specs.Numbers.{interval_length};
+ghost use Rattle.apply_view.specs.Stretches.{IsSmallInterval};
 
 use crate::told::moments::Moments;
 use crate::told::step::Step;
@@ -19,7 +20,8 @@ pub struct Interval {
 impl Interval {
     /// That of the step at the place.
     pub fn of(moments: Moments, place: usize, step: &Step) -> Interval
-        ensures { result ≡ interval_of moments place step.now }
+        ensures value { result ≡ interval_of moments place step.now }
+        ensures small { IsSmallInterval result }
     {
         Interval {
             place,
@@ -42,7 +44,8 @@ pub(crate) fn intervals_of(
     moments: Moments,
     steps: &[Step],
 ) -> Result<Vec<Interval>, AllocError>
-    ensures { IfOk result (λ intervals. intervals.items ≡ intervals_of moments steps.now) }
+    ensures value { IfOk result (λ intervals. intervals.items ≡ intervals_of moments steps.now) }
+    ensures small { IfOk result (λ intervals. All IsSmallInterval intervals.items) }
 {
     let mut intervals = Vec::new(alloc);
     for (place, step) in steps.iter().enumerate() {

@@ -1,9 +1,9 @@
 //! The numbers of a stream.
 
-ghost use Rattle.std.specs.Prelude.{◌≡◌, ◌<◌, ◌^◌, ℕ, IfOk, codes, get_or, length};
+ghost use Rattle.std.specs.Prelude.{◌≡◌, ◌<◌, ◌+◌, ◌^◌, ℕ, IfOk, codes, get_or, if◌then◌else◌, length};
 ghost use Rattle.std.specs.List.{sum_by};
 ghost use Rattle.apply_view.specs.Intervals.{intervals_of};
-ghost use Rattle.apply_view.specs.Numbers.{IsNumbersOf, alone_in, busy_in, completed_of, peak_in, stretch_length, work_of};
+ghost use Rattle.apply_view.specs.Numbers.{IsNumbersOf, alone_in, busy_in, completed_of, is_alone, peak_in, stretch_length, work_of};
 
 use crate::numbers::interval::{Interval, intervals_of};
 use crate::numbers::stretch::Stretch;
@@ -94,13 +94,22 @@ fn alone_in(alloc: Global, count: usize, stretches: &[Stretch]) -> Result<Vec<u6
 {
     let mut alone = vec![in alloc; 0; count]?;
     for stretch in stretches {
-        if let Some(place) = stretch.alone {
-            if place < alone.len() {
-                alone[place] += stretch.length();
-            }
-        }
+        add_alone(&mut alone, *stretch);
     }
     Ok(alone)
+}
+
+/// Adds the length of a stretch to that of the only step that is under way in it.
+fn add_alone(alone: &mut [u64], stretch: Stretch)
+    requires { (place : ℕ) → get_or alone.old place 0 + stretch_length stretch < 2 ^ 64 }
+    ensures { (place : ℕ) → place < length alone.old
+        → get_or alone.new place 0 ≡ get_or alone.old place 0 + (if is_alone place stretch then stretch_length stretch else 0) }
+{
+    if let Some(place) = stretch.alone {
+        if place < alone.len() {
+            alone[place] += stretch.length();
+        }
+    }
 }
 
 /// How many steps of that action ended well.
