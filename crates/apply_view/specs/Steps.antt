@@ -115,7 +115,10 @@ abbrev pub with_provisioner_ended : ℤ → (failed : Bool) → ToldStep → Tol
 with_provisioner_ended moment failed step =
     record step { provisioners = with_last_ended moment failed step.provisioners }
 
+abbrev pub marked : ToldStep → ToldStep
+marked step = record step { failed = true }
+
 -- an error at an address marks each step that is open there
 abbrev pub marked_by_error : (address : Option (List ℕ)) → ToldStep → ToldStep
 marked_by_error None step = step
-marked_by_error (Some address) step = if is_open_at address step then record step { failed = true } else step
+marked_by_error (Some address) step = if is_open_at address step then marked step else step

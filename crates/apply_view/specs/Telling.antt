@@ -2,12 +2,13 @@
 use Rattle.std.specs.Prelude.{ℕ, ◌+◌, ℤ, List, [], ◌∷◌, ◌++◌, length, map, nat_lt, Bool, true, false, if◌then◌else◌, Option, Some, None}
 use Rattle.std.specs.List.{fold, list_all}
 use Rattle.std.specs.Option.{option_map_or}
+use Rattle.serde_json.specs.Data.{Data}
 use Rattle.apply_json.specs.Tree.{text_of}
 use Rattle.std.specs.Prelude.{codes}
 use Rattle.apply_view.specs.declared.told.moments.Moments.{Moments}
 use Rattle.apply_view.specs.declared.told.totals.Totals.{Totals}
 use Rattle.apply_view.specs.Details.{ToldDiagnostic, diagnostic_of, is_blank}
-use Rattle.apply_view.specs.Messages.{Message, Said, begins, ends, begins_provisioner, ends_provisioner, error, warning, version, plan_summary, summary, other, lacking, message_of}
+use Rattle.apply_view.specs.Messages.{Message, Said, begins, ends, begins_provisioner, ends_provisioner, error, warning, version, plan_summary, summary, other, lacking, message_of, tree_message}
 use Rattle.apply_view.specs.Moments.{with_moment}
 use Rattle.apply_view.specs.Steps.{ToldStep, at_place, begun_step, ended, first_of, is_open_at, is_open_with, last_of, marked_by_error, passes_at, places, provisions, with_provisioner, with_provisioner_ended}
 
@@ -86,16 +87,20 @@ with_provisioner_end address failed moment t =
     option_map_or (λ place. with_provisioner_end_at place failed moment t)
     (last_of (places (is_open_at address) t.steps)) (with_passed t)
 
+-- an error is kept, and marks the steps that are open at its address
+abbrev pub with_error : Data → Telling → Telling
+with_error d t = record t {
+  errors = with_diagnostic (diagnostic_of d) t.errors;
+  steps = map (marked_by_error (text_of (codes "address") d)) t.steps;
+}
+
 -- what a message says, at that moment
 abbrev pub with_said : ℤ → Said → Telling → Telling
 with_said moment (begins address action) t = with_begin address action moment t
 with_said moment (ends address action failed) t = with_end address action failed moment t
 with_said moment (begins_provisioner address name) t = with_provisioner_begin address name moment t
 with_said moment (ends_provisioner address failed) t = with_provisioner_end address failed moment t
-with_said moment (error d) t = record t {
-  errors = with_diagnostic (diagnostic_of d) t.errors;
-  steps = map (marked_by_error (text_of (codes "address") d)) t.steps;
-}
+with_said moment (error d) t = with_error d t
 with_said moment (warning d) t = record t { warnings = with_diagnostic (diagnostic_of d) t.warnings }
 with_said moment (version text) t = record t { version = Some text }
 with_said moment plan_summary t = record t { has_plan_summary = true }
@@ -112,9 +117,15 @@ with_message message t =
 abbrev pub is_blank_line : List ℕ → Bool
 is_blank_line line = list_all is_blank line
 
+-- what is no message is passed over
+abbrev pub with_message_or_passed : Option Message → Telling → Telling
+with_message_or_passed message t = option_map_or (λ message. with_message message t) message (with_passed t)
+
+abbrev pub with_tree : Data → Telling → Telling
+with_tree d t = with_message_or_passed (tree_message d) t
+
 abbrev pub with_line_said : List ℕ → Telling → Telling
-with_line_said line t =
-    if is_blank_line line then t else option_map_or (λ message. with_message message t) (message_of line) (with_passed t)
+with_line_said line t = if is_blank_line line then t else with_message_or_passed (message_of line) t
 
 abbrev pub with_line : List ℕ → Telling → Telling
 with_line line t = with_line_said line (record t { lines = t.lines + 1 })

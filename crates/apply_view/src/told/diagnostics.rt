@@ -1,9 +1,10 @@
 //! The diagnostics of one severity.
 
-ghost use Rattle.std.specs.Prelude.{◌≡◌, ◌<◌, ◌^◌, OnErr, OnOk};
+ghost use Rattle.std.specs.Prelude.{◌≡◌, OnErr, OnOk};
 ghost use Rattle.serde_json.specs.View.{view};
 ghost use Rattle.apply_view.specs.Details.{diagnostic_of};
-ghost use Rattle.apply_view.specs.Telling.{no_diagnostics, with_diagnostic};
+ghost use Rattle.apply_view.specs.Telling.{no_diagnostics};
+ghost use Rattle.apply_view.specs.Viewing.{added};
 
 use crate::told::diagnostic::Diagnostic;
 use crate::told::limits::MAX_KEPT;
@@ -39,15 +40,14 @@ impl Diagnostics {
 
     /// Takes one more, as the object `diagnostic`. An `Err` changes nothing.
     pub(crate) fn add(&mut self, alloc: Global, members: &Value) -> Result<(), AllocError>
-        requires { self.old.count < 2 ^ 63 }
-        ensures ok { OnOk result (self.new ≡ with_diagnostic (diagnostic_of (view members.now)) self.old) }
+        ensures ok { OnOk result (self.new ≡ added (diagnostic_of (view members.now)) self.old) }
         ensures err { OnErr result (self.new ≡ self.old) }
     {
         if self.kept.len() < MAX_KEPT {
             let diagnostic = Diagnostic::of(alloc, members)?;
             self.kept.push(diagnostic)?;
         }
-        self.count += 1;
+        self.count = self.count.saturating_add(1);
         Ok(())
     }
 

@@ -1,6 +1,6 @@
 //! Where the steps stand that are open, by address.
 
-ghost use Rattle.std.specs.Prelude.{◌≡◌, ◌++◌, ◌∷◌, [], ℕ, List, None, OnErr, OnOk, if◌then◌else◌};
+ghost use Rattle.std.specs.Prelude.{◌≡◌, ◌++◌, ◌∷◌, [], ℕ, List, None, OnOk, true, if◌then◌else◌};
 ghost use Rattle.std.specs.BTreeMap.{get_by_text};
 ghost use Rattle.std.specs.Str.{bytes_eq};
 ghost use Rattle.apply_view.specs.OpenPlaces.{places_at, without};
@@ -34,21 +34,28 @@ impl OpenPlaces {
         }
     }
 
-    /// Adds a place behind the others of its address. An `Err` changes nothing.
+    /// Adds a place behind the others of its address.
     pub fn add(&mut self, alloc: Global, address: &str, place: usize) -> Result<(), AllocError>
-        ensures ok { OnOk result ((other : List ℕ) → places_at self.new other
+        ensures { OnOk result ((other : List ℕ) → places_at self.new other
             ≡ (if bytes_eq address.now other then places_at self.old other ++ place ∷ [] else places_at self.old other)) }
-        ensures err { OnErr result ((other : List ℕ) → places_at self.new other ≡ places_at self.old other) }
     {
-        if let Some(places) = self.by_address.get_mut(address) {
-            places.push(place)?;
-        } else {
-            let mut places = Vec::new(alloc);
-            places.push(place)?;
-            let key = String::from_str(alloc, address)?;
-            self.by_address.insert(key, places)?;
-        }
+        let mut places = self.taken(alloc, address);
+        places.push(place)?;
+        let key = String::from_str(alloc, address)?;
+        self.by_address.insert(key, places)?;
         Ok(())
+    }
+
+    /// Takes all places of an address.
+    fn taken(&mut self, alloc: Global, address: &str) -> Vec<usize>
+        ensures places { result.items ≡ places_at self.old address.now }
+        ensures others { (other : List ℕ) → get_by_text self.new.by_address other
+            ≡ (if bytes_eq address.now other then None else get_by_text self.old.by_address other) }
+    {
+        match self.by_address.remove(address) {
+            Some(places) => places,
+            None => Vec::new(alloc),
+        }
     }
 
     /// Takes a place from those of its address.
@@ -56,15 +63,29 @@ impl OpenPlaces {
         ensures { (other : List ℕ) → places_at self.new other
             ≡ (if bytes_eq address.now other then without place (places_at self.old other) else places_at self.old other) }
     {
-        let is_empty = match self.by_address.get_mut(address) {
-            Some(places) => {
-                places.retain(|other| *other != place);
-                places.is_empty()
-            }
-            None => false,
-        };
-        if is_empty {
+        if self.cut(address, place) {
             let _ = self.by_address.remove(address);
         }
     }
+
+    /// Takes a place from those of its address, and says whether that leaves none of them.
+    fn cut(&mut self, address: &str, place: usize) -> bool
+        ensures places { (other : List ℕ) → places_at self.new other
+            ≡ (if bytes_eq address.now other then without place (places_at self.old other) else places_at self.old other) }
+        ensures none { result ≡ true → places_at self.new address.now ≡ [] }
+    {
+        match self.by_address.get_mut(address) {
+            Some(places) => drop_place(places, place),
+            None => false,
+        }
+    }
+}
+
+/// Takes a place from some, and says whether that leaves none.
+fn drop_place(places: &mut Vec<usize>, place: usize) -> bool
+    ensures places { places.new.items ≡ without place places.old.items }
+    ensures none { result ≡ true → places.new.items ≡ [] }
+{
+    places.retain(|other| *other != place);
+    places.is_empty()
 }

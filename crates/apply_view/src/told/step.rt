@@ -1,11 +1,10 @@
 //! A step.
 
-ghost use Rattle.std.specs.Prelude.{◌≡◌, IfOk, OnErr, OnOk, true};
-ghost use Rattle.std.specs.Option.{option_copied};
+ghost use Rattle.std.specs.Prelude.{◌≡◌, IfOk, OnErr, OnOk, map};
 ghost use Rattle.apply_view.specs.Intervals.{is_counted, length_of, until_of};
 ghost use Rattle.apply_view.specs.Numbers.{is_completed};
 ghost use Rattle.apply_view.specs.Rows.{is_marked};
-ghost use Rattle.apply_view.specs.Steps.{begun_step, ended, is_open_at, provisions, marked_by_error, with_provisioner, with_provisioner_ended};
+ghost use Rattle.apply_view.specs.Steps.{begun_step, ended, ended_with_step, marked, provisions, with_provisioner, with_provisioner_ended};
 
 use crate::told::moments::{Moments, gap};
 use crate::told::provisioner::Provisioner;
@@ -69,9 +68,7 @@ impl Step {
         ensures { self.new ≡ ended moment failed self.old }
     {
         let end = self.begin.max(moment);
-        for provisioner in self.provisioners.iter_mut() {
-            provisioner.end_with_step(end);
-        }
+        end_all(&mut self.provisioners, end);
         self.end = Some(end);
         self.failed = failed;
     }
@@ -95,24 +92,23 @@ impl Step {
     pub(crate) fn provisions(&self) -> bool
         ensures { result ≡ provisions self.now }
     {
-        match self.provisioners.last() {
-            Some(provisioner) => provisioner.end().is_none(),
-            None => false,
-        }
+        let count = self.provisioners.len();
+        count > 0 && self.provisioners[count - 1].end().is_none()
     }
 
     /// Ends the provisioner that began last.
     pub(crate) fn end_provisioner(&mut self, moment: i64, failed: bool)
         ensures { self.new ≡ with_provisioner_ended moment failed self.old }
     {
-        if let Some(provisioner) = self.provisioners.last_mut() {
-            provisioner.end_at(moment, failed);
+        let count = self.provisioners.len();
+        if count > 0 {
+            self.provisioners[count - 1].end_at(moment, failed);
         }
     }
 
     /// Marks it as failed.
     pub(crate) fn mark(&mut self)
-        ensures { self.new ≡ record self.old { failed = true } }
+        ensures { self.new ≡ marked self.old }
     {
         self.failed = true;
     }
@@ -200,5 +196,14 @@ impl Step {
         ensures { result ≡ is_completed action.now self.now }
     {
         self.action() == action && self.end.is_some() && !self.failed
+    }
+}
+
+/// Ends those that have no end, with their step.
+fn end_all(provisioners: &mut [Provisioner], end: i64)
+    ensures { provisioners.new ≡ map (ended_with_step end) provisioners.old }
+{
+    for place in 0..provisioners.len() {
+        provisioners[place].end_with_step(end);
     }
 }

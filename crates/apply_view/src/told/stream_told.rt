@@ -1,16 +1,20 @@
 //! What a stream tells.
 
-ghost use Rattle.std.specs.Prelude.{◌≡◌, ◌<◌, ◌+◌, ◌^◌, length, map, option_map, IfSome, OnErr, OnOk, Some, true};
-ghost use Rattle.apply_json.specs.Tree.{text_of};
+ghost use Rattle.std.specs.Prelude.{◌≡◌, ◌<◌, ◌≤◌, ◌+◌, ◌^◌, ◌↔◌, min, option_map, IsTrue, OnOk, Some, true};
 ghost use Rattle.serde_json.specs.View.{view};
-ghost use Rattle.apply_view.specs.Steps.{at_place, begun_step, ended, marked_by_error, with_provisioner, with_provisioner_ended};
-ghost use Rattle.apply_view.specs.Telling.{nothing_told, with_diagnostic, with_passed};
+ghost use Rattle.apply_view.specs.Details.{diagnostic_of};
+ghost use Rattle.apply_view.specs.Moments.{with_moment};
+ghost use Rattle.apply_view.specs.Steps.{at_place, ended, marked, passes_at, provisions, with_provisioner, with_provisioner_ended};
+ghost use Rattle.apply_view.specs.Telling.{max_steps, nothing_told, with_begin};
+ghost use Rattle.apply_view.specs.Viewing.{added};
 
 use crate::told::diagnostics::Diagnostics;
+use crate::told::limits::MAX_STEPS;
 use crate::told::moments::{Moments, with_moment};
 use crate::told::step::Step;
 use crate::told::totals::Totals;
 use crate::told::version::Version;
+use serde_json::Value;
 use std::alloc::{AllocError, Global};
 use std::marker::Model;
 
@@ -68,12 +72,19 @@ impl Told {
         }
     }
 
+    /// Counts the line at hand.
+    pub(crate) fn count_line(&mut self)
+        requires { self.old.lines < 2 ^ 63 }
+        ensures { self.new ≡ record self.old { lines = self.old.lines + 1 } }
+    {
+        self.lines += 1;
+    }
+
     /// Passes over the line at hand.
     pub(crate) fn pass(&mut self)
-        requires { self.old.passed < 2 ^ 63 }
-        ensures { self.new ≡ with_passed self.old }
+        ensures { self.new ≡ record self.old { passed = min (self.old.passed + 1) u64.MAX } }
     {
-        self.passed += 1;
+        self.passed = self.passed.saturating_add(1);
     }
 
     /// Takes the moment of a message.
@@ -81,6 +92,121 @@ impl Told {
         ensures { self.new ≡ record self.old { moments = Some (with_moment moment self.old.moments) } }
     {
         self.moments = Some(with_moment(self.moments, moment));
+    }
+
+    /// Takes the version.
+    pub(crate) fn set_version(&mut self, alloc: Global, text: &str) -> Result<(), AllocError>
+        ensures { OnOk result (self.new ≡ record self.old { version = Some text.now }) }
+    {
+        self.version = Some(Version::new(alloc, text)?);
+        Ok(())
+    }
+
+    /// Takes the totals of a summary.
+    pub(crate) fn set_totals(&mut self, totals: Totals)
+        ensures { self.new ≡ record self.old { totals = Some totals } }
+    {
+        self.totals = Some(totals);
+    }
+
+    /// Takes the summary of a plan.
+    pub(crate) fn see_plan(&mut self)
+        ensures { self.new ≡ record self.old { has_plan_summary = true } }
+    {
+        self.has_plan_summary = true;
+    }
+
+    /// Takes an error, as the object `diagnostic`.
+    pub(crate) fn add_error(&mut self, alloc: Global, members: &Value) -> Result<(), AllocError>
+        ensures { OnOk result (self.new ≡ record self.old { errors = added (diagnostic_of (view members.now)) self.old.errors }) }
+    {
+        self.errors.add(alloc, members)
+    }
+
+    /// Takes a warning.
+    pub(crate) fn add_warning(&mut self, alloc: Global, members: &Value) -> Result<(), AllocError>
+        ensures { OnOk result (self.new ≡ record self.old { warnings = added (diagnostic_of (view members.now)) self.old.warnings }) }
+    {
+        self.warnings.add(alloc, members)
+    }
+
+    /// Whether as many steps and provisioners have begun as may.
+    pub(crate) fn is_full(&self) -> bool
+        ensures { IsTrue result ↔ (max_steps ≤ self.now.begun) }
+    {
+        self.begun >= MAX_STEPS
+    }
+
+    /// Begins a step at that moment.
+    pub(crate) fn begin(
+        &mut self,
+        alloc: Global,
+        address: &str,
+        action: &str,
+        moment: i64,
+    ) -> Result<(), AllocError>
+        requires { self.old.begun < max_steps }
+        ensures { OnOk result (self.new ≡ with_begin address.now action.now moment self.old) }
+    {
+        let step = Step::begun(alloc, self.lines, address, action, moment)?;
+        self.steps.push(step)?;
+        self.begun += 1;
+        Ok(())
+    }
+
+    /// Ends the step at that place.
+    pub(crate) fn end(&mut self, place: usize, failed: bool, moment: i64)
+        ensures { self.new ≡ record self.old { steps = at_place place (ended moment failed) self.old.steps } }
+    {
+        if place < self.steps.len() {
+            self.steps[place].end_at(moment, failed);
+        }
+    }
+
+    /// Begins a provisioner in the step at that place.
+    pub(crate) fn begin_provisioner(
+        &mut self,
+        alloc: Global,
+        place: usize,
+        name: &str,
+        moment: i64,
+    ) -> Result<(), AllocError>
+        requires { self.old.begun < max_steps }
+        ensures { OnOk result (self.new ≡ record self.old {
+          steps = at_place place (with_provisioner name.now moment) self.old.steps;
+          begun = self.old.begun + 1;
+        }) }
+    {
+        if place < self.steps.len() {
+            self.steps[place].begin_provisioner(alloc, name, moment)?;
+        }
+        self.begun += 1;
+        Ok(())
+    }
+
+    /// Whether in the step at that place the provisioner that began last has no end.
+    pub(crate) fn provisions(&self, place: usize) -> bool
+        ensures { result ≡ passes_at place provisions self.now.steps }
+    {
+        place < self.steps.len() && self.steps[place].provisions()
+    }
+
+    /// Ends the provisioner that began last in the step at that place.
+    pub(crate) fn end_provisioner(&mut self, place: usize, failed: bool, moment: i64)
+        ensures { self.new ≡ record self.old { steps = at_place place (with_provisioner_ended moment failed) self.old.steps } }
+    {
+        if place < self.steps.len() {
+            self.steps[place].end_provisioner(moment, failed);
+        }
+    }
+
+    /// Marks the step at that place as failed.
+    pub(crate) fn mark(&mut self, place: usize)
+        ensures { self.new ≡ record self.old { steps = at_place place marked self.old.steps } }
+    {
+        if place < self.steps.len() {
+            self.steps[place].mark();
+        }
     }
 
     /// How many lines there were.

@@ -1,48 +1,40 @@
 //! What takes the lines of a stream.
 
-ghost use Rattle.std.specs.Prelude.{◌≡◌};
+ghost use Rattle.std.specs.Prelude.{◌≡◌, ◌<◌, ◌^◌, ◌↔◌, ℕ, List, None, Some, IfErr, IfOk, false};
+ghost use Rattle.apply_json.specs.Tree.{text_of};
+ghost use Rattle.serde_json.specs.View.{view};
 
 use crate::told::details::is_blank_line;
-use crate::told::limits::{MAX_LINES, MAX_STEPS};
+use crate::told::limits::MAX_LINES;
 use crate::told::line_shape::LineShape;
 use crate::told::open_places::OpenPlaces;
 use crate::told::said::{Said, moment_of};
-use crate::told::step::Step;
 use crate::told::stream_told::Told;
-use crate::told::version::Version;
 use crate::told::view_fault::ViewFault;
 use apply_json::members::text_member;
 use apply_json::{JsonFault, Scratch, parse_trimmed};
 use serde_json::Value;
 use std::alloc::Global;
-use std::marker::Model;
 
-/// What takes the lines of a stream, one after another. Contracts see what they tell.
+/// What takes the lines of a stream, one after another.
 #[derive(Drop)]
 pub struct Viewer {
-    told: Told,
-    opened: OpenPlaces,
+    pub(crate) told: Told,
+    pub(crate) opened: OpenPlaces,
     // Kept from line to line, so that reading one takes no memory of its own.
     scratch: Scratch,
 }
 
-impl Model for Viewer {
-    ghost use Rattle.apply_view.specs.Telling.{Telling};
-    ghost use Rattle.apply_view.specs.Viewing.{IsKept};
-
-    ghost Value = { Telling };
-
-    ghost view = { λ viewer. viewer.told };
-
-    ghost invariant = { λ viewer. IsKept viewer.opened viewer.told };
-}
-
 impl Viewer {
-    ghost use Rattle.apply_view.specs.Telling.{nothing_told};
+    ghost use Rattle.apply_view.specs.Steps.{first_of, is_open_at, is_open_with, last_of, places};
+    ghost use Rattle.apply_view.specs.Telling.{Telling, max_lines, nothing_told, with_begin, with_end, with_error, with_line, with_line_said, with_message, with_passed, with_provisioner_begin, with_provisioner_end, with_said, with_tree};
+    ghost use Rattle.apply_view.specs.Viewing.{Goes, HasTold};
+    ghost use Rattle.apply_view.specs.Views.{said_view};
+    ghost use Rattle.apply_view.specs.declared.told.view_fault.ViewFault.TheVariants.{NoMessage};
 
     /// No line was taken.
     pub fn new(alloc: Global) -> Viewer
-        ensures { result ≡ nothing_told }
+        ensures { HasTold result nothing_told }
     {
         Viewer {
             told: Told::new(alloc),
@@ -51,16 +43,22 @@ impl Viewer {
         }
     }
 
+    /// Whether no further line is taken: 4,294,967,296 were.
+    pub fn is_full(&self) -> bool
+        ensures { result ≡ false ↔ self.now.told.lines < max_lines }
+    {
+        self.told.lines() >= MAX_LINES
+    }
+
     /// Takes the next line, without its line feed.
     ///
-    /// `Err` with `ViewFault::TooManyLines` behind 4,294,967,296 lines, with `ViewFault::TooManySteps` where a step or a
-    /// provisioner begins behind 100,000 others, and with `ViewFault::Memory` where memory is refused. Then no further line
-    /// may be taken: what the lines tell is not known any more.
-    pub fn line(&mut self, alloc: Global, line: &[u8]) -> Result<(), ViewFault> {
-        if self.told.lines >= MAX_LINES {
-            return Err(ViewFault::TooManyLines);
-        }
-        self.told.lines += 1;
+    /// `Err` with `ViewFault::TooManySteps` where a step or a provisioner begins behind 100,000 others, and with
+    /// `ViewFault::Memory` where memory is refused. Then nothing is known any more of what the lines tell.
+    pub fn line(&mut self, alloc: Global, line: &[u8]) -> Result<(), ViewFault>
+        requires { self.old.told.lines < max_lines }
+        ensures { Goes self.old self.new (with_line line.now) result }
+    {
+        self.told.count_line();
         if is_blank_line(line) {
             return Ok(());
         }
@@ -75,20 +73,20 @@ impl Viewer {
     }
 
     /// What the lines tell, where one of them is a message. `Err` with `ViewFault::NoMessage` where none is.
-    pub fn end(self) -> Result<Told, ViewFault> {
-        let Viewer {
-            told,
-            opened: _,
-            scratch: _,
-        } = self;
-        if told.moments().is_none() {
+    pub fn end(self) -> Result<Told, ViewFault>
+        ensures told { IfOk result (λ told. told ≡ self.told) }
+        ensures none { IfErr result (λ fault. (fault ≡ NoMessage) × (self.told.moments ≡ None)) }
+    {
+        if self.told.moments().is_none() {
             return Err(ViewFault::NoMessage);
         }
-        Ok(told)
+        Ok(self.told)
     }
 
     /// Takes a line that is a tree.
-    fn tree(&mut self, alloc: Global, tree: &Value) -> Result<(), ViewFault> {
+    fn tree(&mut self, alloc: Global, tree: &Value) -> Result<(), ViewFault>
+        ensures { Goes self.old self.new (with_tree (view tree.now)) result }
+    {
         let Some(name) = text_member(tree, "type") else {
             self.told.pass();
             return Ok(());
@@ -102,7 +100,9 @@ impl Viewer {
     }
 
     /// Takes what a message says.
-    fn take(&mut self, alloc: Global, moment: i64, said: Said<'_>) -> Result<(), ViewFault> {
+    fn take(&mut self, alloc: Global, moment: i64, said: Said<'_>) -> Result<(), ViewFault>
+        ensures { Goes self.old self.new (with_said moment (said_view said.entry)) result }
+    {
         match said {
             Said::Begins { address, action } => self.begin(alloc, address, action, moment),
             Said::Ends {
@@ -122,19 +122,19 @@ impl Viewer {
             }
             Said::Error { members } => self.error(alloc, members),
             Said::Warning { members } => {
-                self.told.warnings.add(alloc, members)?;
+                self.told.add_warning(alloc, members)?;
                 Ok(())
             }
             Said::Version { text } => {
-                self.told.version = Some(Version::new(alloc, text)?);
+                self.told.set_version(alloc, text)?;
                 Ok(())
             }
             Said::PlanSummary => {
-                self.told.has_plan_summary = true;
+                self.told.see_plan();
                 Ok(())
             }
             Said::Summary { totals } => {
-                self.told.totals = Some(totals);
+                self.told.set_totals(totals);
                 Ok(())
             }
             Said::Other => Ok(()),
@@ -145,15 +145,6 @@ impl Viewer {
         }
     }
 
-    /// Counts a step or a provisioner that begins.
-    fn count(&mut self) -> Result<(), ViewFault> {
-        if self.told.begun >= MAX_STEPS {
-            return Err(ViewFault::TooManySteps);
-        }
-        self.told.begun += 1;
-        Ok(())
-    }
-
     /// Begins a step.
     fn begin(
         &mut self,
@@ -161,20 +152,25 @@ impl Viewer {
         address: &str,
         action: &str,
         moment: i64,
-    ) -> Result<(), ViewFault> {
-        self.count()?;
-        let place = self.told.steps.len();
-        let step = Step::begun(alloc, self.told.lines, address, action, moment)?;
-        self.told.steps.push(step)?;
+    ) -> Result<(), ViewFault>
+        ensures { Goes self.old self.new (with_begin address.now action.now moment) result }
+    {
+        if self.told.is_full() {
+            return Err(ViewFault::TooManySteps);
+        }
+        let place = self.told.steps().len();
+        self.told.begin(alloc, address, action, moment)?;
         self.opened.add(alloc, address, place)?;
         Ok(())
     }
 
     /// Ends the step that began first of those that are open with that address and action.
-    fn finish(&mut self, address: &str, action: &str, failed: bool, moment: i64) {
+    fn finish(&mut self, address: &str, action: &str, failed: bool, moment: i64)
+        ensures { (told : Telling) → HasTold self.old told → HasTold self.new (with_end address.now action.now failed moment told) }
+    {
         match self.first_open(address, action) {
             Some(place) => {
-                self.told.steps[place].end_at(moment, failed);
+                self.told.end(place, failed, moment);
                 self.opened.take(address, place);
             }
             None => self.told.pass(),
@@ -182,13 +178,23 @@ impl Viewer {
     }
 
     /// The place of the step that began first of those that are open with that address and action.
-    fn first_open(&self, address: &str, action: &str) -> Option<usize> {
+    fn first_open(&self, address: &str, action: &str) -> Option<usize>
+        ensures { (told : Telling) → HasTold self.now told → result ≡ first_of (places (is_open_with address.now action.now) told.steps) }
+    {
+        let steps = self.told.steps();
         for place in self.opened.at(address) {
-            if self.told.steps[*place].action() == action {
+            if *place < steps.len() && steps[*place].action() == action {
                 return Some(*place);
             }
         }
         None
+    }
+
+    /// The place of the step that began last of those that are open at that address.
+    fn last_open(&self, address: &str) -> Option<usize>
+        ensures { (told : Telling) → HasTold self.now told → result ≡ last_of (places (is_open_at address.now) told.steps) }
+    {
+        self.opened.at(address).last().copied()
     }
 
     /// Begins a provisioner in the step open at that address that began last.
@@ -198,21 +204,27 @@ impl Viewer {
         address: &str,
         name: &str,
         moment: i64,
-    ) -> Result<(), ViewFault> {
-        let Some(place) = self.opened.at(address).last().copied() else {
+    ) -> Result<(), ViewFault>
+        ensures { Goes self.old self.new (with_provisioner_begin address.now name.now moment) result }
+    {
+        let Some(place) = self.last_open(address) else {
             self.told.pass();
             return Ok(());
         };
-        self.count()?;
-        self.told.steps[place].begin_provisioner(alloc, name, moment)?;
+        if self.told.is_full() {
+            return Err(ViewFault::TooManySteps);
+        }
+        self.told.begin_provisioner(alloc, place, name, moment)?;
         Ok(())
     }
 
     /// Ends the provisioner that began last in the step open at that address that began last.
-    fn end_provisioner(&mut self, address: &str, failed: bool, moment: i64) {
-        match self.opened.at(address).last().copied() {
-            Some(place) => if self.told.steps[place].provisions() {
-                self.told.steps[place].end_provisioner(moment, failed);
+    fn end_provisioner(&mut self, address: &str, failed: bool, moment: i64)
+        ensures { (told : Telling) → HasTold self.old told → HasTold self.new (with_provisioner_end address.now failed moment told) }
+    {
+        match self.last_open(address) {
+            Some(place) => if self.told.provisions(place) {
+                self.told.end_provisioner(place, failed, moment);
             } else {
                 self.told.pass();
             },
@@ -221,11 +233,13 @@ impl Viewer {
     }
 
     /// Takes an error: the steps that are open at its address are marked as failed.
-    fn error(&mut self, alloc: Global, members: &Value) -> Result<(), ViewFault> {
-        self.told.errors.add(alloc, members)?;
+    fn error(&mut self, alloc: Global, members: &Value) -> Result<(), ViewFault>
+        ensures { Goes self.old self.new (with_error (view members.now)) result }
+    {
+        self.told.add_error(alloc, members)?;
         if let Some(address) = text_member(members, "address") {
             for place in self.opened.at(address) {
-                self.told.steps[*place].mark();
+                self.told.mark(*place);
             }
         }
         Ok(())

@@ -33,7 +33,7 @@ loop-edge-preserved c =
     let inv = c.loop-edge.invariant in
     record {
       kept = rw (take_more es i nothing c.loop-edge-test.true, c.in_ok-take.ensures.running, c.in_ok-take.ensures.last, c.in_ok-take.ensures.stretches)
-        (kept_more is (take i es) x (drop (i + 1) es) s.running s.stretches.items s.last (edges_at is es i nothing c.loop-edge-test.true all) inv.kept);
+          (kept_more is (take i es) x (drop (i + 1) es) s.running s.stretches.items s.last (edges_at is es i nothing c.loop-edge-test.true all) inv.kept);
       begun = rw c.in_ok-take.ensures.running (omega (arith, begun_le x s.running, inv.begun));
       ended = rw c.in_ok-take.ensures.running (omega (arith, ended_le x s.running, inv.ended));
       begun_places = rw c.in_ok-take.ensures.running (omega (arith, begun_places_le x s.running, inv.begun_places, place));
