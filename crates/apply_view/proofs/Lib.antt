@@ -1,7 +1,9 @@
 pub mod Adding
+pub mod AtPlace
 pub mod Bounds
 pub mod Cuts
 pub mod Kept
+pub mod LastOne
 pub mod OpenAt
 pub mod Places
 pub mod Sums

@@ -89,6 +89,7 @@ impl Step {
     }
 
     /// Whether the provisioner that began last has no end.
+    #[tactic(auto, using(crate::proofs::LastOne::last_open_get, crate::proofs::LastOne::last_open_none))]
     pub(crate) fn provisions(&self) -> bool
         ensures { result ≡ provisions self.now }
     {
@@ -97,6 +98,7 @@ impl Step {
     }
 
     /// Ends the provisioner that began last.
+    #[tactic(auto, using(crate::proofs::LastOne::last_ended_set, crate::proofs::LastOne::last_ended_none))]
     pub(crate) fn end_provisioner(&mut self, moment: i64, failed: bool)
         ensures { self.new ≡ with_provisioner_ended moment failed self.old }
     {

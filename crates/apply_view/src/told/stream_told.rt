@@ -53,6 +53,7 @@ impl Model for Told {
     } };
 }
 
+#[tactic(auto, using(crate::proofs::AtPlace::at_place_set, crate::proofs::AtPlace::at_place_past, crate::proofs::AtPlace::passes_at_get, crate::proofs::AtPlace::passes_at_past))]
 impl Told {
     /// What no line tells.
     pub(crate) fn new(alloc: Global) -> Told

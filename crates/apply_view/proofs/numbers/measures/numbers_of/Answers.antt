@@ -1,17 +1,27 @@
-use Rattle.std.proofs.Common.{rules, ◌≡◌, ◌<◌, ◌+◌, ◌^◌, ℕ, IfOk, codes, get_or, if◌then◌else◌, length, ◌-◌, ◌*◌, ◌≤◌, ◌/◌, ◌%◌, Bool, true, false, nat_eq, nat_lt, List, [], ◌∷◌, ◌++◌, slice_set, bit_and, bit_or, Fits, w8, w32, w64, Bor, MutBor}
-use Rattle.std.specs.List.{sum_by}
+use Rattle.std.proofs.Common.{◌≡◌, ◌∙◌, All, List, ap, subst}
+use Rattle.apply_view.specs.declared.numbers.interval.Interval.{Interval}
+use Rattle.apply_view.specs.declared.numbers.stretch.Stretch.{Stretch}
 use Rattle.apply_view.specs.Intervals.{intervals_of}
-use Rattle.apply_view.specs.Numbers.{IsNumbersOf, alone_in, busy_in, completed_of, is_alone, peak_in, stretch_length, work_of}
+use Rattle.apply_view.specs.Stretches.{IsSmallInterval, stretches_of}
+use Rattle.apply_view.proofs.Bounds.{intervals_ordered, lengths_fit}
 use Rattle.apply_view.proofs.numbers.measures.numbers_of.Goals as goal
 
--- src/numbers/measures.rt:40:21
 pub stretches_of-requires-clause-ordered : goal.stretches_of-requires-clause-ordered
-stretches_of-requires-clause-ordered c = ?
+stretches_of-requires-clause-ordered c =
+    rw (c.deref.ensures.value, c.in_ok-intervals.ensures.value) (intervals_ordered c.args.moments c.args.steps.now)
 
--- src/numbers/measures.rt:42:15
 pub busy_in-requires : goal.busy_in-requires
-busy_in-requires c = ?
+busy_in-requires c =
+    let is : List Interval = intervals_of c.args.moments c.args.steps.now in
+    let same : c.in_ok-intervals.intervals.items ≡ is = c.in_ok-intervals.ensures.value in
+    let all : c.deref-2.result.now ≡ stretches_of is = c.deref-2.ensures.value ∙ (c.in_ok-stretches.ensures ∙ ap stretches_of (c.deref.ensures.value ∙ same)) in
+    let small : All IsSmallInterval is = subst (λ (xs : List Interval). All IsSmallInterval xs) same c.in_ok-intervals.ensures.small in
+    rw all (lengths_fit is (intervals_ordered c.args.moments c.args.steps.now) small)
 
--- src/numbers/measures.rt:45:16
 pub alone_in-requires : goal.alone_in-requires
-alone_in-requires c = ?
+alone_in-requires c =
+    let is : List Interval = intervals_of c.args.moments c.args.steps.now in
+    let same : c.in_ok-intervals.intervals.items ≡ is = c.in_ok-intervals.ensures.value in
+    let all : c.deref-5.result.now ≡ stretches_of is = c.deref-5.ensures.value ∙ (c.in_ok-stretches.ensures ∙ ap stretches_of (c.deref.ensures.value ∙ same)) in
+    let small : All IsSmallInterval is = subst (λ (xs : List Interval). All IsSmallInterval xs) same c.in_ok-intervals.ensures.small in
+    rw all (lengths_fit is (intervals_ordered c.args.moments c.args.steps.now) small)
