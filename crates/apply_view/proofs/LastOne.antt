@@ -1,7 +1,8 @@
 -- The provisioner that began last.
-use Rattle.std.proofs.Common.{◌≡◌, ℕ, ℤ, ◌-◌, ◌<◌, ◌≤◌, List, [], ◌∷◌, Bool, true, false, length, get_or, set, suc, zero, refl, sym, ap, ◌∙◌, arith}
+use Rattle.std.proofs.Common.{◌≡◌, ℕ, ℤ, ◌-◌, ◌<◌, ◌≤◌, List, [], ◌∷◌, Bool, true, false, ◌+◌, ◌++◌, drop, length, get_or, map, set, suc, take, zero, refl, sym, ap, ◌∙◌, arith}
 use Rattle.std.specs.Prelude.{is_none}
-use Rattle.apply_view.specs.Steps.{ToldProvisioner, ended_provisioner, last_is_open, with_last_ended}
+use Rattle.std.proofs.lemmas.List.Edits.{map_over_more}
+use Rattle.apply_view.specs.Steps.{ToldProvisioner, ended_provisioner, ended_with_step, last_is_open, with_last_ended}
 
 one_down : (n : ℕ) → suc n - 1 ≡ n
 one_down n = omega arith
@@ -38,3 +39,11 @@ last_ended_none moment failed (p ∷ ps) l = absurd (omega arith)
 pub last_open_none : (ps : List ToldProvisioner) → length ps ≤ 0 → last_is_open ps ≡ false
 last_open_none [] l = refl
 last_open_none (p ∷ ps) l = absurd (omega arith)
+
+pub last_open_is : (ps : List ToldProvisioner) (x : ToldProvisioner) (n : ℕ) → 0 < length ps → n ≡ length ps - 1 → x ≡ get_or ps n x → last_is_open ps ≡ is_none x.end
+last_open_is ps x n l at is = last_open_get ps x l ∙ ap (λ m. is_none (get_or ps m x).end) (sym at) ∙ ap (λ (p : ToldProvisioner). is_none p.end) (sym is)
+
+-- one more is ended with its step
+pub ended_more : (end : ℤ) (xs ys : List ToldProvisioner) (i : ℕ) (x y : ToldProvisioner) → i < length xs → ys ≡ map (ended_with_step end) (take i xs) ++ drop i xs
+    → x ≡ get_or ys i x → y ≡ ended_with_step end x → set ys i y ≡ map (ended_with_step end) (take (i + 1) xs) ++ drop (i + 1) xs
+ended_more end xs ys i x y l so is made = ap (set ys i) made ∙ map_over_more (ended_with_step end) xs ys i x l so is

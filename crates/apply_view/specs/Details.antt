@@ -18,12 +18,18 @@ back_bytes = 12288
 abbrev pub detail_lines : ℕ
 detail_lines = 10
 
+-- all of a text that is not long, else its front
+abbrev pub front_part : List ℕ → List ℕ
+front_part text = if nat_le (length text) (front_bytes + back_bytes) then text else take front_bytes text
+
+-- the end of a text that is long
+abbrev pub back_part : List ℕ → List ℕ
+back_part text = if nat_le (length text) (front_bytes + back_bytes) then [] else drop (length text - back_bytes) text
+
 -- A text as it is kept. Fitted to 1,000 columns it is the same: its first 400 columns take at most 8,000 bytes and its last
 -- 602 at most 12,040, where at most four characters without width stand behind one another.
 abbrev pub kept : List ℕ → List ℕ
-kept text =
-    if nat_le (length text) (front_bytes + back_bytes) then text
-    else take front_bytes text ++ drop (length text - back_bytes) text
+kept text = front_part text ++ back_part text
 
 -- a blank, a tab or a carriage return
 abbrev pub is_blank : ℕ → Bool
@@ -63,13 +69,20 @@ text_or_empty name d = unwrap_or (text_of name d) []
 abbrev pub count_of : (name : List ℕ) → Data → Option ℕ
 count_of name d = member_of name d >>= as_number >>= as_u64
 
+-- the file that it is about, and the line of it
+abbrev pub file_of : Data → Option (List ℕ)
+file_of d = member_of (codes "range") d >>= text_of (codes "filename")
+
+abbrev pub line_of : Data → Option ℕ
+line_of d = (member_of (codes "range") d >>= member_of (codes "start")) >>= count_of (codes "line")
+
 -- what is kept of the object `diagnostic`
 abbrev pub diagnostic_of : Data → ToldDiagnostic
 diagnostic_of d = record {
   summary = kept (text_or_empty (codes "summary") d);
   address = option_map kept (text_of (codes "address") d);
-  file = option_map kept (member_of (codes "range") d >>= text_of (codes "filename"));
-  line = (member_of (codes "range") d >>= member_of (codes "start")) >>= count_of (codes "line");
+  file = option_map kept (file_of d);
+  line = line_of d;
   detail = map (λ line. kept (trimmed_line line)) (take detail_lines (lines_of_detail (text_or_empty (codes "detail") d)));
   more = length (lines_of_detail (text_or_empty (codes "detail") d)) - detail_lines;
 }

@@ -5,7 +5,7 @@ use Rattle.std.specs.Str.{bytes_eq}
 use Rattle.serde_json.specs.Data.{Data}
 use Rattle.apply_json.specs.Tree.{◌>>=◌, member_of, text_of, tree_of}
 use Rattle.apply_view.specs.declared.told.totals.Totals.{Totals}
-use Rattle.apply_view.specs.Details.{count_of, text_or_empty}
+use Rattle.apply_view.specs.Details.{ToldDiagnostic, count_of, diagnostic_of, text_or_empty}
 use Rattle.apply_view.specs.Moments.{instant_of}
 
 pub data Said : Type 0 where
@@ -15,9 +15,9 @@ pub data Said : Type 0 where
   -- so does a provisioner of the step that is open at that address
   begins_provisioner : (address name : List ℕ) → Said
   ends_provisioner : (address : List ℕ) → (failed : Bool) → Said
-  -- an error or a warning, as the object `diagnostic`
-  error : Data → Said
-  warning : Data → Said
+  -- an error that names an address, or none, or a warning
+  error : (address : Option (List ℕ)) → ToldDiagnostic → Said
+  warning : ToldDiagnostic → Said
   version : List ℕ → Said
   -- the summary of a plan, or another
   plan_summary : Said
@@ -65,8 +65,8 @@ provisioner_end_of failed d = option_map_or (λ address. ends_provisioner addres
 -- an error, a warning, or what has another severity
 abbrev pub diagnostic_with : (severity : List ℕ) → Data → Said
 diagnostic_with severity members =
-    if bytes_eq severity (codes "error") then error members
-    else if bytes_eq severity (codes "warning") then warning members
+    if bytes_eq severity (codes "error") then error (text_of (codes "address") members) (diagnostic_of members)
+    else if bytes_eq severity (codes "warning") then warning (diagnostic_of members)
     else lacking
 
 abbrev pub diagnostic_said : Data → Said

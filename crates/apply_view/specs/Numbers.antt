@@ -1,5 +1,5 @@
 -- How much was done, and how much of it beside one another.
-use Rattle.std.specs.Prelude.{◌≡◌, ◌<◌, ℕ, ◌-◌, ◌==◌, max, nat_lt, get_or, List, [], ◌∷◌, codes, length, Bool, false, ◌&&◌, not, if◌then◌else◌, is_some}
+use Rattle.std.specs.Prelude.{◌≡◌, ◌<◌, ℕ, zero, suc, ◌+◌, ◌-◌, ◌==◌, max, nat_lt, get_or, List, [], ◌∷◌, codes, length, Bool, false, ◌&&◌, not, if◌then◌else◌, is_some}
 use Rattle.std.specs.List.{count_by, sum_by}
 use Rattle.std.specs.Option.{option_map_or}
 use Rattle.std.specs.Str.{bytes_eq}
@@ -36,6 +36,11 @@ is_alone place s = option_map_or (λ only. only == place) s.alone false
 -- how long the step of that place was the only one under way
 abbrev pub alone_in : (place : ℕ) → List Stretch → ℕ
 alone_in place stretches = sum_by (λ (s : Stretch). if is_alone place s then stretch_length s else 0) stretches
+
+-- how long the steps of the places below a number were, together
+abbrev pub alone_below : ℕ → List Stretch → ℕ
+alone_below zero stretches = 0
+alone_below (suc n) stretches = alone_below n stretches + alone_in n stretches
 
 -- it ended well
 abbrev pub is_completed : (action : List ℕ) → ToldStep → Bool

@@ -3,11 +3,9 @@ use Rattle.std.specs.Prelude.{ℕ, ◌+◌, ℤ, List, [], ◌∷◌, ◌++◌, 
 use Rattle.std.specs.List.{fold, list_all}
 use Rattle.std.specs.Option.{option_map_or}
 use Rattle.serde_json.specs.Data.{Data}
-use Rattle.apply_json.specs.Tree.{text_of}
-use Rattle.std.specs.Prelude.{codes}
 use Rattle.apply_view.specs.declared.told.moments.Moments.{Moments}
 use Rattle.apply_view.specs.declared.told.totals.Totals.{Totals}
-use Rattle.apply_view.specs.Details.{ToldDiagnostic, diagnostic_of, is_blank}
+use Rattle.apply_view.specs.Details.{ToldDiagnostic, is_blank}
 use Rattle.apply_view.specs.Messages.{Message, Said, begins, ends, begins_provisioner, ends_provisioner, error, warning, version, plan_summary, summary, other, lacking, message_of, tree_message}
 use Rattle.apply_view.specs.Moments.{with_moment}
 use Rattle.apply_view.specs.Steps.{ToldStep, at_place, begun_step, ended, first_of, is_open_at, is_open_with, last_of, marked_by_error, passes_at, places, provisions, with_provisioner, with_provisioner_ended}
@@ -88,11 +86,9 @@ with_provisioner_end address failed moment t =
     (last_of (places (is_open_at address) t.steps)) (with_passed t)
 
 -- an error is kept, and marks the steps that are open at its address
-abbrev pub with_error : Data → Telling → Telling
-with_error d t = record t {
-  errors = with_diagnostic (diagnostic_of d) t.errors;
-  steps = map (marked_by_error (text_of (codes "address") d)) t.steps;
-}
+abbrev pub with_error : (address : Option (List ℕ)) → ToldDiagnostic → Telling → Telling
+with_error address d t =
+    record t { errors = with_diagnostic d t.errors; steps = map (marked_by_error address) t.steps }
 
 -- what a message says, at that moment
 abbrev pub with_said : ℤ → Said → Telling → Telling
@@ -100,8 +96,8 @@ with_said moment (begins address action) t = with_begin address action moment t
 with_said moment (ends address action failed) t = with_end address action failed moment t
 with_said moment (begins_provisioner address name) t = with_provisioner_begin address name moment t
 with_said moment (ends_provisioner address failed) t = with_provisioner_end address failed moment t
-with_said moment (error d) t = with_error d t
-with_said moment (warning d) t = record t { warnings = with_diagnostic (diagnostic_of d) t.warnings }
+with_said moment (error address d) t = with_error address d t
+with_said moment (warning d) t = record t { warnings = with_diagnostic d t.warnings }
 with_said moment (version text) t = record t { version = Some text }
 with_said moment plan_summary t = record t { has_plan_summary = true }
 with_said moment (summary totals) t = record t { totals = Some totals }

@@ -3,6 +3,7 @@
 #![tactic(auto)]
 
 mod bars;
+mod laws;
 mod numbers;
 mod rows;
 mod told;
@@ -10,6 +11,10 @@ mod told;
 pub use bars::halves::{Halves, halves_of};
 pub use bars::levels::levels_of;
 pub use bars::scale::place_on;
+pub use laws::{
+    alone_is_at_most_busy, busy_is_at_most_the_work, what_comes_no_later_stands_no_further,
+    work_is_at_most_the_peak_times_busy, work_is_the_number_under_way_times_the_length,
+};
 pub use numbers::interval::Interval;
 pub use numbers::measures::{Numbers, numbers_of};
 pub use numbers::stretch::Stretch;

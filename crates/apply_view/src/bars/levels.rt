@@ -31,7 +31,7 @@ fn cell_begin(cells: u32, span: u64, cell: u64) -> u128 {
 /// How many stretches end no later than a moment, where so many do.
 fn skipped(stretches: &[Stretch], passed: usize, begin: u128) -> usize {
     let mut passed = passed;
-    while passed < stretches.len() && stretches[passed].end as u128 <= begin {
+    'skips: while passed < stretches.len() && stretches[passed].end as u128 <= begin {
         passed += 1;
     }
     passed
@@ -41,7 +41,7 @@ fn skipped(stretches: &[Stretch], passed: usize, begin: u128) -> usize {
 fn level_in(stretches: &[Stretch], from: usize, begin: u128, end: u128) -> usize {
     let mut level = 0;
     let mut place = from;
-    while place < stretches.len() && (stretches[place].begin as u128) < end {
+    'reach: while place < stretches.len() && (stretches[place].begin as u128) < end {
         if begin < stretches[place].end as u128 {
             level = level.max(stretches[place].number);
         }

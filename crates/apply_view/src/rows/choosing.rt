@@ -1,5 +1,8 @@
 //! Which steps get a row.
 
+ghost use Rattle.std.specs.Prelude.{◌≡◌, ◌≤◌, length};
+ghost use Rattle.apply_view.specs.Rows.{longest, together};
+
 use crate::rows::candidate::Candidate;
 use crate::told::moments::Moments;
 use crate::told::step::Step;
@@ -60,12 +63,14 @@ fn ranked(alloc: Global, moments: Moments, steps: &[Step]) -> Result<Vec<Candida
 }
 
 /// How many of the first get a row.
-fn chosen_count(ranked: &[Candidate], span: u64, limit: Option<usize>) -> usize {
+fn chosen_count(ranked: &[Candidate], span: u64, limit: Option<usize>) -> usize
+    ensures { result ≤ length ranked.now }
+{
     let Some(limit) = limit else {
         return ranked.len();
     };
     let mut count = 0;
-    while count < ranked.len() && count < limit && is_worth_it(ranked[count], count, span) {
+    'front: while count < ranked.len() && count < limit && is_worth_it(ranked[count], count, span) {
         count += 1;
     }
     count
@@ -97,7 +102,9 @@ fn in_order_of_begin(
 }
 
 /// The greatest length.
-fn longest(candidates: &[Candidate]) -> u64 {
+fn longest(candidates: &[Candidate]) -> u64
+    ensures { result ≡ longest candidates.now }
+{
     let mut longest = 0;
     for candidate in candidates {
         longest = longest.max(candidate.length);
@@ -106,7 +113,9 @@ fn longest(candidates: &[Candidate]) -> u64 {
 }
 
 /// The sum of the lengths.
-fn together(candidates: &[Candidate]) -> u128 {
+fn together(candidates: &[Candidate]) -> u128
+    ensures { result ≡ together candidates.now }
+{
     let mut together = 0;
     for candidate in candidates {
         together += candidate.length as u128;

@@ -1,12 +1,10 @@
 //! What is kept of the texts of diagnostics.
 
-ghost use Rattle.std.specs.Prelude.{◌≡◌, ◌≤◌, IfOk, length, map, take};
+ghost use Rattle.std.specs.Prelude.{◌≡◌, ◌≤◌, IfOk, length, take};
 ghost use Rattle.std.specs.List.{list_all, prefix_len, suffix_len};
-ghost use Rattle.apply_lines.specs.Cut.{cut_lines, first_line};
-ghost use Rattle.apply_view.specs.Details.{is_blank, is_blank_or_feed, kept, lines_of_detail, trimmed_line, without_end, without_front};
+ghost use Rattle.apply_view.specs.Details.{back_part, front_part, is_blank, is_blank_or_feed, kept, trimmed_line, without_end};
 
 use crate::told::limits::{BACK_BYTES, FRONT_BYTES};
-use memchr::memchr;
 use std::alloc::{AllocError, Global};
 
 /// What is kept of a text: all of it, or where it has more than 20,480 bytes the first 8,192 and the last 12,288. Fitted to
@@ -15,13 +13,31 @@ pub(crate) fn kept(alloc: Global, text: &[u8]) -> Result<Vec<u8>, AllocError>
     ensures { IfOk result (λ bytes. bytes.items ≡ kept text.now) }
 {
     let mut bytes = Vec::new(alloc);
-    if text.len() <= FRONT_BYTES + BACK_BYTES {
-        bytes.extend_from_slice(text)?;
-    } else {
-        bytes.extend_from_slice(&text[..FRONT_BYTES])?;
-        bytes.extend_from_slice(&text[text.len() - BACK_BYTES..])?;
-    }
+    bytes.extend_from_slice(front_part(text))?;
+    bytes.extend_from_slice(back_part(text))?;
     Ok(bytes)
+}
+
+/// All of a text that is not long, else its front.
+fn front_part(text: &[u8]) -> &[u8]
+    ensures { result.now ≡ front_part text.now }
+{
+    if text.len() <= FRONT_BYTES + BACK_BYTES {
+        text
+    } else {
+        &text[..FRONT_BYTES]
+    }
+}
+
+/// The end of a text that is long.
+fn back_part(text: &[u8]) -> &[u8]
+    ensures { result.now ≡ back_part text.now }
+{
+    if text.len() <= FRONT_BYTES + BACK_BYTES {
+        &[]
+    } else {
+        &text[text.len() - BACK_BYTES..]
+    }
 }
 
 /// Whether it is a blank, a tab or a carriage return.
@@ -52,7 +68,7 @@ fn blanks_in_front(line: &[u8]) -> usize
     ensures bound { result ≤ length line.now }
 {
     let mut count = 0;
-    while count < line.len() && is_blank(line[count]) {
+    'front: while count < line.len() && is_blank(line[count]) {
         count += 1;
     }
     count
@@ -64,7 +80,7 @@ fn len_without_blanks(line: &[u8]) -> usize
     ensures bound { result ≤ length line.now }
 {
     let mut len = line.len();
-    while len > 0 && is_blank(line[len - 1]) {
+    'back: while len > 0 && is_blank(line[len - 1]) {
         len -= 1;
     }
     len
@@ -76,7 +92,7 @@ pub(crate) fn len_without_blank_lines(detail: &[u8]) -> usize
     ensures bound { result ≤ length detail.now }
 {
     let mut len = detail.len();
-    while len > 0 && (is_blank(detail[len - 1]) || detail[len - 1] == b'\n') {
+    'back: while len > 0 && (is_blank(detail[len - 1]) || detail[len - 1] == b'\n') {
         len -= 1;
     }
     len

@@ -1,9 +1,9 @@
 //! An error or a warning.
 
-ghost use Rattle.std.specs.Prelude.{◌≡◌, ◌+◌, ◌≤◌, ℕ, List, IfOk, OnOk, length, map, option_map, take, unwrap_or, []};
+ghost use Rattle.std.specs.Prelude.{◌≡◌, ◌≢◌, ◌+◌, ◌-◌, ◌<◌, ◌≤◌, drop, slice_index, All, IfOk, length, map, option_map, take};
 ghost use Rattle.serde_json.specs.View.{view};
-ghost use Rattle.apply_lines.specs.Cut.{cut_lines};
-ghost use Rattle.apply_view.specs.Details.{count_of, detail_lines, diagnostic_of, kept, lines_of_detail, text_or_empty, trimmed_line};
+ghost use Rattle.std.specs.Option.{option_copied};
+ghost use Rattle.apply_view.specs.Details.{count_of, detail_lines, diagnostic_of, file_of, kept, line_of, lines_of_detail, text_or_empty, trimmed_line};
 
 use crate::told::details::{kept, len_without_blank_lines, trimmed_line};
 use crate::told::limits::DETAIL_LINES;
@@ -117,12 +117,12 @@ impl Detail {
     fn of(alloc: Global, detail: &[u8]) -> Result<Detail, AllocError>
         ensures lines { IfOk result (λ found. map (λ line. line.items) found.lines.items
             ≡ map (λ line. kept (trimmed_line line)) (take detail_lines (lines_of_detail detail.now))) }
-        ensures more { IfOk result (λ found. found.more + detail_lines ≡ length (lines_of_detail detail.now) + (detail_lines - length (lines_of_detail detail.now))) }
+        ensures more { IfOk result (λ found. found.more ≡ length (lines_of_detail detail.now) - detail_lines) }
     {
         let mut rest = &detail[..len_without_blank_lines(detail)];
         let mut lines = Vec::new(alloc);
         let mut more = 0;
-        while !rest.is_empty() {
+        'lines: while !rest.is_empty() {
             let len = len_before_feed(rest);
             if lines.len() < DETAIL_LINES {
                 lines.push(kept(alloc, trimmed_line(&rest[..len]))?)?;
@@ -138,6 +138,8 @@ impl Detail {
 /// How many bytes stand before the first line feed, or how many there are where there is none.
 fn len_before_feed(bytes: &[u8]) -> usize
     ensures bound { result ≤ length bytes.now }
+    ensures before { All (λ byte. byte ≢ 10) (take result bytes.now) }
+    ensures feed { result < length bytes.now → slice_index bytes.now result ≡ 10 }
 {
     match memchr(b'\n', bytes) {
         Some(len) => len,
@@ -146,7 +148,9 @@ fn len_before_feed(bytes: &[u8]) -> usize
 }
 
 /// What stands behind so many bytes and a line feed.
-fn behind_feed(bytes: &[u8], len: usize) -> &[u8] {
+fn behind_feed(bytes: &[u8], len: usize) -> &[u8]
+    ensures { result.now ≡ drop (len + 1) bytes.now }
+{
     if len < bytes.len() {
         &bytes[len + 1..]
     } else {
@@ -165,7 +169,9 @@ pub(crate) fn text_or_empty<'a>(value: &'a Value, name: &str) -> &'a str
 }
 
 /// What is kept of a text, where there is one.
-fn kept_text(alloc: Global, text: Option<&str>) -> Result<Option<Vec<u8>>, AllocError> {
+fn kept_text(alloc: Global, text: Option<&str>) -> Result<Option<Vec<u8>>, AllocError>
+    ensures { IfOk result (λ found. option_map (λ bytes. bytes.items) found ≡ option_map kept (option_copied text.entry)) }
+{
     match text {
         Some(text) => Ok(Some(kept(alloc, text.as_bytes())?)),
         None => Ok(None),
@@ -173,12 +179,16 @@ fn kept_text(alloc: Global, text: Option<&str>) -> Result<Option<Vec<u8>>, Alloc
 }
 
 /// The file of `range`.
-fn file_of(members: &Value) -> Option<&str> {
+fn file_of(members: &Value) -> Option<&str>
+    ensures { option_copied result ≡ file_of (view members.now) }
+{
     text_member(member(members, "range")?, "filename")
 }
 
 /// The line of `start` of `range`.
-fn line_of(members: &Value) -> Option<u64> {
+fn line_of(members: &Value) -> Option<u64>
+    ensures { result ≡ line_of (view members.now) }
+{
     count_of(member(member(members, "range")?, "start")?, "line")
 }
 

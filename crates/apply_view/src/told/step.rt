@@ -4,7 +4,7 @@ ghost use Rattle.std.specs.Prelude.{◌≡◌, IfOk, OnErr, OnOk, map};
 ghost use Rattle.apply_view.specs.Intervals.{is_counted, length_of, until_of};
 ghost use Rattle.apply_view.specs.Numbers.{is_completed};
 ghost use Rattle.apply_view.specs.Rows.{is_marked};
-ghost use Rattle.apply_view.specs.Steps.{begun_step, ended, ended_with_step, marked, provisions, with_provisioner, with_provisioner_ended};
+ghost use Rattle.apply_view.specs.Steps.{begun_step, ended, ended_with_step, last_is_open, marked, provisions, with_provisioner, with_provisioner_ended};
 
 use crate::told::moments::{Moments, gap};
 use crate::told::provisioner::Provisioner;
@@ -89,12 +89,10 @@ impl Step {
     }
 
     /// Whether the provisioner that began last has no end.
-    #[tactic(auto, using(crate::proofs::LastOne::last_open_get, crate::proofs::LastOne::last_open_none))]
     pub(crate) fn provisions(&self) -> bool
         ensures { result ≡ provisions self.now }
     {
-        let count = self.provisioners.len();
-        count > 0 && self.provisioners[count - 1].end().is_none()
+        last_is_open(&self.provisioners)
     }
 
     /// Ends the provisioner that began last.
@@ -201,7 +199,20 @@ impl Step {
     }
 }
 
+/// Whether the last of them has no end.
+#[tactic(auto, using(crate::proofs::LastOne::last_open_is, crate::proofs::LastOne::last_open_none))]
+fn last_is_open(provisioners: &[Provisioner]) -> bool
+    ensures { result ≡ last_is_open provisioners.now }
+{
+    let count = provisioners.len();
+    if count == 0 {
+        return false;
+    }
+    provisioners[count - 1].end().is_none()
+}
+
 /// Ends those that have no end, with their step.
+#[tactic(auto, using(crate::proofs::LastOne::ended_more))]
 fn end_all(provisioners: &mut [Provisioner], end: i64)
     ensures { provisioners.new ≡ map (ended_with_step end) provisioners.old }
 {

@@ -1,12 +1,13 @@
 //! What a stream tells.
 
-ghost use Rattle.std.specs.Prelude.{◌≡◌, ◌<◌, ◌≤◌, ◌+◌, ◌^◌, ◌↔◌, min, option_map, IsTrue, OnOk, Some, true};
+ghost use Rattle.std.specs.Prelude.{◌≡◌, ◌<◌, ◌+◌, ◌^◌, min, nat_le, option_map, OnOk, Some, true};
+ghost use Rattle.std.specs.Str.{bytes_eq};
 ghost use Rattle.serde_json.specs.View.{view};
 ghost use Rattle.apply_view.specs.Details.{diagnostic_of};
 ghost use Rattle.apply_view.specs.Moments.{with_moment};
-ghost use Rattle.apply_view.specs.Steps.{at_place, ended, marked, passes_at, provisions, with_provisioner, with_provisioner_ended};
+ghost use Rattle.apply_view.specs.Steps.{ToldStep, at_place, ended, marked, passes_at, provisions, with_provisioner, with_provisioner_ended};
 ghost use Rattle.apply_view.specs.Telling.{max_steps, nothing_told, with_begin};
-ghost use Rattle.apply_view.specs.Viewing.{added};
+ghost use Rattle.apply_view.specs.Viewing.{added, marked_at};
 
 use crate::told::diagnostics::Diagnostics;
 use crate::told::limits::MAX_STEPS;
@@ -133,7 +134,7 @@ impl Told {
 
     /// Whether as many steps and provisioners have begun as may.
     pub(crate) fn is_full(&self) -> bool
-        ensures { IsTrue result ↔ (max_steps ≤ self.now.begun) }
+        ensures { result ≡ nat_le max_steps self.now.begun }
     {
         self.begun >= MAX_STEPS
     }
@@ -153,6 +154,13 @@ impl Told {
         self.steps.push(step)?;
         self.begun += 1;
         Ok(())
+    }
+
+    /// Whether the step at that place has that action.
+    pub(crate) fn has_action(&self, place: usize, action: &str) -> bool
+        ensures { result ≡ passes_at place (λ (step : ToldStep). bytes_eq step.action action.now) self.now.steps }
+    {
+        place < self.steps.len() && self.steps[place].action() == action
     }
 
     /// Ends the step at that place.
@@ -207,6 +215,15 @@ impl Told {
     {
         if place < self.steps.len() {
             self.steps[place].mark();
+        }
+    }
+
+    /// Marks the steps at those places as failed.
+    pub(crate) fn mark_all(&mut self, places: &[usize])
+        ensures { self.new ≡ record self.old { steps = marked_at places.now self.old.steps } }
+    {
+        for place in places {
+            self.mark(*place);
         }
     }
 

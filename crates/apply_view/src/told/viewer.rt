@@ -1,6 +1,6 @@
 //! What takes the lines of a stream.
 
-ghost use Rattle.std.specs.Prelude.{◌≡◌, ◌<◌, ◌^◌, ◌↔◌, ℕ, List, None, Some, IfErr, IfOk, false};
+ghost use Rattle.std.specs.Prelude.{◌≡◌, ◌<◌, ◌^◌, ◌↔◌, ℕ, List, None, codes, IfErr, IfOk, false};
 ghost use Rattle.apply_json.specs.Tree.{text_of};
 ghost use Rattle.serde_json.specs.View.{view};
 
@@ -26,9 +26,10 @@ pub struct Viewer {
 }
 
 impl Viewer {
+    ghost use Rattle.apply_view.specs.Details.{diagnostic_of};
     ghost use Rattle.apply_view.specs.Steps.{first_of, is_open_at, is_open_with, last_of, places};
-    ghost use Rattle.apply_view.specs.Telling.{Telling, max_lines, nothing_told, with_begin, with_end, with_error, with_line, with_line_said, with_message, with_passed, with_provisioner_begin, with_provisioner_end, with_said, with_tree};
-    ghost use Rattle.apply_view.specs.Viewing.{Goes, HasTold};
+    ghost use Rattle.apply_view.specs.Telling.{Telling, max_lines, nothing_told, with_begin, with_end, with_error, with_line, with_provisioner_begin, with_provisioner_end, with_said, with_tree};
+    ghost use Rattle.apply_view.specs.Viewing.{Goes, HasTold, Takes};
     ghost use Rattle.apply_view.specs.Views.{said_view};
     ghost use Rattle.apply_view.specs.declared.told.view_fault.ViewFault.TheVariants.{NoMessage};
 
@@ -56,7 +57,7 @@ impl Viewer {
     /// `ViewFault::Memory` where memory is refused. Then nothing is known any more of what the lines tell.
     pub fn line(&mut self, alloc: Global, line: &[u8]) -> Result<(), ViewFault>
         requires { self.old.told.lines < max_lines }
-        ensures { Goes self.old self.new (with_line line.now) result }
+        ensures { Goes (HasTold self.old) self.new (with_line line.now) result }
     {
         self.told.count_line();
         if is_blank_line(line) {
@@ -85,7 +86,7 @@ impl Viewer {
 
     /// Takes a line that is a tree.
     fn tree(&mut self, alloc: Global, tree: &Value) -> Result<(), ViewFault>
-        ensures { Goes self.old self.new (with_tree (view tree.now)) result }
+        ensures { Goes (Takes self.old) self.new (with_tree (view tree.now)) result }
     {
         let Some(name) = text_member(tree, "type") else {
             self.told.pass();
@@ -101,7 +102,7 @@ impl Viewer {
 
     /// Takes what a message says.
     fn take(&mut self, alloc: Global, moment: i64, said: Said<'_>) -> Result<(), ViewFault>
-        ensures { Goes self.old self.new (with_said moment (said_view said.entry)) result }
+        ensures { Goes (Takes self.old) self.new (with_said moment (said_view said.entry)) result }
     {
         match said {
             Said::Begins { address, action } => self.begin(alloc, address, action, moment),
@@ -153,7 +154,7 @@ impl Viewer {
         action: &str,
         moment: i64,
     ) -> Result<(), ViewFault>
-        ensures { Goes self.old self.new (with_begin address.now action.now moment) result }
+        ensures { Goes (Takes self.old) self.new (with_begin address.now action.now moment) result }
     {
         if self.told.is_full() {
             return Err(ViewFault::TooManySteps);
@@ -166,7 +167,7 @@ impl Viewer {
 
     /// Ends the step that began first of those that are open with that address and action.
     fn finish(&mut self, address: &str, action: &str, failed: bool, moment: i64)
-        ensures { (told : Telling) → HasTold self.old told → HasTold self.new (with_end address.now action.now failed moment told) }
+        ensures { (told : Telling) → Takes self.old told → HasTold self.new (with_end address.now action.now failed moment told) }
     {
         match self.first_open(address, action) {
             Some(place) => {
@@ -179,11 +180,10 @@ impl Viewer {
 
     /// The place of the step that began first of those that are open with that address and action.
     fn first_open(&self, address: &str, action: &str) -> Option<usize>
-        ensures { (told : Telling) → HasTold self.now told → result ≡ first_of (places (is_open_with address.now action.now) told.steps) }
+        ensures { (told : Telling) → Takes self.now told → result ≡ first_of (places (is_open_with address.now action.now) told.steps) }
     {
-        let steps = self.told.steps();
         for place in self.opened.at(address) {
-            if *place < steps.len() && steps[*place].action() == action {
+            if self.told.has_action(*place, action) {
                 return Some(*place);
             }
         }
@@ -192,9 +192,14 @@ impl Viewer {
 
     /// The place of the step that began last of those that are open at that address.
     fn last_open(&self, address: &str) -> Option<usize>
-        ensures { (told : Telling) → HasTold self.now told → result ≡ last_of (places (is_open_at address.now) told.steps) }
+        ensures { (told : Telling) → Takes self.now told → result ≡ last_of (places (is_open_at address.now) told.steps) }
     {
-        self.opened.at(address).last().copied()
+        let places = self.opened.at(address);
+        let count = places.len();
+        if count == 0 {
+            return None;
+        }
+        Some(places[count - 1])
     }
 
     /// Begins a provisioner in the step open at that address that began last.
@@ -205,7 +210,7 @@ impl Viewer {
         name: &str,
         moment: i64,
     ) -> Result<(), ViewFault>
-        ensures { Goes self.old self.new (with_provisioner_begin address.now name.now moment) result }
+        ensures { Goes (Takes self.old) self.new (with_provisioner_begin address.now name.now moment) result }
     {
         let Some(place) = self.last_open(address) else {
             self.told.pass();
@@ -220,7 +225,7 @@ impl Viewer {
 
     /// Ends the provisioner that began last in the step open at that address that began last.
     fn end_provisioner(&mut self, address: &str, failed: bool, moment: i64)
-        ensures { (told : Telling) → HasTold self.old told → HasTold self.new (with_provisioner_end address.now failed moment told) }
+        ensures { (told : Telling) → Takes self.old told → HasTold self.new (with_provisioner_end address.now failed moment told) }
     {
         match self.last_open(address) {
             Some(place) => if self.told.provisions(place) {
@@ -234,13 +239,11 @@ impl Viewer {
 
     /// Takes an error: the steps that are open at its address are marked as failed.
     fn error(&mut self, alloc: Global, members: &Value) -> Result<(), ViewFault>
-        ensures { Goes self.old self.new (with_error (view members.now)) result }
+        ensures { Goes (Takes self.old) self.new (with_error (text_of (codes "address") (view members.now)) (diagnostic_of (view members.now))) result }
     {
         self.told.add_error(alloc, members)?;
         if let Some(address) = text_member(members, "address") {
-            for place in self.opened.at(address) {
-                self.told.mark(*place);
-            }
+            self.told.mark_all(self.opened.at(address));
         }
         Ok(())
     }
