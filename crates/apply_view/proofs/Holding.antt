@@ -35,7 +35,7 @@ held old new t u h is at lines passed errors warnings = record {
   warnings = rw lines warnings;
 }
 
-less : (n m : ℕ) → n < m → n ≤ m
+pub less : (n m : ℕ) → n < m → n ≤ m
 less n m l = omega arith
 
 -- a line is passed over

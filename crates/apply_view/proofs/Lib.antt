@@ -8,6 +8,7 @@ pub mod FirstOpen
 pub mod Holding
 pub mod Kept
 pub mod LastOne
+pub mod Marking
 pub mod NumberLaws
 pub mod OpenAt
 pub mod Places

@@ -167,14 +167,17 @@ one_more_cut m i is e = has_cuts m i is ∙ or_right (eqb m i.begin) _ (or_right
 
 more_cuts : (i : Interval) (is js : List Interval) → AllByRecursion (IsCut (cuts is)) js → AllByRecursion (IsCut (cuts (i ∷ is))) js
 more_cuts i is [] h = tt
-more_cuts i is (j ∷ js) h = ((are_cuts : (is : List Interval) → AllByRecursion (IsCut (cuts is)) is
-are_cuts [] = tt
-are_cuts (i ∷ is) =
-    ((has_cuts i.begin i is ∙ or_left (eqb i.begin i.begin) _ (eq-eqb i.begin i.begin refl),
-    has_cuts i.end i is ∙ or_right (eqb i.end i.begin) _ (or_left (eqb i.end i.end) _ (eq-eqb i.end i.end refl))),
-    more_cuts i is is (are_cuts is))
+more_cuts i is (j ∷ js) h = ((one_more_cut j.begin i is h.0.0, one_more_cut j.end i is h.0.1), more_cuts i is js h.1)
 
-one_more_cut j.begin i is h.0.0, one_more_cut j.end i is h.0.1), more_cuts i is js h.1)
+are_cuts : (is : List Interval) → AllByRecursion (IsCut (cuts is)) is
+are_cuts [] = tt
+are_cuts (i ∷ is) = (
+  (
+    has_cuts i.begin i is ∙ or_left (eqb i.begin i.begin) _ (eq-eqb i.begin i.begin refl),
+    has_cuts i.end i is ∙ or_right (eqb i.end i.begin) _ (or_left (eqb i.end i.end) _ (eq-eqb i.end i.end refl)),
+  ),
+  more_cuts i is is (are_cuts is),
+)
 
 wholes : (js : List Interval) (a : ℕ) (cs : List ℕ) → Ascends (a ∷ cs) → AllByRecursion IsOrdered js → AllByRecursion (IsCut (a ∷ cs)) js
     → sum_by (λ i. between_from (part i) a cs) js ≡ work_of js
