@@ -2,8 +2,8 @@
 //! faults; readers that fail; and that calls succeed with ample memory.
 
 use apply_view::{
-    MAX_STEPS, Moments, Step, Told, ViewFault, Viewer, halves_of, levels_of, numbers_of, place_on,
-    read, rows_of,
+    Moments, Step, Told, ViewFault, Viewer, halves_of, levels_of, numbers_of, place_on, read,
+    rows_of,
 };
 use std::alloc::{AllocError, Global};
 use std::process::Abort;
@@ -263,21 +263,4 @@ fn faults(rt: HostRuntime) {
         let said = format!(in alloc; "{fault}").expect(&rt, "memory");
         assert_eq!(rt; said.as_str(), wanted);
     }
-}
-
-/// A step behind 100,000 others is too many.
-#[test]
-fn too_many_steps(rt: HostRuntime) {
-    let alloc = rt.alloc();
-    let mut viewer = Viewer::new(alloc);
-    let line = line_of(&rt, alloc, "Ca", 0);
-    for _ in 0..MAX_STEPS {
-        assert!(rt; !viewer.is_full());
-        viewer.line(alloc, line.as_bytes()).expect(&rt, "a line");
-    }
-    assert!(rt; !viewer.is_full());
-    assert_eq!(rt;
-        viewer.line(alloc, line.as_bytes()),
-        Err(ViewFault::TooManySteps)
-    );
 }
