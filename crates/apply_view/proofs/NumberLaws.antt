@@ -132,10 +132,13 @@ suc_times n d = add-mul 1 n d ∙ (let one : 1 * d ≡ d = omega arith in ap (λ
 
 one_part : (x : Bool) (n d : ℕ) → cond x d 0 + n * d ≡ (cond x 1 0 + n) * d
 one_part true n d = sym (suc_times n d)
-one_part false n d = ap (λ m. m * d) (zero_plus n)
+one_part false n d = (let e : 0 + n * d ≡ n * d = omega arith in e ∙ ap (λ m. m * d) (zero_plus n))
+
+zero_times : (n : ℕ) → 0 * n ≡ 0
+zero_times n = omega arith
 
 parts : (js : List Interval) (a b : ℕ) → sum_by (λ i. part i a b) js ≡ count_by (is_under_way a b) js * (b - a)
-parts [] a b = refl
+parts [] a b = sym (zero_times (b - a))
 parts (j ∷ js) a b =
     sum_by-cons (λ i. part i a b) j js
     ∙ (ap (λ n. part j a b + n) (parts js a b)
@@ -258,25 +261,42 @@ shares (suc n) s ss =
     let rest = shares n s ss in
     omega (arith, rest, sum_by-cons (λ (s : Stretch). cond (is_alone n s) (stretch_length s) 0) s ss)
 
+alone_is : (n : ℕ) (s : Stretch) (o : Option ℕ) → s.alone ≡ o → is_alone n s ≡ option_map_or (λ only. eqb only n) o false
+alone_is n s o e = ap (λ (p : Option ℕ). option_map_or (λ only. eqb only n) p false) e
+
+one_share : (s : Stretch) (b c : Bool) → b ≡ c → cond b (stretch_length s) 0 ≡ cond c (stretch_length s) 0
+one_share s b c e = ap (λ (x : Bool). cond x (stretch_length s) 0) e
+
 share_none : (n : ℕ) (s : Stretch) → s.alone ≡ None → share n s ≡ 0
 share_none zero s e = refl
-share_none (suc n) s e = rw e (let rest = share_none n s e in omega (arith, rest))
+share_none (suc n) s e =
+    let rest = share_none n s e in
+    let here : cond (is_alone n s) (stretch_length s) 0 ≡ 0 = one_share s (is_alone n s) false (alone_is n s None e) in
+    omega (arith, rest, here)
 
 share_one : (n q : ℕ) (s : Stretch) → s.alone ≡ Some q → share n s ≤ cond (ltb q n) (stretch_length s) 0
 share_one zero q s e = omega arith
 share_one (suc n) q s e =
     let rest = share_one n q s e in
-    rw e
-    (⊎_elim
+    let test : is_alone n s ≡ eqb q n = alone_is n s (Some q) e in
+    ⊎_elim
     (λ (same : q ≡ n).
-    let here : share n s ≤ 0 = (let out : ltb q n ≡ false = le-ltb q n (omega arith) in subst (λ (b : Bool). share n s ≤ cond b (stretch_length s) 0) out rest) in
-    rw (eq-eqb q n same, lt-ltb q (suc n) (omega arith)) (omega (arith, here)))
+    let before : cond (ltb q n) (stretch_length s) 0 ≡ 0 = one_share s (ltb q n) false (le-ltb q n (omega arith)) in
+    let here : cond (is_alone n s) (stretch_length s) 0 ≡ stretch_length s = one_share s (is_alone n s) true (test ∙ eq-eqb q n same) in
+    let top : cond (ltb q (suc n)) (stretch_length s) 0 ≡ stretch_length s = one_share s (ltb q (suc n)) true (lt-ltb q (suc n) (omega arith)) in
+    omega (arith, rest, before, here, top))
     (⊎_elim
-    (λ (less : q < n). rw (ne_eqb q n (λ e. omega arith), lt-ltb q (suc n) (omega arith))
-    (let here : share n s ≤ stretch_length s = subst (λ (b : Bool). share n s ≤ cond b (stretch_length s) 0) (lt-ltb q n less) rest in omega (arith, here)))
-    (λ (more : n < q). rw (ne_eqb q n (λ e. omega arith), le-ltb q (suc n) (omega arith))
-    (let here : share n s ≤ 0 = subst (λ (b : Bool). share n s ≤ cond b (stretch_length s) 0) (le-ltb q n (omega arith)) rest in omega (arith, here))))
-    (cases_order q n))
+    (λ (less : q < n).
+    let before : cond (ltb q n) (stretch_length s) 0 ≡ stretch_length s = one_share s (ltb q n) true (lt-ltb q n less) in
+    let here : cond (is_alone n s) (stretch_length s) 0 ≡ 0 = one_share s (is_alone n s) false (test ∙ ne_eqb q n (λ e. omega arith)) in
+    let top : cond (ltb q (suc n)) (stretch_length s) 0 ≡ stretch_length s = one_share s (ltb q (suc n)) true (lt-ltb q (suc n) (omega arith)) in
+    omega (arith, rest, before, here, top))
+    (λ (more : n < q).
+    let before : cond (ltb q n) (stretch_length s) 0 ≡ 0 = one_share s (ltb q n) false (le-ltb q n (omega arith)) in
+    let here : cond (is_alone n s) (stretch_length s) 0 ≡ 0 = one_share s (is_alone n s) false (test ∙ ne_eqb q n (λ e. omega arith)) in
+    let top : cond (ltb q (suc n)) (stretch_length s) 0 ≡ 0 = one_share s (ltb q (suc n)) false (le-ltb q (suc n) (omega arith)) in
+    omega (arith, rest, before, here, top)))
+    (cases_order q n)
 
 part_of : (b : Bool) (n : ℕ) → cond b n 0 ≤ n
 part_of true n = omega arith
