@@ -310,7 +310,7 @@ share_made n a b [] = let none = share_none n (made a b []) refl in omega (arith
 share_made n a b (i ∷ []) =
     let one = share_one n i.place (made a b (i ∷ [])) refl in
     let most = part_of (ltb i.place n) (b - a) in
-    rw (lt-ltb 0 (length (i ∷ [])) (omega arith)) (omega (arith, one, most))
+    omega (arith, one, most)
 share_made n a b (i ∷ (j ∷ l)) = let none = share_none n (made a b (i ∷ (j ∷ l))) refl in omega (arith, none)
 
 share_of : (is : List Interval) (n a b : ℕ) → share n (stretch_of is a b) ≤ cond (ltb 0 (count_by (is_under_way a b) is)) (b - a) 0
