@@ -230,7 +230,11 @@ fn outputs_of_a_script_are_refused_in_this_form_alone(rt: HostRuntime) {
 fn the_default_form_looks_at_no_outputs(rt: HostRuntime) {
     let alloc = rt.alloc();
     let (settings, registry) = (defaults(alloc), Registry::new(alloc));
-    for script in [r#"{"outputs":5}"#, r#"{"outputs":{"pet":{}}}"#, r#"{"outputs":{"zoo":5}}"#] {
+    for script in [
+        r#"{"outputs":5}"#,
+        r#"{"outputs":{"pet":{}}}"#,
+        r#"{"outputs":{"zoo":5}}"#,
+    ] {
         let bytes = Some(script.as_bytes());
         let outcome = run_with(&rt, alloc, &settings, &registry, bytes, PLAN.as_bytes());
         status_is(&rt, script, &outcome, 0);
@@ -255,15 +259,13 @@ fn front_is<T: Threads + Wait + Sync + Abort>(rt: &T, alloc: Global, room: usize
     let mut said = Vec::new(alloc);
     let script = Some(SCRIPT.as_bytes());
     let output = with_room(alloc, 7, room);
-    let (output, status) =
-        told_by_worker(rt, alloc, script, PLAN.as_bytes(), output, &mut said);
+    let (output, status) = told_by_worker(rt, alloc, script, PLAN.as_bytes(), output, &mut said);
     assert_eq!(rt; status, 3, "{room}");
     is_text(rt, "a worker", &output.taken, wanted);
     is_text(rt, "a worker", &said, UNWRITTEN);
     let mut said = Vec::new(alloc);
     let output = with_reader_gone(alloc, room);
-    let (output, status) =
-        told_in_lanes(alloc, 2, script, PLAN.as_bytes(), output, &mut said);
+    let (output, status) = told_in_lanes(alloc, 2, script, PLAN.as_bytes(), output, &mut said);
     assert_eq!(rt; status, 3, "{room}");
     is_text(rt, "two lanes", &output.taken, wanted);
     is_text(rt, "two lanes", &said, "");
