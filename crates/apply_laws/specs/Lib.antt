@@ -3,3 +3,4 @@ pub mod LaneLines
 pub mod Plans
 pub mod Sharing
 pub mod StepTimes
+pub mod Waits
