@@ -13,6 +13,9 @@ CASES = f"{HERE}/../examples/cases"
 MEMORY = b"applystream: out of memory\n"
 THREAD = b"applystream: a worker could not be started\n"
 OUTPUT = b"applystream: the output could not be written\n"
+# The types of the messages that sum up a stream. In Terraform's form outputs stand behind the summary, and neither behind an
+# error.
+SUMS = "change_summary", "outputs"
 # What is said for the refusal that was met first.
 SAID = {"memory": MEMORY, "memory_of_thread": THREAD, "thread": THREAD, "output": OUTPUT}
 
@@ -134,8 +137,11 @@ def lines_of(stream):
 
 
 def change_of(line):
-    """The address of the change that a line is about, and nothing for the first line and the last."""
-    return line.get("hook", {}).get("resource", {}).get("addr") or line.get("diagnostic", {}).get("address")
+    """The address of the change that a line is about, the empty text for a diagnostic that names none, and nothing for the
+    lines that come first and last."""
+    if "diagnostic" in line:
+        return line["diagnostic"].get("address", "")
+    return line.get("hook", {}).get("resource", {}).get("addr")
 
 
 def by_change(lines):
@@ -167,22 +173,25 @@ def disorder(printed, wanted, plan, whole):
     moments = [line["@timestamp"] for line in found]
     if moments != sorted(moments):
         return "moments go back"
-    if found[:1] != known[: len(found[:1])]:
-        return "the first line is another"
-    types = [line["type"] for line in found[1:]]
-    if "version" in types or types.count("change_summary") != whole or (whole and types[-1] != "change_summary"):
-        return "the first or the last line stands where it must not, or is missing"
-    if whole and found[-1]["changes"] != known[-1]["changes"]:
-        return "the summary counts otherwise"
+    head = sum(line["type"] in ("version", "planned_change") for line in known)
+    if found[:head] != known[: len(found[:head])]:
+        return "the first lines are others"
+    types = [line["type"] for line in found[head:]]
+    sums = [line for line in known if line["type"] in SUMS] if whole else []
+    last = found[len(found) - len(sums) :]
+    if "version" in types or "planned_change" in types or sum(it in SUMS for it in types) != len(sums):
+        return "the first or the last lines stand where they must not, or are missing"
+    if [{**line, "@timestamp": ""} for line in last] != [{**line, "@timestamp": ""} for line in sums]:
+        return "what sums up stands where it must not, or counts otherwise"
     messages = sum("hook" in line for line in found)
     if "diagnostic" in types[:messages]:
         return "a diagnostic stands before a hook's message"
     if "diagnostic" in types and messages < sum("hook" in line for line in known):
         return "a diagnostic stands there, and lines before it are missing"
-    own, wanted_lines, shared = by_change(found), by_change(known), shared_addresses(plan)
+    own, wanted_lines, shared = by_change(found), by_change(known), {"", *shared_addresses(plan)}
     for address, lines in own.items():
         rest = wanted_lines.get(address, [])
-        # The lines of two objects with one address may come in turn.
+        # The lines of two objects with one address may come in turn, and so may diagnostics that name none.
         fits = not Counter(lines) - Counter(rest) if address in shared else lines == rest[: len(lines)]
         if not fits:
             return f"{address} has lines that are none of its own, or in another order"
@@ -206,7 +215,7 @@ def mistake(found, wanted, plan, in_order, own=frozenset(), unwritten=OUTPUT):
         return "something was printed though a thread was refused"
     if met != "output" and found.printed and not found.printed.endswith(b"\n"):
         return "a line is cut"
-    if met != "output" and b'"type":"change_summary"' in found.printed:
+    if met != "output" and any(b'"type":"%s"' % it.encode() in found.printed for it in SUMS):
         return "a summary behind a refusal"
     if in_order and not wanted.printed.startswith(found.printed):
         return "no front of the stream"

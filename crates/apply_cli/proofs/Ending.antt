@@ -1,11 +1,9 @@
 -- From how a run has ended to how the program has.
-use Rattle.std.proofs.Common.{◌≡◌, ◌≤◌, ◌<◌, ◌⊎◌, ◌↔◌, inl, inr, ℕ, zero, suc, List, [], length, nat_lt, if◌then◌else◌, Result, Ok, Err, IfOk, IfErr, sym, ap, ◌∙◌, subst, arith, ⊎_elim}
+use Rattle.std.proofs.Common.{◌≡◌, ◌≤◌, ◌<◌, ◌⊎◌, ◌↔◌, inl, inr, ℕ, zero, suc, List, length, nat_lt, if◌then◌else◌, Result, Ok, Err, IfOk, IfErr, sym, ap, ◌∙◌, subst, arith, ⊎_elim}
 use Rattle.std.specs.Io.KnownBytes.{Keeps}
 use Rattle.std.specs.List.{range_with_len}
-use Rattle.std.proofs.KnownBytes.{Appends-kept, Keeps-refl}
-use Rattle.std.proofs.lemmas.List.{append-nil}
+use Rattle.std.proofs.KnownBytes.{Keeps-refl}
 use Rattle.std.proofs.lemmas.Bool.{lt-ltb}
-use mathlib.Core.List.{IsPrefix}
 use Rattle.apply_plan.specs.declared.plan.plan_error.PlanError.{PlanError}
 use Rattle.apply_plan.specs.declared.plan.plan_error.PlanError.TheVariants as plan_error
 use Rattle.apply_plan.specs.Bytes.{max_bytes}
@@ -21,11 +19,12 @@ use Rattle.apply_run.specs.declared.refusal.Refusal.{Refusal}
 use Rattle.apply_run.specs.declared.refusal.Refusal.TheVariants as refusal
 use Rattle.apply_run.specs.declared.report.Report.{Report}
 use Rattle.apply_run.specs.declared.why.Why.{Why}
-use Rattle.apply_run.specs.declared.why.Why.TheVariants as why
-use Rattle.apply_run.specs.Run.{DidNothing, HasFailed, RanOutOfMemory, Sight, WasCutOff, WasNotWritten, stream_for}
+use Rattle.apply_run.specs.Run.{HasFailed, Sight, plain_for, stream_for}
+use Rattle.apply_run.specs.Stream.Form.{plain_form}
 use Rattle.apply_cli.specs.Command.{HasApplied, HasBegun}
 use Rattle.apply_cli.specs.Status.{counts_status_of, refusal_status_of, unfinished}
 use Rattle.apply_cli.proofs.Front.{too_large}
+use Rattle.apply_cli.proofs.Fronts.{HasBegunInForm, front_of_failed, front_of_streamed, whole_kept}
 
 pub told_by : (n status : ℕ) → status ≡ (if nat_lt 0 n then 1 else 0) → (status ≡ 1) ↔ (0 < n)
 told_by zero status is = ((λ e. absurd (omega arith)), (λ l. absurd (omega arith)))
@@ -49,93 +48,42 @@ applied_kept in_order given options report before after after' status kept faile
       lists = h.streamed.lists;
       events = h.streamed.events;
       applied = h.streamed.applied;
-      whole = record {
-        delivered = record {
-          counts = h.streamed.whole.delivered.counts;
-          taken = h.streamed.whole.delivered.taken;
-          written = h.streamed.whole.delivered.written;
-          appended = Appends-kept before.bytes after.bytes after'.bytes (stream_for (record { plan = h.plan; script = h.script; hooks = given.hooks }) options h.streamed.events) h.streamed.whole.delivered.appended kept;
-        };
-        failed = failed ∙ h.streamed.whole.failed;
-      };
+      whole = whole_kept h.plan h.streamed.events (stream_for (record { plan = h.plan; script = h.script; hooks = given.hooks }) options h.streamed.events) report before after after' kept failed h.streamed.whole;
     };
   };
   alone = λ one. in_order (record { plan = h.plan; script = h.script; hooks = given.hooks }) h.streamed.lists h.streamed.events (subst (λ n. IsApplied (record { plan = h.plan; script = h.script; hooks = given.hooks }) n h.streamed.lists h.streamed.events) one h.streamed.applied);
   told = told_by (unfinished report.counts) status is;
 }
 
-pub prefix_same : {X : Type 0} → (xs : List X) → IsPrefix xs xs
-prefix_same xs = ([], append-nil xs)
+-- a front in the default form
+begun_of_front : (given : Given) (options : Options) (before after : Sight) (plan : SavedPlan) (script : OutcomeMap) → IsRead given plan script
+    → HasBegunInForm (plain_form plan script options.start options.operation) (record { plan = plan; script = script; hooks = given.hooks }) options.workers before after → HasBegun given options before after
+begun_of_front given options before after plan script read h = record {
+  plan = plan;
+  script = script;
+  read = read;
+  lists = h.lists;
+  events = h.events;
+  part = h.part;
+  front = h.front;
+  appended = h.appended;
+}
 
 -- the whole stream was written, and then a flush failed
 pub begun_of_applied : (given : Given) (options : Options) (report : Report) (before after after' : Sight) → Keeps after.bytes after'.bytes → after.failed < after'.failed → WasApplied given options report before after → HasBegun given options before after'
 begun_of_applied given options report before after after' kept flushed h =
     let work : Work = record { plan = h.plan; script = h.script; hooks = given.hooks } in
-    let all = stream_for work options h.streamed.events in
-    record {
-      plan = h.plan;
-      script = h.script;
-      read = h.read;
-      lists = h.streamed.lists;
-      events = h.streamed.events;
-      part = all;
-      front = inl (subst (λ n. n < after'.failed) h.streamed.whole.failed flushed, record { applied = h.streamed.applied; is_prefix = prefix_same all });
-      appended = Appends-kept before.bytes after.bytes after'.bytes all h.streamed.whole.delivered.appended kept;
-    }
+    begun_of_front given options before after' h.plan h.script h.read
+    (front_of_streamed (plain_for work options) work options.workers report before after after' kept flushed h.streamed)
 
--- a write has failed
-begun_of_not_written : (given : Given) (options : Options) (report : Report) (before after after' : Sight) (plan : SavedPlan) (script : OutcomeMap) → Keeps after.bytes after'.bytes → after.failed ≤ after'.failed → IsRead given plan script
-    → WasNotWritten (record { plan = plan; script = script; hooks = given.hooks }) options report before after → HasBegun given options before after'
-begun_of_not_written given options report before after after' plan script kept more read h = record {
-  plan = plan;
-  script = script;
-  read = read;
-  lists = h.lists;
-  events = h.events;
-  part = h.part.part;
-  front = inl (omega (arith, h.part.failed, more), record { applied = h.applied; is_prefix = h.part.is_prefix });
-  appended = Appends-kept before.bytes after.bytes after'.bytes h.part.part h.part.delivered.appended kept;
-}
-
--- memory was refused for a line
-begun_of_no_memory : (given : Given) (options : Options) (report : Report) (before after after' : Sight) (plan : SavedPlan) (script : OutcomeMap) → Keeps after.bytes after'.bytes → IsRead given plan script
-    → RanOutOfMemory (record { plan = plan; script = script; hooks = given.hooks }) options report before after → HasBegun given options before after'
-begun_of_no_memory given options report before after after' plan script kept read h = record {
-  plan = plan;
-  script = script;
-  read = read;
-  lists = h.lists;
-  events = h.events;
-  part = h.part.part;
-  front = inr (inl (record { applied = h.applied; is_prefix = h.part.is_prefix }));
-  appended = Appends-kept before.bytes after.bytes after'.bytes h.part.part h.part.delivered.appended kept;
-}
-
--- the bus failed
-begun_of_cut_off : (failed : ℕ) (given : Given) (options : Options) (report : Report) (before after after' : Sight) (plan : SavedPlan) (script : OutcomeMap) → Keeps after.bytes after'.bytes → IsRead given plan script
-    → WasCutOff failed (record { plan = plan; script = script; hooks = given.hooks }) options report before after → HasBegun given options before after'
-begun_of_cut_off failed given options report before after after' plan script kept read h = record {
-  plan = plan;
-  script = script;
-  read = read;
-  lists = h.lists;
-  events = h.events;
-  part = h.part.part;
-  front = inr (inr (record { applied = h.applied; is_prefix = h.part.is_prefix }));
-  appended = Appends-kept before.bytes after.bytes after'.bytes h.part.part h.part.delivered.appended kept;
-}
-
-begun_of_fault : (why : Why) (given : Given) (options : Options) (report : Report) (before after after' : Sight) (plan : SavedPlan) (script : OutcomeMap) → Keeps after.bytes after'.bytes → after.failed ≤ after'.failed → IsRead given plan script
-    → HasFailed why (record { plan = plan; script = script; hooks = given.hooks }) options report before after → Keeps before.bytes after'.bytes ⊎ HasBegun given options before after'
-begun_of_fault why.Write given options report before after after' plan script kept more read h = inr (begun_of_not_written given options report before after after' plan script kept more read h)
-begun_of_fault why.Workers given options report before after after' plan script kept more read h = inl (subst (λ s. Keeps s.bytes after'.bytes) h.same kept)
-begun_of_fault why.Memory given options report before after after' plan script kept more read h =
+begun_of_fault : (cause : Why) (given : Given) (options : Options) (report : Report) (before after after' : Sight) (plan : SavedPlan) (script : OutcomeMap) → Keeps after.bytes after'.bytes → after.failed ≤ after'.failed → IsRead given plan script
+    → HasFailed cause (record { plan = plan; script = script; hooks = given.hooks }) options report before after → Keeps before.bytes after'.bytes ⊎ HasBegun given options before after'
+begun_of_fault cause given options report before after after' plan script kept more read h =
     let work : Work = record { plan = plan; script = script; hooks = given.hooks } in
     ⊎_elim
-    (λ (none : DidNothing report before after). inl (subst (λ s. Keeps s.bytes after'.bytes) none.same kept))
-    (λ (ran : RanOutOfMemory work options report before after). inr (begun_of_no_memory given options report before after after' plan script kept read ran))
-    h
-begun_of_fault why.Bus given options report before after after' plan script kept more read h = inr (begun_of_cut_off h.failed given options report before after after' plan script kept read h.cut_off)
+    (λ same. inl same)
+    (λ (front : HasBegunInForm (plain_for work options) work options.workers before after'). inr (begun_of_front given options before after' plan script read front))
+    (front_of_failed (plain_for work options) work options.workers report before after after' cause kept more h)
 
 -- the output is as it was, or grew by a front of the stream
 pub begun_of_refused : (given : Given) (options : Options) (r : Refusal) (before after after' : Sight) → Keeps after.bytes after'.bytes → after.failed ≤ after'.failed → WasRefused given options r before after → Keeps before.bytes after'.bytes ⊎ HasBegun given options before after'

@@ -19,14 +19,14 @@ pub followed : {W File : Type 0} (contents : W → Option (List ℕ)) (remaining
     (input : Option (List ℕ)) (output : W) (first last : OverWriter W) (status : ℕ)
     → IsOfWords words invocation → first ≡ record { writer = output; failures = 0; is_reader_gone = false }
     → OfInput input (λ plan. OfFile remaining invocation.settings.script (λ script.
-    HasAppliedAsAsked (given_of invocation.settings plan script) invocation.settings invocation.parallelism
+    HasAppliedAsAsked (given_of invocation.settings plan script) invocation.settings invocation.parallelism invocation.form
     (sight_of contents first) (sight_of contents last) status))
     → WereApplied remaining words input (contents output) (sight_of contents last) status
 followed contents remaining words invocation input output first last status is_said is found = record {
   invocation = invocation;
   is_said = is_said;
   applied = subst (λ (before : Sight). OfInput input (λ plan. OfFile remaining invocation.settings.script (λ script.
-      HasAppliedAsAsked (given_of invocation.settings plan script) invocation.settings invocation.parallelism before (sight_of contents last) status)))
+      HasAppliedAsAsked (given_of invocation.settings plan script) invocation.settings invocation.parallelism invocation.form before (sight_of contents last) status)))
       (new contents output first is) found;
 }
 
@@ -35,11 +35,11 @@ pub followed_in_part : {W File : Type 0} (contents : W → Option (List ℕ)) (r
     (input : Option (List ℕ)) (output : W) (first last : OverWriter W)
     → IsOfWords words invocation → first ≡ record { writer = output; failures = 0; is_reader_gone = false }
     → Keeps (contents first.writer) (contents last.writer) ⊎ OfInput input (λ plan. OfFile remaining invocation.settings.script (λ script.
-    HasBegunAsAsked (given_of invocation.settings plan script) invocation.settings invocation.parallelism
+    HasBegunAsAsked (given_of invocation.settings plan script) invocation.settings invocation.parallelism invocation.form
     (sight_of contents first) (sight_of contents last)))
     → Keeps (contents output) (contents last.writer) ⊎ WereBegun remaining words input (contents output) (sight_of contents last)
 followed_in_part contents remaining words invocation input output first last is_said is ended =
     ⊎_elim (λ kept. inl kept) (λ found. inr (record { invocation = invocation; is_said = is_said; begun = found }))
     (subst (λ (before : Sight). Keeps before.bytes (contents last.writer) ⊎ OfInput input (λ plan. OfFile remaining invocation.settings.script (λ script.
-    HasBegunAsAsked (given_of invocation.settings plan script) invocation.settings invocation.parallelism before (sight_of contents last))))
+    HasBegunAsAsked (given_of invocation.settings plan script) invocation.settings invocation.parallelism invocation.form before (sight_of contents last))))
     (new contents output first is) ended)

@@ -1,28 +1,27 @@
 -- From how a run in lanes has ended to how the program has.
-use Rattle.std.proofs.Common.{◌≡◌, ◌∙◌, ◌<◌, ◌≤◌, ◌+◌, ◌⊎◌, inl, inr, ℕ, length, subst, arith, ⊎_elim}
+use Rattle.std.proofs.Common.{◌≡◌, ◌<◌, ◌≤◌, ◌⊎◌, inl, inr, ℕ, length, subst, arith, ⊎_elim}
 use Rattle.std.specs.Io.KnownBytes.{Keeps}
-use Rattle.std.proofs.KnownBytes.{Appends-kept, Keeps-refl}
+use Rattle.std.proofs.KnownBytes.{Keeps-refl}
 use Rattle.apply_plan.specs.Bytes.{max_bytes}
 use Rattle.apply_plan.specs.Plan.SavedPlan.{SavedPlan}
 use Rattle.apply_plan.specs.Script.OutcomeMap.{OutcomeMap}
 use Rattle.apply_events.specs.Step.{Work}
 use Rattle.apply_text.specs.declared.operation.Operation.{Operation}
-use Rattle.apply_text.specs.Lines.{lines_of, stream_of}
-use Rattle.apply_text.specs.Order.{as_written}
+use Rattle.apply_text.specs.Lines.{stream_of}
 use Rattle.apply_run.specs.Bytes.{Given, IsRead}
 use Rattle.apply_run.specs.declared.options.Options.{Options}
 use Rattle.apply_run.specs.declared.refusal.Refusal.{Refusal}
 use Rattle.apply_run.specs.declared.refusal.Refusal.TheVariants as refusal
 use Rattle.apply_run.specs.declared.report.Report.{Report}
 use Rattle.apply_run.specs.declared.why.Why.{Why}
-use Rattle.apply_run.specs.declared.why.Why.TheVariants as why
-use Rattle.apply_run.specs.Lanes.{HasFailedInLanes, IsCutOffInLanes, WasAppliedInLanes, WasRefusedInLanes}
-use Rattle.apply_run.specs.Run.{DidNothing, Sight}
+use Rattle.apply_run.specs.Lanes.{HasFailedInLanes, WasAppliedInLanes, WasRefusedInLanes}
+use Rattle.apply_run.specs.Run.{Sight}
 use Rattle.apply_run.specs.Stream.Form.{plain_form}
 use Rattle.apply_cli.specs.CommandInLanes.{HasAppliedInLanes, HasBegunInLanes}
 use Rattle.apply_cli.specs.Status.{counts_status_of, refusal_status_of, unfinished}
-use Rattle.apply_cli.proofs.Ending.{prefix_same, refused_large, told_by}
+use Rattle.apply_cli.proofs.Ending.{refused_large, told_by}
 use Rattle.apply_cli.proofs.Front.{too_large}
+use Rattle.apply_cli.proofs.Fronts.{HasBegunInFormAndLanes, front_of_failed_in_lanes, front_of_streamed_in_lanes, whole_kept}
 
 module _ (given : Given) (lanes start : ℕ) (operation : Operation) where
   -- the whole stream was written, and a flush kept it
@@ -38,74 +37,41 @@ module _ (given : Given) (lanes start : ℕ) (operation : Operation) where
       streamed = record {
         events = h.streamed.events;
         time_line = h.streamed.time_line;
-        whole = record {
-          delivered = record {
-            counts = h.streamed.whole.delivered.counts;
-            taken = h.streamed.whole.delivered.taken;
-            written = h.streamed.whole.delivered.written;
-            appended = Appends-kept before.bytes after.bytes after'.bytes (stream_of h.plan h.script start operation h.streamed.events) h.streamed.whole.delivered.appended kept;
-          };
-          failed = failed ∙ h.streamed.whole.failed;
-        };
+        whole = whole_kept h.plan h.streamed.events (stream_of h.plan h.script start operation h.streamed.events) report before after after' kept failed h.streamed.whole;
       };
     };
     told = told_by (unfinished report.counts) status is;
   }
 
+  -- a front in the default form
+  begun_by_front : (before after : Sight) (plan : SavedPlan) (script : OutcomeMap) → IsRead given plan script
+      → HasBegunInFormAndLanes (plain_form plan script start operation) (record { plan = plan; script = script; hooks = given.hooks }) lanes before after → HasBegunInLanes given lanes start operation before after
+  begun_by_front before after plan script read h = record {
+    plan = plan;
+    script = script;
+    read = read;
+    events = h.events;
+    time_line = h.time_line;
+    part = h.part;
+    front = h.front;
+    appended = h.appended;
+  }
+
   -- the whole stream was written, and then a flush failed
   pub begun_by_applied : (report : Report) (before after after' : Sight) → Keeps after.bytes after'.bytes → after.failed < after'.failed → WasAppliedInLanes given lanes start operation report before after → HasBegunInLanes given lanes start operation before after'
   begun_by_applied report before after after' kept flushed h =
-      let all = stream_of h.plan h.script start operation h.streamed.events in
-      record {
-        plan = h.plan;
-        script = h.script;
-        read = h.read;
-        events = h.streamed.events;
-        time_line = h.streamed.time_line;
-        part = all;
-        front = inl (subst (λ n. n < after'.failed) h.streamed.whole.failed flushed, prefix_same all);
-        appended = Appends-kept before.bytes after.bytes after'.bytes all h.streamed.whole.delivered.appended kept;
-      }
-
-  -- a write has failed
-  begun_by_not_written : (report : Report) (before after after' : Sight) (plan : SavedPlan) (script : OutcomeMap) → Keeps after.bytes after'.bytes → after.failed ≤ after'.failed → IsRead given plan script
-      → IsCutOffInLanes (plain_form plan script start operation) (record { plan = plan; script = script; hooks = given.hooks }) lanes (stream_of plan script start operation) (before.failed + 1) report before after → HasBegunInLanes given lanes start operation before after'
-  begun_by_not_written report before after after' plan script kept more read h = record {
-    plan = plan;
-    script = script;
-    read = read;
-    events = h.events;
-    time_line = h.time_line;
-    part = h.part.part;
-    front = inl (omega (arith, h.part.failed, more), h.part.is_prefix);
-    appended = Appends-kept before.bytes after.bytes after'.bytes h.part.part h.part.delivered.appended kept;
-  }
-
-  -- memory was refused for a line
-  begun_by_no_memory : (report : Report) (before after after' : Sight) (plan : SavedPlan) (script : OutcomeMap) → Keeps after.bytes after'.bytes → IsRead given plan script
-      → IsCutOffInLanes (plain_form plan script start operation) (record { plan = plan; script = script; hooks = given.hooks }) lanes (λ events. lines_of plan script start (as_written events)) before.failed report before after → HasBegunInLanes given lanes start operation before after'
-  begun_by_no_memory report before after after' plan script kept read h = record {
-    plan = plan;
-    script = script;
-    read = read;
-    events = h.events;
-    time_line = h.time_line;
-    part = h.part.part;
-    front = inr h.part.is_prefix;
-    appended = Appends-kept before.bytes after.bytes after'.bytes h.part.part h.part.delivered.appended kept;
-  }
+      let work : Work = record { plan = h.plan; script = h.script; hooks = given.hooks } in
+      begun_by_front before after' h.plan h.script h.read
+      (front_of_streamed_in_lanes (plain_form h.plan h.script start operation) work lanes report before after after' kept flushed h.streamed)
 
   begun_by_fault : (cause : Why) (report : Report) (before after after' : Sight) (plan : SavedPlan) (script : OutcomeMap) → Keeps after.bytes after'.bytes → after.failed ≤ after'.failed → IsRead given plan script
       → HasFailedInLanes cause (record { plan = plan; script = script; hooks = given.hooks }) lanes start operation report before after → Keeps before.bytes after'.bytes ⊎ HasBegunInLanes given lanes start operation before after'
-  begun_by_fault why.Write report before after after' plan script kept more read h = inr (begun_by_not_written report before after after' plan script kept more read h)
-  begun_by_fault why.Memory report before after after' plan script kept more read h =
+  begun_by_fault cause report before after after' plan script kept more read h =
       let work : Work = record { plan = plan; script = script; hooks = given.hooks } in
       ⊎_elim
-      (λ (none : DidNothing report before after). inl (subst (λ s. Keeps s.bytes after'.bytes) none.same kept))
-      (λ (ran : IsCutOffInLanes (plain_form plan script start operation) work lanes (λ events. lines_of plan script start (as_written events)) before.failed report before after). inr (begun_by_no_memory report before after after' plan script kept read ran))
-      h
-  begun_by_fault why.Workers report before after after' plan script kept more read h = absurd h
-  begun_by_fault why.Bus report before after after' plan script kept more read h = absurd h
+      (λ same. inl same)
+      (λ (front : HasBegunInFormAndLanes (plain_form plan script start operation) work lanes before after'). inr (begun_by_front before after' plan script read front))
+      (front_of_failed_in_lanes (plain_form plan script start operation) work lanes report before after after' cause kept more h)
 
   -- options that are looked at by no refusal of a plan or a script
   abbrev any_options : Options

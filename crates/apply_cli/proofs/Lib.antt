@@ -1,6 +1,8 @@
+mod AsTold
 mod Ending
 mod Followed
 mod Front
+mod Fronts
 mod InLanes
 mod ScriptFile
 mod Statuses

@@ -4,10 +4,9 @@ use Rattle.std.specs.Io.KnownBytes.{Keeps}
 use Rattle.clap.specs.Faults.{fault_of}
 use Rattle.clap.specs.Kinds.{IsAmong}
 use Rattle.clap.specs.Walk.{Text}
-use Rattle.clap.specs.declared.builder.value_parser.ValueParser.{ValueParser}
 use Rattle.clap.specs.declared.error.kind.ErrorKind.{ErrorKind}
 use Rattle.clap.specs.declared.error.kind.ErrorKind.TheVariants.{DisplayHelp, DisplayVersion}
-use Rattle.apply_settings.specs.CommandLine.{AskAlone, AskForHelp, AskForHelpAlone, IsOneOf, WereRefused, command_line, kind_words}
+use Rattle.apply_settings.specs.CommandLine.{AreChoices, AskAlone, AskForHelp, AskForHelpAlone, Choices, WereRefused, command_line}
 use Rattle.apply_settings.specs.Invocation.{HaveInvoked}
 use Rattle.apply_settings.specs.declared.invocation.Invocation.{Invocation}
 use Rattle.apply_settings.specs.declared.usage.Usage.{Usage}
@@ -85,7 +84,7 @@ few_statuses usage.Memory before after status is = omega (arith, is.0)
 -- words that are a call for help or the version alone are not followed
 pub alone_is_not_followed : (asked : ErrorKind) (words : List Text) (invocation : Invocation) → AskAlone asked words → HaveInvoked words invocation → ⊥
 alone_is_not_followed asked words invocation alone said =
-    let bad : asked ∷ [] ≡ [] = sym (alone said.kinds said.are_kinds) ∙ said.taken in
+    let bad : asked ∷ [] ≡ [] = sym (alone said.choices said.are_choices) ∙ said.taken in
     cc
 
 only_this : (asked kind : ErrorKind) → (kind ≡ asked) ⊎ ⊥ → (kind ≡ asked → ⊥) → ⊥
@@ -93,9 +92,9 @@ only_this asked kind (inl is) other = other is
 only_this asked kind (inr none) other = none
 
 taken_alone : {P : Type 0} (asked : ErrorKind) (words : List Text) → AskAlone asked words
-    → (kinds : ValueParser) → IsOneOf kind_words kinds → fault_of (command_line kinds) words ≡ [] → P
-taken_alone asked words alone kinds are taken =
-    let none : asked ∷ [] ≡ [] = sym (alone kinds are) ∙ taken in
+    → (choices : Choices) → AreChoices choices → fault_of (command_line choices) words ≡ [] → P
+taken_alone asked words alone choices are taken =
+    let none : asked ∷ [] ≡ [] = sym (alone choices are) ∙ taken in
     cc
 
 -- and those for help are answered by help, or by want of memory

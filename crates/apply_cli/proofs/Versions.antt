@@ -4,7 +4,7 @@ use Rattle.std.specs.Io.KnownBytes.{Keeps}
 use Rattle.std.proofs.KnownBytes.{Appends-kept, Appends-trans}
 use Rattle.apply_run.specs.Run.{Sight}
 use Rattle.apply_cli.specs.Version.{IsWritten, IsWrittenInPart}
-use Rattle.apply_cli.proofs.Ending.{prefix_same}
+use Rattle.apply_cli.proofs.Fronts.{prefix_same}
 
 -- a part behind what was written
 pub written_behind : (before middle after : Sight) (done part : List ℕ) → IsWritten before middle done → IsWritten middle after part → IsWritten before after (done ++ part)

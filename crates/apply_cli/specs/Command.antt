@@ -15,8 +15,9 @@ use Rattle.apply_run.specs.Bytes.{Given, IsRead, WasApplied, WasRefused}
 use Rattle.apply_run.specs.declared.options.Options.{Options}
 use Rattle.apply_run.specs.declared.refusal.Refusal.{Refusal}
 use Rattle.apply_run.specs.declared.report.Report.{Report}
-use Rattle.apply_run.specs.Run.{Sight, lines_for, stream_for}
+use Rattle.apply_run.specs.Run.{Sight}
 use Rattle.apply_run.specs.Sinks.{OverWriter}
+use Rattle.apply_run.specs.Stream.Form.{StreamForm, lines_in, plain_form, stream_in}
 use Rattle.apply_cli.specs.Status.{refusal_status_of, unfinished}
 
 -- the output, as the run sees it, where the writer tells these contents
@@ -36,22 +37,29 @@ pub record HasApplied (given : Given) (options : Options) (before after : Sight)
   pub told : (status ≡ 1) ↔ (0 < unfinished report.counts)
 
 -- all of the events, and a prefix of their stream
-pub record IsFrontOfStream (work : Work) (options : Options) (lists : List (List ℕ)) (events : List Event)
+pub record IsFrontOfStream (form : StreamForm) (work : Work) (workers : ℕ) (lists : List (List ℕ)) (events : List Event)
     (part : List ℕ) : Type 0 where
-  pub applied : IsApplied work options.workers lists events
-  pub is_prefix : IsPrefix part (stream_for work options events)
+  pub applied : IsApplied work workers lists events
+  pub is_prefix : IsPrefix part (stream_in form events)
 
--- all of the events, and a prefix of their lines, without a summary
-pub record IsFrontOfAllLines (work : Work) (options : Options) (lists : List (List ℕ)) (events : List Event)
+-- all of the events, and a prefix of their lines, without what comes last
+pub record IsFrontOfAllLines (form : StreamForm) (work : Work) (workers : ℕ) (lists : List (List ℕ)) (events : List Event)
     (part : List ℕ) : Type 0 where
-  pub applied : IsApplied work options.workers lists events
-  pub is_prefix : IsPrefix part (lines_for work options (as_written events))
+  pub applied : IsApplied work workers lists events
+  pub is_prefix : IsPrefix part (lines_in form (as_written events))
 
--- a part of the events, and a prefix of the lines of their hook messages, without a note or a summary
-pub record IsFrontOfLines (work : Work) (options : Options) (lists : List (List ℕ)) (events : List Event)
+-- a part of the events, and a prefix of the lines of their hook messages, without a note or what comes last
+pub record IsFrontOfLines (form : StreamForm) (work : Work) (workers : ℕ) (lists : List (List ℕ)) (events : List Event)
     (part : List ℕ) : Type 0 where
-  pub applied : IsAppliedInPart work options.workers lists events
-  pub is_prefix : IsPrefix part (lines_for work options (hook_messages_of events))
+  pub applied : IsAppliedInPart work workers lists events
+  pub is_prefix : IsPrefix part (lines_in form (hook_messages_of events))
+
+-- so many bytes of a stream in some form: with what comes last only where a write or a flush has failed since
+abbrev pub IsFrontInForm : StreamForm → Work → (workers : ℕ) → (before after : Sight) → (lists : List (List ℕ)) → List Event
+    → (part : List ℕ) → Type 0
+IsFrontInForm form work workers before after lists events part =
+    ((before.failed < after.failed) × IsFrontOfStream form work workers lists events part)
+    ⊎ (IsFrontOfAllLines form work workers lists events part ⊎ IsFrontOfLines form work workers lists events part)
 
 -- what was given was applied, or a part of it, and the output has a front of the stream behind the bytes that it had. A
 -- summary may stand in it only where all was applied and a write or a flush has failed since, and then it is that of
@@ -64,10 +72,8 @@ pub record HasBegun (given : Given) (options : Options) (before after : Sight) :
   pub lists : List (List ℕ)
   pub events : List Event
   pub part : List ℕ
-  pub front : ((before.failed < after.failed)
-      × IsFrontOfStream (record { plan = plan; script = script; hooks = given.hooks }) options lists events part)
-      ⊎ (IsFrontOfAllLines (record { plan = plan; script = script; hooks = given.hooks }) options lists events part
-      ⊎ IsFrontOfLines (record { plan = plan; script = script; hooks = given.hooks }) options lists events part)
+  pub front : IsFrontInForm (plain_form plan script options.start options.operation)
+      (record { plan = plan; script = script; hooks = given.hooks }) options.workers before after lists events part
   pub appended : Appends before.bytes after.bytes part
 
 -- what was given is refused for its own sake, with status 2: the plan or the script as it is defined, or the sizes

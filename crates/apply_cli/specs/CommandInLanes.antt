@@ -7,13 +7,13 @@ use Rattle.apply_plan.specs.Script.OutcomeMap.{OutcomeMap}
 use Rattle.apply_events.specs.declared.event.Event.{Event}
 use Rattle.apply_events.specs.Lanes.TimeLine.{IsTimeLine}
 use Rattle.apply_text.specs.declared.operation.Operation.{Operation}
-use Rattle.apply_text.specs.Lines.{lines_of, stream_of}
 use Rattle.apply_text.specs.Order.{as_written}
 use Rattle.apply_run.specs.Bytes.{Given, IsRead}
 use Rattle.apply_run.specs.declared.refusal.Refusal.{Refusal}
 use Rattle.apply_run.specs.declared.report.Report.{Report}
 use Rattle.apply_run.specs.Lanes.{WasAppliedInLanes, WasRefusedInLanes}
 use Rattle.apply_run.specs.Run.{Sight}
+use Rattle.apply_run.specs.Stream.Form.{StreamForm, lines_in, plain_form, stream_in}
 use Rattle.apply_cli.specs.Status.{refusal_status_of, unfinished}
 
 -- what was given was applied in so many lanes, the output has all of the stream of its time line behind the bytes that
@@ -23,6 +23,11 @@ pub record HasAppliedInLanes (given : Given) (lanes start : ℕ) (operation : Op
   pub report : Report
   pub applied : WasAppliedInLanes given lanes start operation report before after
   pub told : (status ≡ 1) ↔ (0 < unfinished report.counts)
+
+-- so many bytes of the stream of a time line in some form: with what comes last only where a write or a flush has failed
+abbrev pub IsFrontOfTimeLine : StreamForm → (before after : Sight) → List Event → (part : List ℕ) → Type 0
+IsFrontOfTimeLine form before after events part =
+    ((before.failed < after.failed) × IsPrefix part (stream_in form events)) ⊎ IsPrefix part (lines_in form (as_written events))
 
 -- what was given was applied, and the output has a front of the stream of its time line behind the bytes that it had:
 -- with a summary only where a write or a flush has failed
@@ -34,8 +39,7 @@ pub record HasBegunInLanes (given : Given) (lanes start : ℕ) (operation : Oper
   pub events : List Event
   pub time_line : IsTimeLine (record { plan = plan; script = script; hooks = given.hooks }) lanes events
   pub part : List ℕ
-  pub front : ((before.failed < after.failed) × IsPrefix part (stream_of plan script start operation events))
-      ⊎ IsPrefix part (lines_of plan script start (as_written events))
+  pub front : IsFrontOfTimeLine (plain_form plan script start operation) before after events part
   pub appended : Appends before.bytes after.bytes part
 
 -- what was given is refused for its own sake, with status 2: the plan or the script as it is defined, or the lanes

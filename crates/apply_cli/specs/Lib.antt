@@ -1,4 +1,5 @@
 pub mod Command
+pub mod CommandAsTold
 pub mod CommandInLanes
 pub mod Invocation
 pub mod Options

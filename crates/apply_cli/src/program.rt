@@ -12,11 +12,14 @@ ghost use Rattle.apply_cli.specs.Status.{usage_status_of};
 ghost use Rattle.apply_cli.specs.Version.{AskForVersion, AskForVersionAlone, WasTold, WereToldVersion};
 
 use crate::answer::{answer_usage, report_hook};
+use crate::as_told::run_command_as_told;
+use crate::as_told_in_lanes::run_as_told_in_lanes;
 use crate::in_lanes::run_in_lanes;
 use crate::input_fault::InputFault;
 use crate::run::run_command;
 use crate::script_file::{read_file, report_script};
 use crate::version::{answer_version, ask_for_version};
+use apply_form::Form;
 use apply_hooks::{FnHook, Hook, HookCall, HookClosure, HookError, Registry, Rules};
 use apply_plan::Text;
 use apply_run::StdSink;
@@ -86,6 +89,7 @@ pub fn follow<F: Files, R: Read + Drop, W: Write + Drop, E: Write, T: Threads + 
             alloc,
             &invocation.settings,
             invocation.parallelism,
+            invocation.form,
             input,
             StdSink::new(output),
             faults,
@@ -122,10 +126,11 @@ fn answer_unfollowed<W: Write + Drop, E: Write>(
 
 /// Reads the script's file, where the settings name one, and runs the command with a hook for each halt, in their order:
 /// by workers, or with so many changes under way at once in the stream's own time, where a parallelism is asked for. The
-/// output comes back.
+/// stream is written in that form. The output comes back.
 ///
-/// The exit status is that of `run_command` or `run_in_lanes`; before that it is 2 where there are more than 32 halts or
-/// the script's file could not be read, and 3 where memory was refused, and nothing was written then.
+/// The exit status is that of `run_command` or `run_in_lanes`, or, in Terraform's form, of `run_command_as_told` or
+/// `run_as_told_in_lanes`; before that it is 2 where there are more than 32 halts or the script's file could not be read, and
+/// 3 where memory was refused, and nothing was written then.
 pub fn follow_invocation<
     F: Files,
     R: Read + Drop,
@@ -138,6 +143,7 @@ pub fn follow_invocation<
     alloc: Global,
     settings: &Settings,
     parallelism: Option<u8>,
+    form: Form,
     input: R,
     output: StdSink<W>,
     faults: &mut E,
@@ -145,12 +151,12 @@ pub fn follow_invocation<
     requires { output.failures < 2 ^ 64 - 1 }
     ensures applied { result.1 ≤ 1 → OfInput (R.remaining input) (λ plan. OfFile F.File.remaining settings.now.script (λ script.
         HasAppliedAsAsked (record { plan = plan; script = script; hooks = hooks_of_halts settings.now.halts.items })
-        settings.now parallelism (sight_of W.contents output) (sight_of W.contents result.0) result.1)) }
+        settings.now parallelism form (sight_of W.contents output) (sight_of W.contents result.0) result.1)) }
     ensures refused { result.1 ≡ 2 → Keeps (W.contents output.writer) (W.contents result.0.writer) }
     ensures cut_off { result.1 ≡ 3 → Keeps (W.contents output.writer) (W.contents result.0.writer)
         ⊎ OfInput (R.remaining input) (λ plan. OfFile F.File.remaining settings.now.script (λ script.
         HasBegunAsAsked (record { plan = plan; script = script; hooks = hooks_of_halts settings.now.halts.items })
-        settings.now parallelism (sight_of W.contents output) (sight_of W.contents result.0))) }
+        settings.now parallelism form (sight_of W.contents output) (sight_of W.contents result.0))) }
     ensures quiet { result.1 ≤ 1 → Keeps (E.contents faults.old) (E.contents faults.new) }
     ensures gone { output.is_reader_gone ≡ false → result.0.is_reader_gone ≡ true
         → Keeps (E.contents faults.old) (E.contents faults.new) }
@@ -176,6 +182,7 @@ pub fn follow_invocation<
         alloc,
         settings,
         parallelism,
+        form,
         &registry,
         input,
         output,
@@ -199,6 +206,7 @@ fn run_with_hooks<F: Files, R: Read + Drop, W: Write + Drop, E: Write, T: Thread
     alloc: Global,
     settings: &Settings,
     parallelism: Option<u8>,
+    form: Form,
     registry: &Registry,
     input: R,
     output: StdSink<W>,
@@ -208,12 +216,12 @@ fn run_with_hooks<F: Files, R: Read + Drop, W: Write + Drop, E: Write, T: Thread
     requires hooks { rules_of registry.now ≡ hooks_of_halts settings.now.halts.items }
     ensures applied { result.1 ≤ 1 → OfInput (R.remaining input) (λ plan. OfFile F.File.remaining settings.now.script (λ script.
         HasAppliedAsAsked (record { plan = plan; script = script; hooks = hooks_of_halts settings.now.halts.items })
-        settings.now parallelism (sight_of W.contents output) (sight_of W.contents result.0) result.1)) }
+        settings.now parallelism form (sight_of W.contents output) (sight_of W.contents result.0) result.1)) }
     ensures refused { result.1 ≡ 2 → Keeps (W.contents output.writer) (W.contents result.0.writer) }
     ensures cut_off { result.1 ≡ 3 → Keeps (W.contents output.writer) (W.contents result.0.writer)
         ⊎ OfInput (R.remaining input) (λ plan. OfFile F.File.remaining settings.now.script (λ script.
         HasBegunAsAsked (record { plan = plan; script = script; hooks = hooks_of_halts settings.now.halts.items })
-        settings.now parallelism (sight_of W.contents output) (sight_of W.contents result.0))) }
+        settings.now parallelism form (sight_of W.contents output) (sight_of W.contents result.0))) }
     ensures quiet { result.1 ≤ 1 → Keeps (E.contents faults.old) (E.contents faults.new) }
     ensures gone { output.is_reader_gone ≡ false → result.0.is_reader_gone ≡ true
         → Keeps (E.contents faults.old) (E.contents faults.new) }
@@ -231,6 +239,7 @@ fn run_with_hooks<F: Files, R: Read + Drop, W: Write + Drop, E: Write, T: Thread
         alloc,
         settings,
         parallelism,
+        form,
         registry,
         script.as_deref(),
         input,
@@ -239,12 +248,13 @@ fn run_with_hooks<F: Files, R: Read + Drop, W: Write + Drop, E: Write, T: Thread
     )
 }
 
-/// Runs the command: in lanes, where a parallelism is asked for, and else by workers.
+/// Runs the command: in lanes, where a parallelism is asked for, and else by workers; the stream is told in that form.
 fn run_script<R: Read + Drop, W: Write + Drop, E: Write, T: Threads + Wait + Sync>(
     rt: &T,
     alloc: Global,
     settings: &Settings,
     parallelism: Option<u8>,
+    form: Form,
     registry: &Registry,
     script: Option<&[u8]>,
     input: R,
@@ -254,22 +264,32 @@ fn run_script<R: Read + Drop, W: Write + Drop, E: Write, T: Threads + Wait + Syn
     requires { output.failures < 2 ^ 64 - 1 }
     ensures applied { result.1 ≤ 1 → OfInput (R.remaining input) (λ plan.
         HasAppliedAsAsked (record { plan = plan; script = option_copied script.entry; hooks = rules_of registry.now })
-        settings.now parallelism (sight_of W.contents output) (sight_of W.contents result.0) result.1) }
+        settings.now parallelism form (sight_of W.contents output) (sight_of W.contents result.0) result.1) }
     ensures refused { result.1 ≡ 2 → Keeps (W.contents output.writer) (W.contents result.0.writer) }
     ensures cut_off { result.1 ≡ 3 → Keeps (W.contents output.writer) (W.contents result.0.writer)
         ⊎ OfInput (R.remaining input) (λ plan.
         HasBegunAsAsked (record { plan = plan; script = option_copied script.entry; hooks = rules_of registry.now })
-        settings.now parallelism (sight_of W.contents output) (sight_of W.contents result.0)) }
+        settings.now parallelism form (sight_of W.contents output) (sight_of W.contents result.0)) }
     ensures quiet { result.1 ≤ 1 → Keeps (E.contents faults.old) (E.contents faults.new) }
     ensures gone { output.is_reader_gone ≡ false → result.0.is_reader_gone ≡ true
         → Keeps (E.contents faults.old) (E.contents faults.new) }
     ensures statuses { result.1 ≤ 3 }
 {
-    match parallelism {
-        Some(lanes) => run_in_lanes(
-            alloc, settings, lanes, registry, script, input, output, faults,
-        ),
-        None => run_command(rt, alloc, settings, registry, script, input, output, faults),
+    match form {
+        Form::Applystream => match parallelism {
+            Some(lanes) => run_in_lanes(
+                alloc, settings, lanes, registry, script, input, output, faults,
+            ),
+            None => run_command(rt, alloc, settings, registry, script, input, output, faults),
+        },
+        Form::Terraform => match parallelism {
+            Some(lanes) => run_as_told_in_lanes(
+                alloc, settings, lanes, registry, script, input, output, faults,
+            ),
+            None => run_command_as_told(
+                rt, alloc, settings, registry, script, input, output, faults,
+            ),
+        },
     }
 }
 

@@ -1,6 +1,6 @@
 //! The exit statuses.
 
-ghost use Rattle.std.specs.Prelude.{◌≡◌, ◌≤◌};
+ghost use Rattle.std.specs.Prelude.{◌≡◌, ◌≤◌, ◌↔◌, IsTrue};
 ghost use Rattle.apply_cli.specs.Status.{counts_status_of, input_status_of, refusal_status_of};
 
 use crate::input_fault::InputFault;
@@ -50,4 +50,12 @@ pub fn counts_status(counts: &Counts) -> u8
     } else {
         UNFINISHED
     }
+}
+
+/// The status for a run that has ended well, by whether its stream tells of an error.
+pub fn told_status(tells_error: bool) -> u8
+    ensures status { (result ≡ 1) ↔ IsTrue tells_error }
+    ensures good { result ≤ 1 }
+{
+    if tells_error { UNFINISHED } else { 0 }
 }

@@ -7,6 +7,7 @@ mod answers;
 mod failing_outputs;
 mod faults;
 mod following;
+mod forms;
 mod invocations;
 mod lanes;
 mod rests;
@@ -19,6 +20,7 @@ use apply_cli::{
     follow_invocation, read_all, read_invocation, read_words, refusal_status, report, run_command,
     run_input,
 };
+use apply_form::Form;
 use apply_hooks::Registry;
 use apply_plan::{PlanError, ScriptError, StepKind, Text};
 use apply_run::{MAX_LANES, Options, Refusal, StdSink};

@@ -19,6 +19,8 @@ use Rattle.clap.specs.declared.parser.matches.ValueSource.TheVariants as source
 use Rattle.apply_model.specs.declared.plan.step_kind.StepKind.{StepKind}
 use Rattle.apply_model.specs.declared.plan.step_kind.StepKind.TheVariants.{Create, Update, Delete, Read}
 use Rattle.apply_hooks.specs.Hooks.{max_hooks}
+use Rattle.apply_form.specs.declared.form.Form.{Form}
+use Rattle.apply_form.specs.declared.form.Form.TheVariants.{Applystream, Terraform}
 use Rattle.apply_text.specs.Start.{start_of}
 use Rattle.apply_text.specs.declared.operation.Operation.TheVariants.{Apply, Destroy}
 use Rattle.apply_settings.specs.declared.halt.Halt.{Halt}
@@ -50,6 +52,10 @@ flag_named name = record (new_rule name) { long = Some name; action = Some SetTr
 abbrev pub kind_words : List Text
 kind_words = codes "create" ∷ codes "update" ∷ codes "delete" ∷ codes "read" ∷ []
 
+-- the words for forms of a stream
+abbrev pub form_words : List Text
+form_words = codes "applystream" ∷ codes "terraform" ∷ []
+
 -- the value has to be one of the words
 abbrev pub IsOneOf : List Text → ValueParser → Type 0
 IsOneOf words parser = (names : Bor (List (Bor Text))) × (texts names.now ≡ words) × (parser ≡ values.Names names)
@@ -58,6 +64,11 @@ IsOneOf words parser = (names : Bor (List (Bor Text))) × (texts names.now ≡ w
 abbrev pub parallelism_rule : Rule
 parallelism_rule =
     record (option_named (codes "parallelism")) { parser = Some (values.Signed (pos 1) (pos 64)) }
+
+-- the option of a form; the first of the words stands for none
+abbrev pub form_rule : (forms : ValueParser) → Rule
+form_rule forms =
+    record (option_named (codes "form")) { parser = Some forms; defaults = codes "applystream" ∷ [] }
 
 -- the options that say the settings
 abbrev pub settings_options : (kinds : ValueParser) → List Rule
@@ -71,18 +82,28 @@ settings_options kinds =
     ∷ list_named (codes "halt-in")
     ∷ []
 
+-- the parsers of the options whose value is one of some words
+pub record Choices : Type 0 where
+  pub kinds : ValueParser
+  pub forms : ValueParser
+
+-- each takes its own words
+pub record AreChoices (choices : Choices) : Type 0 where
+  pub kinds : IsOneOf kind_words choices.kinds
+  pub forms : IsOneOf form_words choices.forms
+
 -- all of them
-abbrev pub options : (kinds : ValueParser) → List Rule
-options kinds = settings_options kinds ++ parallelism_rule ∷ []
+abbrev pub options : Choices → List Rule
+options choices = settings_options choices.kinds ++ parallelism_rule ∷ form_rule choices.forms ∷ []
 
 -- the command, whose words are those behind the program's name
-abbrev pub command_line : (kinds : ValueParser) → App
-command_line kinds = record {
-  top = record (new_shape (codes "applystream")) { no_binary_name = true; has_version = true; rules = options kinds };
+abbrev pub command_line : Choices → App
+command_line choices = record {
+  top = record (new_shape (codes "applystream")) { no_binary_name = true; has_version = true; rules = options choices };
   subs = [];
 }
 
--- the same without the option of a parallelism
+-- the same without the options of a parallelism and of a form
 abbrev pub settings_line : (kinds : ValueParser) → App
 settings_line kinds = record {
   top = record (new_shape (codes "applystream")) { no_binary_name = true; has_version = true; rules = settings_options kinds };
@@ -125,7 +146,7 @@ pub record AreSaid (rows : List Row) (settings : Settings) : Type 0 where
   pub apply : one_of (codes "destroy") rows ≡ Some (codes "false") → settings.operation ≡ Apply
   pub halts : settings.halts.items ≡ halts_said rows
 
--- the words were taken by the command without a parallelism, and the settings are what they say
+-- the words were taken by the command of the settings alone, and the settings are what they say
 pub record HaveSaid (words : List Text) (settings : Settings) : Type 0 where
   pub kinds : ValueParser
   pub are_kinds : IsOneOf kind_words kinds
@@ -136,6 +157,13 @@ pub record HaveSaid (words : List Text) (settings : Settings) : Type 0 where
 pub record IsParallelism (rows : List Row) (parallelism : Option ℕ) : Type 0 where
   pub none : one_of (codes "parallelism") rows ≡ None → parallelism ≡ None
   pub some : IfSome (one_of (codes "parallelism") rows) (λ text. IsOptionalNumber 64 text parallelism)
+
+abbrev pub form_of_word : Text → Form
+form_of_word word = if bytes_eq word (codes "terraform") then Terraform else Applystream
+
+-- the form whose word the option has, and else the program's own
+abbrev pub form_said : List Row → Form
+form_said rows = option_map_or form_of_word (first_of (codes "form") rows) Applystream
 
 -- the value comes from the words, and is not one that stands for none
 abbrev pub is_of_words : Option ValueSource → Bool
@@ -189,28 +217,29 @@ IsCause IsWrong app words (usage.Words text) =
     (kind : ErrorKind) × (kind ≡ DisplayHelp → ⊥) × (kind ≡ DisplayVersion → ⊥) × IsAmong kind (fault_of app words)
 IsCause IsWrong app words why = (fault_of app words ≡ []) × IsWrong (matches_of app words) why
 
--- memory was refused, or there is a cause for it
-abbrev pub HasCause : (line : ValueParser → App) → (IsWrong : List Row → Usage → Type 0) → List Text → Usage → Type 0
-HasCause line IsWrong words why =
-    (why ≡ usage.Memory) ⊎ ((kinds : ValueParser) × IsOneOf kind_words kinds × IsCause IsWrong (line kinds) words why)
+-- memory was refused, or there is a cause for it, by the command of some parsers that take their words
+abbrev pub HasCause : {P : Type 0} (TakeWords : P → Type 0) → (line : P → App) → (IsWrong : List Row → Usage → Type 0)
+    → List Text → Usage → Type 0
+HasCause {P} TakeWords line IsWrong words why =
+    (why ≡ usage.Memory) ⊎ ((parsers : P) × TakeWords parsers × IsCause IsWrong (line parsers) words why)
 
 -- the words say no invocation
 abbrev pub WereRefused : List Text → Usage → Type 0
-WereRefused words why = HasCause command_line IsSaidWrong words why
+WereRefused words why = HasCause AreChoices command_line IsSaidWrong words why
 
--- the words say no settings, by the options without a parallelism
+-- the words say no settings, by the options of the settings alone
 abbrev pub SayNoSettings : List Text → Usage → Type 0
-SayNoSettings words why = HasCause settings_line AreSaidWrong words why
+SayNoSettings words why = HasCause (IsOneOf kind_words) settings_line AreSaidWrong words why
 
 -- the words ask for this, among whatever else
 abbrev pub AskAmong : ErrorKind → List Text → Type 0
 AskAmong asked words =
-    (kinds : ValueParser) × IsOneOf kind_words kinds × IsAmong asked (fault_of (command_line kinds) words)
+    (choices : Choices) × AreChoices choices × IsAmong asked (fault_of (command_line choices) words)
 
 -- the words ask for this, and nothing else is wrong with them
 abbrev pub AskAlone : ErrorKind → List Text → Type 0
 AskAlone asked words =
-    (kinds : ValueParser) → IsOneOf kind_words kinds → fault_of (command_line kinds) words ≡ asked ∷ []
+    (choices : Choices) → AreChoices choices → fault_of (command_line choices) words ≡ asked ∷ []
 
 -- for help
 abbrev pub AskForHelp : List Text → Type 0

@@ -27,6 +27,9 @@ use std::alloc::{AllocError, Global};
 /// The kinds of steps, as words.
 static KINDS: [&str; 4] = ["create", "update", "delete", "read"];
 
+/// The forms of a stream, as words.
+static FORMS: [&str; 2] = ["applystream", "terraform"];
+
 const ABOUT: &str =
     "Writes the messages of `terraform apply -json` for a saved plan, without applying anything.
 
@@ -53,12 +56,13 @@ Exit status:
 /// Said behind the fault of a word that is no option: mostly it is the file of a plan.
 const TIP: &str = "\n  tip: a plan is read from standard input, as in: applystream < plan.json\n";
 
-/// The settings that the words behind the program's name say, by the options without a parallelism: the part of
-/// `read_invocation` that knows workers alone.
+/// The settings that the words behind the program's name say, by the options without a parallelism and a form: the
+/// part of `read_invocation` that knows workers alone.
 ///
 /// `Err` with `Usage::Help` where they ask for help, with `Usage::Version` where they ask for the version, else with
-/// `Usage::Words` where they are none of this program or ask for a parallelism, else with `Usage::Moment` where the start is no moment, else with `Usage::Hooks` where there are more than
-/// 32 halts. `Err` with `Usage::Memory` where memory is refused.
+/// `Usage::Words` where they are none of this program or ask for a parallelism or a form, else with `Usage::Moment` where
+/// the start is no moment, else with `Usage::Hooks` where there are more than 32 halts. `Err` with `Usage::Memory` where
+/// memory is refused.
 pub fn read_words(alloc: Global, words: &[String]) -> Result<Settings, Usage>
     ensures in_range { IfOk result AreInRange }
     ensures said { IfOk result (HaveSaid (map string_bytes words.now)) }
@@ -73,10 +77,12 @@ pub fn read_words(alloc: Global, words: &[String]) -> Result<Settings, Usage>
 
 /// All options, and their help.
 pub(crate) fn command<'a>(alloc: Global) -> Result<Command<'a>, AllocError>
-    ensures { IfOk result (λ command. (kinds : _) × IsOneOf said.kind_words kinds
-        × (app_of command ≡ said.command_line kinds)) }
+    ensures { IfOk result (λ command. (choices : said.Choices) × said.AreChoices choices
+        × (app_of command ≡ said.command_line choices)) }
 {
-    settings_command(alloc)?.arg(parallelism(alloc))
+    settings_command(alloc)?
+        .arg(parallelism(alloc))?
+        .arg(form(alloc))
 }
 
 /// The options that say the settings, and their help.
@@ -186,6 +192,21 @@ fn parallelism<'a>(alloc: Global) -> Arg<'a>
         .value_parser(value_parser!(u8).range(1..=64))
         .help(
             "How many changes are under way at once in the stream's own time, as `terraform apply -parallelism=N` has it: the same input gives the same messages. Not together with --workers or --queue. 1 to 64",
+        )
+}
+
+fn form<'a>(alloc: Global) -> Arg<'a>
+    ensures { (forms : _) × IsOneOf said.form_words forms
+        × (rule_of result ≡ said.form_rule forms)
+        × (result.global ≡ false) }
+{
+    Arg::new(alloc, "form")
+        .long("form")
+        .value_name("FORM")
+        .value_parser(FORMS.as_slice())
+        .default_value("applystream")
+        .help(
+            "In which form the stream is written: applystream, or terraform for the bytes that Terraform 1.11 prints",
         )
 }
 

@@ -36,6 +36,11 @@ const TABLE: &str = "--workers 2 --halt-before delete => 1 =>
 --parallelism 2 --script no_such_file.json => 2 => applystream: the script file could not be read
 --parallelism 2 --script /dev/null => 2 => applystream: the script is not JSON
 --parallelism 2 --workers 2 --at x => 2 => applystream: --parallelism takes no --workers and no --queue beside it
+--form terraform --halt-in=null_resource.~ => 0 =>
+--form terraform --halt-before delete --parallelism 64 => 1 =>
+--script /dev/null --form terraform => 2 => applystream: the script is not JSON
+--form terraform --workers 2 --parallelism 2 => 2 => applystream: --parallelism takes no --workers and no --queue beside it
+--at x --form terraform => 2 => applystream: the moment is not a moment
 --at x => 2 => applystream: the moment is not a moment
 --at 1969-12-31T23:59:59Z --script no_such_file.json => 2 => applystream: the moment is out of range";
 
@@ -218,6 +223,8 @@ fn what_is_printed_is_flushed(rt: HostRuntime) {
     all_is_flushed(&rt, &rt, rt.alloc(), "", 0);
     all_is_flushed(&rt, &rt, rt.alloc(), "--halt-before delete", 1);
     all_is_flushed(&rt, &rt, rt.alloc(), "--parallelism 2", 0);
+    all_is_flushed(&rt, &rt, rt.alloc(), "--form terraform", 0);
+    all_is_flushed(&rt, &rt, rt.alloc(), "--form terraform --parallelism 2", 0);
 }
 
 /// Asks for the version by these words over this output.
@@ -301,8 +308,9 @@ fn invoked<T: Threads + Wait + Sync, F: Files>(
 ) -> Outcome {
     let mut said = Vec::new(alloc);
     let (input, output) = (REPLACEMENT.as_bytes(), empty(alloc));
+    let form = Form::Applystream;
     let (output, status) = follow_invocation(
-        rt, files, alloc, settings, None, input, output, &mut said,
+        rt, files, alloc, settings, None, form, input, output, &mut said,
     );
     Outcome {
         status,

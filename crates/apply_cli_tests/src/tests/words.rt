@@ -112,15 +112,19 @@ fn words_say_settings(rt: HostRuntime) {
     }
 }
 
-/// Words of a parallelism, and what they are answered by the options without one.
-const PARALLEL: &str = "--parallelism 2 => Words
+/// Words of a parallelism or a form, and what they are answered by the options without them.
+const OTHERS: &str = "--parallelism 2 => Words
 --parallelism 2 --workers 2 => Words
 --parallelism=x --at x => Words
---help --parallelism 2 => Help";
+--help --parallelism 2 => Help
+--form terraform => Words
+--form=applystream => Words
+--form x --at x => Words
+-h --form terraform => Help";
 
 #[test]
-fn settings_know_no_parallelism(rt: HostRuntime) {
-    for row in PARALLEL.lines() {
+fn settings_know_no_parallelism_and_no_form(rt: HostRuntime) {
+    for row in OTHERS.lines() {
         let (words, wanted) = parted(&rt, row, " => ");
         let answer = settings_answer_to(&rt, rt.alloc(), words);
         assert_eq!(rt; answer.as_str(), wanted, "{words}");
@@ -228,6 +232,9 @@ Standard output
 --halt-before <KIND>
 [possible values: create, update, delete, read]
 --halt-in <PREFIX>
+--form <FORM>
+[default: applystream]
+[possible values: applystream, terraform]
 --version
 Example
 {"changes":[{"address":"null_resource.a","steps":[{"seconds":12,"id":"7"}]},

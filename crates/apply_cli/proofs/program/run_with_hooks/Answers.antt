@@ -17,11 +17,11 @@ returns-clause-applied g c = λ good.
     let are : AreOfName (IsFrontOfFile g.F.File.Read.remaining) settings.script script =
     subst (λ (bytes : Option (List ℕ)). AreOfName (IsFrontOfFile g.F.File.Read.remaining) settings.script bytes) (sym c.as_deref.ensures.value) c.in-Ok.ensures in
     let found = c.run_script.ensures.applied good in
-    let applied : HasAppliedAsAsked (given_of settings found.0 script) settings c.args.parallelism before after status =
-    subst (λ hooks. HasAppliedAsAsked (record { plan = found.0; script = script; hooks = hooks }) settings c.args.parallelism before after status) c.requires.hooks found.1 in (
+    let applied : HasAppliedAsAsked (given_of settings found.0 script) settings c.args.parallelism c.args.form before after status =
+    subst (λ hooks. HasAppliedAsAsked (record { plan = found.0; script = script; hooks = hooks }) settings c.args.parallelism c.args.form before after status) c.requires.hooks found.1 in (
       found.0,
-      of_file g.F.File.Read.remaining settings.script script (λ bytes. HasAppliedAsAsked (given_of settings found.0 bytes) settings c.args.parallelism before after status)
-          (λ bytes h. applied_fits (given_of settings found.0 (Some bytes)) bytes settings c.args.parallelism before after status refl h) are applied,
+      of_file g.F.File.Read.remaining settings.script script (λ bytes. HasAppliedAsAsked (given_of settings found.0 bytes) settings c.args.parallelism c.args.form before after status)
+          (λ bytes h. applied_fits (given_of settings found.0 (Some bytes)) bytes settings c.args.parallelism c.args.form before after status refl h) are applied,
       found.2,
     )
 
@@ -33,15 +33,15 @@ returns-clause-cut_off g c = λ bad.
     let after : Sight = sight_of g.W.Write.contents c.run_script.result.0 in
     let are : AreOfName (IsFrontOfFile g.F.File.Read.remaining) settings.script script =
     subst (λ (bytes : Option (List ℕ)). AreOfName (IsFrontOfFile g.F.File.Read.remaining) settings.script bytes) (sym c.as_deref.ensures.value) c.in-Ok.ensures in
-    let begun : List ℕ → Option (List ℕ) → Type 0 = λ plan bytes. HasBegunAsAsked (given_of settings plan bytes) settings c.args.parallelism before after in
+    let begun : List ℕ → Option (List ℕ) → Type 0 = λ plan bytes. HasBegunAsAsked (given_of settings plan bytes) settings c.args.parallelism c.args.form before after in
     ⊎_elim (λ kept. inl kept)
-    (λ (found : OfInput (g.R.Read.remaining c.args.input) (λ plan. HasBegunAsAsked (record { plan = plan; script = script; hooks = rules_of c.args.registry.now }) settings c.args.parallelism before after)).
+    (λ (found : OfInput (g.R.Read.remaining c.args.input) (λ plan. HasBegunAsAsked (record { plan = plan; script = script; hooks = rules_of c.args.registry.now }) settings c.args.parallelism c.args.form before after)).
     let part : begun found.0 script =
-    subst (λ hooks. HasBegunAsAsked (record { plan = found.0; script = script; hooks = hooks }) settings c.args.parallelism before after) c.requires.hooks found.1 in
+    subst (λ hooks. HasBegunAsAsked (record { plan = found.0; script = script; hooks = hooks }) settings c.args.parallelism c.args.form before after) c.requires.hooks found.1 in
     inr (
       found.0,
       of_file g.F.File.Read.remaining settings.script script (begun found.0)
-          (λ bytes h. begun_fits (given_of settings found.0 (Some bytes)) bytes settings c.args.parallelism before after refl h) are part,
+          (λ bytes h. begun_fits (given_of settings found.0 (Some bytes)) bytes settings c.args.parallelism c.args.form before after refl h) are part,
       found.2,
     ))
     (c.run_script.ensures.cut_off bad)
