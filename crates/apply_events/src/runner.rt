@@ -95,6 +95,31 @@ impl<'a> Runner<'a> {
         }
     }
 
+    /// The runner of a change of which the first step has gone on, and the second begins at a moment, in seconds. It is
+    /// that of a change which begins as much earlier as the first step takes.
+    pub(crate) fn resume(
+        plan: &'a Plan,
+        script: &'a Script,
+        registry: &'a Registry,
+        worker: u8,
+        change: u32,
+        at: u64,
+    ) -> Runner<'a>
+    {
+        let before = StepFacts::new(script, change, 0).seconds;
+        Runner {
+            plan,
+            script,
+            registry,
+            worker,
+            change,
+            begin: at - before as u64,
+            step: 1,
+            at,
+            stage: Stage::Before,
+        }
+    }
+
     /// The next event. `None` where none is left, now and from then on.
     ///
     /// The hooks before a step are asked by the call that gives the step's first event, those after it by the call that
