@@ -1,45 +1,102 @@
 //! The escapes of a line.
 
-ghost use Rattle.std.specs.Prelude.{◌≡◌, ◌≤◌, ◌<◌, ◌++◌, drop, length, OnOk, OnErr};
+ghost use Rattle.std.specs.Prelude.{◌≡◌, ◌≤◌, ◌<◌, ◌++◌, drop, false, length, take, IfOk, OnOk, OnErr};
 ghost use Rattle.std.specs.List.{list_any};
+ghost use Rattle.memchr.specs.Find.{is_byte, is_byte3};
 ghost use Rattle.apply_form.specs.Escapes.{begins_with, escaped, is_special};
 ghost use Rattle.apply_form.specs.Lines.{line_of_text};
 
+use memchr::{memchr, memchr3};
 use std::alloc::AllocError;
 
-/// Appends a line to others: the text with its escapes, and a line feed. Takes `told` for the line. `Err` where memory is
-/// refused; the lines are then as they were.
-pub fn push_line(lines: &mut Vec<u8>, told: &mut Vec<u8>, text: &[u8]) -> Result<(), AllocError>
+/// How far the next character with an escape is looked for at a time, so that no long text is looked through anew for each.
+const SEARCH_LEN: usize = 1_024;
+
+/// Appends a line to others: the text with its escapes, and a line feed. `Err` where memory is refused; the lines are then
+/// as they were.
+pub fn push_line(lines: &mut Vec<u8>, text: &[u8]) -> Result<(), AllocError>
     ensures ok { OnOk result (lines.new.items ≡ lines.old.items ++ line_of_text text.now) }
     ensures err { OnErr result (lines.new.items ≡ lines.old.items) }
 {
-    escape_into(told, text)?;
-    told.extend_from_slice(b"\n")?;
-    lines.extend_from_slice(told.as_slice())
+    let before = lines.len();
+    match push_parts(lines, text) {
+        Ok(()) => Ok(()),
+        Err(refused) => {
+            lines.truncate(before);
+            Err(refused)
+        }
+    }
 }
 
-/// Puts the line with its escapes into `told`, in the place of what stood there. `Err` where memory is refused.
-fn escape_into(told: &mut Vec<u8>, line: &[u8]) -> Result<(), AllocError>
-    ensures { OnOk result (told.new.items ≡ escaped line.now) }
+/// Appends a line to others, or a part of it where memory is refused.
+fn push_parts(lines: &mut Vec<u8>, text: &[u8]) -> Result<(), AllocError>
+    ensures ok { OnOk result (lines.new.items ≡ lines.old.items ++ line_of_text text.now) }
+    ensures behind { take (length lines.old.items) lines.new.items ≡ lines.old.items }
 {
-    told.clear();
-    if !has_special(line) {
-        return told.extend_from_slice(line);
-    }
+    push_escaped(lines, text)?;
+    lines.extend_from_slice(b"\n")
+}
+
+/// Appends the text with its escapes, or a part of it where memory is refused.
+fn push_escaped(lines: &mut Vec<u8>, text: &[u8]) -> Result<(), AllocError>
+    ensures ok { OnOk result (lines.new.items ≡ lines.old.items ++ escaped text.now) }
+    ensures behind { take (length lines.old.items) lines.new.items ≡ lines.old.items }
+{
     let mut at = 0;
-    while at < line.len() {
-        let (piece, size) = front_of(&line[at..]);
-        told.extend_from_slice(piece)?;
-        at += size;
+    while at < text.len() {
+        at += push_front(lines, &text[at..])?;
     }
     Ok(())
 }
 
-/// Whether some byte of the line may begin a character that has an escape.
-fn has_special(line: &[u8]) -> bool
-    ensures { result ≡ list_any is_special line.now }
+/// Appends what is told of some bytes at the front of a text: as many as stand as they are, and the character behind them.
+/// How many bytes these are. `Err` where memory is refused; a part of it may then be appended.
+fn push_front(lines: &mut Vec<u8>, text: &[u8]) -> Result<usize, AllocError>
+    requires { 0 < length text.now }
+    ensures ok { IfOk result (λ size. (0 < size) × (size ≤ length text.now)
+        × (lines.new.items ++ escaped (drop size text.now) ≡ lines.old.items ++ escaped text.now)) }
+    ensures behind { take (length lines.old.items) lines.new.items ≡ lines.old.items }
 {
-    line.iter().any(|byte| *byte == b'<' || *byte == b'>' || *byte == b'&' || *byte == 0xE2)
+    let plain = plain_len(text);
+    lines.extend_from_slice(&text[..plain])?;
+    if plain == text.len() {
+        return Ok(plain);
+    }
+    let (piece, size) = front_of(&text[plain..]);
+    lines.extend_from_slice(piece)?;
+    Ok(plain + size)
+}
+
+/// How many bytes at the front of a text stand as they are. No more than `SEARCH_LEN` are looked at.
+fn plain_len(text: &[u8]) -> usize
+    ensures within { result ≤ length text.now }
+    ensures plain { list_any is_special (take result text.now) ≡ false }
+{
+    let searched = &text[..text.len().min(SEARCH_LEN)];
+    let bracket = len_before_bracket(searched);
+    len_before_separator(&searched[..bracket])
+}
+
+/// How many bytes stand before the first `<`, `>` or `&`, or how many there are where there is none.
+fn len_before_bracket(text: &[u8]) -> usize
+    ensures within { result ≤ length text.now }
+    ensures none { list_any (is_byte3 60 62 38) (take result text.now) ≡ false }
+{
+    match memchr3(b'<', b'>', b'&', text) {
+        Some(len) => len,
+        None => text.len(),
+    }
+}
+
+/// How many bytes stand before the first that may begin U+2028 or U+2029, or how many there are where there is none.
+fn len_before_separator(text: &[u8]) -> usize
+    ensures within { result ≤ length text.now }
+    ensures none { list_any (is_byte 226) (take result text.now) ≡ false }
+{
+    match memchr(0xE2, text) {
+        Some(len) => len,
+        None => text.len(),
+    }
 }
 
 /// What is told of the first character or byte of a text, and how many bytes that has.

@@ -37,9 +37,8 @@ const TEXT_LEN: usize = 256;
 pub struct FormBuffer {
     alloc: Global,
     bytes: Vec<u8>,
-    // A line before its escapes, and with them.
+    // A line before its escapes.
     line: Vec<u8>,
-    told: Vec<u8>,
     // The texts that a message is put together of, one after the other.
     scratch: String,
 }
@@ -61,7 +60,6 @@ impl FormBuffer {
             alloc,
             bytes: Vec::new(alloc),
             line: Vec::new(alloc),
-            told: Vec::new(alloc),
             scratch: String::new(alloc),
         }
     }
@@ -75,7 +73,6 @@ impl FormBuffer {
             alloc,
             bytes: Vec::with_capacity(alloc, LINE_LEN)?,
             line: Vec::with_capacity(alloc, LINE_LEN)?,
-            told: Vec::with_capacity(alloc, LINE_LEN)?,
             scratch: String::with_capacity(alloc, TEXT_LEN)?,
         })
     }
@@ -208,7 +205,7 @@ impl FormBuffer {
     {
         let moment = FineMoment::new(start, latest);
         say_outputs(self.alloc, &mut self.scratch, &moment, outputs)?;
-        push_line(&mut self.bytes, &mut self.told, self.scratch.as_bytes())
+        push_line(&mut self.bytes, self.scratch.as_bytes())
     }
 
     /// Appends the line of a change that is planned in that word.
@@ -268,7 +265,7 @@ impl FormBuffer {
     {
         self.line = out.into_inner();
         match written {
-            Ok(()) => push_line(&mut self.bytes, &mut self.told, self.line.as_slice()),
+            Ok(()) => push_line(&mut self.bytes, self.line.as_slice()),
             Err(refused) => Err(refused),
         }
     }
