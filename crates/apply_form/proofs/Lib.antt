@@ -4,5 +4,6 @@ pub mod Events
 pub mod LinesAdded
 pub mod Members
 pub mod Moments
+pub mod Progress
 pub mod Separators
 pub mod Texts

@@ -1,4 +1,5 @@
 pub mod AppliedStep
+pub mod CachedParts
 pub mod Details
 pub mod Escapes
 pub mod Laws

@@ -5,9 +5,11 @@ ghost use Rattle.std.specs.Option.{option_copied};
 ghost use Rattle.json.specs.Print.{print};
 ghost use Rattle.apply_events.specs.Fits.{HasStep, last_moment};
 ghost use Rattle.apply_form.specs.AppliedStep.{message_of};
+ghost use Rattle.apply_form.specs.CachedParts.{progress_text};
 ghost use Rattle.apply_form.specs.Lines.{event_text, line_of_text, message_line, note_text, outputs_text, planned_text, summary_text, version_text};
 ghost use Rattle.apply_form.specs.Message.{is_silent as is_silent_event, planned_message};
 
+use crate::cached_parts::frames::ProgressFrames;
 use crate::change_details::ChangeDetails;
 use crate::escaping::push_line;
 use crate::messages::{put_event, put_note, put_planned, put_summary, put_version};
@@ -27,10 +29,14 @@ use std::mem::replace;
 /// How long a line is that needs no further growth.
 const LINE_LEN: usize = 1_024;
 
+/// When a step first reports progress, in seconds.
+const FIRST_PROGRESS: u32 = 10;
+
 /// How long the texts are that it may be put together of.
 const TEXT_LEN: usize = 256;
 
-/// Lines of a stream in Terraform's form, one behind the other. Room that was made once is kept.
+/// Lines of a stream in Terraform's form, one behind the other. Room that was made once is kept, so that a further line costs
+/// no growth, but where a line of progress keeps what it has in common with those behind it.
 ///
 /// Contracts see the bytes of the lines.
 #[derive(Drop)]
@@ -39,8 +45,10 @@ pub struct FormBuffer {
     bytes: Vec<u8>,
     // A line before its escapes.
     line: Vec<u8>,
-    // The texts that a message is put together of, one after the other.
+    // The texts that a message is put together of, one after the other, or a whole message.
     scratch: String,
+    // What lines of progress have in common with those before them.
+    kept: ProgressFrames,
 }
 
 impl Model for FormBuffer {
@@ -61,11 +69,12 @@ impl FormBuffer {
             bytes: Vec::new(alloc),
             line: Vec::new(alloc),
             scratch: String::new(alloc),
+            kept: ProgressFrames::new(alloc),
         }
     }
 
-    /// No line, and room for one of up to 1,024 bytes, whose texts have up to 256, without a further growth. `Err` where
-    /// memory is refused.
+    /// No line, and room for one of up to 1,024 bytes, whose texts have up to 256, without a further growth; only what lines
+    /// of progress have in common takes more, once for each step. `Err` where memory is refused.
     pub fn with_room(alloc: Global) -> Result<FormBuffer, AllocError>
         ensures { IfOk result (λ buffer. buffer ≡ []) }
     {
@@ -74,6 +83,7 @@ impl FormBuffer {
             bytes: Vec::with_capacity(alloc, LINE_LEN)?,
             line: Vec::with_capacity(alloc, LINE_LEN)?,
             scratch: String::with_capacity(alloc, TEXT_LEN)?,
+            kept: ProgressFrames::new(alloc),
         })
     }
 
@@ -147,7 +157,7 @@ impl FormBuffer {
         if is_silent(step.kind, event.what) {
             return Ok(());
         }
-        self.push_step(start, latest, step, planned, event.what)
+        self.push_step(start, latest, event.change, step, planned, event.what)
     }
 
     /// Appends what is said of a plan as a whole, `latest` seconds after the start (Machine-Readable UI, "Diagnostic").
@@ -226,11 +236,13 @@ impl FormBuffer {
         self.end_line(out, written)
     }
 
-    /// Appends the line of an event of a step.
+    /// Appends the line of an event of a step of the change with that number. Of a line of progress that is not the step's
+    /// first, what it has in common with later ones is kept.
     fn push_step(
         &mut self,
         start: Start,
         latest: u64,
+        number: u32,
         step: AppliedStep<'_>,
         planned: Option<&str>,
         what: What,
@@ -240,10 +252,36 @@ impl FormBuffer {
             ≡ self.old ++ message_line (start + latest) (message_of step.entry (option_copied planned.entry) what)) }
         ensures err { OnErr result (self.new ≡ self.old) }
     {
+        if let What::Progress(seconds) = what {
+            if seconds > FIRST_PROGRESS {
+                return self.push_progress(start, latest, number, step.change, step.kind, seconds);
+            }
+        }
         let moment = FineMoment::new(start, latest);
         let mut out = self.begin_line();
         let written = put_event(&mut out, &mut self.scratch, &moment, step, planned, what);
         self.end_line(out, written)
+    }
+
+    /// Appends the line of a step's progress, put together of what is kept.
+    fn push_progress(
+        &mut self,
+        start: Start,
+        latest: u64,
+        number: u32,
+        change: &Change,
+        step: StepKind,
+        seconds: u32,
+    ) -> Result<(), AllocError>
+        requires { latest ≤ last_moment }
+        ensures ok { OnOk result (self.new
+            ≡ self.old ++ line_of_text (progress_text (start + latest) change.now step seconds)) }
+        ensures err { OnErr result (self.new ≡ self.old) }
+    {
+        let moment = start.seconds() + latest;
+        self.kept
+            .put_message(&mut self.scratch, change, step, number, moment, seconds)?;
+        push_line(&mut self.bytes, self.scratch.as_bytes())
     }
 
     /// A writer of a line.

@@ -2,6 +2,7 @@
 //! JSON, one message a line (Machine-Readable UI).
 #![tactic(auto)]
 
+mod cached_parts;
 mod change_details;
 mod escaping;
 mod form;

@@ -34,7 +34,7 @@ in_decimal : (n : ℕ) → escape (decimal n) ≡ decimal n
 unfolding digits
 in_decimal n = in_digits 64 n [] refl
 
-in_action : (step : StepKind) → quoted (action_word step) ≡ 34 ∷ (action_word step ++ 34 ∷ [])
+pub in_action : (step : StepKind) → quoted (action_word step) ≡ 34 ∷ (action_word step ++ 34 ∷ [])
 unfolding json_on_literals
 in_action Create = refl
 in_action Update = refl
@@ -50,25 +50,25 @@ hook_is : (change : ResourceChange) (step : StepKind) (seconds : ℕ) (rest : Li
 unfolding hook_object json_on_literals
 hook_is change step seconds rest = simp append_assoc
 
-message_is : (text moment : List ℕ) (body : Data)
+pub message_is : (text moment : List ℕ) (body : Data)
     → compact_text (message_object (codes "info") text moment (typed (codes "hook") body (codes "apply_progress")))
     ≡ codes "{\"@level\":\"info\",\"@message\":" ++ (quoted text ++ (codes ",\"@module\":\"terraform.ui\",\"@timestamp\":" ++ (quoted moment ++ (codes ",\"hook\":" ++ (compact_text body ++ codes ",\"type\":\"apply_progress\"}")))))
 unfolding message_object json_on_literals
 message_is text moment body = refl
 
-in_elapsed : (seconds : ℕ) → escape (elapsed_of seconds) ≡ elapsed_of seconds
+pub in_elapsed : (seconds : ℕ) → escape (elapsed_of seconds) ≡ elapsed_of seconds
 unfolding json_on_literals
 in_elapsed seconds = grind (arith, common_steps, joined, in_decimal)
 
 -- what is said
-said : (front elapsed text : List ℕ) → escape elapsed ≡ elapsed → text ≡ front ++ (elapsed ++ codes " elapsed]") → quoted text ≡ 34 ∷ (escape front ++ (elapsed ++ codes " elapsed]\""))
+pub said : (front elapsed text : List ℕ) → escape elapsed ≡ elapsed → text ≡ front ++ (elapsed ++ codes " elapsed]") → quoted text ≡ 34 ∷ (escape front ++ (elapsed ++ codes " elapsed]\""))
 unfolding json_on_literals
 said front elapsed text plain is =
     ap quoted is
     ∙ ap (λ t. 34 ∷ (t ++ 34 ∷ [])) (joined front (elapsed ++ codes " elapsed]") ∙ ap (λ t. escape front ++ t) (joined elapsed (codes " elapsed]") ∙ ap (λ e. e ++ codes " elapsed]") plain))
     ∙ ap (λ t. 34 ∷ t) (append_assoc (escape front) (elapsed ++ codes " elapsed]") (34 ∷ []) ∙ ap (λ t. escape front ++ t) (append_assoc elapsed (codes " elapsed]") (34 ∷ [])))
 
-told : (address still elapsed : List ℕ) → address ++ codes ": " ++ (codes "Still " ++ still ++ codes "... [" ++ elapsed ++ codes " elapsed]") ≡ (address ++ (codes ": Still " ++ (still ++ codes "... ["))) ++ (elapsed ++ codes " elapsed]")
+pub told : (address still elapsed : List ℕ) → address ++ codes ": " ++ (codes "Still " ++ still ++ codes "... [" ++ elapsed ++ codes " elapsed]") ≡ (address ++ (codes ": Still " ++ (still ++ codes "... ["))) ++ (elapsed ++ codes " elapsed]")
 told address still elapsed = simp append_assoc
 
 -- the pieces, one behind the other

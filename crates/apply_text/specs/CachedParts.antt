@@ -20,10 +20,14 @@ open_text text = 34 ∷ escape text
 unfoldable pub open_date : ℕ → List ℕ
 open_date day = open_text (option_map_or date_text (date_of_day day) [])
 
--- what stands behind the date of a moment at that second of its day, with the closing quote
+-- what stands behind the date of a moment at that second of its day, up to the second
+abbrev pub time_of_day : ℕ → List ℕ
+time_of_day second =
+    codes "T" ++ (two_digits (second / 3600) ++ (codes ":" ++ (two_digits (second / 60 % 60) ++ (codes ":" ++ two_digits (second % 60)))))
+
+-- the same to the end of the moment, with the closing quote
 abbrev pub rest_of_day : ℕ → List ℕ
-rest_of_day second =
-    codes "T" ++ (two_digits (second / 3600) ++ (codes ":" ++ (two_digits (second / 60 % 60) ++ (codes ":" ++ (two_digits (second % 60) ++ codes "Z\"")))))
+rest_of_day second = time_of_day second ++ codes "Z\""
 
 -- ---- what the progress lines of a step have in common
 

@@ -2,6 +2,7 @@
 
 pub mod frame;
 pub mod frames;
+pub mod front;
 pub mod kept_date;
 pub mod key;
 pub mod open_text;

@@ -2,6 +2,8 @@
 //! members.
 
 pub use crate::applied_step::{AppliedStep, DiagTexts};
+pub use crate::cached_parts::front::ProgressFront;
+pub use crate::cached_parts::kept_date::{KeptDate, keep_date};
 pub use crate::display::elapsed::Elapsed;
 pub use crate::display::id_note::IdNote;
 pub use crate::messages::{level, say_event, type_name};

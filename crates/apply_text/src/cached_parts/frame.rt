@@ -5,12 +5,10 @@ ghost use Rattle.apply_text.specs.Elapsed.{elapsed_of};
 ghost use Rattle.apply_text.specs.CachedParts.{back_text, front_text, kept_step};
 ghost use Rattle.apply_text.specs.Words.{action_word};
 
-use crate::cached_parts::key::{copy_of, is_same};
-use crate::cached_parts::open_text::open_text;
-use crate::display::elapsed::Elapsed;
+use crate::cached_parts::front::ProgressFront;
 use crate::objects::resource_object::put_resource;
 use crate::step_words::StepWords;
-use apply_model::{Change, Key, StepKind, Text};
+use apply_model::{Change, StepKind};
 use json::Writer;
 use std::alloc::{AllocError, Global};
 use std::marker::Model;
@@ -20,31 +18,20 @@ use std::marker::Model;
 /// Contracts see the step, with what is shown of its change.
 #[derive(Drop)]
 pub struct ProgressFrame {
-    address: Text,
-    module_address: Text,
-    kind_name: Text,
-    name: Text,
-    key: Key,
-    step: StepKind,
-    // A line up to the time in its message, and from behind the seconds on.
-    front: String,
+    front: ProgressFront,
+    // A line from behind the seconds on.
     back: String,
 }
 
 impl Model for ProgressFrame {
     ghost use Rattle.std.specs.Prelude.{◌≡◌, string_bytes};
-    ghost use Rattle.apply_text.specs.CachedParts.{KeptStep, back_text, front_text, shown};
+    ghost use Rattle.apply_text.specs.CachedParts.{KeptStep, back_text};
 
     ghost Value = { KeptStep };
 
-    ghost view = { λ frame. record {
-      change = shown frame.address frame.module_address frame.kind_name frame.name frame.key;
-      step = frame.step;
-    } };
+    ghost view = { λ frame. frame.front };
 
-    ghost invariant = { λ frame. (string_bytes frame.front ≡ front_text frame.address frame.step)
-        × (string_bytes frame.back
-        ≡ back_text (shown frame.address frame.module_address frame.kind_name frame.name frame.key)) };
+    ghost invariant = { λ frame. string_bytes frame.back ≡ back_text frame.front.change };
 }
 
 impl ProgressFrame {
@@ -52,16 +39,9 @@ impl ProgressFrame {
     pub fn new(alloc: Global, change: &Change, step: StepKind) -> Result<ProgressFrame, AllocError>
         ensures { IfOk result (λ frame. frame ≡ kept_step change.now step) }
     {
-        let front = front_of(alloc, change.address(), step)?;
         let back = back_of(alloc, change)?;
         Ok(ProgressFrame {
-            address: Text::new(alloc, change.address())?,
-            module_address: Text::new(alloc, change.module())?,
-            kind_name: Text::new(alloc, change.kind_name())?,
-            name: Text::new(alloc, change.name())?,
-            key: copy_of(alloc, change.key())?,
-            step,
-            front,
+            front: ProgressFront::new(alloc, change, step)?,
             back,
         })
     }
@@ -70,12 +50,7 @@ impl ProgressFrame {
     pub fn is_of(&self, change: &Change, step: StepKind) -> bool
         ensures { IsTrue result → self.now ≡ kept_step change.now step }
     {
-        self.step == step
-            && self.address.as_str() == change.address()
-            && self.name.as_str() == change.name()
-            && self.kind_name.as_str() == change.kind_name()
-            && self.module_address.as_str() == change.module()
-            && is_same(&self.key, change.key())
+        self.front.is_of(change, step)
     }
 
     /// Appends a line up to its moment. `Err` where memory is refused.
@@ -84,12 +59,7 @@ impl ProgressFrame {
             ++ (front_text self.now.change.address self.now.step
             ++ (elapsed_of seconds ++ codes " elapsed]\",\"@module\":\"terraform.ui\",\"@timestamp\":"))) }
     {
-        let front = self.front.as_str();
-        let elapsed = Elapsed { seconds };
-        write!(
-            line,
-            "{front}{elapsed} elapsed]\",\"@module\":\"terraform.ui\",\"@timestamp\":"
-        )
+        self.front.push(line, seconds)
     }
 
     /// Appends a line from behind its moment on. `Err` where memory is refused.
@@ -98,25 +68,13 @@ impl ProgressFrame {
             ++ (codes ",\"hook\":{\"action\":\"" ++ (action_word self.now.step
             ++ (codes "\",\"elapsed_seconds\":" ++ (decimal seconds ++ (codes "," ++ back_text self.now.change)))))) }
     {
-        let action = StepWords::new(self.step).action;
+        let action = StepWords::new(self.front.step()).action;
         let back = self.back.as_str();
         write!(
             line,
             ",\"hook\":{{\"action\":\"{action}\",\"elapsed_seconds\":{seconds},{back}"
         )
     }
-}
-
-/// A line up to the time in its message.
-fn front_of(alloc: Global, address: &str, step: StepKind) -> Result<String, AllocError>
-    ensures { IfOk result (λ front. string_bytes front ≡ front_text address.now step) }
-{
-    let word = StepWords::new(step).still;
-    let text = format!(in alloc; "{address}: Still {word}... [")?;
-    let open = open_text(alloc, text.as_str())?;
-    let mut front = String::from_str(alloc, "{\"@level\":\"info\",\"@message\":")?;
-    front.push_str(open.as_str())?;
-    Ok(front)
 }
 
 /// A line from behind the seconds on.

@@ -7,7 +7,7 @@ ghost use Rattle.apply_text.specs.Message.{progress_message};
 ghost use Rattle.apply_text.specs.Start.{last_second};
 
 use crate::cached_parts::frame::ProgressFrame;
-use crate::cached_parts::kept_date::KeptDate;
+use crate::cached_parts::kept_date::{KeptDate, keep_date};
 use apply_model::{Change, StepKind};
 use std::alloc::{AllocError, Global};
 
@@ -121,19 +121,5 @@ fn keep_frame(
         }
     }
     *place = Some(ProgressFrame::new(alloc, change, step)?);
-    Ok(())
-}
-
-/// Sees that the date is that of the moment. `Err` where memory is refused.
-fn keep_date(alloc: Global, place: &mut Option<KeptDate>, moment: u64) -> Result<(), AllocError>
-    requires { moment ≤ last_second }
-    ensures { OnOk result (place.new ≡ Some (moment / 86400)) }
-{
-    if let Some(date) = place {
-        if date.is_of(moment) {
-            return Ok(());
-        }
-    }
-    *place = Some(KeptDate::new(alloc, moment)?);
     Ok(())
 }

@@ -1,8 +1,8 @@
 //! The date of moments of one day.
 
-ghost use Rattle.std.specs.Prelude.{◌≡◌, ◌≤◌, ◌<◌, ◌/◌, ◌++◌, string_bytes, IfOk, OnOk, IsTrue, ◌↔◌};
+ghost use Rattle.std.specs.Prelude.{◌≡◌, ◌≤◌, ◌<◌, ◌/◌, ◌%◌, ◌++◌, string_bytes, Some, IfOk, OnOk, IsTrue, ◌↔◌};
 ghost use Rattle.json.specs.Print.{quoted};
-ghost use Rattle.apply_text.specs.CachedParts.{open_date, rest_of_day};
+ghost use Rattle.apply_text.specs.CachedParts.{open_date, time_of_day};
 ghost use Rattle.apply_text.specs.Moment.{moment_text, two_digits};
 ghost use Rattle.apply_text.specs.Start.{last_second};
 
@@ -58,29 +58,52 @@ impl KeptDate {
         self.day == seconds / DAY
     }
 
+    /// Appends a moment of this day in JSON, up to its second. `Err` where memory is refused.
+    pub fn push_second(&self, line: &mut String, seconds: u64) -> Result<(), AllocError>
+        requires { self.now ≡ seconds / 86400 }
+        ensures { OnOk result (string_bytes line.new
+            ≡ string_bytes line.old ++ (open_date (seconds / 86400) ++ time_of_day (seconds % 86400))) }
+    {
+        line.push_str(self.date.as_str())?;
+        push_time(line, seconds % DAY)
+    }
+
     /// Appends a moment of this day in JSON. `Err` where memory is refused.
     pub fn push_moment(&self, line: &mut String, seconds: u64) -> Result<(), AllocError>
         requires { self.now ≡ seconds / 86400 }
         ensures { OnOk result
             (string_bytes line.new ≡ string_bytes line.old ++ quoted (moment_text seconds)) }
     {
-        line.push_str(self.date.as_str())?;
-        push_time(line, seconds % DAY)
+        self.push_second(line, seconds)?;
+        line.push_str("Z\"")
     }
 }
 
-/// Appends what stands behind the date, of a moment at that second of its day.
+/// Sees that the date is that of the moment. `Err` where memory is refused.
+pub fn keep_date(alloc: Global, place: &mut Option<KeptDate>, moment: u64) -> Result<(), AllocError>
+    requires { moment ≤ last_second }
+    ensures { OnOk result (place.new ≡ Some (moment / 86400)) }
+{
+    if let Some(date) = place {
+        if date.is_of(moment) {
+            return Ok(());
+        }
+    }
+    *place = Some(KeptDate::new(alloc, moment)?);
+    Ok(())
+}
+
+/// Appends what stands behind the date, of a moment at that second of its day, up to the second.
 fn push_time(line: &mut String, second: u64) -> Result<(), AllocError>
     requires { second < 86400 }
-    ensures { OnOk result (string_bytes line.new ≡ string_bytes line.old ++ rest_of_day second) }
+    ensures { OnOk result (string_bytes line.new ≡ string_bytes line.old ++ time_of_day second) }
 {
     line.push_str("T")?;
     push_two_digits(line, second / 3600)?;
     line.push_str(":")?;
     push_two_digits(line, second / 60 % 60)?;
     line.push_str(":")?;
-    push_two_digits(line, second % 60)?;
-    line.push_str("Z\"")
+    push_two_digits(line, second % 60)
 }
 
 /// Appends a number below 100 in two digits.

@@ -1,0 +1,22 @@
+-- Texts that stay the same from line to line, for private clauses.
+use Rattle.std.specs.Prelude.{ℕ, List, ◌++◌, codes, Some, None}
+use Rattle.serde_json.specs.Written.{compact_text}
+use Rattle.apply_model.specs.declared.plan.step_kind.StepKind.{StepKind}
+use Rattle.apply_model.specs.Plan.ResourceChange.{ResourceChange}
+use Rattle.apply_text.specs.Lines.{message_object, typed}
+use Rattle.apply_text.specs.Message.{progress_message}
+use Rattle.apply_text.specs.Words.{action_word}
+use Rattle.apply_form.specs.Moment.{fine_text}
+use Rattle.apply_form.specs.Objects.{hook_object, resource_object}
+
+-- a line of progress from behind its moment up to the seconds
+unfoldable pub back_text : ResourceChange → StepKind → List ℕ
+back_text change step =
+    codes ",\"hook\":{" ++ ((codes "\"resource\":" ++ compact_text (resource_object change)) ++ (codes ",\"action\":\"" ++ (action_word step ++ codes "\",\"elapsed_seconds\":")))
+
+-- the message of a step's progress, before its escapes
+abbrev pub progress_text : (moment : ℕ) → ResourceChange → StepKind → (seconds : ℕ) → List ℕ
+progress_text moment change step seconds =
+    let message = progress_message change step seconds in
+    compact_text (message_object message.level message.text (fine_text moment)
+    (typed message.name (hook_object change step (Some seconds) None) message.type_name))
