@@ -53,10 +53,22 @@ unfolding hook_object json_on_literals
 hook_is change step seconds rest = simp append_assoc
 
 -- the pieces, one behind the other
+in_a_row : (a front elapsed m moment z h resource c action d seconds e : List ℕ)
+    → (((a ++ front) ++ (elapsed ++ m)) ++ moment) ++ (z ++ ((h ++ (resource ++ (c ++ (action ++ d)))) ++ (seconds ++ e)))
+    ≡ a ++ (front ++ (elapsed ++ (m ++ (moment ++ (z ++ (h ++ (resource ++ (c ++ (action ++ (d ++ (seconds ++ e)))))))))))
+in_a_row a front elapsed m moment z h resource c action d seconds e = simp append_assoc
+
+as_message : (a front elapsed q m moment z h r resource c action quote d seconds e : List ℕ)
+    → a ++ ((front ++ (elapsed ++ q)) ++ (m ++ ((moment ++ z) ++ (h ++ ((r ++ resource) ++ (c ++ ((action ++ quote) ++ (d ++ (seconds ++ e)))))))))
+    ≡ a ++ (front ++ (elapsed ++ (q ++ (m ++ (moment ++ (z ++ (h ++ (r ++ (resource ++ (c ++ (action ++ (quote ++ (d ++ (seconds ++ e))))))))))))))
+as_message a front elapsed q m moment z h r resource c action quote d seconds e = simp append_assoc
+
 assembled : (front elapsed moment action seconds resource : List ℕ)
     → (((codes "{\"@level\":\"info\",\"@message\":" ++ (34 ∷ front)) ++ (elapsed ++ codes " elapsed]\",\"@module\":\"terraform.ui\",\"@timestamp\":")) ++ moment) ++ (codes ".000000Z\"" ++ ((codes ",\"hook\":{" ++ ((codes "\"resource\":" ++ resource) ++ (codes ",\"action\":\"" ++ (action ++ codes "\",\"elapsed_seconds\":")))) ++ (seconds ++ codes "},\"type\":\"apply_progress\"}")))
     ≡ codes "{\"@level\":\"info\",\"@message\":" ++ ((34 ∷ (front ++ (elapsed ++ codes " elapsed]\""))) ++ (codes ",\"@module\":\"terraform.ui\",\"@timestamp\":" ++ ((moment ++ codes ".000000Z\"") ++ (codes ",\"hook\":" ++ (codes "{\"resource\":" ++ (resource ++ (codes ",\"action\":" ++ ((34 ∷ (action ++ 34 ∷ [])) ++ (codes ",\"elapsed_seconds\":" ++ (seconds ++ (codes "}" ++ codes ",\"type\":\"apply_progress\"}")))))))))))
-assembled front elapsed moment action seconds resource = simp append_assoc
+assembled front elapsed moment action seconds resource =
+    in_a_row (codes "{\"@level\":\"info\",\"@message\":") (34 ∷ front) elapsed (codes " elapsed]\",\"@module\":\"terraform.ui\",\"@timestamp\":") moment (codes ".000000Z\"") (codes ",\"hook\":{") (codes "\"resource\":" ++ resource) (codes ",\"action\":\"") action (codes "\",\"elapsed_seconds\":") seconds (codes "},\"type\":\"apply_progress\"}")
+    ∙ sym (as_message (codes "{\"@level\":\"info\",\"@message\":") (34 ∷ front) elapsed (codes " elapsed]\"") (codes ",\"@module\":\"terraform.ui\",\"@timestamp\":") moment (codes ".000000Z\"") (codes ",\"hook\":") (codes "{\"resource\":") resource (codes ",\"action\":\"") action (34 ∷ []) (codes ",\"elapsed_seconds\":") seconds (codes "}" ++ codes ",\"type\":\"apply_progress\"}"))
 
 pub pieces_are : (change : ResourceChange) (step : StepKind) (moment seconds : ℕ)
     → ((front_text change.address step ++ (elapsed_of seconds ++ codes " elapsed]\",\"@module\":\"terraform.ui\",\"@timestamp\":")) ++ (open_date (moment / 86400) ++ time_of_day (moment % 86400))) ++ (codes ".000000Z\"" ++ (back_text change step ++ (decimal seconds ++ codes "},\"type\":\"apply_progress\"}")))
@@ -88,3 +100,8 @@ back_shown change step = refl
 pub resource_is : (bytes : List ℕ) (change : ResourceChange) → bytes ≡ quoted (codes "resource") ++ 58 ∷ compact_text (resource_object change) → bytes ≡ codes "\"resource\":" ++ compact_text (resource_object change)
 unfolding json_on_literals
 resource_is bytes change is = is
+
+pub back_is : (bytes resource action : List ℕ) (change : ResourceChange) (step : StepKind) → bytes ≡ codes ",\"hook\":{" ++ (resource ++ (codes ",\"action\":\"" ++ (action ++ codes "\",\"elapsed_seconds\":")))
+    → resource ≡ codes "\"resource\":" ++ compact_text (resource_object change) → action ≡ action_word step → bytes ≡ back_text change step
+unfolding back_text
+back_is bytes resource action change step is resources actions = is ∙ ap₂ (λ r a. codes ",\"hook\":{" ++ (r ++ (codes ",\"action\":\"" ++ (a ++ codes "\",\"elapsed_seconds\":")))) resources actions
