@@ -33,6 +33,7 @@ fn push_parts(lines: &mut Vec<u8>, text: &[u8]) -> Result<(), AllocError>
     ensures ok { OnOk result (lines.new.items ≡ lines.old.items ++ line_of_text text.now) }
     ensures behind { take (length lines.old.items) lines.new.items ≡ lines.old.items }
 {
+    lines.reserve(text.len() + 1)?;
     push_escaped(lines, text)?;
     lines.extend_from_slice(b"\n")
 }

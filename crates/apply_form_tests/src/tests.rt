@@ -7,6 +7,7 @@
 ghost use Rattle.std.specs.Prelude.{◌≡◌, true};
 ghost use Rattle.apply_events.specs.Fits.{HasStep};
 
+mod cached_parts;
 mod escapes;
 mod lines;
 mod outputs;

@@ -1,0 +1,119 @@
+//! Lines of progress through one buffer. Whatever it told before, each is as one that is made by itself.
+
+use super::*;
+
+/// Fails where the first step of that change, after so many seconds, is told by a used buffer otherwise than by a new one.
+/// What both tell.
+fn told_alike(
+    rt: &impl Abort,
+    alloc: Global,
+    used: &mut FormBuffer,
+    plan: &Plan,
+    change: u32,
+    seconds: u32,
+) -> &'static [u8] {
+    let event = Event {
+        worker: 0,
+        change,
+        step: 0,
+        what: What::Progress(seconds),
+        at: 0,
+    };
+    let script = script_of(rt, alloc, NOTHING_SAID, plan);
+    let mut new = FormBuffer::new(alloc);
+    check_step(rt, plan, &event);
+    let pushed = new.push_event(plan, script, Start::zero(), 0, None, &event);
+    pushed.ok().expect(rt, "memory");
+    used.clear();
+    let pushed = used.push_event(plan, script, Start::zero(), 0, None, &event);
+    pushed.ok().expect(rt, "memory");
+    let alone = kept(rt, alloc, new).as_bytes();
+    holds(rt, "a line by itself", used.as_bytes() == alone);
+    alone
+}
+
+/// Plans of one change. Each shows something else, or takes another step.
+const LOOK_ALIKES: &str =
+    r#"{"format_version":"1.2","resource_changes":[{"address":"module.a.module.b.t_u.n","module_address":"module.a","mode":"managed","type":"t_u","name":"n","change":{"actions":["update"]}}]}
+{"format_version":"1.2","resource_changes":[{"address":"module.a.module.c.t_u.n","module_address":"module.a","mode":"managed","type":"t_u","name":"n","change":{"actions":["update"]}}]}
+{"format_version":"1.2","resource_changes":[{"address":"module.a.module.b.t_u.n","module_address":"module.a.module.b","mode":"managed","type":"t_u","name":"n","change":{"actions":["update"]}}]}
+{"format_version":"1.2","resource_changes":[{"address":"module.a.module.b.t_u.n","module_address":"module.a","mode":"managed","type":"t_v","name":"n","change":{"actions":["update"]}}]}
+{"format_version":"1.2","resource_changes":[{"address":"module.a.module.b.t_u.n","module_address":"module.a","mode":"managed","type":"t_u","name":"m","change":{"actions":["update"]}}]}
+{"format_version":"1.2","resource_changes":[{"address":"module.a.module.b.t_u.n","module_address":"module.a","mode":"managed","type":"t_u","name":"n","index":0,"change":{"actions":["update"]}}]}
+{"format_version":"1.2","resource_changes":[{"address":"module.a.module.b.t_u.n","module_address":"module.a","mode":"managed","type":"t_u","name":"n","index":"0","change":{"actions":["update"]}}]}
+{"format_version":"1.2","resource_changes":[{"address":"module.a.module.b.t_u.n","module_address":"module.a","mode":"managed","type":"t_u","name":"n","index":"null","change":{"actions":["update"]}}]}
+{"format_version":"1.2","resource_changes":[{"address":"module.a.module.b.t_u.n","module_address":"module.a","mode":"managed","type":"t_u","name":"n","change":{"actions":["create"]}}]}
+{"format_version":"1.2","resource_changes":[{"address":"module.a.module.b.t_u.n[\"<\"]","module_address":"module.a","mode":"managed","type":"t_u","name":"n","index":"<","change":{"actions":["update"]}}]}
+{"format_version":"1.2","resource_changes":[{"address":"module.a.module.b.t_u.n[\">&\u2028\"]","module_address":"module.a","mode":"managed","type":"t_u","name":"n","index":">&\u2028","change":{"actions":["update"]}}]}"#;
+
+/// Fails where the change of a plan is told otherwise before or behind one of another.
+fn is_told_beside_each(rt: &impl Abort, alloc: Global, used: &mut FormBuffer, plan: &Plan) {
+    for other in LOOK_ALIKES.lines() {
+        told_alike(rt, alloc, used, plan, 0, 20);
+        told_alike(rt, alloc, used, plan_of(rt, alloc, other), 0, 20);
+    }
+}
+
+/// Each behind each, and behind itself.
+#[test]
+fn changes_that_look_alike_are_told_apart(rt: HostRuntime) {
+    let mut used = FormBuffer::new(rt.alloc());
+    for plan in LOOK_ALIKES.lines() {
+        let plan = plan_of(&rt, rt.alloc(), plan);
+        is_told_beside_each(&rt, rt.alloc(), &mut used, plan);
+    }
+}
+
+/// A change of many, with its number in place of the percent sign.
+const UPDATE: &str =
+    r##"{"address":"a.b[\"%<&>\u2028é\"]","mode":"managed","type":"a","name":"b","index":"%<&>\u2028é","change":{"actions":["update"]}}"##;
+
+/// Its line, after so many seconds.
+const UPDATE_LINE: &str =
+    r##"{"@level":"info","@message":"a.b[\"%\u003c\u0026\u003e\u2028é\"]: Still modifying... [#s elapsed]","@module":"terraform.ui","@timestamp":"1970-01-01T00:00:00.000000Z","hook":{"resource":{"addr":"a.b[\"%\u003c\u0026\u003e\u2028é\"]","module":"","resource":"a.b[\"%\u003c\u0026\u003e\u2028é\"]","implied_provider":"a","resource_type":"a","resource_name":"b","resource_key":"%\u003c\u0026\u003e\u2028é"},"action":"update","elapsed_seconds":#},"type":"apply_progress"}
+"##;
+
+/// More changes than texts are kept of.
+const UPDATES: u32 = 130;
+
+/// The text with a number in each place of the mark.
+fn put(rt: &impl Abort, alloc: Global, text: &str, mark: &str, number: u32) -> &'static str {
+    let number = number.to_string(alloc).expect(rt, "memory");
+    let text = text.replace(alloc, mark, kept(rt, alloc, number).as_str());
+    kept(rt, alloc, text.expect(rt, "memory")).as_str()
+}
+
+/// So many updates.
+fn updates(rt: &impl Abort, alloc: Global) -> &'static Plan {
+    let mut text = String::new(alloc);
+    let begun = text.push_str(r#"{"format_version":"1.2","resource_changes":["#);
+    begun.expect(rt, "memory");
+    for number in 1..UPDATES {
+        let change = put(rt, alloc, UPDATE, "%", number);
+        write!(text, "{change},").expect(rt, "memory");
+    }
+    let last = put(rt, alloc, UPDATE, "%", UPDATES);
+    write!(text, "{last}]}}").expect(rt, "memory");
+    plan_of(rt, alloc, kept(rt, alloc, text).as_str())
+}
+
+/// Fails where one of the updates is told otherwise.
+fn each_is_told(rt: &impl Abort, alloc: Global, used: &mut FormBuffer, plan: &Plan, seconds: u32) {
+    for change in 0..UPDATES {
+        let line = put(rt, alloc, UPDATE_LINE, "%", change + 1);
+        let line = put(rt, alloc, line, "#", seconds);
+        let told = told_alike(rt, alloc, used, plan, change, seconds);
+        compare(rt, "an update", told, line);
+    }
+}
+
+/// All of them go on at once, and are told of again and again.
+#[test]
+fn more_changes_than_are_kept_are_told_in_turn(rt: HostRuntime) {
+    let alloc = rt.alloc();
+    let plan = updates(&rt, alloc);
+    let mut used = FormBuffer::new(alloc);
+    each_is_told(&rt, alloc, &mut used, plan, 10);
+    each_is_told(&rt, alloc, &mut used, plan, 20);
+    each_is_told(&rt, alloc, &mut used, plan, 30);
+}
