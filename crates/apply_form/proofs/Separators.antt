@@ -1,5 +1,5 @@
 -- The characters U+2028 and U+2029 are in no line.
-use Rattle.std.proofs.Common.{◌≡◌, ℕ, ◌==◌, List, [], ◌∷◌, ◌++◌, codes, cond, drop, Bool, true, false, refl, sym, ap, ap₂, ◌∙◌}
+use Rattle.std.proofs.Common.{◌≡◌, ℕ, ◌==◌, List, [], ◌∷◌, ◌++◌, codes, cond, drop, Bool, true, false, refl, ap, ap₂, ◌∙◌}
 use Rattle.std.specs.Prelude.{◌&&◌, ◌||◌}
 use Rattle.apply_form.specs.Escapes.{begins_with, escaped}
 use Rattle.apply_form.specs.Laws.{has_separator, is_separator}

@@ -1,4 +1,4 @@
-use Rattle.std.proofs.Common.{◌≡◌, arith, length, rules}
+use Rattle.std.proofs.Common.{arith}
 use Rattle.apply_form.proofs.Escapes.{both_searches, searched_front}
 use Rattle.apply_form.proofs.escaping.plain_len.Goals as goal
 

@@ -1,4 +1,4 @@
-use Rattle.std.proofs.Common.{length, arith}
+use Rattle.std.proofs.Common.{arith}
 use Rattle.std.proofs.lemmas.List.{length-drop}
 use Rattle.apply_form.proofs.Escapes.{front_told, plain_told}
 use Rattle.apply_form.proofs.escaping.push_front.Goals as goal
