@@ -2,3 +2,4 @@
 pub mod Limits
 pub mod Outcome
 pub mod OutcomeMap
+pub mod Waits

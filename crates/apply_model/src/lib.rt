@@ -21,4 +21,6 @@ pub use script::provisioner::Provisioner;
 pub use script::provisioners::{MAX_PROVISIONERS, Provisioners};
 pub use script::step_outcomes::StepOutcomes;
 pub use script::texts::{MAX_OUTPUTS, Texts};
+pub use script::wait::Wait;
+pub use script::waits::{MAX_WAITS, Waits};
 pub use text::Text;

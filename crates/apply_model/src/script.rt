@@ -4,6 +4,7 @@ ghost use Rattle.std.specs.Prelude.{◌≡◌, ◌≤◌, [], IfSome};
 ghost use Rattle.std.specs.Option.{option_copied};
 ghost use Rattle.apply_model.specs.Script.Limits.{max_seconds};
 ghost use Rattle.apply_model.specs.Script.Outcome.{IsBounded, took};
+ghost use Rattle.apply_model.specs.Script.Waits.{has_waits, say_a_wait};
 
 pub mod diag;
 pub mod ending;
@@ -12,6 +13,8 @@ pub mod provisioner;
 pub mod provisioners;
 pub mod step_outcomes;
 pub mod texts;
+pub mod wait;
+pub mod waits;
 
 use crate::script::outcome::Outcome;
 use crate::script::step_outcomes::StepOutcomes;
@@ -70,5 +73,25 @@ impl Script {
     {
         let changes = self.changes.as_ref()?;
         changes.get(change as usize)?.as_ref()?.get(step as usize)
+    }
+
+    /// Whether it says of some step what it waits for.
+    pub fn has_waits(&self) -> bool
+        ensures { result ≡ has_waits self.now }
+    {
+        match &self.changes {
+            Some(changes) => changes.iter().any(say_a_wait),
+            None => false,
+        }
+    }
+}
+
+/// Whether the outcomes that may be said of a change name a step that one of them waits for.
+fn say_a_wait(said: &Option<StepOutcomes>) -> bool
+    ensures { result ≡ say_a_wait said.now }
+{
+    match said {
+        Some(outcomes) => outcomes.name_a_wait(),
+        None => false,
     }
 }

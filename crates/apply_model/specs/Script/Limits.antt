@@ -12,3 +12,7 @@ max_provisioners = 8
 -- the texts that a provisioner puts out
 abbrev pub max_outputs : ℕ
 max_outputs = 100
+
+-- the items of `after` in a script
+abbrev pub max_waits : ℕ
+max_waits = 1000000

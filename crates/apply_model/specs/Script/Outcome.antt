@@ -7,7 +7,7 @@ use Rattle.apply_model.specs.declared.script.ending.Ending.{Ending}
 use Rattle.apply_model.specs.declared.script.ending.Ending.TheVariants.{Done, Failed}
 use Rattle.apply_model.specs.declared.script.outcome.Outcome.{Outcome}
 use Rattle.apply_model.specs.declared.script.provisioner.Provisioner.{Provisioner}
-use Rattle.apply_model.specs.Script.Limits.{max_seconds, max_provisioners, max_outputs}
+use Rattle.apply_model.specs.Script.Limits.{max_seconds, max_provisioners, max_outputs, max_waits}
 
 -- ---- which provisioners run
 
@@ -80,9 +80,10 @@ pub record IsBounded (outcome : Outcome) : Type 0 where
   pub short : seconds_in_all outcome ≤ max_seconds
   pub few_provisioners : length outcome.provisioners ≤ max_provisioners
   pub little_output : All (λ provisioner. length provisioner.output ≤ max_outputs) outcome.provisioners
+  pub few_waits : length outcome.after ≤ max_waits
 
 -- ---- a step of which nothing is said
 
 -- the outcome of a step of which a script says nothing
 abbrev pub default_outcome : Outcome
-default_outcome = record { seconds = 0; provisioners = []; result = Done None None }
+default_outcome = record { seconds = 0; provisioners = []; result = Done None None; after = [] }

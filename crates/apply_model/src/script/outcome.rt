@@ -6,6 +6,7 @@ ghost use Rattle.std.specs.Option.{option_copied};
 use crate::script::diag::Diag;
 use crate::script::ending::Ending;
 use crate::script::provisioners::Provisioners;
+use crate::script::waits::Waits;
 
 /// The greatest number of seconds that a step may take in a script, with all its provisioners: a day.
 pub const MAX_SECONDS: u32 = 86_400;
@@ -20,10 +21,14 @@ pub struct Outcome {
     pub provisioners: Provisioners,
     /// How the provider ends.
     pub result: Ending,
+    /// The steps for which the step waits, beside the one before it in its change. They are looked at where changes are
+    /// applied with a parallelism.
+    pub after: Waits,
 }
 
 impl Outcome {
     ghost use Rattle.apply_model.specs.Script.Outcome.{failure_of, fails, took};
+    ghost use Rattle.apply_model.specs.Script.Waits.{names_a_wait};
 
     /// How long the step takes, in seconds: the provider, and the provisioners that run, which are those up to and with
     /// the first that fails.
@@ -49,5 +54,12 @@ impl Outcome {
             Ending::Failed { diag } => Some(diag),
             Ending::Done { .. } => self.provisioners.first_failure(),
         }
+    }
+
+    /// Whether it names a step for which it waits.
+    pub fn names_a_wait(&self) -> bool
+        ensures { result ≡ names_a_wait self.now }
+    {
+        self.after.len() > 0
     }
 }

@@ -1,7 +1,9 @@
 //! The outcomes of the steps of one change.
 
-ghost use Rattle.std.specs.Prelude.{◌≡◌, slice_get};
+ghost use Rattle.std.specs.Prelude.{◌≡◌, length, slice_get};
+ghost use Rattle.std.specs.List.{list_any};
 ghost use Rattle.std.specs.Option.{option_copied};
+ghost use Rattle.apply_model.specs.Script.Waits.{names_a_wait};
 
 use crate::script::outcome::Outcome;
 use std::marker::Model;
@@ -29,10 +31,24 @@ impl StepOutcomes {
         StepOutcomes { outcomes }
     }
 
+    /// How many they are.
+    pub fn len(&self) -> usize
+        ensures { result ≡ length self.now }
+    {
+        self.outcomes.len()
+    }
+
     /// The outcome of the step of that number, counted from 0. `None` where it is not given.
     pub fn get(&self, step: usize) -> Option<&Outcome>
         ensures { option_copied result ≡ slice_get self.now step }
     {
         self.outcomes.get(step)
+    }
+
+    /// Whether one of them names a step that it waits for.
+    pub fn name_a_wait(&self) -> bool
+        ensures { result ≡ list_any names_a_wait self.now }
+    {
+        self.outcomes.iter().any(Outcome::names_a_wait)
     }
 }
