@@ -1,10 +1,16 @@
 -- Scripts: how they are read, and what is seen of the types that read one. What they are is passed on.
 pub use Rattle.apply_model.specs.Script.Limits
 pub use Rattle.apply_model.specs.Script.Outcome
+pub use Rattle.apply_model.specs.Script.Waits
+pub mod Beginning
 pub mod ChangeNumbers
 pub mod Entry
+pub mod Marks
 pub mod NextEntry
 pub mod OutcomeMap
+pub mod Placed
 pub mod Refusals
 pub mod Selection
 pub mod TreeView
+pub mod WaitedStep
+pub mod WaitedView

@@ -7,8 +7,8 @@ mod plan;
 mod script;
 
 pub use apply_model::{
-    Change, Diag, Ending, Key, MAX_CHANGES, MAX_OUTPUTS, MAX_PROVISIONERS, MAX_SECONDS, Mode,
-    Outcome, Plan, Provisioner, Provisioners, Script, StepKind, Text, Texts,
+    Change, Diag, Ending, Key, MAX_CHANGES, MAX_OUTPUTS, MAX_PROVISIONERS, MAX_SECONDS, MAX_WAITS,
+    Mode, Outcome, Plan, Provisioner, Provisioners, Script, StepKind, Text, Texts, Wait, Waits,
 };
 pub use bytes::MAX_BYTES;
 pub use plan::plan_error::PlanError;

@@ -1,6 +1,9 @@
 //! How a script of outcomes is read.
 
+pub mod beginning;
 pub mod change_numbers;
+pub mod mark;
+pub mod marks;
 pub mod reading;
 pub mod script_error;
 pub mod script_shape;
@@ -9,3 +12,5 @@ pub mod tree_ending;
 pub mod tree_entry;
 pub mod tree_provisioner;
 pub mod tree_step;
+pub mod tree_wait;
+pub mod waited;

@@ -14,6 +14,7 @@ mod script_members;
 mod scripts;
 mod table;
 mod trimming;
+mod waits;
 
 use self::table::{compare, named};
 use apply_plan::{Plan, Script, Text, read_plan, read_script};

@@ -1,5 +1,6 @@
 -- An entry of a script: its members, each under its rule (the script's own format).
 use Rattle.std.specs.Prelude.{ℕ, List, [], ◌∷◌, codes, length, map, ◌&&◌, nat_lt, if◌then◌else◌, Option, Some, None, option_map}
+use Rattle.std.specs.Option.{option_map_or}
 use Rattle.serde_json.specs.Data.{Data}
 use Rattle.serde_json.specs.Find.{as_array, as_number, as_str, as_u64}
 use Rattle.apply_model.specs.declared.script.diag.Diag.{Diag}
@@ -10,10 +11,22 @@ use Rattle.apply_model.specs.declared.script.provisioner.Provisioner.{Provisione
 use Rattle.apply_model.specs.Script.Outcome.{is_failed}
 use Rattle.apply_json.specs.Tree.{◌>>=◌, unless_empty, items_or_empty, list_of, member_of, non_empty_text_of, text_of, text_or}
 
+-- an item of `after`: it names a step of the change with that address, and that deposed key or none, by its number or,
+-- where it has none, the last one
+pub record WaitName : Type 0 where
+  pub address : List ℕ
+  pub deposed : Option (List ℕ)
+  pub step : Option ℕ
+
+-- a step: what comes of it, but for the steps that it waits for, and the items that name these
+pub record EntryStep : Type 0 where
+  pub outcome : Outcome
+  pub after : List WaitName
+
 pub record Entry : Type 0 where
   pub address : List ℕ
   pub deposed : Option (List ℕ)
-  pub steps : List Outcome
+  pub steps : List EntryStep
 
 -- a diagnostic: a summary, and a detail that may be absent, which is then empty
 abbrev pub diag_from : Data → Option Diag
@@ -73,15 +86,39 @@ abbrev pub with_provisioners : (seconds : ℕ) → Ending → List Provisioner �
 with_provisioners seconds result provisioners =
     if is_failed result && nat_lt 0 (length provisioners)
     then None
-    else Some (record { seconds = seconds; provisioners = provisioners; result = result })
+    else Some (record { seconds = seconds; provisioners = provisioners; result = result; after = [] })
+
+-- the number of a step, which may be absent: a whole number that fits 64 bits
+abbrev pub number_or_none : Option Data → Option (Option ℕ)
+number_or_none None = Some None
+number_or_none (Some d) = option_map Some (as_number d >>= as_u64)
+
+-- an item of `after` that is an object
+unfoldable pub wait_of_members : Data → Option WaitName
+wait_of_members d = do
+  address ← text_of (codes "address") d
+  deposed ← text_or [] (member_of (codes "deposed") d)
+  step ← number_or_none (member_of (codes "step") d)
+  Some (record { address = address; deposed = unless_empty deposed; step = step })
+
+-- an item of `after`: a text is an address and nothing else
+abbrev pub wait_from : Data → Option WaitName
+wait_from d =
+    option_map_or (λ address. Some (record { address = address; deposed = None; step = None })) (as_str d)
+    (wait_of_members d)
+
+-- a step with the items of its `after`
+abbrev pub entry_step : List WaitName → Outcome → EntryStep
+entry_step after outcome = record { outcome = outcome; after = after }
 
 -- a step
-unfoldable pub step_from : Data → Option Outcome
+unfoldable pub step_from : Data → Option EntryStep
 step_from d = do
   seconds ← seconds_of d
   result ← ending_of d
   provisioners ← each_of provisioner_from (member_of (codes "provisioners") d)
-  with_provisioners seconds result provisioners
+  after ← each_of wait_from (member_of (codes "after") d)
+  option_map (entry_step after) (with_provisioners seconds result provisioners)
 
 -- the entry's members; none where one of them breaks its rule
 unfoldable pub entry_of : Data → Option Entry

@@ -1,12 +1,12 @@
 -- What a script says of the steps of a plan, or the first refusal (the script's own format).
-use Rattle.std.specs.Prelude.{ℕ, List, length, map, find, Bool, false, ◌==◌, codes, if◌then◌else◌, Option, Some, None, option_map, Result, Ok, Err}
-use Rattle.std.specs.List.{enumerate_from, list_any, range_with_len}
+use Rattle.std.specs.Prelude.{ℕ, List, length, map, find, sum_by, Bool, false, not, ◌==◌, codes, if◌then◌else◌, Option, Some, None, option_map, Result, Err}
+use Rattle.std.specs.List.{enumerate_from, list_any, position_from, range_with_len}
 use Rattle.std.specs.Option.{option_map_or}
 use Rattle.serde_json.specs.Data.{Data, Items}
 use Rattle.serde_json.specs.Find.{as_array}
 use Rattle.apply_model.specs.declared.script.outcome.Outcome.{Outcome}
 use Rattle.apply_plan.specs.declared.script.script_error.ScriptError.{ScriptError}
-use Rattle.apply_plan.specs.declared.script.script_error.ScriptError.TheVariants.{TooLarge, NotJson, BadShape, UnknownChange, Duplicate}
+use Rattle.apply_plan.specs.declared.script.script_error.ScriptError.TheVariants.{TooLarge, NotJson, BadShape, UnknownChange, Duplicate, NeverBegins}
 use Rattle.apply_json.specs.Tree as json
 use Rattle.apply_json.specs.Tree.{list_of, member_of}
 use Rattle.apply_plan.specs.Bytes.{of_bytes}
@@ -14,9 +14,11 @@ use Rattle.apply_plan.specs.Plan.ObjectName.{name_one_object}
 use Rattle.apply_model.specs.Plan.ResourceChange.{ResourceChange}
 use Rattle.apply_model.specs.Plan.SavedPlan.{SavedPlan}
 use Rattle.apply_plan.specs.Results.{◌>>=◌, all_or_first, each_with_earlier, or_refuse, unless_refused}
-use Rattle.apply_plan.specs.Script.Entry.{Entry, entry_of}
+use Rattle.apply_plan.specs.Script.Entry.{Entry, EntryStep, entry_of}
 pub use Rattle.apply_model.specs.Script.OutcomeMap.{IsInRange, OutcomeMap, given_outcome, outcome_of, said_at}
-use Rattle.apply_plan.specs.Script.Refusals.{fault_of_steps}
+use Rattle.apply_model.specs.Script.Waits.{could_begin}
+use Rattle.apply_plan.specs.Script.Refusals.{count_of_waits, fault_of_entry}
+use Rattle.apply_plan.specs.Script.WaitedStep.{outcome_said}
 
 -- ---- entries
 
@@ -32,28 +34,53 @@ change_of_entry changes entry = find (λ p. is_about p.1 entry) (enumerate_from 
 abbrev pub names_change : ResourceChange → Data → Bool
 names_change change d = option_map_or (is_about change) (entry_of d) false
 
--- what an entry says: the number of its change, and the outcomes; or the first fault that holds of it
-unfoldable pub entry_at : List ResourceChange → List Data → Data → Result (ℕ × List Outcome) ScriptError
+-- how many items the `after` of an element have, which is an entry
+abbrev pub count_in : Data → ℕ
+count_in d = option_map_or (λ entry. count_of_waits entry.steps) (entry_of d) 0
+
+-- what an entry says: the number of its change, the outcomes of the first steps of that, and how many items of `after` it has
+pub record Said : Type 0 where
+  pub change : ℕ
+  pub outcomes : List Outcome
+  pub waits : ℕ
+
+abbrev pub said_by : List ResourceChange → (number : ℕ) → List EntryStep → Said
+said_by changes number steps =
+    record { change = number; outcomes = map (outcome_said changes) steps; waits = count_of_waits steps }
+
+-- what an entry says, or the first fault that holds of it
+unfoldable pub entry_at : List ResourceChange → List Data → Data → Result Said ScriptError
 entry_at changes before d = do
   entry ← or_refuse (BadShape (Some (length before))) (entry_of d)
   found ← or_refuse (UnknownChange (length before)) (change_of_entry changes entry)
   if list_any (names_change found.1) before then Err (Duplicate (length before))
-      else unless_refused (fault_of_steps (length before) found.1.steps entry.steps) (found.0, entry.steps)
+      else unless_refused
+      (fault_of_entry (length before) changes (sum_by count_in before) found.1.steps entry.steps)
+      (said_by changes found.0 entry.steps)
 
 -- what the entries say of a change
-abbrev pub said_of : List (ℕ × List Outcome) → ℕ → Option (List Outcome)
-said_of entries number = option_map (λ entry. entry.1) (find (λ entry. entry.0 == number) entries)
+abbrev pub said_of : List Said → ℕ → Option (List Outcome)
+said_of entries number = option_map (λ entry. entry.outcomes) (find (λ entry. entry.change == number) entries)
 
 -- what they say of each change
-abbrev pub by_number : ℕ → List (ℕ × List Outcome) → OutcomeMap
+abbrev pub by_number : ℕ → List Said → OutcomeMap
 by_number count entries = map (said_of entries) (range_with_len 0 count)
+
+-- a step of which the entry says something could never begin
+abbrev pub is_stuck : OutcomeMap → Said → Bool
+is_stuck script entry =
+    list_any (λ step. not (could_begin script entry.change step)) (range_with_len 0 (length entry.outcomes))
+
+-- what the entries say, unless a step of one could never begin: then the first such entry
+abbrev pub unless_stuck : List Said → OutcomeMap → Result OutcomeMap ScriptError
+unless_stuck entries script = unless_refused (option_map NeverBegins (position_from (is_stuck script) 0 entries)) script
 
 -- ---- the script
 
 unfoldable pub script_of_entries : SavedPlan → List Data → Result OutcomeMap ScriptError
 script_of_entries plan elements = do
   entries ← all_or_first (each_with_earlier (entry_at plan.changes) elements)
-  Ok (by_number (length plan.changes) entries)
+  unless_stuck entries (by_number (length plan.changes) entries)
 
 -- the elements of the array `changes`
 abbrev pub elements_of : Data → Option Items

@@ -1,13 +1,18 @@
--- What is wrong with the steps of an entry, beside their members (the script's own format).
-use Rattle.std.specs.Prelude.{ℕ, List, length, Bool, not, ◌&&◌, nat_lt, if◌then◌else◌, Option, Some, None}
+-- What is wrong with the steps of an entry, beside their members, and with what they wait for (the script's own format).
+use Rattle.std.specs.Prelude.{ℕ, ◌+◌, List, length, map, sum_by, Bool, false, not, ◌&&◌, is_none, nat_le, nat_lt, if◌then◌else◌, Option, Some, None}
 use Rattle.std.specs.List.{list_any, zip}
+use Rattle.std.specs.Option.{option_map_or, option_or}
 use Rattle.apply_model.specs.declared.plan.step_kind.StepKind.{StepKind}
 use Rattle.apply_model.specs.declared.plan.step_kind.StepKind.TheVariants.{Create}
 use Rattle.apply_model.specs.declared.script.outcome.Outcome.{Outcome}
 use Rattle.apply_plan.specs.declared.script.script_error.ScriptError.{ScriptError}
-use Rattle.apply_plan.specs.declared.script.script_error.ScriptError.TheVariants.{TooManySteps, SecondsRange, TooManyProvisioners, TooMuchOutput, NotACreate}
+use Rattle.apply_plan.specs.declared.script.script_error.ScriptError.TheVariants.{TooManySteps, SecondsRange, TooManyProvisioners, TooMuchOutput, NotACreate, TooManyWaits, UnknownWait, NoSuchStep}
+use Rattle.apply_model.specs.Plan.ResourceChange.{ResourceChange}
 use Rattle.apply_model.specs.Plan.StepKind.{is_kind}
+use Rattle.apply_model.specs.Script.Limits.{max_waits}
 use Rattle.apply_model.specs.Script.Outcome.{has_too_many_provisioners, has_too_much_output, is_too_long}
+use Rattle.apply_plan.specs.Script.Entry.{EntryStep, WaitName}
+use Rattle.apply_plan.specs.Script.WaitedStep.{change_waited}
 
 -- a step has provisioners, and is no create
 abbrev pub misplaces_provisioners : StepKind × Outcome → Bool
@@ -22,3 +27,39 @@ fault_of_steps n kinds steps =
     else if list_any has_too_much_output steps then Some (TooMuchOutput n)
     else if list_any misplaces_provisioners (zip kinds steps) then Some (NotACreate n)
     else None
+
+-- how many items the `after` of some steps have
+abbrev pub count_of_waits : List EntryStep → ℕ
+count_of_waits steps = sum_by (λ step. length step.after) steps
+
+-- one of these items passes a test
+abbrev pub is_any_wait : (WaitName → Bool) → List EntryStep → Bool
+is_any_wait test steps = list_any (λ step. list_any test step.after) steps
+
+-- no change of the plan has the name
+abbrev pub is_unknown : List ResourceChange → WaitName → Bool
+is_unknown changes name = is_none (change_waited changes name)
+
+-- a change has the name, and no step of that number
+abbrev pub lacks_step : List ResourceChange → WaitName → Bool
+lacks_step changes name =
+    option_map_or
+    (λ found. option_map_or (λ number. nat_le (length found.1.steps) number) name.step false)
+    (change_waited changes name) false
+
+-- the first fault of the items of entry n by themselves
+abbrev pub fault_of_names : (n : ℕ) → List ResourceChange → List EntryStep → Option ScriptError
+fault_of_names n changes steps =
+    if is_any_wait (is_unknown changes) steps then Some (UnknownWait n)
+    else if is_any_wait (lacks_step changes) steps then Some (NoSuchStep n)
+    else None
+
+-- the first fault of what the steps of entry n wait for, where the entries before it have so many items
+unfoldable pub fault_of_waits : (n : ℕ) → List ResourceChange → (earlier : ℕ) → List EntryStep → Option ScriptError
+fault_of_waits n changes earlier steps =
+    if nat_lt max_waits (earlier + count_of_waits steps) then Some (TooManyWaits n) else fault_of_names n changes steps
+
+-- the first fault of the steps of entry n, which belong to the first of these steps of a change
+abbrev pub fault_of_entry : (n : ℕ) → List ResourceChange → (earlier : ℕ) → List StepKind → List EntryStep → Option ScriptError
+fault_of_entry n changes earlier kinds steps =
+    option_or (fault_of_steps n kinds (map (λ step. step.outcome) steps)) (fault_of_waits n changes earlier steps)

@@ -1,5 +1,5 @@
 -- What contracts see of a script's entry that stands in the tree, for the private types that read one.
-use Rattle.std.specs.Prelude.{ℕ, List, [], codes, map, Option, Some, option_map}
+use Rattle.std.specs.Prelude.{ℕ, List, [], codes, length, map, nat_lt, sum_by, if◌then◌else◌, Option, Some, None, option_map}
 use Rattle.std.specs.Option.{option_copied}
 use denote.Ref.{Bor}
 use Rattle.serde_json.specs.Data.{Data, Items}
@@ -17,8 +17,9 @@ use Rattle.apply_plan.specs.declared.script.tree_ending.TreeEnding.TheVariants a
 use Rattle.apply_plan.specs.declared.script.tree_entry.TreeEntry.{TreeEntry}
 use Rattle.apply_plan.specs.declared.script.tree_provisioner.TreeProvisioner.{TreeProvisioner}
 use Rattle.apply_plan.specs.declared.script.tree_step.TreeStep.{TreeStep}
+use Rattle.apply_plan.specs.declared.script.tree_wait.TreeWait.{TreeWait}
 use Rattle.apply_json.specs.Tree.{◌>>=◌, member_of, text_of, text_or, unless_empty}
-use Rattle.apply_plan.specs.Script.Entry.{Entry}
+use Rattle.apply_plan.specs.Script.Entry.{Entry, EntryStep, WaitName}
 
 abbrev pub diag_view : TreeDiag → Diag
 diag_view diag = record { summary = diag.summary.now; detail = diag.detail.now }
@@ -38,18 +39,29 @@ provisioner_view provisioner = record {
   failed = option_map diag_view provisioner.failed;
 }
 
+-- what comes of a step, but for the steps that it waits for
 abbrev pub step_view : TreeStep → Outcome
 step_view step = record {
   seconds = step.seconds;
   provisioners = map provisioner_view step.provisioners.items;
   result = ending_view step.result;
+  after = [];
 }
+
+abbrev pub wait_view : TreeWait → WaitName
+wait_view wait = record { address = wait.address.now; deposed = option_copied wait.deposed; step = wait.step }
+
+abbrev pub waits_view : List TreeWait → List WaitName
+waits_view waits = map wait_view waits
+
+abbrev pub entry_step_view : TreeStep → EntryStep
+entry_step_view step = record { outcome = step_view step; after = waits_view step.after.items }
 
 abbrev pub entry_view : TreeEntry → Entry
 entry_view entry = record {
   address = entry.address.now;
   deposed = option_copied entry.deposed;
-  steps = map step_view entry.steps.items;
+  steps = map entry_step_view entry.steps.items;
 }
 
 -- the members of an entry, with its steps still as values
@@ -63,3 +75,11 @@ members_of d = do
   list ← member_of (codes "steps") d
   items ← as_array list
   Some (address, unless_empty deposed, items)
+
+-- how many items the `after` of some steps have
+abbrev pub tree_waits : List TreeStep → ℕ
+tree_waits steps = sum_by (λ step. length step.after.items) steps
+
+-- the same, where they are so many at most
+abbrev pub waits_within : (limit : ℕ) → List TreeStep → Option ℕ
+waits_within limit steps = if nat_lt limit (tree_waits steps) then None else Some (tree_waits steps)

@@ -1,26 +1,32 @@
 //! Reading a script.
 
-ghost use Rattle.std.specs.Prelude.{◌≡◌, ◌<◌, ◌≤◌, [], find, length, option_map, IfOk};
+ghost use Rattle.std.specs.Prelude.{◌≡◌, ◌+◌, ◌<◌, ◌≤◌, [], find, length, map, option_map, All, IfOk};
 ghost use Rattle.std.specs.List.{enumerate_from};
 ghost use Rattle.serde_json.specs.View.{view, items_view};
 ghost use Rattle.apply_json.specs.Tree.{list_of};
+ghost use Rattle.apply_model.specs.Script.Limits.{max_waits};
+ghost use Rattle.apply_model.specs.Script.Outcome.{IsBounded};
 ghost use Rattle.apply_plan.specs.Bytes.{max_bytes};
 ghost use Rattle.apply_plan.specs.Results.{Gives};
 ghost use Rattle.apply_plan.specs.Plan.SeenObjects.{is_of};
 ghost use Rattle.apply_plan.specs.Script.ChangeNumbers.{number_of};
-ghost use Rattle.apply_plan.specs.Script.NextEntry.{entry_beside};
+ghost use Rattle.apply_plan.specs.Script.NextEntry.{entry_beside, outcomes_or_fault, said_view};
 ghost use Rattle.apply_plan.specs.Script.OutcomeMap.{by_number, elements_of, script_of, script_of_entries, script_of_tree};
+ghost use Rattle.apply_plan.specs.Script.Placed.{ArePlaced, IsPlaced};
+ghost use Rattle.apply_plan.specs.Script.TreeView.{entry_step_view, step_view, tree_waits};
 
 use crate::bytes::MAX_BYTES;
 use crate::plan::object_id::ObjectId;
+use crate::script::beginning::first_stuck;
 use crate::script::change_numbers::ChangeNumbers;
 use crate::script::script_error::ScriptError;
 use crate::script::script_shape::ScriptShape;
 use crate::script::tree_entry::TreeEntry;
-use crate::script::tree_step::copied_outcomes;
+use crate::script::tree_step::TreeStep;
+use crate::script::waited::Waited;
 use apply_json::members::member;
 use apply_json::{JsonFault, Scratch, parse_trimmed};
-use apply_model::{Plan, Script, StepOutcomes};
+use apply_model::{MAX_WAITS, Plan, Script, StepOutcomes};
 use serde_json::Value;
 use std::alloc::{AllocError, Global};
 
@@ -76,12 +82,22 @@ fn script_of_entries<'a>(
 {
     let numbers = ChangeNumbers::of(alloc, plan)?;
     let mut said = nothing(alloc, plan.len())?;
+    let mut entries = Vec::new(alloc);
+    let mut waits = 0;
     for (number, value) in values.iter().enumerate() {
         let number = number as u32;
-        let (change, outcomes) = read_entry(alloc, number, value, plan, &numbers, &said)?;
+        let (change, outcomes, more) = read_entry(
+            alloc, number, waits, value, plan, &numbers, &said,
+        )?;
+        entries.push((change, outcomes.len() as u8))?;
+        waits += more;
         said[change as usize] = Some(outcomes);
     }
-    Ok(Script::new(said))
+    let script = Script::new(said);
+    match first_stuck(alloc, &script, plan.len(), &entries)? {
+        Some(number) => Err(ScriptError::NeverBegins(number)),
+        None => Ok(script),
+    }
 }
 
 /// Nothing said of so many changes.
@@ -95,21 +111,26 @@ fn nothing(alloc: Global, count: u32) -> Result<Vec<Option<StepOutcomes>>, Alloc
     Ok(said)
 }
 
-/// What an entry says: the number of its change, and the outcomes.
+/// What an entry says behind entries with so many items of `after`: the number of its change, the outcomes, and how many
+/// such items it has.
 fn read_entry<'a>(
     alloc: Global,
     number: u32,
+    earlier: usize,
     value: &'a Value,
     plan: &Plan,
     numbers: &ChangeNumbers<'a>,
     said: &[Option<StepOutcomes>],
-) -> Result<(u32, StepOutcomes), ScriptError>
+) -> Result<(u32, StepOutcomes, usize), ScriptError>
+    requires earlier { earlier ≤ max_waits }
     requires numbers { (id : _) → number_of numbers.now id
         ≡ option_map (λ p. p.0) (find (λ p. is_of id p.1) (enumerate_from 0 plan.now.changes)) }
     requires said { length said.now ≡ length plan.now.changes }
-    ensures defined { Gives ScriptError.Memory (λ entry. entry) result
-        (entry_beside plan.now.changes said.now number (view value.now)) }
+    ensures defined { Gives ScriptError.Memory said_view result
+        (entry_beside plan.now.changes said.now earlier number (view value.now)) }
     ensures within { IfOk result (λ entry. entry.0 < length said.now) }
+    ensures placed { IfOk result (λ entry. ArePlaced (length said.now) entry.1) }
+    ensures few { IfOk result (λ entry. earlier + entry.2 ≤ max_waits) }
 {
     let Some(entry) = TreeEntry::of(alloc, value)? else {
         return Err(ScriptError::BadShape(Some(number)));
@@ -127,5 +148,41 @@ fn read_entry<'a>(
     if let Some(fault) = entry.fault(number, plan.change(change).steps()) {
         return Err(fault);
     }
-    Ok((change, copied_outcomes(alloc, &entry.steps)?))
+    let Some(waits) = entry.count_of_waits(MAX_WAITS - earlier) else {
+        return Err(ScriptError::TooManyWaits(number));
+    };
+    let outcomes = said_outcomes(alloc, number, &entry.steps, plan, numbers)?;
+    Ok((change, outcomes, waits))
+}
+
+/// The outcomes of the steps of entry `number`, with the steps that they wait for, or the first fault of what names these.
+fn said_outcomes<'a>(
+    alloc: Global,
+    number: u32,
+    steps: &[TreeStep<'a>],
+    plan: &Plan,
+    numbers: &ChangeNumbers<'a>,
+) -> Result<StepOutcomes, ScriptError>
+    requires bounded { All IsBounded (map step_view steps.now) }
+    requires few { tree_waits steps.now ≤ max_waits }
+    requires numbers { (id : _) → number_of numbers.now id
+        ≡ option_map (λ p. p.0) (find (λ p. is_of id p.1) (enumerate_from 0 plan.now.changes)) }
+    ensures defined { Gives ScriptError.Memory (λ outcomes. outcomes) result
+        (outcomes_or_fault number plan.now.changes (map entry_step_view steps.now)) }
+    ensures placed { IfOk result (λ outcomes. All (λ outcome.
+        All (IsPlaced (length plan.now.changes)) outcome.after) outcomes) }
+{
+    let mut outcomes = Vec::with_capacity(alloc, steps.len())?;
+    let mut lacks_step = false;
+    for step in steps {
+        let Some(waited) = Waited::of(alloc, &step.after, plan, numbers)? else {
+            return Err(ScriptError::UnknownWait(number));
+        };
+        lacks_step = lacks_step || waited.lacks_step;
+        outcomes.push(step.copied(alloc, waited.waits)?)?;
+    }
+    if lacks_step {
+        return Err(ScriptError::NoSuchStep(number));
+    }
+    Ok(StepOutcomes::new(outcomes))
 }

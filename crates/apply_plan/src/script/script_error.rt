@@ -44,6 +44,19 @@ pub enum ScriptError {
     /// A step of the entry that is no create has a provisioner.
     #[error("script entry {0} has a provisioner on a step that is not a create")]
     NotACreate(u32),
+    /// The `after` of the entry and of those before it have more than 1,000,000 items together.
+    #[error("script entry {0} goes beyond 1000000 waits")]
+    TooManyWaits(u32),
+    /// The plan has no change with the address and the `deposed` key of an item of an `after` of the entry.
+    #[error("script entry {0} waits for an unknown change")]
+    UnknownWait(u32),
+    /// The change that an item of an `after` of the entry names has no step of the number that it tells.
+    #[error("script entry {0} waits for a step that its change does not have")]
+    NoSuchStep(u32),
+    /// Where no entry has a fault: a step of the entry could never begin, since it waits, directly or through others, for
+    /// itself or for such a step.
+    #[error("script entry {0} has a step that could never begin")]
+    NeverBegins(u32),
     /// In Terraform's form alone, where no variant above holds: an output of the script, counted from 0 in the order of
     /// the names' bytes, is no object, has a `sensitive` that is neither `true` nor `false`, or has no `type`.
     #[error("script output {0} is malformed")]

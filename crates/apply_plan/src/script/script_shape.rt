@@ -28,6 +28,10 @@ pub enum ScriptShape {
     Output,
     /// `warning` or `failed` of a step, `failed` of a provisioner.
     Diag,
+    /// `after` of a step.
+    Waits,
+    /// An element of `after`, where it is an object.
+    Wait,
 }
 
 impl Shape for ScriptShape {
@@ -40,11 +44,15 @@ impl Shape for ScriptShape {
             ScriptShape::Step => member_of_step(name),
             ScriptShape::Provisioner => member_of_provisioner(name),
             ScriptShape::Diag => scalar_where(name == "summary" || name == "detail"),
+            ScriptShape::Wait => {
+                scalar_where(name == "address" || name == "deposed" || name == "step")
+            }
             ScriptShape::Scalar
             | ScriptShape::Entries
             | ScriptShape::Steps
             | ScriptShape::Provisioners
-            | ScriptShape::Output => None,
+            | ScriptShape::Output
+            | ScriptShape::Waits => None,
         }
     }
 
@@ -53,6 +61,7 @@ impl Shape for ScriptShape {
             ScriptShape::Entries => ScriptShape::Entry,
             ScriptShape::Steps => ScriptShape::Step,
             ScriptShape::Provisioners => ScriptShape::Provisioner,
+            ScriptShape::Waits => ScriptShape::Wait,
             _ => ScriptShape::Scalar,
         }
     }
@@ -63,7 +72,8 @@ impl Shape for ScriptShape {
             ScriptShape::Entries
             | ScriptShape::Steps
             | ScriptShape::Provisioners
-            | ScriptShape::Output => None,
+            | ScriptShape::Output
+            | ScriptShape::Waits => None,
             _ => Some(0),
         }
     }
@@ -104,6 +114,8 @@ fn member_of_step(name: &str) -> Option<ScriptShape>
 {
     if name == "provisioners" {
         Some(ScriptShape::Provisioners)
+    } else if name == "after" {
+        Some(ScriptShape::Waits)
     } else if name == "warning" || name == "failed" {
         Some(ScriptShape::Diag)
     } else {

@@ -7,7 +7,7 @@ ghost use Rattle.apply_json.specs.Tree.{list_of};
 ghost use Rattle.apply_plan.specs.Script.Entry.{all_some, entry_of, step_from};
 ghost use Rattle.apply_model.specs.Script.Outcome.{has_too_many_provisioners, has_too_much_output, is_too_long};
 ghost use Rattle.apply_plan.specs.Script.Refusals.{fault_of_steps, misplaces_provisioners};
-ghost use Rattle.apply_plan.specs.Script.TreeView.{entry_view, members_of, members_view, step_view};
+ghost use Rattle.apply_plan.specs.Script.TreeView.{entry_step_view, entry_view, members_of, members_view, step_view, waits_within};
 
 use crate::script::script_error::ScriptError;
 use crate::script::tree_step::TreeStep;
@@ -46,7 +46,7 @@ impl<'a> TreeEntry<'a> {
     /// The first fault of the steps of the entry, which has that number, where they belong to steps of these kinds.
     #[tactic(auto, unfolding(crate::specs::Script::Refusals::fault_of_steps))]
     pub fn fault(&self, number: u32, kinds: &[StepKind]) -> Option<ScriptError>
-        ensures { result ≡ fault_of_steps number kinds.now (entry_view self.now).steps }
+        ensures { result ≡ fault_of_steps number kinds.now (map step_view self.now.steps.items) }
     {
         if self.steps.len() > kinds.len() {
             Some(ScriptError::TooManySteps(number))
@@ -61,6 +61,20 @@ impl<'a> TreeEntry<'a> {
         } else {
             None
         }
+    }
+
+    /// How many items the `after` of its steps have, where they are so many at most. `None` where they are more.
+    pub fn count_of_waits(&self, limit: usize) -> Option<usize>
+        ensures { result ≡ waits_within limit self.now.steps.items }
+    {
+        let mut left = limit;
+        for step in &self.steps {
+            if step.after.len() > left {
+                return None;
+            }
+            left -= step.after.len();
+        }
+        Some(limit - left)
     }
 }
 
@@ -110,7 +124,7 @@ fn members(value: &Value) -> Option<(&str, Option<&str>, &[Value])>
 
 /// The steps that the values are. `None` where one is none.
 fn steps(alloc: Global, values: &[Value]) -> Result<Option<Vec<TreeStep<'_>>>, AllocError>
-    ensures { IfOk result (λ found. option_map (λ steps. map step_view steps.items) found
+    ensures { IfOk result (λ found. option_map (λ steps. map entry_step_view steps.items) found
         ≡ all_some (map step_from (list_of (items_view values.now)))) }
 {
     let mut steps = Vec::with_capacity(alloc, values.len())?;

@@ -1,17 +1,18 @@
 //! A step of a script, as it stands in the tree.
 
-ghost use Rattle.std.specs.Prelude.{◌≡◌, All, IfOk, map, option_map};
+ghost use Rattle.std.specs.Prelude.{◌≡◌, IfOk, map, option_map};
 ghost use Rattle.std.specs.List.{list_any};
 ghost use Rattle.serde_json.specs.View.{view};
-ghost use Rattle.apply_plan.specs.Script.Entry.{each_of, provisioner_from, seconds_of, step_from, with_provisioners};
+ghost use Rattle.apply_plan.specs.Script.Entry.{each_of, entry_step, provisioner_from, seconds_of, step_from, with_provisioners};
 ghost use Rattle.apply_model.specs.Script.Outcome.{IsBounded, has_too_many_provisioners, has_too_much_output, is_too_long, puts_out_too_much};
 ghost use Rattle.apply_plan.specs.Script.Refusals.{misplaces_provisioners};
-ghost use Rattle.apply_plan.specs.Script.TreeView.{ending_view, provisioner_view, step_view};
+ghost use Rattle.apply_plan.specs.Script.TreeView.{ending_view, entry_step_view, provisioner_view, step_view, waits_view};
 
 use crate::script::tree_ending::TreeEnding;
 use crate::script::tree_provisioner::{TreeProvisioner, copied_provisioners};
+use crate::script::tree_wait::{TreeWait, waits};
 use apply_json::members::{array_or_empty, member};
-use apply_model::{MAX_PROVISIONERS, MAX_SECONDS, Outcome, StepKind, StepOutcomes};
+use apply_model::{MAX_PROVISIONERS, MAX_SECONDS, Outcome, StepKind, Waits};
 use serde_json::Value;
 use std::alloc::{AllocError, Global};
 
@@ -23,13 +24,15 @@ pub struct TreeStep<'a> {
     /// Any number of provisioners, likewise.
     pub provisioners: Vec<TreeProvisioner<'a>>,
     pub result: TreeEnding<'a>,
+    /// Any number of items, likewise.
+    pub after: Vec<TreeWait<'a>>,
 }
 
 impl<'a> TreeStep<'a> {
     /// The step that the value is. `None` where one of its members breaks its rule.
     #[tactic(auto, unfolding(crate::specs::Script::Entry::step_from))]
     pub fn of(alloc: Global, value: &'a Value) -> Result<Option<TreeStep<'a>>, AllocError>
-        ensures { IfOk result (λ found. option_map step_view found ≡ step_from (view value.now)) }
+        ensures { IfOk result (λ found. option_map entry_step_view found ≡ step_from (view value.now)) }
     {
         let Some(seconds) = seconds(value) else {
             return Ok(None);
@@ -40,7 +43,10 @@ impl<'a> TreeStep<'a> {
         let Some(provisioners) = provisioners(alloc, member(value, "provisioners"))? else {
             return Ok(None);
         };
-        Ok(TreeStep::with_provisioners(seconds, ending, provisioners))
+        let Some(after) = waits(alloc, member(value, "after"))? else {
+            return Ok(None);
+        };
+        Ok(TreeStep::with_provisioners(seconds, ending, provisioners, after))
     }
 
     /// A step with its provisioners. `None` where its provider fails and it has some.
@@ -48,9 +54,11 @@ impl<'a> TreeStep<'a> {
         seconds: u64,
         ending: TreeEnding<'a>,
         provisioners: Vec<TreeProvisioner<'a>>,
+        after: Vec<TreeWait<'a>>,
     ) -> Option<TreeStep<'a>>
-        ensures { option_map step_view result ≡ with_provisioners seconds (ending_view ending.entry)
-            (map provisioner_view provisioners.entry.items) }
+        ensures { option_map entry_step_view result ≡ option_map (entry_step (waits_view after.entry.items))
+            (with_provisioners seconds (ending_view ending.entry)
+            (map provisioner_view provisioners.entry.items)) }
     {
         if ending.is_failed() && !provisioners.is_empty() {
             return None;
@@ -59,6 +67,7 @@ impl<'a> TreeStep<'a> {
             seconds,
             provisioners,
             result: ending,
+            after,
         })
     }
 
@@ -99,15 +108,16 @@ impl<'a> TreeStep<'a> {
         !self.provisioners.is_empty() && !kind.is_create()
     }
 
-    /// The outcome that the step is, with copies of its texts.
-    pub fn copied(&self, alloc: Global) -> Result<Outcome, AllocError>
+    /// The outcome that the step is, which waits for those steps, with copies of its texts.
+    pub fn copied(&self, alloc: Global, after: Waits) -> Result<Outcome, AllocError>
         requires { IsBounded (step_view self.now) }
-        ensures { IfOk result (λ copy. copy ≡ step_view self.now) }
+        ensures { IfOk result (λ copy. copy ≡ record (step_view self.now) { after = after }) }
     {
         Ok(Outcome {
             seconds: self.seconds as u32,
             provisioners: copied_provisioners(alloc, &self.provisioners)?,
             result: self.result.copied(alloc)?,
+            after,
         })
     }
 }
@@ -146,16 +156,4 @@ fn provisioners(
         provisioners.push(provisioner)?;
     }
     Ok(Some(provisioners))
-}
-
-/// The outcomes that the steps are, with copies of their texts.
-pub fn copied_outcomes(alloc: Global, steps: &[TreeStep<'_>]) -> Result<StepOutcomes, AllocError>
-    requires { All IsBounded (map step_view steps.now) }
-    ensures { IfOk result (λ outcomes. outcomes ≡ map step_view steps.now) }
-{
-    let mut outcomes = Vec::with_capacity(alloc, steps.len())?;
-    for step in steps {
-        outcomes.push(step.copied(alloc)?)?;
-    }
-    Ok(StepOutcomes::new(outcomes))
 }

@@ -184,6 +184,10 @@ SecondsRange(7) => script entry 7 has a step over 86400 seconds
 TooManyProvisioners(8) => script entry 8 has a step with more than 8 provisioners
 TooMuchOutput(9) => script entry 9 has a provisioner with more than 100 outputs
 NotACreate(10) => script entry 10 has a provisioner on a step that is not a create
+TooManyWaits(13) => script entry 13 goes beyond 1000000 waits
+UnknownWait(14) => script entry 14 waits for an unknown change
+NoSuchStep(15) => script entry 15 waits for a step that its change does not have
+NeverBegins(16) => script entry 16 has a step that could never begin
 BadOutput(11) => script output 11 is malformed
 UnknownOutput(12) => script output 12 is not an output of the plan
 Memory => out of memory
@@ -203,6 +207,10 @@ fn script_refusals_have_their_texts(rt: HostRuntime) {
         ScriptError::TooManyProvisioners(8),
         ScriptError::TooMuchOutput(9),
         ScriptError::NotACreate(10),
+        ScriptError::TooManyWaits(13),
+        ScriptError::UnknownWait(14),
+        ScriptError::NoSuchStep(15),
+        ScriptError::NeverBegins(16),
         ScriptError::BadOutput(11),
         ScriptError::UnknownOutput(12),
         ScriptError::Memory,

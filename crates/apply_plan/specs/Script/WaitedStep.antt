@@ -1,0 +1,32 @@
+-- The steps that the items of `after` name (the script's own format).
+use Rattle.std.specs.Prelude.{ℕ, ◌-◌, List, length, find, map, nat_lt, if◌then◌else◌, Option, Some, None, option_and_then, unwrap_or}
+use Rattle.std.specs.List.{enumerate_from, filter_map}
+use Rattle.apply_model.specs.declared.script.outcome.Outcome.{Outcome}
+use Rattle.apply_model.specs.declared.script.wait.Wait.{Wait}
+use Rattle.apply_model.specs.Plan.ResourceChange.{ResourceChange}
+use Rattle.apply_plan.specs.Plan.ObjectName.{name_one_object}
+use Rattle.apply_plan.specs.Script.Entry.{EntryStep, WaitName}
+
+-- the change that has the name, with its number
+abbrev pub change_waited : List ResourceChange → WaitName → Option (ℕ × ResourceChange)
+change_waited changes name =
+    find (λ p. name_one_object p.1.address p.1.deposed name.address name.deposed) (enumerate_from 0 changes)
+
+-- the number of the step, of so many: the one that is told, or the last one
+abbrev pub number_waited : (count : ℕ) → WaitName → ℕ
+number_waited count name = unwrap_or name.step (count - 1)
+
+-- the step of a change that is named, where it has one
+abbrev pub step_of_change : WaitName → ℕ × ResourceChange → Option Wait
+step_of_change name found =
+    if nat_lt (number_waited (length found.1.steps) name) (length found.1.steps)
+    then Some (record { change = found.0; step = number_waited (length found.1.steps) name })
+    else None
+
+-- the step that is named; of a change without steps there is none
+abbrev pub step_waited : List ResourceChange → WaitName → Option Wait
+step_waited changes name = option_and_then (step_of_change name) (change_waited changes name)
+
+-- what comes of a step, with the steps that it waits for
+abbrev pub outcome_said : List ResourceChange → EntryStep → Outcome
+outcome_said changes step = record step.outcome { after = filter_map (step_waited changes) step.after }

@@ -1,0 +1,14 @@
+-- What is kept of the items of one `after`, for the private type that keeps it.
+use Rattle.std.specs.Prelude.{List, if◌then◌else◌, Option, Some, None}
+use Rattle.std.specs.List.{filter_map, list_any}
+use Rattle.apply_model.specs.Plan.ResourceChange.{ResourceChange}
+use Rattle.apply_plan.specs.declared.script.waited.Waited.{Waited}
+use Rattle.apply_plan.specs.Script.Entry.{WaitName}
+use Rattle.apply_plan.specs.Script.Refusals.{is_unknown, lacks_step}
+use Rattle.apply_plan.specs.Script.WaitedStep.{step_waited}
+
+-- what the items name; none where one names no change
+abbrev pub waited_by : List ResourceChange → List WaitName → Option Waited
+waited_by changes names =
+    if list_any (is_unknown changes) names then None
+    else Some (record { waits = filter_map (step_waited changes) names; lacks_step = list_any (lacks_step changes) names })

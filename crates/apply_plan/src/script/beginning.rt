@@ -1,0 +1,143 @@
+//! Which steps of a script could begin.
+
+ghost use Rattle.std.specs.Prelude.{◌≡◌, ◌+◌, ◌<◌, ◌≤◌, All, IfOk, length, slice_get, true, false};
+ghost use Rattle.std.specs.List.{position_from};
+ghost use Rattle.apply_model.specs.Script.Limits.{max_waits};
+ghost use Rattle.apply_model.specs.Script.OutcomeMap.{outcome_of};
+ghost use Rattle.apply_model.specs.Script.Waits.{could_begin, waits_of};
+ghost use Rattle.apply_plan.specs.Script.Beginning.{AreAllPlaced, AreSettled, is_stuck_at};
+ghost use Rattle.apply_plan.specs.Script.Placed.{IsPlaced};
+
+use crate::script::mark::Mark;
+use crate::script::marks::Marks;
+use apply_model::{Script, Wait};
+use std::alloc::{AllocError, Global};
+
+/// A step on the path, each of which waits for the one behind it.
+#[derive(Clone, Copy)]
+struct Visit {
+    step: Wait,
+    /// How many of those that it waits for are known to begin, from the first.
+    passed: u32,
+}
+
+/// The number of the first of these changes that has a step that could never begin, among so many of its first steps.
+pub fn first_stuck(
+    alloc: Global,
+    script: &Script,
+    changes: u32,
+    entries: &[(u32, u8)],
+) -> Result<Option<u32>, AllocError>
+    requires changes { changes ≡ length script.now }
+    requires placed { AreAllPlaced script.now }
+    requires few { length entries.now ≤ length script.now }
+    requires within { All (λ entry. (entry.0 < length script.now) × (entry.1 ≤ 2)) entries.now }
+    ensures { IfOk result (λ found. found ≡ position_from (is_stuck_at script.now) 0 entries.now) }
+{
+    let mut marks = Marks::new(alloc, changes)?;
+    for (number, (change, steps)) in entries.iter().enumerate() {
+        if is_stuck(alloc, script, &mut marks, *change, *steps)? {
+            return Ok(Some(number as u32));
+        }
+    }
+    Ok(None)
+}
+
+/// Whether one of so many first steps of the change could never begin.
+fn is_stuck(
+    alloc: Global,
+    script: &Script,
+    marks: &mut Marks,
+    change: u32,
+    steps: u8,
+) -> Result<bool, AllocError>
+    requires placed { AreAllPlaced script.now }
+    requires settled { AreSettled script.now marks.old }
+    requires change { change < length script.now }
+    requires steps { steps ≤ 2 }
+    ensures found { IfOk result (λ stuck. stuck ≡ is_stuck_at script.now (change, steps)) }
+    ensures settled { result ≡ Ok false → AreSettled script.now marks.new }
+{
+    for step in 0..steps {
+        if !could_begin(alloc, script, marks, Wait { change, step })? {
+            return Ok(true);
+        }
+    }
+    Ok(false)
+}
+
+/// Whether the step could begin. Those that do are marked on the way.
+fn could_begin(
+    alloc: Global,
+    script: &Script,
+    marks: &mut Marks,
+    step: Wait,
+) -> Result<bool, AllocError>
+    requires placed { AreAllPlaced script.now }
+    requires settled { AreSettled script.now marks.old }
+    requires step { IsPlaced (length script.now) step }
+    ensures found { IfOk result (λ begins. begins ≡ could_begin script.now step.change step.step) }
+    ensures settled { result ≡ Ok true → AreSettled script.now marks.new }
+{
+    if marks.get(step) == Mark::Begins {
+        return Ok(true);
+    }
+    let mut path = Vec::new(alloc);
+    path.push(Visit { step, passed: 0 })?;
+    marks.set(step, Mark::OnPath);
+    while let Some(visit) = path.pop() {
+        let Some(next) = waited(script, visit.step, visit.passed) else {
+            marks.set(visit.step, Mark::Begins);
+            continue;
+        };
+        match marks.get(next) {
+            Mark::OnPath => return Ok(false),
+            Mark::Begins => {
+                path.push(Visit {
+                    step: visit.step,
+                    passed: visit.passed + 1,
+                })?;
+            }
+            Mark::Unseen => {
+                marks.set(next, Mark::OnPath);
+                path.push(visit)?;
+                path.push(Visit {
+                    step: next,
+                    passed: 0,
+                })?;
+            }
+        }
+    }
+    Ok(true)
+}
+
+/// The step of that number among those that a step waits for: first the one before it in its change, then those that its
+/// outcome names.
+fn waited(script: &Script, step: Wait, number: u32) -> Option<Wait>
+    ensures found { result ≡ slice_get (waits_of script.now step.change step.step) number }
+    ensures few { length (waits_of script.now step.change step.step) ≤ max_waits + 1 }
+{
+    if step.step == 0 {
+        return named(script, step, number);
+    }
+    if number > 0 {
+        return named(script, step, number - 1);
+    }
+    Some(Wait {
+        change: step.change,
+        step: step.step - 1,
+    })
+}
+
+/// The step of that number among those that the outcome of a step names.
+fn named(script: &Script, step: Wait, number: u32) -> Option<Wait>
+    ensures found { result ≡ slice_get (outcome_of script.now step.change step.step).after number }
+    ensures few { length (outcome_of script.now step.change step.step).after ≤ max_waits }
+{
+    let after = &script.outcome(step.change, step.step)?.after;
+    if number < after.len() {
+        Some(after.get(number))
+    } else {
+        None
+    }
+}
