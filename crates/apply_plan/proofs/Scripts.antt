@@ -7,4 +7,5 @@ pub mod Parts
 pub mod Refusals
 pub mod Trimmed
 pub mod TreeSteps
+pub mod Waited
 pub mod WholeList

@@ -1,12 +1,13 @@
 -- What entries say: the change that one is about, and what several say of each change.
 use Rattle.std.proofs.Common.{◌≡◌, ℕ, zero, suc, ◌+◌, ◌<◌, ◌≤◌, Bool, true, false, cond, List, [], ◌∷◌, ◌++◌, length, map, get_or, set, Option, Some, None, option_map, IfSome, refl, sym, ap, subst, ◌∙◌, add-one, arith, ⊎_elim}
-use Rattle.std.specs.Prelude.{◌&&◌, ◌||◌, find, is_some, option_and_then, slice_get, ◌==◌}
+use Rattle.std.specs.Prelude.{◌&&◌, ◌||◌, find, is_some, option_and_then, slice_get, unwrap_or, ◌==◌}
 use Rattle.std.specs.List.{All, count_by, enumerate_from, range_with_len}
 use Rattle.std.specs.Option.{option_eq, option_or}
 use Rattle.std.specs.Str.{bytes_eq}
 use Rattle.std.proofs.lemmas.Bool.{cases_Bool, cases_lt}
 use Rattle.std.proofs.lemmas.Bool.Decides.{eqb_tells}
 use Rattle.std.proofs.lemmas.List.{get_or-set_other, get_or-set_same, length-set, same_lists}
+use Rattle.std.proofs.lemmas.List.Elements.{All-cons, All-nil}
 use Rattle.std.proofs.lemmas.List.FromFn.{get_or-map-range_with_len, length-map-range_with_len}
 use Rattle.std.proofs.lemmas.List.Sums.{sum_by-cons, sum_by-set}
 use Rattle.std.proofs.lemmas.Option.{get_or_from_slice_get, slice_get-get_or, slice_get_past, slice_get_within, some_pair_parts}
@@ -14,9 +15,12 @@ use Rattle.std.proofs.lemmas.Slice.Eq.{bytes_eq-Decides}
 use Rattle.apply_model.specs.declared.script.outcome.Outcome.{Outcome}
 use Rattle.apply_model.specs.Plan.ResourceChange.{ResourceChange}
 use Rattle.apply_plan.specs.Script.Entry.{Entry}
-use Rattle.apply_model.specs.Script.Outcome.{IsBounded}
-use Rattle.apply_model.specs.Script.OutcomeMap.{IsInRange, OutcomeMap, said_at}
-use Rattle.apply_plan.specs.Script.OutcomeMap.{by_number, change_of_entry, is_about, said_of}
+use Rattle.apply_model.specs.Script.Outcome.{IsBounded, default_outcome}
+use Rattle.apply_model.specs.Script.OutcomeMap.{IsInRange, OutcomeMap, outcome_of, said_at}
+use Rattle.apply_model.specs.Script.Waits.{waits_of}
+use Rattle.apply_plan.specs.Script.Beginning.{AreAllPlaced}
+use Rattle.apply_plan.specs.Script.OutcomeMap.{Said, by_number, change_of_entry, is_about, said_of}
+use Rattle.apply_plan.specs.Script.Placed.{ArePlaced, IsPlaced}
 
 -- ---- the change that an entry is about
 
@@ -121,10 +125,10 @@ about_same changes entry other number at change theirs is are =
 
 -- ---- what several entries say
 
-said_of-append : (made : List (ℕ × List Outcome)) (one : ℕ × List Outcome) (number : ℕ) → said_of (made ++ one ∷ []) number ≡ option_or (said_of made number) (cond (one.0 == number) (Some one.1) None)
-said_of-append [] one number = elim (one.0 == number) as (λ b. option_map (λ (e : ℕ × List Outcome). e.1) (cond b (Some one) None) ≡ cond b (Some one.1) None) [ true ↦ refl | false ↦ refl ]
+said_of-append : (made : List Said) (one : Said) (number : ℕ) → said_of (made ++ one ∷ []) number ≡ option_or (said_of made number) (cond (one.change == number) (Some one.outcomes) None)
+said_of-append [] one number = elim (one.change == number) as (λ b. option_map (λ (e : Said). e.outcomes) (cond b (Some one) None) ≡ cond b (Some one.outcomes) None) [ true ↦ refl | false ↦ refl ]
 said_of-append (first ∷ others) one number =
-    elim (first.0 == number) as (λ b. option_map (λ (e : ℕ × List Outcome). e.1) (cond b (Some first) (find (λ e. e.0 == number) (others ++ one ∷ []))) ≡ option_or (option_map (λ e. e.1) (cond b (Some first) (find (λ e. e.0 == number) others))) (cond (one.0 == number) (Some one.1) None))
+    elim (first.change == number) as (λ b. option_map (λ (e : Said). e.outcomes) (cond b (Some first) (find (λ e. e.change == number) (others ++ one ∷ []))) ≡ option_or (option_map (λ e. e.outcomes) (cond b (Some first) (find (λ e. e.change == number) others))) (cond (one.change == number) (Some one.outcomes) None))
     [ true ↦ refl | false ↦ said_of-append others one number ]
 
 is_some_or : (o : Option (List Outcome)) (b : Bool) (x : List Outcome) → is_some (option_or o (cond b (Some x) None)) ≡ (is_some o || b)
@@ -132,44 +136,44 @@ is_some_or None true x = refl
 is_some_or None false x = refl
 is_some_or (Some y) b x = refl
 
-pub is_said-append : (made : List (ℕ × List Outcome)) (one : ℕ × List Outcome) (number : ℕ) → is_some (said_of (made ++ one ∷ []) number) ≡ (is_some (said_of made number) || (one.0 == number))
-is_said-append made one number = rw (said_of-append made one number) (is_some_or (said_of made number) (one.0 == number) one.1)
+pub is_said-append : (made : List Said) (one : Said) (number : ℕ) → is_some (said_of (made ++ one ∷ []) number) ≡ (is_some (said_of made number) || (one.change == number))
+is_said-append made one number = rw (said_of-append made one number) (is_some_or (said_of made number) (one.change == number) one.outcomes)
 
 -- what they say of a change stands at its number
-pub at_number : (count : ℕ) (made : List (ℕ × List Outcome)) (number : ℕ) → number < count → said_at (by_number count made) number ≡ said_of made number
+pub at_number : (count : ℕ) (made : List Said) (number : ℕ) → number < count → said_at (by_number count made) number ≡ said_of made number
 at_number count made number below =
     let within : number < length (by_number count made) = rw (length-map-range_with_len (said_of made) 0 count) below in
     let place : 0 + number ≡ number = omega arith in
     rw (slice_get-get_or (by_number count made) number None within, get_or-map-range_with_len (said_of made) 0 count number number None below place) refl
 
-none_past : (count : ℕ) (made : List (ℕ × List Outcome)) (number : ℕ) → count ≤ number → said_at (by_number count made) number ≡ None
+none_past : (count : ℕ) (made : List Said) (number : ℕ) → count ≤ number → said_at (by_number count made) number ≡ None
 none_past count made number past =
     let long : length (by_number count made) ≤ number = rw (length-map-range_with_len (said_of made) 0 count) past in
     rw (slice_get_past (by_number count made) number long) refl
 
-pub length-by_number : (count : ℕ) (made : List (ℕ × List Outcome)) → length (by_number count made) ≡ count
+pub length-by_number : (count : ℕ) (made : List Said) → length (by_number count made) ≡ count
 length-by_number count made = length-map-range_with_len (said_of made) 0 count
 
 -- one entry more changes one place
-pub by_number-append : (count : ℕ) (made : List (ℕ × List Outcome)) (number : ℕ) (outcomes : List Outcome) → number < count → said_of made number ≡ None
-    → by_number count (made ++ (number, outcomes) ∷ []) ≡ set (by_number count made) number (Some outcomes)
-by_number-append count made number outcomes below none =
+pub by_number-append : (count : ℕ) (made : List Said) (one : Said) → one.change < count → said_of made one.change ≡ None
+    → by_number count (made ++ one ∷ []) ≡ set (by_number count made) one.change (Some one.outcomes)
+by_number-append count made one below none =
     let before = by_number count made in
-    let after = by_number count (made ++ (number, outcomes) ∷ []) in
-    let within : number < length before = rw (length-by_number count made) below in
-    let lengths : length after ≡ length (set before number (Some outcomes)) = length-by_number count (made ++ (number, outcomes) ∷ []) ∙ sym (length-by_number count made) ∙ sym (length-set before number (Some outcomes)) in
-    same_lists after (set before number (Some outcomes)) lengths (λ k d h.
-    let low : k < count = rw (length-by_number count (made ++ (number, outcomes) ∷ [])) at h in
+    let after = by_number count (made ++ one ∷ []) in
+    let within : one.change < length before = rw (length-by_number count made) below in
+    let lengths : length after ≡ length (set before one.change (Some one.outcomes)) = length-by_number count (made ++ one ∷ []) ∙ sym (length-by_number count made) ∙ sym (length-set before one.change (Some one.outcomes)) in
+    same_lists after (set before one.change (Some one.outcomes)) lengths (λ k d h.
+    let low : k < count = rw (length-by_number count (made ++ one ∷ [])) at h in
     let place : 0 + k ≡ k = omega arith in
-    let mine : get_or after k d ≡ option_or (said_of made k) (cond (number == k) (Some outcomes) None) =
-    get_or-map-range_with_len (said_of (made ++ (number, outcomes) ∷ [])) 0 count k k d low place ∙ said_of-append made (number, outcomes) k in
+    let mine : get_or after k d ≡ option_or (said_of made k) (cond (one.change == k) (Some one.outcomes) None) =
+    get_or-map-range_with_len (said_of (made ++ one ∷ [])) 0 count k k d low place ∙ said_of-append made one k in
     let theirs : get_or before k d ≡ said_of made k = get_or-map-range_with_len (said_of made) 0 count k k d low place in
     ⊎_elim
     (λ same.
-    mine ∙ rw (same.0, ← same.1, none) refl ∙ sym (get_or-set_same before number (Some outcomes) d within) ∙ ap (λ (i : ℕ). get_or (set before number (Some outcomes)) i d) same.1)
+    mine ∙ rw (same.0, ← same.1, none) refl ∙ sym (get_or-set_same before one.change (Some one.outcomes) d within) ∙ ap (λ (i : ℕ). get_or (set before one.change (Some one.outcomes)) i d) same.1)
     (λ apart.
-    mine ∙ rw apart.0 (or_none (said_of made k)) ∙ sym theirs ∙ sym (get_or-set_other before number k (Some outcomes) d (λ e. apart.1 (sym e))))
-    (eqb_tells number k))
+    mine ∙ rw apart.0 (or_none (said_of made k)) ∙ sym theirs ∙ sym (get_or-set_other before one.change k (Some one.outcomes) d (λ e. apart.1 (sym e))))
+    (eqb_tells one.change k))
   where
     or_none : (o : Option (List Outcome)) → option_or o None ≡ o
     or_none None = refl
@@ -204,15 +208,15 @@ counted_more said number outcomes below none =
 
 -- ---- each step is within the limits
 
--- what the entries say is in range
-abbrev pub SaysInRange : List (ℕ × List Outcome) → Type 0
-SaysInRange made = (number : ℕ) → IfSome (said_of made number) (All IsBounded)
+-- what the entries say of a change holds
+abbrev pub Says : (List Outcome → Type 0) → List Said → Type 0
+Says P made = (number : ℕ) → IfSome (said_of made number) P
 
-pub in_range_more : (made : List (ℕ × List Outcome)) (one : ℕ × List Outcome) → SaysInRange made → All IsBounded one.1 → SaysInRange (made ++ one ∷ [])
-in_range_more made one before bounded number = subst (λ o. IfSome o (All IsBounded)) (sym (said_of-append made one number)) (either (said_of made number) (one.0 == number) (before number))
+pub says_more : (P : List Outcome → Type 0) (made : List Said) (one : Said) → Says P made → P one.outcomes → Says P (made ++ one ∷ [])
+says_more P made one before holds number = subst (λ o. IfSome o P) (sym (said_of-append made one number)) (either (said_of made number) (one.change == number) (before number))
   where
-    either : (o : Option (List Outcome)) (b : Bool) → IfSome o (All IsBounded) → IfSome (option_or o (cond b (Some one.1) None)) (All IsBounded)
-    either None true h = bounded
+    either : (o : Option (List Outcome)) (b : Bool) → IfSome o P → IfSome (option_or o (cond b (Some one.outcomes) None)) P
+    either None true h = holds
     either None false h = tt
     either (Some outcomes) b h = h
 
@@ -225,9 +229,36 @@ given_in_range : (said : Option (List Outcome)) (k : ℕ) → IfSome said (All I
 given_in_range None k h = tt
 given_in_range (Some outcomes) k h = bounded_at outcomes k (slice_get outcomes k) h refl
 
-pub is_in_range : (count : ℕ) (made : List (ℕ × List Outcome)) → SaysInRange made → IsInRange (by_number count made)
+pub is_in_range : (count : ℕ) (made : List Said) → Says (All IsBounded) made → IsInRange (by_number count made)
 is_in_range count made says c k =
     ⊎_elim
     (λ (below : c < count). subst (λ (said : Option (List Outcome)). IfSome (option_and_then (λ outcomes. slice_get outcomes k) said) IsBounded) (sym (at_number count made c below)) (given_in_range (said_of made c) k (says c)))
     (λ (past : count ≤ c). subst (λ (said : Option (List Outcome)). IfSome (option_and_then (λ outcomes. slice_get outcomes k) said) IsBounded) (sym (none_past count made c past)) tt)
     (cases_lt c count)
+
+-- ---- each step waits for steps of the plan
+
+waits_at : (n : ℕ) (outcomes : List Outcome) (k : ℕ) (o : Option Outcome) → ArePlaced n outcomes → slice_get outcomes k ≡ o → All (IsPlaced n) (unwrap_or o default_outcome).after
+waits_at n outcomes k None are at = All-nil (IsPlaced n)
+waits_at n outcomes k (Some outcome) are at =
+    subst (λ (x : Outcome). All (IsPlaced n) x.after) (get_or_from_slice_get outcomes k outcome outcome at) (are.placed k outcome (slice_get_within outcomes k outcome at))
+
+said_placed : (n : ℕ) (said : Option (List Outcome)) (k : ℕ) → IfSome said (ArePlaced n) → All (IsPlaced n) (unwrap_or (option_and_then (λ outcomes. slice_get outcomes k) said) default_outcome).after
+said_placed n None k h = All-nil (IsPlaced n)
+said_placed n (Some outcomes) k h = waits_at n outcomes k (slice_get outcomes k) h refl
+
+named_placed : (count : ℕ) (made : List Said) → Says (ArePlaced count) made → (c k : ℕ) → c < count → All (IsPlaced count) (outcome_of (by_number count made) c k).after
+named_placed count made says c k below =
+    subst (λ (said : Option (List Outcome)). All (IsPlaced count) (unwrap_or (option_and_then (λ outcomes. slice_get outcomes k) said) default_outcome).after)
+    (sym (at_number count made c below)) (said_placed count (said_of made c) k (says c))
+
+waits_placed : (count : ℕ) (made : List Said) → Says (ArePlaced count) made → (c k : ℕ) → c < count → k < 2 → All (IsPlaced count) (waits_of (by_number count made) c k)
+waits_placed count made says c zero below low = named_placed count made says c zero below
+waits_placed count made says c (suc k) below low =
+    All-cons (IsPlaced count) (record { change = c; step = k }) (outcome_of (by_number count made) c (suc k)).after (record { change_below = below; step_below = omega arith }) (named_placed count made says c (suc k) below)
+
+pub are_all_placed : (count : ℕ) (made : List Said) → Says (ArePlaced count) made → AreAllPlaced (by_number count made)
+are_all_placed count made says wait placed =
+    let long = length-by_number count made in
+    subst (λ (n : ℕ). All (IsPlaced n) (waits_of (by_number count made) wait.change wait.step)) (sym long)
+    (let below : wait.change < count = omega (arith, placed.change_below, long) in waits_placed count made says wait.change wait.step below placed.step_below)

@@ -1,39 +1,45 @@
 -- What one entry says, in the steps of a reader.
-use Rattle.std.proofs.Common.{◌≡◌, ℕ, ◌<◌, true, false, cond, List, length, map, get_or, Option, Some, None, option_map, Result, Ok, Err, refl, sym, ap, ◌∙◌}
-use Rattle.std.specs.Prelude.{is_some, option_and_then}
+use Rattle.std.proofs.Common.{◌≡◌, ℕ, ◌+◌, ◌-◌, ◌<◌, ◌≤◌, true, false, cond, List, [], ◌∷◌, length, map, get_or, Option, Some, None, option_map, Result, Err, refl, sym, ap, ◌∙◌, arith, ⊎_elim}
+use Rattle.std.specs.Prelude.{is_some, nat_lt, option_and_then}
+use Rattle.std.proofs.lemmas.Bool.{cases_Bool, le-ltb, lt-ltb, ltb-false, ltb-true}
+use Rattle.std.proofs.lemmas.List.{length-map}
+use Rattle.std.proofs.lemmas.List.Sums.{sum_by-cons}
 use Rattle.std.proofs.lemmas.Option.{slice_get_read}
 use Rattle.serde_json.specs.Data.{Data}
 use Rattle.apply_model.specs.declared.script.outcome.Outcome.{Outcome}
 use Rattle.apply_plan.specs.declared.script.script_error.ScriptError.{ScriptError}
-use Rattle.apply_plan.specs.declared.script.script_error.ScriptError.TheVariants.{BadShape, UnknownChange, Duplicate}
+use Rattle.apply_plan.specs.declared.script.script_error.ScriptError.TheVariants.{BadShape, UnknownChange, Duplicate, TooManyWaits}
 use Rattle.apply_plan.specs.declared.script.tree_entry.TreeEntry.{TreeEntry}
+use Rattle.apply_plan.specs.declared.script.tree_step.TreeStep.{TreeStep}
+use Rattle.apply_model.specs.declared.plan.step_kind.StepKind.{StepKind}
+use Rattle.apply_model.specs.Script.Limits.{max_waits}
 use Rattle.apply_model.specs.Plan.ResourceChange.{ResourceChange}
 use Rattle.apply_plan.specs.Results.{unless_refused}
-use Rattle.apply_plan.specs.Script.Entry.{Entry, entry_of}
+use Rattle.apply_plan.specs.Script.Entry.{Entry, EntryStep, entry_of}
 use Rattle.apply_plan.specs.Script.NextEntry.{entry_beside}
 use Rattle.apply_model.specs.Script.OutcomeMap.{OutcomeMap, said_at}
-use Rattle.apply_plan.specs.Script.OutcomeMap.{change_of_entry}
-use Rattle.apply_plan.specs.Script.Refusals.{fault_of_steps}
-use Rattle.apply_plan.specs.Script.TreeView.{entry_view, step_view}
+use Rattle.apply_plan.specs.Script.OutcomeMap.{Said, change_of_entry, said_by}
+use Rattle.apply_plan.specs.Script.Refusals.{count_of_waits, fault_of_entry, fault_of_names, fault_of_steps, fault_of_waits}
+use Rattle.apply_plan.specs.Script.TreeView.{entry_step_view, entry_view, step_view, tree_waits, wait_view, waits_within}
 use Rattle.apply_plan.proofs.Scripts.Entries.{IsChangeOf}
 
 pub entry_found : (d : Data) (found : Option TreeEntry) (entry : TreeEntry) → option_map entry_view found ≡ entry_of d → found ≡ Some entry → Some (entry_view entry) ≡ entry_of d
 entry_found d found entry is some = sym (ap (λ (o : Option TreeEntry). option_map entry_view o) some) ∙ is
 
-pub malformed : (changes : List ResourceChange) (said : OutcomeMap) (n : ℕ) (d : Data) (found : Option TreeEntry) → option_map entry_view found ≡ entry_of d → found ≡ None
-    → entry_beside changes said n d ≡ Err (BadShape (Some n))
+pub malformed : (changes : List ResourceChange) (said : OutcomeMap) (earlier n : ℕ) (d : Data) (found : Option TreeEntry) → option_map entry_view found ≡ entry_of d → found ≡ None
+    → entry_beside changes said earlier n d ≡ Err (BadShape (Some n))
 unfolding entry_beside
-malformed changes said n d found is none = rw (← is, none) refl
+malformed changes said earlier n d found is none = rw (← is, none) refl
 
-pub unknown : (changes : List ResourceChange) (said : OutcomeMap) (n : ℕ) (d : Data) (found : Option TreeEntry) (entry : TreeEntry) → option_map entry_view found ≡ entry_of d → found ≡ Some entry
-    → change_of_entry changes (entry_view entry) ≡ None → entry_beside changes said n d ≡ Err (UnknownChange n)
+pub unknown : (changes : List ResourceChange) (said : OutcomeMap) (earlier n : ℕ) (d : Data) (found : Option TreeEntry) (entry : TreeEntry) → option_map entry_view found ≡ entry_of d → found ≡ Some entry
+    → change_of_entry changes (entry_view entry) ≡ None → entry_beside changes said earlier n d ≡ Err (UnknownChange n)
 unfolding entry_beside
-unknown changes said n d found entry is some none = rw (← is, some, none) refl
+unknown changes said earlier n d found entry is some none = rw (← is, some, none) refl
 
 -- what is left to ask of an entry that is about a change
-abbrev asked : OutcomeMap → (n number : ℕ) → ResourceChange → Entry → Result (ℕ × List Outcome) ScriptError
-asked said n number change entry =
-    cond (is_some (said_at said number)) (Err (Duplicate n)) (unless_refused (fault_of_steps n change.steps entry.steps) (number, entry.steps))
+abbrev asked : List ResourceChange → OutcomeMap → (earlier n number : ℕ) → ResourceChange → Entry → Result Said ScriptError
+asked changes said earlier n number change entry =
+    cond (is_some (said_at said number)) (Err (Duplicate n)) (unless_refused (fault_of_entry n changes earlier change.steps entry.steps) (said_by changes number entry.steps))
 
 -- a reader has found the entry and the change that it is about
 pub record IsFound (changes : List ResourceChange) (said : OutcomeMap) (d : Data) (entry : TreeEntry) (number : ℕ) (change : ResourceChange) (there : Option (List Outcome)) : Type 0 where
@@ -42,29 +48,73 @@ pub record IsFound (changes : List ResourceChange) (said : OutcomeMap) (d : Data
   pub below : number < length said
   pub there_is : there ≡ get_or said number there
 
-known : (changes : List ResourceChange) (said : OutcomeMap) (n : ℕ) (d : Data) (entry : TreeEntry) (number : ℕ) (change : ResourceChange) (there : Option (List Outcome)) → IsFound changes said d entry number change there
-    → entry_beside changes said n d ≡ asked said n number change (entry_view entry)
+known : (changes : List ResourceChange) (said : OutcomeMap) (earlier n : ℕ) (d : Data) (entry : TreeEntry) (number : ℕ) (change : ResourceChange) (there : Option (List Outcome)) → IsFound changes said d entry number change there
+    → entry_beside changes said earlier n d ≡ asked changes said earlier n number change (entry_view entry)
 unfolding entry_beside
-known changes said n d entry number change there is = rw (← is.entry_is, is.change_is.found) refl
+known changes said earlier n d entry number change there is = rw (← is.entry_is, is.change_is.found) refl
 
 said_there : (said : OutcomeMap) (number : ℕ) (there : Option (List Outcome)) → number < length said → there ≡ get_or said number there → said_at said number ≡ there
 said_there said number there below is = ap (λ (o : Option (Option (List Outcome))). option_and_then (λ said. said) o) (slice_get_read said (length said) number there refl below is)
 
-pub repeats : (changes : List ResourceChange) (said : OutcomeMap) (n : ℕ) (d : Data) (entry : TreeEntry) (number : ℕ) (change : ResourceChange) (there : Option (List Outcome)) → IsFound changes said d entry number change there
-    → is_some there ≡ true → entry_beside changes said n d ≡ Err (Duplicate n)
-repeats changes said n d entry number change there is some =
-    known changes said n d entry number change there is ∙ rw (said_there said number there is.below is.there_is, some) refl
+pub repeats : (changes : List ResourceChange) (said : OutcomeMap) (earlier n : ℕ) (d : Data) (entry : TreeEntry) (number : ℕ) (change : ResourceChange) (there : Option (List Outcome)) → IsFound changes said d entry number change there
+    → is_some there ≡ true → entry_beside changes said earlier n d ≡ Err (Duplicate n)
+repeats changes said earlier n d entry number change there is some =
+    known changes said earlier n d entry number change there is ∙ rw (said_there said number there is.below is.there_is, some) refl
 
 -- what is answered where the change is new
-answered : (changes : List ResourceChange) (said : OutcomeMap) (n : ℕ) (d : Data) (entry : TreeEntry) (number : ℕ) (change : ResourceChange) (there : Option (List Outcome)) (fault : Option ScriptError) → IsFound changes said d entry number change there
-    → is_some there ≡ false → fault ≡ fault_of_steps n change.steps (entry_view entry).steps → entry_beside changes said n d ≡ unless_refused fault (number, map step_view entry.steps.items)
-answered changes said n d entry number change there fault is none asked =
-    known changes said n d entry number change there is ∙ rw (said_there said number there is.below is.there_is, none, ← asked) refl
+pub answered : (changes : List ResourceChange) (said : OutcomeMap) (earlier n : ℕ) (d : Data) (entry : TreeEntry) (number : ℕ) (change : ResourceChange) (there : Option (List Outcome)) (fault : Option ScriptError) → IsFound changes said d entry number change there
+    → is_some there ≡ false → fault_of_entry n changes earlier change.steps (entry_view entry).steps ≡ fault → entry_beside changes said earlier n d ≡ unless_refused fault (said_by changes number (entry_view entry).steps)
+answered changes said earlier n d entry number change there fault is none asked_is =
+    known changes said earlier n d entry number change there is ∙ rw (said_there said number there is.below is.there_is, none, asked_is) refl
 
-pub refused : (changes : List ResourceChange) (said : OutcomeMap) (n : ℕ) (d : Data) (entry : TreeEntry) (number : ℕ) (change : ResourceChange) (there : Option (List Outcome)) (fault : ScriptError) → IsFound changes said d entry number change there
-    → is_some there ≡ false → Some fault ≡ fault_of_steps n change.steps (entry_view entry).steps → entry_beside changes said n d ≡ Err fault
-refused changes said n d entry number change there fault is none asked = answered changes said n d entry number change there (Some fault) is none asked
+-- ---- the faults of an entry, as a reader meets them
 
-pub accepted : (changes : List ResourceChange) (said : OutcomeMap) (n : ℕ) (d : Data) (entry : TreeEntry) (number : ℕ) (change : ResourceChange) (there : Option (List Outcome)) → IsFound changes said d entry number change there
-    → is_some there ≡ false → None ≡ fault_of_steps n change.steps (entry_view entry).steps → entry_beside changes said n d ≡ Ok (number, map step_view entry.steps.items)
-accepted changes said n d entry number change there is none asked = answered changes said n d entry number change there None is none asked
+-- the steps apart from what they wait for
+outcomes_seen : (steps : List TreeStep) → map (λ (step : EntryStep). step.outcome) (map entry_step_view steps) ≡ map step_view steps
+outcomes_seen [] = refl
+outcomes_seen (step ∷ steps) = ap (λ (rest : List Outcome). step_view step ∷ rest) (outcomes_seen steps)
+
+pub counted_seen : (steps : List TreeStep) → count_of_waits (map entry_step_view steps) ≡ tree_waits steps
+counted_seen [] = refl
+counted_seen (step ∷ steps) =
+    sum_by-cons (λ (s : EntryStep). length s.after) (entry_step_view step) (map entry_step_view steps)
+    ∙ ap (λ (n : ℕ). n + count_of_waits (map entry_step_view steps)) (length-map step.after.items wait_view)
+    ∙ ap (λ (n : ℕ). length step.after.items + n) (counted_seen steps)
+    ∙ sym (sum_by-cons (λ (s : TreeStep). length s.after.items) step steps)
+
+-- a fault of the steps comes first
+pub fault_of_outcomes : (n : ℕ) (changes : List ResourceChange) (earlier : ℕ) (kinds : List StepKind) (steps : List TreeStep) (fault : ScriptError) → Some fault ≡ fault_of_steps n kinds (map step_view steps)
+    → fault_of_entry n changes earlier kinds (map entry_step_view steps) ≡ Some fault
+fault_of_outcomes n changes earlier kinds steps fault is = rw (outcomes_seen steps, ← is) refl
+
+-- then there may be too many items
+pub fault_of_count : (n : ℕ) (changes : List ResourceChange) (earlier : ℕ) (kinds : List StepKind) (steps : List TreeStep) → None ≡ fault_of_steps n kinds (map step_view steps) → earlier ≤ max_waits
+    → None ≡ waits_within (max_waits - earlier) steps → fault_of_entry n changes earlier kinds (map entry_step_view steps) ≡ Some (TooManyWaits n)
+unfolding fault_of_waits
+fault_of_count n changes earlier kinds steps none few beyond = rw (outcomes_seen steps, ← none, counted_seen steps) (⊎_elim
+    (λ (over : nat_lt (max_waits - earlier) (tree_waits steps) ≡ true).
+    let more : nat_lt max_waits (earlier + tree_waits steps) ≡ true = lt-ltb _ _ (let apart = ltb-true (max_waits - earlier) (tree_waits steps) over in omega arith) in
+    rw more refl)
+    (λ (within : nat_lt (max_waits - earlier) (tree_waits steps) ≡ false).
+    let some : None ≡ cond false None (Some (tree_waits steps)) = rw within at beyond in absurd cc)
+    (cases_Bool (nat_lt (max_waits - earlier) (tree_waits steps))))
+
+-- the count of the items, where they are not too many
+pub count_within : (limit : ℕ) (steps : List TreeStep) (count : ℕ) → Some count ≡ waits_within limit steps → (count ≡ tree_waits steps) × (tree_waits steps ≤ limit)
+count_within limit steps count is = ⊎_elim
+    (λ (over : nat_lt limit (tree_waits steps) ≡ true). let none : Some count ≡ cond true None (Some (tree_waits steps)) = rw over at is in absurd cc)
+    (λ (within : nat_lt limit (tree_waits steps) ≡ false). let some : Some count ≡ cond false None (Some (tree_waits steps)) = rw within at is in (cc, ltb-false limit (tree_waits steps) within))
+    (cases_Bool (nat_lt limit (tree_waits steps)))
+
+-- and then an item may have a fault
+pub fault_of_items : (n : ℕ) (changes : List ResourceChange) (earlier : ℕ) (kinds : List StepKind) (steps : List TreeStep) → None ≡ fault_of_steps n kinds (map step_view steps) → earlier + tree_waits steps ≤ max_waits
+    → fault_of_entry n changes earlier kinds (map entry_step_view steps) ≡ fault_of_names n changes (map entry_step_view steps)
+unfolding fault_of_waits
+fault_of_items n changes earlier kinds steps none few =
+    let enough : nat_lt max_waits (earlier + tree_waits steps) ≡ false = le-ltb _ _ few in
+    rw (outcomes_seen steps, ← none, counted_seen steps, enough) refl
+
+-- the same refusal, or none, whatever is answered otherwise
+pub also_refused : {A B : Type 0} (o : Option ScriptError) (x : A) (y : B) (e : ScriptError) → unless_refused o x ≡ Err e → unless_refused o y ≡ Err e
+also_refused None x y e is = absurd cc
+also_refused (Some refusal) x y e is = cc

@@ -1,5 +1,5 @@
 -- A script is the same when its tree is trimmed.
-use Rattle.std.proofs.Common.{◌≡◌, ◌≤◌, ℕ, length, false, ltb, map, List, [], ◌∷◌, ◌++◌, codes, Option, Some, None, option_map, Result, Ok, refl, sym, ap, ◌∙◌}
+use Rattle.std.proofs.Common.{◌≡◌, ◌≤◌, ℕ, length, false, ltb, map, List, [], ◌∷◌, ◌++◌, codes, Option, Some, None, option_map, Result, refl, sym, ap, ◌∙◌}
 use Rattle.std.proofs.lemmas.Bool.{le-ltb}
 use Rattle.serde_json.specs.Data.{Data, Items, no_items, item}
 use Rattle.serde_json.specs.Find.{as_array, as_number, as_str, as_u64}
@@ -7,7 +7,6 @@ use Rattle.apply_json.specs.Parsed.{IsTrimmedTree}
 use Rattle.apply_json.specs.Tree.{◌>>=◌, list_of, member_of, text_of, text_or}
 use Rattle.apply_json.specs.Trimmed.{trimmed, trimmed_items}
 use Rattle.apply_json.proofs.Trimmed.Lookups.{as_array_trimmed, as_number_trimmed, as_str_trimmed, behind_trimmed, member_trimmed, non_empty_text_trimmed, text_or_trimmed, text_trimmed}
-use Rattle.apply_model.specs.declared.script.outcome.Outcome.{Outcome}
 use Rattle.apply_plan.specs.declared.script.script_error.ScriptError.{ScriptError}
 use Rattle.apply_plan.specs.declared.script.script_error.ScriptError.TheVariants.{BadShape}
 use Rattle.apply_plan.specs.declared.script.script_shape.ScriptShape.{ScriptShape}
@@ -18,10 +17,10 @@ use Rattle.apply_model.specs.Plan.ResourceChange.{ResourceChange}
 use Rattle.apply_model.specs.Plan.SavedPlan.{SavedPlan}
 use Rattle.apply_plan.specs.Results as results
 use Rattle.apply_plan.specs.Results.{or_refuse}
-use Rattle.apply_plan.specs.Script.Entry.{all_some, diag_from, diag_or_none, each_of, ending_of, entry_of, provisioner_from, seconds_of, step_from}
+use Rattle.apply_plan.specs.Script.Entry.{all_some, diag_from, diag_or_none, each_of, ending_of, entry_of, number_or_none, provisioner_from, seconds_of, step_from, wait_from, wait_of_members}
 use Rattle.apply_plan.specs.Script.NextEntry.{entry_after, entry_beside}
 use Rattle.apply_model.specs.Script.OutcomeMap.{OutcomeMap}
-use Rattle.apply_plan.specs.Script.OutcomeMap.{by_number, elements_of, script_of, script_of_entries, script_of_tree}
+use Rattle.apply_plan.specs.Script.OutcomeMap.{Said, by_number, elements_of, script_of, script_of_entries, script_of_tree, unless_stuck}
 use Rattle.apply_plan.specs.Script.Selection.{item_limit, item_shape, member_shape, script_selection}
 use Rattle.apply_plan.proofs.Results.{bind_same}
 use Rattle.apply_plan.proofs.Scripts.WholeList.{entries_one_by_one}
@@ -79,13 +78,31 @@ unfolding ending_of
 same_ending d =
     rw (text_or_trimmed script_selection shape.Step shape.Scalar [] (codes "id") d refl, diag_at shape.Step (codes "warning") d refl, diag_at shape.Step (codes "failed") d refl) refl
 
+same_number : (o : Option Data) → number_or_none (option_map (trimmed script_selection shape.Scalar) o) ≡ number_or_none o
+same_number None = refl
+same_number (Some d) = ap (λ (o : Option _). option_map Some (o >>= as_u64)) (as_number_trimmed script_selection shape.Scalar d)
+
+number_at : (d : Data) → number_or_none (member_of (codes "step") (trimmed script_selection shape.Wait d)) ≡ number_or_none (member_of (codes "step") d)
+number_at d = ap number_or_none (member_trimmed script_selection shape.Wait shape.Scalar (codes "step") d refl) ∙ same_number (member_of (codes "step") d)
+
+same_wait_of_members : (d : Data) → wait_of_members (trimmed script_selection shape.Wait d) ≡ wait_of_members d
+unfolding wait_of_members
+same_wait_of_members d =
+    rw (text_trimmed script_selection shape.Wait shape.Scalar (codes "address") d refl, text_or_trimmed script_selection shape.Wait shape.Scalar [] (codes "deposed") d refl, number_at d) refl
+
+same_wait : (d : Data) → wait_from (trimmed script_selection shape.Wait d) ≡ wait_from d
+same_wait d = rw (as_str_trimmed script_selection shape.Wait d, same_wait_of_members d) refl
+
 same_step : (d : Data) → step_from (trimmed script_selection shape.Step d) ≡ step_from d
 unfolding step_from
 same_step d =
     let provisioners : each_of provisioner_from (member_of (codes "provisioners") (trimmed script_selection shape.Step d)) ≡ each_of provisioner_from (member_of (codes "provisioners") d) =
     ap (each_of provisioner_from) (member_trimmed script_selection shape.Step shape.Provisioners (codes "provisioners") d refl)
     ∙ same_each shape.Provisioners provisioner_from refl same_provisioner (member_of (codes "provisioners") d) in
-    rw (seconds_at shape.Step d refl, same_ending d, provisioners) refl
+    let waits : each_of wait_from (member_of (codes "after") (trimmed script_selection shape.Step d)) ≡ each_of wait_from (member_of (codes "after") d) =
+    ap (each_of wait_from) (member_trimmed script_selection shape.Step shape.Waits (codes "after") d refl)
+    ∙ same_each shape.Waits wait_from refl same_wait (member_of (codes "after") d) in
+    rw (seconds_at shape.Step d refl, same_ending d, provisioners, waits) refl
 
 -- ---- entries
 
@@ -101,11 +118,11 @@ same_entry d =
     behind_trimmed script_selection shape.Entry shape.Steps (codes "steps") _ _ d refl
     (λ list. behind_items shape.Steps _ refl (λ ds. rw (each_trimmed shape.Step step_from same_step ds) refl) list))))
 
-same_after : (changes : List ResourceChange) (made : List (ℕ × List Outcome)) (d : Data) → entry_after changes made (trimmed script_selection shape.Entry d) ≡ entry_after changes made d
+same_after : (changes : List ResourceChange) (made : List Said) (d : Data) → entry_after changes made (trimmed script_selection shape.Entry d) ≡ entry_after changes made d
 unfolding entry_beside
 same_after changes made d = rw (same_entry d) refl
 
-same_made : (changes : List ResourceChange) (made : List (ℕ × List Outcome)) (ds : Items)
+same_made : (changes : List ResourceChange) (made : List Said) (ds : Items)
     → made_after (entry_after changes) made (trimmed_items script_selection shape.Entry None ds) ≡ made_after (entry_after changes) made ds
 unfolding made_after
 same_made changes made no_items = refl
@@ -116,7 +133,7 @@ same_made changes made (item d ds) = rw (same_after changes made d) (bind_same (
 same_entries : (plan : SavedPlan) (ds : Items) → script_of_entries plan (list_of (trimmed_items script_selection shape.Entry None ds)) ≡ script_of_entries plan (list_of ds)
 unfolding script_of_entries
 same_entries plan ds =
-    ap (λ r. results.◌>>=◌ r (λ entries. Ok (by_number (length plan.changes) entries)))
+    ap (λ r. results.◌>>=◌ r (λ entries. unless_stuck entries (by_number (length plan.changes) entries)))
     (sym (entries_one_by_one plan.changes (trimmed_items script_selection shape.Entry None ds)) ∙ same_made plan.changes [] ds ∙ entries_one_by_one plan.changes ds)
 
 elements_at : (o : Option Data) → (option_map (trimmed script_selection shape.Entries) o >>= as_array) ≡ option_map (trimmed_items script_selection shape.Entry None) (o >>= as_array)
