@@ -30,7 +30,7 @@ none_passes p xs none k d below =
     (λ (no : p (get_or xs k d) ≡ false). no)
     (cases_Bool (p (get_or xs k d)))
 
-not_refused : (b : Bool) (refusal : ScriptError) (o : Option ScriptError) → cond b (Some refusal) o ≡ None → (b ≡ false) × (o ≡ None)
+pub not_refused : (b : Bool) (refusal : ScriptError) (o : Option ScriptError) → cond b (Some refusal) o ≡ None → (b ≡ false) × (o ≡ None)
 not_refused true refusal o e = absurd cc
 not_refused false refusal o e = (refl, e)
 

@@ -1,5 +1,5 @@
 -- What one entry says, in the steps of a reader.
-use Rattle.std.proofs.Common.{◌≡◌, ℕ, ◌+◌, ◌-◌, ◌<◌, ◌≤◌, true, false, cond, List, [], ◌∷◌, length, map, get_or, Option, Some, None, option_map, Result, Err, refl, sym, ap, ◌∙◌, arith, ⊎_elim}
+use Rattle.std.proofs.Common.{◌≡◌, ℕ, ◌+◌, ◌-◌, ◌<◌, ◌≤◌, true, false, cond, List, [], ◌∷◌, length, map, get_or, Option, Some, None, option_map, Result, Ok, Err, refl, sym, ap, ◌∙◌, arith, ⊎_elim}
 use Rattle.std.specs.Prelude.{is_some, nat_lt, option_and_then}
 use Rattle.std.proofs.lemmas.Bool.{cases_Bool, le-ltb, lt-ltb, ltb-false, ltb-true}
 use Rattle.std.proofs.lemmas.List.{length-map}
@@ -8,7 +8,7 @@ use Rattle.std.proofs.lemmas.Option.{slice_get_read}
 use Rattle.serde_json.specs.Data.{Data}
 use Rattle.apply_model.specs.declared.script.outcome.Outcome.{Outcome}
 use Rattle.apply_plan.specs.declared.script.script_error.ScriptError.{ScriptError}
-use Rattle.apply_plan.specs.declared.script.script_error.ScriptError.TheVariants.{BadShape, UnknownChange, Duplicate, TooManyWaits}
+use Rattle.apply_plan.specs.declared.script.script_error.ScriptError.TheVariants.{BadShape, UnknownChange, Duplicate, TooManySteps, TooManyWaits}
 use Rattle.apply_plan.specs.declared.script.tree_entry.TreeEntry.{TreeEntry}
 use Rattle.apply_plan.specs.declared.script.tree_step.TreeStep.{TreeStep}
 use Rattle.apply_model.specs.declared.plan.step_kind.StepKind.{StepKind}
@@ -16,12 +16,15 @@ use Rattle.apply_model.specs.Script.Limits.{max_waits}
 use Rattle.apply_model.specs.Plan.ResourceChange.{ResourceChange}
 use Rattle.apply_plan.specs.Results.{unless_refused}
 use Rattle.apply_plan.specs.Script.Entry.{Entry, EntryStep, entry_of}
-use Rattle.apply_plan.specs.Script.NextEntry.{entry_beside}
+use Rattle.apply_plan.specs.Script.NextEntry.{entry_beside, outcomes_or_fault}
 use Rattle.apply_model.specs.Script.OutcomeMap.{OutcomeMap, said_at}
 use Rattle.apply_plan.specs.Script.OutcomeMap.{Said, change_of_entry, said_by}
 use Rattle.apply_plan.specs.Script.Refusals.{count_of_waits, fault_of_entry, fault_of_names, fault_of_steps, fault_of_waits}
 use Rattle.apply_plan.specs.Script.TreeView.{entry_step_view, entry_view, step_view, tree_waits, wait_view, waits_within}
+use Rattle.apply_plan.specs.Script.WaitedStep.{outcome_said}
+use Rattle.apply_plan.proofs.Results.{unless_refused_ok}
 use Rattle.apply_plan.proofs.Scripts.Entries.{IsChangeOf}
+use Rattle.apply_plan.proofs.Scripts.Limits.{not_refused}
 
 pub entry_found : (d : Data) (found : Option TreeEntry) (entry : TreeEntry) → option_map entry_view found ≡ entry_of d → found ≡ Some entry → Some (entry_view entry) ≡ entry_of d
 entry_found d found entry is some = sym (ap (λ (o : Option TreeEntry). option_map entry_view o) some) ∙ is
@@ -118,3 +121,21 @@ fault_of_items n changes earlier kinds steps none few =
 pub also_refused : {A B : Type 0} (o : Option ScriptError) (x : A) (y : B) (e : ScriptError) → unless_refused o x ≡ Err e → unless_refused o y ≡ Err e
 also_refused None x y e is = absurd cc
 also_refused (Some refusal) x y e is = cc
+
+-- the outcomes of an entry that is answered so far by the faults of its items
+pub accepted : (n : ℕ) (changes : List ResourceChange) (number : ℕ) (steps : List TreeStep) (outcomes : List Outcome) (waits : ℕ) (answer : Result Said ScriptError)
+    → answer ≡ unless_refused (fault_of_names n changes (map entry_step_view steps)) (said_by changes number (map entry_step_view steps)) → outcomes_or_fault n changes (map entry_step_view steps) ≡ Ok outcomes → waits ≡ tree_waits steps
+    → answer ≡ Ok (record { change = number; outcomes = outcomes; waits = waits })
+accepted n changes number steps outcomes waits answer is made count =
+    let clear = unless_refused_ok (fault_of_names n changes (map entry_step_view steps)) (map (outcome_said changes) (map entry_step_view steps)) outcomes made in
+    let counted : count_of_waits (map entry_step_view steps) ≡ waits = counted_seen steps ∙ sym count in
+    is ∙ rw (clear.0, clear.1, counted) refl
+
+-- they are no more than the change has steps
+pub few_outcomes : (n : ℕ) (changes : List ResourceChange) (kinds : List StepKind) (steps : List TreeStep) (outcomes : List Outcome) → None ≡ fault_of_steps n kinds (map step_view steps) → outcomes_or_fault n changes (map entry_step_view steps) ≡ Ok outcomes
+    → length outcomes ≤ length kinds
+unfolding fault_of_steps
+few_outcomes n changes kinds steps outcomes none made =
+    let clear = unless_refused_ok (fault_of_names n changes (map entry_step_view steps)) (map (outcome_said changes) (map entry_step_view steps)) outcomes made in
+    let few = not_refused (nat_lt (length kinds) (length (map step_view steps))) (TooManySteps n) _ (sym none) in
+    omega (arith, ap (λ (os : List Outcome). length os) clear.1, length-map (map entry_step_view steps) (outcome_said changes), length-map steps entry_step_view, length-map steps step_view, ltb-false (length kinds) (length (map step_view steps)) few.0)
