@@ -1,6 +1,6 @@
 //! Which steps of a script could begin.
 
-ghost use Rattle.std.specs.Prelude.{◌≡◌, ◌+◌, ◌<◌, ◌≤◌, All, IfOk, length, slice_get, true, false};
+ghost use Rattle.std.specs.Prelude.{◌≡◌, ◌<◌, ◌≤◌, All, IfOk, OnSome, length, slice_get, true, false};
 ghost use Rattle.std.specs.List.{position_from};
 ghost use Rattle.apply_model.specs.Script.Limits.{max_waits};
 ghost use Rattle.apply_model.specs.Script.OutcomeMap.{outcome_of};
@@ -115,7 +115,7 @@ fn could_begin(
 /// outcome names.
 fn waited(script: &Script, step: Wait, number: u32) -> Option<Wait>
     ensures found { result ≡ slice_get (waits_of script.now step.change step.step) number }
-    ensures few { length (waits_of script.now step.change step.step) ≤ max_waits + 1 }
+    ensures few { OnSome result (number ≤ max_waits) }
 {
     if step.step == 0 {
         return named(script, step, number);
@@ -132,7 +132,7 @@ fn waited(script: &Script, step: Wait, number: u32) -> Option<Wait>
 /// The step of that number among those that the outcome of a step names.
 fn named(script: &Script, step: Wait, number: u32) -> Option<Wait>
     ensures found { result ≡ slice_get (outcome_of script.now step.change step.step).after number }
-    ensures few { length (outcome_of script.now step.change step.step).after ≤ max_waits }
+    ensures few { OnSome result (number < max_waits) }
 {
     let after = &script.outcome(step.change, step.step)?.after;
     if number < after.len() {
