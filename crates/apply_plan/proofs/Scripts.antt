@@ -8,6 +8,7 @@ pub mod Parts
 pub mod Refusals
 pub mod Rounds
 pub mod Trimmed
+pub mod Stuck
 pub mod TreeSteps
 pub mod Waited
 pub mod WholeList

@@ -1,28 +1,29 @@
-use Rattle.std.proofs.Common.{rules, ◌≡◌, ◌+◌, ◌<◌, ◌≤◌, All, IfOk, length, slice_get, true, false, ℕ, ◌-◌, ◌*◌, ◌/◌, ◌%◌, Bool, nat_eq, nat_lt, List, [], ◌∷◌, ◌++◌, slice_index_or, slice_set, bit_and, bit_or, Fits, w8, w32, w64, Bor, MutBor}
-use Rattle.std.specs.List.{position_from}
-use Rattle.apply_model.specs.Script.Limits.{max_waits}
-use Rattle.apply_model.specs.Script.OutcomeMap.{outcome_of}
-use Rattle.apply_model.specs.Script.Waits.{could_begin, waits_of}
-use Rattle.apply_plan.specs.Script.Beginning.{AreAllPlaced, AreSettled, is_stuck_at}
-use Rattle.apply_plan.specs.Script.Placed.{IsPlaced}
+use Rattle.std.proofs.Common.{◌≡◌, ℕ, Bool, Ok, ap, get_or, refl, subst, sym, ◌∙◌, arith}
+use Rattle.std.proofs.lemmas.List.{get_or_default}
+use Rattle.apply_plan.specs.Script.Beginning.{is_stuck_at}
+use Rattle.apply_plan.proofs.Scripts.Stuck.{no_entry_left, none_seen, not_here, stuck_here}
 use Rattle.apply_plan.proofs.script.beginning.first_stuck.Goals as goal
 
--- src/script/beginning.rt:38:5
 pub loop-number-init : goal.loop-number-init
-loop-number-init c = ?
+loop-number-init c = (none_seen c.args.script.now c.args.changes c.in_ok-marks.marks c.requires.changes c.in_ok-marks.ensures, refl)
 
--- src/script/beginning.rt:39:12
 pub is_stuck-requires-clause-settled : goal.is_stuck-requires-clause-settled
-is_stuck-requires-clause-settled c = ?
+is_stuck-requires-clause-settled c = c.loop-number.invariant.0
 
--- src/script/beginning.rt:40:13
 pub returns-then-branch : goal.returns-then-branch
-returns-then-branch c = ?
+returns-then-branch c =
+    let entries = c.args.entries.now in
+    let n = c.loop-number.number in
+    let entry : ℕ × ℕ = get_or entries n (0, 0) in
+    sym (stuck_here c.args.script.now entries n entry c.loop-number-test.true (get_or_default entries n (0, 0) entry c.loop-number-test.true) (sym c.in_ok-is_stuck.ensures.found ∙ c.if-branch.true)) ∙ c.loop-number.invariant.1
 
--- src/script/beginning.rt:38:5
 pub loop-number-preserved : goal.loop-number-preserved
-loop-number-preserved c = ?
+loop-number-preserved c =
+    let entries = c.args.entries.now in
+    let n = c.loop-number.number in
+    let entry : ℕ × ℕ = get_or entries n (0, 0) in
+    (c.in_ok-is_stuck.ensures.settled (rw c.if-branch.false refl),
+      sym (not_here c.args.script.now entries n entry c.loop-number-test.true (get_or_default entries n (0, 0) entry c.loop-number-test.true) (sym c.in_ok-is_stuck.ensures.found ∙ c.if-branch.false)) ∙ c.loop-number.invariant.1)
 
--- src/script/beginning.rt:25:1
 pub returns : goal.returns
-returns c = ?
+returns c = sym (no_entry_left c.args.script.now c.args.entries.now c.loop-number.number c.loop-number-test.false) ∙ c.loop-number.invariant.1

@@ -1,28 +1,21 @@
-use Rattle.std.proofs.Common.{rules, ◌≡◌, ◌+◌, ◌<◌, ◌≤◌, All, IfOk, length, slice_get, true, false, ℕ, ◌-◌, ◌*◌, ◌/◌, ◌%◌, Bool, nat_eq, nat_lt, List, [], ◌∷◌, ◌++◌, slice_index_or, slice_set, bit_and, bit_or, Fits, w8, w32, w64, Bor, MutBor}
-use Rattle.std.specs.List.{position_from}
-use Rattle.apply_model.specs.Script.Limits.{max_waits}
-use Rattle.apply_model.specs.Script.OutcomeMap.{outcome_of}
-use Rattle.apply_model.specs.Script.Waits.{could_begin, waits_of}
-use Rattle.apply_plan.specs.Script.Beginning.{AreAllPlaced, AreSettled, is_stuck_at}
-use Rattle.apply_plan.specs.Script.Placed.{IsPlaced}
+use Rattle.std.proofs.Common.{◌≡◌, Bool, Ok, ap, refl, subst, sym, ◌∙◌, arith}
+use Rattle.apply_plan.proofs.Scripts.Stuck.{none_stuck_more, stuck_among, stuck_below}
 use Rattle.apply_plan.proofs.script.beginning.is_stuck.Goals as goal
 
--- src/script/beginning.rt:61:5
 pub loop-step-init : goal.loop-step-init
-loop-step-init c = ?
+loop-step-init c = (c.requires.settled, refl)
 
--- src/script/beginning.rt:62:13
 pub could_begin-requires-clause-settled : goal.could_begin-requires-clause-settled
-could_begin-requires-clause-settled c = ?
+could_begin-requires-clause-settled c = c.loop-step.invariant.0
 
--- src/script/beginning.rt:61:5
 pub loop-step-preserved : goal.loop-step-preserved
-loop-step-preserved c = ?
+loop-step-preserved c =
+    (c.in_ok-could_begin.ensures.settled (rw c.if-not-branch.false refl), none_stuck_more c.args.script.now c.args.change c.loop-step.step c.loop-step.invariant.1 (sym c.if-not-branch.false ∙ c.in_ok-could_begin.ensures.found))
 
--- src/script/beginning.rt:47:1
 pub returns-clause-found : goal.returns-clause-found
-returns-clause-found c = ?
+returns-clause-found c =
+    let all : c.loop-step.step ≡ c.args.steps = omega arith in
+    sym (ap (stuck_below c.args.script.now c.args.change) (sym all) ∙ c.loop-step.invariant.1)
 
--- src/script/beginning.rt:47:1
 pub returns-clause-settled : goal.returns-clause-settled
-returns-clause-settled c = ?
+returns-clause-settled c = λ ok. c.loop-step.invariant.0

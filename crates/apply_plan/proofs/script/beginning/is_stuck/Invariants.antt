@@ -1,11 +1,7 @@
-use Rattle.std.proofs.Common.{◌≡◌, ◌+◌, ◌<◌, ◌≤◌, All, IfOk, length, slice_get, true, false, ℕ, ◌-◌, ◌*◌}
-use Rattle.std.specs.List.{position_from}
-use Rattle.apply_model.specs.Script.Limits.{max_waits}
-use Rattle.apply_model.specs.Script.OutcomeMap.{outcome_of}
-use Rattle.apply_model.specs.Script.Waits.{could_begin, waits_of}
-use Rattle.apply_plan.specs.Script.Beginning.{AreAllPlaced, AreSettled, is_stuck_at}
-use Rattle.apply_plan.specs.Script.Placed.{IsPlaced}
+use Rattle.std.proofs.Common.{◌≡◌, false}
+use Rattle.apply_plan.specs.Script.Beginning.{AreSettled}
+use Rattle.apply_plan.proofs.Scripts.Stuck.{stuck_below}
 use Rattle.apply_plan.proofs.script.beginning.is_stuck.Given as goal
 
 abbrev pub invariant-loop-step : goal.invariant-loop-step
-invariant-loop-step l = ?
+invariant-loop-step l = AreSettled l.script l.marks × (stuck_below l.script l.change l.step ≡ false)
