@@ -3,7 +3,8 @@ use Rattle.std.proofs.Common.{◌≡◌, ℕ, ◌+◌, ◌<◌, ◌≤◌, Bool,
 use Rattle.std.specs.Prelude.{◌||◌, ◌==◌, is_some, sum_by}
 use Rattle.std.specs.List.{All, count_by, list_any, position_from}
 use Rattle.std.specs.Option.{option_map_or}
-use Rattle.std.proofs.lemmas.List.{length-append}
+use Rattle.std.proofs.lemmas.List.{length-append, map-append}
+use Rattle.std.proofs.lemmas.List.Elements.{All-append, All-cons, All-nil}
 use Rattle.std.proofs.lemmas.List.Folds.{list_any-append}
 use Rattle.std.proofs.lemmas.List.Sums.{count_by-le-length, sum_by_push}
 use Rattle.std.proofs.lemmas.Option.{slice_get_within}
@@ -168,6 +169,22 @@ said_placed changes said waits n made has = subst AreAllPlaced (sym has.said_is)
 -- what is kept of an entry: its change, and how many steps it has
 abbrev pub kept_of : Said → ℕ × ℕ
 kept_of entry = (entry.change, length entry.outcomes)
+
+-- what is kept of the entries that were read
+pub record HasKept (n : ℕ) (kept : List (ℕ × ℕ)) (made : List Said) : Type 0 where
+  pub kept_is : kept ≡ map kept_of made
+  pub within : All (λ entry. (entry.0 < n) × (entry.1 ≤ 2)) kept
+
+pub nothing_kept : (n : ℕ) (kept : List (ℕ × ℕ)) → kept ≡ [] → HasKept n kept []
+nothing_kept n kept none = let P = λ (entry : ℕ × ℕ). (entry.0 < n) × (entry.1 ≤ 2) in record { kept_is = none; within = subst (All P) (sym none) (All-nil P) }
+
+pub one_kept : (n : ℕ) (kept : List (ℕ × ℕ)) (made : List Said) (one : Said) → HasKept n kept made → one.change < n → length one.outcomes ≤ 2 → HasKept n (kept ++ kept_of one ∷ []) (made ++ one ∷ [])
+one_kept n kept made one has below few =
+    let P = λ (entry : ℕ × ℕ). (entry.0 < n) × (entry.1 ≤ 2) in
+    record {
+      kept_is = rw (map-append kept_of made (one ∷ []), has.kept_is) refl;
+      within = All-append P kept (kept_of one ∷ []) has.within (All-cons P (kept_of one) [] (below, few) (All-nil P));
+    }
 
 pub same_stuck : (script : OutcomeMap) (made : List Said) (n : ℕ) → position_from (is_stuck_at script) n (map kept_of made) ≡ position_from (is_stuck script) n made
 same_stuck script [] n = refl
