@@ -35,6 +35,7 @@ unread_large given (refusal.Plan r) h long =
     (λ (is : plan_of given.plan ≡ Err r). let same : r ≡ plan_error.TooLarge = let both = sym is ∙ refused in cc in ap (λ (e : PlanError). refusal_status_of (refusal.Plan e)) same)
     h
 unread_large given (refusal.Script r) h long = let refused = too_large given.plan long in let read = h.1 in absurd cc
+unread_large given refusal.Waits h long = absurd h
 unread_large given refusal.Size h long = absurd h
 unread_large given (refusal.Fault fault) h long = absurd h
 
@@ -98,6 +99,7 @@ module _ (given : Given) (options : Options) where
   pub begun_of_refused_as_told : (r : Refusal) (before after after' : Sight) → Keeps after.bytes after'.bytes → after.failed ≤ after'.failed → WasNotApplied given options r before after → Keeps before.bytes after'.bytes ⊎ HasBegunAsTold given options before after'
   begun_of_refused_as_told (refusal.Plan r) before after after' kept more h = inl (subst (λ s. Keeps s.bytes after'.bytes) h.1 kept)
   begun_of_refused_as_told (refusal.Script r) before after after' kept more h = inl (subst (λ s. Keeps s.bytes after'.bytes) h.1 kept)
+  begun_of_refused_as_told refusal.Waits before after after' kept more h = inl (subst (λ s. Keeps s.bytes after'.bytes) h.3 kept)
   begun_of_refused_as_told refusal.Size before after after' kept more h = inl (subst (λ s. Keeps s.bytes after'.bytes) h.3 kept)
   begun_of_refused_as_told (refusal.Fault fault) before after after' kept more h = begun_of_fault_as_told fault.why fault.report before after after' h.0 kept more h.1 h.3
 
@@ -105,6 +107,7 @@ module _ (given : Given) (options : Options) where
   pub kept_of_refused_as_told : (r : Refusal) (before after : Sight) → refusal_status_of r ≡ 2 → WasNotApplied given options r before after → Keeps before.bytes after.bytes
   kept_of_refused_as_told (refusal.Plan r) before after is h = subst (λ s. Keeps s.bytes after.bytes) h.1 (Keeps-refl after.bytes)
   kept_of_refused_as_told (refusal.Script r) before after is h = subst (λ s. Keeps s.bytes after.bytes) h.1 (Keeps-refl after.bytes)
+  kept_of_refused_as_told refusal.Waits before after is h = subst (λ s. Keeps s.bytes after.bytes) h.3 (Keeps-refl after.bytes)
   kept_of_refused_as_told refusal.Size before after is h = subst (λ s. Keeps s.bytes after.bytes) h.3 (Keeps-refl after.bytes)
   kept_of_refused_as_told (refusal.Fault fault) before after is h = absurd (omega arith)
 
@@ -112,6 +115,7 @@ module _ (given : Given) (options : Options) where
   pub refused_large_as_told : (r : Refusal) (before after : Sight) → WasNotApplied given options r before after → max_bytes < length given.plan → refusal_status_of r ≡ 2
   refused_large_as_told (refusal.Plan r) before after h long = unread_large given (refusal.Plan r) h.0 long
   refused_large_as_told (refusal.Script r) before after h long = unread_large given (refusal.Script r) h.0 long
+  refused_large_as_told refusal.Waits before after h long = told_is_not_large given h.0 h.1 long
   refused_large_as_told refusal.Size before after h long = told_is_not_large given h.0 h.1 long
   refused_large_as_told (refusal.Fault fault) before after h long = told_is_not_large given h.0 h.1 long
 
@@ -169,6 +173,7 @@ module _ (given : Given) (lanes start : ℕ) (operation : Operation) where
   pub begun_by_refused_as_told : (r : Refusal) (before after after' : Sight) → Keeps after.bytes after'.bytes → after.failed ≤ after'.failed → WasNotAppliedInLanes given lanes start operation r before after → Keeps before.bytes after'.bytes ⊎ HasBegunAsToldInLanes given lanes start operation before after'
   begun_by_refused_as_told (refusal.Plan r) before after after' kept more h = inl (subst (λ s. Keeps s.bytes after'.bytes) h.1 kept)
   begun_by_refused_as_told (refusal.Script r) before after after' kept more h = inl (subst (λ s. Keeps s.bytes after'.bytes) h.1 kept)
+  begun_by_refused_as_told refusal.Waits before after after' kept more h = absurd h
   begun_by_refused_as_told refusal.Size before after after' kept more h = inl (subst (λ s. Keeps s.bytes after'.bytes) h.3 kept)
   begun_by_refused_as_told (refusal.Fault fault) before after after' kept more h = begun_by_fault_as_told fault.why fault.report before after after' h.0 kept more h.1 h.3
 
@@ -176,6 +181,7 @@ module _ (given : Given) (lanes start : ℕ) (operation : Operation) where
   pub kept_by_refused_as_told : (r : Refusal) (before after : Sight) → refusal_status_of r ≡ 2 → WasNotAppliedInLanes given lanes start operation r before after → Keeps before.bytes after.bytes
   kept_by_refused_as_told (refusal.Plan r) before after is h = subst (λ s. Keeps s.bytes after.bytes) h.1 (Keeps-refl after.bytes)
   kept_by_refused_as_told (refusal.Script r) before after is h = subst (λ s. Keeps s.bytes after.bytes) h.1 (Keeps-refl after.bytes)
+  kept_by_refused_as_told refusal.Waits before after is h = absurd h
   kept_by_refused_as_told refusal.Size before after is h = subst (λ s. Keeps s.bytes after.bytes) h.3 (Keeps-refl after.bytes)
   kept_by_refused_as_told (refusal.Fault fault) before after is h = absurd (omega arith)
 
@@ -183,5 +189,6 @@ module _ (given : Given) (lanes start : ℕ) (operation : Operation) where
   pub large_by_refused_as_told : (r : Refusal) (before after : Sight) → WasNotAppliedInLanes given lanes start operation r before after → max_bytes < length given.plan → refusal_status_of r ≡ 2
   large_by_refused_as_told (refusal.Plan r) before after h long = unread_large given (refusal.Plan r) h.0 long
   large_by_refused_as_told (refusal.Script r) before after h long = unread_large given (refusal.Script r) h.0 long
+  large_by_refused_as_told refusal.Waits before after h long = absurd h
   large_by_refused_as_told refusal.Size before after h long = told_is_not_large given h.0 h.1 long
   large_by_refused_as_told (refusal.Fault fault) before after h long = told_is_not_large given h.0 h.1 long

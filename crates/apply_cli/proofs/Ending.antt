@@ -89,6 +89,7 @@ begun_of_fault cause given options report before after after' plan script kept m
 pub begun_of_refused : (given : Given) (options : Options) (r : Refusal) (before after after' : Sight) → Keeps after.bytes after'.bytes → after.failed ≤ after'.failed → WasRefused given options r before after → Keeps before.bytes after'.bytes ⊎ HasBegun given options before after'
 begun_of_refused given options (refusal.Plan r) before after after' kept more h = inl (subst (λ s. Keeps s.bytes after'.bytes) h.1 kept)
 begun_of_refused given options (refusal.Script r) before after after' kept more h = inl (subst (λ s. Keeps s.bytes after'.bytes) h.3 kept)
+begun_of_refused given options refusal.Waits before after after' kept more h = inl (subst (λ s. Keeps s.bytes after'.bytes) h.4 kept)
 begun_of_refused given options refusal.Size before after after' kept more h = inl (subst (λ s. Keeps s.bytes after'.bytes) h.4 kept)
 begun_of_refused given options (refusal.Fault fault) before after after' kept more h = begun_of_fault fault.why given options fault.report before after after' h.0 h.1 kept more h.2 h.4
 
@@ -96,6 +97,7 @@ begun_of_refused given options (refusal.Fault fault) before after after' kept mo
 pub kept_of_refused : (given : Given) (options : Options) (r : Refusal) (before after : Sight) → refusal_status_of r ≡ 2 → WasRefused given options r before after → Keeps before.bytes after.bytes
 kept_of_refused given options (refusal.Plan r) before after is h = subst (λ s. Keeps s.bytes after.bytes) h.1 (Keeps-refl after.bytes)
 kept_of_refused given options (refusal.Script r) before after is h = subst (λ s. Keeps s.bytes after.bytes) h.3 (Keeps-refl after.bytes)
+kept_of_refused given options refusal.Waits before after is h = subst (λ s. Keeps s.bytes after.bytes) h.4 (Keeps-refl after.bytes)
 kept_of_refused given options refusal.Size before after is h = subst (λ s. Keeps s.bytes after.bytes) h.4 (Keeps-refl after.bytes)
 kept_of_refused given options (refusal.Fault fault) before after is h = absurd (omega arith)
 
@@ -108,6 +110,7 @@ refused_large given options (refusal.Plan r) before after h long =
     (λ (is : plan_of given.plan ≡ Err r). let same : r ≡ plan_error.TooLarge = let both = sym is ∙ refused in cc in ap (λ (e : PlanError). refusal_status_of (refusal.Plan e)) same)
     h.0
 refused_large given options (refusal.Script r) before after h long = let refused = too_large given.plan long in let read = h.1 in absurd cc
+refused_large given options refusal.Waits before after h long = let refused = too_large given.plan long in let read = h.2.plan_is in absurd cc
 refused_large given options refusal.Size before after h long = let refused = too_large given.plan long in let read = h.2.plan_is in absurd cc
 refused_large given options (refusal.Fault fault) before after h long = let refused = too_large given.plan long in let read = h.2.plan_is in absurd cc
 

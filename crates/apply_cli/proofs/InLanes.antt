@@ -81,6 +81,7 @@ module _ (given : Given) (lanes start : ℕ) (operation : Operation) where
   pub begun_by_refused : (r : Refusal) (before after after' : Sight) → Keeps after.bytes after'.bytes → after.failed ≤ after'.failed → WasRefusedInLanes given lanes start operation r before after → Keeps before.bytes after'.bytes ⊎ HasBegunInLanes given lanes start operation before after'
   begun_by_refused (refusal.Plan r) before after after' kept more h = inl (subst (λ s. Keeps s.bytes after'.bytes) (h any_options).1 kept)
   begun_by_refused (refusal.Script r) before after after' kept more h = inl (subst (λ s. Keeps s.bytes after'.bytes) (h any_options).3 kept)
+  begun_by_refused refusal.Waits before after after' kept more h = absurd h
   begun_by_refused refusal.Size before after after' kept more h = inl (subst (λ s. Keeps s.bytes after'.bytes) h.4 kept)
   begun_by_refused (refusal.Fault fault) before after after' kept more h = begun_by_fault fault.why fault.report before after after' h.0 h.1 kept more h.2 h.4
 
@@ -88,6 +89,7 @@ module _ (given : Given) (lanes start : ℕ) (operation : Operation) where
   pub large_by_refused : (r : Refusal) (before after : Sight) → WasRefusedInLanes given lanes start operation r before after → max_bytes < length given.plan → refusal_status_of r ≡ 2
   large_by_refused (refusal.Plan r) before after h long = refused_large given any_options (refusal.Plan r) before after (h any_options) long
   large_by_refused (refusal.Script r) before after h long = refused_large given any_options (refusal.Script r) before after (h any_options) long
+  large_by_refused refusal.Waits before after h long = absurd h
   large_by_refused refusal.Size before after h long = let refused = too_large given.plan long in let read = h.2.plan_is in absurd cc
   large_by_refused (refusal.Fault fault) before after h long = let refused = too_large given.plan long in let read = h.2.plan_is in absurd cc
 
@@ -95,5 +97,6 @@ module _ (given : Given) (lanes start : ℕ) (operation : Operation) where
   pub kept_by_refused : (r : Refusal) (before after : Sight) → refusal_status_of r ≡ 2 → WasRefusedInLanes given lanes start operation r before after → Keeps before.bytes after.bytes
   kept_by_refused (refusal.Plan r) before after is h = subst (λ s. Keeps s.bytes after.bytes) (h any_options).1 (Keeps-refl after.bytes)
   kept_by_refused (refusal.Script r) before after is h = subst (λ s. Keeps s.bytes after.bytes) (h any_options).3 (Keeps-refl after.bytes)
+  kept_by_refused refusal.Waits before after is h = absurd h
   kept_by_refused refusal.Size before after is h = subst (λ s. Keeps s.bytes after.bytes) h.4 (Keeps-refl after.bytes)
   kept_by_refused (refusal.Fault fault) before after is h = absurd (omega arith)

@@ -9,7 +9,7 @@ use Rattle.apply_plan.specs.declared.plan.plan_error.PlanError.TheVariants as pl
 use Rattle.apply_plan.specs.declared.script.script_error.ScriptError.{ScriptError}
 use Rattle.apply_plan.specs.declared.script.script_error.ScriptError.TheVariants as script
 use Rattle.apply_run.specs.declared.refusal.Refusal.{Refusal}
-use Rattle.apply_run.specs.declared.refusal.Refusal.TheVariants.{Plan, Script, Size, Fault}
+use Rattle.apply_run.specs.declared.refusal.Refusal.TheVariants.{Plan, Script, Waits, Size, Fault}
 use Rattle.apply_cli.specs.declared.input_fault.InputFault.{InputFault}
 use Rattle.apply_cli.specs.declared.input_fault.InputFault.TheVariants as input
 use Rattle.apply_settings.specs.declared.usage.Usage.{Usage}
@@ -41,6 +41,10 @@ script_status_of (script.SecondsRange n) = 2
 script_status_of (script.TooManyProvisioners n) = 2
 script_status_of (script.TooMuchOutput n) = 2
 script_status_of (script.NotACreate n) = 2
+script_status_of (script.TooManyWaits n) = 2
+script_status_of (script.UnknownWait n) = 2
+script_status_of (script.NoSuchStep n) = 2
+script_status_of (script.NeverBegins n) = 2
 script_status_of (script.BadOutput n) = 2
 script_status_of (script.UnknownOutput n) = 2
 script_status_of script.Memory = 3
@@ -48,6 +52,7 @@ script_status_of script.Memory = 3
 abbrev pub refusal_status_of : Refusal → ℕ
 refusal_status_of (Plan refusal) = plan_status_of refusal
 refusal_status_of (Script refusal) = script_status_of refusal
+refusal_status_of Waits = 2
 refusal_status_of Size = 2
 refusal_status_of (Fault fault) = 3
 

@@ -35,7 +35,7 @@ pub fn refusal_status(refusal: Refusal) -> u8
 {
     match refusal {
         Refusal::Plan(PlanError::Memory) | Refusal::Script(ScriptError::Memory) => FAILED,
-        Refusal::Plan(_) | Refusal::Script(_) | Refusal::Size => REFUSED,
+        Refusal::Plan(_) | Refusal::Script(_) | Refusal::Waits | Refusal::Size => REFUSED,
         Refusal::Fault(_) => FAILED,
     }
 }

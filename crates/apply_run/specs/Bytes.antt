@@ -1,15 +1,16 @@
 -- What is answered to the bytes of a plan and of a script.
-use Rattle.std.specs.Prelude.{◌≡◌, ◌≤◌, ◌⊎◌, ℕ, List, [], length, Option, Some, None, Result, Ok, Err}
+use Rattle.std.specs.Prelude.{◌≡◌, ◌≤◌, ◌⊎◌, ℕ, List, [], length, Bool, true, false, Option, Some, None, Result, Ok, Err}
 use Rattle.apply_plan.specs.declared.plan.plan_error.PlanError.TheVariants as plan_error
 use Rattle.apply_plan.specs.declared.script.script_error.ScriptError.{ScriptError}
 use Rattle.apply_plan.specs.declared.script.script_error.ScriptError.TheVariants as script_error
 use Rattle.apply_plan.specs.Bytes.{max_bytes}
 use Rattle.apply_plan.specs.Plan.SavedPlan.{SavedPlan, plan_of}
 use Rattle.apply_plan.specs.Script.OutcomeMap.{OutcomeMap, script_of}
+use Rattle.apply_plan.specs.Script.Waits.{has_waits}
 use Rattle.apply_hooks.specs.declared.rule.Rule.{Rule}
 use Rattle.apply_run.specs.declared.options.Options.{Options}
 use Rattle.apply_run.specs.declared.refusal.Refusal.{Refusal}
-use Rattle.apply_run.specs.declared.refusal.Refusal.TheVariants.{Plan, Script, Size, Fault}
+use Rattle.apply_run.specs.declared.refusal.Refusal.TheVariants.{Plan, Script, Waits, Size, Fault}
 use Rattle.apply_run.specs.declared.report.Report.{Report}
 use Rattle.apply_run.specs.Options.{IsInRange}
 use Rattle.apply_run.specs.Run.{HasFailed, HasStreamed, Sight}
@@ -41,9 +42,11 @@ pub record WasApplied (given : Given) (options : Options) (report : Report) (bef
   pub read : IsRead given plan script
   pub sizes : IsInRange options
   pub streamed : HasStreamed (record { plan = plan; script = script; hooks = given.hooks }) options report before after
+  -- workers take no notice of what steps wait for, and so no script that says it is applied
+  pub no_waits : has_waits script ≡ false
 
--- the plan is refused as it is defined, else the script as it is defined, else the sizes where they are out of range;
--- the sink is as it was. Memory may be wanted before, but for no plan and no script that is too large, and for no
+-- the plan is refused as it is defined, else the script as it is defined, else one that says what steps wait for, else the
+-- sizes where they are out of range; the sink is as it was. Memory may be wanted before, but for no plan and no script that is too large, and for no
 -- script where there is none. Otherwise the run has ended in a fault
 abbrev pub WasRefused : Given → Options → Refusal → (before after : Sight) → Type 0
 WasRefused given options (Plan refusal) before after =
@@ -53,8 +56,12 @@ WasRefused given options (Script refusal) before after =
     (plan : SavedPlan) × (plan_of given.plan ≡ Ok plan)
     × (((refusal ≡ script_error.Memory) × MayBeRead given.script) ⊎ (given_script plan given.script ≡ Err refusal))
     × (after ≡ before)
+WasRefused given options Waits before after =
+    (plan : SavedPlan) × (script : OutcomeMap) × IsRead given plan script × (has_waits script ≡ true) × (after ≡ before)
 WasRefused given options Size before after =
     (plan : SavedPlan) × (script : OutcomeMap) × IsRead given plan script × ¬ IsInRange options × (after ≡ before)
+    × (has_waits script ≡ false)
 WasRefused given options (Fault fault) before after =
     (plan : SavedPlan) × (script : OutcomeMap) × IsRead given plan script × IsInRange options
     × HasFailed fault.why (record { plan = plan; script = script; hooks = given.hooks }) options fault.report before after
+    × (has_waits script ≡ false)

@@ -1,5 +1,6 @@
 -- What is answered to the bytes of a plan and of a script, in the form that was asked for.
-use Rattle.std.specs.Prelude.{◌≡◌, ◌⊎◌, ℕ, List, Bool, None}
+use Rattle.std.specs.Prelude.{◌≡◌, ◌⊎◌, ℕ, List, Bool, true, false, None}
+use Rattle.apply_plan.specs.Script.Waits.{has_waits}
 use Rattle.apply_events.specs.Lanes.{AreLanes}
 use Rattle.apply_events.specs.Step.{Work}
 use Rattle.apply_form.specs.declared.form.Form.{Form}
@@ -8,7 +9,7 @@ use Rattle.apply_text.specs.declared.operation.Operation.{Operation}
 use Rattle.apply_run.specs.declared.form_report.FormReport.{FormReport}
 use Rattle.apply_run.specs.declared.options.Options.{Options}
 use Rattle.apply_run.specs.declared.refusal.Refusal.{Refusal}
-use Rattle.apply_run.specs.declared.refusal.Refusal.TheVariants.{Plan, Script, Size, Fault}
+use Rattle.apply_run.specs.declared.refusal.Refusal.TheVariants.{Plan, Script, Waits, Size, Fault}
 use Rattle.apply_run.specs.Bytes.{Given, WasApplied, WasRefused}
 use Rattle.apply_run.specs.Lanes.{HasFailedInFormAndLanes, HasStreamedInFormAndLanes, WasAppliedInLanes, WasRefusedInLanes}
 use Rattle.apply_run.specs.Options.{IsInRange}
@@ -34,6 +35,7 @@ pub record WasAppliedAsTold (given : Given) (options : Options) (report : FormRe
   pub sizes : IsInRange options
   pub streamed : HasStreamedInForm (form_of told options.start options.operation) (work_of given told) options.workers report.run before after
   pub error : report.tells_error ≡ tells_error told.details.note report.run.counts
+  pub no_waits : has_waits told.script ≡ false
 
 -- the same in the form that was asked for
 abbrev pub WasAppliedInForm : Form → Given → Options → FormReport → (before after : Sight) → Type 0
@@ -45,10 +47,13 @@ WasAppliedInForm Terraform given options report before after = WasAppliedAsTold 
 abbrev pub WasNotApplied : Given → Options → Refusal → (before after : Sight) → Type 0
 WasNotApplied given options (Plan refusal) before after = WasNotRead given.plan given.script (Plan refusal) × (after ≡ before)
 WasNotApplied given options (Script refusal) before after = WasNotRead given.plan given.script (Script refusal) × (after ≡ before)
-WasNotApplied given options Size before after = (told : Told) × IsTold given.plan given.script told × ¬ IsInRange options × (after ≡ before)
+WasNotApplied given options Waits before after = (told : Told) × IsTold given.plan given.script told × (has_waits told.script ≡ true) × (after ≡ before)
+WasNotApplied given options Size before after =
+    (told : Told) × IsTold given.plan given.script told × ¬ IsInRange options × (after ≡ before) × (has_waits told.script ≡ false)
 WasNotApplied given options (Fault fault) before after =
     (told : Told) × IsTold given.plan given.script told × IsInRange options
     × HasFailedInForm fault.why (form_of told options.start options.operation) (work_of given told) options.workers fault.report before after
+    × (has_waits told.script ≡ false)
 
 abbrev pub WasRefusedInForm : Form → Given → Options → Refusal → (before after : Sight) → Type 0
 WasRefusedInForm Applystream given options refusal before after = WasRefused given options refusal before after
@@ -72,6 +77,7 @@ WasAppliedInFormAndLanes Terraform given lanes start operation report before aft
 abbrev pub WasNotAppliedInLanes : Given → (lanes start : ℕ) → Operation → Refusal → (before after : Sight) → Type 0
 WasNotAppliedInLanes given lanes start operation (Plan refusal) before after = WasNotRead given.plan given.script (Plan refusal) × (after ≡ before)
 WasNotAppliedInLanes given lanes start operation (Script refusal) before after = WasNotRead given.plan given.script (Script refusal) × (after ≡ before)
+WasNotAppliedInLanes given lanes start operation Waits before after = ⊥
 WasNotAppliedInLanes given lanes start operation Size before after = (told : Told) × IsTold given.plan given.script told × ¬ AreLanes lanes × (after ≡ before)
 WasNotAppliedInLanes given lanes start operation (Fault fault) before after =
     (told : Told) × IsTold given.plan given.script told × AreLanes lanes

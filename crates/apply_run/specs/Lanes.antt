@@ -11,7 +11,7 @@ use Rattle.apply_text.specs.Order.{as_written}
 use Rattle.apply_run.specs.Bytes.{Given, IsRead, WasRefused}
 use Rattle.apply_run.specs.declared.options.Options.{Options}
 use Rattle.apply_run.specs.declared.refusal.Refusal.{Refusal}
-use Rattle.apply_run.specs.declared.refusal.Refusal.TheVariants.{Plan, Script, Size, Fault}
+use Rattle.apply_run.specs.declared.refusal.Refusal.TheVariants.{Plan, Script, Waits, Size, Fault}
 use Rattle.apply_run.specs.declared.report.Report.{Report}
 use Rattle.apply_run.specs.declared.why.Why.{Why}
 use Rattle.apply_run.specs.declared.why.Why.TheVariants.{Bus, Workers, Memory, Write}
@@ -77,6 +77,7 @@ WasRefusedInLanes given lanes start operation (Plan refusal) before after =
     (options : Options) → WasRefused given options (Plan refusal) before after
 WasRefusedInLanes given lanes start operation (Script refusal) before after =
     (options : Options) → WasRefused given options (Script refusal) before after
+WasRefusedInLanes given lanes start operation Waits before after = ⊥
 WasRefusedInLanes given lanes start operation Size before after =
     (plan : SavedPlan) × (script : OutcomeMap) × IsRead given plan script × ¬ AreLanes lanes × (after ≡ before)
 WasRefusedInLanes given lanes start operation (Fault fault) before after =

@@ -7,12 +7,13 @@ use Rattle.apply_plan.specs.declared.script.script_error.ScriptError.TheVariants
 use Rattle.apply_plan.specs.Bytes.{max_bytes}
 use Rattle.apply_plan.specs.Plan.SavedPlan.{SavedPlan, plan_of}
 use Rattle.apply_plan.specs.Script.OutcomeMap.{OutcomeMap}
+use Rattle.apply_plan.specs.Script.Waits.{has_waits}
 use Rattle.apply_form.specs.declared.plan_note.PlanNote.{PlanNote}
 use Rattle.apply_form_plan.specs.Outputs.{OutputsOfPlan, outputs_of_bytes, told_outputs}
 use Rattle.apply_form_plan.specs.Told.{DetailsOfPlan, details_of}
 use Rattle.apply_run.specs.declared.forms.read_besides.ReadBesides.{ReadBesides}
 use Rattle.apply_run.specs.declared.refusal.Refusal.{Refusal}
-use Rattle.apply_run.specs.declared.refusal.Refusal.TheVariants.{Plan, Script, Size, Fault}
+use Rattle.apply_run.specs.declared.refusal.Refusal.TheVariants.{Plan, Script, Waits, Size, Fault}
 use Rattle.apply_run.specs.Bytes.{MayBeRead, given_script}
 use Rattle.apply_run.specs.Stream.Terraform.{Besides, is_error}
 
@@ -57,6 +58,8 @@ pub record IsReadAsTold (told : Told) (read : ReadBesides) : Type 0 where
   pub changes : read.changes.items ≡ told.details.changes
   pub note : read.note ≡ told.details.note
   pub outputs : read.outputs.items ≡ told_outputs told.details.outputs told.outputs
+  -- of the script as it was read, whatever is applied
+  pub waits : read.has_waits ≡ has_waits told.script
 
 -- the bytes say this, and it was read
 pub record WasRead (plan_bytes : List ℕ) (script_bytes : Option (List ℕ)) (read : ReadBesides) : Type 0 where
@@ -81,5 +84,6 @@ WasNotRead plan_bytes script_bytes (Script refusal) =
     (plan : SavedPlan) × (plan_of plan_bytes ≡ Ok plan)
     × (((refusal ≡ script_error.Memory) × MayBeRead script_bytes)
     ⊎ ((given_script plan script_bytes ≡ Err refusal) ⊎ AreRefused plan_bytes script_bytes plan refusal))
+WasNotRead plan_bytes script_bytes Waits = ⊥
 WasNotRead plan_bytes script_bytes Size = ⊥
 WasNotRead plan_bytes script_bytes (Fault fault) = ⊥

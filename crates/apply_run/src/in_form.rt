@@ -36,9 +36,9 @@ use std::thread::Threads;
 /// In Terraform's form a plan whose making ended with an error is applied as one without changes, and tells of that error.
 ///
 /// `Err` with `Refusal::Plan` where the bytes are no plan, else with `Refusal::Script` where there is a script and it is none
-/// for the plan, or, in Terraform's form, its outputs are none of the plan, else with `Refusal::Size` where the options are
-/// out of range: then nothing was written, and the sink is as it was. `Err` with `Refusal::Fault` where the run did not end
-/// well.
+/// for the plan, or, in Terraform's form, its outputs are none of the plan, else with `Refusal::Waits` where the script
+/// says what steps wait for, else with `Refusal::Size` where the options are out of range: then nothing was written, and the
+/// sink is as it was. `Err` with `Refusal::Fault` where the run did not end well.
 pub fn apply_bytes_in_form<S: Sink + Drop, G: Gate, R: Threads + Wait + Sync>(
     rt: &R,
     alloc: Global,
@@ -116,6 +116,9 @@ fn apply_as_told<S: Sink + Drop, G: Gate, R: Threads + Wait + Sync>(
         Ok(read) => read,
         Err(refusal) => return (sink, Err(refusal)),
     };
+    if read.has_waits {
+        return (sink, Err(Refusal::Waits));
+    }
     if !options.in_range() {
         return (sink, Err(Refusal::Size));
     }
@@ -154,7 +157,7 @@ fn apply_as_told<S: Sink + Drop, G: Gate, R: Threads + Wait + Sync>(
 }
 
 /// Does what [`apply_bytes_in_form`] does, in 1 to 64 lanes, as [`apply_in_lanes`](crate::apply_in_lanes): `Refusal::Size` comes
-/// where they are not 1 to 64.
+/// where they are not 1 to 64, and `Refusal::Waits` never.
 pub fn apply_bytes_in_form_and_lanes<S: Sink + Drop>(
     alloc: Global,
     plan: &[u8],

@@ -100,7 +100,7 @@ few_kinds plan c change is few = subst (λ found. length (option_map_or (λ (cha
 
 -- each outcome is within the limits, also where nothing is said
 pub bounded : (found : Option Outcome) → IfSome found IsBounded → IsBounded (unwrap_or found default_outcome)
-bounded None within = record { short = omega arith; few_provisioners = omega arith; little_output = All-nil (λ (p : Provisioner). length p.output ≤ 100) }
+bounded None within = record { short = omega arith; few_provisioners = omega arith; little_output = All-nil (λ (p : Provisioner). length p.output ≤ 100); few_waits = omega arith }
 bounded (Some outcome) within = within
 
 pub few_events : (work : Work) (w c at : ℕ) → length (kinds_of work.plan c) ≤ 2 → IsBounded (outcome_of work.script c 0) → IsBounded (outcome_of work.script c 1) → length (change_events work w c at) ≤ 18918

@@ -35,6 +35,8 @@ pub(crate) struct ReadBesides {
     pub note: Option<PlanNote>,
     /// The outputs, in their order.
     pub outputs: Vec<Output>,
+    /// Whether the script that was read says what steps wait for.
+    pub has_waits: bool,
 }
 
 impl ReadBesides {
@@ -124,6 +126,7 @@ fn as_told(
     } = details;
     let PlanDetails { changes, note } = said;
     let outputs = told_outputs(alloc, outputs, extras)?;
+    let has_waits = script.has_waits();
     let (plan, script) = if note == Some(PlanNote::Unfinished) {
         let version = Text::new(alloc, plan.version())?;
         (Plan::new(version, Vec::new(alloc)), Script::empty())
@@ -136,5 +139,6 @@ fn as_told(
         changes,
         note,
         outputs,
+        has_waits,
     })
 }
