@@ -1,7 +1,7 @@
 -- The texts of a script that was read are UTF-8, and its steps are within the limits.
 use Rattle.std.proofs.Common.{◌≡◌, ℕ, zero, suc, ◌+◌, ◌==◌, List, [], ◌∷◌, IsUtf8, codes, cond, find, length, map, nat_lt, slice_get, Bool, true, false, Option, Some, None, Ok, Err, refl}
-use Rattle.std.specs.Prelude.{◌&&◌, IfOk, IfSome, option_map}
-use Rattle.std.specs.List.{AllByRecursion, list_any, range_with_len}
+use Rattle.std.specs.Prelude.{◌&&◌, IfOk, IfSome, option_map, sum_by}
+use Rattle.std.specs.List.{AllByRecursion, list_any, position_from, range_with_len}
 use Rattle.std.proofs.lemmas.Str.{IsUtf8-nil}
 use Rattle.serde_json.specs.Data.{Data}
 use Rattle.serde_json.specs.Find.{as_array, as_str}
@@ -12,16 +12,17 @@ use Rattle.apply_model.specs.declared.script.ending.Ending.TheVariants.{Done, Fa
 use Rattle.apply_model.specs.declared.script.outcome.Outcome.{Outcome}
 use Rattle.apply_model.specs.declared.script.provisioner.Provisioner.{Provisioner}
 use Rattle.apply_plan.specs.declared.script.script_error.ScriptError.{ScriptError}
-use Rattle.apply_plan.specs.declared.script.script_error.ScriptError.TheVariants.{TooLarge, NotJson, BadShape, UnknownChange, Duplicate}
+use Rattle.apply_plan.specs.declared.script.script_error.ScriptError.TheVariants.{TooLarge, NotJson, BadShape, UnknownChange, Duplicate, NeverBegins}
 use Rattle.apply_plan.specs.Bytes.{of_bytes}
 use Rattle.apply_plan.specs.Plan.ResourceChange.{ResourceChange}
 use Rattle.apply_plan.specs.Plan.SavedPlan.{SavedPlan}
 use Rattle.apply_plan.specs.Results.{all_or_first, each_with_earlier, or_refuse, unless_refused}
-use Rattle.apply_plan.specs.Script.Entry.{Entry, all_some, diag_from, diag_or_none, each_of, ending_from, ending_of, entry_of, provisioner_from, seconds_of, step_from}
+use Rattle.apply_plan.specs.Script.Entry.{Entry, EntryStep, WaitName, all_some, diag_from, diag_or_none, each_of, ending_from, ending_of, entry_of, entry_step, provisioner_from, seconds_of, step_from, wait_from}
 use Rattle.apply_plan.specs.Script.Outcome.{IsBounded, is_failed}
-use Rattle.apply_plan.specs.Script.OutcomeMap.{OutcomeMap, by_number, change_of_entry, elements_of, entry_at, given_outcome, names_change, said_at, said_of, script_of, script_of_entries, script_of_tree}
-use Rattle.apply_plan.specs.Script.Refusals.{fault_of_steps}
-use Rattle.apply_plan.proofs.Scripts.Limits.{none_is_bounded}
+use Rattle.apply_plan.specs.Script.OutcomeMap.{OutcomeMap, Said, by_number, change_of_entry, count_in, elements_of, entry_at, given_outcome, is_stuck, names_change, said_at, said_by, said_of, script_of, script_of_entries, script_of_tree}
+use Rattle.apply_plan.specs.Script.Refusals.{fault_of_entry}
+use Rattle.apply_plan.specs.Script.WaitedStep.{outcome_said}
+use Rattle.apply_plan.proofs.Scripts.Limits.{said_is_bounded}
 use Rattle.apply_agreement.specs.Texts.{HasDiagTexts}
 use Rattle.apply_agreement.proofs.Given.{AreAnswers, all_given, any_given, each_answered, each_held, gone_on, held_at, is_answered, mapped, next_of, refused_or, then_of}
 use Rattle.apply_agreement.proofs.Legible.{AreLegible, IsLegible}
@@ -88,28 +89,33 @@ pub record HasStepTexts (outcome : Outcome) : Type 0 where
   pub result : HasEndingTexts outcome.result
   pub provisioners : AllByRecursion HasProvisionerTexts outcome.provisioners
 
-step_texts : (d : Data) → IsLegible d → IfSome (step_from d) HasStepTexts
+-- the same of a step with the items of its `after`
+abbrev pub HasEntryStepTexts : EntryStep → Type 0
+HasEntryStepTexts step = HasStepTexts step.outcome
+
+step_texts : (d : Data) → IsLegible d → IfSome (step_from d) HasEntryStepTexts
 unfolding step_from
 step_texts d h =
-    next_of (λ _. Unit {0}) HasStepTexts (seconds_of d) _ (any_given (seconds_of d))
-    (λ seconds u. next_of HasEndingTexts HasStepTexts (ending_of d) _ (ending_texts d h)
-    (λ result ends. next_of (AllByRecursion HasProvisionerTexts) HasStepTexts (each_of provisioner_from (member_of (codes "provisioners") d)) _
+    next_of (λ _. Unit {0}) HasEntryStepTexts (seconds_of d) _ (any_given (seconds_of d))
+    (λ seconds u. next_of HasEndingTexts HasEntryStepTexts (ending_of d) _ (ending_texts d h)
+    (λ result ends. next_of (AllByRecursion HasProvisionerTexts) HasEntryStepTexts (each_of provisioner_from (member_of (codes "provisioners") d)) _
     (each_legible HasProvisionerTexts provisioner_from (member_of (codes "provisioners") d) provisioner_texts (member_legible (codes "provisioners") d h))
-    (λ provisioners all. of_test (record { seconds = seconds; provisioners = provisioners; result = result }) (record { result = ends; provisioners = all }) (is_failed result && nat_lt 0 (length provisioners)))))
+    (λ provisioners all. next_of (λ _. Unit {0}) HasEntryStepTexts (each_of wait_from (member_of (codes "after") d)) _ (any_given (each_of wait_from (member_of (codes "after") d)))
+    (λ after u'. of_test after (record { seconds = seconds; provisioners = provisioners; result = result; after = [] }) (record { result = ends; provisioners = all }) (is_failed result && nat_lt 0 (length provisioners))))))
   where
-    of_test : (outcome : Outcome) → HasStepTexts outcome → (b : Bool) → IfSome (cond b None (Some outcome)) HasStepTexts
-    of_test outcome has true = tt
-    of_test outcome has false = has
+    of_test : (after : List WaitName) (outcome : Outcome) → HasStepTexts outcome → (b : Bool) → IfSome (option_map (entry_step after) (cond b None (Some outcome))) HasEntryStepTexts
+    of_test after outcome has true = tt
+    of_test after outcome has false = has
 
-entry_texts : (d : Data) → IsLegible d → IfSome (entry_of d) (λ entry. AllByRecursion HasStepTexts entry.steps)
+entry_texts : (d : Data) → IsLegible d → IfSome (entry_of d) (λ entry. AllByRecursion HasEntryStepTexts entry.steps)
 unfolding entry_of
 entry_texts d h =
-    let Q = λ (entry : Entry). AllByRecursion HasStepTexts entry.steps in
+    let Q = λ (entry : Entry). AllByRecursion HasEntryStepTexts entry.steps in
     next_of (λ _. Unit {0}) Q (text_of (codes "address") d) _ (any_given (text_of (codes "address") d))
     (λ address u. next_of (λ _. Unit {0}) Q (text_or [] (member_of (codes "deposed") d)) _ (any_given (text_or [] (member_of (codes "deposed") d)))
     (λ deposed u. next_of IsLegible Q (member_of (codes "steps") d) _ (member_legible (codes "steps") d h)
     (λ list legible. next_of AreLegible Q (as_array list) _ (array_legible list legible)
-    (λ items all. next_of (AllByRecursion HasStepTexts) Q (all_some (map step_from (list_of items))) _ (all_given IsLegible HasStepTexts step_from (list_of items) step_texts (list_legible items all)) (λ steps has. has)))))
+    (λ items all. next_of (AllByRecursion HasEntryStepTexts) Q (all_some (map step_from (list_of items))) _ (all_given IsLegible HasEntryStepTexts step_from (list_of items) step_texts (list_legible items all)) (λ steps has. has)))))
 
 -- ---- the entries
 
@@ -119,38 +125,44 @@ pub record IsSaid (outcome : Outcome) : Type 0 where
   pub bounded : IsBounded outcome
 
 -- what an entry says
-abbrev pub AreSaid : ℕ × List Outcome → Type 0
-AreSaid one = AllByRecursion IsSaid one.1
+abbrev pub AreSaid : Said → Type 0
+AreSaid one = AllByRecursion IsSaid one.outcomes
 
 both_held : (steps : List Outcome) → AllByRecursion HasStepTexts steps → AllByRecursion IsBounded steps → AllByRecursion IsSaid steps
 both_held [] has bounded = tt
 both_held (x ∷ steps) has bounded = (record { texts = has.0; bounded = bounded.0 }, both_held steps has.1 bounded.1)
 
+-- the outcomes of the steps, with what they wait for
+texts_said : (changes : List ResourceChange) (steps : List EntryStep) → AllByRecursion HasEntryStepTexts steps → AllByRecursion HasStepTexts (map (outcome_said changes) steps)
+texts_said changes [] has = tt
+texts_said changes (step ∷ steps) has = (record { result = has.0.result; provisioners = has.0.provisioners }, texts_said changes steps has.1)
+
 entry_said : (changes : List ResourceChange) (before : List Data) (d : Data) → IsLegible d → IfOk (entry_at changes before d) AreSaid
 unfolding entry_at
 entry_said changes before d h =
-    then_of (λ entry. AllByRecursion HasStepTexts entry.steps) AreSaid (or_refuse (BadShape (Some n)) (entry_of d)) _
-    (refused_or (λ entry. AllByRecursion HasStepTexts entry.steps) (BadShape (Some n)) (entry_of d) (entry_texts d h))
+    then_of (λ entry. AllByRecursion HasEntryStepTexts entry.steps) AreSaid (or_refuse (BadShape (Some n)) (entry_of d)) _
+    (refused_or (λ entry. AllByRecursion HasEntryStepTexts entry.steps) (BadShape (Some n)) (entry_of d) (entry_texts d h))
     (λ entry has. then_of (λ _. Unit {0}) AreSaid (or_refuse (UnknownChange n) (change_of_entry changes entry)) _ (refused_or (λ _. Unit {0}) (UnknownChange n) (change_of_entry changes entry) (any_given (change_of_entry changes entry)))
-    (λ found u. of_tests found.0 found.1.steps entry.steps has (list_any (names_change found.1) before) (fault_of_steps n found.1.steps entry.steps) refl))
+    (λ found u. of_tests found.0 found.1.steps entry.steps has (list_any (names_change found.1) before) (fault_of_entry n changes (sum_by count_in before) found.1.steps entry.steps) refl))
   where
     n : ℕ
     n = length before
 
-    of_tests : (number : ℕ) (kinds : List _) (steps : List Outcome) → AllByRecursion HasStepTexts steps → (b : Bool) (fault : Option ScriptError) → fault_of_steps n kinds steps ≡ fault
-        → IfOk (cond b (Err (Duplicate n)) (unless_refused fault (number, steps))) AreSaid
+    of_tests : (number : ℕ) (kinds : List _) (steps : List EntryStep) → AllByRecursion HasEntryStepTexts steps → (b : Bool) (fault : Option ScriptError) → fault_of_entry n changes (sum_by count_in before) kinds steps ≡ fault
+        → IfOk (cond b (Err (Duplicate n)) (unless_refused fault (said_by changes number steps))) AreSaid
     of_tests number kinds steps has true fault is = tt
     of_tests number kinds steps has false (Some fault) is = tt
-    of_tests number kinds steps has false None is = both_held steps has (each_held IsBounded steps (none_is_bounded n kinds steps is))
+    of_tests number kinds steps has false None is =
+        both_held (map (outcome_said changes) steps) (texts_said changes steps has) (each_held IsBounded (map (outcome_said changes) steps) (said_is_bounded n changes (sum_by count_in before) kinds steps is))
 
 -- ---- the script
 
-said_by : (entries : List (ℕ × List Outcome)) (c : ℕ) → AllByRecursion AreSaid entries → IfSome (said_of entries c) (AllByRecursion IsSaid)
-said_by [] c h = tt
-said_by (x ∷ entries) c h = of_test (x.0 == c) (said_by entries c h.1)
+said_all : (entries : List Said) (c : ℕ) → AllByRecursion AreSaid entries → IfSome (said_of entries c) (AllByRecursion IsSaid)
+said_all [] c h = tt
+said_all (x ∷ entries) c h = of_test (x.change == c) (said_all entries c h.1)
   where
     of_test : (b : Bool) → IfSome (said_of entries c) (AllByRecursion IsSaid)
-        → IfSome (option_map (λ (entry : ℕ × List Outcome). entry.1) (cond b (Some x) (find (λ (entry : ℕ × List Outcome). entry.0 == c) entries))) (AllByRecursion IsSaid)
+        → IfSome (option_map (λ (entry : Said). entry.outcomes) (cond b (Some x) (find (λ (entry : Said). entry.change == c) entries))) (AllByRecursion IsSaid)
     of_test true rest = h.0
     of_test false rest = rest
 
@@ -158,22 +170,27 @@ said_by (x ∷ entries) c h = of_test (x.0 == c) (said_by entries c h.1)
 abbrev pub IsReadableScript : OutcomeMap → Type 0
 IsReadableScript script = (c k : ℕ) → IfSome (given_outcome script c k) IsSaid
 
-by_number_said : (low n c : ℕ) (entries : List (ℕ × List Outcome)) → AllByRecursion AreSaid entries → AllByRecursion (λ said. IfSome said (AllByRecursion IsSaid)) (map (said_of entries) (range_with_len low n))
+by_number_said : (low n c : ℕ) (entries : List Said) → AllByRecursion AreSaid entries → AllByRecursion (λ said. IfSome said (AllByRecursion IsSaid)) (map (said_of entries) (range_with_len low n))
 by_number_said low zero c entries h = tt
-by_number_said low (suc n) c entries h = (said_by entries low h, by_number_said (low + 1) n c entries h)
+by_number_said low (suc n) c entries h = (said_all entries low h, by_number_said (low + 1) n c entries h)
 
-entries_readable : (count : ℕ) (entries : List (ℕ × List Outcome)) → AllByRecursion AreSaid entries → IsReadableScript (by_number count entries)
+entries_readable : (count : ℕ) (entries : List Said) → AllByRecursion AreSaid entries → IsReadableScript (by_number count entries)
 entries_readable count entries h c k =
     let script = by_number count entries in
     gone_on (AllByRecursion IsSaid) IsSaid _ (said_at script c) (λ outcomes all. held_at IsSaid outcomes k all)
     (gone_on (λ said. IfSome said (AllByRecursion IsSaid)) (AllByRecursion IsSaid) (λ said. said) (slice_get script c) (λ said all. all)
     (held_at (λ said. IfSome said (AllByRecursion IsSaid)) script c (by_number_said 0 count c entries h)))
 
+unless_held : (P : OutcomeMap → Type 0) (o : Option ScriptError) (script : OutcomeMap) → P script → IfOk (unless_refused o script) P
+unless_held P None script h = h
+unless_held P (Some refusal) script h = tt
+
 all_entries : (plan : SavedPlan) (elements : List Data) → AllByRecursion IsLegible elements → IfOk (script_of_entries plan elements) IsReadableScript
 unfolding script_of_entries
 all_entries plan elements h =
     then_of (AreAnswers AreSaid elements) IsReadableScript (all_or_first (each_with_earlier (entry_at plan.changes) elements)) _ (each_answered IsLegible AreSaid (entry_at plan.changes) elements (entry_said plan.changes) h)
-    (λ entries said. entries_readable (length plan.changes) entries said.0)
+    (λ entries said. unless_held IsReadableScript (option_map NeverBegins (position_from (is_stuck (by_number (length plan.changes) entries)) 0 entries)) (by_number (length plan.changes) entries)
+    (entries_readable (length plan.changes) entries said.0))
 
 tree_readable : (plan : SavedPlan) (d : Data) → IsLegible d → IfOk (script_of_tree plan d) IsReadableScript
 unfolding script_of_tree

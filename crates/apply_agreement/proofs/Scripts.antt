@@ -1,7 +1,7 @@
 -- A script that was read has provisioners at creates alone.
 use Rattle.std.proofs.Common.{◌≡◌, ◌≢◌, ℕ, zero, suc, ◌+◌, ◌==◌, List, [], ◌∷◌, length, map, find, Bool, true, false, cond, Option, Some, None, Result, Ok, Err, refl, sym, ap, ◌∙◌, subst, ◌⊎◌, inl, inr, ⊎_elim, slice_get, unwrap_or, option_map, take, arith}
-use Rattle.std.specs.Prelude.{◌&&◌, ◌||◌, nat_lt, option_and_then}
-use Rattle.std.specs.List.{AllByRecursion, enumerate_from, list_any, range_with_len, zip}
+use Rattle.std.specs.Prelude.{◌&&◌, ◌||◌, nat_lt, option_and_then, sum_by}
+use Rattle.std.specs.List.{AllByRecursion, enumerate_from, list_any, position_from, range_with_len, zip}
 use Rattle.std.specs.Option.{option_map_or}
 use Rattle.std.proofs.lemmas.Bool.{both_ways, lt-ltb}
 use Rattle.std.proofs.lemmas.Bool.Decides.{eqb_tells}
@@ -12,27 +12,32 @@ use Rattle.apply_model.specs.declared.plan.step_kind.StepKind.TheVariants.{Creat
 use Rattle.apply_model.specs.declared.script.outcome.Outcome.{Outcome}
 use Rattle.apply_model.specs.declared.script.provisioner.Provisioner.{Provisioner}
 use Rattle.apply_plan.specs.declared.script.script_error.ScriptError.{ScriptError}
-use Rattle.apply_plan.specs.declared.script.script_error.ScriptError.TheVariants.{TooLarge, NotJson, BadShape, UnknownChange, Duplicate, TooManySteps, SecondsRange, TooManyProvisioners, TooMuchOutput, NotACreate}
+use Rattle.apply_plan.specs.declared.script.script_error.ScriptError.TheVariants.{TooLarge, NotJson, BadShape, UnknownChange, Duplicate, TooManySteps, SecondsRange, TooManyProvisioners, TooMuchOutput, NotACreate, NeverBegins}
 use Rattle.apply_json.specs.Tree.{list_of, tree_of}
 use Rattle.apply_plan.specs.Bytes.{max_bytes}
 use Rattle.apply_plan.specs.Plan.ResourceChange.{ResourceChange}
 use Rattle.apply_plan.specs.Plan.SavedPlan.{SavedPlan}
 use Rattle.apply_plan.specs.Results.{◌>>=◌, all_or_first, each_with_earlier, or_refuse, unless_refused}
-use Rattle.apply_plan.specs.Script.Entry.{Entry, entry_of}
+use Rattle.apply_plan.specs.Script.Entry.{Entry, EntryStep, entry_of}
 use Rattle.apply_plan.specs.Script.Outcome.{default_outcome, has_too_many_provisioners, has_too_much_output, is_too_long}
-use Rattle.apply_plan.specs.Script.OutcomeMap.{OutcomeMap, by_number, change_of_entry, elements_of, entry_at, is_about, names_change, said_of, script_of, script_of_entries, script_of_tree}
-use Rattle.apply_plan.specs.Script.Refusals.{fault_of_steps, misplaces_provisioners}
+use Rattle.apply_plan.specs.Script.OutcomeMap.{OutcomeMap, Said, by_number, change_of_entry, count_in, elements_of, entry_at, is_about, is_stuck, names_change, said_by, said_of, script_of, script_of_entries, script_of_tree, unless_stuck}
+use Rattle.apply_plan.specs.Script.Refusals.{fault_of_entry, fault_of_steps, fault_of_waits, misplaces_provisioners}
+use Rattle.apply_plan.specs.Script.WaitedStep.{outcome_said}
+use Rattle.apply_plan.proofs.Results.{unless_refused_ok}
+use Rattle.apply_plan.proofs.Scripts.Limits.{both_none}
 use Rattle.apply_events.specs.Step.{kinds_of}
 use Rattle.apply_agreement.specs.Plans.{ProvisionsCreates}
 
 -- ---- one entry
 
 -- it is about a change with its number, whose steps have no fault
-record Suits (changes : List ResourceChange) (one : ℕ × List Outcome) : Type 0 where
+record Suits (changes : List ResourceChange) (one : Said) : Type 0 where
   change : ResourceChange
-  place : slice_get changes one.0 ≡ Some change
+  place : slice_get changes one.change ≡ Some change
   number : ℕ
-  fine : fault_of_steps number change.steps one.1 ≡ None
+  steps : List EntryStep
+  fine : fault_of_steps number change.steps (map (λ step. step.outcome) steps) ≡ None
+  said : one.outcomes ≡ map (outcome_said changes) steps
 
 found_at : {X : Type 0} (test : X → Bool) (n : ℕ) (xs : List X) (found : ℕ × X) → find (λ (p : ℕ × X). test p.1) (enumerate_from n xs) ≡ Some found → (i : ℕ) × (found.0 ≡ n + i) × (slice_get xs i ≡ Some found.1)
 found_at test n [] found e = absurd cc
@@ -47,25 +52,26 @@ found_at {X} test n (x ∷ xs) found e = either (test x) (found_at test (n + 1) 
         let later = rest e in
         (suc later.0, (let number : found.0 ≡ n + 1 + later.0 = later.1 in omega arith), later.2)
 
-module _ (changes : List ResourceChange) (n : ℕ) (one : ℕ × List Outcome) where
-  of_fault : (found : ℕ × ResourceChange) (steps : List Outcome) (again : Bool) (fault : Option ScriptError) → fault_of_steps n found.1.steps steps ≡ fault → slice_get changes found.0 ≡ Some found.1
-      → cond again (Err (Duplicate n)) (unless_refused fault (found.0, steps)) ≡ Ok one → Suits changes one
+module _ (changes : List ResourceChange) (earlier n : ℕ) (one : Said) where
+  of_fault : (found : ℕ × ResourceChange) (steps : List EntryStep) (again : Bool) (fault : Option ScriptError) → fault_of_entry n changes earlier found.1.steps steps ≡ fault → slice_get changes found.0 ≡ Some found.1
+      → cond again (Err (Duplicate n)) (unless_refused fault (said_by changes found.0 steps)) ≡ Ok one → Suits changes one
   of_fault found steps true fault is place e = absurd cc
   of_fault found steps false (Some fault) is place e = absurd cc
   of_fault found steps false None is place e =
-      let number : found.0 ≡ one.0 = cc in
-      let outcomes : steps ≡ one.1 = cc in
+      let same : said_by changes found.0 steps ≡ one = cc in
       record {
         change = found.1;
-        place = ap (slice_get changes) (sym number) ∙ place;
+        place = ap (λ (s : Said). slice_get changes s.change) (sym same) ∙ place;
         number = n;
-        fine = ap (fault_of_steps n found.1.steps) (sym outcomes) ∙ is;
+        steps = steps;
+        fine = (both_none (fault_of_steps n found.1.steps (map (λ step. step.outcome) steps)) (fault_of_waits n changes earlier steps) is).0;
+        said = ap (λ (s : Said). s.outcomes) (sym same);
       }
 
-  of_found : (twice : ResourceChange → Bool) (steps : List Outcome) (o : Option (ℕ × ResourceChange)) → ((found : ℕ × ResourceChange) → o ≡ Some found → slice_get changes found.0 ≡ Some found.1)
-      → (or_refuse (UnknownChange n) o >>= λ found. cond (twice found.1) (Err (Duplicate n)) (unless_refused (fault_of_steps n found.1.steps steps) (found.0, steps))) ≡ Ok one → Suits changes one
+  of_found : (twice : ResourceChange → Bool) (steps : List EntryStep) (o : Option (ℕ × ResourceChange)) → ((found : ℕ × ResourceChange) → o ≡ Some found → slice_get changes found.0 ≡ Some found.1)
+      → (or_refuse (UnknownChange n) o >>= λ found. cond (twice found.1) (Err (Duplicate n)) (unless_refused (fault_of_entry n changes earlier found.1.steps steps) (said_by changes found.0 steps))) ≡ Ok one → Suits changes one
   of_found twice steps None place e = absurd cc
-  of_found twice steps (Some found) place e = of_fault found steps (twice found.1) (fault_of_steps n found.1.steps steps) refl (place found refl) e
+  of_found twice steps (Some found) place e = of_fault found steps (twice found.1) (fault_of_entry n changes earlier found.1.steps steps) refl (place found refl) e
 
   place_of : (entry : Entry) (found : ℕ × ResourceChange) → change_of_entry changes entry ≡ Some found → slice_get changes found.0 ≡ Some found.1
   place_of entry found e =
@@ -73,17 +79,17 @@ module _ (changes : List ResourceChange) (n : ℕ) (one : ℕ × List Outcome) w
       let number : found.0 ≡ there.0 = (let zero_on : found.0 ≡ 0 + there.0 = there.1 in omega arith) in
       ap (slice_get changes) number ∙ there.2
 
-entry_suits : (changes : List ResourceChange) (before : List Data) (d : Data) (one : ℕ × List Outcome) → entry_at changes before d ≡ Ok one → Suits changes one
+entry_suits : (changes : List ResourceChange) (before : List Data) (d : Data) (one : Said) → entry_at changes before d ≡ Ok one → Suits changes one
 unfolding entry_at
 entry_suits changes before d one e = of_entry (entry_of d) e
   where
     of_entry : (o : Option Entry)
         → (or_refuse (BadShape (Some (length before))) o
         >>= λ entry. or_refuse (UnknownChange (length before)) (change_of_entry changes entry)
-        >>= λ found. cond (list_any (names_change found.1) before) (Err (Duplicate (length before))) (unless_refused (fault_of_steps (length before) found.1.steps entry.steps) (found.0, entry.steps))) ≡ Ok one
+        >>= λ found. cond (list_any (names_change found.1) before) (Err (Duplicate (length before))) (unless_refused (fault_of_entry (length before) changes (sum_by count_in before) found.1.steps entry.steps) (said_by changes found.0 entry.steps))) ≡ Ok one
         → Suits changes one
     of_entry None e = absurd cc
-    of_entry (Some entry) e = of_found changes (length before) one (λ change. list_any (names_change change) before) entry.steps (change_of_entry changes entry) (λ found is. place_of changes (length before) one entry found is) e
+    of_entry (Some entry) e = of_found changes (sum_by count_in before) (length before) one (λ change. list_any (names_change change) before) entry.steps (change_of_entry changes entry) (λ found is. place_of changes (sum_by count_in before) (length before) one entry found is) e
 
 -- ---- all entries
 
@@ -99,15 +105,15 @@ all_hold {X} {Y} {F} P f (x ∷ xs) ys holds e = first (f x) refl (all_or_first 
     first (Ok y) is (Err refusal) hold e = absurd cc
     first (Ok y) is (Ok rest) hold e = subst (AllByRecursion P) (let same : y ∷ rest ≡ ys = cc in same) (holds x y is, hold rest refl)
 
-said_suits : (changes : List ResourceChange) (entries : List (ℕ × List Outcome)) (c : ℕ) (outcomes : List Outcome) → AllByRecursion (Suits changes) entries → said_of entries c ≡ Some outcomes
-    → (one : ℕ × List Outcome) × Suits changes one × (one.0 ≡ c) × (one.1 ≡ outcomes)
+said_suits : (changes : List ResourceChange) (entries : List Said) (c : ℕ) (outcomes : List Outcome) → AllByRecursion (Suits changes) entries → said_of entries c ≡ Some outcomes
+    → (one : Said) × Suits changes one × (one.change ≡ c) × (one.outcomes ≡ outcomes)
 said_suits changes [] c outcomes suit e = absurd cc
 said_suits changes (x ∷ entries) c outcomes suit e = ⊎_elim
-    (λ (same : ((x.0 == c) ≡ true) × (x.0 ≡ c)).
-    (x, suit.0, same.1, same_Some x.1 outcomes (sym (ap (λ (b : Bool). option_map (λ (y : ℕ × List Outcome). y.1) (cond b (Some x) (find (λ (y : ℕ × List Outcome). y.0 == c) entries))) same.0) ∙ e)))
-    (λ (other : ((x.0 == c) ≡ false) × (x.0 ≢ c)).
-    said_suits changes entries c outcomes suit.1 (sym (ap (λ (b : Bool). option_map (λ (y : ℕ × List Outcome). y.1) (cond b (Some x) (find (λ (y : ℕ × List Outcome). y.0 == c) entries))) other.0) ∙ e))
-    (eqb_tells x.0 c)
+    (λ (same : ((x.change == c) ≡ true) × (x.change ≡ c)).
+    (x, suit.0, same.1, same_Some x.outcomes outcomes (sym (ap (λ (b : Bool). option_map (λ (y : Said). y.outcomes) (cond b (Some x) (find (λ (y : Said). y.change == c) entries))) same.0) ∙ e)))
+    (λ (other : ((x.change == c) ≡ false) × (x.change ≢ c)).
+    said_suits changes entries c outcomes suit.1 (sym (ap (λ (b : Bool). option_map (λ (y : Said). y.outcomes) (cond b (Some x) (find (λ (y : Said). y.change == c) entries))) other.0) ∙ e))
+    (eqb_tells x.change c)
 
 -- ---- the steps of a change
 
@@ -152,6 +158,12 @@ step_has_none (y ∷ kinds) (x ∷ steps) k kind e at other =
     at_number zero fine at rest = no_provisioner y x fine (λ is. other (sym (same_Some y kind at) ∙ is))
     at_number (suc j) fine at rest = rest j at
 
+-- what a step waits for changes nothing of its provisioners
+same_provisioners : (changes : List ResourceChange) (steps : List EntryStep) (k : ℕ) → (unwrap_or (slice_get (map (outcome_said changes) steps) k) default_outcome).provisioners ≡ (unwrap_or (slice_get (map (λ step. step.outcome) steps) k) default_outcome).provisioners
+same_provisioners changes [] k = refl
+same_provisioners changes (step ∷ steps) zero = refl
+same_provisioners changes (step ∷ steps) (suc k) = same_provisioners changes steps k
+
 -- ---- the whole script
 
 number_at : {X : Type 0} (g : ℕ → X) (low n c : ℕ) → (slice_get (map g (range_with_len low n)) c ≡ None) ⊎ (slice_get (map g (range_with_len low n)) c ≡ Some (g (low + c)))
@@ -165,7 +177,7 @@ number_at {X} g low (suc n) (suc c) =
 abbrev outcome_at : Option (Option (List Outcome)) → ℕ → Outcome
 outcome_at o k = unwrap_or (option_and_then (λ outcomes. slice_get outcomes k) (option_and_then (λ said. said) o)) default_outcome
 
-said_has_none : (plan : SavedPlan) (entries : List (ℕ × List Outcome)) (c k : ℕ) (kind : StepKind) (said : Option (List Outcome)) → AllByRecursion (Suits plan.changes) entries → said_of entries c ≡ said
+said_has_none : (plan : SavedPlan) (entries : List Said) (c k : ℕ) (kind : StepKind) (said : Option (List Outcome)) → AllByRecursion (Suits plan.changes) entries → said_of entries c ≡ said
     → slice_get (kinds_of plan c) k ≡ Some kind → kind ≢ Create → (outcome_at (Some said) k).provisioners ≡ []
 said_has_none plan entries c k kind None suit is at other = refl
 said_has_none plan entries c k kind (Some outcomes) suit is at other =
@@ -173,10 +185,12 @@ said_has_none plan entries c k kind (Some outcomes) suit is at other =
     let suits = found.1 in
     let place : slice_get plan.changes c ≡ Some suits.change = ap (slice_get plan.changes) (sym found.2) ∙ suits.place in
     let kinds : slice_get suits.change.steps k ≡ Some kind = sym (ap (λ (o : Option ResourceChange). slice_get (option_map_or (λ (change : ResourceChange). change.steps) o []) k) place) ∙ at in
-    let fine : fault_of_steps suits.number suits.change.steps outcomes ≡ None = ap (fault_of_steps suits.number suits.change.steps) (sym found.3) ∙ suits.fine in
-    step_has_none suits.change.steps outcomes k kind (none_misplaced suits.number suits.change.steps outcomes fine) kinds other
+    let bare = map (λ (step : EntryStep). step.outcome) suits.steps in
+    ap (λ (os : List Outcome). (unwrap_or (slice_get os k) default_outcome).provisioners) (sym found.3 ∙ suits.said)
+    ∙ same_provisioners plan.changes suits.steps k
+    ∙ step_has_none suits.change.steps bare k kind (none_misplaced suits.number suits.change.steps bare suits.fine) kinds other
 
-numbered_has_none : (plan : SavedPlan) (entries : List (ℕ × List Outcome)) → AllByRecursion (Suits plan.changes) entries → ProvisionsCreates plan (by_number (length plan.changes) entries)
+numbered_has_none : (plan : SavedPlan) (entries : List Said) → AllByRecursion (Suits plan.changes) entries → ProvisionsCreates plan (by_number (length plan.changes) entries)
 numbered_has_none plan entries suit c k kind at other = ⊎_elim
     (λ (none : slice_get (by_number (length plan.changes) entries) c ≡ None). ap (λ (o : Option (Option (List Outcome))). (outcome_at o k).provisioners) none)
     (λ (some : slice_get (by_number (length plan.changes) entries) c ≡ Some (said_of entries (0 + c))).
@@ -191,13 +205,10 @@ entries_have plan elements script e =
     of_entries (all_or_first (each_with_earlier (entry_at plan.changes) elements))
     (λ entries is. all_hold (Suits plan.changes) (λ (p : ℕ × Data). entry_at plan.changes (take p.0 elements) p.1) (enumerate_from 0 elements) entries (λ p one. entry_suits plan.changes (take p.0 elements) p.1 one) is) e
   where
-    fine : OutcomeMap → Result OutcomeMap ScriptError
-    fine s = Ok s
-
-    of_entries : (r : Result (List (ℕ × List Outcome)) ScriptError) → ((entries : List (ℕ × List Outcome)) → r ≡ Ok entries → AllByRecursion (Suits plan.changes) entries)
-        → (r >>= λ entries. fine (by_number (length plan.changes) entries)) ≡ Ok script → ProvisionsCreates plan script
+    of_entries : (r : Result (List Said) ScriptError) → ((entries : List Said) → r ≡ Ok entries → AllByRecursion (Suits plan.changes) entries)
+        → (r >>= λ entries. unless_stuck entries (by_number (length plan.changes) entries)) ≡ Ok script → ProvisionsCreates plan script
     of_entries (Err refusal) suit e = absurd cc
-    of_entries (Ok entries) suit e = subst (ProvisionsCreates plan) (let same : by_number (length plan.changes) entries ≡ script = cc in same) (numbered_has_none plan entries (suit entries refl))
+    of_entries (Ok entries) suit e = subst (ProvisionsCreates plan) (unless_refused_ok (option_map NeverBegins (position_from (is_stuck (by_number (length plan.changes) entries)) 0 entries)) (by_number (length plan.changes) entries) script e).1 (numbered_has_none plan entries (suit entries refl))
 
 tree_has : (plan : SavedPlan) (d : Data) (script : OutcomeMap) → script_of_tree plan d ≡ Ok script → ProvisionsCreates plan script
 unfolding script_of_tree

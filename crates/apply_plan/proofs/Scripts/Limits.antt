@@ -65,7 +65,7 @@ fewer : {X Y : Type 0} (h : X → Option Y) (xs : List X) → length (filter_map
 fewer h [] = omega arith
 fewer h (x ∷ xs) = longer (h x) (filter_map h xs) x xs (fewer h xs)
 
-both_none : {E : Type 0} (a b : Option E) → option_or a b ≡ None → (a ≡ None) × (b ≡ None)
+pub both_none : {E : Type 0} (a b : Option E) → option_or a b ≡ None → (a ≡ None) × (b ≡ None)
 both_none None b e = (refl, e)
 both_none (Some x) b e = absurd cc
 
