@@ -278,6 +278,11 @@ fn each_answer_of_reading_has_its_status(rt: HostRuntime) {
     refusal_fails(&rt, alloc, unknown, 2, fault);
     let memory = Refusal::Script(ScriptError::Memory);
     refusal_fails(&rt, alloc, memory, 3, "out of memory");
+    let never = Refusal::Script(ScriptError::NeverBegins(1));
+    let fault = "script entry 1 has a step that could never begin";
+    refusal_fails(&rt, alloc, never, 2, fault);
+    let fault = "the script says what steps wait for, which takes --parallelism";
+    refusal_fails(&rt, alloc, Refusal::Waits, 2, fault);
     let fault = "the sizes are out of range";
     refusal_fails(&rt, alloc, Refusal::Size, 2, fault);
 }

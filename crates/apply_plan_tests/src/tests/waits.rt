@@ -107,7 +107,13 @@ fn many_waits(rt: &impl Abort, alloc: Global, count: usize) -> &'static str {
 fn a_script_has_at_most_1000000_waits(rt: HostRuntime) {
     let alloc = rt.alloc();
     let most = many_waits(&rt, alloc, 999_998);
-    script_is_answered(&rt, alloc, CREATE_REPLACE_NOTHING, most.as_bytes(), "accepted");
+    script_is_answered(
+        &rt,
+        alloc,
+        CREATE_REPLACE_NOTHING,
+        most.as_bytes(),
+        "accepted",
+    );
     let beyond = "script entry 1 goes beyond 1000000 waits";
     let more = many_waits(&rt, alloc, 999_999);
     script_is_answered(&rt, alloc, CREATE_REPLACE_NOTHING, more.as_bytes(), beyond);

@@ -190,6 +190,52 @@ fn sizes_and_limits(rt: HostRuntime) {
     }
 }
 
+/// A plan of two creates.
+const TWO_CREATES: &str =
+    r#"{"format_version":"1.2","resource_changes":[{"address":"a.a","mode":"managed","type":"a","name":"a","change":{"actions":["create"]}},{"address":"a.b","mode":"managed","type":"a","name":"b","change":{"actions":["create"]}}]}"#;
+
+/// The first waits for the second.
+const ONE_WAIT: &str = r#"{"changes":[{"address":"a.a","steps":[{"seconds":1,"after":["a.b"]}]}]}"#;
+
+/// The first waits for itself.
+const WAITS_FOR_ITSELF: &str =
+    r#"{"changes":[{"address":"a.a","steps":[{"seconds":1,"after":["a.a"]}]}]}"#;
+
+/// It waits for nothing.
+const NO_WAIT: &str =
+    r#"{"changes":[{"address":"random_pet.animal","steps":[{"seconds":0,"after":[]}]}]}"#;
+
+/// Workers take no notice of what steps wait for, and so refuse a script that says it, before they look at their number.
+#[test]
+fn workers_refuse_waits(rt: HostRuntime) {
+    let alloc = rt.alloc();
+    let waits = Refusal::Waits;
+    refuses(&rt, alloc, TWO_CREATES, ONE_WAIT, options(1, 64), waits);
+    refuses(&rt, alloc, TWO_CREATES, ONE_WAIT, options(2, 64), waits);
+    refuses(&rt, alloc, TWO_CREATES, ONE_WAIT, options(9, 64), waits);
+    let never = Refusal::Script(ScriptError::NeverBegins(0));
+    refuses(
+        &rt,
+        alloc,
+        TWO_CREATES,
+        WAITS_FOR_ITSELF,
+        options(1, 64),
+        never,
+    );
+    let wanted = ONE_CREATE_STREAM;
+    writes(
+        &rt,
+        alloc,
+        "no wait",
+        ONE_CREATE,
+        NO_WAIT,
+        options(1, 64),
+        wanted,
+    );
+    let text = "the script says what steps wait for, which takes --parallelism";
+    shows(&rt, alloc, &waits, text);
+}
+
 /// Adds the change of that number, behind a comma where it is not the first.
 fn push_change(alloc: Global, text: &mut String, number: u32) -> Result<(), AllocError> {
     if number > 0 {
