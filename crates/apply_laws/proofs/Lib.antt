@@ -7,6 +7,7 @@ mod EventsFit
 mod FirstHalting
 mod LaneLines
 mod Latest
+mod LeastSet
 mod PlannedElements
 mod PlannedLines
 mod ProvisionsFit

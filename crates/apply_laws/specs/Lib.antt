@@ -4,3 +4,4 @@ pub mod PlannedChanges
 pub mod Plans
 pub mod Sharing
 pub mod StepTimes
+pub mod Waits

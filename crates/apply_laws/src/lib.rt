@@ -1,4 +1,4 @@
-//! Laws of plans, hooks and events, of lines, forms and runs, which users of streams can rely on. No code calls one, so that no
+//! Laws of plans and scripts, hooks and events, of lines, forms and runs, which users of streams can rely on. No code calls one, so that no
 //! program waits for their proofs.
 #![tactic(auto)]
 
@@ -10,6 +10,7 @@ mod lines;
 mod plans;
 mod runs;
 mod time_lines;
+mod waits;
 
 pub use dealing::{
     a_list_of_a_partition_names_each_number_once, an_interleaving_has_the_summed_length,
@@ -46,3 +47,4 @@ pub use time_lines::{
     no_lane_is_idle_while_a_change_waits, no_more_changes_are_under_way_than_lanes,
     one_lane_has_all_changes_in_order, two_time_lines_are_equal,
 };
+pub use waits::steps_that_could_begin_are_the_least_set;

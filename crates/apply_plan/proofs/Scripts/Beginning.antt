@@ -1,7 +1,7 @@
 -- The search for steps that could begin: what holds of the path and of the marks.
-use Rattle.std.proofs.Common.{◌≡◌, ℕ, zero, suc, ◌+◌, ◌-◌, ◌*◌, ◌<◌, ◌≤◌, Bool, true, false, cond, List, [], ◌∷◌, ◌++◌, length, map, set, take, get_or, Option, Some, None, refl, sym, ap, subst, ◌∙◌, arith, ◌⊎◌, ⊎_elim, inl, inr}
+use Rattle.std.proofs.Common.{◌≡◌, ℕ, suc, ◌+◌, ◌-◌, ◌*◌, ◌<◌, ◌≤◌, Bool, true, false, cond, List, [], ◌∷◌, ◌++◌, length, map, set, take, get_or, Some, None, refl, sym, ap, subst, ◌∙◌, arith, ◌⊎◌, ⊎_elim, inl, inr}
 use Rattle.std.specs.Prelude.{◌&&◌, ◌||◌, ◌==◌, slice_get, sum_by, unwrap_or}
-use Rattle.std.specs.List.{All, AllByRecursion, count_by, list_all, list_any}
+use Rattle.std.specs.List.{AllByRecursion, count_by, list_all, list_any}
 use Rattle.std.proofs.lemmas.Bool.Decides.{eqb_tells}
 use Rattle.std.proofs.lemmas.List.{get_or-set_other, get_or-set_same, length-set, map-append, take_all, take_more}
 use Rattle.std.proofs.lemmas.List.Folds.{list_all-append, list_any-append}
@@ -16,7 +16,7 @@ use Rattle.apply_plan.specs.declared.script.mark.Mark.TheVariants.{Unseen, OnPat
 use Rattle.apply_plan.specs.Script.Beginning.{AreAllPlaced, AreSettled, MarkedBegin, has_begun}
 use Rattle.apply_plan.specs.Script.Marks.{index_of, mark_of}
 use Rattle.apply_plan.specs.Script.Placed.{IsPlaced}
-use Rattle.apply_plan.proofs.Scripts.Rounds.{IsChain, WaitsFor, begins_at, chain_front, chain_more, is_step, none_of_circle, one_round_more, same_step, steps_equal, within_more}
+use Rattle.apply_plan.proofs.Scripts.Rounds.{IsChain, begins_at, chain_front, chain_more, is_step, none_of_circle, one_round_more, same_step, steps_equal, within_more}
 
 -- ---- lists
 

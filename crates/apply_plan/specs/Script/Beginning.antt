@@ -1,5 +1,5 @@
 -- What is known while it is asked which steps could begin, for private clauses.
-use Rattle.std.specs.Prelude.{◌≡◌, ℕ, ◌<◌, ◌≤◌, ◌*◌, List, All, count_by, length, Bool, true, false, not}
+use Rattle.std.specs.Prelude.{◌≡◌, ℕ, ◌*◌, List, All, count_by, length, Bool, true, false, not}
 use Rattle.std.specs.List.{list_any, range_with_len}
 use Rattle.apply_model.specs.declared.script.wait.Wait.{Wait}
 use Rattle.apply_model.specs.Script.OutcomeMap.{OutcomeMap}

@@ -1,5 +1,5 @@
 -- The steps that the items of `after` name (the script's own format).
-use Rattle.std.specs.Prelude.{ℕ, ◌-◌, List, length, find, map, nat_lt, if◌then◌else◌, Option, Some, None, option_and_then, unwrap_or}
+use Rattle.std.specs.Prelude.{ℕ, ◌-◌, List, length, find, nat_lt, if◌then◌else◌, Option, Some, None, option_and_then, unwrap_or}
 use Rattle.std.specs.List.{enumerate_from, filter_map}
 use Rattle.apply_model.specs.declared.script.outcome.Outcome.{Outcome}
 use Rattle.apply_model.specs.declared.script.wait.Wait.{Wait}

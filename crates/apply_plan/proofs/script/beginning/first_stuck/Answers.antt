@@ -1,6 +1,5 @@
-use Rattle.std.proofs.Common.{◌≡◌, ℕ, Bool, Ok, ap, get_or, refl, subst, sym, ◌∙◌, arith}
+use Rattle.std.proofs.Common.{ℕ, get_or, refl, sym, ◌∙◌}
 use Rattle.std.proofs.lemmas.List.{get_or_default}
-use Rattle.apply_plan.specs.Script.Beginning.{is_stuck_at}
 use Rattle.apply_plan.proofs.Scripts.Stuck.{no_entry_left, none_seen, not_here, stuck_here}
 use Rattle.apply_plan.proofs.script.beginning.first_stuck.Goals as goal
 
@@ -21,9 +20,10 @@ pub loop-number-preserved : goal.loop-number-preserved
 loop-number-preserved c =
     let entries = c.args.entries.now in
     let n = c.loop-number.number in
-    let entry : ℕ × ℕ = get_or entries n (0, 0) in
-    (c.in_ok-is_stuck.ensures.settled (rw c.if-branch.false refl),
-      sym (not_here c.args.script.now entries n entry c.loop-number-test.true (get_or_default entries n (0, 0) entry c.loop-number-test.true) (sym c.in_ok-is_stuck.ensures.found ∙ c.if-branch.false)) ∙ c.loop-number.invariant.1)
+    let entry : ℕ × ℕ = get_or entries n (0, 0) in (
+      c.in_ok-is_stuck.ensures.settled (rw c.if-branch.false refl),
+      sym (not_here c.args.script.now entries n entry c.loop-number-test.true (get_or_default entries n (0, 0) entry c.loop-number-test.true) (sym c.in_ok-is_stuck.ensures.found ∙ c.if-branch.false)) ∙ c.loop-number.invariant.1,
+    )
 
 pub returns : goal.returns
 returns c = sym (no_entry_left c.args.script.now c.args.entries.now c.loop-number.number c.loop-number-test.false) ∙ c.loop-number.invariant.1

@@ -1,5 +1,5 @@
-use Rattle.std.proofs.Common.{◌≡◌, Bool, Ok, ap, refl, subst, sym, ◌∙◌, arith}
-use Rattle.apply_plan.proofs.Scripts.Stuck.{none_stuck_more, stuck_among, stuck_below}
+use Rattle.std.proofs.Common.{◌≡◌, ap, refl, sym, ◌∙◌, arith}
+use Rattle.apply_plan.proofs.Scripts.Stuck.{none_stuck_more, stuck_below}
 use Rattle.apply_plan.proofs.script.beginning.is_stuck.Goals as goal
 
 pub loop-step-init : goal.loop-step-init

@@ -73,7 +73,7 @@ answered_by c fault none is =
 by_items : (c : After-change) → is_some c.index-said-change.result ≡ false → None ≡ fault_of_steps c.args.number c.change.result.now.steps (map step_view c.in-Some.entry.steps.items)
     → (count : ℕ) → Some count ≡ waits_within (max_waits - c.args.earlier) c.in-Some.entry.steps.items
     → entry_beside c.args.plan.now.changes c.args.said.now c.args.earlier c.args.number (view c.args.value.now)
-        ≡ unless_refused (fault_of_names c.args.number c.args.plan.now.changes (map entry_step_view c.in-Some.entry.steps.items)) (said_by c.args.plan.now.changes c.in-Some-get.change (map entry_step_view c.in-Some.entry.steps.items))
+    ≡ unless_refused (fault_of_names c.args.number c.args.plan.now.changes (map entry_step_view c.in-Some.entry.steps.items)) (said_by c.args.plan.now.changes c.in-Some-get.change (map entry_step_view c.in-Some.entry.steps.items))
 by_items c none clear count is =
     let within = count_within (max_waits - c.args.earlier) c.in-Some.entry.steps.items count is in
     answered_by c (fault_of_names c.args.number c.args.plan.now.changes (map entry_step_view c.in-Some.entry.steps.items)) none

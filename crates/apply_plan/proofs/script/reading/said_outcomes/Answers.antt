@@ -1,11 +1,9 @@
 use Rattle.std.proofs.Common.{◌≡◌, Bool, ap, refl, sym, ◌∙◌}
 use Rattle.std.specs.Prelude.{◌||◌}
-use Rattle.apply_model.specs.declared.script.outcome.Outcome.{Outcome}
 use Rattle.apply_model.specs.Script.Outcome.{IsBounded}
-use Rattle.apply_plan.specs.declared.script.script_error.ScriptError.TheVariants.{NoSuchStep}
 use Rattle.apply_plan.specs.Script.TreeView.{step_view}
 use Rattle.apply_plan.proofs.Scripts.Limits.{all_seen}
-use Rattle.apply_plan.proofs.Scripts.Waited.{HasOutcomes, all_outcomes, names_unknown, no_outcomes, one_outcome}
+use Rattle.apply_plan.proofs.Scripts.Waited.{all_outcomes, names_unknown, no_outcomes, one_outcome}
 use Rattle.apply_plan.proofs.script.reading.said_outcomes.Goals as goal
 use Rattle.apply_plan.proofs.script.reading.said_outcomes.Goals.{then-lacks_step, else-lacks_step}
 
@@ -25,8 +23,8 @@ loop-step-preserved c =
     let changes = c.args.plan.now.changes in
     let lacks : c.if-lacks_step.lacks_step ≡ (c.loop-step.lacks_step || c.in-Some.waited.lacks_step) =
     elim c.if-lacks_step.branch [
-      then-lacks_step w ↦ w.lacks_step-is ∙ w.if-lacks_step.true ∙ sym (ap (λ (b : Bool). b || c.in-Some.waited.lacks_step) w.if-lacks_step.true)
-    | else-lacks_step w ↦ w.lacks_step-is ∙ sym (ap (λ (b : Bool). b || c.in-Some.waited.lacks_step) w.if-lacks_step.false)
+      | then-lacks_step w ↦ w.lacks_step-is ∙ w.if-lacks_step.true ∙ sym (ap (λ (b : Bool). b || c.in-Some.waited.lacks_step) w.if-lacks_step.true)
+      | else-lacks_step w ↦ w.lacks_step-is ∙ sym (ap (λ (b : Bool). b || c.in-Some.waited.lacks_step) w.if-lacks_step.false)
     ] in
     rw (lacks, c.in_ok-push.ensures.items)
     (one_outcome changes c.args.steps.now c.loop-step.step-index c.step-item.result c.loop-step.outcomes.items c.loop-step.lacks_step c.in-Some.waited c.in_ok-copied.field-0 c.loop-step.invariant c.loop-step-test.true c.step-item.is

@@ -1,4 +1,4 @@
-use Rattle.std.proofs.Common.{◌≡◌, ◌≤◌, List, ◌∷◌, [], ◌++◌, ap, length, refl, sym, ◌∙◌, arith}
+use Rattle.std.proofs.Common.{◌≡◌, ◌∷◌, [], ◌++◌, ap, length, refl, sym, ◌∙◌, arith}
 use Rattle.std.proofs.lemmas.Result.{err_from_is_err_and}
 use Rattle.serde_json.specs.View.{view, items_view}
 use Rattle.apply_plan.specs.Script.NextEntry.{entry_after}
@@ -44,8 +44,7 @@ loop-number-preserved c =
     let said = rw c.deref.ensures.value at c.in_ok-change.ensures.defined in
     let long : length c.loop-number.said.items ≡ length changes = ap length c.loop-number.invariant.1.said_is ∙ length-by_number (length changes) made in
     let placed = rw c.deref.ensures.value at c.in_ok-change.ensures.placed in
-    let below = rw c.deref.ensures.value at c.in_ok-change.ensures.within in
-    (
+    let below = rw c.deref.ensures.value at c.in_ok-change.ensures.within in (
       made ++ one ∷ [],
       said_more changes c.loop-number.said.items c.loop-number.waits c.loop-number.number made d one c.loop-number.invariant.1 said placed,
       rw (c.in_ok-push.ensures.items, c.len-in-loop-number.ensures) (one_kept (length changes) c.loop-number.entries.items made one c.loop-number.invariant.2 (omega (arith, below, long)) placed.few),

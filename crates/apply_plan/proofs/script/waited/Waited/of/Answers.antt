@@ -1,9 +1,8 @@
-use Rattle.std.proofs.Common.{◌≡◌, ◌≤◌, ◌+◌, ◌∷◌, ◌++◌, ℕ, [], Bool, None, Some, ap, get_or, length, option_map, subst, sym, ◌∙◌, arith}
+use Rattle.std.proofs.Common.{◌≡◌, ◌≤◌, [], Bool, None, ap, get_or, length, sym, ◌∙◌, arith}
 use Rattle.std.specs.Prelude.{◌||◌, is_some}
 use Rattle.std.proofs.lemmas.List.{get_or_default}
-use Rattle.std.specs.Borrow.{Bor}
 use Rattle.apply_plan.specs.declared.script.tree_wait.TreeWait.{TreeWait}
-use Rattle.apply_plan.proofs.Scripts.Waited.{HasWaited, all_waited, is_of_none, names_none, names_step, none_waited, number_below}
+use Rattle.apply_plan.proofs.Scripts.Waited.{all_waited, is_of_none, names_none, names_step, none_waited, number_below}
 use Rattle.apply_plan.proofs.script.waited.Waited.of.Goals as goal
 use Rattle.apply_plan.proofs.script.waited.Waited.of.Goals.{In-Some, in-Some-step_of+in_ok-push-in-Some-step_of, in-None+then-lacks_step, in-None+else-lacks_step}
 
@@ -37,16 +36,16 @@ loop-item-preserved c =
     let count : length c.steps.result.now ≡ length c.change.result.now.steps = ap length c.steps.ensures.steps in
     let few : length c.steps.result.now ≤ 2 = omega (arith, count, c.steps.ensures.few) in
     elim c.match-step_of.branch [
-      in-Some-step_of+in_ok-push-in-Some-step_of w ↦
+      | in-Some-step_of+in_ok-push-in-Some-step_of w ↦
           rw (w.waits-is, w.lacks_step-is, w.in_ok-push-in-Some-step_of.ensures.items)
           (names_step changes items i item c.in-Some.change (length c.steps.result.now) c.change.result.now c.loop-item.waits.items c.loop-item.lacks_step c.loop-item.invariant c.loop-item-test.true is known c.change.ensures count few
           w.in-Some-step_of.step w.in-Some-step_of.ensures)
-    | in-None+then-lacks_step w ↦
+      | in-None+then-lacks_step w ↦
           let lacks : c.match-step_of.lacks_step ≡ (c.loop-item.lacks_step || is_some item.step) = w.lacks_step-is ∙ w.if-lacks_step.true ∙ sym (ap (λ (b : Bool). b || is_some item.step) w.if-lacks_step.true) in
           rw (w.waits-is, lacks)
           (names_none changes items i item c.in-Some.change (length c.steps.result.now) c.change.result.now c.loop-item.waits.items c.loop-item.lacks_step c.loop-item.invariant c.loop-item-test.true is known c.change.ensures count few
           w.in-None.ensures)
-    | in-None+else-lacks_step w ↦
+      | in-None+else-lacks_step w ↦
           let lacks : c.match-step_of.lacks_step ≡ (c.loop-item.lacks_step || is_some item.step) = w.lacks_step-is ∙ w.is_some-lacks_step.ensures ∙ sym (ap (λ (b : Bool). b || is_some item.step) w.if-lacks_step.false) in
           rw (w.waits-is, lacks)
           (names_none changes items i item c.in-Some.change (length c.steps.result.now) c.change.result.now c.loop-item.waits.items c.loop-item.lacks_step c.loop-item.invariant c.loop-item-test.true is known c.change.ensures count few
