@@ -93,8 +93,13 @@ at_least false b more = omega arith
 grows : (script : OutcomeMap) (rounds : ℕ) (steps : List Wait) → counted script rounds steps ≤ counted script (suc rounds) steps
 grows script rounds [] = omega arith
 grows script rounds (step ∷ steps) =
-    omega (arith, sum_by-cons (λ (w : Wait). one_where (begins script rounds w)) step steps, sum_by-cons (λ (w : Wait). one_where (begins script (suc rounds) w)) step steps,
-    at_least (begins script rounds step) (begins script (suc rounds) step) (next_round script rounds step.change step.step), grows script rounds steps)
+    omega (
+      arith,
+      sum_by-cons (λ (w : Wait). one_where (begins script rounds w)) step steps,
+      sum_by-cons (λ (w : Wait). one_where (begins script (suc rounds) w)) step steps,
+      at_least (begins script rounds step) (begins script (suc rounds) step) (next_round script rounds step.change step.step),
+      grows script rounds steps,
+    )
 
 -- where no more begin, the same do
 same_here : (a b : Bool) → one_where b ≤ one_where a → b ≡ true → a ≡ true
@@ -123,8 +128,13 @@ module _ (script : OutcomeMap) (within : WaitsWithin script) where
   no_more : (rounds : ℕ) (steps : List Wait) → AllByRecursion (λ wait. begins script (suc rounds) wait ≡ true → begins script rounds wait ≡ true) steps → counted script (suc rounds) steps ≤ counted script rounds steps
   no_more rounds [] same = omega arith
   no_more rounds (step ∷ steps) same =
-      omega (arith, sum_by-cons (λ (w : Wait). one_where (begins script rounds w)) step steps, sum_by-cons (λ (w : Wait). one_where (begins script (suc rounds) w)) step steps,
-      at_least (begins script (suc rounds) step) (begins script rounds step) same.0, no_more rounds steps same.1)
+      omega (
+        arith,
+        sum_by-cons (λ (w : Wait). one_where (begins script rounds w)) step steps,
+        sum_by-cons (λ (w : Wait). one_where (begins script (suc rounds) w)) step steps,
+        at_least (begins script (suc rounds) step) (begins script rounds step) same.0,
+        no_more rounds steps same.1,
+      )
 
   -- what begins in the next round begins now, for each step
   closed : (rounds : ℕ) → IsSettled rounds → (c k : ℕ) → c < length script → k < 2 → begins_within script (suc rounds) c k ≡ true → begins_within script rounds c k ≡ true

@@ -10,5 +10,4 @@ ghost use Rattle.apply_laws.specs.Waits.{CouldBegin, WaitsWithin};
 pub fn steps_that_could_begin_are_the_least_set()
     ensures { (script : OutcomeMap) → WaitsWithin script → (c k : ℕ) → c < length script → k < 2
         → ((could_begin script c k ≡ true) ↔ CouldBegin script c k) }
-{
-}
+{}
