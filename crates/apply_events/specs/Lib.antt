@@ -17,4 +17,5 @@ pub mod Stages
 pub mod Step
 pub mod StepEvents
 pub mod Totals
+pub mod Waits
 pub mod WorkerEvents

@@ -1,0 +1,8 @@
+-- Steps that wait for others: when each begins, and in which lane.
+pub mod Done
+pub mod Moment
+pub mod Named
+pub mod Schedule
+pub mod TakenUp
+pub mod TimeLine
+pub mod Turn
