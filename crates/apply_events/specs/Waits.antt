@@ -1,5 +1,6 @@
 -- Steps that wait for others: when each begins, and in which lane.
 pub mod Done
+pub mod Merging
 pub mod Moment
 pub mod Named
 pub mod Schedule

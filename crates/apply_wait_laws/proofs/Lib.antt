@@ -1,4 +1,5 @@
 pub mod Along
+pub mod Computed
 pub mod Free
 pub mod Members
 pub mod Moments

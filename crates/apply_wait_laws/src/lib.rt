@@ -2,6 +2,10 @@
 //! proofs. Each function does nothing; its contract is the law.
 #![tactic(auto)]
 
+mod examples;
+
+pub use examples::worked_examples;
+
 ghost use Rattle.std.specs.Prelude.{◌≡◌, ◌<◌, ◌≤◌, ◌↔◌, ℕ, [], List};
 ghost use Rattle.std.specs.List.Sorted.{IsNonDecreasingBy};
 ghost use Rattle.apply_events.specs.declared.event.Event.{Event};
