@@ -49,7 +49,7 @@ started_rise w s at =
           (halts_rise w s (phase_after s.fails) (at + (seconds_of s)) (s.halts (phase_after s.fails))),
     )
 
-step_rises : (w : ℕ) (s : Step) (at : ℕ) → Rises moment_of at (at + step_time s) (step_events w s at)
+pub step_rises : (w : ℕ) (s : Step) (at : ℕ) → Rises moment_of at (at + step_time s) (step_events w s at)
 step_rises w s at = step_rises-at w s at (s.halts Pre)
   where
     step_rises-at : (w : ℕ) (s : Step) (at : ℕ) (found : Option ℕ) → Rises moment_of at (at + cond (is_some found) 0 (seconds_of s)) (cond (is_some found) (option_to_list (option_map (λ hook. event w s at (Halted Pre hook)) found)) (started w s at))

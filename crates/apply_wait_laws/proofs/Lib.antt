@@ -5,5 +5,7 @@ pub mod Members
 pub mod Moments
 pub mod Order
 pub mod TakenUp
+pub mod TurnEvents
+pub mod TurnSteps
 pub mod Waited
 pub mod WithoutWaits
