@@ -1,8 +1,10 @@
 pub mod Along
 pub mod Computed
+pub mod Found
 pub mod Free
 pub mod Members
 pub mod Moments
+pub mod Once
 pub mod Order
 pub mod TakenUp
 pub mod TurnEvents

@@ -1,0 +1,108 @@
+-- Events of an interleaving of what lanes report, and the turns that they belong to.
+use Rattle.std.proofs.Common.{◌≡◌, ◌≢◌, ℕ, ◌<◌, ◌≤◌, All, Bool, true, false, List, [], ◌∷◌, ◌++◌, cond, refl, sym, ap, ◌∙◌, subst, ⊎_elim, ◌⊎◌, inl, inr, arith, eqb, eq-eqb, ne_eqb}
+use Rattle.std.specs.List.{Contains, filter}
+use Rattle.std.proofs.lemmas.Bool.{true≢false}
+use Rattle.std.proofs.lemmas.Bool.Decides.{eqb_tells}
+use Rattle.std.proofs.lemmas.List.{append-nil}
+use Rattle.std.proofs.lemmas.List.Elements.{All-tail, Contains-append_cases, Contains-append_left, Contains-append_right, filter-append}
+use Rattle.apply_events.specs.declared.event.Event.{Event}
+use Rattle.apply_events.specs.Interleaving.{IsInterleaving}
+use Rattle.apply_events.specs.OfWorker.{of_worker}
+use Rattle.apply_events.specs.Waits.Done.{Taken}
+use Rattle.apply_events.specs.Waits.Named.{WaitingWork}
+use Rattle.apply_events.specs.Waits.Schedule.{is_taken}
+use Rattle.apply_events.specs.Waits.TimeLine.{lane_turns, turn_events}
+use Rattle.apply_wait_laws.proofs.Members.{filter_in, filter_no, filter_within, in_cases, in_filter, in_head, in_tail, not_in_none}
+use Rattle.apply_wait_laws.proofs.Once.{AreTurns, taken_in_list, turns_tail}
+use Rattle.apply_wait_laws.proofs.TurnEvents.{OfTurn, of_turn}
+use Rattle.apply_wait_laws.proofs.TurnSteps.{all_at}
+
+-- ---- a lane's turns
+
+in_lane : (w : WaitingWork) (taken : List Taken) (lane : ℕ) (one : Taken) (e : Event) → Contains taken one → one.lane ≡ lane → Contains (turn_events w one) e → Contains (lane_turns w taken lane) e
+in_lane w [] lane one e there is h = absurd (not_in_none one there)
+in_lane w (x ∷ taken) lane one e there is h = ⊎_elim
+    (λ (same : x ≡ one).
+    let here : cond (eqb x.lane lane) (turn_events w x) [] ≡ turn_events w one =
+    ap (λ t. cond t (turn_events w x) []) (eq-eqb x.lane lane (ap (λ (y : Taken). y.lane) same ∙ is)) ∙ ap (turn_events w) same in
+    Contains-append_right (lane_turns w taken lane) (cond (eqb x.lane lane) (turn_events w x) []) e (subst (λ l. Contains l e) (sym here) h))
+    (λ (later : Contains taken one). Contains-append_left (lane_turns w taken lane) (cond (eqb x.lane lane) (turn_events w x) []) e (in_lane w taken lane one e later is h))
+    (in_cases x taken one there)
+
+lane_in : (w : WaitingWork) (taken : List Taken) (lane : ℕ) (e : Event) → Contains (lane_turns w taken lane) e
+    → (one : Taken) × Contains taken one × (one.lane ≡ lane) × Contains (turn_events w one) e
+lane_in w [] lane e h = absurd (not_in_none e h)
+lane_in w (x ∷ taken) lane e h = ⊎_elim
+    (λ (earlier : Contains (lane_turns w taken lane) e). let found = lane_in w taken lane e earlier in (found.0, in_tail x taken found.0 found.1, found.2, found.3))
+    (λ (here : Contains (cond (eqb x.lane lane) (turn_events w x) []) e). ⊎_elim
+    (λ (c : _ × (x.lane ≡ lane)). (x, in_head x taken, c.1, subst (λ l. Contains l e) (ap (λ t. cond t (turn_events w x) []) (eq-eqb x.lane lane c.1)) here))
+    (λ (c : _ × (x.lane ≢ lane)). absurd (not_in_none e (subst (λ l. Contains l e) (ap (λ t. cond t (turn_events w x) []) (ne_eqb x.lane lane c.1)) here)))
+    (eqb_tells x.lane lane))
+    (Contains-append_cases (lane_turns w taken lane) (cond (eqb x.lane lane) (turn_events w x) []) e h)
+
+-- ---- an interleaving
+
+-- the turn of an event
+pub record IsFound (w : WaitingWork) (taken : List Taken) (e : Event) : Type 0 where
+  pub one : Taken
+  pub there : Contains taken one
+  pub among : Contains (turn_events w one) e
+  pub of : OfTurn w one e
+
+module _ (w : WaitingWork) (n : ℕ) (taken : List Taken) (events : List Event) (line : IsInterleaving n (lane_turns w taken) events) where
+  pub found : (e : Event) → Contains events e → IsFound w taken e
+  found e h =
+      let lt = all_at (λ (f : Event). f.worker < n) events e line.named h in
+      let mine : Contains (of_worker e.worker events) e = in_filter (λ (f : Event). eqb f.worker e.worker) events e h (eq-eqb e.worker e.worker refl) in
+      let one = lane_in w taken e.worker e (subst (λ l. Contains l e) (line.parts e.worker lt) mine) in
+      record { one = one.0; there = one.1; among = one.3; of = of_turn w one.0 e one.3 }
+
+  pub told : (one : Taken) (e : Event) → All (λ x. x.lane < n) taken → Contains taken one → Contains (turn_events w one) e → Contains events e
+  told one e lanes there h =
+      let lt = all_at (λ (x : Taken). x.lane < n) taken one lanes there in
+      (filter_in (λ (f : Event). eqb f.worker one.lane) events e (subst (λ l. Contains l e) (sym (line.parts one.lane lt)) (in_lane w taken one.lane one e there refl h))).0
+
+-- ---- events that one turn alone has
+
+-- no other turn has such an event
+abbrev pub IsOnly : WaitingWork → List Taken → Taken → (Event → Bool) → Type 0
+IsOnly w taken one p = (other : Taken) → Contains taken other → (e : Event) → Contains (turn_events w other) e → p e ≡ true → other ≡ one
+
+-- of a lane's turns
+lane_part : (w : WaitingWork) (taken : List Taken) (one : Taken) (p : Event → Bool) → AreTurns w taken → Contains taken one → IsOnly w taken one p
+    → filter p (lane_turns w taken one.lane) ≡ filter p (turn_events w one)
+lane_part w [] one p h there only = absurd (not_in_none one there)
+lane_part w (x ∷ taken) one p h there only =
+    let here = cond (eqb x.lane one.lane) (turn_events w x) [] in
+    let new : is_taken taken x.turn ≡ false = h.once [] taken x refl in
+    filter-append p (lane_turns w taken one.lane) here ∙ ⊎_elim
+    (λ (same : x ≡ one).
+    let none : filter p (lane_turns w taken one.lane) ≡ [] = filter_no p (lane_turns w taken one.lane) (λ e inside yes.
+    let found = lane_in w taken one.lane e inside in
+    let again : found.0 ≡ one = only found.0 (in_tail x taken found.0 found.1) e found.3 yes in
+    true≢false (sym (taken_in_list taken found.0 x.turn found.1 (ap (λ (y : Taken). y.turn) (again ∙ sym same))) ∙ new)) in
+    let all : here ≡ turn_events w one = ap (λ t. cond t (turn_events w x) []) (eq-eqb x.lane one.lane (ap (λ (y : Taken). y.lane) same)) ∙ ap (turn_events w) same in
+    ap (λ l. l ++ filter p here) none ∙ ap (filter p) all)
+    (λ (later : Contains taken one).
+    let none : filter p here ≡ [] = filter_no p here (λ e inside yes. ⊎_elim
+    (λ (c : _ × (x.lane ≡ one.lane)).
+    let its : Contains (turn_events w x) e = subst (λ l. Contains l e) (ap (λ t. cond t (turn_events w x) []) (eq-eqb x.lane one.lane c.1)) inside in
+    let again : x ≡ one = only x (in_head x taken) e its yes in
+    true≢false (sym (taken_in_list taken one x.turn later (ap (λ (y : Taken). y.turn) (sym again))) ∙ new))
+    (λ (c : _ × (x.lane ≢ one.lane)). not_in_none e (subst (λ l. Contains l e) (ap (λ t. cond t (turn_events w x) []) (ne_eqb x.lane one.lane c.1)) inside))
+    (eqb_tells x.lane one.lane)) in
+    ap (λ l. filter p (lane_turns w taken one.lane) ++ l) none ∙ append-nil (filter p (lane_turns w taken one.lane))
+    ∙ lane_part w taken one p (turns_tail w x taken h) later (λ other inside. only other (in_tail x taken other inside)))
+    (in_cases x taken one there)
+
+-- of an interleaving
+pub part_is : (w : WaitingWork) (n : ℕ) (taken : List Taken) (events : List Event) (one : Taken) (p : Event → Bool) → IsInterleaving n (lane_turns w taken) events
+    → AreTurns w taken → All (λ x. x.lane < n) taken → Contains taken one → IsOnly w taken one p → filter p events ≡ filter p (turn_events w one)
+part_is w n taken events one p line h lanes there only =
+    let lt = all_at (λ (x : Taken). x.lane < n) taken one lanes there in
+    sym (filter_within p (λ (e : Event). eqb e.worker one.lane) events (λ e inside yes.
+    let its = found w n taken events line e inside in
+    let same : its.one ≡ one = only its.one its.there e its.among yes in
+    eq-eqb e.worker one.lane (its.of.worker ∙ ap (λ (x : Taken). x.lane) same)))
+    ∙ ap (filter p) (line.parts one.lane lt)
+    ∙ lane_part w taken one p h there only
