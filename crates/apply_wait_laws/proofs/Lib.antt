@@ -1,4 +1,5 @@
 pub mod Along
+pub mod Behind
 pub mod Computed
 pub mod Found
 pub mod Free

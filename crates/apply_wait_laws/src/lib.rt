@@ -14,6 +14,7 @@ ghost use Rattle.apply_events.specs.Waits.Named.{WaitingWork, named};
 ghost use Rattle.apply_events.specs.Waits.Schedule.{schedule};
 ghost use Rattle.apply_events.specs.Waits.TakenUp.{IsAppliedInTurns, WereTakenUp};
 ghost use Rattle.apply_events.specs.Waits.TimeLine.{IsTimeLine};
+ghost use Rattle.apply_wait_laws.specs.Laws.{HasFewSteps, StandBehindWhatTheyWaitFor};
 
 /// Where no step names what it waits for, the time line is that of changes which are dealt out in the plan's order.
 pub fn without_waits_changes_are_dealt_out()
@@ -41,4 +42,10 @@ pub fn two_time_lines_are_equal()
 pub fn moments_never_fall()
     ensures { (w : WaitingWork) (n : ℕ) (events : List Event) → IsTimeLine w n events
         → IsNonDecreasingBy (λ (event : Event). event.at) events }
+{}
+
+/// Each event of a step stands behind every event of each step that it waits for.
+pub fn a_step_stands_behind_what_it_waits_for()
+    ensures { (w : WaitingWork) (n : ℕ) (events : List Event) → 0 < n → HasFewSteps w → IsTimeLine w n events
+        → StandBehindWhatTheyWaitFor w events }
 {}
