@@ -69,7 +69,7 @@ is_waited_for w n taken one name up there waits =
       before = no_later_on (next_round done.0) ready.at one.begin done.2 ready.in_time;
     }
 
-single_count : {c : ℕ} {turn : Turn} → (turn ≡ single c 0) ⊎ (turn ≡ single c 1) → turn.count ≡ 1
+pub single_count : {c : ℕ} {turn : Turn} → (turn ≡ single c 0) ⊎ (turn ≡ single c 1) → turn.count ≡ 1
 single_count (inl first) = ap (λ (t : Turn). t.count) first
 single_count (inr second) = ap (λ (t : Turn). t.count) second
 
@@ -90,7 +90,7 @@ rises_behind low high [] behind e f h there = least e.step high behind h.1 f the
         (in_cases x es f there)
 rises_behind low high (x ∷ before) behind e f h there = rises_behind x.step high before behind e f h.1 there
 
-eq_from : (a b : ℕ) → eqb a b ≡ true → a ≡ b
+pub eq_from : (a b : ℕ) → eqb a b ≡ true → a ≡ b
 eq_from a b same = ⊎_elim
     (λ (c : _ × (a ≡ b)). c.1)
     (λ (c : _ × (a ≢ b)). absurd (true≢false (sym same ∙ ne_eqb a b c.1)))
@@ -98,10 +98,10 @@ eq_from a b same = ⊎_elim
 
 -- ---- the second step of a change of one turn
 
-no_names : (w : WaitingWork) (c : ℕ) → length (kinds_of w.work.plan c) ≡ 2 → is_split w c ≡ false → names_some (named w c 1) ≡ false
+pub no_names : (w : WaitingWork) (c : ℕ) → length (kinds_of w.work.plan c) ≡ 2 → is_split w c ≡ false → names_some (named w c 1) ≡ false
 no_names w c two whole_one = sym (ap (λ t. t && names_some (named w c 1)) (eq-eqb (length (kinds_of w.work.plan c)) 2 two)) ∙ whole_one
 
-none_named : (names : List StepName) (name : StepName) → names_some names ≡ false → Contains names name → ⊥
+pub none_named : (names : List StepName) (name : StepName) → names_some names ≡ false → Contains names name → ⊥
 none_named [] name none h = not_in_none name h
 none_named (x ∷ names) name none h = true≢false none
 

@@ -14,7 +14,7 @@ ghost use Rattle.apply_events.specs.Waits.Named.{WaitingWork, named};
 ghost use Rattle.apply_events.specs.Waits.Schedule.{schedule};
 ghost use Rattle.apply_events.specs.Waits.TakenUp.{IsAppliedInTurns, WereTakenUp};
 ghost use Rattle.apply_events.specs.Waits.TimeLine.{IsTimeLine};
-ghost use Rattle.apply_wait_laws.specs.Laws.{HasFewSteps, StandBehindWhatTheyWaitFor};
+ghost use Rattle.apply_wait_laws.specs.Laws.{BeginWhereAllIsDone, HasFewSteps, StandBehindWhatTheyWaitFor};
 
 /// Where no step names what it waits for, the time line is that of changes which are dealt out in the plan's order.
 pub fn without_waits_changes_are_dealt_out()
@@ -48,4 +48,10 @@ pub fn moments_never_fall()
 pub fn a_step_stands_behind_what_it_waits_for()
     ensures { (w : WaitingWork) (n : ℕ) (events : List Event) → 0 < n → HasFewSteps w → IsTimeLine w n events
         → StandBehindWhatTheyWaitFor w events }
+{}
+
+/// A step has events exactly where each step that it waits for is done.
+pub fn a_step_begins_where_all_that_it_waits_for_is_done()
+    ensures { (w : WaitingWork) (n : ℕ) (events : List Event) → 0 < n → HasFewSteps w → IsTimeLine w n events
+        → BeginWhereAllIsDone w events }
 {}
