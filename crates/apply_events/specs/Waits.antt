@@ -2,7 +2,6 @@
 pub mod Done
 pub mod Merging
 pub mod Moment
-pub mod Named
 pub mod Schedule
 pub mod TakenUp
 pub mod TimeLine

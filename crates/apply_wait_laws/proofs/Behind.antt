@@ -1,18 +1,20 @@
 -- Each event of a step stands behind those of the steps that it waits for.
-use Rattle.std.proofs.Common.{◌≡◌, ◌≢◌, ℕ, zero, suc, ◌+◌, ◌<◌, ◌≤◌, All, Bool, true, false, ◌&&◌, List, [], ◌∷◌, ◌++◌, cond, length, Option, Some, None, refl, sym, ap, ◌∙◌, subst, ⊎_elim, ◌⊎◌, inl, inr, arith, eqb, eq-eqb, ne_eqb}
+use Rattle.std.proofs.Common.{◌≡◌, ◌≢◌, ℕ, zero, suc, ◌+◌, ◌<◌, ◌≤◌, All, Bool, true, false, ◌&&◌, List, [], ◌∷◌, ◌++◌, cond, length, Option, Some, None, refl, sym, ap, ◌∙◌, subst, ⊎_elim, ◌⊎◌, inl, inr, arith, eqb, eq-eqb, lt-ltb, ne_eqb}
 use Rattle.std.specs.List.{Contains, filter, list_any}
 use Rattle.std.proofs.lemmas.Bool.{and_parts, cases_Bool, true≢false}
 use Rattle.std.proofs.lemmas.Bool.Decides.{eqb_tells}
 use Rattle.std.proofs.lemmas.List.Elements.{All-contains_itself, All-weaker, Contains-append_right, filter-append}
 use Rattle.apply_events.specs.declared.event.Event.{Event}
 use Rattle.apply_events.specs.Interleaving.{IsInterleaving}
-use Rattle.apply_events.specs.Step.{kinds_of}
+use Rattle.apply_events.specs.Step.{Work, kinds_of}
 use Rattle.apply_events.specs.Waits.Done.{Taken, done_among, done_at, done_in, first_found}
 use Rattle.apply_events.specs.Waits.Moment.{IsNoLater, Moment, next_round}
-use Rattle.apply_events.specs.Waits.Named.{StepName, WaitingWork, named, waits_of}
+use Rattle.apply_wait_laws.proofs.Named.{named, names_some}
+use Rattle.apply_model.specs.declared.script.wait.Wait.{Wait}
+use Rattle.apply_model.specs.Script.Waits.{waits_of}
 use Rattle.apply_events.specs.Waits.TakenUp.{WereTakenUp}
 use Rattle.apply_events.specs.Waits.TimeLine.{InOrder, Precedes, lane_turns, moment_from, moment_of, turn_events}
-use Rattle.apply_events.specs.Waits.Turn.{Turn, begun_steps, names_some, single, waits_of_turn, whole}
+use Rattle.apply_events.specs.Waits.Turn.{Turn, begun_steps, single, waits_of_turn, whole}
 use Rattle.apply_events.proofs.Rising as rising
 use Rattle.apply_events.proofs.StepNumbers.{in_turn_rise, number_of}
 use Rattle.apply_wait_laws.specs.Laws.{HasFewSteps, StandBehindWhatTheyWaitFor, has_events, is_of_step}
@@ -30,7 +32,7 @@ first_cases : (a b : Option Moment) (m : Moment) → first_found a b ≡ Some m 
 first_cases None b m is = inr is
 first_cases (Some a) b m is = inl is
 
-pub done_found : (w : WaitingWork) (taken : List Taken) (name : StepName) (m : Moment) → done_at w taken name ≡ Some m → (one : Taken) × Contains taken one × (done_in w one name ≡ Some m)
+pub done_found : (w : Work) (taken : List Taken) (name : Wait) (m : Moment) → done_at w taken name ≡ Some m → (one : Taken) × Contains taken one × (done_in w one name ≡ Some m)
 done_found w [] name m is = absurd cc
 done_found w (x ∷ taken) name m is = ⊎_elim
     (λ (here : done_in w x name ≡ Some m). (x, in_head x taken, here))
@@ -39,21 +41,21 @@ done_found w (x ∷ taken) name m is = ⊎_elim
 
 -- ---- what a turn waits for
 
-pub waits_are : (w : WaitingWork) (turn : Turn) (c k : ℕ) → turn.change ≡ c → turn.first ≡ k → 0 < turn.count → waits_of_turn w turn ≡ waits_of w c k
+pub waits_are : (w : Work) (turn : Turn) (c k : ℕ) → turn.change ≡ c → turn.first ≡ k → 0 < turn.count → waits_of_turn w turn ≡ waits_of w.script c k
 waits_are w turn c k change first some =
     let more : turn.count ≢ 0 = omega arith in
-    ap (λ t. cond t [] (waits_of w turn.change turn.first)) (ne_eqb turn.count 0 more)
-    ∙ ap (λ x. waits_of w x turn.first) change ∙ ap (waits_of w c) first
+    ap (λ t. cond t [] (waits_of w.script turn.change turn.first)) (ne_eqb turn.count 0 more)
+    ∙ ap (λ x. waits_of w.script x turn.first) change ∙ ap (waits_of w.script c) first
 
 -- a step that a turn waits for is done in another, a round before the turn begins
-pub record IsWaitedFor (w : WaitingWork) (taken : List Taken) (one : Taken) (name : StepName) : Type 0 where
+pub record IsWaitedFor (w : Work) (taken : List Taken) (one : Taken) (name : Wait) : Type 0 where
   pub other : Taken
   pub there : Contains taken other
   pub moment : Moment
   pub done : done_in w other name ≡ Some moment
   pub before : IsNoLater (next_round moment) one.begin
 
-pub is_waited_for : (w : WaitingWork) (n : ℕ) (taken : List Taken) (one : Taken) (name : StepName) → WereTakenUp w n taken → Contains taken one → Contains (waits_of_turn w one.turn) name
+pub is_waited_for : (w : Work) (n : ℕ) (taken : List Taken) (one : Taken) (name : Wait) → WereTakenUp w n taken → Contains taken one → Contains (waits_of_turn w one.turn) name
     → IsWaitedFor w taken one name
 is_waited_for w n taken one name up there waits =
     let split = in_split taken one there in
@@ -98,19 +100,19 @@ eq_from a b same = ⊎_elim
 
 -- ---- the second step of a change of one turn
 
-pub no_names : (w : WaitingWork) (c : ℕ) → length (kinds_of w.work.plan c) ≡ 2 → is_split w c ≡ false → names_some (named w c 1) ≡ false
-no_names w c two whole_one = sym (ap (λ t. t && names_some (named w c 1)) (eq-eqb (length (kinds_of w.work.plan c)) 2 two)) ∙ whole_one
+pub no_names : (w : Work) (c : ℕ) → length (kinds_of w.plan c) ≡ 2 → is_split w c ≡ false → names_some (named w c 1) ≡ false
+no_names w c two whole_one = sym (ap (λ t. t && names_some (named w c 1)) (eq-eqb (length (kinds_of w.plan c)) 2 two)) ∙ whole_one
 
-pub none_named : (names : List StepName) (name : StepName) → names_some names ≡ false → Contains names name → ⊥
+pub none_named : (names : List Wait) (name : Wait) → names_some names ≡ false → Contains names name → ⊥
 none_named [] name none h = not_in_none name h
-none_named (x ∷ names) name none h = true≢false none
+none_named (x ∷ names) name none h = true≢false (sym (lt-ltb 0 (length (x ∷ names)) (omega arith)) ∙ none)
 
-module _ (w : WaitingWork) (n : ℕ) (taken : List Taken) (events : List Event) (up : WereTakenUp w n taken) (line : IsInterleaving n (lane_turns w taken) events) where
+module _ (w : Work) (n : ℕ) (taken : List Taken) (events : List Event) (up : WereTakenUp w n taken) (line : IsInterleaving n (lane_turns w taken) events) where
   pub are_turns : AreTurns w taken
   are_turns = record { known = up.known; once = up.once }
 
   -- no event of a step that a turn waits for has a moment as late as the turn's
-  waited_earlier : (e f : Event) (name : StepName) → (its : IsFound w taken e) → IsFound w taken f → Contains (waits_of_turn w its.one.turn) name → f.change ≡ name.change → f.step ≡ name.step
+  waited_earlier : (e f : Event) (name : Wait) → (its : IsFound w taken e) → IsFound w taken f → Contains (waits_of_turn w its.one.turn) name → f.change ≡ name.change → f.step ≡ name.step
       → IsNoLater (moment_of taken e) (moment_of taken f) → ⊥
   waited_earlier e f name its other waits change step le =
       let waited = is_waited_for w n taken its.one name up its.there waits in
@@ -155,15 +157,15 @@ module _ (w : WaitingWork) (n : ℕ) (taken : List Taken) (events : List Event) 
       whole_is c turn unsplit (inr two) = absurd (true≢false (sym two.0 ∙ unsplit))
 
   module _ (few : HasFewSteps w) (ordered : InOrder (moment_of taken) events) where
-    behind_turn : (before behind : List Event) (e f : Event) (name : StepName) → events ≡ before ++ e ∷ behind → Contains behind f → (its : IsFound w taken e)
+    behind_turn : (before behind : List Event) (e f : Event) (name : Wait) → events ≡ before ++ e ∷ behind → Contains behind f → (its : IsFound w taken e)
         → Contains (waits_of_turn w its.one.turn) name → f.change ≡ name.change → f.step ≡ name.step → ⊥
     behind_turn before behind e f name is there its waits change step =
         let inside : Contains events f = subst (λ l. Contains l f) (sym is) (Contains-append_right before (e ∷ behind) f (in_tail e behind f there)) in
         waited_earlier e f name its (found w n taken events line f inside) waits change step
         (stands_behind (moment_of taken) before behind e f (subst (InOrder (moment_of taken)) is ordered) there).0
 
-    behind_is : (before behind : List Event) (e f : Event) (k : ℕ) (name : StepName) → events ≡ before ++ e ∷ behind → Contains behind f → (its : IsFound w taken e)
-        → IsTurnOf w its.one.turn.change its.one.turn → e.step ≡ k → Contains (waits_of w e.change k) name → f.change ≡ name.change → f.step ≡ name.step → ⊥
+    behind_is : (before behind : List Event) (e f : Event) (k : ℕ) (name : Wait) → events ≡ before ++ e ∷ behind → Contains behind f → (its : IsFound w taken e)
+        → IsTurnOf w its.one.turn.change its.one.turn → e.step ≡ k → Contains (waits_of w.script e.change k) name → f.change ≡ name.change → f.step ≡ name.step → ⊥
     behind_is before behind e f k name is there its (inr split) number waits change step =
         let count : its.one.turn.count ≡ 1 = single_count split.1 in
         let low = its.of.low in let high = its.of.high in
@@ -177,10 +179,10 @@ module _ (w : WaitingWork) (n : ℕ) (taken : List Taken) (events : List Event) 
         let c = its.one.turn.change in
         let high = its.of.high in let count = ap (λ (t : Turn). t.count) all.1 in let first = ap (λ (t : Turn). t.first) all.1 in
         let most = few c in
-        let two : length (kinds_of w.work.plan c) ≡ 2 = omega arith in ⊎_elim
+        let two : length (kinds_of w.plan c) ≡ 2 = omega arith in ⊎_elim
         (λ (here : record { change = e.change; step = k } ≡ name).
-        let low = never_back before behind e f is there its all.0 (change ∙ sym (ap (λ (x : StepName). x.change) here)) in
-        let is_k = ap (λ (x : StepName). x.step) here in omega arith)
+        let low = never_back before behind e f is there its all.0 (change ∙ sym (ap (λ (x : Wait). x.change) here)) in
+        let is_k = ap (λ (x : Wait). x.step) here in omega arith)
         (λ (named_there : Contains (named w e.change (suc k)) name).
         let second : suc k ≡ 1 = omega arith in
         none_named (named w c 1) name (no_names w c two all.0)
@@ -190,7 +192,7 @@ module _ (w : WaitingWork) (n : ℕ) (taken : List Taken) (events : List Event) 
     pub stand_behind : StandBehindWhatTheyWaitFor w events
     stand_behind before behind e is =
         let its = found w n taken events line e (subst (λ l. Contains l e) (sym is) (split_in before e behind)) in
-        let names = waits_of w e.change e.step in
+        let names = waits_of w.script e.change e.step in
         All-weaker (Contains names) (λ name. has_events behind name ≡ false)
         (λ name waits. ⊎_elim
         (λ (some : has_events behind name ≡ true).

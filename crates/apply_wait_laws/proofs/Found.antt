@@ -5,11 +5,11 @@ use Rattle.std.proofs.lemmas.Bool.{true≢false}
 use Rattle.std.proofs.lemmas.Bool.Decides.{eqb_tells}
 use Rattle.std.proofs.lemmas.List.{append-nil}
 use Rattle.std.proofs.lemmas.List.Elements.{All-tail, Contains-append_cases, Contains-append_left, Contains-append_right, filter-append}
+use Rattle.apply_events.specs.Step.{Work}
 use Rattle.apply_events.specs.declared.event.Event.{Event}
 use Rattle.apply_events.specs.Interleaving.{IsInterleaving}
 use Rattle.apply_events.specs.OfWorker.{of_worker}
 use Rattle.apply_events.specs.Waits.Done.{Taken}
-use Rattle.apply_events.specs.Waits.Named.{WaitingWork}
 use Rattle.apply_events.specs.Waits.Schedule.{is_taken}
 use Rattle.apply_events.specs.Waits.TimeLine.{lane_turns, turn_events}
 use Rattle.apply_wait_laws.proofs.Members.{filter_in, filter_no, filter_within, in_cases, in_filter, in_head, in_tail, not_in_none}
@@ -19,7 +19,7 @@ use Rattle.apply_wait_laws.proofs.TurnSteps.{all_at}
 
 -- ---- a lane's turns
 
-in_lane : (w : WaitingWork) (taken : List Taken) (lane : ℕ) (one : Taken) (e : Event) → Contains taken one → one.lane ≡ lane → Contains (turn_events w one) e → Contains (lane_turns w taken lane) e
+in_lane : (w : Work) (taken : List Taken) (lane : ℕ) (one : Taken) (e : Event) → Contains taken one → one.lane ≡ lane → Contains (turn_events w one) e → Contains (lane_turns w taken lane) e
 in_lane w [] lane one e there is h = absurd (not_in_none one there)
 in_lane w (x ∷ taken) lane one e there is h = ⊎_elim
     (λ (same : x ≡ one).
@@ -29,7 +29,7 @@ in_lane w (x ∷ taken) lane one e there is h = ⊎_elim
     (λ (later : Contains taken one). Contains-append_left (lane_turns w taken lane) (cond (eqb x.lane lane) (turn_events w x) []) e (in_lane w taken lane one e later is h))
     (in_cases x taken one there)
 
-lane_in : (w : WaitingWork) (taken : List Taken) (lane : ℕ) (e : Event) → Contains (lane_turns w taken lane) e
+lane_in : (w : Work) (taken : List Taken) (lane : ℕ) (e : Event) → Contains (lane_turns w taken lane) e
     → (one : Taken) × Contains taken one × (one.lane ≡ lane) × Contains (turn_events w one) e
 lane_in w [] lane e h = absurd (not_in_none e h)
 lane_in w (x ∷ taken) lane e h = ⊎_elim
@@ -43,13 +43,13 @@ lane_in w (x ∷ taken) lane e h = ⊎_elim
 -- ---- an interleaving
 
 -- the turn of an event
-pub record IsFound (w : WaitingWork) (taken : List Taken) (e : Event) : Type 0 where
+pub record IsFound (w : Work) (taken : List Taken) (e : Event) : Type 0 where
   pub one : Taken
   pub there : Contains taken one
   pub among : Contains (turn_events w one) e
   pub of : OfTurn w one e
 
-module _ (w : WaitingWork) (n : ℕ) (taken : List Taken) (events : List Event) (line : IsInterleaving n (lane_turns w taken) events) where
+module _ (w : Work) (n : ℕ) (taken : List Taken) (events : List Event) (line : IsInterleaving n (lane_turns w taken) events) where
   pub found : (e : Event) → Contains events e → IsFound w taken e
   found e h =
       let lt = all_at (λ (f : Event). f.worker < n) events e line.named h in
@@ -65,11 +65,11 @@ module _ (w : WaitingWork) (n : ℕ) (taken : List Taken) (events : List Event) 
 -- ---- events that one turn alone has
 
 -- no other turn has such an event
-abbrev pub IsOnly : WaitingWork → List Taken → Taken → (Event → Bool) → Type 0
+abbrev pub IsOnly : Work → List Taken → Taken → (Event → Bool) → Type 0
 IsOnly w taken one p = (other : Taken) → Contains taken other → (e : Event) → Contains (turn_events w other) e → p e ≡ true → other ≡ one
 
 -- of a lane's turns
-lane_part : (w : WaitingWork) (taken : List Taken) (one : Taken) (p : Event → Bool) → AreTurns w taken → Contains taken one → IsOnly w taken one p
+lane_part : (w : Work) (taken : List Taken) (one : Taken) (p : Event → Bool) → AreTurns w taken → Contains taken one → IsOnly w taken one p
     → filter p (lane_turns w taken one.lane) ≡ filter p (turn_events w one)
 lane_part w [] one p h there only = absurd (not_in_none one there)
 lane_part w (x ∷ taken) one p h there only =
@@ -96,7 +96,7 @@ lane_part w (x ∷ taken) one p h there only =
     (in_cases x taken one there)
 
 -- of an interleaving
-pub part_is : (w : WaitingWork) (n : ℕ) (taken : List Taken) (events : List Event) (one : Taken) (p : Event → Bool) → IsInterleaving n (lane_turns w taken) events
+pub part_is : (w : Work) (n : ℕ) (taken : List Taken) (events : List Event) (one : Taken) (p : Event → Bool) → IsInterleaving n (lane_turns w taken) events
     → AreTurns w taken → All (λ x. x.lane < n) taken → Contains taken one → IsOnly w taken one p → filter p events ≡ filter p (turn_events w one)
 part_is w n taken events one p line h lanes there only =
     let lt = all_at (λ (x : Taken). x.lane < n) taken one lanes there in

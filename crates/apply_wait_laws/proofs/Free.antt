@@ -5,14 +5,14 @@ use Rattle.std.proofs.lemmas.List.{get_or-set_other, get_or-set_same, length-rep
 use Rattle.std.proofs.lemmas.List.Elements.{All-cons, All-nil, All-weaker}
 use Rattle.std.specs.List.{list_all}
 use Rattle.std.specs.Prelude.{not}
+use Rattle.apply_events.specs.Step.{Work}
 use Rattle.apply_events.specs.Waits.Done.{Taken, end_of_turn}
 use Rattle.apply_events.specs.Waits.Moment.{IsNoLater, Moment, first_moment, is_earlier}
-use Rattle.apply_events.specs.Waits.Named.{WaitingWork}
 use Rattle.apply_events.specs.Waits.Schedule.{Ready, first_earliest, first_ready, free_behind, scheduled, taken_in, with_next}
 use Rattle.apply_events.specs.Waits.Turn.{begun_steps, turns}
 use Rattle.apply_wait_laws.proofs.Moments.{end_no_earlier, no_later_on, no_later_refl, second_no_later}
 
-pub length-free : (w : WaitingWork) (n : ℕ) (taken : List Taken) → length (free_behind w n taken) ≡ n
+pub length-free : (w : Work) (n : ℕ) (taken : List Taken) → length (free_behind w n taken) ≡ n
 length-free w n [] = length-replicate n first_moment
 length-free w n (one ∷ others) = length-set (free_behind w n others) one.lane (end_of_turn w one) ∙ length-free w n others
 
@@ -27,10 +27,10 @@ first_earliest_lt (m ∷ other ∷ ms) some =
     ]
 
 -- each has ended by the time from which on its lane is free
-abbrev pub HaveEnded : (w : WaitingWork) (free : List Moment) → List Taken → Type 0
+abbrev pub HaveEnded : (w : Work) (free : List Moment) → List Taken → Type 0
 HaveEnded w free taken = All (λ one. IsNoLater (end_of_turn w one) (get_or free one.lane first_moment)) taken
 
-module _ (w : WaitingWork) (n : ℕ) (some : 0 < n) where
+module _ (w : Work) (n : ℕ) (some : 0 < n) where
   -- one turn more, in the lane that is free first
   ended_on : (taken : List Taken) (ready : Ready) → HaveEnded w (free_behind w n taken) taken
       → HaveEnded w (free_behind w n (taken_in (free_behind w n taken) ready ∷ taken)) (taken_in (free_behind w n taken) ready ∷ taken)

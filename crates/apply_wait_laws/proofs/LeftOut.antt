@@ -8,11 +8,13 @@ use Rattle.apply_model.specs.Plan.ResourceChange.{ResourceChange}
 use Rattle.apply_events.specs.declared.event.Event.{Event}
 use Rattle.apply_events.specs.Fits.{HasStep}
 use Rattle.apply_events.specs.Interleaving.{IsInterleaving}
-use Rattle.apply_events.specs.Step.{Step, kinds_of, step_of, steps_of}
+use Rattle.apply_events.specs.Step.{Step, Work, kinds_of, step_of, steps_of}
 use Rattle.apply_events.specs.StepEvents.{goes_on}
 use Rattle.apply_events.specs.Waits.Done.{Taken, done_at, done_by, done_in, first_found, later_if_both, ready_at}
 use Rattle.apply_events.specs.Waits.Moment.{Moment, first_moment, later_of, next_round}
-use Rattle.apply_events.specs.Waits.Named.{StepName, WaitingWork, named, waits_of}
+use Rattle.apply_wait_laws.proofs.Named.{named}
+use Rattle.apply_model.specs.declared.script.wait.Wait.{Wait}
+use Rattle.apply_model.specs.Script.Waits.{waits_of}
 use Rattle.apply_events.specs.Waits.Schedule.{is_taken}
 use Rattle.apply_events.specs.Waits.TakenUp.{WereTakenUp}
 use Rattle.apply_events.specs.Waits.TimeLine.{lane_turns, turn_events}
@@ -41,7 +43,7 @@ known_change (x ∷ changes) zero k lt = omega arith
 known_change (x ∷ changes) (suc c) k lt = let rest = known_change changes c k lt in omega arith
 
 -- the turn that has a step
-pub record HasTurn (w : WaitingWork) (c k : ℕ) : Type 0 where
+pub record HasTurn (w : Work) (c k : ℕ) : Type 0 where
   pub turn : Turn
   pub known : Contains (turns w) turn
   pub of_change : turn.change ≡ c
@@ -49,21 +51,21 @@ pub record HasTurn (w : WaitingWork) (c k : ℕ) : Type 0 where
   pub high : k < turn.first + turn.count
   pub which : IsTurnOf w c turn
 
-turn_among : (w : WaitingWork) (c k : ℕ) → HasStep w.work.plan c k → (t : Bool) → is_split w c ≡ t
+turn_among : (w : Work) (c k : ℕ) → HasStep w.plan c k → (t : Bool) → is_split w c ≡ t
     → (turn : Turn) × Contains (cond t (single c 0 ∷ single c 1 ∷ []) (whole w c ∷ [])) turn × (turn.change ≡ c) × (turn.first ≤ k) × (k < turn.first + turn.count) × IsTurnOf w c turn
 turn_among w c k has false is = (whole w c, in_head (whole w c) [], refl, omega arith, omega arith, inl (is, refl))
 turn_among w c zero has true is = (single c 0, in_head (single c 0) (single c 1 ∷ []), refl, omega arith, omega arith, inr (is, inl refl))
 turn_among w c (suc k) has true is =
-    let two = eq_from (length (kinds_of w.work.plan c)) 2 (and_parts (eqb (length (kinds_of w.work.plan c)) 2) _ is).0 in
+    let two = eq_from (length (kinds_of w.plan c)) 2 (and_parts (eqb (length (kinds_of w.plan c)) 2) _ is).0 in
     (single c 1, in_tail (single c 0) (single c 1 ∷ []) (single c 1) (in_head (single c 1) []), refl, omega arith, omega arith, inr (is, inr refl))
 
-has_turn : (w : WaitingWork) (c k : ℕ) → HasStep w.work.plan c k → HasTurn w c k
+has_turn : (w : Work) (c k : ℕ) → HasStep w.plan c k → HasTurn w c k
 has_turn w c k has =
     let found = turn_among w c k has (is_split w c) refl in
-    let lt = known_change w.work.plan.changes c k has in
+    let lt = known_change w.plan.changes c k has in
     record {
       turn = found.0;
-      known = in_flat_map (turns_of w) (range_with_len 0 (length w.work.plan.changes)) c found.0 (in_range 0 (length w.work.plan.changes) c (omega arith) (omega arith)) found.1;
+      known = in_flat_map (turns_of w) (range_with_len 0 (length w.plan.changes)) c found.0 (in_range 0 (length w.plan.changes) c (omega arith) (omega arith)) found.1;
       of_change = found.2;
       low = found.3;
       high = found.4;
@@ -76,7 +78,7 @@ some_first : (first rest : Option Moment) → (first ≡ None → (at : Moment) 
 some_first (Some a) rest h = (a, refl)
 some_first None rest h = h refl
 
-some_at : (w : WaitingWork) (taken : List Taken) (one : Taken) (name : StepName) (m : Moment) → Contains taken one → done_in w one name ≡ Some m → (at : Moment) × (done_at w taken name ≡ Some at)
+some_at : (w : Work) (taken : List Taken) (one : Taken) (name : Wait) (m : Moment) → Contains taken one → done_in w one name ≡ Some m → (at : Moment) × (done_at w taken name ≡ Some at)
 some_at w [] one name m there is = absurd (not_in_none one there)
 some_at w (x ∷ taken) one name m there is = some_first (done_in w x name) (done_at w taken name) (λ its. ⊎_elim
     (λ (same : x ≡ one). let both : done_in w one name ≡ None = sym (ap (λ (y : Taken). done_in w y name) same) ∙ its in absurd cc)
@@ -87,7 +89,7 @@ both_some : (a b : Option Moment) (p q : Moment) → a ≡ Some p → b ≡ Some
 both_some a b p q is is' =
     (later_of (next_round p) q, ap (λ x. later_if_both (option_map next_round x) b) is ∙ ap (later_if_both (Some (next_round p))) is')
 
-ready_some : (w : WaitingWork) (taken : List Taken) (names : List StepName) → ((name : StepName) → Contains names name → (at : Moment) × (done_at w taken name ≡ Some at))
+ready_some : (w : Work) (taken : List Taken) (names : List Wait) → ((name : Wait) → Contains names name → (at : Moment) × (done_at w taken name ≡ Some at))
     → (at : Moment) × (done_by w taken names ≡ Some at)
 ready_some w taken [] h = (first_moment, refl)
 ready_some w taken (name ∷ names) h =
@@ -102,28 +104,28 @@ same_tests true b p q = sym (p refl)
 same_tests false true p q = q refl
 same_tests false false p q = refl
 
-module _ (w : WaitingWork) (n : ℕ) (taken : List Taken) (events : List Event) (up : WereTakenUp w n taken) (line : IsInterleaving n (lane_turns w taken) events) where
+module _ (w : Work) (n : ℕ) (taken : List Taken) (events : List Event) (up : WereTakenUp w n taken) (line : IsInterleaving n (lane_turns w taken) events) where
   turns_ok : AreTurns w taken
   turns_ok = are_turns w n taken events up line
 
-  pub has_yes : (e : Event) (name : StepName) → Contains events e → e.change ≡ name.change → e.step ≡ name.step → has_events events name ≡ true
+  pub has_yes : (e : Event) (name : Wait) → Contains events e → e.change ≡ name.change → e.step ≡ name.step → has_events events name ≡ true
   has_yes e name there change step =
       any_in (is_of_step name) events e there (ap (λ t. t && eqb e.step name.step) (eq-eqb e.change name.change change) ∙ eq-eqb e.step name.step step)
 
-  pub has_is : (name : StepName) → has_events events name ≡ true → (e : Event) × Contains events e × (e.change ≡ name.change) × (e.step ≡ name.step)
+  pub has_is : (name : Wait) → has_events events name ≡ true → (e : Event) × Contains events e × (e.change ≡ name.change) × (e.step ≡ name.step)
   has_is name some =
       let one = in_any (is_of_step name) events some in
       let both = and_parts (eqb one.0.change name.change) (eqb one.0.step name.step) one.2 in
       (one.0, one.1, eq_from one.0.change name.change both.0, eq_from one.0.step name.step both.1)
 
   -- whether a step of a turn goes on
-  goes_at : (turn : Turn) (s : Step) (name : StepName) → Contains (begun_steps w turn) s → name.change ≡ turn.change → name.step ≡ s.number → goes_on_if_begun w name ≡ goes_on s
+  goes_at : (turn : Turn) (s : Step) (name : Wait) → Contains (begun_steps w turn) s → name.change ≡ turn.change → name.step ≡ s.number → goes_on_if_begun w name ≡ goes_on s
   goes_at turn s name there change step =
-      ap (λ c. option_map_or goes_on (slice_get (steps_of w.work c) name.step) false) change
-      ∙ ap (λ k. option_map_or goes_on (slice_get (steps_of w.work turn.change) k) false) step
+      ap (λ c. option_map_or goes_on (slice_get (steps_of w c) name.step) false) change
+      ∙ ap (λ k. option_map_or goes_on (slice_get (steps_of w turn.change) k) false) step
       ∙ ap (λ found. option_map_or goes_on found false) (step_at_number w turn.change s (begun_of_change w turn s there))
 
-  done_along : (one : Taken) (s : Step) (name : StepName) → Contains taken one → Contains (begun_steps w one.turn) s → goes_on s ≡ true → name.change ≡ one.turn.change → name.step ≡ s.number
+  done_along : (one : Taken) (s : Step) (name : Wait) → Contains taken one → Contains (begun_steps w one.turn) s → goes_on s ≡ true → name.change ≡ one.turn.change → name.step ≡ s.number
       → is_done_along w events name ≡ true
   done_along one s name there begins on change step =
       let e = turn_has w one s begins in
@@ -131,7 +133,7 @@ module _ (w : WaitingWork) (n : ℕ) (taken : List Taken) (events : List Event) 
       (has_yes e.0 name (told w n taken events line one e.0 up.in_lanes there e.1) (e.3 ∙ sym change) (e.2 ∙ sym step))
       (goes_at one.turn s name begins change step ∙ on)
 
-  along_done : (name : StepName) → is_done_along w events name ≡ true → (one : Taken) × Contains taken one × (m : Moment) × (done_in w one name ≡ Some m)
+  along_done : (name : Wait) → is_done_along w events name ≡ true → (one : Taken) × Contains taken one × (m : Moment) × (done_in w one name ≡ Some m)
   along_done name is =
       let both = and_parts (has_events events name) (goes_on_if_begun w name) is in
       let e = has_is name both.0 in
@@ -144,14 +146,14 @@ module _ (w : WaitingWork) (n : ℕ) (taken : List Taken) (events : List Event) 
 
   -- ---- what has events waits for what is done
 
-  waited_done : (one : Taken) (name : StepName) → Contains taken one → Contains (waits_of_turn w one.turn) name → is_done_along w events name ≡ true
+  waited_done : (one : Taken) (name : Wait) → Contains taken one → Contains (waits_of_turn w one.turn) name → is_done_along w events name ≡ true
   waited_done one name there waits =
       let waited = is_waited_for w n taken one name up there waits in
       let done = done_there w waited.other name waited.moment waited.done in
       done_along waited.other done.step.0 name waited.there done.step.1 done.step.3 (sym done.change) (sym done.step.2)
 
   module _ (few : HasFewSteps w) where
-    all_done : (e : Event) (k : ℕ) (name : StepName) → (its : IsFound w taken e) → IsTurnOf w its.one.turn.change its.one.turn → e.step ≡ k → Contains (waits_of w e.change k) name
+    all_done : (e : Event) (k : ℕ) (name : Wait) → (its : IsFound w taken e) → IsTurnOf w its.one.turn.change its.one.turn → e.step ≡ k → Contains (waits_of w.script e.change k) name
         → is_done_along w events name ≡ true
     all_done e k name its (inr split) number waits =
         let count : its.one.turn.count ≡ 1 = single_count split.1 in
@@ -166,37 +168,37 @@ module _ (w : WaitingWork) (n : ℕ) (taken : List Taken) (events : List Event) 
         let c = its.one.turn.change in
         let high = its.of.high in let count = ap (λ (t : Turn). t.count) all.1 in let first = ap (λ (t : Turn). t.first) all.1 in
         let most = few c in
-        let size : length (kinds_of w.work.plan c) ≡ 2 = omega arith in ⊎_elim
+        let size : length (kinds_of w.plan c) ≡ 2 = omega arith in ⊎_elim
         (λ (here : record { change = e.change; step = k } ≡ name).
         let two = has_two w c (omega arith) most in
         let s = its.of.step.0 in
         let second : s.number ≡ 1 = sym its.of.step.2 ∙ number ∙ omega arith in
         let earlier = second_behind_first w c two s (subst (λ t. Contains (begun_steps w t) s) all.1 its.of.step.1) second in
-        done_along its.one (step_of w.work c 0 two.first) name its.there (subst (λ t. Contains (begun_steps w t) (step_of w.work c 0 two.first)) (sym all.1) earlier.0) earlier.1
-        (sym (ap (λ (x : StepName). x.change) here) ∙ its.of.change) (sym (ap (λ (x : StepName). x.step) here) ∙ omega arith))
+        done_along its.one (step_of w c 0 two.first) name its.there (subst (λ t. Contains (begun_steps w t) (step_of w c 0 two.first)) (sym all.1) earlier.0) earlier.1
+        (sym (ap (λ (x : Wait). x.change) here) ∙ its.of.change) (sym (ap (λ (x : Wait). x.step) here) ∙ omega arith))
         (λ (named_there : Contains (named w e.change (suc k)) name).
         let second : suc k ≡ 1 = omega arith in
         absurd (none_named (named w c 1) name (no_names w c size all.0)
         (subst (λ x. Contains (named w x 1) name) its.of.change (subst (λ j. Contains (named w e.change j) name) second named_there))))
         (in_cases (record { change = e.change; step = k }) (named w e.change (suc k)) name waits)
 
-    only_where_done : (c k : ℕ) → has_events events (record { change = c; step = k }) ≡ true → list_all (is_done_along w events) (waits_of w c k) ≡ true
+    only_where_done : (c k : ℕ) → has_events events (record { change = c; step = k }) ≡ true → list_all (is_done_along w events) (waits_of w.script c k) ≡ true
     only_where_done c k some =
         let e = has_is (record { change = c; step = k }) some in
         let its = found w n taken events line e.0 e.1 in
-        all_in (is_done_along w events) (waits_of w c k) (λ name waits.
-        all_done e.0 k name its (known_turn w taken its.one turns_ok its.there) e.3 (subst (λ x. Contains (waits_of w x k) name) (sym e.2) waits))
+        all_in (is_done_along w events) (waits_of w.script c k) (λ name waits.
+        all_done e.0 k name its (known_turn w taken its.one turns_ok its.there) e.3 (subst (λ x. Contains (waits_of w.script x k) name) (sym e.2) waits))
 
     -- ---- what waits for what is done has events
 
-    turn_begins : (c k : ℕ) (its : HasTurn w c k) → its.turn.first ≡ k → HasStep w.work.plan c k → list_all (is_done_along w events) (waits_of w c k) ≡ true → has_events events (record { change = c; step = k }) ≡ true
+    turn_begins : (c k : ℕ) (its : HasTurn w c k) → its.turn.first ≡ k → HasStep w.plan c k → list_all (is_done_along w events) (waits_of w.script c k) ≡ true → has_events events (record { change = c; step = k }) ≡ true
     turn_begins c k its first has done =
         let turn = its.turn in
         let high = its.high in
         let some : 0 < turn.count = omega arith in
-        let waits : waits_of_turn w turn ≡ waits_of w c k = waits_are w turn c k its.of_change first some in
+        let waits : waits_of_turn w turn ≡ waits_of w.script c k = waits_are w turn c k its.of_change first some in
         let ready = ready_some w taken (waits_of_turn w turn) (λ name there.
-        let found = along_done name (in_all (is_done_along w events) (waits_of w c k) name done (subst (λ l. Contains l name) waits there)) in
+        let found = along_done name (in_all (is_done_along w events) (waits_of w.script c k) name done (subst (λ l. Contains l name) waits there)) in
         some_at w taken found.0 name found.2 found.1 found.3) in
         let is : is_taken taken turn ≡ true = ⊎_elim
         (λ (yes : is_taken taken turn ≡ true). yes)
@@ -205,12 +207,12 @@ module _ (w : WaitingWork) (n : ℕ) (taken : List Taken) (events : List Event) 
         let both : None ≡ Some ready.0 = sym never ∙ ready.1 in absurd cc)
         (cases_Bool (is_taken taken turn)) in
         let one = in_list w taken turn turns_ok its.known is in
-        let s = first_begins w turn some (subst (λ x. turn.first < length (kinds_of w.work.plan x)) (sym its.of_change) (let lt : k < length (kinds_of w.work.plan c) = has in omega arith)) in
+        let s = first_begins w turn some (subst (λ x. turn.first < length (kinds_of w.plan x)) (sym its.of_change) (let lt : k < length (kinds_of w.plan c) = has in omega arith)) in
         let e = turn_has w one.0 s.0 (subst (λ t. Contains (begun_steps w t) s.0) (sym one.2) s.1) in
         has_yes e.0 (record { change = c; step = k }) (told w n taken events line one.0 e.0 up.in_lanes one.1 e.1)
         (e.3 ∙ ap (λ (t : Turn). t.change) one.2 ∙ its.of_change) (e.2 ∙ s.2 ∙ first)
 
-    where_done : (c k : ℕ) (its : HasTurn w c k) → IsTurnOf w c its.turn → HasStep w.work.plan c k → list_all (is_done_along w events) (waits_of w c k) ≡ true
+    where_done : (c k : ℕ) (its : HasTurn w c k) → IsTurnOf w c its.turn → HasStep w.plan c k → list_all (is_done_along w events) (waits_of w.script c k) ≡ true
         → has_events events (record { change = c; step = k }) ≡ true
     where_done c k its (inr split) has done =
         let count = single_count split.1 in let low = its.low in let high = its.high in
@@ -219,18 +221,18 @@ module _ (w : WaitingWork) (n : ℕ) (taken : List Taken) (events : List Event) 
     where_done c (suc k) its (inl all) has done =
         let most = few c in
         let two = has_two w c (omega arith) most in
-        let before : StepName = record { change = c; step = k } in
-        let is : is_done_along w events before ≡ true = in_all (is_done_along w events) (waits_of w c (suc k)) before done (in_head before (named w c (suc k))) in
+        let before : Wait = record { change = c; step = k } in
+        let is : is_done_along w events before ≡ true = in_all (is_done_along w events) (waits_of w.script c (suc k)) before done (in_head before (named w c (suc k))) in
         let both = and_parts (has_events events before) (goes_on_if_begun w before) is in
         let e = has_is before both.0 in
         let of = found w n taken events line e.0 e.1 in
         let none : k ≡ 0 = omega arith in
-        let on : goes_on (step_of w.work c 0 two.first) ≡ true =
-        sym (ap (λ kinds. option_map_or goes_on (slice_get (map (λ p. step_of w.work c p.0 p.1) (enumerate_from 0 kinds)) 0) false) two.are)
-        ∙ ap (λ j. option_map_or goes_on (slice_get (steps_of w.work c) j) false) (sym none) ∙ both.1 in
+        let on : goes_on (step_of w c 0 two.first) ≡ true =
+        sym (ap (λ kinds. option_map_or goes_on (slice_get (map (λ p. step_of w c p.0 p.1) (enumerate_from 0 kinds)) 0) false) two.are)
+        ∙ ap (λ j. option_map_or goes_on (slice_get (steps_of w c) j) false) (sym none) ∙ both.1 in
         let same : of.one.turn.change ≡ c = sym of.of.change ∙ e.2 in
         let turn : of.one.turn ≡ whole w c = whole_is c of.one.turn all.0 (subst (λ x. IsTurnOf w x of.one.turn) same (known_turn w taken of.one turns_ok of.there)) in
-        let next = turn_has w of.one (step_of w.work c 1 two.second) (subst (λ t. Contains (begun_steps w t) (step_of w.work c 1 two.second)) (sym turn) (second_begins w c two on)) in
+        let next = turn_has w of.one (step_of w c 1 two.second) (subst (λ t. Contains (begun_steps w t) (step_of w c 1 two.second)) (sym turn) (second_begins w c two on)) in
         has_yes next.0 (record { change = c; step = suc k }) (told w n taken events line of.one next.0 up.in_lanes of.there next.1)
         (next.3 ∙ same) (next.2 ∙ omega arith)
       where
@@ -241,5 +243,5 @@ module _ (w : WaitingWork) (n : ℕ) (taken : List Taken) (events : List Event) 
     pub begin_where_all_is_done : BeginWhereAllIsDone w events
     begin_where_all_is_done c k has =
         let its = has_turn w c k has in
-        same_tests (has_events events (record { change = c; step = k })) (list_all (is_done_along w events) (waits_of w c k))
+        same_tests (has_events events (record { change = c; step = k })) (list_all (is_done_along w events) (waits_of w.script c k))
         (only_where_done c k) (where_done c k its its.which has)

@@ -6,6 +6,7 @@ pub mod Free
 pub mod LeftOut
 pub mod Members
 pub mod Moments
+pub mod Named
 pub mod Once
 pub mod Order
 pub mod TakenUp

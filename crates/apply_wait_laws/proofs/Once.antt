@@ -5,12 +5,12 @@ use Rattle.std.proofs.lemmas.Bool.{and_parts, cases_Bool, le-leb, leb-true, ltb-
 use Rattle.std.proofs.lemmas.Bool.Decides.{eqb_tells}
 use Rattle.std.proofs.lemmas.List.Elements.{All-tail}
 use Rattle.apply_events.specs.declared.event.Event.{Event}
-use Rattle.apply_events.specs.Step.{kinds_of}
+use Rattle.apply_events.specs.Step.{Work, kinds_of}
 use Rattle.apply_events.specs.Waits.Done.{Taken}
-use Rattle.apply_events.specs.Waits.Named.{WaitingWork, named}
+use Rattle.apply_wait_laws.proofs.Named.{named, names_some}
 use Rattle.apply_events.specs.Waits.Schedule.{is_same_turn, is_taken}
 use Rattle.apply_events.specs.Waits.TimeLine.{is_of_turn, moment_from, moment_of, turn_events}
-use Rattle.apply_events.specs.Waits.Turn.{Turn, names_some, single, turns, turns_of, whole}
+use Rattle.apply_events.specs.Waits.Turn.{Turn, single, turns, turns_of, whole}
 use Rattle.apply_wait_laws.proofs.Members.{any_in, flat_map_in, in_any, in_cases, in_head, in_tail, not_in_none}
 use Rattle.apply_wait_laws.proofs.TakenUp.{same_itself}
 use Rattle.apply_wait_laws.proofs.TurnEvents.{OfTurn, of_turn}
@@ -18,14 +18,14 @@ use Rattle.apply_wait_laws.proofs.TurnSteps.{all_at}
 
 -- ---- the turns of a change
 
-abbrev pub is_split : WaitingWork → ℕ → Bool
-is_split w c = eqb (length (kinds_of w.work.plan c)) 2 && names_some (named w c 1)
+abbrev pub is_split : Work → ℕ → Bool
+is_split w c = eqb (length (kinds_of w.plan c)) 2 && names_some (named w c 1)
 
 -- it is the whole change, or one of two single steps
-abbrev pub IsTurnOf : WaitingWork → ℕ → Turn → Type 0
+abbrev pub IsTurnOf : Work → ℕ → Turn → Type 0
 IsTurnOf w c turn = ((is_split w c ≡ false) × (turn ≡ whole w c)) ⊎ ((is_split w c ≡ true) × ((turn ≡ single c 0) ⊎ (turn ≡ single c 1)))
 
-turns_are : (w : WaitingWork) (c : ℕ) (turn : Turn) (t : Bool) → is_split w c ≡ t → Contains (cond t (single c 0 ∷ single c 1 ∷ []) (whole w c ∷ [])) turn → IsTurnOf w c turn
+turns_are : (w : Work) (c : ℕ) (turn : Turn) (t : Bool) → is_split w c ≡ t → Contains (cond t (single c 0 ∷ single c 1 ∷ []) (whole w c ∷ [])) turn → IsTurnOf w c turn
 turns_are w c turn true is h = inr (is, ⊎_elim
     (λ (first : single c 0 ≡ turn). inl (sym first))
     (λ (later : Contains (single c 1 ∷ []) turn). ⊎_elim
@@ -38,20 +38,20 @@ turns_are w c turn false is h = inl (is, ⊎_elim
     (λ (none : Contains [] turn). absurd (not_in_none turn none))
     (in_cases (whole w c) [] turn h))
 
-change_is : (w : WaitingWork) (c : ℕ) (turn : Turn) → IsTurnOf w c turn → turn.change ≡ c
+change_is : (w : Work) (c : ℕ) (turn : Turn) → IsTurnOf w c turn → turn.change ≡ c
 change_is w c turn (inl one) = ap (λ (t : Turn). t.change) one.1
 change_is w c turn (inr (split, inl first)) = ap (λ (t : Turn). t.change) first
 change_is w c turn (inr (split, inr second)) = ap (λ (t : Turn). t.change) second
 
-pub turn_is : (w : WaitingWork) (turn : Turn) → Contains (turns w) turn → IsTurnOf w turn.change turn
+pub turn_is : (w : Work) (turn : Turn) → Contains (turns w) turn → IsTurnOf w turn.change turn
 turn_is w turn h =
-    let found = flat_map_in (turns_of w) (range_with_len 0 (length w.work.plan.changes)) turn h in
+    let found = flat_map_in (turns_of w) (range_with_len 0 (length w.plan.changes)) turn h in
     let c = found.0 in
     let is : IsTurnOf w c turn = turns_are w c turn (is_split w c) refl found.2 in
     subst (λ k. IsTurnOf w k turn) (sym (change_is w c turn is)) is
 
 -- turns of one change that have a step in common are equal
-pub same_turn : (w : WaitingWork) (c k : ℕ) (a b : Turn) → IsTurnOf w c a → IsTurnOf w c b → a.first ≤ k → k < a.first + a.count → b.first ≤ k → k < b.first + b.count → a ≡ b
+pub same_turn : (w : Work) (c k : ℕ) (a b : Turn) → IsTurnOf w c a → IsTurnOf w c b → a.first ≤ k → k < a.first + a.count → b.first ≤ k → k < b.first + b.count → a ≡ b
 same_turn w c k a b (inl p) (inl q) la ha lb hb = p.1 ∙ sym q.1
 same_turn w c k a b (inl p) (inr q) la ha lb hb = absurd (true≢false (sym q.0 ∙ p.0))
 same_turn w c k a b (inr p) (inl q) la ha lb hb = absurd (true≢false (sym p.0 ∙ q.0))
@@ -63,7 +63,7 @@ same_turn w c k a b (inr (split, inr p)) (inr (split', inl q)) la ha lb hb =
     let first = ap (λ (t : Turn). t.first) q in let count = ap (λ (t : Turn). t.count) q in let second = ap (λ (t : Turn). t.first) p in absurd (omega arith)
 
 -- and so are those with the same first step
-same_first : (w : WaitingWork) (c : ℕ) (a b : Turn) → IsTurnOf w c a → IsTurnOf w c b → a.first ≡ b.first → a ≡ b
+same_first : (w : Work) (c : ℕ) (a b : Turn) → IsTurnOf w c a → IsTurnOf w c b → a.first ≡ b.first → a ≡ b
 same_first w c a b (inl p) (inl q) is = p.1 ∙ sym q.1
 same_first w c a b (inl p) (inr q) is = absurd (true≢false (sym q.0 ∙ p.0))
 same_first w c a b (inr p) (inl q) is = absurd (true≢false (sym p.0 ∙ q.0))
@@ -77,24 +77,24 @@ same_first w c a b (inr (split, inr p)) (inr (split', inl q)) is =
 -- ---- taken up once
 
 -- each is a turn of the work, and none stands twice
-pub record AreTurns (w : WaitingWork) (taken : List Taken) : Type 0 where
+pub record AreTurns (w : Work) (taken : List Taken) : Type 0 where
   pub known : All (λ one. Contains (turns w) one.turn) taken
   pub once : (later before : List Taken) (one : Taken) → taken ≡ later ++ one ∷ before → is_taken before one.turn ≡ false
 
-pub turns_tail : (w : WaitingWork) (one : Taken) (taken : List Taken) → AreTurns w (one ∷ taken) → AreTurns w taken
+pub turns_tail : (w : Work) (one : Taken) (taken : List Taken) → AreTurns w (one ∷ taken) → AreTurns w taken
 turns_tail w one taken h = record {
   known = All-tail (λ (x : Taken). Contains (turns w) x.turn) one taken h.known;
   once = λ later before x is. h.once (one ∷ later) before x (ap (λ l. one ∷ l) is);
 }
 
-pub known_turn : (w : WaitingWork) (taken : List Taken) (one : Taken) → AreTurns w taken → Contains taken one → IsTurnOf w one.turn.change one.turn
+pub known_turn : (w : Work) (taken : List Taken) (one : Taken) → AreTurns w taken → Contains taken one → IsTurnOf w one.turn.change one.turn
 known_turn w taken one h there = turn_is w one.turn (all_at (λ (x : Taken). Contains (turns w) x.turn) taken one h.known there)
 
 pub taken_in_list : (taken : List Taken) (one : Taken) (turn : Turn) → Contains taken one → one.turn ≡ turn → is_taken taken turn ≡ true
 taken_in_list taken one turn there is = any_in (λ (x : Taken). is_same_turn x.turn turn) taken one there (ap (λ t. is_same_turn t turn) is ∙ same_itself turn)
 
 -- what is taken is in the list
-pub in_list : (w : WaitingWork) (taken : List Taken) (turn : Turn) → AreTurns w taken → Contains (turns w) turn → is_taken taken turn ≡ true
+pub in_list : (w : Work) (taken : List Taken) (turn : Turn) → AreTurns w taken → Contains (turns w) turn → is_taken taken turn ≡ true
     → (one : Taken) × Contains taken one × (one.turn ≡ turn)
 in_list w taken turn h known is =
     let found = in_any (λ (x : Taken). is_same_turn x.turn turn) taken is in
@@ -110,7 +110,7 @@ in_list w taken turn h known is =
         (λ (c : _ × (a ≢ b)). absurd (true≢false (sym same ∙ ne_eqb a b c.1)))
         (eqb_tells a b)
 
-pub same_taken : (w : WaitingWork) (taken : List Taken) (a b : Taken) → AreTurns w taken → Contains taken a → Contains taken b → a.turn ≡ b.turn → a ≡ b
+pub same_taken : (w : Work) (taken : List Taken) (a b : Taken) → AreTurns w taken → Contains taken a → Contains taken b → a.turn ≡ b.turn → a ≡ b
 same_taken w [] a b h p q same = absurd (not_in_none a p)
 same_taken w (x ∷ taken) a b h p q same =
     let new : is_taken taken x.turn ≡ false = h.once [] taken x refl in ⊎_elim
@@ -127,14 +127,14 @@ same_taken w (x ∷ taken) a b h p q same =
     (in_cases x taken a p)
 
 -- turns that were taken up and have a step in common are one
-pub one_turn : (w : WaitingWork) (taken : List Taken) (c k : ℕ) (a b : Taken) → AreTurns w taken → Contains taken a → Contains taken b → a.turn.change ≡ c → b.turn.change ≡ c
+pub one_turn : (w : Work) (taken : List Taken) (c k : ℕ) (a b : Taken) → AreTurns w taken → Contains taken a → Contains taken b → a.turn.change ≡ c → b.turn.change ≡ c
     → a.turn.first ≤ k → k < a.turn.first + a.turn.count → b.turn.first ≤ k → k < b.turn.first + b.turn.count → a ≡ b
 one_turn w taken c k a b h p q ca cb la ha lb hb =
     same_taken w taken a b h p q (same_turn w c k a.turn b.turn
     (subst (λ x. IsTurnOf w x a.turn) ca (known_turn w taken a h p)) (subst (λ x. IsTurnOf w x b.turn) cb (known_turn w taken b h q)) la ha lb hb)
 
 -- an event is of one turn
-pub one_event : (w : WaitingWork) (taken : List Taken) (a b : Taken) (e f : Event) → AreTurns w taken → Contains taken a → Contains taken b → OfTurn w a e → OfTurn w b f
+pub one_event : (w : Work) (taken : List Taken) (a b : Taken) (e f : Event) → AreTurns w taken → Contains taken a → Contains taken b → OfTurn w a e → OfTurn w b f
     → e.change ≡ f.change → e.step ≡ f.step → a ≡ b
 one_event w taken a b e f h p q oe of change step =
     let low = oe.low in let high = oe.high in let low' = of.low in let high' = of.high in
@@ -157,7 +157,7 @@ of_is one e its =
       ltb-true e.step (one.turn.first + one.turn.count) all.1,
     )
 
-pub moment_is : (w : WaitingWork) (taken : List Taken) (one : Taken) (e : Event) → AreTurns w taken → Contains taken one → OfTurn w one e → moment_of taken e ≡ moment_from one.begin e
+pub moment_is : (w : Work) (taken : List Taken) (one : Taken) (e : Event) → AreTurns w taken → Contains taken one → OfTurn w one e → moment_of taken e ≡ moment_from one.begin e
 moment_is w [] one e h there of = absurd (not_in_none one there)
 moment_is w (x ∷ taken) one e h there of = ⊎_elim
     (λ (yes : is_of_turn x.turn e ≡ true).

@@ -3,9 +3,9 @@ use Rattle.std.proofs.Common.{◌≡◌, ℕ, zero, suc, ◌+◌, ◌<◌, ◌�
 use Rattle.std.specs.Prelude.{option_map}
 use Rattle.std.specs.List.{Contains}
 use Rattle.std.proofs.lemmas.List.Elements.{All-cons, All-nil, All-weaker}
+use Rattle.apply_events.specs.Step.{Work}
 use Rattle.apply_events.specs.Waits.Done.{Taken, end_of_turn, ready_at}
 use Rattle.apply_events.specs.Waits.Moment.{IsNoLater, Moment, first_moment, is_earlier, later_of}
-use Rattle.apply_events.specs.Waits.Named.{WaitingWork}
 use Rattle.apply_events.specs.Waits.Schedule.{Ready, earlier_of, first_earliest, first_ready, free_behind, is_same_turn, is_taken, next_of, ready_turn, schedule, scheduled, taken_in, with_next}
 use Rattle.apply_events.specs.Waits.TakenUp.{IsFree, IsReady, WereTakenUp}
 use Rattle.apply_events.specs.Waits.Turn.{Turn, turns}
@@ -26,7 +26,7 @@ each_split P [] before one (x ∷ xs) h is =
 each_split P (l ∷ later) before one [] h is = absurd cc
 each_split P (l ∷ later) before one (x ∷ xs) h is = each_split P later before one xs h.1 cc
 
-module _ (w : WaitingWork) (n : ℕ) (P : List Taken → Taken → Type 0)
+module _ (w : Work) (n : ℕ) (P : List Taken → Taken → Type 0)
     (next : (count : ℕ) (ready : Ready) → first_ready w (scheduled w n count) (turns w) ≡ Some ready
         → P (scheduled w n count) (taken_in (free_behind w n (scheduled w n count)) ready)) where
   one_more : (count : ℕ) (found : Option Ready) → first_ready w (scheduled w n count) (turns w) ≡ found → EachBehind P (scheduled w n count)
@@ -40,40 +40,40 @@ module _ (w : WaitingWork) (n : ℕ) (P : List Taken → Taken → Type 0)
 
 -- ---- the one that is ready first is ready, was not taken up, and is one of the turns
 
-pub record IsFit (w : WaitingWork) (taken : List Taken) (ts : List Turn) (ready : Ready) : Type 0 where
+pub record IsFit (w : Work) (taken : List Taken) (ts : List Turn) (ready : Ready) : Type 0 where
   pub is_ready : ready_at w taken ready.turn ≡ Some ready.at
   pub is_new : is_taken taken ready.turn ≡ false
   pub is_known : Contains ts ready.turn
 
-abbrev AreFit : WaitingWork → List Taken → List Turn → Option Ready → Type 0
+abbrev AreFit : Work → List Taken → List Turn → Option Ready → Type 0
 AreFit w taken ts None = Unit {0}
 AreFit w taken ts (Some ready) = IsFit w taken ts ready
 
-fit_earlier : (w : WaitingWork) (taken : List Taken) (ts : List Turn) (a b : Option Ready) → AreFit w taken ts a → AreFit w taken ts b → AreFit w taken ts (earlier_of a b)
+fit_earlier : (w : Work) (taken : List Taken) (ts : List Turn) (a b : Option Ready) → AreFit w taken ts a → AreFit w taken ts b → AreFit w taken ts (earlier_of a b)
 fit_earlier w taken ts None b p q = q
 fit_earlier w taken ts (Some a) None p q = p
 fit_earlier w taken ts (Some a) (Some b) p q =
     elim (is_earlier b.at a.at) as (λ t. AreFit w taken ts (cond t (Some b) (Some a))) [ true ↦ q | false ↦ p ]
 
-fit_turn : (w : WaitingWork) (taken : List Taken) (turn : Turn) (ts : List Turn) (found : Option Moment) → ready_at w taken turn ≡ found → is_taken taken turn ≡ false
+fit_turn : (w : Work) (taken : List Taken) (turn : Turn) (ts : List Turn) (found : Option Moment) → ready_at w taken turn ≡ found → is_taken taken turn ≡ false
     → AreFit w taken (turn ∷ ts) (option_map (ready_turn turn) found)
 fit_turn w taken turn ts None is new = tt
 fit_turn w taken turn ts (Some at) is new = record { is_ready = is; is_new = new; is_known = in_head turn ts }
 
-fit_next : (w : WaitingWork) (taken : List Taken) (turn : Turn) (ts : List Turn) (t : Bool) → is_taken taken turn ≡ t
+fit_next : (w : Work) (taken : List Taken) (turn : Turn) (ts : List Turn) (t : Bool) → is_taken taken turn ≡ t
     → AreFit w taken (turn ∷ ts) (cond t None (option_map (ready_turn turn) (ready_at w taken turn)))
 fit_next w taken turn ts true is = tt
 fit_next w taken turn ts false is = fit_turn w taken turn ts (ready_at w taken turn) refl is
 
-fit_more : (w : WaitingWork) (taken : List Taken) (turn : Turn) (ts : List Turn) (found : Option Ready) → AreFit w taken ts found → AreFit w taken (turn ∷ ts) found
+fit_more : (w : Work) (taken : List Taken) (turn : Turn) (ts : List Turn) (found : Option Ready) → AreFit w taken ts found → AreFit w taken (turn ∷ ts) found
 fit_more w taken turn ts None h = tt
 fit_more w taken turn ts (Some ready) h = record { is_ready = h.is_ready; is_new = h.is_new; is_known = in_tail turn ts ready.turn h.is_known }
 
-fit_first : (w : WaitingWork) (taken : List Taken) (ts : List Turn) → AreFit w taken ts (first_ready w taken ts)
+fit_first : (w : Work) (taken : List Taken) (ts : List Turn) → AreFit w taken ts (first_ready w taken ts)
 fit_first w taken [] = tt
 fit_first w taken (turn ∷ ts) = fit_earlier w taken (turn ∷ ts) _ _ (fit_next w taken turn ts (is_taken taken turn) refl) (fit_more w taken turn ts (first_ready w taken ts) (fit_first w taken ts))
 
-pub is_fit : (w : WaitingWork) (taken : List Taken) (ts : List Turn) (ready : Ready) → first_ready w taken ts ≡ Some ready → IsFit w taken ts ready
+pub is_fit : (w : Work) (taken : List Taken) (ts : List Turn) (ready : Ready) → first_ready w taken ts ≡ Some ready → IsFit w taken ts ready
 is_fit w taken ts ready is = subst (AreFit w taken ts) is (fit_first w taken ts)
 
 -- ---- none is taken up twice, before it is ready, or before those of its lane have ended
@@ -81,7 +81,7 @@ is_fit w taken ts ready is = subst (AreFit w taken ts) is (fit_first w taken ts)
 abbrev IsNew : List Taken → Taken → Type 0
 IsNew before one = is_taken before one.turn ≡ false
 
-lane_is_free : (w : WaitingWork) (n : ℕ) → 0 < n → (count : ℕ) (ready : Ready)
+lane_is_free : (w : Work) (n : ℕ) → 0 < n → (count : ℕ) (ready : Ready)
     → IsFree w (scheduled w n count) (taken_in (free_behind w n (scheduled w n count)) ready)
 lane_is_free w n some count ready =
     let taken = scheduled w n count in
@@ -94,7 +94,7 @@ lane_is_free w n some count ready =
     taken (have_ended w n some count)
 
 -- what holds of each that is taken up next holds of all
-module _ (w : WaitingWork) (n : ℕ) (P : Taken → Type 0)
+module _ (w : Work) (n : ℕ) (P : Taken → Type 0)
     (next : (taken : List Taken) (ready : Ready) → first_ready w taken (turns w) ≡ Some ready → P (taken_in (free_behind w n taken) ready)) where
   all_next : (taken : List Taken) (found : Option Ready) → first_ready w taken (turns w) ≡ found → All P taken → All P (with_next w n taken found)
   all_next taken None is h = h
@@ -104,7 +104,7 @@ module _ (w : WaitingWork) (n : ℕ) (P : Taken → Type 0)
   all_scheduled zero = All-nil P
   all_scheduled (suc count) = all_next (scheduled w n count) (first_ready w (scheduled w n count) (turns w)) refl (all_scheduled count)
 
-in_a_lane : (w : WaitingWork) (n : ℕ) → 0 < n → (taken : List Taken) → first_earliest (free_behind w n taken) < n
+in_a_lane : (w : Work) (n : ℕ) → 0 < n → (taken : List Taken) → first_earliest (free_behind w n taken) < n
 in_a_lane w n some taken =
     let size : length (free_behind w n taken) ≡ n = length-free w n taken in
     let fits : first_earliest (free_behind w n taken) < length (free_behind w n taken) = first_earliest_lt (free_behind w n taken) (omega arith) in
@@ -125,14 +125,14 @@ turn_none : (turn : Turn) (found : Option Moment) → option_map (ready_turn tur
 turn_none turn None is = refl
 turn_none turn (Some at) is = absurd cc
 
-next_none : (w : WaitingWork) (taken : List Taken) (turn : Turn) (t : Bool) → t ≡ false → cond t None (option_map (ready_turn turn) (ready_at w taken turn)) ≡ None → ready_at w taken turn ≡ None
+next_none : (w : Work) (taken : List Taken) (turn : Turn) (t : Bool) → t ≡ false → cond t None (option_map (ready_turn turn) (ready_at w taken turn)) ≡ None → ready_at w taken turn ≡ None
 next_none w taken turn true new is = absurd cc
 next_none w taken turn false new is = turn_none turn (ready_at w taken turn) is
 
-abbrev IsLeftOut : WaitingWork → List Taken → Turn → Type 0
+abbrev IsLeftOut : Work → List Taken → Turn → Type 0
 IsLeftOut w taken turn = is_taken taken turn ≡ false → ready_at w taken turn ≡ None
 
-none_ready : (w : WaitingWork) (taken : List Taken) (ts : List Turn) → first_ready w taken ts ≡ None → All (IsLeftOut w taken) ts
+none_ready : (w : Work) (taken : List Taken) (ts : List Turn) → first_ready w taken ts ≡ None → All (IsLeftOut w taken) ts
 none_ready w taken [] is = All-nil _
 none_ready w taken (turn ∷ ts) is =
     let both = earlier_none (next_of w taken turn) (first_ready w taken ts) is in
@@ -182,11 +182,11 @@ turn_some : (turn : Turn) (found : Option Moment) (ready : Ready) → option_map
 turn_some turn None ready is = absurd cc
 turn_some turn (Some at) ready is = let one : ready_turn turn at ≡ ready = cc in ap (λ (r : Ready). r.turn) one
 
-next_some : (w : WaitingWork) (taken : List Taken) (turn : Turn) (ready : Ready) (t : Bool) → cond t None (option_map (ready_turn turn) (ready_at w taken turn)) ≡ Some ready → (t ≡ false) × (turn ≡ ready.turn)
+next_some : (w : Work) (taken : List Taken) (turn : Turn) (ready : Ready) (t : Bool) → cond t None (option_map (ready_turn turn) (ready_at w taken turn)) ≡ Some ready → (t ≡ false) × (turn ≡ ready.turn)
 next_some w taken turn ready true is = absurd cc
 next_some w taken turn ready false is = (refl, turn_some turn (ready_at w taken turn) ready is)
 
-fewer_missing : (w : WaitingWork) (taken : List Taken) (one : Taken) (ts : List Turn) (ready : Ready) → one.turn ≡ ready.turn → first_ready w taken ts ≡ Some ready
+fewer_missing : (w : Work) (taken : List Taken) (one : Taken) (ts : List Turn) (ready : Ready) → one.turn ≡ ready.turn → first_ready w taken ts ≡ Some ready
     → missing (one ∷ taken) ts < missing taken ts
 fewer_missing w taken one [] ready of_it is = absurd cc
 fewer_missing w taken one (turn ∷ ts) ready of_it is = ⊎_elim
@@ -201,10 +201,10 @@ fewer_missing w taken one (turn ∷ ts) ready of_it is = ⊎_elim
     (either_earlier (next_of w taken turn) (first_ready w taken ts) ready is)
 
 -- none is ready any more, or so many were taken up
-abbrev HasStopped : (w : WaitingWork) (taken : List Taken) (count : ℕ) → Type 0
+abbrev HasStopped : (w : Work) (taken : List Taken) (count : ℕ) → Type 0
 HasStopped w taken count = (first_ready w taken (turns w) ≡ None) ⊎ (missing taken (turns w) + count ≤ length (turns w))
 
-stopped_next : (w : WaitingWork) (n count : ℕ) (taken : List Taken) (found : Option Ready) → first_ready w taken (turns w) ≡ found → HasStopped w taken count
+stopped_next : (w : Work) (n count : ℕ) (taken : List Taken) (found : Option Ready) → first_ready w taken (turns w) ≡ found → HasStopped w taken count
     → HasStopped w (with_next w n taken found) (suc count)
 stopped_next w n count taken None is h = inl is
 stopped_next w n count taken (Some ready) is h = ⊎_elim
@@ -213,16 +213,16 @@ stopped_next w n count taken (Some ready) is h = ⊎_elim
     let less = fewer_missing w taken (taken_in (free_behind w n taken) ready) (turns w) ready refl is in inr (omega arith))
     h
 
-stopped : (w : WaitingWork) (n count : ℕ) → HasStopped w (scheduled w n count) count
+stopped : (w : Work) (n count : ℕ) → HasStopped w (scheduled w n count) count
 stopped w n zero = inr (let few = few_missing [] (turns w) in omega arith)
 stopped w n (suc count) = stopped_next w n count (scheduled w n count) (first_ready w (scheduled w n count) (turns w)) refl (stopped w n count)
 
-at_end : (w : WaitingWork) (taken : List Taken) (found : Option Ready) → first_ready w taken (turns w) ≡ found → missing taken (turns w) ≡ 0 → found ≡ None
+at_end : (w : Work) (taken : List Taken) (found : Option Ready) → first_ready w taken (turns w) ≡ found → missing taken (turns w) ≡ 0 → found ≡ None
 at_end w taken None is none = refl
 at_end w taken (Some ready) is none =
     let less = fewer_missing w taken (record { turn = ready.turn; lane = 0; begin = ready.at }) (turns w) ready refl is in absurd (omega arith)
 
-pub none_is_ready : (w : WaitingWork) (n : ℕ) → first_ready w (schedule w n) (turns w) ≡ None
+pub none_is_ready : (w : Work) (n : ℕ) → first_ready w (schedule w n) (turns w) ≡ None
 none_is_ready w n = ⊎_elim
     (λ (none : first_ready w (schedule w n) (turns w) ≡ None). none)
     (λ (few : missing (schedule w n) (turns w) + length (turns w) ≤ length (turns w)).
@@ -231,7 +231,7 @@ none_is_ready w n = ⊎_elim
 
 -- ---- together
 
-pub taken_up : (w : WaitingWork) (n : ℕ) → 0 < n → WereTakenUp w n (schedule w n)
+pub taken_up : (w : Work) (n : ℕ) → 0 < n → WereTakenUp w n (schedule w n)
 taken_up w n some = record {
   known = all_scheduled w n (λ one. Contains (turns w) one.turn) (λ taken ready found. (is_fit w taken (turns w) ready found).is_known) (length (turns w));
   in_lanes = all_scheduled w n (λ one. one.lane < n) (λ taken ready found. in_a_lane w n some taken) (length (turns w));

@@ -11,11 +11,11 @@ use Rattle.apply_events.specs.declared.event.Event.{Event}
 use Rattle.apply_events.specs.declared.what.What.{What}
 use Rattle.apply_events.specs.declared.what.What.TheVariants.{Halted, Start}
 use Rattle.apply_events.specs.ChangeEvents.{in_turn}
-use Rattle.apply_events.specs.Step.{Step}
+use Rattle.apply_events.specs.Step.{Step, Work}
 use Rattle.apply_events.specs.StepEvents.{between, endings, event, goes_on, halts, phase_after, seconds_of, started, step_events, step_time}
 use Rattle.apply_events.specs.Waits.Done.{Taken, done_among, done_in}
 use Rattle.apply_events.specs.Waits.Moment.{IsNoLater, Moment, later_by}
-use Rattle.apply_events.specs.Waits.Named.{StepName, WaitingWork}
+use Rattle.apply_model.specs.declared.script.wait.Wait.{Wait}
 use Rattle.apply_events.specs.Waits.TimeLine.{is_of_turn, moment_from, turn_events}
 use Rattle.apply_events.specs.Waits.Turn.{begun_steps}
 use Rattle.apply_events.proofs.Moments.{step_rises}
@@ -225,7 +225,7 @@ is_done n at (x ∷ steps) s numbered h on = ⊎_elim
 -- ---- a turn
 
 -- what is known of an event of a turn
-pub record OfTurn (w : WaitingWork) (one : Taken) (e : Event) : Type 0 where
+pub record OfTurn (w : Work) (one : Taken) (e : Event) : Type 0 where
   pub step : (s : Step) × Contains (begun_steps w one.turn) s × (e.step ≡ s.number)
   pub change : e.change ≡ one.turn.change
   pub worker : e.worker ≡ one.lane
@@ -234,7 +234,7 @@ pub record OfTurn (w : WaitingWork) (one : Taken) (e : Event) : Type 0 where
   pub from : IsNoLater one.begin (moment_from one.begin e)
   pub until : (m : Moment) → done_among e.step one.begin (begun_steps w one.turn) ≡ Some m → IsNoLater (moment_from one.begin e) m
 
-pub of_turn : (w : WaitingWork) (one : Taken) (e : Event) → Contains (turn_events w one) e → OfTurn w one e
+pub of_turn : (w : Work) (one : Taken) (e : Event) → Contains (turn_events w one) e → OfTurn w one e
 of_turn w one e h =
     let of = of_steps one.lane one.turn.first one.begin one.begin (begun_steps w one.turn) e (begun_numbered w one.turn) (inl refl) h in
     let s = of.step.0 in
@@ -250,19 +250,19 @@ of_turn w one e h =
       until = of.until;
     }
 
-pub turn_has : (w : WaitingWork) (one : Taken) (s : Step) → Contains (begun_steps w one.turn) s
+pub turn_has : (w : Work) (one : Taken) (s : Step) → Contains (begun_steps w one.turn) s
     → (e : Event) × Contains (turn_events w one) e × (e.step ≡ s.number) × (e.change ≡ one.turn.change)
 turn_has w one s h =
     let found = event_of one.lane (begun_steps w one.turn) one.begin.second s h in
     (found.0, found.1, found.2, found.3 ∙ step_names_change w one.turn.change s (begun_of_change w one.turn s h))
 
 -- what is done in a turn is one of its steps that begin, and goes on
-pub record IsDoneThere (w : WaitingWork) (one : Taken) (name : StepName) (m : Moment) : Type 0 where
+pub record IsDoneThere (w : Work) (one : Taken) (name : Wait) (m : Moment) : Type 0 where
   pub change : one.turn.change ≡ name.change
   pub among : done_among name.step one.begin (begun_steps w one.turn) ≡ Some m
   pub step : (s : Step) × Contains (begun_steps w one.turn) s × (s.number ≡ name.step) × (goes_on s ≡ true)
 
-pub done_there : (w : WaitingWork) (one : Taken) (name : StepName) (m : Moment) → done_in w one name ≡ Some m → IsDoneThere w one name m
+pub done_there : (w : Work) (one : Taken) (name : Wait) (m : Moment) → done_in w one name ≡ Some m → IsDoneThere w one name m
 done_there w one name m is = ⊎_elim
     (λ (c : _ × (one.turn.change ≡ name.change)).
     let among : done_among name.step one.begin (begun_steps w one.turn) ≡ Some m =
@@ -272,7 +272,7 @@ done_there w one name m is = ⊎_elim
     let none = ap (λ t. cond t (done_among name.step one.begin (begun_steps w one.turn)) None) (ne_eqb one.turn.change name.change c.1) in absurd cc)
     (eqb_tells one.turn.change name.change)
 
-pub done_then : (w : WaitingWork) (one : Taken) (s : Step) (name : StepName) → Contains (begun_steps w one.turn) s → goes_on s ≡ true → name.change ≡ one.turn.change → name.step ≡ s.number
+pub done_then : (w : Work) (one : Taken) (s : Step) (name : Wait) → Contains (begun_steps w one.turn) s → goes_on s ≡ true → name.change ≡ one.turn.change → name.step ≡ s.number
     → (m : Moment) × (done_in w one name ≡ Some m)
 done_then w one s name h on change step =
     let found = is_done one.turn.first one.begin (begun_steps w one.turn) s (begun_numbered w one.turn) h on in (

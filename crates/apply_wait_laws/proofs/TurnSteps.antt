@@ -10,7 +10,6 @@ use Rattle.apply_model.specs.declared.plan.step_kind.StepKind.{StepKind}
 use Rattle.apply_events.specs.ChangeEvents.{begun}
 use Rattle.apply_events.specs.Step.{Step, Work, kinds_of, step_of, steps_of}
 use Rattle.apply_events.specs.StepEvents.{goes_on}
-use Rattle.apply_events.specs.Waits.Named.{WaitingWork}
 use Rattle.apply_events.specs.Waits.Turn.{Turn, begun_steps, whole}
 use Rattle.apply_events.proofs.StepNumbers.{AreNumbered, AreNumbered-begun, AreNumbered-drop, steps_of-numbered}
 use Rattle.apply_wait_laws.proofs.Members.{in_cases, in_head, in_tail, not_in_none}
@@ -46,21 +45,21 @@ drop_in (suc k) [] s h = h
 drop_in (suc k) (x ∷ steps) s h = in_tail x steps s (drop_in k steps s h)
 
 -- the steps of a turn, whether they begin or not
-abbrev pub steps_of_turn : WaitingWork → Turn → List Step
-steps_of_turn w turn = take turn.count (drop turn.first (steps_of w.work turn.change))
+abbrev pub steps_of_turn : Work → Turn → List Step
+steps_of_turn w turn = take turn.count (drop turn.first (steps_of w turn.change))
 
-pub turn_numbered : (w : WaitingWork) (turn : Turn) → AreNumbered turn.first (steps_of_turn w turn)
+pub turn_numbered : (w : Work) (turn : Turn) → AreNumbered turn.first (steps_of_turn w turn)
 turn_numbered w turn =
     let at : 0 + turn.first ≡ turn.first = omega arith in
-    AreNumbered-take turn.first turn.count (drop turn.first (steps_of w.work turn.change))
-    (subst (λ n. AreNumbered n (drop turn.first (steps_of w.work turn.change))) at (AreNumbered-drop 0 turn.first (steps_of w.work turn.change) (steps_of-numbered w.work turn.change)))
+    AreNumbered-take turn.first turn.count (drop turn.first (steps_of w turn.change))
+    (subst (λ n. AreNumbered n (drop turn.first (steps_of w turn.change))) at (AreNumbered-drop 0 turn.first (steps_of w turn.change) (steps_of-numbered w turn.change)))
 
-pub begun_numbered : (w : WaitingWork) (turn : Turn) → AreNumbered turn.first (begun_steps w turn)
+pub begun_numbered : (w : Work) (turn : Turn) → AreNumbered turn.first (begun_steps w turn)
 begun_numbered w turn = AreNumbered-begun turn.first (steps_of_turn w turn) (turn_numbered w turn)
 
-pub begun_of_change : (w : WaitingWork) (turn : Turn) (s : Step) → Contains (begun_steps w turn) s → Contains (steps_of w.work turn.change) s
+pub begun_of_change : (w : Work) (turn : Turn) (s : Step) → Contains (begun_steps w turn) s → Contains (steps_of w turn.change) s
 begun_of_change w turn s h =
-    drop_in turn.first (steps_of w.work turn.change) s (take_in turn.count (drop turn.first (steps_of w.work turn.change)) s (begun_in (steps_of_turn w turn) s h))
+    drop_in turn.first (steps_of w turn.change) s (take_in turn.count (drop turn.first (steps_of w turn.change)) s (begun_in (steps_of_turn w turn) s h))
 
 -- ---- numbers
 
@@ -77,12 +76,12 @@ length-begun (s ∷ steps) =
     let rest : length (begun steps) ≤ length steps = length-begun steps in
     elim (goes_on s) as (λ b. suc (length (cond b (begun steps) [])) ≤ suc (length steps)) [ true ↦ omega arith | false ↦ omega arith ]
 
-pub begun_within : (w : WaitingWork) (turn : Turn) (s : Step) → Contains (begun_steps w turn) s → (turn.first ≤ s.number) × (s.number < turn.first + turn.count)
+pub begun_within : (w : Work) (turn : Turn) (s : Step) → Contains (begun_steps w turn) s → (turn.first ≤ s.number) × (s.number < turn.first + turn.count)
 begun_within w turn s h =
     let within = numbered_in turn.first (begun_steps w turn) s (begun_numbered w turn) h in
     let low = within.0 in let high = within.1 in
     let few = length-begun (steps_of_turn w turn) in
-    let less = length-take turn.count (drop turn.first (steps_of w.work turn.change)) in
+    let less = length-take turn.count (drop turn.first (steps_of w turn.change)) in
     (omega arith, omega arith)
 
 -- each step of a change names it
@@ -97,8 +96,8 @@ all_at P (y ∷ xs) x h there = ⊎_elim
     (λ (later : Contains xs x). all_at P xs x (All-tail P y xs h) later)
     (in_cases y xs x there)
 
-pub step_names_change : (w : WaitingWork) (c : ℕ) (s : Step) → Contains (steps_of w.work c) s → s.change ≡ c
-step_names_change w c s h = all_at (λ (x : Step). x.change ≡ c) (steps_of w.work c) s (changes_of w.work c 0 (kinds_of w.work.plan c)) h
+pub step_names_change : (w : Work) (c : ℕ) (s : Step) → Contains (steps_of w c) s → s.change ≡ c
+step_names_change w c s h = all_at (λ (x : Step). x.change ≡ c) (steps_of w c) s (changes_of w c 0 (kinds_of w.plan c)) h
 
 -- a step stands at its number
 at_number : (n : ℕ) (steps : List Step) (s : Step) (k : ℕ) → AreNumbered n steps → Contains steps s → s.number ≡ n + k → slice_get steps k ≡ Some s
@@ -112,12 +111,12 @@ at_number n (x ∷ steps) s (suc k) h there is = ⊎_elim
     (λ (later : Contains steps s). at_number (n + 1) steps s k h.1 later (omega arith))
     (in_cases x steps s there)
 
-pub step_at_number : (w : WaitingWork) (c : ℕ) (s : Step) → Contains (steps_of w.work c) s → slice_get (steps_of w.work c) s.number ≡ Some s
-step_at_number w c s h = at_number 0 (steps_of w.work c) s s.number (steps_of-numbered w.work c) h (omega arith)
+pub step_at_number : (w : Work) (c : ℕ) (s : Step) → Contains (steps_of w c) s → slice_get (steps_of w c) s.number ≡ Some s
+step_at_number w c s h = at_number 0 (steps_of w c) s s.number (steps_of-numbered w c) h (omega arith)
 
-pub length-steps_of : (w : WaitingWork) (c : ℕ) → length (steps_of w.work c) ≡ length (kinds_of w.work.plan c)
+pub length-steps_of : (w : Work) (c : ℕ) → length (steps_of w c) ≡ length (kinds_of w.plan c)
 length-steps_of w c =
-    length-map (enumerate_from 0 (kinds_of w.work.plan c)) (λ p. step_of w.work c p.0 p.1) ∙ length-enumerate_from 0 (kinds_of w.work.plan c)
+    length-map (enumerate_from 0 (kinds_of w.plan c)) (λ p. step_of w c p.0 p.1) ∙ length-enumerate_from 0 (kinds_of w.plan c)
 
 -- ---- which steps begin
 
@@ -126,19 +125,19 @@ first_of n [] h some = absurd (omega arith)
 first_of n (s ∷ steps) h some = (s, in_head s (cond (goes_on s) (begun steps) []), h.0)
 
 -- the first step of a turn begins
-pub first_begins : (w : WaitingWork) (turn : Turn) → 0 < turn.count → turn.first < length (kinds_of w.work.plan turn.change)
+pub first_begins : (w : Work) (turn : Turn) → 0 < turn.count → turn.first < length (kinds_of w.plan turn.change)
     → (s : Step) × Contains (begun_steps w turn) s × (s.number ≡ turn.first)
 first_begins w turn some known =
     let all = length-steps_of w turn.change in
-    let left = length-drop turn.first (steps_of w.work turn.change) in
-    let less = length-take turn.count (drop turn.first (steps_of w.work turn.change)) in
+    let left = length-drop turn.first (steps_of w turn.change) in
+    let less = length-take turn.count (drop turn.first (steps_of w turn.change)) in
     first_of turn.first (steps_of_turn w turn) (turn_numbered w turn) (omega arith)
 
 -- a change of two steps
-pub record HasTwo (w : WaitingWork) (c : ℕ) : Type 0 where
+pub record HasTwo (w : Work) (c : ℕ) : Type 0 where
   pub first : StepKind
   pub second : StepKind
-  pub are : kinds_of w.work.plan c ≡ first ∷ second ∷ []
+  pub are : kinds_of w.plan c ≡ first ∷ second ∷ []
 
 two_of : (kinds : List StepKind) → 1 < length kinds → length kinds ≤ 2 → (first : StepKind) × (second : StepKind) × (kinds ≡ first ∷ second ∷ [])
 two_of [] more few = absurd (omega arith)
@@ -146,24 +145,24 @@ two_of (first ∷ []) more few = absurd (omega arith)
 two_of (first ∷ second ∷ []) more few = (first, second, refl)
 two_of (first ∷ second ∷ third ∷ kinds) more few = absurd (omega arith)
 
-pub has_two : (w : WaitingWork) (c : ℕ) → 1 < length (kinds_of w.work.plan c) → length (kinds_of w.work.plan c) ≤ 2 → HasTwo w c
-has_two w c more few = let two = two_of (kinds_of w.work.plan c) more few in record { first = two.0; second = two.1; are = two.2 }
+pub has_two : (w : Work) (c : ℕ) → 1 < length (kinds_of w.plan c) → length (kinds_of w.plan c) ≤ 2 → HasTwo w c
+has_two w c more few = let two = two_of (kinds_of w.plan c) more few in record { first = two.0; second = two.1; are = two.2 }
 
 -- its second step begins where its first goes on
-pub two_begin : (w : WaitingWork) (c : ℕ) (two : HasTwo w c) → begun_steps w (whole w c)
-    ≡ step_of w.work c 0 two.first ∷ cond (goes_on (step_of w.work c 0 two.first)) (begun (step_of w.work c 1 two.second ∷ [])) []
-two_begin w c two = ap (λ kinds. begun (take (length kinds) (map (λ p. step_of w.work c p.0 p.1) (enumerate_from 0 kinds)))) two.are
+pub two_begin : (w : Work) (c : ℕ) (two : HasTwo w c) → begun_steps w (whole w c)
+    ≡ step_of w c 0 two.first ∷ cond (goes_on (step_of w c 0 two.first)) (begun (step_of w c 1 two.second ∷ [])) []
+two_begin w c two = ap (λ kinds. begun (take (length kinds) (map (λ p. step_of w c p.0 p.1) (enumerate_from 0 kinds)))) two.are
 
-pub second_begins : (w : WaitingWork) (c : ℕ) (two : HasTwo w c) → goes_on (step_of w.work c 0 two.first) ≡ true → Contains (begun_steps w (whole w c)) (step_of w.work c 1 two.second)
+pub second_begins : (w : Work) (c : ℕ) (two : HasTwo w c) → goes_on (step_of w c 0 two.first) ≡ true → Contains (begun_steps w (whole w c)) (step_of w c 1 two.second)
 second_begins w c two on =
-    let first = step_of w.work c 0 two.first in let second = step_of w.work c 1 two.second in
+    let first = step_of w c 0 two.first in let second = step_of w c 1 two.second in
     subst (λ l. Contains l second) (sym (two_begin w c two ∙ ap (λ t. first ∷ cond t (begun (second ∷ [])) []) on))
     (in_tail first (begun (second ∷ [])) second (in_head second (cond (goes_on second) [] [])))
 
-pub second_behind_first : (w : WaitingWork) (c : ℕ) (two : HasTwo w c) (s : Step) → Contains (begun_steps w (whole w c)) s → s.number ≡ 1
-    → Contains (begun_steps w (whole w c)) (step_of w.work c 0 two.first) × (goes_on (step_of w.work c 0 two.first) ≡ true)
+pub second_behind_first : (w : Work) (c : ℕ) (two : HasTwo w c) (s : Step) → Contains (begun_steps w (whole w c)) s → s.number ≡ 1
+    → Contains (begun_steps w (whole w c)) (step_of w c 0 two.first) × (goes_on (step_of w c 0 two.first) ≡ true)
 second_behind_first w c two s there is =
-    let first = step_of w.work c 0 two.first in let second = step_of w.work c 1 two.second in
+    let first = step_of w c 0 two.first in let second = step_of w c 1 two.second in
     let rest = cond (goes_on first) (begun (second ∷ [])) [] in
     (subst (λ l. Contains l first) (sym (two_begin w c two)) (in_head first rest), ⊎_elim
     (λ (same : first ≡ s). let number : 0 ≡ s.number = ap (λ (y : Step). y.number) same in absurd (omega arith))

@@ -2,13 +2,14 @@
 use Rattle.std.proofs.Common.{◌≡◌, All, List, [], ◌∷◌, Option, Some, None, refl, sym, subst}
 use Rattle.std.specs.Prelude.{option_map}
 use Rattle.std.proofs.lemmas.List.Elements.{All-cons, All-nil, All-weaker}
+use Rattle.apply_events.specs.Step.{Work}
 use Rattle.apply_events.specs.Waits.Done.{Taken, done_at, done_by, later_if_both}
 use Rattle.apply_events.specs.Waits.Moment.{IsNoLater, Moment, later_of, next_round}
-use Rattle.apply_events.specs.Waits.Named.{StepName, WaitingWork}
+use Rattle.apply_model.specs.declared.script.wait.Wait.{Wait}
 use Rattle.apply_wait_laws.proofs.Moments.{first_no_later, no_later_on, second_no_later}
 
 -- the step is done, and the round behind that is no later
-abbrev pub IsDoneBefore : WaitingWork → List Taken → Moment → StepName → Type 0
+abbrev pub IsDoneBefore : Work → List Taken → Moment → Wait → Type 0
 IsDoneBefore w taken at name = (m : Moment) × (done_at w taken name ≡ Some m) × IsNoLater (next_round m) at
 
 both_are : (a b : Option Moment) (at : Moment) → later_if_both a b ≡ Some at
@@ -21,7 +22,7 @@ round_is : (a : Option Moment) (p : Moment) → option_map next_round a ≡ Some
 round_is None p is = absurd cc
 round_is (Some m) p is = (m, refl, cc)
 
-pub are_done_before : (w : WaitingWork) (taken : List Taken) (names : List StepName) (at : Moment) → done_by w taken names ≡ Some at
+pub are_done_before : (w : Work) (taken : List Taken) (names : List Wait) (at : Moment) → done_by w taken names ≡ Some at
     → All (IsDoneBefore w taken at) names
 are_done_before w taken [] at is = All-nil _
 are_done_before w taken (name ∷ names) at is =

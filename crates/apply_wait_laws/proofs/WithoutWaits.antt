@@ -19,10 +19,11 @@ use Rattle.apply_events.specs.Step.{Step, Work, kinds_of, step_of, steps_of}
 use Rattle.apply_events.specs.StepEvents.{step_events, step_time}
 use Rattle.apply_events.specs.Waits.Done.{Taken, done_by, end_behind, end_of_turn, ready_at}
 use Rattle.apply_events.specs.Waits.Moment.{IsNoLater, Moment, first_moment, is_earlier, later_by, later_of}
-use Rattle.apply_events.specs.Waits.Named.{StepName, WaitingWork, named}
+use Rattle.apply_wait_laws.proofs.Named.{named, names_some}
+use Rattle.apply_model.specs.declared.script.wait.Wait.{Wait}
 use Rattle.apply_events.specs.Waits.Schedule.{Ready, earlier_of, first_earliest, first_ready, free_behind, is_taken, next_of, ready_turn, schedule, scheduled, taken_in, with_next}
 use Rattle.apply_events.specs.Waits.TimeLine.{InOrder, IsTimeLine, Precedes, is_of_turn, lane_turns, moment_from, moment_of, turn_events}
-use Rattle.apply_events.specs.Waits.Turn.{Turn, begun_steps, names_some, single, turns, turns_of, waits_of_turn, whole}
+use Rattle.apply_events.specs.Waits.Turn.{Turn, begun_steps, single, turns, turns_of, waits_of_turn, whole}
 use Rattle.apply_events.proofs.TimeLines.Dealt.{length_dealt}
 use Rattle.apply_wait_laws.proofs.Along.{no_later, second_is}
 use Rattle.apply_wait_laws.proofs.Moments.{later_by_none, later_by_some, no_later_both, same_moment}
@@ -138,21 +139,21 @@ least_lt (x ∷ other ∷ xs) some =
 
 -- ---- without waits
 
-abbrev NamesNone : WaitingWork → Type 0
+abbrev NamesNone : Work → Type 0
 NamesNone w = (c k : ℕ) → named w c k ≡ []
 
 -- a change begins in a lane, and all its steps are its turn's
-whole_steps : (w : WaitingWork) (c : ℕ) → begun_steps w (whole w c) ≡ begun (steps_of w.work c)
+whole_steps : (w : Work) (c : ℕ) → begun_steps w (whole w c) ≡ begun (steps_of w c)
 whole_steps w c =
-    let kinds = kinds_of w.work.plan c in
-    let size : length (steps_of w.work c) ≡ length kinds =
-    length-map (enumerate_from 0 kinds) (λ p. step_of w.work c p.0 p.1) ∙ length-enumerate_from 0 kinds in
-    ap begun (take_all (length kinds) (steps_of w.work c) (omega arith))
+    let kinds = kinds_of w.plan c in
+    let size : length (steps_of w c) ≡ length kinds =
+    length-map (enumerate_from 0 kinds) (λ p. step_of w c p.0 p.1) ∙ length-enumerate_from 0 kinds in
+    ap begun (take_all (length kinds) (steps_of w c) (omega arith))
 
-module _ (w : WaitingWork) (none : NamesNone w) where
+module _ (w : Work) (none : NamesNone w) where
   one_turn : (c : ℕ) → turns_of w c ≡ whole w c ∷ []
   one_turn c =
-      let two = eqb (length (kinds_of w.work.plan c)) 2 in
+      let two = eqb (length (kinds_of w.plan c)) 2 in
       ap (λ names. cond (two && names_some names) (single c 0 ∷ single c 1 ∷ []) (whole w c ∷ [])) (none c 1) ∙ and_no two _ _
 
   turns_from : (a n : ℕ) → flat_map (turns_of w) (range_with_len a n) ≡ map (whole w) (range_with_len a n)
@@ -161,7 +162,7 @@ module _ (w : WaitingWork) (none : NamesNone w) where
 
   ready_now : (taken : List Taken) (c : ℕ) → ready_at w taken (whole w c) ≡ Some first_moment
   ready_now taken c =
-      let empty = eqb (length (kinds_of w.work.plan c)) 0 in
+      let empty = eqb (length (kinds_of w.plan c)) 0 in
       ap (λ names. done_by w taken (cond empty [] names)) (none c 0) ∙ ap (done_by w taken) (cond_same empty [])
 
   -- the first of some changes that was not taken up
@@ -187,12 +188,12 @@ module _ (w : WaitingWork) (none : NamesNone w) where
 
   module _ (n : ℕ) where
     abbrev all : ℕ
-    all = length w.work.plan.changes
+    all = length w.plan.changes
 
     -- from when on lanes are free behind the first k changes
     abbrev frees : ℕ → List ℕ
     frees zero = replicate n 0
-    frees (suc k) = kept w.work k (frees k)
+    frees (suc k) = kept w k (frees k)
 
     abbrev first_taken : ℕ → Taken
     first_taken k = taken_in (free_behind w n (scheduled w n k)) (ready_turn (whole w k) first_moment)
@@ -244,19 +245,19 @@ module _ (w : WaitingWork) (none : NamesNone w) where
     free_is (suc k) le =
         let is = free_is k (omega arith) in
         let at = get_or (frees k) (first_least (frees k)) 0 in
-        let ends : end_of_turn w (first_taken k) ≡ early (at + span_of w.work k) =
-        ap (λ m. end_behind m (begun_steps w (whole w k))) (begin_at k is) ∙ ap (end_behind (early at)) (whole_steps w k) ∙ early_end at (begun (steps_of w.work k)) in
+        let ends : end_of_turn w (first_taken k) ≡ early (at + span_of w k) =
+        ap (λ m. end_behind m (begun_steps w (whole w k))) (begin_at k is) ∙ ap (end_behind (early at)) (whole_steps w k) ∙ early_end at (begun (steps_of w k)) in
         ap (free_behind w n) (next_is k (omega arith))
         ∙ ap (λ l. set l (first_taken k).lane (end_of_turn w (first_taken k))) is
         ∙ ap (λ lane. set (map early (frees k)) lane (end_of_turn w (first_taken k))) (lane_is k is)
         ∙ ap (λ m. set (map early (frees k)) (first_least (frees k)) m) ends
-        ∙ sym (map-set early (frees k) (first_least (frees k)) (at + span_of w.work k))
+        ∙ sym (map-set early (frees k) (first_least (frees k)) (at + span_of w k))
 
     -- ---- each lane reports its changes
 
     -- what a lane reports of the changes from the k-th on
     abbrev rest_of : (k lane : ℕ) → List Event
-    rest_of k lane = in_turn (change_events w.work lane) (span_of w.work) (get_or (dealt w.work (frees k) (range_with_len k (all - k))) lane []) (get_or (frees k) lane 0)
+    rest_of k lane = in_turn (change_events w lane) (span_of w) (get_or (dealt w (frees k) (range_with_len k (all - k))) lane []) (get_or (frees k) lane 0)
 
     length-frees : (k : ℕ) → length (frees k) ≡ n
     length-frees zero = length-replicate n 0
@@ -268,39 +269,39 @@ module _ (w : WaitingWork) (none : NamesNone w) where
         let is = free_is k (omega arith) in
         let first = first_least (frees k) in
         let at = get_or (frees k) first 0 in
-        let rest = dealt w.work (frees (suc k)) (range_with_len (suc k) (all - suc k)) in
+        let rest = dealt w (frees (suc k)) (range_with_len (suc k) (all - suc k)) in
         let count = length-frees k in
         let inside : first < length (frees k) = least_lt (frees k) (omega arith) in
-        let size : length rest ≡ length (frees k) = length_dealt w.work (frees (suc k)) (range_with_len (suc k) (all - suc k)) ∙ length-set (frees k) first _ in
-        let deals : dealt w.work (frees k) (range_with_len k (all - k)) ≡ before first k rest = ap (dealt w.work (frees k)) (rest_is k all lt) in
-        let tells : turn_events w (first_taken k) ≡ change_events w.work first k at =
+        let size : length rest ≡ length (frees k) = length_dealt w (frees (suc k)) (range_with_len (suc k) (all - suc k)) ∙ length-set (frees k) first _ in
+        let deals : dealt w (frees k) (range_with_len k (all - k)) ≡ before first k rest = ap (dealt w (frees k)) (rest_is k all lt) in
+        let tells : turn_events w (first_taken k) ≡ change_events w first k at =
         ap (λ l. in_turn (step_events l) step_time (begun_steps w (whole w k)) (first_taken k).begin.second) (lane_is k is)
         ∙ ap (λ (m : Moment). in_turn (step_events first) step_time (begun_steps w (whole w k)) m.second) (begin_at k is)
         ∙ ap (λ steps. in_turn (step_events first) step_time steps at) (whole_steps w k) in
         ap (λ l. cond (eqb l lane) (turn_events w (first_taken k)) [] ++ rest_of (suc k) lane) (lane_is k is) ∙ ⊎_elim
         (λ (c : _ × (first ≡ lane)).
-        let turn = in_turn (change_events w.work first) (span_of w.work) in
+        let turn = in_turn (change_events w first) (span_of w) in
         let here : cond (eqb first first) (turn_events w (first_taken k)) [] ++ rest_of (suc k) first ≡ rest_of k first =
         ap (λ t. cond t (turn_events w (first_taken k)) [] ++ rest_of (suc k) first) (eq-eqb first first refl)
         ∙ ap (λ l. l ++ rest_of (suc k) first) tells
-        ∙ ap (λ f. change_events w.work first k at ++ turn (get_or rest first []) f) (get_or-set_same (frees k) first (at + span_of w.work k) 0 inside)
+        ∙ ap (λ f. change_events w first k at ++ turn (get_or rest first []) f) (get_or-set_same (frees k) first (at + span_of w k) 0 inside)
         ∙ sym (ap (λ l. turn l at) (get_or-set_same rest first (k ∷ get_or rest first []) [] (omega arith)))
         ∙ sym (ap (λ l. turn (get_or l first []) at) deals) in
         subst (λ l. cond (eqb first l) (turn_events w (first_taken k)) [] ++ rest_of (suc k) l ≡ rest_of k l) c.1 here)
         (λ (c : _ × (first ≢ lane)).
         let other : lane ≢ first = (λ same. c.1 (sym same)) in
-        let turn = in_turn (change_events w.work lane) (span_of w.work) in
+        let turn = in_turn (change_events w lane) (span_of w) in
         ap (λ t. cond t (turn_events w (first_taken k)) [] ++ rest_of (suc k) lane) (ne_eqb first lane c.1)
-        ∙ ap (λ f. turn (get_or rest lane []) f) (get_or-set_other (frees k) first lane (at + span_of w.work k) 0 other)
+        ∙ ap (λ f. turn (get_or rest lane []) f) (get_or-set_other (frees k) first lane (at + span_of w k) 0 other)
         ∙ sym (ap (λ l. turn l (get_or (frees k) lane 0)) (get_or-set_other rest first lane (k ∷ get_or rest first []) [] other))
         ∙ sym (ap (λ l. turn (get_or l lane []) (get_or (frees k) lane 0)) deals))
         (eqb_tells first lane)
 
-    lanes_so_far : 0 < n → (k : ℕ) → k ≤ all → (lane : ℕ) → lane_turns w (scheduled w n k) lane ++ rest_of k lane ≡ plain.lane_events w.work n lane
+    lanes_so_far : 0 < n → (k : ℕ) → k ≤ all → (lane : ℕ) → lane_turns w (scheduled w n k) lane ++ rest_of k lane ≡ plain.lane_events w n lane
     lanes_so_far some zero le lane =
         let less : all - 0 ≡ all = omega arith in
-        ap (λ m. in_turn (change_events w.work lane) (span_of w.work) (get_or (dealt w.work (replicate n 0) (range_with_len 0 m)) lane []) (get_or (replicate n 0) lane 0)) less
-        ∙ ap (in_turn (change_events w.work lane) (span_of w.work) (get_or (lanes w.work n) lane [])) (none_at n lane)
+        ap (λ m. in_turn (change_events w lane) (span_of w) (get_or (dealt w (replicate n 0) (range_with_len 0 m)) lane []) (get_or (replicate n 0) lane 0)) less
+        ∙ ap (in_turn (change_events w lane) (span_of w) (get_or (lanes w n) lane [])) (none_at n lane)
     lanes_so_far some (suc k) le lane =
         ap (λ taken. lane_turns w taken lane ++ rest_of (suc k) lane) (next_is k (omega arith))
         ∙ append_assoc (lane_turns w (scheduled w n k) lane) (cond (eqb (first_taken k).lane lane) (turn_events w (first_taken k)) []) (rest_of (suc k) lane)
@@ -310,12 +311,12 @@ module _ (w : WaitingWork) (none : NamesNone w) where
     schedule_is : schedule w n ≡ scheduled w n all
     schedule_is = ap (scheduled w n) count_is
 
-    pub same_lanes : 0 < n → (lane : ℕ) → lane_turns w (schedule w n) lane ≡ plain.lane_events w.work n lane
+    pub same_lanes : 0 < n → (lane : ℕ) → lane_turns w (schedule w n) lane ≡ plain.lane_events w n lane
     same_lanes some lane =
         let frees_all = frees all in
         let nothing : rest_of all lane ≡ [] =
-        ap (λ cs. in_turn (change_events w.work lane) (span_of w.work) (get_or (dealt w.work frees_all cs) lane []) (get_or frees_all lane 0)) (no_rest all)
-        ∙ ap (λ cs. in_turn (change_events w.work lane) (span_of w.work) cs (get_or frees_all lane 0)) (none_dealt frees_all lane) in
+        ap (λ cs. in_turn (change_events w lane) (span_of w) (get_or (dealt w frees_all cs) lane []) (get_or frees_all lane 0)) (no_rest all)
+        ∙ ap (λ cs. in_turn (change_events w lane) (span_of w) cs (get_or frees_all lane 0)) (none_dealt frees_all lane) in
         ap (λ taken. lane_turns w taken lane) schedule_is
         ∙ sym (append-nil (lane_turns w (scheduled w n all) lane))
         ∙ ap (λ l. lane_turns w (scheduled w n all) lane ++ l) (sym nothing)
@@ -370,13 +371,13 @@ module _ (taken : List Taken) (early_ones : All (λ one. one.begin.round ≡ 0) 
 
 -- ---- the law
 
-pub to_before : (w : WaitingWork) (n : ℕ) (es : List Event) → NamesNone w → 0 < n → IsTimeLine w n es → plain.IsTimeLine w.work n es
+pub to_before : (w : Work) (n : ℕ) (es : List Event) → NamesNone w → 0 < n → IsTimeLine w n es → plain.IsTimeLine w n es
 to_before w n es none some line = record {
   interleaved = record { named = line.interleaved.named; parts = λ lane lt. line.interleaved.parts lane lt ∙ same_lanes w none n some lane };
   in_order = order_to_plain (schedule w n) (all_rounds w none n) es line.in_order;
 }
 
-pub from_before : (w : WaitingWork) (n : ℕ) (es : List Event) → NamesNone w → 0 < n → plain.IsTimeLine w.work n es → IsTimeLine w n es
+pub from_before : (w : Work) (n : ℕ) (es : List Event) → NamesNone w → 0 < n → plain.IsTimeLine w n es → IsTimeLine w n es
 from_before w n es none some line = record {
   interleaved = record { named = line.interleaved.named; parts = λ lane lt. line.interleaved.parts lane lt ∙ sym (same_lanes w none n some lane) };
   in_order = order_from_plain (schedule w n) (all_rounds w none n) es line.in_order;

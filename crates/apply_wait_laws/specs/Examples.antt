@@ -11,11 +11,12 @@ use Rattle.apply_model.specs.Plan.ResourceChange.{ResourceChange}
 use Rattle.apply_hooks.specs.declared.phase.Phase.TheVariants.{Pre}
 use Rattle.apply_hooks.specs.declared.rule.Rule.{Rule}
 use Rattle.apply_hooks.specs.declared.verdict.Verdict.TheVariants.{Halt}
+use Rattle.apply_events.specs.Step.{Work}
 use Rattle.apply_events.specs.declared.event.Event.{Event}
 use Rattle.apply_events.specs.declared.what.What.{What}
 use Rattle.apply_events.specs.declared.what.What.TheVariants.{Start, Complete, Errored, ErrorNote, Halted}
 use Rattle.apply_events.specs.Waits.Merging.{time_line}
-use Rattle.apply_events.specs.Waits.Named.{StepName, WaitingWork}
+use Rattle.apply_model.specs.declared.script.wait.Wait.{Wait}
 
 -- ---- what is applied
 
@@ -24,15 +25,15 @@ pub record Planned : Type 0 where
   pub kind : StepKind
   pub seconds : ℕ
   pub fails : Bool
-  pub waits : List StepName
+  pub waits : List Wait
 
-abbrev pub goes : StepKind → (seconds : ℕ) → List StepName → Planned
+abbrev pub goes : StepKind → (seconds : ℕ) → List Wait → Planned
 goes kind seconds waits = record { kind = kind; seconds = seconds; fails = false; waits = waits }
 
-abbrev pub failing : StepKind → (seconds : ℕ) → List StepName → Planned
+abbrev pub failing : StepKind → (seconds : ℕ) → List Wait → Planned
 failing kind seconds waits = record { kind = kind; seconds = seconds; fails = true; waits = waits }
 
-abbrev pub step : (c k : ℕ) → StepName
+abbrev pub step : (c k : ℕ) → Wait
 step c k = record { change = c; step = k }
 
 abbrev pub change_of : List Planned → ResourceChange
@@ -53,17 +54,15 @@ outcome_of_planned planned = record {
   seconds = planned.seconds;
   provisioners = [];
   result = if planned.fails then Failed (record { summary = []; detail = [] }) else Done None None;
+  after = planned.waits;
 }
 
 -- changes of these steps, under hooks with these rules
-abbrev pub work : List (List Rule) → List (List Planned) → WaitingWork
+abbrev pub work : List (List Rule) → List (List Planned) → Work
 work hooks changes = record {
-  work = record {
-    plan = record { version = []; changes = map change_of changes };
-    script = map (λ steps. Some (map outcome_of_planned steps)) changes;
-    hooks = hooks;
-  };
-  named = λ c k. option_map_or (λ planned. planned.waits) (slice_get (get_or changes c []) k) [];
+  plan = record { version = []; changes = map change_of changes };
+  script = map (λ steps. Some (map outcome_of_planned steps)) changes;
+  hooks = hooks;
 }
 
 -- ---- what happens
@@ -78,7 +77,7 @@ pub record Told : Type 0 where
 abbrev pub told : Event → Told
 told event = record { at = event.at; change = event.change; step = event.step; what = event.what }
 
-abbrev pub tell : (at : ℕ) → StepName → What → Told
+abbrev pub tell : (at : ℕ) → Wait → What → Told
 tell at name what = record { at = at; change = name.change; step = name.step; what = what }
 
 -- what happens to the changes in so many lanes
@@ -87,15 +86,15 @@ Happens n changes events = map told (time_line (work [] changes) n) ≡ events
 
 -- ---- the examples
 
-abbrev pub a : StepName
+abbrev pub a : Wait
 a = step 0 0
-abbrev pub b : StepName
+abbrev pub b : Wait
 b = step 1 0
-abbrev pub c : StepName
+abbrev pub c : Wait
 c = step 2 0
-abbrev pub d : StepName
+abbrev pub d : Wait
 d = step 3 0
-abbrev pub e : StepName
+abbrev pub e : Wait
 e = step 4 0
 
 abbrev pub one_waits : List (List Planned)

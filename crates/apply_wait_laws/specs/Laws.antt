@@ -4,58 +4,60 @@ use Rattle.std.specs.List.{Contains, list_all, list_any}
 use Rattle.std.specs.Option.{option_map_or}
 use Rattle.apply_events.specs.declared.event.Event.{Event}
 use Rattle.apply_events.specs.Fits.{HasStep}
-use Rattle.apply_events.specs.Step.{kinds_of, steps_of}
+use Rattle.apply_events.specs.Step.{Work, kinds_of, steps_of}
 use Rattle.apply_events.specs.StepEvents.{goes_on}
-use Rattle.apply_events.specs.Waits.Named.{StepName, WaitingWork, named, waits_of}
+use Rattle.apply_model.specs.declared.script.wait.Wait.{Wait}
+use Rattle.apply_model.specs.Script.OutcomeMap.{outcome_of}
+use Rattle.apply_model.specs.Script.Waits.{waits_of}
 
 -- each change has two steps at most, as in every plan that was read
-abbrev pub HasFewSteps : WaitingWork → Type 0
-HasFewSteps w = (c : ℕ) → length (kinds_of w.work.plan c) ≤ 2
+abbrev pub HasFewSteps : Work → Type 0
+HasFewSteps work = (c : ℕ) → length (kinds_of work.plan c) ≤ 2
 
 -- the event is of the step
-abbrev pub is_of_step : StepName → Event → Bool
+abbrev pub is_of_step : Wait → Event → Bool
 is_of_step name event = event.change == name.change && event.step == name.step
 
 -- the step has an event among them
-abbrev pub has_events : List Event → StepName → Bool
+abbrev pub has_events : List Event → Wait → Bool
 has_events events name = list_any (is_of_step name) events
 
 -- behind each event of a step stands none of a step that it waits for
-abbrev pub StandBehindWhatTheyWaitFor : WaitingWork → List Event → Type 0
-StandBehindWhatTheyWaitFor w events = (before behind : List Event) (event : Event) → events ≡ before ++ event ∷ behind
-    → All (λ name. has_events behind name ≡ false) (waits_of w event.change event.step)
+abbrev pub StandBehindWhatTheyWaitFor : Work → List Event → Type 0
+StandBehindWhatTheyWaitFor work events = (before behind : List Event) (event : Event) → events ≡ before ++ event ∷ behind
+    → All (λ name. has_events behind name ≡ false) (waits_of work.script event.change event.step)
 
 -- along some events a step goes on, if it is one of its change's
-abbrev pub goes_on_if_begun : WaitingWork → StepName → Bool
-goes_on_if_begun w name = option_map_or goes_on (slice_get (steps_of w.work name.change) name.step) false
+abbrev pub goes_on_if_begun : Work → Wait → Bool
+goes_on_if_begun work name = option_map_or goes_on (slice_get (steps_of work name.change) name.step) false
 
 -- along some events a step is done: it has some, and goes on
-abbrev pub is_done_along : WaitingWork → List Event → StepName → Bool
-is_done_along w events name = has_events events name && goes_on_if_begun w name
+abbrev pub is_done_along : Work → List Event → Wait → Bool
+is_done_along work events name = has_events events name && goes_on_if_begun work name
 
 -- it has stopped: it has some, and has failed or was halted
-abbrev pub has_stopped : WaitingWork → List Event → StepName → Bool
-has_stopped w events name = has_events events name && not (goes_on_if_begun w name)
+abbrev pub has_stopped : Work → List Event → Wait → Bool
+has_stopped work events name = has_events events name && not (goes_on_if_begun work name)
 
 -- a step of the plan has events exactly where each step that it waits for is done
-abbrev pub BeginWhereAllIsDone : WaitingWork → List Event → Type 0
-BeginWhereAllIsDone w events = (c k : ℕ) → HasStep w.work.plan c k
-    → has_events events (record { change = c; step = k }) ≡ list_all (is_done_along w events) (waits_of w c k)
+abbrev pub BeginWhereAllIsDone : Work → List Event → Type 0
+BeginWhereAllIsDone work events = (c k : ℕ) → HasStep work.plan c k
+    → has_events events (record { change = c; step = k }) ≡ list_all (is_done_along work events) (waits_of work.script c k)
 
 -- ---- scripts that were read
 
 -- all steps that are named are the plan's
-abbrev pub NamesSteps : WaitingWork → Type 0
-NamesSteps w = (c k : ℕ) → HasStep w.work.plan c k → All (λ name. HasStep w.work.plan name.change name.step) (named w c k)
+abbrev pub NamesSteps : Work → Type 0
+NamesSteps work = (c k : ℕ) → HasStep work.plan c k → All (λ name. HasStep work.plan name.change name.step) (outcome_of work.script c k).after
 
 -- a step could begin where each step that it waits for could: the least such set
-pub data CouldBegin (w : WaitingWork) : StepName → Type 0 where
-  could_begin : (name : StepName) → ((waited : StepName) → Contains (waits_of w name.change name.step) waited → CouldBegin w waited)
-      → CouldBegin w name
+pub data CouldBegin (work : Work) : Wait → Type 0 where
+  could_begin : (name : Wait) → ((waited : Wait) → Contains (waits_of work.script name.change name.step) waited → CouldBegin work waited)
+      → CouldBegin work name
 
 -- a step waits in vain: for one that has stopped, or for one that waits in vain
-pub data WaitsInVain (w : WaitingWork) (events : List Event) : StepName → Type 0 where
-  for_stopped : (name waited : StepName) → Contains (waits_of w name.change name.step) waited → has_stopped w events waited ≡ true
-      → WaitsInVain w events name
-  for_waiting : (name waited : StepName) → Contains (waits_of w name.change name.step) waited → WaitsInVain w events waited
-      → WaitsInVain w events name
+pub data WaitsInVain (work : Work) (events : List Event) : Wait → Type 0 where
+  for_stopped : (name waited : Wait) → Contains (waits_of work.script name.change name.step) waited → has_stopped work events waited ≡ true
+      → WaitsInVain work events name
+  for_waiting : (name waited : Wait) → Contains (waits_of work.script name.change name.step) waited → WaitsInVain work events waited
+      → WaitsInVain work events name

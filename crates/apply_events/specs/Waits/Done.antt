@@ -1,9 +1,9 @@
 -- When steps are done and turns are ready, where some turns have been taken up.
 use Rattle.std.specs.Prelude.{ℕ, ◌==◌, List, [], ◌∷◌, Option, Some, None, option_map, if◌then◌else◌}
-use Rattle.apply_events.specs.Step.{Step}
+use Rattle.apply_events.specs.Step.{Step, Work}
 use Rattle.apply_events.specs.StepEvents.{goes_on, step_time}
 use Rattle.apply_events.specs.Waits.Moment.{Moment, first_moment, later_by, later_of, next_round}
-use Rattle.apply_events.specs.Waits.Named.{StepName, WaitingWork}
+use Rattle.apply_model.specs.declared.script.wait.Wait.{Wait}
 use Rattle.apply_events.specs.Waits.Turn.{Turn, begun_steps, waits_of_turn}
 
 -- a turn that was taken up: in which lane, and when it begins
@@ -20,8 +20,8 @@ end_behind at [] = at
 end_behind at (step ∷ steps) = end_behind (later_by (step_time step) at) steps
 
 -- when a turn has ended
-abbrev pub end_of_turn : WaitingWork → Taken → Moment
-end_of_turn w taken = end_behind taken.begin (begun_steps w taken.turn)
+abbrev pub end_of_turn : Work → Taken → Moment
+end_of_turn work taken = end_behind taken.begin (begun_steps work taken.turn)
 
 -- when step k is done, if some steps begin one after another: never, where it is none of them or does not go on
 abbrev pub done_among : (k : ℕ) → Moment → List Step → Option Moment
@@ -31,10 +31,10 @@ done_among k at (step ∷ steps) =
     then (if goes_on step then Some (later_by (step_time step) at) else None)
     else done_among k (later_by (step_time step) at) steps
 
-abbrev pub done_in : WaitingWork → Taken → StepName → Option Moment
-done_in w taken name =
+abbrev pub done_in : Work → Taken → Wait → Option Moment
+done_in work taken name =
     if taken.turn.change == name.change
-    then done_among name.step taken.begin (begun_steps w taken.turn)
+    then done_among name.step taken.begin (begun_steps work taken.turn)
     else None
 
 abbrev pub first_found : {X : Type 0} → Option X → Option X → Option X
@@ -42,9 +42,9 @@ first_found None other = other
 first_found (Some x) other = Some x
 
 -- when a step is done, where these turns were taken up
-abbrev pub done_at : WaitingWork → List Taken → StepName → Option Moment
-done_at w [] name = None
-done_at w (taken ∷ others) name = first_found (done_in w taken name) (done_at w others name)
+abbrev pub done_at : Work → List Taken → Wait → Option Moment
+done_at work [] name = None
+done_at work (taken ∷ others) name = first_found (done_in work taken name) (done_at work others name)
 
 -- ---- ready
 
@@ -55,10 +55,10 @@ later_if_both (Some a) None = None
 later_if_both (Some a) (Some b) = Some (later_of a b)
 
 -- from when on some steps are done: the greatest of the next rounds of the moments at which they are
-abbrev pub done_by : WaitingWork → List Taken → List StepName → Option Moment
-done_by w taken [] = Some first_moment
-done_by w taken (name ∷ names) = later_if_both (option_map next_round (done_at w taken name)) (done_by w taken names)
+abbrev pub done_by : Work → List Taken → List Wait → Option Moment
+done_by work taken [] = Some first_moment
+done_by work taken (name ∷ names) = later_if_both (option_map next_round (done_at work taken name)) (done_by work taken names)
 
 -- when a turn is ready
-abbrev pub ready_at : WaitingWork → List Taken → Turn → Option Moment
-ready_at w taken turn = done_by w taken (waits_of_turn w turn)
+abbrev pub ready_at : Work → List Taken → Turn → Option Moment
+ready_at work taken turn = done_by work taken (waits_of_turn work turn)

@@ -1,9 +1,9 @@
 -- Lists of events merged by moment and lane: the witness that there is a time line.
 use Rattle.std.specs.Prelude.{ℕ, List, [], ◌∷◌, Bool, ◌||◌, ◌&&◌, ◌==◌, nat_le, if◌then◌else◌}
 use Rattle.std.specs.List.{range_with_len, flat_map}
+use Rattle.apply_events.specs.Step.{Work}
 use Rattle.apply_events.specs.declared.event.Event.{Event}
 use Rattle.apply_events.specs.Waits.Moment.{Moment, is_earlier}
-use Rattle.apply_events.specs.Waits.Named.{WaitingWork}
 use Rattle.apply_events.specs.Waits.Schedule.{schedule}
 use Rattle.apply_events.specs.Waits.TimeLine.{lane_turns, moment_of}
 
@@ -29,5 +29,5 @@ abbrev pub merged : (when : Event → Moment) → (n : ℕ) → (ℕ → List Ev
 merged when n list = sorted when (flat_map list (range_with_len 0 n))
 
 -- the time line of a work in n lanes
-abbrev pub time_line : WaitingWork → (n : ℕ) → List Event
-time_line w n = merged (moment_of (schedule w n)) n (lane_turns w (schedule w n))
+abbrev pub time_line : Work → (n : ℕ) → List Event
+time_line work n = merged (moment_of (schedule work n)) n (lane_turns work (schedule work n))

@@ -1,9 +1,9 @@
 -- Which turn is taken up when, and in which lane.
 use Rattle.std.specs.Prelude.{ℕ, zero, suc, ◌+◌, ◌==◌, ◌&&◌, Bool, not, List, [], ◌∷◌, Option, Some, None, get_or, length, option_map, replicate, set, if◌then◌else◌}
 use Rattle.std.specs.List.{list_all, list_any}
+use Rattle.apply_events.specs.Step.{Work}
 use Rattle.apply_events.specs.Waits.Done.{Taken, end_of_turn, ready_at}
 use Rattle.apply_events.specs.Waits.Moment.{Moment, first_moment, is_earlier, later_of}
-use Rattle.apply_events.specs.Waits.Named.{WaitingWork}
 use Rattle.apply_events.specs.Waits.Turn.{Turn, turns}
 
 -- ---- the turn that is ready first
@@ -29,13 +29,13 @@ abbrev pub ready_turn : Turn → Moment → Ready
 ready_turn turn at = record { turn = turn; at = at }
 
 -- a turn that was not taken up yet, if it is ever ready
-abbrev pub next_of : WaitingWork → List Taken → Turn → Option Ready
-next_of w taken turn = if is_taken taken turn then None else option_map (ready_turn turn) (ready_at w taken turn)
+abbrev pub next_of : Work → List Taken → Turn → Option Ready
+next_of work taken turn = if is_taken taken turn then None else option_map (ready_turn turn) (ready_at work taken turn)
 
 -- of some turns the one that is ready first of those that were not taken up yet
-abbrev pub first_ready : WaitingWork → List Taken → List Turn → Option Ready
-first_ready w taken [] = None
-first_ready w taken (turn ∷ others) = earlier_of (next_of w taken turn) (first_ready w taken others)
+abbrev pub first_ready : Work → List Taken → List Turn → Option Ready
+first_ready work taken [] = None
+first_ready work taken (turn ∷ others) = earlier_of (next_of work taken turn) (first_ready work taken others)
 
 -- ---- the lane that is free first
 
@@ -45,9 +45,9 @@ first_earliest [] = 0
 first_earliest (m ∷ ms) = if list_all (λ other. not (is_earlier other m)) ms then 0 else first_earliest ms + 1
 
 -- from when on each of n lanes is free
-abbrev pub free_behind : WaitingWork → (n : ℕ) → List Taken → List Moment
-free_behind w n [] = replicate n first_moment
-free_behind w n (taken ∷ others) = set (free_behind w n others) taken.lane (end_of_turn w taken)
+abbrev pub free_behind : Work → (n : ℕ) → List Taken → List Moment
+free_behind work n [] = replicate n first_moment
+free_behind work n (taken ∷ others) = set (free_behind work n others) taken.lane (end_of_turn work taken)
 
 -- the turn in the lane that is free first, begun when it is ready and the lane is free
 abbrev pub taken_in : (free : List Moment) → Ready → Taken
@@ -59,16 +59,16 @@ taken_in free ready = record {
 
 -- ---- the schedule
 
-abbrev pub with_next : WaitingWork → (n : ℕ) → List Taken → Option Ready → List Taken
-with_next w n taken None = taken
-with_next w n taken (Some ready) = taken_in (free_behind w n taken) ready ∷ taken
+abbrev pub with_next : Work → (n : ℕ) → List Taken → Option Ready → List Taken
+with_next work n taken None = taken
+with_next work n taken (Some ready) = taken_in (free_behind work n taken) ready ∷ taken
 
 -- so many turns that n lanes take up, if so many are ever ready: each time the one that is ready first. The last stands first
-abbrev pub scheduled : WaitingWork → (n count : ℕ) → List Taken
-scheduled w n zero = []
-scheduled w n (suc count) =
-    with_next w n (scheduled w n count) (first_ready w (scheduled w n count) (turns w))
+abbrev pub scheduled : Work → (n count : ℕ) → List Taken
+scheduled work n zero = []
+scheduled work n (suc count) =
+    with_next work n (scheduled work n count) (first_ready work (scheduled work n count) (turns work))
 
 -- all turns that n lanes take up, the last first
-abbrev pub schedule : WaitingWork → (n : ℕ) → List Taken
-schedule w n = scheduled w n (length (turns w))
+abbrev pub schedule : Work → (n : ℕ) → List Taken
+schedule work n = scheduled work n (length (turns work))

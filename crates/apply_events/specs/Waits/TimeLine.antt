@@ -1,26 +1,26 @@
 -- What happens in lanes where steps wait for others, in the order of time.
 use Rattle.std.specs.Prelude.{◌≡◌, ◌≤◌, ℕ, ◌+◌, ◌==◌, ◌&&◌, Bool, All, List, [], ◌∷◌, ◌++◌, nat_le, nat_lt, if◌then◌else◌}
+use Rattle.apply_events.specs.Step.{Work}
 use Rattle.apply_events.specs.declared.event.Event.{Event}
 use Rattle.apply_events.specs.ChangeEvents.{in_turn}
 use Rattle.apply_events.specs.Interleaving.{IsInterleaving}
 use Rattle.apply_events.specs.StepEvents.{step_events, step_time}
 use Rattle.apply_events.specs.Waits.Done.{Taken}
 use Rattle.apply_events.specs.Waits.Moment.{IsNoLater, Moment}
-use Rattle.apply_events.specs.Waits.Named.{WaitingWork}
 use Rattle.apply_events.specs.Waits.Schedule.{schedule}
 use Rattle.apply_events.specs.Waits.Turn.{Turn, begun_steps}
 
 -- ---- what lanes report
 
 -- the events of a turn
-abbrev pub turn_events : WaitingWork → Taken → List Event
-turn_events w taken = in_turn (step_events taken.lane) step_time (begun_steps w taken.turn) taken.begin.second
+abbrev pub turn_events : Work → Taken → List Event
+turn_events work taken = in_turn (step_events taken.lane) step_time (begun_steps work taken.turn) taken.begin.second
 
 -- the events of some turns that a lane took up, the last of which stands first
-abbrev pub lane_turns : WaitingWork → List Taken → (lane : ℕ) → List Event
-lane_turns w [] lane = []
-lane_turns w (taken ∷ others) lane =
-    lane_turns w others lane ++ (if taken.lane == lane then turn_events w taken else [])
+abbrev pub lane_turns : Work → List Taken → (lane : ℕ) → List Event
+lane_turns work [] lane = []
+lane_turns work (taken ∷ others) lane =
+    lane_turns work others lane ++ (if taken.lane == lane then turn_events work taken else [])
 
 -- ---- when
 
@@ -51,6 +51,6 @@ InOrder when (event ∷ events) = All (Precedes when event) events × InOrder wh
 -- ---- the time line
 
 -- the interleaving of what n lanes report in which moments never fall, and at one moment the lower lane comes first
-pub record IsTimeLine (w : WaitingWork) (n : ℕ) (events : List Event) : Type 0 where
-  pub interleaved : IsInterleaving n (lane_turns w (schedule w n)) events
-  pub in_order : InOrder (moment_of (schedule w n)) events
+pub record IsTimeLine (work : Work) (n : ℕ) (events : List Event) : Type 0 where
+  pub interleaved : IsInterleaving n (lane_turns work (schedule work n)) events
+  pub in_order : InOrder (moment_of (schedule work n)) events

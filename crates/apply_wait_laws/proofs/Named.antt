@@ -1,0 +1,51 @@
+-- The steps that a script names.
+use Rattle.std.proofs.Common.{◌≡◌, ℕ, zero, suc, ◌<◌, Bool, true, false, ◌||◌, List, [], ◌∷◌, Option, Some, None, length, refl, sym, ◌∙◌, arith, ltb, lt-ltb}
+use Rattle.std.specs.Prelude.{option_and_then, slice_get, unwrap_or}
+use Rattle.std.specs.List.{list_any}
+use Rattle.std.specs.Option.{option_map_or}
+use Rattle.std.proofs.lemmas.Bool.{true≢false}
+use Rattle.apply_model.specs.declared.script.outcome.Outcome.{Outcome}
+use Rattle.apply_model.specs.declared.script.wait.Wait.{Wait}
+use Rattle.apply_model.specs.Script.Outcome.{default_outcome}
+use Rattle.apply_model.specs.Script.OutcomeMap.{outcome_of}
+use Rattle.apply_model.specs.Script.Waits.{has_waits, names_a_wait, say_a_wait}
+use Rattle.apply_events.specs.Step.{Work}
+
+-- those that it names for step k of change c
+abbrev pub named : Work → (c k : ℕ) → List Wait
+named w c k = (outcome_of w.script c k).after
+
+abbrev pub names_some : List Wait → Bool
+names_some names = ltb 0 (length names)
+
+-- ---- a script that names none
+
+or_none : (a b : Bool) → (a || b) ≡ false → (a ≡ false) × (b ≡ false)
+or_none true b is = absurd (true≢false is)
+or_none false b is = (refl, is)
+
+get_none : {X : Type 0} (p : X → Bool) (xs : List X) (k : ℕ) → list_any p xs ≡ false → option_map_or p (slice_get xs k) false ≡ false
+get_none p [] zero none = refl
+get_none p [] (suc k) none = refl
+get_none p (x ∷ xs) zero none = (or_none (p x) (list_any p xs) none).0
+get_none p (x ∷ xs) (suc k) none = get_none p xs k (or_none (p x) (list_any p xs) none).1
+
+no_list : (names : List Wait) → names_some names ≡ false → names ≡ []
+no_list [] none = refl
+no_list (name ∷ names) none = absurd (true≢false (sym (lt-ltb 0 (length (name ∷ names)) (omega arith)) ∙ none))
+
+outcome_names_none : (found : Option Outcome) → option_map_or names_a_wait found false ≡ false → (unwrap_or found default_outcome).after ≡ []
+outcome_names_none None none = refl
+outcome_names_none (Some outcome) none = no_list outcome.after none
+
+said_names_none : (said : Option (List Outcome)) (k : ℕ) → say_a_wait said ≡ false → (unwrap_or (option_and_then (λ (outcomes : List Outcome). slice_get outcomes k) said) default_outcome).after ≡ []
+said_names_none None k none = refl
+said_names_none (Some outcomes) k none = outcome_names_none (slice_get outcomes k) (get_none names_a_wait outcomes k none)
+
+script_names_none : (found : Option (Option (List Outcome))) (k : ℕ) → option_map_or say_a_wait found false ≡ false
+    → (unwrap_or (option_and_then (λ (outcomes : List Outcome). slice_get outcomes k) (option_and_then (λ (said : Option (List Outcome)). said) found)) default_outcome).after ≡ []
+script_names_none None k none = refl
+script_names_none (Some said) k none = said_names_none said k none
+
+pub names_none : (w : Work) → has_waits w.script ≡ false → (c k : ℕ) → named w c k ≡ []
+names_none w none c k = script_names_none (slice_get w.script c) k (get_none say_a_wait w.script c none)
