@@ -3,6 +3,7 @@ pub mod Behind
 pub mod Computed
 pub mod Found
 pub mod Free
+pub mod InVain
 pub mod LeftOut
 pub mod Members
 pub mod Moments

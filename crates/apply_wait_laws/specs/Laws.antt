@@ -1,5 +1,5 @@
 -- Words of the laws of waits.
-use Rattle.std.specs.Prelude.{◌≡◌, ◌≤◌, ℕ, ◌++◌, ◌==◌, ◌&&◌, ◌∷◌, All, Bool, true, false, List, length, not, slice_get}
+use Rattle.std.specs.Prelude.{◌≡◌, ◌≤◌, ◌↔◌, ℕ, ◌++◌, ◌==◌, ◌&&◌, ◌∷◌, All, Bool, true, false, List, length, not, slice_get}
 use Rattle.std.specs.List.{Contains, list_all, list_any}
 use Rattle.std.specs.Option.{option_map_or}
 use Rattle.apply_events.specs.declared.event.Event.{Event}
@@ -8,7 +8,7 @@ use Rattle.apply_events.specs.Step.{Work, kinds_of, steps_of}
 use Rattle.apply_events.specs.StepEvents.{goes_on}
 use Rattle.apply_model.specs.declared.script.wait.Wait.{Wait}
 use Rattle.apply_model.specs.Script.OutcomeMap.{outcome_of}
-use Rattle.apply_model.specs.Script.Waits.{waits_of}
+use Rattle.apply_model.specs.Script.Waits.{could_begin, waits_of}
 
 -- each change has two steps at most, as in every plan that was read
 abbrev pub HasFewSteps : Work → Type 0
@@ -50,14 +50,19 @@ BeginWhereAllIsDone work events = (c k : ℕ) → HasStep work.plan c k
 abbrev pub NamesSteps : Work → Type 0
 NamesSteps work = (c k : ℕ) → HasStep work.plan c k → All (λ name. HasStep work.plan name.change name.step) (outcome_of work.script c k).after
 
--- a step could begin where each step that it waits for could: the least such set
-pub data CouldBegin (work : Work) : Wait → Type 0 where
-  could_begin : (name : Wait) → ((waited : Wait) → Contains (waits_of work.script name.change name.step) waited → CouldBegin work waited)
-      → CouldBegin work name
-
 -- a step waits in vain: for one that has stopped, or for one that waits in vain
 pub data WaitsInVain (work : Work) (events : List Event) : Wait → Type 0 where
   for_stopped : (name waited : Wait) → Contains (waits_of work.script name.change name.step) waited → has_stopped work events waited ≡ true
       → WaitsInVain work events name
   for_waiting : (name waited : Wait) → Contains (waits_of work.script name.change name.step) waited → WaitsInVain work events waited
       → WaitsInVain work events name
+
+-- a step that could begin has no event exactly where it waits in vain
+abbrev pub LeaveOutWhatWaitsInVain : Work → List Event → Type 0
+LeaveOutWhatWaitsInVain work events = (c k : ℕ) → HasStep work.plan c k → could_begin work.script c k ≡ true
+    → (has_events events (record { change = c; step = k }) ≡ false ↔ WaitsInVain work events (record { change = c; step = k }))
+
+-- where no step has stopped each that could begin has events
+abbrev pub LeaveOutNoneWithoutNeed : Work → List Event → Type 0
+LeaveOutNoneWithoutNeed work events = ((name : Wait) → has_stopped work events name ≡ false)
+    → (c k : ℕ) → HasStep work.plan c k → could_begin work.script c k ≡ true → has_events events (record { change = c; step = k }) ≡ true

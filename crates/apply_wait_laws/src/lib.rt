@@ -15,7 +15,7 @@ ghost use Rattle.apply_events.specs.Lanes.TimeLine as plain;
 ghost use Rattle.apply_events.specs.Waits.Schedule.{schedule};
 ghost use Rattle.apply_events.specs.Waits.TakenUp.{IsAppliedInTurns, WereTakenUp};
 ghost use Rattle.apply_events.specs.Waits.TimeLine.{IsTimeLine};
-ghost use Rattle.apply_wait_laws.specs.Laws.{BeginWhereAllIsDone, HasFewSteps, StandBehindWhatTheyWaitFor};
+ghost use Rattle.apply_wait_laws.specs.Laws.{BeginWhereAllIsDone, HasFewSteps, LeaveOutNoneWithoutNeed, LeaveOutWhatWaitsInVain, NamesSteps, StandBehindWhatTheyWaitFor};
 
 /// Where no step names what it waits for, the time line is that of changes which are dealt out in the plan's order.
 pub fn without_waits_changes_are_dealt_out()
@@ -55,4 +55,13 @@ pub fn a_step_stands_behind_what_it_waits_for()
 pub fn a_step_begins_where_all_that_it_waits_for_is_done()
     ensures { (work : Work) (n : ℕ) (events : List Event) → 0 < n → HasFewSteps work → IsTimeLine work n events
         → BeginWhereAllIsDone work events }
+{}
+
+/// Of a script that was read, a step has no events exactly where it waits, directly or through others, for a step that has
+/// failed or was halted; so that no step is left out where none has failed or was halted.
+pub fn what_waits_in_vain_is_left_out()
+    ensures in_vain { (work : Work) (n : ℕ) (events : List Event) → 0 < n → HasFewSteps work → NamesSteps work
+        → IsTimeLine work n events → LeaveOutWhatWaitsInVain work events }
+    ensures without_need { (work : Work) (n : ℕ) (events : List Event) → 0 < n → HasFewSteps work → NamesSteps work
+        → IsTimeLine work n events → LeaveOutNoneWithoutNeed work events }
 {}
