@@ -56,7 +56,7 @@ step_rises w s at = step_rises-at w s at (s.halts Pre)
     step_rises-at w s at None = started_rise w s at
     step_rises-at w s at (Some hook) = (omega arith, omega arith)
 
-in_turn_rises : {X : Type 0} (events : X → ℕ → List Event) (time : X → ℕ) (xs : List X) (at : ℕ) → ((x : X) (at : ℕ) → Rises moment_of at (at + time x) (events x at))
+pub in_turn_rises : {X : Type 0} (events : X → ℕ → List Event) (time : X → ℕ) (xs : List X) (at : ℕ) → ((x : X) (at : ℕ) → Rises moment_of at (at + time x) (events x at))
     → Rises moment_of at (at + sum_by time xs) (in_turn events time xs at)
 in_turn_rises events time [] at each = omega arith
 in_turn_rises events time (x ∷ xs) at each =

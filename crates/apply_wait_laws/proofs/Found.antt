@@ -19,7 +19,7 @@ use Rattle.apply_wait_laws.proofs.TurnSteps.{all_at}
 
 -- ---- a lane's turns
 
-in_lane : (w : Work) (taken : List Taken) (lane : ℕ) (one : Taken) (e : Event) → Contains taken one → one.lane ≡ lane → Contains (turn_events w one) e → Contains (lane_turns w taken lane) e
+pub in_lane : (w : Work) (taken : List Taken) (lane : ℕ) (one : Taken) (e : Event) → Contains taken one → one.lane ≡ lane → Contains (turn_events w one) e → Contains (lane_turns w taken lane) e
 in_lane w [] lane one e there is h = absurd (not_in_none one there)
 in_lane w (x ∷ taken) lane one e there is h = ⊎_elim
     (λ (same : x ≡ one).
@@ -29,7 +29,7 @@ in_lane w (x ∷ taken) lane one e there is h = ⊎_elim
     (λ (later : Contains taken one). Contains-append_left (lane_turns w taken lane) (cond (eqb x.lane lane) (turn_events w x) []) e (in_lane w taken lane one e later is h))
     (in_cases x taken one there)
 
-lane_in : (w : Work) (taken : List Taken) (lane : ℕ) (e : Event) → Contains (lane_turns w taken lane) e
+pub lane_in : (w : Work) (taken : List Taken) (lane : ℕ) (e : Event) → Contains (lane_turns w taken lane) e
     → (one : Taken) × Contains taken one × (one.lane ≡ lane) × Contains (turn_events w one) e
 lane_in w [] lane e h = absurd (not_in_none e h)
 lane_in w (x ∷ taken) lane e h = ⊎_elim

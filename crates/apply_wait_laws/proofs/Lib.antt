@@ -4,8 +4,10 @@ pub mod Computed
 pub mod Found
 pub mod Free
 pub mod InVain
+pub mod LanesRise
 pub mod LeftOut
 pub mod Members
+pub mod Merge
 pub mod Moments
 pub mod Named
 pub mod Once

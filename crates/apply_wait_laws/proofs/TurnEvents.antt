@@ -13,7 +13,7 @@ use Rattle.apply_events.specs.declared.what.What.TheVariants.{Halted, Start}
 use Rattle.apply_events.specs.ChangeEvents.{in_turn}
 use Rattle.apply_events.specs.Step.{Step, Work}
 use Rattle.apply_events.specs.StepEvents.{between, endings, event, goes_on, halts, phase_after, seconds_of, started, step_events, step_time}
-use Rattle.apply_events.specs.Waits.Done.{Taken, done_among, done_in}
+use Rattle.apply_events.specs.Waits.Done.{Taken, done_among, done_in, end_behind, end_of_turn}
 use Rattle.apply_events.specs.Waits.Moment.{IsNoLater, Moment, later_by}
 use Rattle.apply_model.specs.declared.script.wait.Wait.{Wait}
 use Rattle.apply_events.specs.Waits.TimeLine.{is_of_turn, moment_from, turn_events}
@@ -23,7 +23,7 @@ use Rattle.apply_events.proofs.Moments as moments
 use Rattle.apply_events.proofs.Rising as rising
 use Rattle.apply_events.proofs.StepNumbers.{AreNumbered}
 use Rattle.apply_wait_laws.proofs.Members.{in_cases, in_head, in_tail, not_in_none}
-use Rattle.apply_wait_laws.proofs.Moments.{later_by_none, later_by_second, later_by_some, later_no_earlier, no_later_on}
+use Rattle.apply_wait_laws.proofs.Moments.{end_no_earlier, later_by_none, later_by_second, later_by_some, later_no_earlier, no_later_on}
 use Rattle.apply_wait_laws.proofs.TurnSteps.{all_at, begun_numbered, begun_of_change, begun_within, numbered_in, step_names_change}
 
 -- ---- the events of a step
@@ -62,7 +62,7 @@ first_event : (lane : ℕ) (s : Step) (at : ℕ) (found : Option ℕ)
 first_event lane s at None = (event lane s at Start, in_head (event lane s at Start) _)
 first_event lane s at (Some hook) = (event lane s at (Halted Pre hook), in_head (event lane s at (Halted Pre hook)) [])
 
-rises_all : (low high : ℕ) (es : List Event) → rising.Rises moments.moment_of low high es → All (λ e. (low ≤ e.at) × (e.at ≤ high)) es
+pub rises_all : (low high : ℕ) (es : List Event) → rising.Rises moments.moment_of low high es → All (λ e. (low ≤ e.at) × (e.at ≤ high)) es
 rises_all low high [] h = All-nil _
 rises_all low high (e ∷ es) h =
     let first = h.0 in let last = rising.Rises-le moments.moment_of e.at high es h.1 in
@@ -140,6 +140,7 @@ pub record OfSteps (lane n : ℕ) (begin at : Moment) (steps : List Step) (e : E
   pub low : n ≤ e.step
   pub from : IsNoLater at (moment_from begin e)
   pub until : (m : Moment) → done_among e.step at steps ≡ Some m → IsNoLater (moment_from begin e) m
+  pub last : IsNoLater (moment_from begin e) (end_behind at steps)
 
 done_first : (k : ℕ) (at : Moment) (s : Step) (steps : List Step) → s.number ≡ k → done_among k at (s ∷ steps) ≡ cond (goes_on s) (Some (later_by (step_time s) at)) None
 done_first k at s steps is = ap (λ t. cond t (cond (goes_on s) (Some (later_by (step_time s) at)) None) (done_among k (later_by (step_time s) at) steps)) (eq-eqb s.number k is)
@@ -166,6 +167,8 @@ of_steps lane n begin at (s ∷ steps) e numbered along h = ⊎_elim
       until = λ m is.
           let ends = done_if (goes_on s) (later_by (step_time s) at) m (sym (done_first e.step at s steps (sym number)) ∙ is) in
           subst (IsNoLater (moment_from begin e)) ends.1 (no_later_than_end begin at e (step_time s) along of.from of.until);
+      last = no_later_on (moment_from begin e) (later_by (step_time s) at) (end_behind at (s ∷ steps)) (no_later_than_end begin at e (step_time s) along of.from of.until)
+          (end_no_earlier (later_by (step_time s) at) steps);
     })
     (λ (later : Contains (in_turn (step_events lane) step_time steps (at.second + step_time s)) e).
     let next = later_by (step_time s) at in
@@ -178,6 +181,7 @@ of_steps lane n begin at (s ∷ steps) e numbered along h = ⊎_elim
       low = omega arith;
       from = no_later_on at next (moment_from begin e) (later_no_earlier at (step_time s)) rest.from;
       until = λ m is. rest.until m (sym (done_later e.step at s steps (omega arith)) ∙ is);
+      last = rest.last;
     })
     (Contains-append_cases (step_events lane s at.second) (in_turn (step_events lane) step_time steps (at.second + step_time s)) e h)
 
@@ -233,6 +237,7 @@ pub record OfTurn (w : Work) (one : Taken) (e : Event) : Type 0 where
   pub high : e.step < one.turn.first + one.turn.count
   pub from : IsNoLater one.begin (moment_from one.begin e)
   pub until : (m : Moment) → done_among e.step one.begin (begun_steps w one.turn) ≡ Some m → IsNoLater (moment_from one.begin e) m
+  pub last : IsNoLater (moment_from one.begin e) (end_of_turn w one)
 
 pub of_turn : (w : Work) (one : Taken) (e : Event) → Contains (turn_events w one) e → OfTurn w one e
 of_turn w one e h =
@@ -248,6 +253,7 @@ of_turn w one e h =
       high = omega arith;
       from = of.from;
       until = of.until;
+      last = of.last;
     }
 
 pub turn_has : (w : Work) (one : Taken) (s : Step) → Contains (begun_steps w one.turn) s

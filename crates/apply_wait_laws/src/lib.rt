@@ -12,6 +12,7 @@ ghost use Rattle.apply_events.specs.Step.{Work};
 ghost use Rattle.apply_model.specs.Script.Waits.{has_waits};
 ghost use Rattle.apply_events.specs.declared.event.Event.{Event};
 ghost use Rattle.apply_events.specs.Lanes.TimeLine as plain;
+ghost use Rattle.apply_events.specs.Waits.Merging.{time_line};
 ghost use Rattle.apply_events.specs.Waits.Schedule.{schedule};
 ghost use Rattle.apply_events.specs.Waits.TakenUp.{IsAppliedInTurns, WereTakenUp};
 ghost use Rattle.apply_events.specs.Waits.TimeLine.{IsTimeLine};
@@ -31,6 +32,11 @@ pub fn the_schedule_takes_up_what_it_may()
 /// A time line is what lanes may have done that take up turns one after another, and may be idle between.
 pub fn a_time_line_is_applied_in_turns()
     ensures { (work : Work) (n : ℕ) (events : List Event) → 0 < n → IsTimeLine work n events → IsAppliedInTurns work n events }
+{}
+
+/// There is a time line: that of `time_line`.
+pub fn there_is_a_time_line()
+    ensures { (work : Work) (n : ℕ) → 0 < n → IsTimeLine work n (time_line work n) }
 {}
 
 /// Two time lines of the same work by as many lanes are equal.
