@@ -15,4 +15,5 @@ pub mod Stages
 pub mod StepNumbers
 pub mod TimeLines
 pub mod UnderWay
+pub mod Waits
 pub mod WorkerLists

@@ -8,6 +8,9 @@ ghost use Rattle.apply_events.specs.Lanes.Props.{AllSound-prop, IsSteady-prop};
 
 pub mod lane;
 pub mod laws;
+pub mod moment;
+pub mod taken;
+pub mod turn;
 
 use crate::event::Event;
 use crate::lanes::lane::Lane;

@@ -18,12 +18,12 @@ use Rattle.apply_events.specs.Waits.Turn.{Turn, begun_steps, single, waits_of_tu
 use Rattle.apply_events.proofs.Rising as rising
 use Rattle.apply_events.proofs.StepNumbers.{in_turn_rise, number_of}
 use Rattle.apply_wait_laws.specs.Laws.{HasFewSteps, StandBehindWhatTheyWaitFor, has_events, is_of_step}
-use Rattle.apply_wait_laws.proofs.Found.{IsFound, IsOnly, found, part_is}
-use Rattle.apply_wait_laws.proofs.Members.{filter_all, in_any, in_cases, in_filter, in_head, in_split, in_tail, not_in_none, split_in}
-use Rattle.apply_wait_laws.proofs.Moments.{no_later_on, not_by_then}
-use Rattle.apply_wait_laws.proofs.Once.{AreTurns, IsTurnOf, is_split, known_turn, moment_is, one_event, one_turn, same_taken, turn_is}
-use Rattle.apply_wait_laws.proofs.TurnEvents.{OfTurn, done_there, of_turn, turn_has}
-use Rattle.apply_wait_laws.proofs.TurnSteps.{all_at, begun_numbered}
+use Rattle.apply_events.proofs.Waits.Found.{IsFound, IsOnly, found, part_is}
+use Rattle.apply_events.proofs.Waits.Members.{filter_all, in_any, in_cases, in_filter, in_head, in_split, in_tail, not_in_none, split_in}
+use Rattle.apply_events.proofs.Waits.Moments.{no_later_on, not_by_then}
+use Rattle.apply_events.proofs.Waits.Once.{AreTurns, IsTurnOf, is_split, known_turn, moment_is, one_event, one_turn, same_taken, turn_is}
+use Rattle.apply_events.proofs.Waits.TurnEvents.{OfTurn, done_there, of_turn, turn_has}
+use Rattle.apply_events.proofs.Waits.TurnSteps.{all_at, begun_numbered}
 use Rattle.apply_wait_laws.proofs.Waited.{IsDoneBefore, are_done_before}
 
 -- ---- in which turn a step is done

@@ -10,9 +10,9 @@ use Rattle.apply_events.specs.Fits.{HasStep}
 use Rattle.apply_events.specs.Step.{Work}
 use Rattle.apply_wait_laws.specs.Laws.{BeginWhereAllIsDone, LeaveOutNoneWithoutNeed, LeaveOutWhatWaitsInVain, NamesSteps, WaitsInVain, goes_on_if_begun, has_events, has_stopped, is_done_along}
 use Rattle.apply_wait_laws.specs.Laws.WaitsInVain.{for_stopped, for_waiting}
-use Rattle.apply_wait_laws.proofs.Members.{in_all, in_cases, in_head, in_tail}
+use Rattle.apply_events.proofs.Waits.Members.{in_all, in_cases, in_head, in_tail}
 use Rattle.apply_wait_laws.proofs.Named.{named}
-use Rattle.apply_wait_laws.proofs.TurnSteps.{all_at}
+use Rattle.apply_events.proofs.Waits.TurnSteps.{all_at}
 
 -- ---- tests
 

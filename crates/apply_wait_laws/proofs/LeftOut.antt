@@ -21,11 +21,11 @@ use Rattle.apply_events.specs.Waits.TimeLine.{lane_turns, turn_events}
 use Rattle.apply_events.specs.Waits.Turn.{Turn, begun_steps, single, turns, turns_of, waits_of_turn, whole}
 use Rattle.apply_wait_laws.specs.Laws.{BeginWhereAllIsDone, HasFewSteps, goes_on_if_begun, has_events, is_done_along, is_of_step}
 use Rattle.apply_wait_laws.proofs.Behind.{are_turns, eq_from, is_waited_for, no_names, none_named, single_count, waits_are}
-use Rattle.apply_wait_laws.proofs.Found.{IsFound, found, told}
-use Rattle.apply_wait_laws.proofs.Members.{all_in, any_in, in_all, in_any, in_cases, in_flat_map, in_head, in_tail, not_in_none}
-use Rattle.apply_wait_laws.proofs.Once.{AreTurns, IsTurnOf, in_list, is_split, known_turn}
-use Rattle.apply_wait_laws.proofs.TurnEvents.{OfTurn, done_then, done_there, of_turn, turn_has}
-use Rattle.apply_wait_laws.proofs.TurnSteps.{HasTwo, all_at, begun_of_change, first_begins, has_two, second_begins, second_behind_first, step_at_number}
+use Rattle.apply_events.proofs.Waits.Found.{IsFound, found, told}
+use Rattle.apply_events.proofs.Waits.Members.{all_in, any_in, in_all, in_any, in_cases, in_flat_map, in_head, in_tail, not_in_none}
+use Rattle.apply_events.proofs.Waits.Once.{AreTurns, IsTurnOf, in_list, is_split, known_turn}
+use Rattle.apply_events.proofs.Waits.TurnEvents.{OfTurn, done_then, done_there, of_turn, turn_has}
+use Rattle.apply_events.proofs.Waits.TurnSteps.{HasTwo, all_at, begun_of_change, first_begins, has_two, second_begins, second_behind_first, step_at_number}
 
 -- ---- the turn of a step
 

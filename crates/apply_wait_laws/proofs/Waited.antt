@@ -6,7 +6,7 @@ use Rattle.apply_events.specs.Step.{Work}
 use Rattle.apply_events.specs.Waits.Done.{Taken, done_at, done_by, later_if_both}
 use Rattle.apply_events.specs.Waits.Moment.{IsNoLater, Moment, later_of, next_round}
 use Rattle.apply_model.specs.declared.script.wait.Wait.{Wait}
-use Rattle.apply_wait_laws.proofs.Moments.{first_no_later, no_later_on, second_no_later}
+use Rattle.apply_events.proofs.Waits.Moments.{first_no_later, no_later_on, second_no_later}
 
 -- the step is done, and the round behind that is no later
 abbrev pub IsDoneBefore : Work → List Taken → Moment → Wait → Type 0

@@ -26,7 +26,7 @@ use Rattle.apply_events.specs.Waits.TimeLine.{InOrder, IsTimeLine, Precedes, is_
 use Rattle.apply_events.specs.Waits.Turn.{Turn, begun_steps, single, turns, turns_of, waits_of_turn, whole}
 use Rattle.apply_events.proofs.TimeLines.Dealt.{length_dealt}
 use Rattle.apply_wait_laws.proofs.Along.{no_later, second_is}
-use Rattle.apply_wait_laws.proofs.Moments.{later_by_none, later_by_some, no_later_both, same_moment}
+use Rattle.apply_events.proofs.Waits.Moments.{later_by_none, later_by_some, no_later_both, same_moment}
 
 -- ---- tests
 

@@ -1,16 +1,11 @@
--- When steps are done and turns are ready, where some turns have been taken up.
+-- When steps are done and turns are ready, where some turns have been taken up: each in a lane, from a moment on.
+pub use Rattle.apply_events.specs.declared.lanes.taken.Taken.{Taken}
 use Rattle.std.specs.Prelude.{ℕ, ◌==◌, List, [], ◌∷◌, Option, Some, None, option_map, if◌then◌else◌}
 use Rattle.apply_events.specs.Step.{Step, Work}
 use Rattle.apply_events.specs.StepEvents.{goes_on, step_time}
 use Rattle.apply_events.specs.Waits.Moment.{Moment, first_moment, later_by, later_of, next_round}
 use Rattle.apply_model.specs.declared.script.wait.Wait.{Wait}
 use Rattle.apply_events.specs.Waits.Turn.{Turn, begun_steps, waits_of_turn}
-
--- a turn that was taken up: in which lane, and when it begins
-pub record Taken : Type 0 where
-  pub turn : Turn
-  pub lane : ℕ
-  pub begin : Moment
 
 -- ---- done
 

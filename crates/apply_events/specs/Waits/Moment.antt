@@ -1,9 +1,6 @@
 -- Moments in lanes: a second, and a round within it.
+pub use Rattle.apply_events.specs.declared.lanes.moment.Moment.{Moment}
 use Rattle.std.specs.Prelude.{◌≡◌, ◌≤◌, ℕ, ◌+◌, ◌==◌, ◌&&◌, ◌||◌, Bool, nat_lt, if◌then◌else◌}
-
-pub record Moment : Type 0 where
-  pub second : ℕ
-  pub round : ℕ
 
 abbrev pub first_moment : Moment
 first_moment = record { second = 0; round = 0 }

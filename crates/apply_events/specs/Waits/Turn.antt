@@ -1,4 +1,5 @@
--- What a lane takes up as a whole.
+-- What a lane takes up as a whole: some steps of a change, from which on, and how many.
+pub use Rattle.apply_events.specs.declared.lanes.turn.Turn.{Turn}
 use Rattle.std.specs.Prelude.{ℕ, ◌==◌, ◌&&◌, List, [], ◌∷◌, drop, length, take, if◌then◌else◌}
 use Rattle.std.specs.List.{flat_map, range_with_len}
 use Rattle.apply_events.specs.ChangeEvents.{begun}
@@ -6,12 +7,6 @@ use Rattle.apply_events.specs.Step.{Step, Work, kinds_of, steps_of}
 use Rattle.apply_model.specs.declared.script.wait.Wait.{Wait}
 use Rattle.apply_model.specs.Script.OutcomeMap.{outcome_of}
 use Rattle.apply_model.specs.Script.Waits.{names_a_wait, waits_of}
-
--- some steps of a change: from which on, and how many
-pub record Turn : Type 0 where
-  pub change : ℕ
-  pub first : ℕ
-  pub count : ℕ
 
 -- step k of change c, by itself
 abbrev pub single : (c k : ℕ) → Turn

@@ -1,6 +1,6 @@
 use Rattle.apply_events.specs.Waits.Schedule.{schedule}
 use Rattle.apply_wait_laws.proofs.Behind.{stand_behind}
-use Rattle.apply_wait_laws.proofs.TakenUp.{taken_up}
+use Rattle.apply_events.proofs.Waits.TakenUp.{taken_up}
 use Rattle.apply_wait_laws.proofs.a_step_stands_behind_what_it_waits_for.Goals as goal
 
 pub returns : goal.returns

@@ -1,5 +1,5 @@
 use Rattle.apply_events.specs.Waits.Schedule.{schedule}
-use Rattle.apply_wait_laws.proofs.TakenUp.{taken_up}
+use Rattle.apply_events.proofs.Waits.TakenUp.{taken_up}
 use Rattle.apply_wait_laws.proofs.a_time_line_is_applied_in_turns.Goals as goal
 
 pub returns : goal.returns

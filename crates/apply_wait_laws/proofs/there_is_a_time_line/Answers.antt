@@ -1,4 +1,4 @@
-use Rattle.apply_wait_laws.proofs.LanesRise.{time_line_is}
+use Rattle.apply_events.proofs.Waits.LanesRise.{time_line_is}
 use Rattle.apply_wait_laws.proofs.there_is_a_time_line.Goals as goal
 
 pub returns : goal.returns

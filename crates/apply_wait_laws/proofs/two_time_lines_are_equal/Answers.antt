@@ -1,6 +1,6 @@
 use Rattle.apply_events.specs.Waits.Schedule.{schedule}
 use Rattle.apply_events.specs.Waits.TimeLine.{lane_turns, moment_of}
-use Rattle.apply_wait_laws.proofs.Order.{unique}
+use Rattle.apply_events.proofs.Waits.Order.{unique}
 use Rattle.apply_wait_laws.proofs.two_time_lines_are_equal.Goals as goal
 
 pub returns : goal.returns

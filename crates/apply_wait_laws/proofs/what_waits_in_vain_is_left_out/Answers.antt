@@ -1,7 +1,7 @@
 use Rattle.apply_events.specs.Waits.Schedule.{schedule}
 use Rattle.apply_wait_laws.proofs.InVain.{leave_out, none_without_need}
 use Rattle.apply_wait_laws.proofs.LeftOut.{begin_where_all_is_done}
-use Rattle.apply_wait_laws.proofs.TakenUp.{taken_up}
+use Rattle.apply_events.proofs.Waits.TakenUp.{taken_up}
 use Rattle.apply_wait_laws.proofs.what_waits_in_vain_is_left_out.Goals as goal
 
 pub returns : goal.returns

@@ -9,9 +9,9 @@ use Rattle.apply_events.specs.Waits.Moment.{IsNoLater, Moment, first_moment, is_
 use Rattle.apply_events.specs.Waits.Schedule.{Ready, earlier_of, first_earliest, first_ready, free_behind, is_same_turn, is_taken, next_of, ready_turn, schedule, scheduled, taken_in, with_next}
 use Rattle.apply_events.specs.Waits.TakenUp.{IsFree, IsReady, WereTakenUp}
 use Rattle.apply_events.specs.Waits.Turn.{Turn, turns}
-use Rattle.apply_wait_laws.proofs.Free.{first_earliest_lt, have_ended, length-free}
-use Rattle.apply_wait_laws.proofs.Members.{in_head, in_tail}
-use Rattle.apply_wait_laws.proofs.Moments.{first_no_later, no_later_on, second_no_later}
+use Rattle.apply_events.proofs.Waits.Free.{first_earliest_lt, have_ended, length-free}
+use Rattle.apply_events.proofs.Waits.Members.{in_head, in_tail}
+use Rattle.apply_events.proofs.Waits.Moments.{first_no_later, no_later_on, second_no_later}
 
 -- ---- a fact of each that was taken up, in view of those before it
 

@@ -17,14 +17,14 @@ use Rattle.apply_events.specs.Waits.Turn.{begun_steps}
 use Rattle.apply_events.proofs.Moments.{in_turn_rises, step_rises}
 use Rattle.apply_events.proofs.Moments as moments
 use Rattle.apply_events.proofs.Rising as rising
-use Rattle.apply_wait_laws.proofs.Found.{lane_in}
-use Rattle.apply_wait_laws.proofs.Members.{in_cases, in_head, in_tail, not_in_none}
-use Rattle.apply_wait_laws.proofs.Merge.{AllRise, Rises, merged_in_order, merged_is, rises_append}
-use Rattle.apply_wait_laws.proofs.Moments.{no_later_on}
-use Rattle.apply_wait_laws.proofs.Once.{AreTurns, moment_is}
-use Rattle.apply_wait_laws.proofs.TakenUp.{taken_up}
-use Rattle.apply_wait_laws.proofs.TurnEvents.{OfTurn, of_turn, rises_all}
-use Rattle.apply_wait_laws.proofs.TurnSteps.{all_at}
+use Rattle.apply_events.proofs.Waits.Found.{lane_in}
+use Rattle.apply_events.proofs.Waits.Members.{in_cases, in_head, in_tail, not_in_none}
+use Rattle.apply_events.proofs.Waits.Merge.{AllRise, Rises, merged_in_order, merged_is, rises_append}
+use Rattle.apply_events.proofs.Waits.Moments.{no_later_on}
+use Rattle.apply_events.proofs.Waits.Once.{AreTurns, moment_is}
+use Rattle.apply_events.proofs.Waits.TakenUp.{taken_up}
+use Rattle.apply_events.proofs.Waits.TurnEvents.{OfTurn, of_turn, rises_all}
+use Rattle.apply_events.proofs.Waits.TurnSteps.{all_at}
 
 -- seconds that do not fall are moments that do not
 from_seconds : (begin : Moment) (e f : Event) → e.at ≤ f.at → IsNoLater (moment_from begin e) (moment_from begin f)

@@ -10,7 +10,7 @@ use Rattle.apply_events.specs.Waits.Done.{Taken, end_of_turn}
 use Rattle.apply_events.specs.Waits.Moment.{IsNoLater, Moment, first_moment, is_earlier}
 use Rattle.apply_events.specs.Waits.Schedule.{Ready, first_earliest, first_ready, free_behind, scheduled, taken_in, with_next}
 use Rattle.apply_events.specs.Waits.Turn.{begun_steps, turns}
-use Rattle.apply_wait_laws.proofs.Moments.{end_no_earlier, no_later_on, no_later_refl, second_no_later}
+use Rattle.apply_events.proofs.Waits.Moments.{end_no_earlier, no_later_on, no_later_refl, second_no_later}
 
 pub length-free : (w : Work) (n : ℕ) (taken : List Taken) → length (free_behind w n taken) ≡ n
 length-free w n [] = length-replicate n first_moment

@@ -12,10 +12,10 @@ use Rattle.apply_events.specs.OfWorker.{of_worker}
 use Rattle.apply_events.specs.Waits.Done.{Taken}
 use Rattle.apply_events.specs.Waits.Schedule.{is_taken}
 use Rattle.apply_events.specs.Waits.TimeLine.{lane_turns, turn_events}
-use Rattle.apply_wait_laws.proofs.Members.{filter_in, filter_no, filter_within, in_cases, in_filter, in_head, in_tail, not_in_none}
-use Rattle.apply_wait_laws.proofs.Once.{AreTurns, taken_in_list, turns_tail}
-use Rattle.apply_wait_laws.proofs.TurnEvents.{OfTurn, of_turn}
-use Rattle.apply_wait_laws.proofs.TurnSteps.{all_at}
+use Rattle.apply_events.proofs.Waits.Members.{filter_in, filter_no, filter_within, in_cases, in_filter, in_head, in_tail, not_in_none}
+use Rattle.apply_events.proofs.Waits.Once.{AreTurns, taken_in_list, turns_tail}
+use Rattle.apply_events.proofs.Waits.TurnEvents.{OfTurn, of_turn}
+use Rattle.apply_events.proofs.Waits.TurnSteps.{all_at}
 
 -- ---- a lane's turns
 

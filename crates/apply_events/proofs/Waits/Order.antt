@@ -8,7 +8,7 @@ use Rattle.apply_events.specs.OfWorker.{of_worker}
 use Rattle.apply_events.specs.Waits.Moment.{Moment}
 use Rattle.apply_events.specs.Waits.TimeLine.{InOrder, Precedes}
 use Rattle.apply_events.proofs.TimeLines.Order.{elsewhere, here, nobody_else, none_is_one, of_part}
-use Rattle.apply_wait_laws.proofs.Moments.{no_later_both}
+use Rattle.apply_events.proofs.Waits.Moments.{no_later_both}
 
 module _ (when : Event → Moment) where
   pub precedes_both : (e f : Event) → Precedes when e f → Precedes when f e → e.worker ≡ f.worker

@@ -13,9 +13,9 @@ use Rattle.apply_events.specs.Waits.Moment.{IsNoLater, Moment, is_earlier}
 use Rattle.apply_events.specs.Waits.TimeLine.{InOrder, Precedes}
 use Rattle.apply_events.proofs.TimeLines.Order.{elsewhere, here, nobody_else}
 use Rattle.apply_events.proofs.TimeLines.Merge.{all_parts}
-use Rattle.apply_wait_laws.proofs.Members.{in_head, in_tail}
-use Rattle.apply_wait_laws.proofs.Moments.{no_later_both, no_later_on, no_later_refl, same_moment, tells}
-use Rattle.apply_wait_laws.proofs.Order.{unique}
+use Rattle.apply_events.proofs.Waits.Members.{in_head, in_tail}
+use Rattle.apply_events.proofs.Waits.Moments.{no_later_both, no_later_on, no_later_refl, same_moment, tells}
+use Rattle.apply_events.proofs.Waits.Order.{unique}
 
 -- ---- tests
 

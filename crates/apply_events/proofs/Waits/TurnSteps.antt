@@ -12,7 +12,7 @@ use Rattle.apply_events.specs.Step.{Step, Work, kinds_of, step_of, steps_of}
 use Rattle.apply_events.specs.StepEvents.{goes_on}
 use Rattle.apply_events.specs.Waits.Turn.{Turn, begun_steps, whole}
 use Rattle.apply_events.proofs.StepNumbers.{AreNumbered, AreNumbered-begun, AreNumbered-drop, steps_of-numbered}
-use Rattle.apply_wait_laws.proofs.Members.{in_cases, in_head, in_tail, not_in_none}
+use Rattle.apply_events.proofs.Waits.Members.{in_cases, in_head, in_tail, not_in_none}
 
 -- ---- what is begun is among the steps
 

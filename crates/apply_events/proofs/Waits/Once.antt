@@ -7,19 +7,20 @@ use Rattle.std.proofs.lemmas.List.Elements.{All-tail}
 use Rattle.apply_events.specs.declared.event.Event.{Event}
 use Rattle.apply_events.specs.Step.{Work, kinds_of}
 use Rattle.apply_events.specs.Waits.Done.{Taken}
-use Rattle.apply_wait_laws.proofs.Named.{named, names_some}
+use Rattle.apply_model.specs.Script.OutcomeMap.{outcome_of}
+use Rattle.apply_model.specs.Script.Waits.{names_a_wait}
 use Rattle.apply_events.specs.Waits.Schedule.{is_same_turn, is_taken}
 use Rattle.apply_events.specs.Waits.TimeLine.{is_of_turn, moment_from, moment_of, turn_events}
 use Rattle.apply_events.specs.Waits.Turn.{Turn, single, turns, turns_of, whole}
-use Rattle.apply_wait_laws.proofs.Members.{any_in, flat_map_in, in_any, in_cases, in_head, in_tail, not_in_none}
-use Rattle.apply_wait_laws.proofs.TakenUp.{same_itself}
-use Rattle.apply_wait_laws.proofs.TurnEvents.{OfTurn, of_turn}
-use Rattle.apply_wait_laws.proofs.TurnSteps.{all_at}
+use Rattle.apply_events.proofs.Waits.Members.{any_in, flat_map_in, in_any, in_cases, in_head, in_tail, not_in_none}
+use Rattle.apply_events.proofs.Waits.TakenUp.{same_itself}
+use Rattle.apply_events.proofs.Waits.TurnEvents.{OfTurn, of_turn}
+use Rattle.apply_events.proofs.Waits.TurnSteps.{all_at}
 
 -- ---- the turns of a change
 
 abbrev pub is_split : Work → ℕ → Bool
-is_split w c = eqb (length (kinds_of w.plan c)) 2 && names_some (named w c 1)
+is_split w c = eqb (length (kinds_of w.plan c)) 2 && names_a_wait (outcome_of w.script c 1)
 
 -- it is the whole change, or one of two single steps
 abbrev pub IsTurnOf : Work → ℕ → Turn → Type 0

@@ -22,9 +22,9 @@ use Rattle.apply_events.proofs.Moments.{step_rises}
 use Rattle.apply_events.proofs.Moments as moments
 use Rattle.apply_events.proofs.Rising as rising
 use Rattle.apply_events.proofs.StepNumbers.{AreNumbered}
-use Rattle.apply_wait_laws.proofs.Members.{in_cases, in_head, in_tail, not_in_none}
-use Rattle.apply_wait_laws.proofs.Moments.{end_no_earlier, later_by_none, later_by_second, later_by_some, later_no_earlier, no_later_on}
-use Rattle.apply_wait_laws.proofs.TurnSteps.{all_at, begun_numbered, begun_of_change, begun_within, numbered_in, step_names_change}
+use Rattle.apply_events.proofs.Waits.Members.{in_cases, in_head, in_tail, not_in_none}
+use Rattle.apply_events.proofs.Waits.Moments.{end_no_earlier, later_by_none, later_by_second, later_by_some, later_no_earlier, no_later_on}
+use Rattle.apply_events.proofs.Waits.TurnSteps.{all_at, begun_numbered, begun_of_change, begun_within, numbered_in, step_names_change}
 
 -- ---- the events of a step
 

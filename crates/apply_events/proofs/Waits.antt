@@ -1,0 +1,12 @@
+-- Turns that lanes take up, and their time line.
+pub mod Found
+pub mod Free
+pub mod LanesRise
+pub mod Members
+pub mod Merge
+pub mod Moments
+pub mod Once
+pub mod Order
+pub mod TakenUp
+pub mod TurnEvents
+pub mod TurnSteps
