@@ -21,6 +21,9 @@ pub use event::{Event, LATEST};
 pub use fitting::{fits, is_of_plan};
 pub use interleaving::an_interleaving_of_one_worker_is_its_list;
 pub use lanes::laws::there_is_a_time_line;
+pub use lanes::moment::Moment;
+pub use lanes::taken::Taken;
+pub use lanes::turn::Turn;
 pub use lanes::{Lanes, MAX_LANES};
 pub use laws::{a_further_change_comes_behind, totals_of_joined_lists_add_up};
 pub use partition::{

@@ -7,14 +7,17 @@ use Rattle.std.proofs.lemmas.List.Elements.{All-contains_itself, All-weaker, Con
 use Rattle.apply_events.specs.declared.event.Event.{Event}
 use Rattle.apply_events.specs.Interleaving.{IsInterleaving}
 use Rattle.apply_events.specs.Step.{Work, kinds_of}
-use Rattle.apply_events.specs.Waits.Done.{Taken, done_among, done_at, done_in, first_found}
-use Rattle.apply_events.specs.Waits.Moment.{IsNoLater, Moment, next_round}
+use Rattle.apply_events.specs.declared.lanes.taken.Taken.{Taken}
+use Rattle.apply_events.specs.Waits.Done.{done_among, done_at, done_in, first_found}
+use Rattle.apply_events.specs.declared.lanes.moment.Moment.{Moment}
+use Rattle.apply_events.specs.Waits.Moment.{IsNoLater, next_round}
 use Rattle.apply_wait_laws.proofs.Named.{named, names_some}
 use Rattle.apply_model.specs.declared.script.wait.Wait.{Wait}
 use Rattle.apply_model.specs.Script.Waits.{waits_of}
 use Rattle.apply_events.specs.Waits.TakenUp.{WereTakenUp}
 use Rattle.apply_events.specs.Waits.TimeLine.{InOrder, Precedes, lane_turns, moment_from, moment_of, turn_events}
-use Rattle.apply_events.specs.Waits.Turn.{Turn, begun_steps, single, waits_of_turn, whole}
+use Rattle.apply_events.specs.declared.lanes.turn.Turn.{Turn}
+use Rattle.apply_events.specs.Waits.Turn.{begun_steps, single, waits_of_turn, whole}
 use Rattle.apply_events.proofs.Rising as rising
 use Rattle.apply_events.proofs.StepNumbers.{in_turn_rise, number_of}
 use Rattle.apply_wait_laws.specs.Laws.{HasFewSteps, StandBehindWhatTheyWaitFor, has_events, is_of_step}

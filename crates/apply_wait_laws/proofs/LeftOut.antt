@@ -10,15 +10,18 @@ use Rattle.apply_events.specs.Fits.{HasStep}
 use Rattle.apply_events.specs.Interleaving.{IsInterleaving}
 use Rattle.apply_events.specs.Step.{Step, Work, kinds_of, step_of, steps_of}
 use Rattle.apply_events.specs.StepEvents.{goes_on}
-use Rattle.apply_events.specs.Waits.Done.{Taken, done_at, done_by, done_in, first_found, later_if_both, ready_at}
-use Rattle.apply_events.specs.Waits.Moment.{Moment, first_moment, later_of, next_round}
+use Rattle.apply_events.specs.declared.lanes.taken.Taken.{Taken}
+use Rattle.apply_events.specs.Waits.Done.{done_at, done_by, done_in, first_found, later_if_both, ready_at}
+use Rattle.apply_events.specs.declared.lanes.moment.Moment.{Moment}
+use Rattle.apply_events.specs.Waits.Moment.{first_moment, later_of, next_round}
 use Rattle.apply_wait_laws.proofs.Named.{named}
 use Rattle.apply_model.specs.declared.script.wait.Wait.{Wait}
 use Rattle.apply_model.specs.Script.Waits.{waits_of}
 use Rattle.apply_events.specs.Waits.Schedule.{is_taken}
 use Rattle.apply_events.specs.Waits.TakenUp.{WereTakenUp}
 use Rattle.apply_events.specs.Waits.TimeLine.{lane_turns, turn_events}
-use Rattle.apply_events.specs.Waits.Turn.{Turn, begun_steps, single, turns, turns_of, waits_of_turn, whole}
+use Rattle.apply_events.specs.declared.lanes.turn.Turn.{Turn}
+use Rattle.apply_events.specs.Waits.Turn.{begun_steps, single, turns, turns_of, waits_of_turn, whole}
 use Rattle.apply_wait_laws.specs.Laws.{BeginWhereAllIsDone, HasFewSteps, goes_on_if_begun, has_events, is_done_along, is_of_step}
 use Rattle.apply_wait_laws.proofs.Behind.{are_turns, eq_from, is_waited_for, no_names, none_named, single_count, waits_are}
 use Rattle.apply_events.proofs.Waits.Found.{IsFound, found, told}

@@ -3,8 +3,10 @@ use Rattle.std.proofs.Common.{◌≡◌, All, List, [], ◌∷◌, Option, Some,
 use Rattle.std.specs.Prelude.{option_map}
 use Rattle.std.proofs.lemmas.List.Elements.{All-cons, All-nil, All-weaker}
 use Rattle.apply_events.specs.Step.{Work}
-use Rattle.apply_events.specs.Waits.Done.{Taken, done_at, done_by, later_if_both}
-use Rattle.apply_events.specs.Waits.Moment.{IsNoLater, Moment, later_of, next_round}
+use Rattle.apply_events.specs.declared.lanes.taken.Taken.{Taken}
+use Rattle.apply_events.specs.Waits.Done.{done_at, done_by, later_if_both}
+use Rattle.apply_events.specs.declared.lanes.moment.Moment.{Moment}
+use Rattle.apply_events.specs.Waits.Moment.{IsNoLater, later_of, next_round}
 use Rattle.apply_model.specs.declared.script.wait.Wait.{Wait}
 use Rattle.apply_events.proofs.Waits.Moments.{first_no_later, no_later_on, second_no_later}
 

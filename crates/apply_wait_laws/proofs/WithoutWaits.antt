@@ -17,13 +17,16 @@ use Rattle.apply_events.specs.Lanes.Dealing.{before, dealt, first_least, kept, l
 use Rattle.apply_events.specs.Lanes.TimeLine as plain
 use Rattle.apply_events.specs.Step.{Step, Work, kinds_of, step_of, steps_of}
 use Rattle.apply_events.specs.StepEvents.{step_events, step_time}
-use Rattle.apply_events.specs.Waits.Done.{Taken, done_by, end_behind, end_of_turn, ready_at}
-use Rattle.apply_events.specs.Waits.Moment.{IsNoLater, Moment, first_moment, is_earlier, later_by, later_of}
+use Rattle.apply_events.specs.declared.lanes.taken.Taken.{Taken}
+use Rattle.apply_events.specs.Waits.Done.{done_by, end_behind, end_of_turn, ready_at}
+use Rattle.apply_events.specs.declared.lanes.moment.Moment.{Moment}
+use Rattle.apply_events.specs.Waits.Moment.{IsNoLater, first_moment, is_earlier, later_by, later_of}
 use Rattle.apply_wait_laws.proofs.Named.{named, names_some}
 use Rattle.apply_model.specs.declared.script.wait.Wait.{Wait}
 use Rattle.apply_events.specs.Waits.Schedule.{Ready, earlier_of, first_earliest, first_ready, free_behind, is_taken, next_of, ready_turn, schedule, scheduled, taken_in, with_next}
 use Rattle.apply_events.specs.Waits.TimeLine.{InOrder, IsTimeLine, Precedes, is_of_turn, lane_turns, moment_from, moment_of, turn_events}
-use Rattle.apply_events.specs.Waits.Turn.{Turn, begun_steps, single, turns, turns_of, waits_of_turn, whole}
+use Rattle.apply_events.specs.declared.lanes.turn.Turn.{Turn}
+use Rattle.apply_events.specs.Waits.Turn.{begun_steps, single, turns, turns_of, waits_of_turn, whole}
 use Rattle.apply_events.proofs.TimeLines.Dealt.{length_dealt}
 use Rattle.apply_wait_laws.proofs.Along.{no_later, second_is}
 use Rattle.apply_events.proofs.Waits.Moments.{later_by_none, later_by_some, no_later_both, same_moment}

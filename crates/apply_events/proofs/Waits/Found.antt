@@ -9,7 +9,7 @@ use Rattle.apply_events.specs.Step.{Work}
 use Rattle.apply_events.specs.declared.event.Event.{Event}
 use Rattle.apply_events.specs.Interleaving.{IsInterleaving}
 use Rattle.apply_events.specs.OfWorker.{of_worker}
-use Rattle.apply_events.specs.Waits.Done.{Taken}
+use Rattle.apply_events.specs.declared.lanes.taken.Taken.{Taken}
 use Rattle.apply_events.specs.Waits.Schedule.{is_taken}
 use Rattle.apply_events.specs.Waits.TimeLine.{lane_turns, turn_events}
 use Rattle.apply_events.proofs.Waits.Members.{filter_in, filter_no, filter_within, in_cases, in_filter, in_head, in_tail, not_in_none}

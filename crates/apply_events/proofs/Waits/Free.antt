@@ -6,8 +6,10 @@ use Rattle.std.proofs.lemmas.List.Elements.{All-cons, All-nil, All-weaker}
 use Rattle.std.specs.List.{list_all}
 use Rattle.std.specs.Prelude.{not}
 use Rattle.apply_events.specs.Step.{Work}
-use Rattle.apply_events.specs.Waits.Done.{Taken, end_of_turn}
-use Rattle.apply_events.specs.Waits.Moment.{IsNoLater, Moment, first_moment, is_earlier}
+use Rattle.apply_events.specs.declared.lanes.taken.Taken.{Taken}
+use Rattle.apply_events.specs.Waits.Done.{end_of_turn}
+use Rattle.apply_events.specs.declared.lanes.moment.Moment.{Moment}
+use Rattle.apply_events.specs.Waits.Moment.{IsNoLater, first_moment, is_earlier}
 use Rattle.apply_events.specs.Waits.Schedule.{Ready, first_earliest, first_ready, free_behind, scheduled, taken_in, with_next}
 use Rattle.apply_events.specs.Waits.Turn.{begun_steps, turns}
 use Rattle.apply_events.proofs.Waits.Moments.{end_no_earlier, no_later_on, no_later_refl, second_no_later}

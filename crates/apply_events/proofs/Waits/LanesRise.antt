@@ -7,9 +7,11 @@ use Rattle.std.proofs.lemmas.List.Elements.{All-cons, All-contains_itself, All-n
 use Rattle.apply_events.specs.declared.event.Event.{Event}
 use Rattle.apply_events.specs.Step.{Work}
 use Rattle.apply_events.specs.StepEvents.{step_events, step_time}
-use Rattle.apply_events.specs.Waits.Done.{Taken, end_of_turn}
+use Rattle.apply_events.specs.declared.lanes.taken.Taken.{Taken}
+use Rattle.apply_events.specs.Waits.Done.{end_of_turn}
 use Rattle.apply_events.specs.Waits.Merging.{time_line}
-use Rattle.apply_events.specs.Waits.Moment.{IsNoLater, Moment}
+use Rattle.apply_events.specs.declared.lanes.moment.Moment.{Moment}
+use Rattle.apply_events.specs.Waits.Moment.{IsNoLater}
 use Rattle.apply_events.specs.Waits.Schedule.{schedule}
 use Rattle.apply_events.specs.Waits.TakenUp.{IsFree, WereTakenUp}
 use Rattle.apply_events.specs.Waits.TimeLine.{IsTimeLine, lane_turns, moment_from, moment_of, turn_events}

@@ -9,7 +9,8 @@ use Rattle.apply_events.specs.Interleaving.{IsInterleaving}
 use Rattle.apply_events.specs.declared.event.Event.{Event}
 use Rattle.apply_events.specs.OfWorker.{of_worker}
 use Rattle.apply_events.specs.Waits.Merging.{insert, is_same_moment, may_precede, merged, sorted}
-use Rattle.apply_events.specs.Waits.Moment.{IsNoLater, Moment, is_earlier}
+use Rattle.apply_events.specs.declared.lanes.moment.Moment.{Moment}
+use Rattle.apply_events.specs.Waits.Moment.{IsNoLater, is_earlier}
 use Rattle.apply_events.specs.Waits.TimeLine.{InOrder, Precedes}
 use Rattle.apply_events.proofs.TimeLines.Order.{elsewhere, here, nobody_else}
 use Rattle.apply_events.proofs.TimeLines.Merge.{all_parts}

@@ -4,7 +4,8 @@ use Rattle.std.proofs.lemmas.Bool.{cases_lt, cases_eq}
 use Rattle.apply_events.specs.Step.{Step}
 use Rattle.apply_events.specs.StepEvents.{step_time}
 use Rattle.apply_events.specs.Waits.Done.{end_behind}
-use Rattle.apply_events.specs.Waits.Moment.{IsNoLater, Moment, is_earlier, later_by, later_of, next_round}
+use Rattle.apply_events.specs.declared.lanes.moment.Moment.{Moment}
+use Rattle.apply_events.specs.Waits.Moment.{IsNoLater, is_earlier, later_by, later_of, next_round}
 
 pub same_moment : (a b : Moment) → a.second ≡ b.second → a.round ≡ b.round → a ≡ b
 same_moment a b second round =

@@ -6,12 +6,13 @@ use Rattle.std.proofs.lemmas.Bool.Decides.{eqb_tells}
 use Rattle.std.proofs.lemmas.List.Elements.{All-tail}
 use Rattle.apply_events.specs.declared.event.Event.{Event}
 use Rattle.apply_events.specs.Step.{Work, kinds_of}
-use Rattle.apply_events.specs.Waits.Done.{Taken}
+use Rattle.apply_events.specs.declared.lanes.taken.Taken.{Taken}
 use Rattle.apply_model.specs.Script.OutcomeMap.{outcome_of}
 use Rattle.apply_model.specs.Script.Waits.{names_a_wait}
 use Rattle.apply_events.specs.Waits.Schedule.{is_same_turn, is_taken}
 use Rattle.apply_events.specs.Waits.TimeLine.{is_of_turn, moment_from, moment_of, turn_events}
-use Rattle.apply_events.specs.Waits.Turn.{Turn, single, turns, turns_of, whole}
+use Rattle.apply_events.specs.declared.lanes.turn.Turn.{Turn}
+use Rattle.apply_events.specs.Waits.Turn.{single, turns, turns_of, whole}
 use Rattle.apply_events.proofs.Waits.Members.{any_in, flat_map_in, in_any, in_cases, in_head, in_tail, not_in_none}
 use Rattle.apply_events.proofs.Waits.TakenUp.{same_itself}
 use Rattle.apply_events.proofs.Waits.TurnEvents.{OfTurn, of_turn}

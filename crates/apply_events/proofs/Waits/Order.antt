@@ -5,7 +5,7 @@ use Rattle.std.proofs.lemmas.Bool.{cases_lt}
 use Rattle.apply_events.specs.Interleaving.{IsInterleaving}
 use Rattle.apply_events.specs.declared.event.Event.{Event}
 use Rattle.apply_events.specs.OfWorker.{of_worker}
-use Rattle.apply_events.specs.Waits.Moment.{Moment}
+use Rattle.apply_events.specs.declared.lanes.moment.Moment.{Moment}
 use Rattle.apply_events.specs.Waits.TimeLine.{InOrder, Precedes}
 use Rattle.apply_events.proofs.TimeLines.Order.{elsewhere, here, nobody_else, none_is_one, of_part}
 use Rattle.apply_events.proofs.Waits.Moments.{no_later_both}

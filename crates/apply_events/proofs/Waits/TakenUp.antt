@@ -4,11 +4,14 @@ use Rattle.std.specs.Prelude.{option_map}
 use Rattle.std.specs.List.{Contains}
 use Rattle.std.proofs.lemmas.List.Elements.{All-cons, All-nil, All-weaker}
 use Rattle.apply_events.specs.Step.{Work}
-use Rattle.apply_events.specs.Waits.Done.{Taken, end_of_turn, ready_at}
-use Rattle.apply_events.specs.Waits.Moment.{IsNoLater, Moment, first_moment, is_earlier, later_of}
+use Rattle.apply_events.specs.declared.lanes.taken.Taken.{Taken}
+use Rattle.apply_events.specs.Waits.Done.{end_of_turn, ready_at}
+use Rattle.apply_events.specs.declared.lanes.moment.Moment.{Moment}
+use Rattle.apply_events.specs.Waits.Moment.{IsNoLater, first_moment, is_earlier, later_of}
 use Rattle.apply_events.specs.Waits.Schedule.{Ready, earlier_of, first_earliest, first_ready, free_behind, is_same_turn, is_taken, next_of, ready_turn, schedule, scheduled, taken_in, with_next}
 use Rattle.apply_events.specs.Waits.TakenUp.{IsFree, IsReady, WereTakenUp}
-use Rattle.apply_events.specs.Waits.Turn.{Turn, turns}
+use Rattle.apply_events.specs.declared.lanes.turn.Turn.{Turn}
+use Rattle.apply_events.specs.Waits.Turn.{turns}
 use Rattle.apply_events.proofs.Waits.Free.{first_earliest_lt, have_ended, length-free}
 use Rattle.apply_events.proofs.Waits.Members.{in_head, in_tail}
 use Rattle.apply_events.proofs.Waits.Moments.{first_no_later, no_later_on, second_no_later}

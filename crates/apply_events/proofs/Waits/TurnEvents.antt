@@ -13,8 +13,10 @@ use Rattle.apply_events.specs.declared.what.What.TheVariants.{Halted, Start}
 use Rattle.apply_events.specs.ChangeEvents.{in_turn}
 use Rattle.apply_events.specs.Step.{Step, Work}
 use Rattle.apply_events.specs.StepEvents.{between, endings, event, goes_on, halts, phase_after, seconds_of, started, step_events, step_time}
-use Rattle.apply_events.specs.Waits.Done.{Taken, done_among, done_in, end_behind, end_of_turn}
-use Rattle.apply_events.specs.Waits.Moment.{IsNoLater, Moment, later_by}
+use Rattle.apply_events.specs.declared.lanes.taken.Taken.{Taken}
+use Rattle.apply_events.specs.Waits.Done.{done_among, done_in, end_behind, end_of_turn}
+use Rattle.apply_events.specs.declared.lanes.moment.Moment.{Moment}
+use Rattle.apply_events.specs.Waits.Moment.{IsNoLater, later_by}
 use Rattle.apply_model.specs.declared.script.wait.Wait.{Wait}
 use Rattle.apply_events.specs.Waits.TimeLine.{is_of_turn, moment_from, turn_events}
 use Rattle.apply_events.specs.Waits.Turn.{begun_steps}

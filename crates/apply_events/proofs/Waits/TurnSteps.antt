@@ -10,7 +10,8 @@ use Rattle.apply_model.specs.declared.plan.step_kind.StepKind.{StepKind}
 use Rattle.apply_events.specs.ChangeEvents.{begun}
 use Rattle.apply_events.specs.Step.{Step, Work, kinds_of, step_of, steps_of}
 use Rattle.apply_events.specs.StepEvents.{goes_on}
-use Rattle.apply_events.specs.Waits.Turn.{Turn, begun_steps, whole}
+use Rattle.apply_events.specs.declared.lanes.turn.Turn.{Turn}
+use Rattle.apply_events.specs.Waits.Turn.{begun_steps, whole}
 use Rattle.apply_events.proofs.StepNumbers.{AreNumbered, AreNumbered-begun, AreNumbered-drop, steps_of-numbered}
 use Rattle.apply_events.proofs.Waits.Members.{in_cases, in_head, in_tail, not_in_none}
 

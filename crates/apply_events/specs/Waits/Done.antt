@@ -1,11 +1,13 @@
 -- When steps are done and turns are ready, where some turns have been taken up: each in a lane, from a moment on.
-pub use Rattle.apply_events.specs.declared.lanes.taken.Taken.{Taken}
+use Rattle.apply_events.specs.declared.lanes.taken.Taken.{Taken}
 use Rattle.std.specs.Prelude.{ℕ, ◌==◌, List, [], ◌∷◌, Option, Some, None, option_map, if◌then◌else◌}
 use Rattle.apply_events.specs.Step.{Step, Work}
 use Rattle.apply_events.specs.StepEvents.{goes_on, step_time}
-use Rattle.apply_events.specs.Waits.Moment.{Moment, first_moment, later_by, later_of, next_round}
+use Rattle.apply_events.specs.declared.lanes.moment.Moment.{Moment}
+use Rattle.apply_events.specs.Waits.Moment.{first_moment, later_by, later_of, next_round}
 use Rattle.apply_model.specs.declared.script.wait.Wait.{Wait}
-use Rattle.apply_events.specs.Waits.Turn.{Turn, begun_steps, waits_of_turn}
+use Rattle.apply_events.specs.declared.lanes.turn.Turn.{Turn}
+use Rattle.apply_events.specs.Waits.Turn.{begun_steps, waits_of_turn}
 
 -- ---- done
 

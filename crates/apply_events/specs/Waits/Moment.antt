@@ -1,5 +1,5 @@
 -- Moments in lanes: a second, and a round within it.
-pub use Rattle.apply_events.specs.declared.lanes.moment.Moment.{Moment}
+use Rattle.apply_events.specs.declared.lanes.moment.Moment.{Moment}
 use Rattle.std.specs.Prelude.{◌≡◌, ◌≤◌, ℕ, ◌+◌, ◌==◌, ◌&&◌, ◌||◌, Bool, nat_lt, if◌then◌else◌}
 
 abbrev pub first_moment : Moment

@@ -2,9 +2,12 @@
 use Rattle.std.specs.Prelude.{ℕ, zero, suc, ◌+◌, ◌==◌, ◌&&◌, Bool, not, List, [], ◌∷◌, Option, Some, None, get_or, length, option_map, replicate, set, if◌then◌else◌}
 use Rattle.std.specs.List.{list_all, list_any}
 use Rattle.apply_events.specs.Step.{Work}
-use Rattle.apply_events.specs.Waits.Done.{Taken, end_of_turn, ready_at}
-use Rattle.apply_events.specs.Waits.Moment.{Moment, first_moment, is_earlier, later_of}
-use Rattle.apply_events.specs.Waits.Turn.{Turn, turns}
+use Rattle.apply_events.specs.declared.lanes.taken.Taken.{Taken}
+use Rattle.apply_events.specs.Waits.Done.{end_of_turn, ready_at}
+use Rattle.apply_events.specs.declared.lanes.moment.Moment.{Moment}
+use Rattle.apply_events.specs.Waits.Moment.{first_moment, is_earlier, later_of}
+use Rattle.apply_events.specs.declared.lanes.turn.Turn.{Turn}
+use Rattle.apply_events.specs.Waits.Turn.{turns}
 
 -- ---- the turn that is ready first
 

@@ -4,11 +4,14 @@ use Rattle.std.specs.List.{Contains}
 use Rattle.apply_events.specs.Step.{Work}
 use Rattle.apply_events.specs.declared.event.Event.{Event}
 use Rattle.apply_events.specs.Interleaving.{IsInterleaving}
-use Rattle.apply_events.specs.Waits.Done.{Taken, end_of_turn, ready_at}
-use Rattle.apply_events.specs.Waits.Moment.{IsNoLater, Moment}
+use Rattle.apply_events.specs.declared.lanes.taken.Taken.{Taken}
+use Rattle.apply_events.specs.Waits.Done.{end_of_turn, ready_at}
+use Rattle.apply_events.specs.declared.lanes.moment.Moment.{Moment}
+use Rattle.apply_events.specs.Waits.Moment.{IsNoLater}
 use Rattle.apply_events.specs.Waits.Schedule.{is_taken}
 use Rattle.apply_events.specs.Waits.TimeLine.{lane_turns}
-use Rattle.apply_events.specs.Waits.Turn.{Turn, turns}
+use Rattle.apply_events.specs.declared.lanes.turn.Turn.{Turn}
+use Rattle.apply_events.specs.Waits.Turn.{turns}
 
 -- in view of those before it a turn is ready by its begin
 pub record IsReady (work : Work) (before : List Taken) (one : Taken) : Type 0 where

@@ -5,10 +5,12 @@ use Rattle.apply_events.specs.declared.event.Event.{Event}
 use Rattle.apply_events.specs.ChangeEvents.{in_turn}
 use Rattle.apply_events.specs.Interleaving.{IsInterleaving}
 use Rattle.apply_events.specs.StepEvents.{step_events, step_time}
-use Rattle.apply_events.specs.Waits.Done.{Taken}
-use Rattle.apply_events.specs.Waits.Moment.{IsNoLater, Moment}
+use Rattle.apply_events.specs.declared.lanes.taken.Taken.{Taken}
+use Rattle.apply_events.specs.declared.lanes.moment.Moment.{Moment}
+use Rattle.apply_events.specs.Waits.Moment.{IsNoLater}
 use Rattle.apply_events.specs.Waits.Schedule.{schedule}
-use Rattle.apply_events.specs.Waits.Turn.{Turn, begun_steps}
+use Rattle.apply_events.specs.declared.lanes.turn.Turn.{Turn}
+use Rattle.apply_events.specs.Waits.Turn.{begun_steps}
 
 -- ---- what lanes report
 

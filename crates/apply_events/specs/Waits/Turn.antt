@@ -1,5 +1,5 @@
 -- What a lane takes up as a whole: some steps of a change, from which on, and how many.
-pub use Rattle.apply_events.specs.declared.lanes.turn.Turn.{Turn}
+use Rattle.apply_events.specs.declared.lanes.turn.Turn.{Turn}
 use Rattle.std.specs.Prelude.{ℕ, ◌==◌, ◌&&◌, List, [], ◌∷◌, drop, length, take, if◌then◌else◌}
 use Rattle.std.specs.List.{flat_map, range_with_len}
 use Rattle.apply_events.specs.ChangeEvents.{begun}
