@@ -102,7 +102,7 @@ ready_some w taken (name ∷ names) h =
 
 -- ---- tests
 
-same_tests : (a b : Bool) → (a ≡ true → b ≡ true) → (b ≡ true → a ≡ true) → a ≡ b
+pub same_tests : (a b : Bool) → (a ≡ true → b ≡ true) → (b ≡ true → a ≡ true) → a ≡ b
 same_tests true b p q = sym (p refl)
 same_tests false true p q = q refl
 same_tests false false p q = refl
@@ -122,7 +122,7 @@ module _ (w : Work) (n : ℕ) (taken : List Taken) (events : List Event) (up : W
       (one.0, one.1, eq_from one.0.change name.change both.0, eq_from one.0.step name.step both.1)
 
   -- whether a step of a turn goes on
-  goes_at : (turn : Turn) (s : Step) (name : Wait) → Contains (begun_steps w turn) s → name.change ≡ turn.change → name.step ≡ s.number → goes_on_if_begun w name ≡ goes_on s
+  pub goes_at : (turn : Turn) (s : Step) (name : Wait) → Contains (begun_steps w turn) s → name.change ≡ turn.change → name.step ≡ s.number → goes_on_if_begun w name ≡ goes_on s
   goes_at turn s name there change step =
       ap (λ c. option_map_or goes_on (slice_get (steps_of w c) name.step) false) change
       ∙ ap (λ k. option_map_or goes_on (slice_get (steps_of w turn.change) k) false) step

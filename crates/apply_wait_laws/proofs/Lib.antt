@@ -1,8 +1,10 @@
 pub mod Along
 pub mod Behind
+pub mod ByAnyLanes
 pub mod Computed
 pub mod InVain
 pub mod LeftOut
 pub mod Named
 pub mod Waited
+pub mod WholeSteps
 pub mod WithoutWaits

@@ -1,11 +1,11 @@
 -- Words of the laws of waits.
-use Rattle.std.specs.Prelude.{◌≡◌, ◌≤◌, ◌↔◌, ℕ, ◌++◌, ◌==◌, ◌&&◌, ◌∷◌, All, Bool, true, false, List, length, not, slice_get}
-use Rattle.std.specs.List.{Contains, list_all, list_any}
+use Rattle.std.specs.Prelude.{◌≡◌, ◌≤◌, ◌↔◌, ℕ, ◌++◌, ◌==◌, ◌&&◌, ◌∷◌, All, Bool, true, false, List, Some, length, not, slice_get}
+use Rattle.std.specs.List.{Contains, filter, list_all, list_any}
 use Rattle.std.specs.Option.{option_map_or}
 use Rattle.apply_events.specs.declared.event.Event.{Event}
 use Rattle.apply_events.specs.Fits.{HasStep}
-use Rattle.apply_events.specs.Step.{Work, kinds_of, steps_of}
-use Rattle.apply_events.specs.StepEvents.{goes_on}
+use Rattle.apply_events.specs.Step.{Step, Work, kinds_of, steps_of}
+use Rattle.apply_events.specs.StepEvents.{goes_on, step_events}
 use Rattle.apply_model.specs.declared.script.wait.Wait.{Wait}
 use Rattle.apply_model.specs.Script.OutcomeMap.{outcome_of}
 use Rattle.apply_model.specs.Script.Waits.{could_begin, waits_of}
@@ -21,6 +21,22 @@ is_of_step name event = event.change == name.change && event.step == name.step
 -- the step has an event among them
 abbrev pub has_events : List Event → Wait → Bool
 has_events events name = list_any (is_of_step name) events
+
+-- the events of a step
+abbrev pub events_of : Wait → List Event → List Event
+events_of name events = filter (is_of_step name) events
+
+-- the events of a step are all that it has where it begins at a moment in a lane
+pub record IsWhole (work : Work) (events : List Event) (name : Wait) : Type 0 where
+  pub step : Step
+  pub lane : ℕ
+  pub begin : ℕ
+  pub is_step : slice_get (steps_of work name.change) name.step ≡ Some step
+  pub are_all : events_of name events ≡ step_events lane step begin
+
+-- so are those of each step that has some
+abbrev pub AreWhole : Work → List Event → Type 0
+AreWhole work events = (name : Wait) → has_events events name ≡ true → IsWhole work events name
 
 -- behind each event of a step stands none of a step that it waits for
 abbrev pub StandBehindWhatTheyWaitFor : Work → List Event → Type 0

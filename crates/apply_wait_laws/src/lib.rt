@@ -8,6 +8,7 @@ pub use examples::worked_examples;
 
 ghost use Rattle.std.specs.Prelude.{◌≡◌, ◌<◌, ◌↔◌, ℕ, List, false};
 ghost use Rattle.std.specs.List.Sorted.{IsNonDecreasingBy};
+ghost use Rattle.apply_model.specs.declared.script.wait.Wait.{Wait};
 ghost use Rattle.apply_events.specs.Step.{Work};
 ghost use Rattle.apply_model.specs.Script.Waits.{has_waits};
 ghost use Rattle.apply_events.specs.declared.event.Event.{Event};
@@ -16,7 +17,7 @@ ghost use Rattle.apply_events.specs.Waits.Merging.{time_line};
 ghost use Rattle.apply_events.specs.Waits.Schedule.{schedule};
 ghost use Rattle.apply_events.specs.Waits.TakenUp.{IsAppliedInTurns, WereTakenUp};
 ghost use Rattle.apply_events.specs.Waits.TimeLine.{IsTimeLine};
-ghost use Rattle.apply_wait_laws.specs.Laws.{BeginWhereAllIsDone, HasFewSteps, LeaveOutNoneWithoutNeed, LeaveOutWhatWaitsInVain, NamesSteps, StandBehindWhatTheyWaitFor};
+ghost use Rattle.apply_wait_laws.specs.Laws.{AreWhole, BeginWhereAllIsDone, HasFewSteps, LeaveOutNoneWithoutNeed, LeaveOutWhatWaitsInVain, NamesSteps, StandBehindWhatTheyWaitFor, has_events};
 
 /// Where no step names what it waits for, the time line is that of changes which are dealt out in the plan's order.
 pub fn without_waits_changes_are_dealt_out()
@@ -70,4 +71,16 @@ pub fn what_waits_in_vain_is_left_out()
         → IsTimeLine work n events → LeaveOutWhatWaitsInVain work events }
     ensures without_need { (work : Work) (n : ℕ) (events : List Event) → 0 < n → HasFewSteps work → NamesSteps work
         → IsTimeLine work n events → LeaveOutNoneWithoutNeed work events }
+{}
+
+/// A step that has events has all that it has where it begins at a moment in a lane.
+pub fn steps_are_whole()
+    ensures { (work : Work) (n : ℕ) (events : List Event) → 0 < n → IsTimeLine work n events → AreWhole work events }
+{}
+
+/// Which steps begin does not depend on how many lanes there are.
+pub fn any_lanes_begin_the_same_steps()
+    ensures { (work : Work) (n m : ℕ) (events others : List Event) → 0 < n → 0 < m → HasFewSteps work
+        → IsTimeLine work n events → IsTimeLine work m others
+        → (name : Wait) → has_events events name ≡ has_events others name }
 {}
