@@ -1,4 +1,5 @@
 -- Turns that lanes take up, and their time line.
+pub mod Ends
 pub mod Found
 pub mod Free
 pub mod LanesRise

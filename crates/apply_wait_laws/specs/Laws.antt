@@ -1,11 +1,13 @@
 -- Words of the laws of waits.
-use Rattle.std.specs.Prelude.{◌≡◌, ◌≤◌, ◌↔◌, ℕ, ◌++◌, ◌==◌, ◌&&◌, ◌∷◌, All, Bool, true, false, List, Some, length, not, slice_get}
+use Rattle.std.specs.Prelude.{◌≡◌, ◌≤◌, ◌↔◌, ℕ, ◌++◌, ◌==◌, ◌&&◌, ◌∷◌, All, Bool, true, false, List, Some, length, not, slice_get, sum_by}
 use Rattle.std.specs.List.{Contains, filter, list_all, list_any}
 use Rattle.std.specs.Option.{option_map_or}
 use Rattle.apply_events.specs.declared.event.Event.{Event}
+use Rattle.apply_events.specs.declared.lanes.taken.Taken.{Taken}
 use Rattle.apply_events.specs.Fits.{HasStep}
 use Rattle.apply_events.specs.Step.{Step, Work, kinds_of, steps_of}
-use Rattle.apply_events.specs.StepEvents.{goes_on, step_events}
+use Rattle.apply_events.specs.Waits.Turn.{begun_steps}
+use Rattle.apply_events.specs.StepEvents.{goes_on, step_events, step_time}
 use Rattle.apply_model.specs.declared.script.wait.Wait.{Wait}
 use Rattle.apply_model.specs.Script.OutcomeMap.{outcome_of}
 use Rattle.apply_model.specs.Script.Waits.{could_begin, waits_of}
@@ -82,3 +84,9 @@ LeaveOutWhatWaitsInVain work events = (c k : ℕ) → HasStep work.plan c k → 
 abbrev pub LeaveOutNoneWithoutNeed : Work → List Event → Type 0
 LeaveOutNoneWithoutNeed work events = ((name : Wait) → has_stopped work events name ≡ false)
     → (c k : ℕ) → HasStep work.plan c k → could_begin work.script c k ≡ true → has_events events (record { change = c; step = k }) ≡ true
+
+-- ---- how long it takes
+
+-- the times of all steps that some turns begin
+abbrev pub time_of_all : Work → List Taken → ℕ
+time_of_all work taken = sum_by (λ one. sum_by step_time (begun_steps work one.turn)) taken

@@ -6,7 +6,7 @@ mod examples;
 
 pub use examples::worked_examples;
 
-ghost use Rattle.std.specs.Prelude.{◌≡◌, ◌<◌, ◌↔◌, ℕ, List, false};
+ghost use Rattle.std.specs.Prelude.{◌≡◌, ◌<◌, ◌≤◌, ◌↔◌, ℕ, All, List, false};
 ghost use Rattle.std.specs.List.Sorted.{IsNonDecreasingBy};
 ghost use Rattle.apply_model.specs.declared.script.wait.Wait.{Wait};
 ghost use Rattle.apply_events.specs.Step.{Work};
@@ -17,7 +17,7 @@ ghost use Rattle.apply_events.specs.Waits.Merging.{time_line};
 ghost use Rattle.apply_events.specs.Waits.Schedule.{schedule};
 ghost use Rattle.apply_events.specs.Waits.TakenUp.{IsAppliedInTurns, WereTakenUp};
 ghost use Rattle.apply_events.specs.Waits.TimeLine.{IsTimeLine};
-ghost use Rattle.apply_wait_laws.specs.Laws.{AreWhole, BeginWhereAllIsDone, HasFewSteps, LeaveOutNoneWithoutNeed, LeaveOutWhatWaitsInVain, NamesSteps, StandBehindWhatTheyWaitFor, has_events};
+ghost use Rattle.apply_wait_laws.specs.Laws.{AreWhole, BeginWhereAllIsDone, HasFewSteps, LeaveOutNoneWithoutNeed, LeaveOutWhatWaitsInVain, NamesSteps, StandBehindWhatTheyWaitFor, has_events, time_of_all};
 
 /// Where no step names what it waits for, the time line is that of changes which are dealt out in the plan's order.
 pub fn without_waits_changes_are_dealt_out()
@@ -83,4 +83,10 @@ pub fn any_lanes_begin_the_same_steps()
     ensures { (work : Work) (n m : ℕ) (events others : List Event) → 0 < n → 0 < m → HasFewSteps work
         → IsTimeLine work n events → IsTimeLine work m others
         → (name : Wait) → has_events events name ≡ has_events others name }
+{}
+
+/// It ends no later than all steps that begin take together.
+pub fn a_time_line_ends_by_the_sum_of_all_times()
+    ensures { (work : Work) (n : ℕ) (events : List Event) → 0 < n → IsTimeLine work n events
+        → All (λ event. event.at ≤ time_of_all work (schedule work n)) events }
 {}

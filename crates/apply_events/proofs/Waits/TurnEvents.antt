@@ -144,13 +144,13 @@ pub record OfSteps (lane n : ℕ) (begin at : Moment) (steps : List Step) (e : E
   pub until : (m : Moment) → done_among e.step at steps ≡ Some m → IsNoLater (moment_from begin e) m
   pub last : IsNoLater (moment_from begin e) (end_behind at steps)
 
-done_first : (k : ℕ) (at : Moment) (s : Step) (steps : List Step) → s.number ≡ k → done_among k at (s ∷ steps) ≡ cond (goes_on s) (Some (later_by (step_time s) at)) None
+pub done_first : (k : ℕ) (at : Moment) (s : Step) (steps : List Step) → s.number ≡ k → done_among k at (s ∷ steps) ≡ cond (goes_on s) (Some (later_by (step_time s) at)) None
 done_first k at s steps is = ap (λ t. cond t (cond (goes_on s) (Some (later_by (step_time s) at)) None) (done_among k (later_by (step_time s) at) steps)) (eq-eqb s.number k is)
 
-done_later : (k : ℕ) (at : Moment) (s : Step) (steps : List Step) → s.number ≢ k → done_among k at (s ∷ steps) ≡ done_among k (later_by (step_time s) at) steps
+pub done_later : (k : ℕ) (at : Moment) (s : Step) (steps : List Step) → s.number ≢ k → done_among k at (s ∷ steps) ≡ done_among k (later_by (step_time s) at) steps
 done_later k at s steps ne = ap (λ t. cond t (cond (goes_on s) (Some (later_by (step_time s) at)) None) (done_among k (later_by (step_time s) at) steps)) (ne_eqb s.number k ne)
 
-done_if : (t : Bool) (a m : Moment) → cond t (Some a) None ≡ Some m → (t ≡ true) × (a ≡ m)
+pub done_if : (t : Bool) (a m : Moment) → cond t (Some a) None ≡ Some m → (t ≡ true) × (a ≡ m)
 done_if true a m is = (refl, cc)
 done_if false a m is = absurd cc
 
