@@ -3,7 +3,6 @@ use Rattle.std.proofs.Common.{◌≡◌, ◌≤◌, zero, suc, List, [], ◌∷�
 use Rattle.std.specs.List.Sorted.{IsNonDecreasingBy}
 use Rattle.apply_events.specs.declared.event.Event.{Event}
 use Rattle.apply_events.specs.declared.lanes.taken.Taken.{Taken}
-use Rattle.apply_events.specs.declared.lanes.moment.Moment.{Moment}
 use Rattle.apply_events.specs.Waits.TimeLine.{InOrder, Precedes, is_of_turn, moment_from, moment_of}
 
 -- the second of an event's moment is its own

@@ -1,6 +1,6 @@
 -- Each event of a step stands behind those of the steps that it waits for.
-use Rattle.std.proofs.Common.{◌≡◌, ◌≢◌, ℕ, zero, suc, ◌+◌, ◌<◌, ◌≤◌, All, Bool, true, false, ◌&&◌, List, [], ◌∷◌, ◌++◌, cond, length, Option, Some, None, refl, sym, ap, ◌∙◌, subst, ⊎_elim, ◌⊎◌, inl, inr, arith, eqb, eq-eqb, lt-ltb, ne_eqb}
-use Rattle.std.specs.List.{Contains, filter, list_any}
+use Rattle.std.proofs.Common.{◌≡◌, ◌≢◌, ℕ, zero, suc, ◌+◌, ◌<◌, ◌≤◌, Bool, true, false, ◌&&◌, List, [], ◌∷◌, ◌++◌, cond, length, Option, Some, None, refl, sym, ap, ◌∙◌, subst, ⊎_elim, ◌⊎◌, inl, inr, arith, eqb, eq-eqb, lt-ltb, ne_eqb}
+use Rattle.std.specs.List.{Contains, filter}
 use Rattle.std.proofs.lemmas.Bool.{and_parts, cases_Bool, true≢false}
 use Rattle.std.proofs.lemmas.Bool.Decides.{eqb_tells}
 use Rattle.std.proofs.lemmas.List.Elements.{All-contains_itself, All-weaker, Contains-append_right, filter-append}
@@ -24,8 +24,8 @@ use Rattle.apply_wait_laws.specs.Laws.{HasFewSteps, StandBehindWhatTheyWaitFor, 
 use Rattle.apply_events.proofs.Waits.Found.{IsFound, IsOnly, found, part_is}
 use Rattle.apply_events.proofs.Waits.Members.{filter_all, in_any, in_cases, in_filter, in_head, in_split, in_tail, not_in_none, split_in}
 use Rattle.apply_events.proofs.Waits.Moments.{no_later_on, not_by_then}
-use Rattle.apply_events.proofs.Waits.Once.{AreTurns, IsTurnOf, is_split, known_turn, moment_is, one_event, one_turn, same_taken, turn_is}
-use Rattle.apply_events.proofs.Waits.TurnEvents.{OfTurn, done_there, of_turn, turn_has}
+use Rattle.apply_events.proofs.Waits.Once.{AreTurns, IsTurnOf, is_split, known_turn, moment_is, one_event, same_taken}
+use Rattle.apply_events.proofs.Waits.TurnEvents.{done_there, of_turn, turn_has}
 use Rattle.apply_events.proofs.Waits.TurnSteps.{all_at, begun_numbered}
 use Rattle.apply_wait_laws.proofs.Waited.{IsDoneBefore, are_done_before}
 

@@ -1,6 +1,6 @@
 -- Which steps begin does not depend on how many lanes there are.
-use Rattle.std.proofs.Common.{◌≡◌, ◌≢◌, ℕ, zero, suc, ◌+◌, ◌<◌, ◌≤◌, All, Bool, true, ◌&&◌, List, [], ◌∷◌, ◌++◌, length, Option, Some, refl, sym, ap, ◌∙◌, subst, ⊎_elim, ◌⊎◌, inl, inr, arith}
-use Rattle.std.specs.List.{Contains, list_all}
+use Rattle.std.proofs.Common.{◌≡◌, ℕ, zero, suc, ◌<◌, true, List, [], ◌∷◌, ◌++◌, length, Some, refl, sym, ap, ◌∙◌, subst, ⊎_elim, inl, inr, arith}
+use Rattle.std.specs.List.{Contains}
 use Rattle.std.proofs.lemmas.Bool.{and_from}
 use Rattle.std.proofs.lemmas.List.{append_assoc}
 use Rattle.std.proofs.lemmas.List.Elements.{Contains-append_right}
@@ -13,20 +13,19 @@ use Rattle.apply_events.specs.declared.lanes.turn.Turn.{Turn}
 use Rattle.apply_events.specs.Fits.{HasStep}
 use Rattle.apply_events.specs.Interleaving.{IsInterleaving}
 use Rattle.apply_events.specs.Step.{Step, Work, kinds_of, step_of, steps_of}
-use Rattle.apply_events.specs.StepEvents.{goes_on}
 use Rattle.apply_events.specs.Waits.Done.{done_at}
 use Rattle.apply_events.specs.Waits.TakenUp.{WereTakenUp}
 use Rattle.apply_events.specs.Waits.TimeLine.{lane_turns}
-use Rattle.apply_events.specs.Waits.Turn.{begun_steps, waits_of_turn, whole}
+use Rattle.apply_events.specs.Waits.Turn.{begun_steps, waits_of_turn}
 use Rattle.apply_events.proofs.StepNumbers.{steps_of-numbered}
 use Rattle.apply_events.proofs.Waits.Found.{found}
-use Rattle.apply_events.proofs.Waits.Members.{all_in, in_cases, in_head, in_tail, not_in_none}
+use Rattle.apply_events.proofs.Waits.Members.{all_in, in_cases, in_head, not_in_none}
 use Rattle.apply_events.proofs.Waits.Once.{IsTurnOf, known_turn}
-use Rattle.apply_events.proofs.Waits.TurnEvents.{done_there, turn_has}
+use Rattle.apply_events.proofs.Waits.TurnEvents.{done_there}
 use Rattle.apply_events.proofs.Waits.TurnSteps.{all_at, begun_of_change, begun_within, has_two, length-steps_of, numbered_in, second_behind_first}
 use Rattle.apply_wait_laws.specs.Laws.{BeginWhereAllIsDone, HasFewSteps, goes_on_if_begun, has_events, is_done_along}
 use Rattle.apply_wait_laws.proofs.Behind.{are_turns, done_found, no_names, none_named, single_count, waits_are}
-use Rattle.apply_wait_laws.proofs.LeftOut.{goes_at, has_is, same_tests}
+use Rattle.apply_wait_laws.proofs.LeftOut.{goes_at, has_is}
 use Rattle.apply_wait_laws.proofs.Named.{named}
 use Rattle.apply_wait_laws.proofs.Waited.{IsDoneBefore, are_done_before}
 

@@ -1,7 +1,7 @@
 -- A step has events exactly where each step that it waits for is done.
-use Rattle.std.proofs.Common.{◌≡◌, ◌≢◌, ℕ, zero, suc, ◌+◌, ◌<◌, ◌≤◌, All, Bool, true, false, ◌&&◌, List, [], ◌∷◌, ◌++◌, cond, length, map, Option, Some, None, refl, sym, ap, ◌∙◌, subst, ⊎_elim, ◌⊎◌, inl, inr, arith, eqb, eq-eqb, ne_eqb}
+use Rattle.std.proofs.Common.{◌≡◌, ℕ, zero, suc, ◌+◌, ◌<◌, ◌≤◌, Bool, true, false, ◌&&◌, List, [], ◌∷◌, cond, length, map, Option, Some, None, refl, sym, ap, ◌∙◌, subst, ⊎_elim, inl, inr, arith, eqb, eq-eqb}
 use Rattle.std.specs.Prelude.{option_map, slice_get}
-use Rattle.std.specs.List.{Contains, enumerate_from, list_all, list_any, range_with_len}
+use Rattle.std.specs.List.{Contains, enumerate_from, list_all, range_with_len}
 use Rattle.std.specs.Option.{option_map_or}
 use Rattle.std.proofs.lemmas.Bool.{and_from, and_parts, cases_Bool, cases_eq, true≢false}
 use Rattle.apply_model.specs.Plan.ResourceChange.{ResourceChange}
@@ -19,7 +19,7 @@ use Rattle.apply_model.specs.declared.script.wait.Wait.{Wait}
 use Rattle.apply_model.specs.Script.Waits.{waits_of}
 use Rattle.apply_events.specs.Waits.Schedule.{is_taken}
 use Rattle.apply_events.specs.Waits.TakenUp.{WereTakenUp}
-use Rattle.apply_events.specs.Waits.TimeLine.{lane_turns, turn_events}
+use Rattle.apply_events.specs.Waits.TimeLine.{lane_turns}
 use Rattle.apply_events.specs.declared.lanes.turn.Turn.{Turn}
 use Rattle.apply_events.specs.Waits.Turn.{begun_steps, single, turns, turns_of, waits_of_turn, whole}
 use Rattle.apply_wait_laws.specs.Laws.{BeginWhereAllIsDone, HasFewSteps, goes_on_if_begun, has_events, is_done_along, is_of_step}
@@ -27,8 +27,8 @@ use Rattle.apply_wait_laws.proofs.Behind.{are_turns, eq_from, is_waited_for, no_
 use Rattle.apply_events.proofs.Waits.Found.{IsFound, found, told}
 use Rattle.apply_events.proofs.Waits.Members.{all_in, any_in, in_all, in_any, in_cases, in_flat_map, in_head, in_tail, not_in_none}
 use Rattle.apply_events.proofs.Waits.Once.{AreTurns, IsTurnOf, in_list, is_split, known_turn}
-use Rattle.apply_events.proofs.Waits.TurnEvents.{OfTurn, done_then, done_there, of_turn, turn_has}
-use Rattle.apply_events.proofs.Waits.TurnSteps.{HasTwo, all_at, begun_of_change, first_begins, has_two, second_begins, second_behind_first, step_at_number}
+use Rattle.apply_events.proofs.Waits.TurnEvents.{done_then, done_there, turn_has}
+use Rattle.apply_events.proofs.Waits.TurnSteps.{all_at, begun_of_change, first_begins, has_two, second_begins, second_behind_first, step_at_number}
 
 -- ---- the turn of a step
 

@@ -5,6 +5,7 @@ pub mod Computed
 pub mod InVain
 pub mod LeftOut
 pub mod Named
+pub mod Queued
 pub mod Waited
 pub mod WholeSteps
 pub mod WithoutWaits

@@ -1,5 +1,5 @@
 -- The steps that a script names.
-use Rattle.std.proofs.Common.{◌≡◌, ℕ, zero, suc, ◌<◌, Bool, true, false, ◌||◌, List, [], ◌∷◌, Option, Some, None, length, refl, sym, ◌∙◌, arith, ltb, lt-ltb}
+use Rattle.std.proofs.Common.{◌≡◌, ℕ, zero, suc, Bool, true, false, ◌||◌, List, [], ◌∷◌, Option, Some, None, length, refl, sym, ◌∙◌, arith, ltb, lt-ltb}
 use Rattle.std.specs.Prelude.{option_and_then, slice_get, unwrap_or}
 use Rattle.std.specs.List.{list_any}
 use Rattle.std.specs.Option.{option_map_or}

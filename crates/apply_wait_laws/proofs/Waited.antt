@@ -14,13 +14,13 @@ use Rattle.apply_events.proofs.Waits.Moments.{first_no_later, no_later_on, secon
 abbrev pub IsDoneBefore : Work → List Taken → Moment → Wait → Type 0
 IsDoneBefore w taken at name = (m : Moment) × (done_at w taken name ≡ Some m) × IsNoLater (next_round m) at
 
-both_are : (a b : Option Moment) (at : Moment) → later_if_both a b ≡ Some at
+pub both_are : (a b : Option Moment) (at : Moment) → later_if_both a b ≡ Some at
     → (p : Moment) × (q : Moment) × (a ≡ Some p) × (b ≡ Some q) × (at ≡ later_of p q)
 both_are None b at is = absurd cc
 both_are (Some p) None at is = absurd cc
 both_are (Some p) (Some q) at is = (p, q, refl, refl, cc)
 
-round_is : (a : Option Moment) (p : Moment) → option_map next_round a ≡ Some p → (m : Moment) × (a ≡ Some m) × (p ≡ next_round m)
+pub round_is : (a : Option Moment) (p : Moment) → option_map next_round a ≡ Some p → (m : Moment) × (a ≡ Some m) × (p ≡ next_round m)
 round_is None p is = absurd cc
 round_is (Some m) p is = (m, refl, cc)
 

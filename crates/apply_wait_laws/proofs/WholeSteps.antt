@@ -1,5 +1,5 @@
 -- A step that has events has all of them, in one lane, from one moment on.
-use Rattle.std.proofs.Common.{◌≡◌, ◌≢◌, ℕ, ◌+◌, ◌<◌, ◌≤◌, All, Bool, true, ◌&&◌, List, [], ◌∷◌, ◌++◌, Option, Some, refl, sym, ap, ◌∙◌, subst, ⊎_elim, arith, eqb, eq-eqb}
+use Rattle.std.proofs.Common.{◌≡◌, ℕ, ◌+◌, true, ◌&&◌, List, [], ◌∷◌, ◌++◌, sym, ap, ◌∙◌, ⊎_elim, arith, eqb, eq-eqb}
 use Rattle.std.specs.Prelude.{slice_get}
 use Rattle.std.specs.List.{Contains, filter}
 use Rattle.std.proofs.lemmas.Bool.{and_parts}
@@ -13,7 +13,7 @@ use Rattle.apply_events.specs.Interleaving.{IsInterleaving}
 use Rattle.apply_events.specs.Step.{Step, Work, steps_of}
 use Rattle.apply_events.specs.StepEvents.{step_events, step_time}
 use Rattle.apply_events.specs.Waits.TakenUp.{WereTakenUp}
-use Rattle.apply_events.specs.Waits.TimeLine.{lane_turns, turn_events}
+use Rattle.apply_events.specs.Waits.TimeLine.{lane_turns}
 use Rattle.apply_events.specs.Waits.Turn.{begun_steps}
 use Rattle.apply_events.proofs.StepNumbers.{AreNumbered}
 use Rattle.apply_events.proofs.Waits.Found.{IsOnly, found, part_is}
@@ -21,7 +21,7 @@ use Rattle.apply_events.proofs.Waits.Members.{filter_all, filter_no, in_cases, i
 use Rattle.apply_events.proofs.Waits.Once.{one_event}
 use Rattle.apply_events.proofs.Waits.TurnEvents.{of_step, of_turn}
 use Rattle.apply_events.proofs.Waits.TurnSteps.{begun_numbered, begun_of_change, numbered_in, step_at_number, step_names_change}
-use Rattle.apply_wait_laws.specs.Laws.{AreWhole, IsWhole, has_events, is_of_step}
+use Rattle.apply_wait_laws.specs.Laws.{AreWhole, is_of_step}
 use Rattle.apply_wait_laws.proofs.Behind.{are_turns, eq_from}
 use Rattle.apply_wait_laws.proofs.LeftOut.{has_is}
 
@@ -58,9 +58,11 @@ step_part lane n (x ∷ steps) at s name numbered there number change =
     let none : filter p rest ≡ [] = filter_no p rest (λ e inside yes.
     let found = step_of_event lane steps (at + step_time x) e inside in
     let low = (numbered_in (n + 1) steps found.0 numbered.1 found.1).0 in
-    let of = (of_name name e yes).1 in let its = found.2 in absurd (omega arith)) in
-    (at, filter-append p (step_events lane x at) rest ∙ ap (λ l. l ++ filter p rest) all ∙ ap (λ l. step_events lane x at ++ l) none
-    ∙ append-nil (step_events lane x at) ∙ ap (λ y. step_events lane y at) is))
+    let of = (of_name name e yes).1 in let its = found.2 in absurd (omega arith)) in (
+      at,
+      filter-append p (step_events lane x at) rest ∙ ap (λ l. l ++ filter p rest) all ∙ ap (λ l. step_events lane x at ++ l) none
+          ∙ append-nil (step_events lane x at) ∙ ap (λ y. step_events lane y at) is,
+    ))
     (λ (later : Contains steps s).
     let inner = step_part lane (n + 1) steps (at + step_time x) s name numbered.1 later number change in
     let low = (numbered_in (n + 1) steps s numbered.1 later).0 in

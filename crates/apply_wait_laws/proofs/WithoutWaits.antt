@@ -1,6 +1,6 @@
 -- Where no step names what it waits for: changes are taken up in the plan's order, all rounds are 0, and each lane reports what
 -- it reports of the changes that are dealt out to it.
-use Rattle.std.proofs.Common.{◌≡◌, ◌≢◌, ℕ, zero, suc, ◌+◌, ◌-◌, ◌<◌, ◌≤◌, All, Bool, true, false, List, [], ◌∷◌, ◌++◌, ◌||◌, ◌&&◌, Option, Some, None, cond, drop, get_or, length, map, replicate, set, sum_by, take, refl, sym, ap, ◌∙◌, subst, ⊎_elim, arith, eqb, ltb, leb, eq-eqb, ne_eqb, lt-ltb, le-ltb, append_assoc}
+use Rattle.std.proofs.Common.{◌≡◌, ◌≢◌, ℕ, zero, suc, ◌+◌, ◌-◌, ◌<◌, ◌≤◌, All, Bool, true, false, List, [], ◌∷◌, ◌++◌, ◌||◌, ◌&&◌, Option, Some, None, cond, get_or, length, map, replicate, set, sum_by, refl, sym, ap, ◌∙◌, subst, ⊎_elim, arith, eqb, ltb, leb, eq-eqb, ne_eqb, lt-ltb, le-ltb, append_assoc}
 use Rattle.std.specs.Prelude.{not, option_map}
 use Rattle.std.specs.List.{flat_map, list_all, range_with_len}
 use Rattle.std.proofs.lemmas.Bool.{cases_eq, cases_lt, le-leb, lt-leb}
@@ -12,7 +12,6 @@ use Rattle.std.proofs.lemmas.List.Sums.{sum_by-cons}
 use Rattle.std.specs.List.{enumerate_from}
 use Rattle.apply_events.specs.declared.event.Event.{Event}
 use Rattle.apply_events.specs.ChangeEvents.{begun, change_events, in_turn, span_of}
-use Rattle.apply_events.specs.Interleaving.{IsInterleaving}
 use Rattle.apply_events.specs.Lanes.Dealing.{before, dealt, first_least, kept, lanes}
 use Rattle.apply_events.specs.Lanes.TimeLine as plain
 use Rattle.apply_events.specs.Step.{Step, Work, kinds_of, step_of, steps_of}
@@ -20,16 +19,14 @@ use Rattle.apply_events.specs.StepEvents.{step_events, step_time}
 use Rattle.apply_events.specs.declared.lanes.taken.Taken.{Taken}
 use Rattle.apply_events.specs.Waits.Done.{done_by, end_behind, end_of_turn, ready_at}
 use Rattle.apply_events.specs.declared.lanes.moment.Moment.{Moment}
-use Rattle.apply_events.specs.Waits.Moment.{IsNoLater, first_moment, is_earlier, later_by, later_of}
+use Rattle.apply_events.specs.Waits.Moment.{first_moment, is_earlier, later_by, later_of}
 use Rattle.apply_wait_laws.proofs.Named.{named, names_some}
-use Rattle.apply_model.specs.declared.script.wait.Wait.{Wait}
-use Rattle.apply_events.specs.Waits.Schedule.{Ready, earlier_of, first_earliest, first_ready, free_behind, is_taken, next_of, ready_turn, schedule, scheduled, taken_in, with_next}
+use Rattle.apply_events.specs.Waits.Schedule.{Ready, earlier_of, first_earliest, first_ready, free_behind, is_taken, ready_turn, schedule, scheduled, taken_in, with_next}
 use Rattle.apply_events.specs.Waits.TimeLine.{InOrder, IsTimeLine, Precedes, is_of_turn, lane_turns, moment_from, moment_of, turn_events}
-use Rattle.apply_events.specs.declared.lanes.turn.Turn.{Turn}
-use Rattle.apply_events.specs.Waits.Turn.{begun_steps, single, turns, turns_of, waits_of_turn, whole}
+use Rattle.apply_events.specs.Waits.Turn.{begun_steps, single, turns, turns_of, whole}
 use Rattle.apply_events.proofs.TimeLines.Dealt.{length_dealt}
 use Rattle.apply_wait_laws.proofs.Along.{no_later, second_is}
-use Rattle.apply_events.proofs.Waits.Moments.{later_by_none, later_by_some, no_later_both, same_moment}
+use Rattle.apply_events.proofs.Waits.Moments.{later_by_none, later_by_some, same_moment}
 
 -- ---- tests
 
@@ -343,9 +340,9 @@ round_is [] e h = refl
 round_is (one ∷ others) e h =
     elim (is_of_turn one.turn e) as (λ t. (cond t (moment_from one.begin e) (moment_of others e)).round ≡ 0) [
       | true ↦ elim (eqb e.at one.begin.second) as (λ t. cond t one.begin.round 0 ≡ 0) [
-          | true ↦ All-head (λ (o : Taken). o.begin.round ≡ 0) one others h
-          | false ↦ refl
-        ]
+        | true ↦ All-head (λ (o : Taken). o.begin.round ≡ 0) one others h
+        | false ↦ refl
+      ]
       | false ↦ round_is others e (All-tail (λ (o : Taken). o.begin.round ≡ 0) one others h)
     ]
 

@@ -1,6 +1,5 @@
 -- Worked examples: what happens in how many lanes to a few changes.
-use Rattle.std.specs.Prelude.{◌≡◌, ℕ, List, [], ◌∷◌, Bool, true, false, Option, Some, None, get_or, map, slice_get, if◌then◌else◌}
-use Rattle.std.specs.Option.{option_map_or}
+use Rattle.std.specs.Prelude.{◌≡◌, ℕ, List, [], ◌∷◌, Bool, true, false, Some, None, map, if◌then◌else◌}
 use Rattle.apply_model.specs.declared.plan.key.Key.TheVariants as key
 use Rattle.apply_model.specs.declared.plan.mode.Mode.TheVariants as mode
 use Rattle.apply_model.specs.declared.plan.step_kind.StepKind.{StepKind}
@@ -88,12 +87,16 @@ Happens n changes events = map told (time_line (work [] changes) n) ≡ events
 
 abbrev pub a : Wait
 a = step 0 0
+
 abbrev pub b : Wait
 b = step 1 0
+
 abbrev pub c : Wait
 c = step 2 0
+
 abbrev pub d : Wait
 d = step 3 0
+
 abbrev pub e : Wait
 e = step 4 0
 

@@ -1,12 +1,16 @@
 -- Words of the laws of waits.
-use Rattle.std.specs.Prelude.{◌≡◌, ◌≤◌, ◌↔◌, ℕ, ◌++◌, ◌==◌, ◌&&◌, ◌∷◌, All, Bool, true, false, List, Some, length, not, slice_get, sum_by}
+use Rattle.std.specs.Prelude.{◌≡◌, ◌<◌, ◌≤◌, ◌↔◌, ℕ, ◌++◌, ◌==◌, ◌&&◌, ◌∷◌, All, Bool, true, false, List, Some, get_or, length, not, slice_get, sum_by}
 use Rattle.std.specs.List.{Contains, filter, list_all, list_any}
 use Rattle.std.specs.Option.{option_map_or}
 use Rattle.apply_events.specs.declared.event.Event.{Event}
 use Rattle.apply_events.specs.declared.lanes.taken.Taken.{Taken}
 use Rattle.apply_events.specs.Fits.{HasStep}
 use Rattle.apply_events.specs.Step.{Step, Work, kinds_of, steps_of}
-use Rattle.apply_events.specs.Waits.Turn.{begun_steps}
+use Rattle.apply_events.specs.declared.lanes.moment.Moment.{Moment}
+use Rattle.apply_events.specs.Waits.Done.{ready_at}
+use Rattle.apply_events.specs.Waits.Moment.{IsNoLater, first_moment, later_of}
+use Rattle.apply_events.specs.Waits.Schedule.{free_behind, is_taken}
+use Rattle.apply_events.specs.Waits.Turn.{begun_steps, turns}
 use Rattle.apply_events.specs.StepEvents.{goes_on, step_events, step_time}
 use Rattle.apply_model.specs.declared.script.wait.Wait.{Wait}
 use Rattle.apply_model.specs.Script.OutcomeMap.{outcome_of}
@@ -90,3 +94,16 @@ LeaveOutNoneWithoutNeed work events = ((name : Wait) → has_stopped work events
 -- the times of all steps that some turns begin
 abbrev pub time_of_all : Work → List Taken → ℕ
 time_of_all work taken = sum_by (λ one. sum_by step_time (begun_steps work one.turn)) taken
+
+-- ---- the queue
+
+-- In view of those before it a turn is the next one: it is ready first of all that were not taken up, no lane is free before its own, and it
+-- begins when it is ready and its lane is free, no earlier than any of those before it.
+pub record IsNext (work : Work) (n : ℕ) (before : List Taken) (one : Taken) : Type 0 where
+  pub at : Moment
+  pub ready : ready_at work before one.turn ≡ Some at
+  pub first : All (λ turn. is_taken before turn ≡ false → (m : Moment) → ready_at work before turn ≡ Some m → IsNoLater at m) (turns work)
+  pub begin : one.begin ≡ later_of at (get_or (free_behind work n before) one.lane first_moment)
+  pub free : (lane : ℕ) → lane < n
+      → IsNoLater (get_or (free_behind work n before) one.lane first_moment) (get_or (free_behind work n before) lane first_moment)
+  pub no_earlier : All (λ other. IsNoLater other.begin one.begin) before

@@ -4,20 +4,21 @@
 
 mod examples;
 
-pub use examples::worked_examples;
-
-ghost use Rattle.std.specs.Prelude.{◌≡◌, ◌<◌, ◌≤◌, ◌↔◌, ℕ, All, List, false};
+ghost use Rattle.std.specs.Prelude.{◌≡◌, ◌<◌, ◌≤◌, ◌↔◌, ◌++◌, ◌∷◌, ℕ, All, List, false};
 ghost use Rattle.std.specs.List.Sorted.{IsNonDecreasingBy};
 ghost use Rattle.apply_model.specs.declared.script.wait.Wait.{Wait};
 ghost use Rattle.apply_events.specs.Step.{Work};
 ghost use Rattle.apply_model.specs.Script.Waits.{has_waits};
 ghost use Rattle.apply_events.specs.declared.event.Event.{Event};
+ghost use Rattle.apply_events.specs.declared.lanes.taken.Taken.{Taken};
 ghost use Rattle.apply_events.specs.Lanes.TimeLine as plain;
 ghost use Rattle.apply_events.specs.Waits.Merging.{time_line};
 ghost use Rattle.apply_events.specs.Waits.Schedule.{schedule};
 ghost use Rattle.apply_events.specs.Waits.TakenUp.{IsAppliedInTurns, WereTakenUp};
 ghost use Rattle.apply_events.specs.Waits.TimeLine.{IsTimeLine};
-ghost use Rattle.apply_wait_laws.specs.Laws.{AreWhole, BeginWhereAllIsDone, HasFewSteps, LeaveOutNoneWithoutNeed, LeaveOutWhatWaitsInVain, NamesSteps, StandBehindWhatTheyWaitFor, has_events, time_of_all};
+ghost use Rattle.apply_wait_laws.specs.Laws.{AreWhole, BeginWhereAllIsDone, HasFewSteps, IsNext, LeaveOutNoneWithoutNeed, LeaveOutWhatWaitsInVain, NamesSteps, StandBehindWhatTheyWaitFor, has_events, time_of_all};
+
+pub use examples::worked_examples;
 
 /// Where no step names what it waits for, the time line is that of changes which are dealt out in the plan's order.
 pub fn without_waits_changes_are_dealt_out()
@@ -89,4 +90,10 @@ pub fn any_lanes_begin_the_same_steps()
 pub fn a_time_line_ends_by_the_sum_of_all_times()
     ensures { (work : Work) (n : ℕ) (events : List Event) → 0 < n → IsTimeLine work n events
         → All (λ event. event.at ≤ time_of_all work (schedule work n)) events }
+{}
+
+/// Who is ready first goes first, into the lane that is free first, and begins as soon as it may. Begins never fall.
+pub fn who_is_ready_first_goes_first()
+    ensures { (work : Work) (n : ℕ) (later before : List Taken) (one : Taken) → 0 < n → schedule work n ≡ later ++ one ∷ before
+        → IsNext work n before one }
 {}

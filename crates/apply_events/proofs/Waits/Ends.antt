@@ -1,8 +1,8 @@
 -- When turns begin and end: no later than all turns before them take together.
-use Rattle.std.proofs.Common.{◌≡◌, ◌≢◌, ℕ, zero, suc, ◌+◌, ◌<◌, ◌≤◌, All, Bool, true, false, List, [], ◌∷◌, ◌++◌, Option, Some, None, cond, get_or, length, replicate, set, sum_by, refl, sym, ap, ◌∙◌, subst, ⊎_elim, ◌⊎◌, inl, inr, arith}
+use Rattle.std.proofs.Common.{◌≡◌, ℕ, zero, suc, ◌+◌, ◌<◌, ◌≤◌, true, false, List, [], ◌∷◌, Option, Some, None, cond, get_or, length, replicate, set, sum_by, refl, sym, ap, ◌∙◌, ⊎_elim, ◌⊎◌, inl, inr, arith}
 use Rattle.std.specs.Prelude.{option_map}
 use Rattle.std.specs.List.{Contains}
-use Rattle.std.proofs.lemmas.Bool.{cases_eq, cases_lt}
+use Rattle.std.proofs.lemmas.Bool.{cases_eq}
 use Rattle.std.proofs.lemmas.List.{get_or-set_other, get_or-set_same}
 use Rattle.std.proofs.lemmas.List.Sums.{sum_by-cons}
 use Rattle.apply_model.specs.declared.script.wait.Wait.{Wait}
@@ -10,7 +10,7 @@ use Rattle.apply_events.specs.declared.lanes.moment.Moment.{Moment}
 use Rattle.apply_events.specs.declared.lanes.taken.Taken.{Taken}
 use Rattle.apply_events.specs.Step.{Step, Work}
 use Rattle.apply_events.specs.StepEvents.{goes_on, step_time}
-use Rattle.apply_events.specs.Waits.Done.{done_among, done_at, done_by, done_in, end_behind, end_of_turn, first_found, later_if_both, ready_at}
+use Rattle.apply_events.specs.Waits.Done.{done_among, done_at, done_by, done_in, end_behind, end_of_turn, first_found, later_if_both}
 use Rattle.apply_events.specs.Waits.Moment.{first_moment, is_earlier, later_by, later_of, next_round}
 use Rattle.apply_events.specs.Waits.Schedule.{Ready, first_earliest, first_ready, free_behind, scheduled, taken_in, with_next}
 use Rattle.apply_events.specs.Waits.Turn.{begun_steps, turns, waits_of_turn}

@@ -1,5 +1,5 @@
 -- When lanes are free: by then all turns that they took up have ended.
-use Rattle.std.proofs.Common.{◌≡◌, ◌≢◌, ℕ, zero, suc, ◌+◌, ◌<◌, ◌≤◌, All, true, false, List, [], ◌∷◌, Option, Some, None, cond, get_or, length, set, refl, sym, ap, ◌∙◌, subst, ⊎_elim, arith}
+use Rattle.std.proofs.Common.{◌≡◌, ◌≢◌, ℕ, zero, suc, ◌+◌, ◌<◌, All, true, false, List, [], ◌∷◌, Option, Some, None, cond, get_or, length, set, sym, ◌∙◌, subst, ⊎_elim, arith}
 use Rattle.std.proofs.lemmas.Bool.{cases_eq}
 use Rattle.std.proofs.lemmas.List.{get_or-set_other, get_or-set_same, length-replicate, length-set}
 use Rattle.std.proofs.lemmas.List.Elements.{All-cons, All-nil, All-weaker}
@@ -44,7 +44,7 @@ module _ (w : Work) (n : ℕ) (some : 0 < n) where
       let size : length free ≡ n = length-free w n taken in
       let fits : lane < length free = first_earliest_lt free (omega arith) in
       let ends : IsNoLater (get_or free lane first_moment) end =
-          no_later_on (get_or free lane first_moment) new.begin end (second_no_later ready.at (get_or free lane first_moment)) (end_no_earlier new.begin (begun_steps w new.turn)) in
+      no_later_on (get_or free lane first_moment) new.begin end (second_no_later ready.at (get_or free lane first_moment)) (end_no_earlier new.begin (begun_steps w new.turn)) in
       let HasEnded : List Moment → Taken → Type 0 = λ ms one. IsNoLater (end_of_turn w one) (get_or ms one.lane first_moment) in
       All-cons (HasEnded (set free lane end)) new taken
       (subst (IsNoLater end) (sym (get_or-set_same free lane end first_moment fits)) (no_later_refl end))

@@ -1,9 +1,9 @@
 -- No moment falls along what a lane reports, so that there is a time line.
-use Rattle.std.proofs.Common.{◌≡◌, ◌≢◌, ℕ, ◌+◌, ◌<◌, ◌≤◌, All, List, [], ◌∷◌, ◌++◌, cond, sum_by, refl, sym, ap, ◌∙◌, subst, ⊎_elim, arith, eqb, eq-eqb, ne_eqb}
+use Rattle.std.proofs.Common.{◌≡◌, ◌≢◌, ℕ, ◌+◌, ◌<◌, ◌≤◌, List, [], ◌∷◌, ◌++◌, cond, sum_by, refl, sym, ap, ◌∙◌, subst, ⊎_elim, arith, eqb, eq-eqb, ne_eqb}
 use Rattle.std.specs.List.{Contains}
 use Rattle.std.proofs.lemmas.Bool.Decides.{eqb_tells}
 use Rattle.std.proofs.lemmas.List.{append_assoc}
-use Rattle.std.proofs.lemmas.List.Elements.{All-cons, All-contains_itself, All-nil, All-weaker, Contains-append_right}
+use Rattle.std.proofs.lemmas.List.Elements.{All-contains_itself, All-weaker, Contains-append_right}
 use Rattle.apply_events.specs.declared.event.Event.{Event}
 use Rattle.apply_events.specs.Step.{Work}
 use Rattle.apply_events.specs.StepEvents.{step_events, step_time}
@@ -20,7 +20,7 @@ use Rattle.apply_events.proofs.Moments.{in_turn_rises, step_rises}
 use Rattle.apply_events.proofs.Moments as moments
 use Rattle.apply_events.proofs.Rising as rising
 use Rattle.apply_events.proofs.Waits.Found.{lane_in}
-use Rattle.apply_events.proofs.Waits.Members.{in_cases, in_head, in_tail, not_in_none}
+use Rattle.apply_events.proofs.Waits.Members.{in_head, in_tail, not_in_none}
 use Rattle.apply_events.proofs.Waits.Merge.{AllRise, Rises, merged_in_order, merged_is, rises_append}
 use Rattle.apply_events.proofs.Waits.Moments.{no_later_on}
 use Rattle.apply_events.proofs.Waits.Once.{AreTurns, moment_is}

@@ -1,5 +1,5 @@
 -- A turn is taken up once, so that each event belongs to one turn, and has its moment.
-use Rattle.std.proofs.Common.{◌≡◌, ◌≢◌, ℕ, ◌+◌, ◌<◌, ◌≤◌, All, Bool, true, false, ◌&&◌, ◌||◌, List, [], ◌∷◌, ◌++◌, cond, length, refl, sym, ap, ◌∙◌, subst, ⊎_elim, ◌⊎◌, inl, inr, arith, eqb, leb, ltb, eq-eqb, ne_eqb, lt-ltb}
+use Rattle.std.proofs.Common.{◌≡◌, ◌≢◌, ℕ, ◌+◌, ◌<◌, ◌≤◌, All, Bool, true, false, ◌&&◌, List, [], ◌∷◌, ◌++◌, cond, length, refl, sym, ap, ◌∙◌, subst, ⊎_elim, ◌⊎◌, inl, inr, arith, eqb, leb, ltb, eq-eqb, ne_eqb, lt-ltb}
 use Rattle.std.specs.List.{Contains, range_with_len}
 use Rattle.std.proofs.lemmas.Bool.{and_parts, cases_Bool, le-leb, leb-true, ltb-true, true≢false}
 use Rattle.std.proofs.lemmas.Bool.Decides.{eqb_tells}
@@ -10,12 +10,12 @@ use Rattle.apply_events.specs.declared.lanes.taken.Taken.{Taken}
 use Rattle.apply_model.specs.Script.OutcomeMap.{outcome_of}
 use Rattle.apply_model.specs.Script.Waits.{names_a_wait}
 use Rattle.apply_events.specs.Waits.Schedule.{is_same_turn, is_taken}
-use Rattle.apply_events.specs.Waits.TimeLine.{is_of_turn, moment_from, moment_of, turn_events}
+use Rattle.apply_events.specs.Waits.TimeLine.{is_of_turn, moment_from, moment_of}
 use Rattle.apply_events.specs.declared.lanes.turn.Turn.{Turn}
 use Rattle.apply_events.specs.Waits.Turn.{single, turns, turns_of, whole}
-use Rattle.apply_events.proofs.Waits.Members.{any_in, flat_map_in, in_any, in_cases, in_head, in_tail, not_in_none}
+use Rattle.apply_events.proofs.Waits.Members.{any_in, flat_map_in, in_any, in_cases, in_head, not_in_none}
 use Rattle.apply_events.proofs.Waits.TakenUp.{same_itself}
-use Rattle.apply_events.proofs.Waits.TurnEvents.{OfTurn, of_turn}
+use Rattle.apply_events.proofs.Waits.TurnEvents.{OfTurn}
 use Rattle.apply_events.proofs.Waits.TurnSteps.{all_at}
 
 -- ---- the turns of a change
@@ -28,17 +28,23 @@ abbrev pub IsTurnOf : Work → ℕ → Turn → Type 0
 IsTurnOf w c turn = ((is_split w c ≡ false) × (turn ≡ whole w c)) ⊎ ((is_split w c ≡ true) × ((turn ≡ single c 0) ⊎ (turn ≡ single c 1)))
 
 turns_are : (w : Work) (c : ℕ) (turn : Turn) (t : Bool) → is_split w c ≡ t → Contains (cond t (single c 0 ∷ single c 1 ∷ []) (whole w c ∷ [])) turn → IsTurnOf w c turn
-turns_are w c turn true is h = inr (is, ⊎_elim
-    (λ (first : single c 0 ≡ turn). inl (sym first))
-    (λ (later : Contains (single c 1 ∷ []) turn). ⊎_elim
-    (λ (second : single c 1 ≡ turn). inr (sym second))
-    (λ (none : Contains [] turn). absurd (not_in_none turn none))
-    (in_cases (single c 1) [] turn later))
-    (in_cases (single c 0) (single c 1 ∷ []) turn h))
-turns_are w c turn false is h = inl (is, ⊎_elim
-    (λ (same : whole w c ≡ turn). sym same)
-    (λ (none : Contains [] turn). absurd (not_in_none turn none))
-    (in_cases (whole w c) [] turn h))
+turns_are w c turn true is h = inr (
+  is,
+  ⊎_elim
+      (λ (first : single c 0 ≡ turn). inl (sym first))
+      (λ (later : Contains (single c 1 ∷ []) turn). ⊎_elim
+      (λ (second : single c 1 ≡ turn). inr (sym second))
+      (λ (none : Contains [] turn). absurd (not_in_none turn none))
+      (in_cases (single c 1) [] turn later))
+      (in_cases (single c 0) (single c 1 ∷ []) turn h),
+)
+turns_are w c turn false is h = inl (
+  is,
+  ⊎_elim
+      (λ (same : whole w c ≡ turn). sym same)
+      (λ (none : Contains [] turn). absurd (not_in_none turn none))
+      (in_cases (whole w c) [] turn h),
+)
 
 change_is : (w : Work) (c : ℕ) (turn : Turn) → IsTurnOf w c turn → turn.change ≡ c
 change_is w c turn (inl one) = ap (λ (t : Turn). t.change) one.1

@@ -31,7 +31,7 @@ each_split P (l ∷ later) before one (x ∷ xs) h is = each_split P later befor
 
 module _ (w : Work) (n : ℕ) (P : List Taken → Taken → Type 0)
     (next : (count : ℕ) (ready : Ready) → first_ready w (scheduled w n count) (turns w) ≡ Some ready
-        → P (scheduled w n count) (taken_in (free_behind w n (scheduled w n count)) ready)) where
+    → P (scheduled w n count) (taken_in (free_behind w n (scheduled w n count)) ready)) where
   one_more : (count : ℕ) (found : Option Ready) → first_ready w (scheduled w n count) (turns w) ≡ found → EachBehind P (scheduled w n count)
       → EachBehind P (with_next w n (scheduled w n count) found)
   one_more count None is h = h

@@ -1,10 +1,10 @@
 -- The steps of a turn, by their numbers.
-use Rattle.std.proofs.Common.{◌≡◌, ◌≢◌, ℕ, zero, suc, ◌+◌, ◌<◌, ◌≤◌, All, Bool, true, false, List, [], ◌∷◌, cond, drop, length, map, take, Option, Some, None, refl, sym, ap, ◌∙◌, subst, ⊎_elim, arith}
+use Rattle.std.proofs.Common.{◌≡◌, ℕ, zero, suc, ◌+◌, ◌<◌, ◌≤◌, All, true, false, List, [], ◌∷◌, cond, drop, length, map, take, Option, Some, refl, sym, ap, ◌∙◌, subst, ⊎_elim, arith}
 use Rattle.std.specs.Prelude.{slice_get}
 use Rattle.std.specs.List.{Contains, enumerate_from}
 use Rattle.std.proofs.lemmas.Bool.{cases_Bool}
 use Rattle.std.proofs.lemmas.List.{length-drop, length-map, length-take}
-use Rattle.std.proofs.lemmas.List.Elements.{All-cons, All-drop, All-head, All-nil, All-tail, All-take}
+use Rattle.std.proofs.lemmas.List.Elements.{All-cons, All-head, All-nil, All-tail}
 use Rattle.std.proofs.lemmas.List.FromFn.{length-enumerate_from}
 use Rattle.apply_model.specs.declared.plan.step_kind.StepKind.{StepKind}
 use Rattle.apply_events.specs.ChangeEvents.{begun}
@@ -164,11 +164,13 @@ pub second_behind_first : (w : Work) (c : ℕ) (two : HasTwo w c) (s : Step) →
     → Contains (begun_steps w (whole w c)) (step_of w c 0 two.first) × (goes_on (step_of w c 0 two.first) ≡ true)
 second_behind_first w c two s there is =
     let first = step_of w c 0 two.first in let second = step_of w c 1 two.second in
-    let rest = cond (goes_on first) (begun (second ∷ [])) [] in
-    (subst (λ l. Contains l first) (sym (two_begin w c two)) (in_head first rest), ⊎_elim
-    (λ (same : first ≡ s). let number : 0 ≡ s.number = ap (λ (y : Step). y.number) same in absurd (omega arith))
-    (λ (later : Contains rest s). ⊎_elim
-    (λ (yes : goes_on first ≡ true). yes)
-    (λ (no : goes_on first ≡ false). absurd (not_in_none s (subst (λ t. Contains (cond t (begun (second ∷ [])) []) s) no later)))
-    (cases_Bool (goes_on first)))
-    (in_cases first rest s (subst (λ l. Contains l s) (two_begin w c two) there)))
+    let rest = cond (goes_on first) (begun (second ∷ [])) [] in (
+      subst (λ l. Contains l first) (sym (two_begin w c two)) (in_head first rest),
+      ⊎_elim
+          (λ (same : first ≡ s). let number : 0 ≡ s.number = ap (λ (y : Step). y.number) same in absurd (omega arith))
+          (λ (later : Contains rest s). ⊎_elim
+          (λ (yes : goes_on first ≡ true). yes)
+          (λ (no : goes_on first ≡ false). absurd (not_in_none s (subst (λ t. Contains (cond t (begun (second ∷ [])) []) s) no later)))
+          (cases_Bool (goes_on first)))
+          (in_cases first rest s (subst (λ l. Contains l s) (two_begin w c two) there)),
+    )
