@@ -10,6 +10,7 @@ pub mod Parts
 pub mod PlannedSteps
 pub mod ProgressTimes
 pub mod Provisions
+pub mod Resumed
 pub mod Rising
 pub mod Stages
 pub mod StepNumbers

@@ -31,7 +31,7 @@ below [] k x h = cc
 below (y ∷ xs) zero x h = omega arith
 below (y ∷ xs) (suc k) x h = let less : k < length xs = below xs k x h in omega arith
 
-kinds_here : (work : Work) (c : ℕ) (change : ResourceChange) (kinds : List StepKind)
+pub kinds_here : (work : Work) (c : ℕ) (change : ResourceChange) (kinds : List StepKind)
     → Some change ≡ slice_get work.plan.changes c → kinds ≡ change.steps → kinds_of work.plan c ≡ kinds
 kinds_here work c change kinds is steps = rw (← is) (sym steps)
 

@@ -6,9 +6,11 @@ ghost use Rattle.apply_events.specs.Lanes.Lane.{IsSound, state_of};
 ghost use Rattle.apply_events.specs.Lanes.LaneState.{IsSteady, count_left, unused};
 ghost use Rattle.apply_events.specs.Lanes.Props.{AllSound-prop, IsSteady-prop};
 
+pub mod free;
 pub mod lane;
 pub mod laws;
 pub mod moment;
+pub mod step_course;
 pub mod taken;
 pub mod turn;
 

@@ -51,7 +51,8 @@ pub struct Runner<'a> {
 }
 
 impl<'a> Runner<'a> {
-    ghost use Rattle.std.specs.Prelude.{[], ◌∷◌, ◌++◌, ◌↔◌, Some, IfSome, IfNone};
+    ghost use Rattle.std.specs.Prelude.{[], ◌∷◌, ◌++◌, ◌↔◌, Some, IfSome, IfNone, drop, take};
+    ghost use Rattle.std.specs.List.{list_all};
     ghost use Rattle.apply_model.specs.Script.Outcome.{fails, took};
     ghost use Rattle.apply_model.specs.Script.OutcomeMap.{outcome_of};
     ghost use Rattle.apply_events.specs.ChangeEvents.{change_events, span_of};
@@ -60,8 +61,8 @@ impl<'a> Runner<'a> {
     ghost use Rattle.apply_events.specs.Runner.{course_of, left_of, to_come};
     ghost use Rattle.apply_events.specs.RunnerStep.{left_before, rest_of, step_at_hand};
     ghost use Rattle.apply_events.specs.Step.{has_warning};
-    ghost use Rattle.apply_events.specs.StepEvents.{seconds_of};
-    ghost use Rattle.apply_events.specs.Stages.{IsUnderWay, behind, from_stage, halt_after};
+    ghost use Rattle.apply_events.specs.StepEvents.{goes_on, seconds_of};
+    ghost use Rattle.apply_events.specs.Stages.{IsUnderWay, behind, events_from, from_stage, halt_after};
 
     /// The runner of a change that begins at a moment, in seconds, early enough that two steps of a day end by `LATEST`.
     pub fn start(
@@ -90,6 +91,43 @@ impl<'a> Runner<'a> {
             change,
             begin: at,
             step: 0,
+            at,
+            stage: Stage::Before,
+        }
+    }
+
+    /// The runner of a change of which the first step has gone on, and the second begins at a moment, in seconds: that of
+    /// a change which began as much earlier as the first step takes.
+    pub(crate) fn resume(
+        plan: &'a Plan,
+        script: &'a Script,
+        registry: &'a Registry,
+        worker: u8,
+        change: u32,
+        at: u64,
+    ) -> Runner<'a>
+        requires has_step { HasStep plan.now change 0 }
+        requires change { change < length plan.now.changes }
+        requires went_on { list_all goes_on (take 1 (steps_of (record { plan = plan.now; script = script.now; hooks = rules_of registry.now }) change)) ≡ true }
+        requires late { took (outcome_of script.now change 0) ≤ at }
+        requires in_time { at + max_seconds ≤ last_moment }
+        ensures course { course_of result ≡ record {
+          work = record { plan = plan.now; script = script.now; hooks = rules_of registry.now };
+          worker = worker;
+          change = change;
+          begin = at - took (outcome_of script.now change 0);
+        } }
+        ensures events { to_come result ≡ events_from worker (drop 1 (steps_of (course_of result).work change)) at }
+    {
+        let before = StepFacts::new(script, change, 0).seconds;
+        Runner {
+            plan,
+            script,
+            registry,
+            worker,
+            change,
+            begin: at - before as u64,
+            step: 1,
             at,
             stage: Stage::Before,
         }

@@ -20,7 +20,7 @@ use Rattle.apply_events.proofs.Waits.Order.{unique}
 
 -- ---- tests
 
-not_before_itself : (a : Moment) → is_earlier a a ≡ false
+pub not_before_itself : (a : Moment) → is_earlier a a ≡ false
 not_before_itself a =
     ap (λ t. t || (eqb a.second a.second && ltb a.round a.round)) (le-ltb a.second a.second (omega arith))
     ∙ ap (λ t. t && ltb a.round a.round) (eq-eqb a.second a.second refl) ∙ le-ltb a.round a.round (omega arith)

@@ -1,5 +1,14 @@
 //! What a lane takes up as a whole.
 
+ghost use Rattle.std.specs.Prelude.{◌≡◌, ◌<◌, ◌≤◌, ◌++◌, ◌∷◌, ◌==◌, ◌&&◌, [], IfOk, List, OnOk, length, if◌then◌else◌};
+ghost use Rattle.apply_hooks.specs.declared.rule.Rule.{Rule};
+ghost use Rattle.apply_model.specs.Script.OutcomeMap.{outcome_of};
+ghost use Rattle.apply_model.specs.Script.Waits.{names_a_wait};
+ghost use Rattle.apply_events.specs.Waits.Turn.{single, turns};
+
+use apply_model::{Outcome, Plan, Script};
+use std::alloc::{AllocError, Global};
+
 /// Some steps of a change, which one lane takes up, one after another.
 #[derive(Clone, Copy, Debug)]
 pub struct Turn {
@@ -7,4 +16,62 @@ pub struct Turn {
     /// The first of them, counted from 0.
     pub first: u8,
     pub count: u8,
+}
+
+impl Turn {
+    /// All turns, in the plan's order.
+    pub(crate) fn all(alloc: Global, plan: &Plan, script: &Script) -> Result<Vec<Turn>, AllocError>
+        ensures { IfOk result (λ all. (hooks : List (List Rule)) → all.items
+            ≡ turns (record { plan = plan.now; script = script.now; hooks = hooks })) }
+    {
+        let mut all = Vec::with_capacity(alloc, plan.len() as usize)?;
+        for change in 0..plan.len() {
+            let count = plan.change(change).steps().len() as u8;
+            let split = count == 2 && second_names_some(script, change);
+            push_turns(&mut all, change, count, split)?;
+        }
+        Ok(all)
+    }
+}
+
+/// Adds the turns of a change of so many steps, which is one or, where it is split, two.
+fn push_turns(
+    all: &mut Vec<Turn>,
+    change: u32,
+    count: u8,
+    split: bool,
+) -> Result<(), AllocError>
+    ensures { OnOk result (all.new.items ≡ all.old.items ++ (if split
+        then single change 0 ∷ single change 1 ∷ []
+        else record { change = change; first = 0; count = count } ∷ [])) }
+{
+    if split {
+        all.push(Turn {
+            change,
+            first: 0,
+            count: 1,
+        })?;
+        all.push(Turn {
+            change,
+            first: 1,
+            count: 1,
+        })?;
+    } else {
+        all.push(Turn {
+            change,
+            first: 0,
+            count,
+        })?;
+    }
+    Ok(())
+}
+
+/// Whether the second step of a change names one that it waits for.
+fn second_names_some(script: &Script, change: u32) -> bool
+    ensures { result ≡ names_a_wait (outcome_of script.now change 1) }
+{
+    match script.outcome(change, 1) {
+        Some(outcome) => outcome.names_a_wait(),
+        None => false,
+    }
 }

@@ -1,0 +1,20 @@
+//! Lanes that are free.
+
+ghost use Rattle.std.specs.Prelude.{◌≡◌, ◌<◌, length};
+ghost use Rattle.apply_events.specs.Waits.Schedule.{first_earliest};
+
+use crate::lanes::moment::Moment;
+
+/// The lane that is free first, at one moment the lowest.
+pub(crate) fn first_earliest(free: &[Moment]) -> usize
+    requires { 0 < length free.now }
+    ensures { result ≡ first_earliest free.now }
+{
+    let mut first = 0;
+    for lane in 1..free.len() {
+        if free[lane].is_earlier(free[first]) {
+            first = lane;
+        }
+    }
+    first
+}
