@@ -15,6 +15,7 @@ pub mod Rising
 pub mod Stages
 pub mod StepNumbers
 pub mod TimeLines
+pub mod TurnLeft
 pub mod UnderWay
 pub mod Waits
 pub mod WorkerLists

@@ -1,3 +1,4 @@
+pub mod BeforeStep
 pub mod ChangeEvents
 pub mod Course
 pub mod Diagnostics
@@ -17,5 +18,6 @@ pub mod Stages
 pub mod Step
 pub mod StepEvents
 pub mod Totals
+pub mod TurnRunner
 pub mod Waits
 pub mod WorkerEvents

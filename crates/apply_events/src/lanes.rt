@@ -13,6 +13,7 @@ pub mod moment;
 pub mod step_course;
 pub mod taken;
 pub mod turn;
+pub mod turn_runner;
 
 use crate::event::Event;
 use crate::lanes::lane::Lane;

@@ -187,6 +187,15 @@ of_steps lane n begin at (s ∷ steps) e numbered along h = ⊎_elim
     })
     (Contains-append_cases (step_events lane s at.second) (in_turn (step_events lane) step_time steps (at.second + step_time s)) e h)
 
+-- the step of an event of some steps one after another
+pub step_of_event : (lane : ℕ) (steps : List Step) (at : ℕ) (e : Event) → Contains (in_turn (step_events lane) step_time steps at) e → (s : Step) × Contains steps s × (e.step ≡ s.number)
+step_of_event lane [] at e h = absurd (not_in_none e h)
+step_of_event lane (s ∷ steps) at e h = ⊎_elim
+    (λ (here : Contains (step_events lane s at) e). (s, in_head s steps, (of_step lane s at e here).step))
+    (λ (later : Contains (in_turn (step_events lane) step_time steps (at + step_time s)) e).
+    let rest = step_of_event lane steps (at + step_time s) e later in (rest.0, in_tail s steps rest.0 rest.1, rest.2))
+    (Contains-append_cases (step_events lane s at) (in_turn (step_events lane) step_time steps (at + step_time s)) e h)
+
 -- each step has an event
 event_of : (lane : ℕ) (steps : List Step) (at : ℕ) (s : Step) → Contains steps s
     → (e : Event) × Contains (in_turn (step_events lane) step_time steps at) e × (e.step ≡ s.number) × (e.change ≡ s.change)

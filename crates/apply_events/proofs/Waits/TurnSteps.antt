@@ -71,7 +71,7 @@ numbered_in n (x ∷ steps) s h there = ⊎_elim
     (λ (later : Contains steps s). let rest = numbered_in (n + 1) steps s h.1 later in let low = rest.0 in let high = rest.1 in (omega arith, omega arith))
     (in_cases x steps s there)
 
-length-begun : (steps : List Step) → length (begun steps) ≤ length steps
+pub length-begun : (steps : List Step) → length (begun steps) ≤ length steps
 length-begun [] = omega arith
 length-begun (s ∷ steps) =
     let rest : length (begun steps) ≤ length steps = length-begun steps in
