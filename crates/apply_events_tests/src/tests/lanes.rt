@@ -4,6 +4,7 @@ ghost use Rattle.std.specs.Prelude.{◌<◌, ◌≤◌};
 
 mod drawn;
 mod plain;
+mod waiting;
 
 use super::*;
 use drawn::drawn_changes_agree;
