@@ -9,6 +9,7 @@ pub mod Members
 pub mod Merge
 pub mod Moments
 pub mod Once
+pub mod OneLane
 pub mod Order
 pub mod TakenUp
 pub mod TurnEvents

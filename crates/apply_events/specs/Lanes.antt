@@ -5,6 +5,9 @@ pub mod Lane
 pub mod LaneState
 pub mod Merging
 pub mod Props
+pub mod Runs
+pub mod Startable
+pub mod Steady
 pub mod TimeLine
 pub mod ToCome
 

@@ -1,6 +1,13 @@
 //! The events of a plan that is applied in lanes, one by one.
 
-ghost use Rattle.std.specs.Prelude.{◌≡◌, ◌+◌, ◌<◌, ◌≤◌, IfOk};
+ghost use Rattle.std.specs.Prelude.{◌≡◌, ℕ, ◌+◌, ◌<◌, ◌≤◌, All, IfOk, length, map, sum_by};
+ghost use Rattle.apply_hooks.specs.Registry.{rules_of};
+ghost use Rattle.apply_model.specs.Plan.SavedPlan.{max_changes};
+ghost use Rattle.apply_events.specs.Lanes.Lane.{state_of};
+ghost use Rattle.apply_events.specs.Lanes.LaneState.{HaveGoneOn, count_left};
+ghost use Rattle.apply_events.specs.Lanes.Props.{AllStartable-prop, AllTimed-prop, AreSteady-prop};
+ghost use Rattle.apply_events.specs.Lanes.Startable.{AreWithinLimits, IsStartable};
+ghost use Rattle.apply_events.specs.Lanes.Steady.{AreSteady, IsTimedTurn, when};
 
 pub mod free;
 pub mod lane;
@@ -15,8 +22,8 @@ pub mod turn_runner;
 
 use crate::event::Event;
 use crate::lanes::lane::Lane;
-use crate::lanes::moment::Moment;
 use crate::lanes::schedule::schedule;
+use crate::lanes::taken::Taken;
 use apply_hooks::Registry;
 use apply_model::{Plan, Script};
 use std::alloc::{AllocError, Global};
@@ -30,12 +37,30 @@ pub struct Lanes<'a> {
     plan: &'a Plan,
     script: &'a Script,
     registry: &'a Registry,
+    /// The turns that the lanes take up, the first first.
+    taken: Vec<Taken>,
     lanes: Vec<Lane<'a>>,
     /// How many events were given.
     told: u32,
+    ghost few: { length lanes.items ≤ 64 },
+    ghost some: { 0 < length lanes.items },
+    ghost startable: { All (IsStartable (record { plan = plan.now; script = script.now; hooks = rules_of registry.now })) taken.items }
+        by { AllStartable-prop (record { plan = plan.now; script = script.now; hooks = rules_of registry.now }) taken.items },
+    ghost timed: { All (IsTimedTurn (record { plan = plan.now; script = script.now; hooks = rules_of registry.now }) (when taken.items)) taken.items }
+        by { AllTimed-prop (record { plan = plan.now; script = script.now; hooks = rules_of registry.now }) (when taken.items) taken.items },
+    ghost steady: { AreSteady (record { plan = plan.now; script = script.now; hooks = rules_of registry.now }) taken.items (map state_of lanes.items) }
+        by { AreSteady-prop (record { plan = plan.now; script = script.now; hooks = rules_of registry.now }) taken.items (map state_of lanes.items) },
+    ghost counted: { told + sum_by (count_left (record { plan = plan.now; script = script.now; hooks = rules_of registry.now }) taken.items) (map state_of lanes.items) ≤ 189180000 },
 }
 
 impl<'a> Lanes<'a> {
+    ghost use Rattle.std.specs.Prelude.{IfSome};
+    ghost use Rattle.apply_events.specs.Course.{GivesNext};
+    ghost use Rattle.apply_events.specs.Fits.{IsOfPlan};
+    ghost use Rattle.apply_events.specs.Lanes.ToCome.{max_events, moments_of, to_come, told_count, work_of};
+    ghost use Rattle.apply_events.specs.Waits.Merging.{time_line};
+    ghost use Rattle.apply_events.specs.Waits.Schedule.{first_earliest};
+
     /// A plan that is applied in so many lanes.
     pub fn start(
         alloc: Global,
@@ -46,40 +71,50 @@ impl<'a> Lanes<'a> {
     ) -> Result<Lanes<'a>, AllocError>
         requires some { 0 < count }
         requires few { count ≤ 64 }
+        ensures events { IfOk result (λ lanes. to_come lanes
+            ≡ time_line (record { plan = plan.now; script = script.now; hooks = rules_of registry.now }) count) }
+        ensures work { IfOk result (λ lanes. work_of lanes
+            ≡ record { plan = plan.now; script = script.now; hooks = rules_of registry.now }) }
+        ensures none_told { IfOk result (λ lanes. told_count lanes ≡ 0) }
     {
-        let turns = schedule(alloc, plan, script, registry, count)?;
-        let mut lanes = Vec::with_capacity(alloc, count as usize)?;
-        for _ in 0..count {
-            lanes.push(Lane::new(alloc))?;
-        }
-        for taken in turns {
-            lanes[taken.lane as usize].take_up(taken)?;
-        }
-        for lane in lanes.iter_mut() {
-            lane.go_on(plan, script, registry);
-        }
+        are_within_limits(plan, script);
+        let taken = schedule(alloc, plan, script, registry, count)?;
+        let lanes = started(alloc, plan, script, registry, &taken, count)?;
         Ok(Lanes {
             plan,
             script,
             registry,
+            taken,
             lanes,
             told: 0,
         })
     }
 
     /// The next event. `None` where none is left, now and from then on.
-    pub fn next(&mut self) -> Option<Event> {
+    pub fn next(&mut self) -> Option<Event>
+        ensures next { GivesNext (to_come self.old) result (to_come self.new) }
+        ensures of_plan { IfSome result (λ event. IsOfPlan (work_of self.old).plan event) }
+        ensures work { work_of self.new ≡ work_of self.old }
+        ensures one_more { IfSome result (λ _. told_count self.new ≡ told_count self.old + 1) }
+        ensures few { told_count self.new ≤ max_events }
+    {
         let first = self.first();
-        let event = self.lanes[first].next(self.plan, self.script, self.registry)?;
+        let event =
+            self.lanes[first].next(self.plan, self.script, self.registry, &self.taken)?;
         self.told += 1;
         Some(event)
     }
 
     /// The lane that comes first, at one moment the lowest.
-    fn first(&self) -> usize {
+    fn first(&self) -> usize
+        ensures { result ≡ first_earliest (moments_of self.now) }
+    {
         let mut first = 0;
         for lane in 1..self.lanes.len() {
-            if comes_before(self.lanes[lane].moment(), self.lanes[first].moment()) {
+            if self.lanes[lane]
+                .moment()
+                .is_earlier(self.lanes[first].moment())
+            {
                 first = lane;
             }
         }
@@ -87,11 +122,33 @@ impl<'a> Lanes<'a> {
     }
 }
 
-/// Whether the first of two moments is the earlier one; one that never comes is later than any other.
-fn comes_before(first: Option<Moment>, second: Option<Moment>) -> bool {
-    match (first, second) {
-        (Some(first), Some(second)) => first.is_earlier(second),
-        (Some(_), None) => true,
-        (None, _) => false,
+/// So many lanes, each with the first of its turns under way.
+fn started<'a>(
+    alloc: Global,
+    plan: &'a Plan,
+    script: &'a Script,
+    registry: &'a Registry,
+    taken: &[Taken],
+    count: u8,
+) -> Result<Vec<Lane<'a>>, AllocError>
+    requires { All (IsStartable (record { plan = plan.now; script = script.now; hooks = rules_of registry.now })) taken.now }
+    ensures { IfOk result (λ lanes. HaveGoneOn (record { plan = plan.now; script = script.now; hooks = rules_of registry.now }) taken.now count (map state_of lanes.items)) }
+{
+    let mut lanes = Vec::with_capacity(alloc, count as usize)?;
+    for lane in 0..count {
+        lanes.push(Lane::start(plan, script, registry, taken, lane))?;
+    }
+    Ok(lanes)
+}
+
+/// The changes of a plan are within the limits: two steps at most, each of a day with few provisioners.
+fn are_within_limits(plan: &Plan, script: &Script)
+    ensures steps { (c : ℕ) → c < length plan.now.changes → AreWithinLimits plan.now script.now c }
+    ensures changes { length plan.now.changes ≤ max_changes }
+{
+    for change in 0..plan.len() {
+        let _steps = plan.change(change).steps();
+        let _first = script.outcome(change, 0);
+        let _second = script.outcome(change, 1);
     }
 }

@@ -12,7 +12,7 @@ use Rattle.apply_events.specs.Step.{Step, Work, steps_of}
 use Rattle.apply_events.specs.StepEvents.{between, endings, event, halts, phase_after, seconds_of, started, step_events, step_time}
 use Rattle.apply_events.proofs.Rising as rising
 use Rattle.apply_events.proofs.Moments.{change_rises, moment_of}
-use Rattle.apply_events.specs.Lanes.LaneState.{Runs}
+use Rattle.apply_events.specs.Lanes.Runs.{Runs}
 use Rattle.apply_events.proofs.TimeLines.Merge.{Rises, rises_lower}
 
 abbrev Names : ℕ → Event → Type 0

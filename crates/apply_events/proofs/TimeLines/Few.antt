@@ -1,4 +1,4 @@
--- How many events a change has at most, and the lanes of some changes.
+-- How many events a change has at most.
 use Rattle.std.proofs.Common.{◌≡◌, ℕ, zero, suc, ◌+◌, ◌*◌, ◌<◌, ◌≤◌, All, true, false, List, [], ◌∷◌, ◌++◌, cond, get_or, length, length-append, map, replicate, set, sum_by, Option, Some, None, sym, refl, ap, subst, ◌∙◌, arith}
 use Rattle.std.specs.Prelude.{is_some, option_map, option_to_list, slice_get, unwrap_or, IfSome}
 use Rattle.std.specs.List.{enumerate_from}
@@ -7,8 +7,6 @@ use Rattle.apply_model.specs.Plan.ResourceChange.{ResourceChange}
 use Rattle.apply_model.specs.Plan.SavedPlan.{SavedPlan}
 use Rattle.std.proofs.lemmas.List.{length-map, map-set}
 use Rattle.std.proofs.lemmas.List.Elements.{All-nil}
-use Rattle.std.proofs.lemmas.List.Folds.{sum_by-replicate}
-use Rattle.std.proofs.lemmas.List.Sums.{sum_by-set}
 use Rattle.apply_model.specs.declared.plan.step_kind.StepKind.{StepKind}
 use Rattle.apply_model.specs.declared.script.outcome.Outcome.{Outcome}
 use Rattle.apply_model.specs.declared.script.provisioner.Provisioner.{Provisioner}
@@ -22,10 +20,6 @@ use Rattle.apply_events.specs.declared.what.What.TheVariants.{Halted, Start}
 use Rattle.apply_events.specs.ChangeEvents.{begun, change_events, in_turn}
 use Rattle.apply_events.specs.Step.{Step, Work, kinds_of, step_of}
 use Rattle.apply_events.specs.StepEvents.{between, endings, event, goes_on, halts, notes, phase_after, seconds_of, started, step_events, step_time}
-use Rattle.apply_events.specs.Lanes.LaneState.{LaneState, count_left, free_in, unused}
-use Rattle.apply_events.specs.Lanes.Lane.{TellsNext, state_of}
-use Rattle.apply_events.specs.declared.lanes.lane.Lane.{Lane}
-use Rattle.apply_events.proofs.TimeLines.Steps.{busy_parts, idle_parts}
 use Rattle.apply_events.proofs.MidSteps.{ran_all, ran_few, ran_short}
 use Rattle.apply_events.proofs.Provisions.{few_along}
 
@@ -111,40 +105,6 @@ few_events work w c at few first second =
     short_at zero lt = first
     short_at (suc zero) lt = second
     short_at (suc (suc k)) lt = absurd (omega arith)
-
--- ---- the lanes
-
-pub few_unused : (n : ℕ) → sum_by count_left (replicate n unused) ≡ 0
-few_unused n = sum_by-replicate count_left n unused ∙ omega arith
-
--- a lane with no event left gets a change
-few_taken : (told begun : ℕ) (states : List LaneState) (w : ℕ) (s : LaneState) → w < length states → (get_or states w unused).events ≡ [] → length s.events ≤ 18918
-    → told + sum_by count_left states ≤ 18918 * begun → told + sum_by count_left (set states w s) ≤ 18918 * (begun + 1)
-few_taken told begun states w s lt none few h =
-    let sum = sum_by-set count_left states w s unused lt in let gone = ap length none in omega arith
-
--- a lane tells an event
-few_told : (told begun : ℕ) (states : List LaneState) (w : ℕ) (s : LaneState) (e : Event) → w < length states → (get_or states w unused).events ≡ e ∷ s.events
-    → told + sum_by count_left states ≤ 18918 * begun → told + 1 + sum_by count_left (set states w s) ≤ 18918 * begun
-few_told told begun states w s e lt one h =
-    let sum = sum_by-set count_left states w s unused lt in let more = ap length one in omega arith
-
--- a lane that is not free tells one
-pub few_tells : (told begun : ℕ) (before after : List LaneState) (w : ℕ) (result : Option Event) → w < length before → None ≡ free_in (get_or before w unused).events (get_or before w unused).free
-    → TellsNext before w result after → told + sum_by count_left before ≤ 18918 * begun → told + 1 + sum_by count_left after ≤ 18918 * begun
-few_tells told begun before after w None lt busy tells h = absurd (busy_parts (get_or before w unused).events (get_or before w unused).free busy tells.2.0)
-few_tells told begun before after w (Some e) lt busy tells h =
-    subst (λ l. told + 1 + sum_by count_left l ≤ 18918 * begun) (sym tells.1) (few_told told begun before w tells.0 e lt tells.2 h)
-
--- a free lane begins a change
-pub begin_counted : {a b : _} {g : _} (told begun : ℕ) (items : List (Lane a b g)) (w at : ℕ) (new : Lane a b g) → w < length items
-    → Some at ≡ free_in (get_or (map state_of items) w unused).events (get_or (map state_of items) w unused).free → length (state_of new).events ≤ 18918
-    → told + sum_by count_left (map state_of items) ≤ 18918 * begun → told + sum_by count_left (map state_of (set items w new)) ≤ 18918 * (begun + 1)
-begin_counted told begun items w at new lt free few h =
-    let states = map state_of items in
-    let count = length-map items state_of in
-    subst (λ l. told + sum_by count_left l ≤ 18918 * (begun + 1)) (sym (map-set state_of items w new))
-    (few_taken told begun states w (state_of new) (omega arith) (idle_parts (get_or states w unused).events (get_or states w unused).free at free).0 few h)
 
 pub if_some_any : {X P : Type 0} (found : Option X) → P → IfSome found (λ _. P)
 if_some_any None h = tt

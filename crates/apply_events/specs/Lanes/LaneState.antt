@@ -1,62 +1,81 @@
 -- What a lane still has to report.
-use Rattle.std.specs.Prelude.{◌≡◌, ℕ, ◌<◌, ◌≤◌, length, List, [], ◌∷◌, ◌++◌, Bool, Option, Some, None, get_or, map, if◌then◌else◌}
+use Rattle.std.specs.Prelude.{◌≡◌, ◌≢◌, ◌⊎◌, ℕ, ◌==◌, ◌<◌, ◌≤◌, List, [], ◌∷◌, ◌++◌, Option, Some, None, drop, get_or, length, if◌then◌else◌}
+use Rattle.std.specs.List.{Contains}
 use Rattle.apply_events.specs.declared.event.Event.{Event}
-use Rattle.apply_events.specs.ChangeEvents.{change_events, in_turn, span_of}
-use Rattle.apply_events.specs.Fits.{last_moment}
+use Rattle.apply_events.specs.declared.lanes.moment.Moment.{Moment}
+use Rattle.apply_events.specs.declared.lanes.taken.Taken.{Taken}
 use Rattle.apply_events.specs.Step.{Work}
-use Rattle.apply_events.specs.Lanes.Dealing.{dealt}
+use Rattle.apply_events.specs.Waits.Moment.{first_moment}
+use Rattle.apply_events.specs.Waits.TimeLine.{moment_from, turn_events}
 
--- the events that are still to come of the change that a lane has, and when the lane is free
+-- what a lane reports of turns that were taken up, the first of which stands first
+abbrev pub told_by : Work → (lane : ℕ) → List Taken → List Event
+told_by work lane [] = []
+told_by work lane (one ∷ taken) = (if one.lane == lane then turn_events work one else []) ++ told_by work lane taken
+
+-- a lane's number, the events that are still to come of the turn that is under way, when that turn began, and from where on
+-- the lane's next turn is looked for among all that were taken up
 pub record LaneState : Type 0 where
+  pub number : ℕ
   pub events : List Event
-  pub free : ℕ
+  pub begin : Moment
+  pub place : ℕ
 
-abbrev pub free_of : LaneState → ℕ
-free_of s = s.free
-
--- a lane that has had no change
 abbrev pub unused : LaneState
-unused = record { events = []; free = 0 }
+unused = record { number = 0; events = []; begin = first_moment; place = 0 }
 
--- how many events are still to come of the change that it has
-abbrev pub count_left : LaneState → ℕ
-count_left s = length s.events
+-- what a lane still reports
+abbrev pub line : Work → List Taken → LaneState → List Event
+line work taken s = s.events ++ told_by work s.number (drop s.place taken)
 
--- what a lane still reports, if it gets these changes
-abbrev pub line : Work → (lane : ℕ) → LaneState → List ℕ → List Event
-line work lane s changes = s.events ++ in_turn (change_events work lane) (span_of work) changes s.free
+-- what each lane still reports
+abbrev pub left : Work → List Taken → List LaneState → (lane : ℕ) → List Event
+left work taken states lane = line work taken (get_or states lane unused)
 
--- what each lane still reports, where these changes are not dealt out yet
-abbrev pub left : Work → List LaneState → List ℕ → (lane : ℕ) → List Event
-left work states changes lane =
-    line work lane (get_or states lane unused) (get_or (dealt work (map free_of states) changes) lane [])
+-- how many events a lane still reports
+abbrev pub count_left : Work → List Taken → LaneState → ℕ
+count_left work taken s = length (line work taken s)
 
--- from when on a lane is free, if no change is under way in it
-abbrev pub free_in : List Event → (free : ℕ) → Option ℕ
-free_in [] free = Some free
-free_in (e ∷ es) free = None
+-- ---- when a lane comes next
 
--- ---- how lanes stand
+-- later than anything happens
+abbrev pub never : Moment
+never = record { second = 18446744073709551615; round = 0 }
 
--- events of the lane from one moment to another, along which no moment falls
-abbrev pub Runs : (lane low high : ℕ) → List Event → Type 0
-Runs lane low high [] = low ≤ high
-Runs lane low high (e ∷ es) = (e.worker ≡ lane) × (low ≤ e.at) × Runs lane e.at high es
+abbrev pub moment_in : (begin : Moment) → List Event → Moment
+moment_in begin [] = never
+moment_in begin (e ∷ es) = moment_from begin e
 
--- each lane's events run to the moment from which on it is free
-abbrev pub IsSteady : List LaneState → Type 0
-IsSteady states =
-    (lane : ℕ) → lane < length states → Runs lane 0 (get_or states lane unused).free (get_or states lane unused).events
+-- with its next event, if it has one
+abbrev pub next_moment : LaneState → Moment
+next_moment s = moment_in s.begin s.events
 
--- when a lane comes next: never, where it has no event and no change waits
-abbrev pub moment_in : (waits : Bool) → List Event → (free : ℕ) → ℕ
-moment_in waits (e ∷ es) free = e.at
-moment_in waits [] free = if waits then free else 18446744073709551615
+-- ---- what a lane does
 
-abbrev pub moment_of : (waits : Bool) → LaneState → ℕ
-moment_of waits s = moment_in waits s.events s.free
+-- the events are those of a turn that was taken up, from its begin on
+abbrev pub IsUnderWay : Work → List Taken → LaneState → Type 0
+IsUnderWay work taken s = (one : Taken) × Contains taken one × (s.begin ≡ one.begin) × (s.events ≡ turn_events work one)
 
--- the next event is in time
-abbrev pub IsEarly : List Event → Type 0
-IsEarly [] = Unit {0}
-IsEarly (e ∷ es) = e.at ≤ last_moment
+-- the lane is at the first of its turns from a place on that has events, or has none left
+pub record HasGoneOn (work : Work) (taken : List Taken) (lane place : ℕ) (s : LaneState) : Type 0 where
+  pub number : s.number ≡ lane
+  pub left : told_by work lane (drop place taken) ≡ line work taken s
+  pub over : s.events ≡ [] → length taken ≤ s.place
+  pub turn : (s.events ≡ []) ⊎ IsUnderWay work taken s
+
+-- the lane's next event is one of its turn, and these are behind it there
+abbrev pub GoesOn : Work → List Taken → (before : LaneState) → (rest : List Event) → (after : LaneState) → Type 0
+GoesOn work taken before [] after = HasGoneOn work taken before.number before.place after
+GoesOn work taken before (e ∷ es) after =
+    after ≡ record { number = before.number; events = e ∷ es; begin = before.begin; place = before.place }
+
+-- a lane tells the next event of the turn that is under way, and goes on to its next turn behind the last one
+abbrev pub TellsNext : Work → List Taken → (before : LaneState) → Option Event → (after : LaneState) → Type 0
+TellsNext work taken before None after = (before.events ≡ []) × (after ≡ before)
+TellsNext work taken before (Some event) after =
+    (rest : List Event) × (before.events ≡ event ∷ rest) × GoesOn work taken before rest after
+
+-- each of so many lanes is at the first of its turns that has events
+pub record HaveGoneOn (work : Work) (taken : List Taken) (count : ℕ) (states : List LaneState) : Type 0 where
+  pub all : length states ≡ count
+  pub each : (lane : ℕ) → lane < count → HasGoneOn work taken lane 0 (get_or states lane unused)

@@ -1,30 +1,69 @@
 -- Facts of lanes have one proof at most, so that they may be ghost fields.
 use Rattle.std.specs.Prelude.{ℕ, All, List, [], ◌∷◌, get_or}
-use Rattle.std.specs.Coded.{le_prop, Π_prop}
+use Rattle.std.specs.Coded.{Coded-set, coded_bool, le_prop, Π_prop}
 use native.Mathlib.Nat.{ℕ_set}
 use Rattle.apply_model.specs.Plan.SavedPlan.{SavedPlan}
 use Rattle.apply_events.specs.declared.event.Event.{Event}
-use Rattle.apply_events.specs.declared.lanes.lane.Lane.{Lane}
-use Rattle.apply_events.specs.declared.lanes.lane.Lane.TheVariants.{Free, Busy}
-use Rattle.apply_events.specs.Lanes.Lane.{IsSound}
-use Rattle.apply_events.specs.Lanes.LaneState.{IsSteady, LaneState, Runs}
+use Rattle.apply_events.specs.declared.lanes.moment.Moment.{Moment}
+use Rattle.apply_events.specs.declared.lanes.taken.Taken.{Taken}
+use Rattle.apply_events.specs.Fits.{IsOfPlan}
+use Rattle.apply_events.specs.Lanes.LaneState.{LaneState}
+use Rattle.apply_events.specs.Lanes.Startable.{IsStartable}
+use Rattle.apply_events.specs.Lanes.Steady.{AreSteady, IsSteadyLane, IsTimed, IsTimedTurn, Rises}
+use Rattle.apply_events.specs.Step.{Work}
+use Rattle.apply_events.specs.Waits.Moment.{IsNoLater}
 
-Runs-prop : (lane low high : ℕ) (es : List Event) → IsProp (Runs lane low high es)
-Runs-prop lane low high [] = le_prop
-Runs-prop lane low high (e ∷ es) =
-    λ p q i. (ℕ_set e.worker lane p.0 q.0 i, le_prop p.1 q.1 i, Runs-prop lane e.at high es p.2 q.2 i)
+All-prop : {X : Type 0} (P : X → Type 0) → ((x : X) → IsProp (P x)) → (xs : List X) → IsProp (All P xs)
+All-prop P one xs = Π_prop λ i. Π_prop λ d. Π_prop λ _. one (get_or xs i d)
 
-pub IsSteady-prop : (states : List LaneState) → IsProp (IsSteady states)
-IsSteady-prop states = Π_prop λ lane. Π_prop λ _. Runs-prop lane 0 _ _
+-- ---- turns
 
-IsSound-prop : {a b : _} {g : _} (plan : SavedPlan) (begun : ℕ) (lane : Lane a b g) → IsProp (IsSound plan begun lane)
-IsSound-prop plan begun (Free at) = le_prop
-IsSound-prop plan begun (Busy busy) = λ p q i. (
-  record { has_step = le_prop p.0.has_step q.0.has_step i; in_time = le_prop p.0.in_time q.0.in_time i },
-  le_prop p.1 q.1 i,
-  λ c k h. le_prop (p.2 c k h) (q.2 c k h) i,
+IsStartable-prop : (work : Work) (one : Taken) → IsProp (IsStartable work one)
+IsStartable-prop work one = λ p q i. record {
+  known = Coded-set coded_bool _ _ p.known q.known i;
+  change = le_prop p.change q.change i;
+  few = le_prop p.few q.few i;
+  first = le_prop p.first q.first i;
+  last = le_prop p.last q.last i;
+  in_time = le_prop p.in_time q.in_time i;
+  has_step = λ h. le_prop (p.has_step h) (q.has_step h) i;
+  went_on = λ h. Coded-set coded_bool _ _ (p.went_on h) (q.went_on h) i;
+  late = λ h. le_prop (p.late h) (q.late h) i;
+}
+
+pub AllStartable-prop : (work : Work) (taken : List Taken) → IsProp (All (IsStartable work) taken)
+AllStartable-prop work taken = All-prop (IsStartable work) (IsStartable-prop work) taken
+
+IsTimed-prop : (at : Event → Moment) (begin : Moment) (e : Event) → IsProp (IsTimed at begin e)
+IsTimed-prop at begin e = λ p q i. ℕ_set _ _ p q i
+
+pub AllTimed-prop : (work : Work) (at : Event → Moment) (taken : List Taken) → IsProp (All (IsTimedTurn work at) taken)
+AllTimed-prop work at taken = All-prop (IsTimedTurn work at) (λ one. All-prop (IsTimed at one.begin) (IsTimed-prop at one.begin) _) taken
+
+-- ---- lanes
+
+IsNoLater-prop : (a b : Moment) → IsProp (IsNoLater a b)
+IsNoLater-prop a b = λ p q i. (le_prop p.0 q.0 i, λ h. le_prop (p.1 h) (q.1 h) i)
+
+Rises-prop : (at : Event → Moment) (lane : ℕ) (es : List Event) → IsProp (Rises at lane es)
+Rises-prop at lane [] = λ p q i. tt
+Rises-prop at lane (e ∷ es) = λ p q i. (
+  ℕ_set e.worker lane p.0 q.0 i,
+  All-prop (λ (f : Event). IsNoLater (at e) (at f)) (λ f. IsNoLater-prop (at e) (at f)) es p.1 q.1 i,
+  Rises-prop at lane es p.2 q.2 i,
 )
 
-pub AllSound-prop : {a b : _} {g : _} (plan : SavedPlan) (begun : ℕ) (lanes : List (Lane a b g))
-    → IsProp (All (λ lane. IsSound plan begun lane) lanes)
-AllSound-prop plan begun lanes = Π_prop λ i. Π_prop λ d. Π_prop λ _. IsSound-prop plan begun (get_or lanes i d)
+IsOfPlan-prop : (plan : SavedPlan) (e : Event) → IsProp (IsOfPlan plan e)
+IsOfPlan-prop plan e = λ p q i. record { has_step = le_prop p.has_step q.has_step i; in_time = le_prop p.in_time q.in_time i }
+
+IsSteadyLane-prop : (work : Work) (taken : List Taken) (lane : ℕ) (s : LaneState) → IsProp (IsSteadyLane work taken lane s)
+IsSteadyLane-prop work taken lane s = λ p q i. record {
+  number = ℕ_set _ _ p.number q.number i;
+  rises = Rises-prop _ lane _ p.rises q.rises i;
+  timed = All-prop _ (IsTimed-prop _ s.begin) s.events p.timed q.timed i;
+  over = λ h. le_prop (p.over h) (q.over h) i;
+  of_plan = All-prop _ (IsOfPlan-prop work.plan) _ p.of_plan q.of_plan i;
+}
+
+pub AreSteady-prop : (work : Work) (taken : List Taken) (states : List LaneState) → IsProp (AreSteady work taken states)
+AreSteady-prop work taken states = Π_prop λ lane. Π_prop λ _. IsSteadyLane-prop work taken lane _

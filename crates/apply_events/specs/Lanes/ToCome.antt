@@ -1,14 +1,14 @@
 -- What contracts see of lanes: the events that are still to come.
-use Rattle.std.specs.Prelude.{ℕ, ◌-◌, Bool, List, Option, get_or, length, map, nat_lt}
-use Rattle.std.specs.List.{range_with_len}
+use Rattle.std.specs.Prelude.{ℕ, List, length, map}
 use Rattle.apply_hooks.specs.Registry.{rules_of}
 use Rattle.apply_events.specs.declared.event.Event.{Event}
-use Rattle.apply_events.specs.Step.{Work}
 use Rattle.apply_events.specs.declared.lanes.Lanes.{Lanes}
-use Rattle.apply_events.specs.Lanes.LaneState.{free_in}
+use Rattle.apply_events.specs.declared.lanes.moment.Moment.{Moment}
 use Rattle.apply_events.specs.Lanes.Lane.{state_of}
-use Rattle.apply_events.specs.Lanes.LaneState.{LaneState, left, moment_of, unused}
-use Rattle.apply_events.specs.Lanes.Merging.{merged}
+use Rattle.apply_events.specs.Lanes.LaneState.{LaneState, left, next_moment}
+use Rattle.apply_events.specs.Lanes.Steady.{when}
+use Rattle.apply_events.specs.Step.{Work}
+use Rattle.apply_events.specs.Waits.Merging.{merged}
 
 abbrev pub work_of : {a b : _} {g : _} → Lanes a b g → Work
 work_of l = record { plan = l.plan.now; script = l.script.now; hooks = rules_of l.registry.now }
@@ -16,25 +16,13 @@ work_of l = record { plan = l.plan.now; script = l.script.now; hooks = rules_of 
 abbrev pub states_of : {a b : _} {g : _} → Lanes a b g → List LaneState
 states_of l = map state_of l.lanes.items
 
--- the changes that are not dealt out yet
-abbrev pub waiting : {a b : _} {g : _} → Lanes a b g → List ℕ
-waiting l = range_with_len l.change (length l.plan.now.changes - l.change)
-
 -- the events that are still to come
 abbrev pub to_come : {a b : _} {g : _} → Lanes a b g → List Event
-to_come l = merged (length (states_of l)) (left (work_of l) (states_of l) (waiting l))
-
--- whether a change waits
-abbrev pub waits_of : {a b : _} {g : _} → Lanes a b g → Bool
-waits_of l = nat_lt l.change (length l.plan.now.changes)
+to_come l = merged (when l.taken.items) (length (states_of l)) (left (work_of l) l.taken.items (states_of l))
 
 -- when each lane comes next
-abbrev pub moments_of : {a b : _} {g : _} → Lanes a b g → List ℕ
-moments_of l = map (moment_of (waits_of l)) (states_of l)
-
--- from when on a lane is free, if no change is under way in it
-abbrev pub free_at : {a b : _} {g : _} → Lanes a b g → (lane : ℕ) → Option ℕ
-free_at l lane = free_in (get_or (states_of l) lane unused).events (get_or (states_of l) lane unused).free
+abbrev pub moments_of : {a b : _} {g : _} → Lanes a b g → List Moment
+moments_of l = map next_moment (states_of l)
 
 -- how many events were given
 abbrev pub told_count : {a b : _} {g : _} → Lanes a b g → ℕ

@@ -1,74 +1,100 @@
 //! A lane, which tells its turns one after another.
 
-ghost use Rattle.std.specs.Prelude.{◌≡◌, ◌<◌, ◌≤◌};
+ghost use Rattle.std.specs.Prelude.{◌≡◌, ◌==◌, All, if◌then◌else◌};
+ghost use Rattle.apply_hooks.specs.Registry.{rules_of};
+ghost use Rattle.apply_events.specs.Lanes.Lane.{IsBegun};
+ghost use Rattle.apply_events.specs.Lanes.Startable.{IsStartable};
 
 use crate::event::Event;
 use crate::lanes::moment::Moment;
 use crate::lanes::taken::Taken;
-use crate::runner::Runner;
+use crate::lanes::turn_runner::TurnRunner;
 use apply_hooks::Registry;
 use apply_model::{Plan, Script};
-use std::alloc::{AllocError, Global};
 
-/// A lane: the turns that it takes up, one after another.
+/// A lane: the turns that it has of those that are taken up, one after another.
 #[derive(Drop)]
 pub struct Lane<'a> {
+    number: u8,
     /// None where nothing is left.
     under_way: Option<UnderWay<'a>>,
-    turns: Vec<Taken>,
-    /// How many of the turns it has begun.
-    begun: usize,
+    /// From where on its next turn is looked for among all that are taken up.
+    place: usize,
 }
 
 /// A turn that is under way.
 #[derive(Drop)]
 pub struct UnderWay<'a> {
-    taken: Taken,
+    begin: Moment,
     /// Its next event.
     ahead: Event,
-    /// It gives those behind that one, and those of further steps of the change.
-    behind: Runner<'a>,
+    /// It gives those behind that one.
+    behind: TurnRunner<'a>,
 }
 
+/// Later than anything happens.
+const NEVER: Moment = Moment {
+    second: u64::MAX,
+    round: 0,
+};
+
 impl<'a> Lane<'a> {
-    /// A lane without turns.
-    pub(crate) fn new(alloc: Global) -> Lane<'a> {
-        Lane {
-            under_way: None,
-            turns: Vec::new(alloc),
-            begun: 0,
-        }
+    ghost use Rattle.apply_events.specs.Lanes.Lane.{state_of};
+    ghost use Rattle.apply_events.specs.Lanes.LaneState.{HasGoneOn, TellsNext, next_moment};
+
+    /// The lane of that number, with the first of its turns that has events under way.
+    pub(crate) fn start(
+        plan: &'a Plan,
+        script: &'a Script,
+        registry: &'a Registry,
+        taken: &[Taken],
+        number: u8,
+    ) -> Lane<'a>
+        requires { All (IsStartable (record { plan = plan.now; script = script.now; hooks = rules_of registry.now })) taken.now }
+        ensures { HasGoneOn (record { plan = plan.now; script = script.now; hooks = rules_of registry.now }) taken.now number 0 (state_of result) }
+    {
+        Lane::from_place(plan, script, registry, taken, number, 0)
     }
 
-    /// The lane takes up a further turn.
-    pub(crate) fn take_up(&mut self, taken: Taken) -> Result<(), AllocError> {
-        self.turns.push(taken)?;
-        Ok(())
-    }
-
-    /// Goes on with the next of its turns that has events, if one is left.
-    pub(crate) fn go_on(&mut self, plan: &'a Plan, script: &'a Script, registry: &'a Registry) {
-        self.under_way = None;
-        while self.begun < self.turns.len() {
-            let taken = self.turns[self.begun];
-            self.begun += 1;
-            let mut behind = start(plan, script, registry, taken);
-            if let Some(ahead) = next_of_turn(&mut behind, taken) {
-                self.under_way = Some(UnderWay {
-                    taken,
-                    ahead,
-                    behind,
-                });
-                return;
+    /// The lane with the first of its turns from a place on that has events.
+    fn from_place(
+        plan: &'a Plan,
+        script: &'a Script,
+        registry: &'a Registry,
+        taken: &[Taken],
+        number: u8,
+        place: usize,
+    ) -> Lane<'a>
+        requires { All (IsStartable (record { plan = plan.now; script = script.now; hooks = rules_of registry.now })) taken.now }
+        ensures { HasGoneOn (record { plan = plan.now; script = script.now; hooks = rules_of registry.now }) taken.now number place (state_of result) }
+    {
+        for next in place..taken.len() {
+            let turn = taken[next];
+            if turn.lane == number {
+                let under_way = begin(plan, script, registry, turn);
+                if under_way.is_some() {
+                    return Lane {
+                        number,
+                        under_way,
+                        place: next + 1,
+                    };
+                }
             }
         }
+        Lane {
+            number,
+            under_way: None,
+            place: taken.len(),
+        }
     }
 
-    /// The moment of its next event. `None` where none is left.
-    pub(crate) fn moment(&self) -> Option<Moment> {
+    /// When it comes next; later than anything happens, where nothing is left.
+    pub(crate) fn moment(&self) -> Moment
+        ensures { result ≡ next_moment (state_of self.now) }
+    {
         match &self.under_way {
-            Some(under_way) => Some(moment_from(under_way.taken.begin, under_way.ahead.at)),
-            None => None,
+            Some(under_way) => moment_from(under_way.begin, under_way.ahead.at),
+            None => NEVER,
         }
     }
 
@@ -78,21 +104,31 @@ impl<'a> Lane<'a> {
         plan: &'a Plan,
         script: &'a Script,
         registry: &'a Registry,
-    ) -> Option<Event> {
-        let Some(under_way) = &mut self.under_way else {
-            return None;
-        };
-        let event = under_way.ahead;
-        match next_of_turn(&mut under_way.behind, under_way.taken) {
-            Some(next) => under_way.ahead = next,
-            None => self.go_on(plan, script, registry),
+        taken: &[Taken],
+    ) -> Option<Event>
+        requires { All (IsStartable (record { plan = plan.now; script = script.now; hooks = rules_of registry.now })) taken.now }
+        ensures { TellsNext (record { plan = plan.now; script = script.now; hooks = rules_of registry.now }) taken.now
+            (state_of self.old) result (state_of self.new) }
+    {
+        let mut turn = self.under_way.take()?;
+        let event = turn.ahead;
+        match turn.behind.next() {
+            Some(next) => {
+                turn.ahead = next;
+                self.under_way = Some(turn);
+            }
+            None => {
+                *self = Lane::from_place(plan, script, registry, taken, self.number, self.place);
+            }
         }
         Some(event)
     }
 }
 
 /// The moment of an event in that second, of a turn that begins at a moment.
-fn moment_from(begin: Moment, second: u64) -> Moment {
+fn moment_from(begin: Moment, second: u64) -> Moment
+    ensures { result ≡ record { second = second; round = if second == begin.second then begin.round else 0 } }
+{
     if second == begin.second {
         begin
     } else {
@@ -100,25 +136,21 @@ fn moment_from(begin: Moment, second: u64) -> Moment {
     }
 }
 
-/// What gives the events of the turn, and then those of further steps of its change.
-fn start<'a>(
+/// The turn with its first event, if it has one.
+fn begin<'a>(
     plan: &'a Plan,
     script: &'a Script,
     registry: &'a Registry,
     taken: Taken,
-) -> Runner<'a> {
-    let change = taken.turn.change;
-    if taken.turn.first == 0 {
-        Runner::start(plan, script, registry, taken.lane, change, taken.begin.second)
-    } else {
-        Runner::resume(plan, script, registry, taken.lane, change, taken.begin.second)
-    }
-}
-
-/// The next event of the turn.
-fn next_of_turn(runner: &mut Runner<'_>, taken: Taken) -> Option<Event> {
-    if runner.begins() == Some(taken.turn.first + taken.turn.count) {
-        return None;
-    }
-    runner.next()
+) -> Option<UnderWay<'a>>
+    requires { IsStartable (record { plan = plan.now; script = script.now; hooks = rules_of registry.now }) taken }
+    ensures { IsBegun (record { plan = plan.now; script = script.now; hooks = rules_of registry.now }) taken result }
+{
+    let mut behind = TurnRunner::start(plan, script, registry, taken);
+    let ahead = behind.next()?;
+    Some(UnderWay {
+        begin: taken.begin,
+        ahead,
+        behind,
+    })
 }

@@ -1,6 +1,8 @@
 //! Which turn is taken up when, and in which lane.
 
-ghost use Rattle.std.specs.Prelude.{◌≡◌, ◌<◌, ◌≤◌};
+ghost use Rattle.std.specs.Prelude.{◌≡◌, ◌<◌, ◌≤◌, IfOk, reverse};
+ghost use Rattle.apply_hooks.specs.Registry.{rules_of};
+ghost use Rattle.apply_events.specs.Waits.Schedule.{schedule};
 
 use crate::lanes::moment::Moment;
 use crate::lanes::queue::Queue;
@@ -18,7 +20,10 @@ pub(crate) fn schedule(
     script: &Script,
     registry: &Registry,
     lanes: u8,
-) -> Result<Vec<Taken>, AllocError> {
+) -> Result<Vec<Taken>, AllocError>
+    requires { 0 < lanes }
+    ensures { IfOk result (λ all. all.items ≡ reverse (schedule (record { plan = plan.now; script = script.now; hooks = rules_of registry.now }) lanes)) }
+{
     let turns = turns(alloc, plan, script)?;
     let mut queue = Queue::new(alloc, script, &turns)?;
     let mut free = Vec::with_capacity(alloc, lanes as usize)?;

@@ -9,7 +9,7 @@ use Rattle.apply_events.specs.declared.event.Event.{Event}
 use Rattle.apply_events.specs.ChangeEvents.{change_events, in_turn, span_of}
 use Rattle.apply_events.specs.Step.{Work}
 use Rattle.apply_events.specs.Lanes.Dealing.{before, dealt, first_least, kept, lanes}
-use Rattle.apply_events.specs.Lanes.LaneState.{Runs}
+use Rattle.apply_events.specs.Lanes.Runs.{Runs}
 use Rattle.apply_events.specs.Lanes.TimeLine.{IsTimeLine, lane_events}
 use Rattle.apply_events.proofs.TimeLines.Changes.{change_runs, runs_lower}
 use Rattle.apply_events.proofs.TimeLines.Dealt.{length_dealt}
