@@ -4,13 +4,16 @@ pub mod Earliest
 pub mod Ends
 pub mod Found
 pub mod Free
+pub mod LanesInCode
 pub mod LanesRise
+pub mod ManyLanes
 pub mod Members
 pub mod Merge
 pub mod Moments
 pub mod Once
 pub mod OneLane
 pub mod Order
+pub mod Rises
 pub mod TakenUp
 pub mod TurnEvents
 pub mod TurnSteps

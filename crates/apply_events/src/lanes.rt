@@ -99,8 +99,10 @@ impl<'a> Lanes<'a> {
         ensures few { told_count self.new ≤ max_events }
     {
         let first = self.first();
-        let event =
-            self.lanes[first].next(self.plan, self.script, self.registry, &self.taken)?;
+        let next = self.lanes[first].next(self.plan, self.script, self.registry, &self.taken);
+        let Some(event) = next else {
+            return None;
+        };
         self.told += 1;
         Some(event)
     }

@@ -18,13 +18,13 @@ pub record IsFirstEarliest (ms : List Moment) (i j : ℕ) : Type 0 where
   pub least : (k : ℕ) → k < i → is_earlier (get_or ms k first_moment) (get_or ms j first_moment) ≡ false
   pub first : (k : ℕ) → k < j → is_earlier (get_or ms j first_moment) (get_or ms k first_moment) ≡ true
 
-earlier_is : (a b : Moment) → is_earlier a b ≡ true → IsNoLater a b
+pub earlier_is : (a b : Moment) → is_earlier a b ≡ true → IsNoLater a b
 earlier_is a b its = ⊎_elim
     (λ (c : (is_earlier a b ≡ true) × IsNoLater a b). c.1)
     (λ (c : (is_earlier a b ≡ false) × IsNoLater b a). absurd (true≢false (sym its ∙ c.0)))
     (tells a b)
 
-no_earlier_is : (a b : Moment) → is_earlier a b ≡ false → IsNoLater b a
+pub no_earlier_is : (a b : Moment) → is_earlier a b ≡ false → IsNoLater b a
 no_earlier_is a b its = ⊎_elim
     (λ (c : (is_earlier a b ≡ true) × IsNoLater a b). absurd (true≢false (sym c.0 ∙ its)))
     (λ (c : (is_earlier a b ≡ false) × IsNoLater b a). c.1)

@@ -7,11 +7,12 @@ use Rattle.apply_events.specs.declared.event.Event.{Event}
 use Rattle.apply_events.specs.declared.lanes.moment.Moment.{Moment}
 use Rattle.apply_events.specs.declared.lanes.taken.Taken.{Taken}
 use Rattle.apply_events.specs.Fits.{IsOfPlan}
-use Rattle.apply_events.specs.Lanes.LaneState.{LaneState}
+use Rattle.apply_events.specs.Lanes.LaneState.{LaneState, line, unused}
 use Rattle.apply_events.specs.Lanes.Startable.{IsStartable}
-use Rattle.apply_events.specs.Lanes.Steady.{AreSteady, IsSteadyLane, IsTimed, IsTimedTurn, Rises}
+use Rattle.apply_events.specs.Lanes.Steady.{AreSteady, IsSteadyLane, IsTimed, IsTimedTurn, Rises, when}
 use Rattle.apply_events.specs.Step.{Work}
 use Rattle.apply_events.specs.Waits.Moment.{IsNoLater}
+use Rattle.apply_events.specs.Waits.TimeLine.{turn_events}
 
 All-prop : {X : Type 0} (P : X → Type 0) → ((x : X) → IsProp (P x)) → (xs : List X) → IsProp (All P xs)
 All-prop P one xs = Π_prop λ i. Π_prop λ d. Π_prop λ _. one (get_or xs i d)
@@ -38,7 +39,7 @@ IsTimed-prop : (at : Event → Moment) (begin : Moment) (e : Event) → IsProp (
 IsTimed-prop at begin e = λ p q i. ℕ_set _ _ p q i
 
 pub AllTimed-prop : (work : Work) (at : Event → Moment) (taken : List Taken) → IsProp (All (IsTimedTurn work at) taken)
-AllTimed-prop work at taken = All-prop (IsTimedTurn work at) (λ one. All-prop (IsTimed at one.begin) (IsTimed-prop at one.begin) _) taken
+AllTimed-prop work at taken = All-prop (IsTimedTurn work at) (λ one. All-prop (IsTimed at one.begin) (IsTimed-prop at one.begin) (turn_events work one)) taken
 
 -- ---- lanes
 
@@ -59,11 +60,11 @@ IsOfPlan-prop plan e = λ p q i. record { has_step = le_prop p.has_step q.has_st
 IsSteadyLane-prop : (work : Work) (taken : List Taken) (lane : ℕ) (s : LaneState) → IsProp (IsSteadyLane work taken lane s)
 IsSteadyLane-prop work taken lane s = λ p q i. record {
   number = ℕ_set _ _ p.number q.number i;
-  rises = Rises-prop _ lane _ p.rises q.rises i;
-  timed = All-prop _ (IsTimed-prop _ s.begin) s.events p.timed q.timed i;
+  rises = Rises-prop (when taken) lane (line work taken s) p.rises q.rises i;
+  timed = All-prop (IsTimed (when taken) s.begin) (IsTimed-prop (when taken) s.begin) s.events p.timed q.timed i;
   over = λ h. le_prop (p.over h) (q.over h) i;
-  of_plan = All-prop _ (IsOfPlan-prop work.plan) _ p.of_plan q.of_plan i;
+  of_plan = All-prop (IsOfPlan work.plan) (IsOfPlan-prop work.plan) (line work taken s) p.of_plan q.of_plan i;
 }
 
 pub AreSteady-prop : (work : Work) (taken : List Taken) (states : List LaneState) → IsProp (AreSteady work taken states)
-AreSteady-prop work taken states = Π_prop λ lane. Π_prop λ _. IsSteadyLane-prop work taken lane _
+AreSteady-prop work taken states = Π_prop λ lane. Π_prop λ _. IsSteadyLane-prop work taken lane (get_or states lane unused)

@@ -1,0 +1,7 @@
+use Rattle.apply_events.specs.Lanes.ToCome.{moments_of}
+use Rattle.apply_events.proofs.Waits.Earliest.{IsFirstEarliest}
+use Rattle.apply_events.proofs.lanes.Lanes.first.Given as goal
+
+-- the first so far
+abbrev pub invariant-loop-lane : goal.invariant-loop-lane
+invariant-loop-lane g l = IsFirstEarliest (moments_of l.self) l.lane l.first
