@@ -1,7 +1,10 @@
 -- Turns that lanes take up, and their time line.
 pub mod AllTurns
+pub mod AtStart
+pub mod DoneBefore
 pub mod Earliest
 pub mod Ends
+pub mod FewEvents
 pub mod Found
 pub mod Free
 pub mod LanesInCode
@@ -13,7 +16,10 @@ pub mod Moments
 pub mod Once
 pub mod OneLane
 pub mod Order
+pub mod Reversed
 pub mod Rises
+pub mod Shares
+pub mod Startable
 pub mod TakenUp
 pub mod TurnEvents
 pub mod TurnSteps

@@ -58,13 +58,13 @@ few_started w s at small =
     few_joined (event w s at Start) (map beat (between s)) (map tell (endings s)) (halts w s (phase_after s.fails) (at + seconds_of s))
     (omega arith) (omega arith) (few_found w s (phase_after s.fails) (at + seconds_of s) (s.halts (phase_after s.fails)))
 
-few_step : (w : ℕ) (s : Step) (at : ℕ) (found : Option ℕ) → IsSmall s → length (cond (is_some found) (option_to_list (option_map (λ hook. event w s at (Halted Pre hook)) found)) (started w s at)) ≤ 9459
+pub few_step : (w : ℕ) (s : Step) (at : ℕ) (found : Option ℕ) → IsSmall s → length (cond (is_some found) (option_to_list (option_map (λ hook. event w s at (Halted Pre hook)) found)) (started w s at)) ≤ 9459
 few_step w s at None short = few_started w s at short
 few_step w s at (Some hook) short = let one = few_found w s Pre at (Some hook) in omega arith
 
 -- ---- a change
 
-small_step : (work : Work) (c n : ℕ) (kind : StepKind) → IsBounded (outcome_of work.script c n) → IsSmall (step_of work c n kind)
+pub small_step : (work : Work) (c n : ℕ) (kind : StepKind) → IsBounded (outcome_of work.script c n) → IsSmall (step_of work c n kind)
 small_step work c n kind bounded =
     let outcome = outcome_of work.script c n in
     let less = ran_short outcome.provisioners in let most = ran_few outcome.provisioners in

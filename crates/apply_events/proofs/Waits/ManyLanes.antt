@@ -135,7 +135,7 @@ module _ (w : Work) (taken : List Taken) where
 
   -- ---- all lanes
 
-  all_rise : (states : List LaneState) → AreSteady w taken states → AllRise at (left w taken states) 0 (length states)
+  pub all_rise : (states : List LaneState) → AreSteady w taken states → AllRise at (left w taken states) 0 (length states)
   all_rise states steady v low high =
       let h = steady v (omega arith) in rises_merge at v (line w taken (get_or states v unused)) h.rises
 

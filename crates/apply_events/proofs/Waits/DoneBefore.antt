@@ -1,0 +1,110 @@
+-- A turn that begins with the second step of its change is taken up behind the first step, which has gone on.
+use Rattle.std.proofs.Common.{◌≡◌, ℕ, zero, suc, ◌+◌, ◌<◌, ◌≤◌, Bool, true, false, ◌&&◌, List, [], ◌∷◌, ◌++◌, Option, Some, None, cond, length, map, take, refl, sym, ap, ◌∙◌, subst, ⊎_elim, ◌⊎◌, inl, inr, arith, eqb}
+use Rattle.std.specs.Prelude.{is_none, is_some, not, option_map, slice_get}
+use Rattle.std.specs.List.{Contains, enumerate_from, list_all}
+use Rattle.std.proofs.lemmas.Bool.{and_parts, cases_eq, true≢false}
+use Rattle.apply_hooks.specs.declared.phase.Phase.TheVariants.{Pre, PostDone}
+use Rattle.apply_model.specs.declared.plan.step_kind.StepKind.{StepKind}
+use Rattle.apply_model.specs.declared.script.wait.Wait.{Wait}
+use Rattle.apply_model.specs.Script.Outcome.{took}
+use Rattle.apply_model.specs.Script.OutcomeMap.{outcome_of}
+use Rattle.apply_events.specs.declared.lanes.moment.Moment.{Moment}
+use Rattle.apply_events.specs.declared.lanes.taken.Taken.{Taken}
+use Rattle.apply_events.specs.declared.lanes.turn.Turn.{Turn}
+use Rattle.apply_events.specs.Step.{Step, Work, kinds_of, step_of, steps_of}
+use Rattle.apply_events.specs.StepEvents.{goes_on, seconds_of, step_time}
+use Rattle.apply_events.specs.Waits.Done.{done_among, done_at, done_by, done_in, first_found, later_if_both, ready_at}
+use Rattle.apply_events.specs.Waits.Moment.{IsNoLater, first_moment, later_by, later_of, next_round}
+use Rattle.apply_events.specs.Waits.Turn.{begun_steps, single, waits_of_turn}
+use Rattle.apply_events.proofs.Waits.Members.{in_head, in_tail}
+use Rattle.apply_events.proofs.Waits.Moments.{first_no_later, later_by_second}
+use Rattle.apply_events.proofs.Waits.TurnEvents.{done_first, done_if, done_later, done_there}
+use Rattle.apply_events.proofs.Waits.TurnSteps.{begun_of_change, step_at_number}
+
+-- ---- the first of what it waits for is done
+
+both_some : (a b : Option Moment) (at : Moment) → later_if_both (option_map next_round a) b ≡ Some at → (m : Moment) × (a ≡ Some m) × IsNoLater (next_round m) at
+both_some None b at is = absurd cc
+both_some (Some m) None at is = absurd cc
+both_some (Some m) (Some b) at is =
+    let same : later_of (next_round m) b ≡ at = cc in (m, refl, subst (IsNoLater (next_round m)) same (first_no_later (next_round m) b))
+
+found_cases : (a b : Option Moment) (m : Moment) → first_found a b ≡ Some m → (a ≡ Some m) ⊎ (b ≡ Some m)
+found_cases None b m is = inr is
+found_cases (Some a) b m is = inl is
+
+pub done_in_one : (w : Work) (taken : List Taken) (name : Wait) (m : Moment) → done_at w taken name ≡ Some m → (one : Taken) × Contains taken one × (done_in w one name ≡ Some m)
+done_in_one w [] name m is = absurd cc
+done_in_one w (one ∷ taken) name m is = ⊎_elim
+    (λ (here : done_in w one name ≡ Some m). (one, in_head one taken, here))
+    (λ (earlier : done_at w taken name ≡ Some m). let rest = done_in_one w taken name m earlier in (rest.0, in_tail one taken rest.0 rest.1, rest.2))
+    (found_cases (done_in w one name) (done_at w taken name) m is)
+
+-- ---- a step that is done
+
+-- it goes on, and took its time by then
+done_time : (k : ℕ) (at : Moment) (steps : List Step) (m : Moment) → done_among k at steps ≡ Some m → (s : Step) × Contains steps s × (s.number ≡ k) × (goes_on s ≡ true) × (step_time s ≤ m.second)
+done_time k at [] m is = absurd cc
+done_time k at (s ∷ steps) m is = ⊎_elim
+    (λ (here : s.number ≡ k).
+    let ends = done_if (goes_on s) (later_by (step_time s) at) m (sym (done_first k at s steps here) ∙ is) in
+    let second = ap (λ (x : Moment). x.second) ends.1 in let later = later_by_second at (step_time s) in
+    let time : step_time s ≤ m.second = omega arith in
+    (s, in_head s steps, here, ends.0, time))
+    (λ (other : s.number ≡ k → ⊥).
+    let rest = done_time k (later_by (step_time s) at) steps m (sym (done_later k at s steps other) ∙ is) in
+    (rest.0, in_tail s steps rest.0 rest.1, rest.2, rest.3, rest.4))
+    (cases_eq s.number k)
+
+-- a step that goes on takes its time
+none_halts : (found : Option ℕ) (k : ℕ) → is_none found ≡ true → cond (is_some found) 0 k ≡ k
+none_halts None k none = refl
+none_halts (Some hook) k none = absurd (true≢false (sym none))
+
+whole_time : (s : Step) → goes_on s ≡ true → step_time s ≡ seconds_of s
+whole_time s on =
+    let all = and_parts (is_none (s.halts Pre) && not s.fails) (is_none (s.halts PostDone)) on in
+    let both = and_parts (is_none (s.halts Pre)) (not s.fails) all.0 in
+    none_halts (s.halts Pre) (seconds_of s) both.0
+
+first_seconds : (w : Work) (c : ℕ) (kinds : List StepKind) (s : Step) → slice_get (map (λ p. step_of w c p.0 p.1) (enumerate_from 0 kinds)) 0 ≡ Some s → seconds_of s ≡ took (outcome_of w.script c 0)
+first_seconds w c [] s is = absurd cc
+first_seconds w c (kind ∷ kinds) s is = let same : step_of w c 0 kind ≡ s = cc in ap seconds_of (sym same)
+
+first_on : (steps : List Step) (s : Step) → slice_get steps 0 ≡ Some s → goes_on s ≡ true → list_all goes_on (take 1 steps) ≡ true
+first_on [] s is on = absurd cc
+first_on (x ∷ steps) s is on = let same : x ≡ s = cc in ap (λ t. t && true) (ap goes_on same ∙ on)
+
+-- ---- a turn that begins with the second step
+
+pub record IsBehindFirst (w : Work) (c : ℕ) (before : List Taken) (begin : Moment) : Type 0 where
+  pub one : Taken
+  pub there : Contains before one
+  pub change : one.turn.change ≡ c
+  pub step : (s : Step) × Contains (begun_steps w one.turn) s × (s.number ≡ 0)
+  pub went_on : list_all goes_on (take 1 (steps_of w c)) ≡ true
+  pub late : took (outcome_of w.script c 0) ≤ begin.second
+
+pub behind_first : (w : Work) (c : ℕ) (before : List Taken) (at begin : Moment) → ready_at w before (single c 1) ≡ Some at → IsNoLater at begin → IsBehindFirst w c before begin
+behind_first w c before at begin ready low =
+    let name : Wait = record { change = c; step = 0 } in
+    let both = both_some (done_at w before name) (done_by w before (outcome_of w.script c 1).after) at ready in
+    let m = both.0 in
+    let found = done_in_one w before name m both.1 in
+    let one = found.0 in
+    let there = done_there w one name m found.2 in
+    let done = done_time 0 one.begin (begun_steps w one.turn) m there.among in
+    let s = done.0 in
+    let inside : Contains (steps_of w c) s = subst (λ k. Contains (steps_of w k) s) there.change (begun_of_change w one.turn s done.1) in
+    let place : slice_get (steps_of w c) 0 ≡ Some s = ap (slice_get (steps_of w c)) (sym done.2) ∙ step_at_number w c s inside in
+    let time = whole_time s done.3 in
+    let seconds = first_seconds w c (kinds_of w.plan c) s place in
+    let soon = both.2.0 in let begun = low.0 in let late = done.4 in
+    record {
+      one = one;
+      there = found.1;
+      change = there.change;
+      step = (s, done.1, done.2);
+      went_on = first_on (steps_of w c) s place done.3;
+      late = omega arith;
+    }

@@ -1,0 +1,134 @@
+-- What lanes report of the turns that they take up: events of the plan, in time, and not too many.
+use Rattle.std.proofs.Common.{◌≡◌, ◌≢◌, ℕ, zero, suc, ◌+◌, ◌-◌, ◌*◌, ◌<◌, ◌≤◌, All, Bool, true, false, List, [], ◌∷◌, ◌++◌, cond, get_or, length, length-append, reverse, sum_by, refl, sym, ap, ◌∙◌, subst, ⊎_elim, arith, eqb, eq-eqb, ne_eqb}
+use Rattle.std.specs.List.{Contains}
+use Rattle.std.proofs.lemmas.Bool.Decides.{eqb_tells}
+use Rattle.std.proofs.lemmas.List.Elements.{All-append, All-cons, All-contains_itself, All-head, All-nil, All-tail, All-weaker}
+use Rattle.std.proofs.lemmas.List.Sums.{sum_by-cons}
+use Rattle.apply_model.specs.Script.Limits.{max_seconds}
+use Rattle.apply_events.specs.declared.event.Event.{Event}
+use Rattle.apply_events.specs.declared.lanes.taken.Taken.{Taken}
+use Rattle.apply_events.specs.ChangeEvents.{in_turn}
+use Rattle.apply_events.specs.Fits.{IsOfPlan, last_moment}
+use Rattle.apply_events.specs.Lanes.LaneState.{LaneState, count_left, told_by, unused}
+use Rattle.apply_events.specs.Lanes.Startable.{AreWithinLimits, IsStartable}
+use Rattle.apply_events.specs.Step.{Step, Work, kinds_of, steps_of}
+use Rattle.apply_events.specs.StepEvents.{step_events, step_time}
+use Rattle.apply_events.specs.Waits.TimeLine.{turn_events}
+use Rattle.apply_events.specs.Waits.Turn.{begun_steps, turns}
+use Rattle.apply_events.proofs.StepNumbers.{steps_of-numbered}
+use Rattle.apply_events.proofs.TimeLines.Few.{IsSmall, few_step}
+use Rattle.apply_events.proofs.Waits.Ends.{turn_end}
+use Rattle.apply_events.proofs.Waits.Members.{in_head, in_tail}
+use Rattle.apply_events.proofs.Waits.Once.{turn_is}
+use Rattle.apply_events.proofs.Waits.OneLane.{known_is}
+use Rattle.apply_events.proofs.Waits.Shares.{share, shares}
+use Rattle.apply_events.proofs.Waits.Startable.{AllWithin, begun_small, few_begun, time_within, turn_facts}
+use Rattle.apply_events.proofs.Waits.TurnEvents.{of_turn}
+use Rattle.apply_events.proofs.Waits.TurnSteps.{begun_of_change, length-steps_of, numbered_in}
+use Rattle.apply_hooks.specs.declared.phase.Phase.TheVariants.{Pre}
+
+-- ---- of the plan, and in time
+
+event_of_plan : (w : Work) (one : Taken) (e : Event) → AllWithin w → IsStartable w one → Contains (turn_events w one) e → IsOfPlan w.plan e
+event_of_plan w one e within can there =
+    let of = of_turn w one e there in
+    let c = one.turn.change in
+    let s = of.step.0 in
+    let number = (numbered_in 0 (steps_of w c) s (steps_of-numbered w c) (begun_of_change w one.turn s of.step.1)).1 in
+    let size = length-steps_of w c in
+    let step = of.step.2 in
+    let has : e.step < length (kinds_of w.plan c) = omega arith in
+    let last = of.last.0 in
+    let ends = turn_end w one in
+    let time = time_within w one (within c can.change) in
+    let in_time = can.in_time in
+    let few = can.last in
+    record { has_step = subst (λ k. e.step < length (kinds_of w.plan k)) (sym of.change) has; in_time = omega arith }
+
+turn_of_plan : (w : Work) (one : Taken) → AllWithin w → IsStartable w one → All (IsOfPlan w.plan) (turn_events w one)
+turn_of_plan w one within can =
+    All-weaker (Contains (turn_events w one)) (IsOfPlan w.plan) (λ e. event_of_plan w one e within can) (turn_events w one) (All-contains_itself (turn_events w one))
+
+pub told_of_plan : (w : Work) (lane : ℕ) (taken : List Taken) → AllWithin w → All (IsStartable w) taken → All (IsOfPlan w.plan) (told_by w lane taken)
+told_of_plan w lane [] within can = All-nil (IsOfPlan w.plan)
+told_of_plan w lane (one ∷ taken) within can =
+    let mine = turn_of_plan w one within (All-head (IsStartable w) one taken can) in
+    let here : All (IsOfPlan w.plan) (cond (eqb one.lane lane) (turn_events w one) []) =
+    elim (eqb one.lane lane) as (λ t. All (IsOfPlan w.plan) (cond t (turn_events w one) [])) [ true ↦ mine | false ↦ All-nil (IsOfPlan w.plan) ] in
+    All-append (IsOfPlan w.plan) (cond (eqb one.lane lane) (turn_events w one) []) (told_by w lane taken) here (told_of_plan w lane taken within (All-tail (IsStartable w) one taken can))
+
+-- ---- how many
+
+few_in_turn : (lane : ℕ) (steps : List Step) (at : ℕ) → All IsSmall steps → length (in_turn (step_events lane) step_time steps at) ≤ 9459 * length steps
+few_in_turn lane [] at small = omega arith
+few_in_turn lane (s ∷ steps) at small =
+    let here : length (step_events lane s at) ≤ 9459 = few_step lane s at (s.halts Pre) (All-head IsSmall s steps small) in
+    let rest = few_in_turn lane steps (at + step_time s) (All-tail IsSmall s steps small) in
+    let both = length-append (step_events lane s at) (in_turn (step_events lane) step_time steps (at + step_time s)) in omega arith
+
+abbrev events_in : Work → Taken → ℕ
+events_in w one = length (turn_events w one)
+
+few_of_turn : (w : Work) (one : Taken) → AllWithin w → IsStartable w one → events_in w one ≤ 9459 * share w one.turn
+few_of_turn w one within can =
+    let limits = within one.turn.change can.change in
+    let few = few_in_turn one.lane (begun_steps w one.turn) one.begin.second (begun_small w one.turn limits) in
+    let count = few_begun w one.turn in
+    let mine = (turn_facts w one.turn limits.few (turn_is w one.turn (known_is w one.turn can.known))).share in omega arith
+
+few_of_turns : (w : Work) (taken : List Taken) → AllWithin w → All (IsStartable w) taken → sum_by (events_in w) taken ≤ 9459 * shares w taken
+few_of_turns w [] within can = omega arith
+few_of_turns w (one ∷ taken) within can =
+    let here = few_of_turn w one within (All-head (IsStartable w) one taken can) in
+    let rest = few_of_turns w taken within (All-tail (IsStartable w) one taken can) in
+    let events : sum_by (events_in w) (one ∷ taken) ≡ events_in w one + sum_by (events_in w) taken = sum_by-cons (events_in w) one taken in
+    let sum : shares w (one ∷ taken) ≡ share w one.turn + shares w taken = sum_by-cons (λ (x : Taken). share w x.turn) one taken in omega arith
+
+-- lanes from one on, and so many of them, together
+abbrev lanes_tell : Work → List Taken → ℕ → ℕ → ℕ
+lanes_tell w taken a zero = 0
+lanes_tell w taken a (suc m) = length (told_by w a taken) + lanes_tell w taken (a + 1) m
+
+tell_none : (w : Work) (a m : ℕ) → lanes_tell w [] a m ≡ 0
+tell_none w a zero = refl
+tell_none w a (suc m) = let rest = tell_none w (a + 1) m in omega arith
+
+-- a turn is reported by one lane
+other_lanes : (w : Work) (one : Taken) (taken : List Taken) (a m : ℕ) → one.lane < a → lanes_tell w (one ∷ taken) a m ≡ lanes_tell w taken a m
+other_lanes w one taken a zero lt = refl
+other_lanes w one taken a (suc m) lt =
+    let here : length (told_by w a (one ∷ taken)) ≡ length (told_by w a taken) = ap (λ t. length (cond t (turn_events w one) [] ++ told_by w a taken)) (ne_eqb one.lane a (omega arith)) in
+    let rest = other_lanes w one taken (a + 1) m (omega arith) in omega arith
+
+one_lane : (w : Work) (one : Taken) (taken : List Taken) (a m : ℕ) → lanes_tell w (one ∷ taken) a m ≤ events_in w one + lanes_tell w taken a m
+one_lane w one taken a zero = omega arith
+one_lane w one taken a (suc m) = ⊎_elim
+    (λ (c : _ × (one.lane ≡ a)).
+    let here : length (told_by w a (one ∷ taken)) ≡ length (turn_events w one ++ told_by w a taken) = ap (λ t. length (cond t (turn_events w one) [] ++ told_by w a taken)) (eq-eqb one.lane a c.1) in
+    let both = length-append (turn_events w one) (told_by w a taken) in
+    let rest = other_lanes w one taken (a + 1) m (let is = c.1 in omega arith) in omega arith)
+    (λ (c : _ × (one.lane ≢ a)).
+    let here : length (told_by w a (one ∷ taken)) ≡ length (told_by w a taken) = ap (λ t. length (cond t (turn_events w one) [] ++ told_by w a taken)) (ne_eqb one.lane a c.1) in
+    let rest = one_lane w one taken (a + 1) m in omega arith)
+    (eqb_tells one.lane a)
+
+lanes_few : (w : Work) (taken : List Taken) (a m : ℕ) → lanes_tell w taken a m ≤ sum_by (events_in w) taken
+lanes_few w [] a m = let none = tell_none w a m in omega arith
+lanes_few w (one ∷ taken) a m =
+    let here = one_lane w one taken a m in let rest = lanes_few w taken a m in
+    let events : sum_by (events_in w) (one ∷ taken) ≡ events_in w one + sum_by (events_in w) taken = sum_by-cons (events_in w) one taken in omega arith
+
+lanes_sum : (w : Work) (taken : List Taken) (states : List LaneState) (a : ℕ) → ((v : ℕ) → v < length states → count_left w taken (get_or states v unused) ≡ length (told_by w (a + v) taken))
+    → sum_by (count_left w taken) states ≡ lanes_tell w taken a (length states)
+lanes_sum w taken [] a each = refl
+lanes_sum w taken (s ∷ states) a each =
+    let here : count_left w taken s ≡ length (told_by w a taken) = each 0 (omega arith) ∙ (let same : a + 0 ≡ a = omega arith in ap (λ k. length (told_by w k taken)) same) in
+    let rest = lanes_sum w taken states (a + 1) (λ v lt. each (suc v) (omega arith) ∙ (let same : a + suc v ≡ a + 1 + v = omega arith in ap (λ k. length (told_by w k taken)) same)) in
+    let sum : sum_by (count_left w taken) (s ∷ states) ≡ count_left w taken s + sum_by (count_left w taken) states = sum_by-cons (count_left w taken) s states in omega arith
+
+pub few_left : (w : Work) (taken : List Taken) (states : List LaneState) → AllWithin w → All (IsStartable w) taken → ((v : ℕ) → v < length states → count_left w taken (get_or states v unused) ≡ length (told_by w v taken))
+    → sum_by (count_left w taken) states ≤ 9459 * shares w taken
+few_left w taken states within can each =
+    let sum = lanes_sum w taken states 0 (λ v lt. each v lt ∙ (let same : v ≡ 0 + v = omega arith in ap (λ k. length (told_by w k taken)) same)) in
+    let few = lanes_few w taken 0 (length states) in
+    let all = few_of_turns w taken within can in omega arith
