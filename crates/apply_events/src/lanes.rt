@@ -44,12 +44,9 @@ pub struct Lanes<'a> {
     told: u32,
     ghost few: { length lanes.items ≤ 64 },
     ghost some: { 0 < length lanes.items },
-    ghost startable: { All (IsStartable (record { plan = plan.now; script = script.now; hooks = rules_of registry.now })) taken.items }
-        by { AllStartable-prop (record { plan = plan.now; script = script.now; hooks = rules_of registry.now }) taken.items },
-    ghost timed: { All (IsTimedTurn (record { plan = plan.now; script = script.now; hooks = rules_of registry.now }) (when taken.items)) taken.items }
-        by { AllTimed-prop (record { plan = plan.now; script = script.now; hooks = rules_of registry.now }) (when taken.items) taken.items },
-    ghost steady: { AreSteady (record { plan = plan.now; script = script.now; hooks = rules_of registry.now }) taken.items (map state_of lanes.items) }
-        by { AreSteady-prop (record { plan = plan.now; script = script.now; hooks = rules_of registry.now }) taken.items (map state_of lanes.items) },
+    ghost startable: { All (IsStartable (record { plan = plan.now; script = script.now; hooks = rules_of registry.now })) taken.items } by { AllStartable-prop (record { plan = plan.now; script = script.now; hooks = rules_of registry.now }) taken.items },
+    ghost timed: { All (IsTimedTurn (record { plan = plan.now; script = script.now; hooks = rules_of registry.now }) (when taken.items)) taken.items } by { AllTimed-prop (record { plan = plan.now; script = script.now; hooks = rules_of registry.now }) (when taken.items) taken.items },
+    ghost steady: { AreSteady (record { plan = plan.now; script = script.now; hooks = rules_of registry.now }) taken.items (map state_of lanes.items) } by { AreSteady-prop (record { plan = plan.now; script = script.now; hooks = rules_of registry.now }) taken.items (map state_of lanes.items) },
     ghost counted: { told + sum_by (count_left (record { plan = plan.now; script = script.now; hooks = rules_of registry.now }) taken.items) (map state_of lanes.items) ≤ 189180000 },
 }
 

@@ -1,26 +1,25 @@
 -- Lanes that were started: what they report is the time line.
-use Rattle.std.proofs.Common.{◌≡◌, ℕ, ◌+◌, ◌*◌, ◌<◌, ◌≤◌, All, List, [], get_or, length, map, reverse, sum_by, refl, sym, ap, ◌∙◌, subst, ⊎_elim, arith}
+use Rattle.std.proofs.Common.{◌≡◌, ℕ, ◌+◌, ◌<◌, ◌≤◌, All, List, [], get_or, length, reverse, sum_by, sym, ap, ◌∙◌, subst, ⊎_elim, arith}
 use Rattle.std.specs.List.{Contains}
 use Rattle.std.proofs.lemmas.List.{reverse-reverse}
 use Rattle.std.proofs.lemmas.List.Elements.{All-contains, All-contains_itself, All-nil, All-weaker}
 use Rattle.std.proofs.lemmas.List.Sorted.{IsPermutation-reverse, sum_by-IsPermutation}
-use Rattle.apply_events.specs.declared.event.Event.{Event}
 use Rattle.apply_events.specs.declared.lanes.taken.Taken.{Taken}
 use Rattle.apply_events.specs.Fits.{IsOfPlan}
 use Rattle.apply_events.specs.Lanes.LaneState.{HaveGoneOn, LaneState, count_left, left, line, told_by, unused}
 use Rattle.apply_events.specs.Lanes.Startable.{IsStartable}
-use Rattle.apply_events.specs.Lanes.Steady.{AreSteady, IsSteadyLane, IsTimed, IsTimedTurn, Rises, when}
+use Rattle.apply_events.specs.Lanes.Steady.{AreSteady, IsTimed, IsTimedTurn, Rises, when}
 use Rattle.apply_events.specs.Step.{Work}
 use Rattle.apply_events.specs.Waits.Merging.{merged, time_line}
 use Rattle.apply_events.specs.Waits.Schedule.{schedule}
-use Rattle.apply_events.specs.Waits.TimeLine.{lane_turns, moment_from, moment_of, turn_events}
+use Rattle.apply_events.specs.Waits.TimeLine.{lane_turns, moment_of, turn_events}
 use Rattle.apply_events.specs.Waits.Turn.{turns}
 use Rattle.apply_events.proofs.Waits.FewEvents.{few_left, told_of_plan}
 use Rattle.apply_events.proofs.Waits.LanesRise.{lanes_rise}
 use Rattle.apply_events.proofs.Waits.ManyLanes.{all_rise}
 use Rattle.apply_events.proofs.Waits.Merge as merge
 use Rattle.apply_events.proofs.Waits.Merge.{merged_same}
-use Rattle.apply_events.proofs.Waits.Once.{AreTurns, moment_is}
+use Rattle.apply_events.proofs.Waits.Once.{moment_is}
 use Rattle.apply_events.proofs.Waits.Reversed.{All-reverse, told_of}
 use Rattle.apply_events.proofs.Waits.Rises.{merge_rises}
 use Rattle.apply_events.proofs.Waits.Shares.{share, shares, two_each}
@@ -28,9 +27,9 @@ use Rattle.apply_events.proofs.Waits.Startable.{AllWithin, all_startable}
 use Rattle.apply_events.proofs.Waits.TakenUp.{taken_up}
 use Rattle.apply_events.proofs.Waits.TurnEvents.{of_turn}
 
-module _ (w : Work) (n : ℕ) (some : 0 < n) (few : length w.plan.changes ≤ 10000) (within : AllWithin w) (taken : List Taken) (is : taken ≡ reverse (schedule w n)) where
-  back : reverse taken ≡ schedule w n
-  back = ap reverse is ∙ reverse-reverse (schedule w n)
+module _ (w : Work) (n : ℕ) (some : 0 < n) (few : length w.plan.changes ≤ 10000) (within : AllWithin w) (taken : List Taken) (back : reverse taken ≡ schedule w n) where
+  is : taken ≡ reverse (schedule w n)
+  is = sym (reverse-reverse taken) ∙ ap reverse back
 
   pub startable : All (IsStartable w) taken
   startable = subst (All (IsStartable w)) (sym is) (All-reverse (IsStartable w) (schedule w n) (all_startable w n some few within))

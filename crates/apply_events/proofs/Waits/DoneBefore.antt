@@ -1,5 +1,5 @@
 -- A turn that begins with the second step of its change is taken up behind the first step, which has gone on.
-use Rattle.std.proofs.Common.{◌≡◌, ℕ, zero, suc, ◌+◌, ◌<◌, ◌≤◌, Bool, true, false, ◌&&◌, List, [], ◌∷◌, ◌++◌, Option, Some, None, cond, length, map, take, refl, sym, ap, ◌∙◌, subst, ⊎_elim, ◌⊎◌, inl, inr, arith, eqb}
+use Rattle.std.proofs.Common.{◌≡◌, ℕ, ◌≤◌, true, ◌&&◌, List, [], ◌∷◌, Option, Some, None, cond, map, take, refl, sym, ap, ◌∙◌, subst, ⊎_elim, ◌⊎◌, inl, inr, arith}
 use Rattle.std.specs.Prelude.{is_none, is_some, not, option_map, slice_get}
 use Rattle.std.specs.List.{Contains, enumerate_from, list_all}
 use Rattle.std.proofs.lemmas.Bool.{and_parts, cases_eq, true≢false}
@@ -10,12 +10,11 @@ use Rattle.apply_model.specs.Script.Outcome.{took}
 use Rattle.apply_model.specs.Script.OutcomeMap.{outcome_of}
 use Rattle.apply_events.specs.declared.lanes.moment.Moment.{Moment}
 use Rattle.apply_events.specs.declared.lanes.taken.Taken.{Taken}
-use Rattle.apply_events.specs.declared.lanes.turn.Turn.{Turn}
 use Rattle.apply_events.specs.Step.{Step, Work, kinds_of, step_of, steps_of}
 use Rattle.apply_events.specs.StepEvents.{goes_on, seconds_of, step_time}
 use Rattle.apply_events.specs.Waits.Done.{done_among, done_at, done_by, done_in, first_found, later_if_both, ready_at}
-use Rattle.apply_events.specs.Waits.Moment.{IsNoLater, first_moment, later_by, later_of, next_round}
-use Rattle.apply_events.specs.Waits.Turn.{begun_steps, single, waits_of_turn}
+use Rattle.apply_events.specs.Waits.Moment.{IsNoLater, later_by, later_of, next_round}
+use Rattle.apply_events.specs.Waits.Turn.{begun_steps, single}
 use Rattle.apply_events.proofs.Waits.Members.{in_head, in_tail}
 use Rattle.apply_events.proofs.Waits.Moments.{first_no_later, later_by_second}
 use Rattle.apply_events.proofs.Waits.TurnEvents.{done_first, done_if, done_later, done_there}

@@ -1,24 +1,22 @@
 -- What lanes report of the turns that they take up: events of the plan, in time, and not too many.
-use Rattle.std.proofs.Common.{◌≡◌, ◌≢◌, ℕ, zero, suc, ◌+◌, ◌-◌, ◌*◌, ◌<◌, ◌≤◌, All, Bool, true, false, List, [], ◌∷◌, ◌++◌, cond, get_or, length, length-append, reverse, sum_by, refl, sym, ap, ◌∙◌, subst, ⊎_elim, arith, eqb, eq-eqb, ne_eqb}
+use Rattle.std.proofs.Common.{◌≡◌, ◌≢◌, ℕ, zero, suc, ◌+◌, ◌*◌, ◌<◌, ◌≤◌, All, true, false, List, [], ◌∷◌, ◌++◌, cond, get_or, length, length-append, sum_by, refl, sym, ap, ◌∙◌, subst, ⊎_elim, arith, eqb, eq-eqb, ne_eqb}
 use Rattle.std.specs.List.{Contains}
 use Rattle.std.proofs.lemmas.Bool.Decides.{eqb_tells}
-use Rattle.std.proofs.lemmas.List.Elements.{All-append, All-cons, All-contains_itself, All-head, All-nil, All-tail, All-weaker}
+use Rattle.std.proofs.lemmas.List.Elements.{All-append, All-contains_itself, All-head, All-nil, All-tail, All-weaker}
 use Rattle.std.proofs.lemmas.List.Sums.{sum_by-cons}
-use Rattle.apply_model.specs.Script.Limits.{max_seconds}
 use Rattle.apply_events.specs.declared.event.Event.{Event}
 use Rattle.apply_events.specs.declared.lanes.taken.Taken.{Taken}
 use Rattle.apply_events.specs.ChangeEvents.{in_turn}
-use Rattle.apply_events.specs.Fits.{IsOfPlan, last_moment}
+use Rattle.apply_events.specs.Fits.{IsOfPlan}
 use Rattle.apply_events.specs.Lanes.LaneState.{LaneState, count_left, told_by, unused}
-use Rattle.apply_events.specs.Lanes.Startable.{AreWithinLimits, IsStartable}
+use Rattle.apply_events.specs.Lanes.Startable.{IsStartable}
 use Rattle.apply_events.specs.Step.{Step, Work, kinds_of, steps_of}
 use Rattle.apply_events.specs.StepEvents.{step_events, step_time}
 use Rattle.apply_events.specs.Waits.TimeLine.{turn_events}
-use Rattle.apply_events.specs.Waits.Turn.{begun_steps, turns}
+use Rattle.apply_events.specs.Waits.Turn.{begun_steps}
 use Rattle.apply_events.proofs.StepNumbers.{steps_of-numbered}
 use Rattle.apply_events.proofs.TimeLines.Few.{IsSmall, few_step}
 use Rattle.apply_events.proofs.Waits.Ends.{turn_end}
-use Rattle.apply_events.proofs.Waits.Members.{in_head, in_tail}
 use Rattle.apply_events.proofs.Waits.Once.{turn_is}
 use Rattle.apply_events.proofs.Waits.OneLane.{known_is}
 use Rattle.apply_events.proofs.Waits.Shares.{share, shares}

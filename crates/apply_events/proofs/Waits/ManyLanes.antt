@@ -1,23 +1,23 @@
 -- Lanes that tell their events one by one: the first of those that come next is the first of the time line that is left.
-use Rattle.std.proofs.Common.{◌≡◌, ◌≢◌, ℕ, zero, suc, ◌+◌, ◌<◌, ◌≤◌, All, Bool, true, false, ◌&&◌, ◌||◌, List, [], ◌∷◌, ◌++◌, Option, Some, None, cond, drop, get_or, length, length-append, map, reverse, set, sum_by, refl, sym, ap, ◌∙◌, subst, ⊎_elim, inl, inr, arith, eqb, ltb, lt-ltb}
+use Rattle.std.proofs.Common.{◌≡◌, ◌≢◌, ℕ, zero, suc, ◌+◌, ◌<◌, ◌≤◌, All, true, false, ◌&&◌, ◌||◌, List, [], ◌∷◌, ◌++◌, Option, Some, None, drop, get_or, length, map, reverse, set, sum_by, refl, sym, ap, ◌∙◌, subst, ⊎_elim, arith, eqb, ltb, lt-ltb}
 use Rattle.std.proofs.lemmas.Bool.{cases_Bool, cases_lt, true≢false}
 use Rattle.std.proofs.lemmas.Bool.Decides.{eqb_tells}
-use Rattle.std.proofs.lemmas.List.{drop_all, get_or-set_other, get_or-set_same, length-map, length-set, map-set}
-use Rattle.std.proofs.lemmas.List.Elements.{All-cons, All-contains, All-head, All-nil, All-tail, All-weaker}
+use Rattle.std.proofs.lemmas.List.{drop_all, get_or-set_other, get_or-set_same, length-map, length-set}
+use Rattle.std.proofs.lemmas.List.Elements.{All-cons, All-contains, All-head, All-nil, All-tail}
 use Rattle.std.proofs.lemmas.List.Sums.{sum_by-set}
 use Rattle.apply_events.specs.declared.event.Event.{Event}
 use Rattle.apply_events.specs.declared.lanes.moment.Moment.{Moment}
 use Rattle.apply_events.specs.declared.lanes.taken.Taken.{Taken}
 use Rattle.apply_events.specs.Course.{GivesNext}
 use Rattle.apply_events.specs.Fits.{IsOfPlan, last_moment}
-use Rattle.apply_events.specs.Lanes.LaneState.{GoesOn, HasGoneOn, LaneState, TellsNext, count_left, left, line, moment_in, never, next_moment, told_by, unused}
-use Rattle.apply_events.specs.Lanes.Steady.{AreSteady, IsSteadyLane, IsTimed, IsTimedTurn, Rises, when}
+use Rattle.apply_events.specs.Lanes.LaneState.{GoesOn, LaneState, TellsNext, count_left, left, line, moment_in, never, next_moment, told_by, unused}
+use Rattle.apply_events.specs.Lanes.Steady.{AreSteady, IsSteadyLane, IsTimed, IsTimedTurn, Rises}
 use Rattle.apply_events.specs.Step.{Work}
 use Rattle.apply_events.specs.Waits.Merging.{merged}
 use Rattle.apply_events.specs.Waits.Moment.{IsNoLater, first_moment, is_earlier}
 use Rattle.apply_events.specs.Waits.Schedule.{first_earliest}
-use Rattle.apply_events.specs.Waits.TimeLine.{Precedes, moment_from, moment_of, turn_events}
-use Rattle.apply_events.proofs.Waits.Earliest.{IsFirstEarliest, earlier_is, earliest_is, earliest_keeps, earliest_start, earliest_takes, no_earlier_is}
+use Rattle.apply_events.specs.Waits.TimeLine.{Precedes, moment_of, turn_events}
+use Rattle.apply_events.proofs.Waits.Earliest.{IsFirstEarliest, earliest_is, earliest_keeps, earliest_start, earliest_takes, no_earlier_is}
 use Rattle.apply_events.proofs.Waits.Merge.{AllRise, first_is, merged_none, not_before_itself, rises_named}
 use Rattle.apply_events.proofs.Waits.Moments.{no_later_both, no_later_on, no_later_refl}
 use Rattle.apply_events.proofs.Waits.Rises.{rises_merge, second_of, timed_is}

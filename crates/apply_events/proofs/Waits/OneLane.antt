@@ -1,17 +1,16 @@
 -- One lane, which goes from one of its turns to the next.
-use Rattle.std.proofs.Common.{◌≡◌, ◌≢◌, ℕ, zero, suc, ◌+◌, ◌<◌, ◌≤◌, Bool, true, false, ◌&&◌, List, [], ◌∷◌, ◌++◌, Option, Some, None, cond, drop, get_or, length, refl, sym, ap, ◌∙◌, subst, ⊎_elim, inl, inr, arith, eqb, eq-eqb, ne_eqb}
+use Rattle.std.proofs.Common.{◌≡◌, ◌≢◌, ℕ, ◌+◌, ◌<◌, ◌≤◌, true, false, ◌&&◌, List, [], ◌++◌, Option, Some, None, cond, drop, get_or, length, refl, sym, ap, ◌∙◌, subst, ⊎_elim, inl, inr, arith, eqb, eq-eqb, ne_eqb}
 use Rattle.std.specs.Prelude.{is_some}
 use Rattle.std.specs.List.{Contains}
 use Rattle.std.proofs.lemmas.Bool.{and_parts, true≢false}
 use Rattle.std.proofs.lemmas.Bool.Decides.{eqb_tells}
 use Rattle.std.proofs.lemmas.List.{drop_all, drop_more}
 use Rattle.std.proofs.lemmas.List.Elements.{Contains-get_or}
-use Rattle.apply_events.specs.declared.event.Event.{Event}
 use Rattle.apply_events.specs.declared.lanes.lane.UnderWay.{UnderWay}
 use Rattle.apply_events.specs.declared.lanes.taken.Taken.{Taken}
 use Rattle.apply_events.specs.declared.lanes.turn.Turn.{Turn}
 use Rattle.apply_events.specs.Lanes.Lane.{IsBegun, begin_of, events_of}
-use Rattle.apply_events.specs.Lanes.LaneState.{HasGoneOn, LaneState, line, told_by}
+use Rattle.apply_events.specs.Lanes.LaneState.{HasGoneOn, told_by}
 use Rattle.apply_events.specs.Lanes.Startable.{has_turn, is_that_turn}
 use Rattle.apply_events.specs.Step.{Work}
 use Rattle.apply_events.specs.Waits.Moment.{first_moment}

@@ -2,7 +2,6 @@
 use Rattle.std.proofs.Common.{◌≡◌, ℕ, List, [], ◌∷◌, ◌++◌, All, cond, reverse, refl, sym, ap, ◌∙◌, subst, eqb}
 use Rattle.std.proofs.lemmas.List.{append-nil, append_assoc, reverse-append, reverse-reverse}
 use Rattle.std.proofs.lemmas.List.Elements.{All-append, All-cons, All-head, All-nil, All-tail}
-use Rattle.apply_events.specs.declared.event.Event.{Event}
 use Rattle.apply_events.specs.declared.lanes.taken.Taken.{Taken}
 use Rattle.apply_events.specs.Lanes.LaneState.{told_by}
 use Rattle.apply_events.specs.Step.{Work}

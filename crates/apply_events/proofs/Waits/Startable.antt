@@ -1,33 +1,31 @@
 -- Each turn that the schedule takes up can be begun when it is.
-use Rattle.std.proofs.Common.{◌≡◌, ◌≢◌, ℕ, zero, suc, ◌+◌, ◌-◌, ◌*◌, ◌<◌, ◌≤◌, All, Bool, true, false, ◌&&◌, ◌||◌, List, [], ◌∷◌, ◌++◌, Option, Some, None, cond, drop, length, map, sum_by, refl, sym, ap, ◌∙◌, subst, ⊎_elim, ◌⊎◌, inl, inr, arith, eqb, eq-eqb, ne_eqb}
-use Rattle.std.specs.List.{Contains, enumerate_from, flat_map, range_with_len}
+use Rattle.std.proofs.Common.{◌≡◌, ◌≢◌, ℕ, zero, suc, ◌+◌, ◌-◌, ◌*◌, ◌<◌, ◌≤◌, All, Bool, true, false, ◌&&◌, ◌||◌, List, [], ◌∷◌, ◌++◌, Option, Some, None, cond, drop, length, map, refl, sym, ap, ◌∙◌, subst, ⊎_elim, inl, inr, arith, eqb, eq-eqb, ne_eqb}
+use Rattle.std.specs.List.{Contains, enumerate_from, range_with_len}
 use Rattle.std.specs.Prelude.{is_some}
 use Rattle.std.proofs.lemmas.Bool.{and_parts, cases_Bool, cases_eq, true≢false}
 use Rattle.std.proofs.lemmas.Bool.Decides.{eqb_tells}
 use Rattle.apply_hooks.specs.declared.phase.Phase.TheVariants.{Pre}
-use Rattle.std.proofs.lemmas.List.{append_assoc, length-drop, length-take}
+use Rattle.std.proofs.lemmas.List.{append_assoc, length-take}
 use Rattle.std.proofs.lemmas.List.Elements.{All-contains_itself, All-weaker, Contains-append_right}
 use Rattle.std.proofs.lemmas.List.Sums.{sum_by-cons, sum_by-le}
 use Rattle.apply_model.specs.declared.plan.step_kind.StepKind.{StepKind}
 use Rattle.apply_model.specs.Script.Limits.{max_seconds}
 use Rattle.apply_model.specs.Script.Outcome.{IsBounded}
 use Rattle.apply_model.specs.Script.OutcomeMap.{outcome_of}
-use Rattle.apply_events.specs.declared.lanes.moment.Moment.{Moment}
 use Rattle.apply_events.specs.declared.lanes.taken.Taken.{Taken}
 use Rattle.apply_events.specs.declared.lanes.turn.Turn.{Turn}
-use Rattle.apply_events.specs.Fits.{last_moment}
 use Rattle.apply_events.specs.Lanes.Startable.{AreWithinLimits, IsStartable, has_turn, is_that_turn}
 use Rattle.apply_events.specs.Step.{Step, Work, kinds_of, step_of, steps_of}
 use Rattle.apply_events.specs.StepEvents.{seconds_of, step_time}
 use Rattle.apply_events.specs.Waits.Done.{ready_at}
-use Rattle.apply_events.specs.Waits.Schedule.{is_same_turn, is_taken, schedule, scheduled}
-use Rattle.apply_events.specs.Waits.TakenUp.{IsReady, WereTakenUp}
+use Rattle.apply_events.specs.Waits.Schedule.{is_same_turn, is_taken, schedule}
+use Rattle.apply_events.specs.Waits.TakenUp.{WereTakenUp}
 use Rattle.apply_events.specs.Waits.Turn.{begun_steps, single, turns, turns_of, whole}
 use Rattle.apply_events.proofs.TimeLines.Few.{IsSmall, small_step}
 use Rattle.apply_events.proofs.Waits.DoneBefore.{IsBehindFirst, behind_first}
 use Rattle.apply_events.proofs.Waits.Ends.{each_begins, time_of, total}
 use Rattle.apply_events.proofs.Waits.Members.{any_in, flat_map_in, in_any, in_cases, in_flat_map, in_head, in_split, in_tail, not_in_none}
-use Rattle.apply_events.proofs.Waits.Once.{AreTurns, IsTurnOf, in_list, is_split, taken_in_list, turn_is}
+use Rattle.apply_events.proofs.Waits.Once.{IsTurnOf, is_split, turn_is}
 use Rattle.apply_events.proofs.Waits.Shares.{AreTwoEach, one_taken, open_shares, share, shares, two_behind}
 use Rattle.apply_events.proofs.Waits.TakenUp.{each_split, taken_up}
 use Rattle.apply_events.proofs.Waits.TurnSteps.{all_at, begun_of_change, begun_within, length-begun, steps_of_turn}

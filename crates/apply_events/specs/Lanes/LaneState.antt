@@ -1,5 +1,5 @@
 -- What a lane still has to report.
-use Rattle.std.specs.Prelude.{◌≡◌, ◌≢◌, ◌⊎◌, ℕ, ◌==◌, ◌<◌, ◌≤◌, List, [], ◌∷◌, ◌++◌, Option, Some, None, drop, get_or, length, if◌then◌else◌}
+use Rattle.std.specs.Prelude.{◌≡◌, ◌⊎◌, ℕ, ◌==◌, ◌<◌, ◌≤◌, List, [], ◌∷◌, ◌++◌, Option, Some, None, drop, get_or, length, if◌then◌else◌}
 use Rattle.std.specs.List.{Contains}
 use Rattle.apply_events.specs.declared.event.Event.{Event}
 use Rattle.apply_events.specs.declared.lanes.moment.Moment.{Moment}

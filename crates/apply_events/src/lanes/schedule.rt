@@ -22,7 +22,7 @@ pub(crate) fn schedule(
     lanes: u8,
 ) -> Result<Vec<Taken>, AllocError>
     requires { 0 < lanes }
-    ensures { IfOk result (λ all. all.items ≡ reverse (schedule (record { plan = plan.now; script = script.now; hooks = rules_of registry.now }) lanes)) }
+    ensures { IfOk result (λ taken. reverse taken.items ≡ schedule (record { plan = plan.now; script = script.now; hooks = rules_of registry.now }) lanes) }
 {
     let turns = turns(alloc, plan, script)?;
     let mut queue = Queue::new(alloc, script, &turns)?;

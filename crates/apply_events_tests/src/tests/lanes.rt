@@ -2,12 +2,15 @@
 
 ghost use Rattle.std.specs.Prelude.{◌<◌, ◌≤◌};
 
+mod clock;
 mod drawn;
+mod drawn_waits;
 mod plain;
 mod waiting;
 
 use super::*;
 use drawn::drawn_changes_agree;
+use drawn_waits::drawn_waits_agree;
 use plain::plain_events;
 
 /// Of each change its actions and its steps in the script: three creates of twelve seconds each.
@@ -265,4 +268,5 @@ fn halted_changes_beside_others(rt: HostRuntime) {
     add_hook(&rt, &mut registry, rules, answer);
     lanes_report(&rt, alloc, REPLACED, &registry, 2, BESIDE_A_HALT);
     drawn_changes_agree(&rt, alloc, &registry);
+    drawn_waits_agree(&rt, alloc, &registry);
 }

@@ -6,13 +6,13 @@ use super::*;
 
 /// Numbers as if they were drawn.
 #[derive(Drop)]
-struct Draws {
-    state: u64,
+pub(super) struct Draws {
+    pub(super) state: u64,
 }
 
 impl Draws {
     /// One below 16.
-    fn next(&mut self) -> usize
+    pub(super) fn next(&mut self) -> usize
         ensures { result < 16 }
     {
         self.state = self

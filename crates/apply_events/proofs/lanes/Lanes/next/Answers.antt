@@ -1,4 +1,4 @@
-use Rattle.std.proofs.Common.{◌≡◌, ◌+◌, ◌<◌, ◌≤◌, Some, None, length, map, subst, sym, arith}
+use Rattle.std.proofs.Common.{Some, None, subst, arith}
 use Rattle.apply_events.specs.Lanes.Lane.{state_of}
 use Rattle.apply_events.specs.Lanes.LaneState.{TellsNext}
 use Rattle.apply_events.specs.Lanes.ToCome.{work_of}

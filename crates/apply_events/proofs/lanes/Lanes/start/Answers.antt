@@ -1,4 +1,4 @@
-use Rattle.std.proofs.Common.{◌≡◌, ◌<◌, ◌≤◌, All, length, map, subst, sym, arith}
+use Rattle.std.proofs.Common.{All, map, subst, sym, arith}
 use Rattle.std.proofs.lemmas.List.{length-map}
 use Rattle.apply_hooks.specs.Registry.{rules_of}
 use Rattle.apply_events.specs.Lanes.Lane.{state_of}

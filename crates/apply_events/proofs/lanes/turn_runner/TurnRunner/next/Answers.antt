@@ -1,4 +1,4 @@
-use Rattle.std.proofs.Common.{◌≡◌, sym, ◌∙◌}
+use Rattle.std.proofs.Common.{sym, ◌∙◌}
 use Rattle.apply_events.specs.Runner as runner
 use Rattle.apply_events.proofs.TurnLeft.{gives_on, stopped}
 use Rattle.apply_events.proofs.lanes.turn_runner.TurnRunner.next.Goals as goal

@@ -1,4 +1,4 @@
-use Rattle.std.proofs.Common.{◌≡◌, ◌+◌, ap, ◌∙◌}
+use Rattle.std.proofs.Common.{◌+◌, ap, ◌∙◌}
 use Rattle.apply_hooks.specs.Registry.{rules_of}
 use Rattle.apply_events.specs.Step.{Work}
 use Rattle.apply_events.specs.BeforeStep.{before_step, stops_at}
