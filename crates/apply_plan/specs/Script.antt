@@ -5,6 +5,7 @@ pub use Rattle.apply_model.specs.Script.Waits
 pub mod Beginning
 pub mod ChangeNumbers
 pub mod Entry
+pub mod HashedId
 pub mod Marks
 pub mod NextEntry
 pub mod OutcomeMap

@@ -2,6 +2,7 @@
 
 pub mod beginning;
 pub mod change_numbers;
+pub mod hashed_id;
 pub mod mark;
 pub mod marks;
 pub mod reading;

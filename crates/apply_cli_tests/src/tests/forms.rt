@@ -204,6 +204,25 @@ fn an_errored_plan_is_not_applied(rt: HostRuntime) {
     told_is(&rt, alloc, ERRORED, Some(script), 1, NOT_APPLIED);
 }
 
+/// Two creates of a plan whose making ended with an error.
+const TWO_ERRORED: &str =
+    r#"{"format_version":"1.2","terraform_version":"1.11.4","resource_changes":[{"address":"null_resource.a","mode":"managed","type":"null_resource","name":"a","change":{"actions":["create"]}},{"address":"null_resource.b","mode":"managed","type":"null_resource","name":"b","change":{"actions":["create"]}}],"errored":true,"complete":false}"#;
+
+/// The first waits for the second.
+const WAITING: &str =
+    r#"{"changes":[{"address":"null_resource.a","steps":[{"seconds":1,"after":["null_resource.b"]}]}]}"#;
+
+/// Workers refuse a script with waits for what it says, also where none of its steps begins.
+#[test]
+fn workers_refuse_waits_of_a_plan_that_is_not_applied(rt: HostRuntime) {
+    let alloc = rt.alloc();
+    let fault = "the script says what steps wait for, which takes --parallelism";
+    let outcome = by_worker(&rt, alloc, TWO_ERRORED, Some(WAITING));
+    outcome_fails(&rt, "a worker", &outcome, 2, fault);
+    let outcome = in_two_lanes(alloc, TWO_ERRORED, Some(WAITING));
+    outcome_is(&rt, "two lanes", &outcome, 1, NOT_APPLIED, "");
+}
+
 /// Scripts, and what they are refused with.
 const REFUSED_SCRIPTS: &str = r#"{"changes":[],"outputs":5} => the script is malformed
 {"changes":[],"outputs":{"pet":{}}} => script output 0 is malformed

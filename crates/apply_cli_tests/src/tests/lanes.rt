@@ -81,6 +81,28 @@ fn one_lane_does_what_one_worker_does(rt: HostRuntime) {
     status_is(&rt, "one worker", &wanted, 1);
 }
 
+/// The second create waits for the first.
+const WAITING: &[u8] =
+    br#"{"changes":[{"address":"null_resource.a","steps":[{"seconds":4}]},{"address":"null_resource.b","steps":[{"seconds":2,"after":["null_resource.a"]}]}]}"#;
+
+/// Workers refuse a script that says what steps wait for, however many they are.
+#[test]
+fn waits_take_lanes(rt: HostRuntime) {
+    let alloc = rt.alloc();
+    let registry = Registry::new(alloc);
+    let fault = "the script says what steps wait for, which takes --parallelism";
+    for workers in [1, 2] {
+        let settings = with_workers(alloc, workers);
+        let input = CREATES.as_bytes();
+        let outcome = run_with(&rt, alloc, &settings, &registry, Some(WAITING), input);
+        outcome_fails(&rt, "workers", &outcome, 2, fault);
+    }
+    for lanes in [1, 2] {
+        let outcome = outcome_of(alloc, lanes, Some(WAITING), CREATES.as_bytes());
+        status_is(&rt, "lanes", &outcome, 0);
+    }
+}
+
 /// Fails where so many lanes do not refuse the input with this fault.
 fn is_refused<R: Read + Drop>(
     rt: &impl Abort,

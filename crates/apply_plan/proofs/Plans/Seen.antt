@@ -31,7 +31,7 @@ any_same p q same (id ∷ ids) = rw (same id, any_same p q same ids) refl
 abbrev pub by_address_and_key : ObjectId → ObjectId → Ordering
 by_address_and_key = cmp-value.it
 
-then_is_eq : (first second : Ordering) → is_eq (ordering_then first second) ≡ (is_eq first && is_eq second)
+pub then_is_eq : (first second : Ordering) → is_eq (ordering_then first second) ≡ (is_eq first && is_eq second)
 then_is_eq Less second = refl
 then_is_eq Equal second = refl
 then_is_eq Greater second = refl

@@ -4,6 +4,7 @@ ghost use Rattle.std.specs.Prelude.{◌≡◌, IfOk, find, option_map};
 ghost use Rattle.std.specs.List.{enumerate_from};
 
 use crate::plan::object_id::ObjectId;
+use crate::script::hashed_id::HashedId;
 use apply_model::Plan;
 use std::alloc::{AllocError, Global};
 use std::collections::BTreeMap;
@@ -11,7 +12,7 @@ use std::collections::BTreeMap;
 /// The number of the change of each object of a plan.
 #[derive(Drop)]
 pub struct ChangeNumbers<'a> {
-    numbers: BTreeMap<ObjectId<'a>, u32>,
+    numbers: BTreeMap<HashedId<'a>, u32>,
 }
 
 impl<'a> ChangeNumbers<'a> {
@@ -26,7 +27,8 @@ impl<'a> ChangeNumbers<'a> {
         let mut numbers = BTreeMap::new(alloc);
         // From the last to the first, so that the first of several would count.
         for number in (0..plan.len()).rev() {
-            numbers.insert(ObjectId::of_change(plan.change(number)), number)?;
+            let id = ObjectId::of_change(plan.change(number));
+            numbers.insert(HashedId::of(id), number)?;
         }
         Ok(ChangeNumbers { numbers })
     }
@@ -35,6 +37,6 @@ impl<'a> ChangeNumbers<'a> {
     pub fn get(&self, id: ObjectId<'a>) -> Option<u32>
         ensures { result ≡ number_of self.now id.entry }
     {
-        self.numbers.get(&id).copied()
+        self.numbers.get(&HashedId::of(id)).copied()
     }
 }

@@ -7,7 +7,7 @@ loop-number-init c = no_numbers c.new-numbers.result c.args.plan.now.changes c.l
 
 pub loop-number-preserved : goal.loop-number-preserved
 loop-number-preserved c =
-    numbers_more c.loop-number.numbers c.insert.new.self c.args.plan.now.changes c.loop-number.number c.change.result.now c.of_change.result c.loop-number-test.true c.change.ensures c.of_change.ensures.address c.of_change.ensures.deposed c.loop-number.invariant c.in_ok-insert.ensures.updates
+    numbers_more c.loop-number.numbers c.insert.new.self c.args.plan.now.changes c.loop-number.number c.change.result.now c.of_change-id.result c.of.result c.loop-number-test.true c.change.ensures c.of_change-id.ensures.address c.of_change-id.ensures.deposed c.of.ensures c.loop-number.invariant c.in_ok-insert.ensures.updates
 
 pub returns : goal.returns
 returns c =
