@@ -1,5 +1,5 @@
 -- What happens to the steps of a change, one after another.
-use Rattle.std.proofs.Common.{◌≡◌, ℕ, ◌+◌, suc, List, [], ◌∷◌, ◌++◌, map, Bool, true, false, cond, Some, refl, sym, ap, ◌∙◌, subst, slice_get, arith, append-nil, ◌⊎◌, inl, inr, ⊎_elim}
+use Rattle.std.proofs.Common.{◌≡◌, ℕ, ◌+◌, suc, List, [], ◌∷◌, ◌++◌, map, Bool, true, false, Some, refl, sym, ap, ◌∙◌, subst, slice_get, arith, append-nil, inl, inr, ⊎_elim}
 use Rattle.std.specs.Prelude.{is_some, not}
 use Rattle.std.specs.List.{enumerate_from}
 use Rattle.apply_model.specs.declared.plan.step_kind.StepKind.{StepKind}

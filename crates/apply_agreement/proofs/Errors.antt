@@ -1,5 +1,5 @@
 -- An error is told exactly where a step failed or was halted.
-use Rattle.std.proofs.Common.{All, ◌≡◌, ◌⊎◌, ⊎_elim, ℕ, zero, suc, ◌+◌, ◌<◌, ◌==◌, List, [], ◌∷◌, ◌++◌, map, filter, Bool, true, false, cond, not, Option, Some, None, refl, sym, ap, ◌∙◌, subst, slice_get, count_by, option_map, option_to_list, arith, eq-eqb, lt-ltb}
+use Rattle.std.proofs.Common.{All, ◌≡◌, ⊎_elim, ℕ, zero, suc, ◌+◌, ◌<◌, ◌==◌, List, [], ◌∷◌, ◌++◌, map, filter, Bool, true, false, cond, not, Option, Some, None, refl, sym, ap, ◌∙◌, subst, slice_get, count_by, option_map, option_to_list, arith, eq-eqb, lt-ltb}
 use Rattle.std.specs.Prelude.{◌||◌, is_some, nat_lt}
 use Rattle.std.specs.List.{list_any}
 use Rattle.std.specs.Option.{option_map_or}
