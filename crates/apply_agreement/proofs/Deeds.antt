@@ -1,5 +1,5 @@
 -- What happens to the steps of a plan, by its events.
-use Rattle.std.proofs.Common.{append_assoc, ◌≡◌, ℕ, ◌==◌, List, [], ◌∷◌, ◌++◌, map, filter, flat_map, Bool, true, false, cond, Option, Some, None, refl, sym, ap, ◌∙◌, subst, slice_get}
+use Rattle.std.proofs.Common.{append_assoc, ◌≡◌, ℕ, ◌==◌, List, [], ◌∷◌, ◌++◌, map, flat_map, Bool, true, false, cond, Option, Some, None, refl, sym, ap, ◌∙◌, subst, slice_get}
 use Rattle.std.specs.Option.{option_map_or}
 use Rattle.apply_model.specs.declared.plan.step_kind.StepKind.{StepKind}
 use Rattle.apply_plan.specs.Plan.SavedPlan.{SavedPlan}
@@ -7,6 +7,7 @@ use Rattle.apply_check.specs.Message.{Message}
 use Rattle.apply_events.specs.declared.event.Event.{Event}
 use Rattle.apply_events.specs.Step.{address_of, kinds_of}
 use Rattle.apply_agreement.specs.Told.{action_of, all_told, told, told_of}
+use Rattle.apply_agreement.specs.WholeSteps.{events_of_change}
 use Rattle.apply_agreement.proofs.Phases.{Deed, Follows, Phase, Turns, of_change}
 use Rattle.apply_agreement.proofs.Turning.{said}
 
@@ -38,9 +39,6 @@ all_told_both plan (e ∷ es) fs = ap (λ (l : List Message). told_of plan e ++ 
 
 -- ---- the events of one change
 
-abbrev pub with_change : (c : ℕ) → List Event → List Event
-with_change c es = filter (λ (e : Event). e.change == c) es
-
 one_of_change : (plan : SavedPlan) (c : ℕ) (e : Event) (same : Bool) (found : Option StepKind) (es : List Event) (ds : List Deed) → (e.change == c) ≡ same → slice_get (kinds_of plan e.change) e.step ≡ found
     → of_change c ds ≡ all_deeds plan es
     → of_change c (option_map_or (λ kind. deed e kind ∷ []) found [] ++ ds) ≡ all_deeds plan (cond same (e ∷ es) es)
@@ -52,9 +50,9 @@ one_of_change plan c e true (Some kind) es ds is lookup rest =
     ∙ ap (λ (o : Option StepKind). option_map_or (λ kind. deed e kind ∷ []) o [] ++ all_deeds plan es) (sym lookup)
 one_of_change plan c e false (Some kind) es ds is lookup rest = ap (λ (b : Bool). cond b (deed e kind ∷ of_change c ds) (of_change c ds)) is ∙ rest
 
-pub of_change_is : (plan : SavedPlan) (c : ℕ) (es : List Event) → of_change c (all_deeds plan es) ≡ all_deeds plan (with_change c es)
+pub of_change_is : (plan : SavedPlan) (c : ℕ) (es : List Event) → of_change c (all_deeds plan es) ≡ all_deeds plan (events_of_change c es)
 of_change_is plan c [] = refl
-of_change_is plan c (e ∷ es) = one_of_change plan c e (e.change == c) (slice_get (kinds_of plan e.change) e.step) (with_change c es) (all_deeds plan es) refl refl (of_change_is plan c es)
+of_change_is plan c (e ∷ es) = one_of_change plan c e (e.change == c) (slice_get (kinds_of plan e.change) e.step) (events_of_change c es) (all_deeds plan es) refl refl (of_change_is plan c es)
 
 -- ---- the course of a change, by its events
 

@@ -1,5 +1,5 @@
 -- A line of a stream in Terraform's form has the level `error` exactly where the stream has no summary.
-use Rattle.std.proofs.Common.{◌≡◌, ℕ, ◌+◌, ◌<◌, List, [], ◌∷◌, ◌++◌, append-nil, append_assoc, length, map, get_or, Bool, true, false, cond, Option, Some, None, refl, sym, ap, ap₂, ◌∙◌, slice_get}
+use Rattle.std.proofs.Common.{◌≡◌, ℕ, ◌+◌, ◌<◌, List, [], ◌∷◌, ◌++◌, append-nil, append_assoc, length, map, Bool, true, false, cond, Option, Some, None, refl, sym, ap, ap₂, ◌∙◌, slice_get}
 use Rattle.std.specs.Prelude.{◌||◌, flat_map}
 use Rattle.std.specs.List.{concat, enumerate_from, list_any}
 use Rattle.std.specs.Option.{option_map_or}
@@ -30,17 +30,17 @@ use Rattle.apply_form.specs.declared.plan_note.PlanNote.TheVariants.{Partial, Un
 use Rattle.apply_form.specs.Details.{planned_word}
 use Rattle.apply_form.specs.Lines.{event_text, message_line, note_text, outputs_text, planned_text, summary_text, version_text}
 use Rattle.apply_form.specs.Message.{event_message, is_silent, planned_message}
-use Rattle.apply_run.specs.Applied.{IsApplied}
 use Rattle.apply_run.specs.InForm.{form_of}
 use Rattle.apply_run.specs.Read.{Told, applied_plan, applied_script}
 use Rattle.apply_run.specs.Stream.Form.{lines_in}
 use Rattle.apply_run.specs.Stream.Terraform.{head_pieces, is_error, planned_at, planned_id_of, tells_error}
 use Rattle.apply_agreement.specs.Levels.{HasAnEndOrAnError, end_of, event_lines, has_error_line, is_error_line, lines_before_end}
+use Rattle.apply_agreement.specs.WholeSteps.{IsOfWholeSteps}
 use Rattle.apply_agreement.proofs.EndedLines.{all_lines}
 use Rattle.apply_agreement.proofs.Errors.{IsPlanned, any_both, any_written, errors_counted, is_error_note}
 use Rattle.apply_agreement.proofs.Ordinary.{found}
-use Rattle.apply_agreement.proofs.Parts.{Each, IsListed, all_listed, each_weaker, each_written, part_of_change}
-use Rattle.apply_agreement.proofs.Tallies.{is_within}
+use Rattle.apply_agreement.proofs.Parts.{Each, each_weaker, each_written}
+use Rattle.apply_agreement.proofs.Tallies.{are_planned, is_within}
 
 -- ---- lines that never have the level
 
@@ -145,18 +145,17 @@ module _ (told : Told) (start : ℕ) (operation : Operation) where
     work = record { plan = applied_plan told; script = applied_script told; hooks = hooks }
 
     -- a line has the level exactly where the run says that the stream tells of an error
-    of_run : (workers : ℕ) (lists : List (List ℕ)) (events : List Event) → IsApplied work workers lists events
+    of_run : (events : List Event) → IsOfWholeSteps work events
         → has_error_line told start operation (as_written events) ≡ tells_error told.details.note (totals_of (applied_plan told) events)
-    of_run workers lists events applied =
+    of_run events steps =
         let plan = applied_plan told in
         let limit = length plan.changes in
         let written = as_written events in
         let head = head_pieces plan told.details.changes start in
         let lines = event_lines (form_of told start operation) written in
         let last = option_map_or (λ note. note_text start (latest_of written (length written)) note ∷ []) told.details.note [] in
-        let planned : Each (IsPlanned plan) events =
-        each_weaker (λ e. IsListed work (get_or lists e.worker []) e) (IsPlanned plan) (λ e is. is.planned) events (all_listed work workers limit lists events applied.dealt_out applied.told) in
-        let counted = errors_counted work limit events (each_weaker (IsPlanned plan) (λ e. e.change < limit) (is_within plan) events planned) (part_of_change work workers limit lists events applied.dealt_out applied.told) in
+        let planned : Each (IsPlanned plan) events = are_planned plan events steps.planned in
+        let counted = errors_counted work limit events (each_weaker (IsPlanned plan) (λ e. e.change < limit) (is_within plan) events planned) steps.whole in
         any_both is_error_line head (lines ++ last)
         ∙ ap₂ (λ (a b : Bool). a || b) (none_of_head plan told.details.changes start) (any_both is_error_line lines last)
         ∙ ap₂ (λ (a b : Bool). a || b)
@@ -188,13 +187,13 @@ all_joined told start operation written =
     ∙ ap₂ (λ (a b : List ℕ). a ++ b) (joined (λ p. form.line (latest_of written (p.0 + 1)) p.1) (enumerate_from 0 written)) (one_note start latest told.details.note))
     ∙ sym (append_assoc (concat head) (flat_map (λ p. form.line (latest_of written (p.0 + 1)) p.1) (enumerate_from 0 written)) (option_map_or (note_text start latest) told.details.note []))
 
-pub an_end_or_an_error : (told : Told) (start : ℕ) (operation : Operation) (hooks : List (List Rule)) (workers : ℕ) (lists : List (List ℕ)) (events : List Event) (counts : Counts) (said : Bool)
-    → IsApplied (record { plan = applied_plan told; script = applied_script told; hooks = hooks }) workers lists events → counts ≡ totals_of (applied_plan told) events → said ≡ tells_error told.details.note counts
+pub an_end_or_an_error : (told : Told) (start : ℕ) (operation : Operation) (hooks : List (List Rule)) (events : List Event) (counts : Counts) (said : Bool)
+    → IsOfWholeSteps (record { plan = applied_plan told; script = applied_script told; hooks = hooks }) events → counts ≡ totals_of (applied_plan told) events → said ≡ tells_error told.details.note counts
     → HasAnEndOrAnError told start operation events said
-an_end_or_an_error told start operation hooks workers lists events counts said applied counted reported =
+an_end_or_an_error told start operation hooks events counts said steps counted reported =
     let written = as_written events in
     let latest = latest_of written (length written) in
-    let same = of_run told start operation hooks workers lists events applied in
+    let same = of_run told start operation hooks events steps in
     let note = option_map_or (note_text start latest) told.details.note [] in
     record {
       lines = all_lines told start operation written;

@@ -1,5 +1,5 @@
 -- An error is told exactly where a step failed or was halted.
-use Rattle.std.proofs.Common.{All, ◌≡◌, ℕ, zero, suc, ◌+◌, ◌<◌, ◌==◌, List, [], ◌∷◌, ◌++◌, map, filter, Bool, true, false, cond, not, Option, Some, None, refl, sym, ap, ◌∙◌, subst, slice_get, count_by, option_map, option_to_list, arith, eq-eqb, lt-ltb}
+use Rattle.std.proofs.Common.{All, ◌≡◌, ⊎_elim, ℕ, zero, suc, ◌+◌, ◌<◌, ◌==◌, List, [], ◌∷◌, ◌++◌, map, filter, Bool, true, false, cond, not, Option, Some, None, refl, sym, ap, ◌∙◌, subst, slice_get, count_by, option_map, option_to_list, arith, eq-eqb, lt-ltb}
 use Rattle.std.specs.Prelude.{◌||◌, is_some, nat_lt}
 use Rattle.std.specs.List.{list_any}
 use Rattle.std.specs.Option.{option_map_or}
@@ -16,15 +16,14 @@ use Rattle.apply_check.specs.Tally.{is_error}
 use Rattle.apply_events.specs.declared.event.Event.{Event}
 use Rattle.apply_events.specs.declared.what.What.{What}
 use Rattle.apply_events.specs.declared.what.What.TheVariants.{Start, Progress, Complete, Errored, ErrorNote, WarnNote, Halted, ProvisionStart, ProvisionOutput, ProvisionComplete, ProvisionErrored}
-use Rattle.apply_events.specs.ChangeEvents.{begun, change_events, in_turn}
 use Rattle.apply_events.specs.Diagnostics.{is_note}
 use Rattle.apply_events.specs.Step.{Step, Work, address_of, kinds_of, steps_of}
-use Rattle.apply_events.specs.StepEvents.{between, end_of, endings, event, halts, notes, phase_after, seconds_of, started, step_events, step_time}
+use Rattle.apply_events.specs.StepEvents.{between, end_of, endings, event, goes_on, halts, notes, phase_after, seconds_of, started, step_events}
 use Rattle.apply_events.specs.Totals.{is_errored, is_halted, totals_of}
 use Rattle.apply_events.proofs.Provisions.{all_along}
 use Rattle.apply_text.specs.Order.{as_written, hook_messages_of, notes_of}
 use Rattle.apply_agreement.specs.Told.{action_of, all_told, told}
-use Rattle.apply_agreement.proofs.Deeds.{with_change}
+use Rattle.apply_agreement.specs.WholeSteps.{AreOfSteps, events_of_change}
 use Rattle.apply_agreement.proofs.Parts.{Each}
 
 abbrev pub is_error_note : What → Bool
@@ -101,21 +100,21 @@ any_of_kept p t xs e = sym (any_kept p t xs) ∙ ap (λ (b : Bool). list_any p (
 
 -- ---- by changes
 
-found_change : (p : Event → Bool) (limit : ℕ) (es : List Event) → Each (λ e. e.change < limit) es → list_any p es ≡ true → (c : ℕ) × (c < limit) × (list_any p (with_change c es) ≡ true)
+found_change : (p : Event → Bool) (limit : ℕ) (es : List Event) → Each (λ e. e.change < limit) es → list_any p es ≡ true → (c : ℕ) × (c < limit) × (list_any p (events_of_change c es) ≡ true)
 found_change p limit [] within e = absurd cc
 found_change p limit (x ∷ es) within e = at (p x) refl (found_change p limit es within.1) e
   where
-    at : (b : Bool) → p x ≡ b → (list_any p es ≡ true → (c : ℕ) × (c < limit) × (list_any p (with_change c es) ≡ true)) → (p x || list_any p es) ≡ true → (c : ℕ) × (c < limit) × (list_any p (with_change c (x ∷ es)) ≡ true)
+    at : (b : Bool) → p x ≡ b → (list_any p es ≡ true → (c : ℕ) × (c < limit) × (list_any p (events_of_change c es) ≡ true)) → (p x || list_any p es) ≡ true → (c : ℕ) × (c < limit) × (list_any p (events_of_change c (x ∷ es)) ≡ true)
     at true is rest e = (
       x.change,
       within.0,
-      ap (λ (b : Bool). list_any p (cond b (x ∷ with_change x.change es) (with_change x.change es))) (eq-eqb x.change x.change refl) ∙ ap (λ (b : Bool). b || list_any p (with_change x.change es)) is,
+      ap (λ (b : Bool). list_any p (cond b (x ∷ events_of_change x.change es) (events_of_change x.change es))) (eq-eqb x.change x.change refl) ∙ ap (λ (b : Bool). b || list_any p (events_of_change x.change es)) is,
     )
     at false is rest e =
         let found = rest (sym (ap (λ (b : Bool). b || list_any p es) is) ∙ e) in
         (found.0, found.1, either found.0 (x.change == found.0) found.2)
       where
-        either : (c : ℕ) (b : Bool) → list_any p (with_change c es) ≡ true → list_any p (cond b (x ∷ with_change c es) (with_change c es)) ≡ true
+        either : (c : ℕ) (b : Bool) → list_any p (events_of_change c es) ≡ true → list_any p (cond b (x ∷ events_of_change c es) (events_of_change c es)) ≡ true
         either c true f = ap (λ (t : Bool). p x || t) f ∙ or_true (p x)
         either c false f = f
 
@@ -174,9 +173,19 @@ module _ (w : ℕ) (s : Step) where
           (ends_alike s.fails s.warns (at + seconds_of s) (seconds_of s)))
           (halts_alike (phase_after s.fails) (at + seconds_of s) (s.halts (phase_after s.fails)))
 
-steps_alike : (w : ℕ) (steps : List Step) (at : ℕ) → Alike noted failed (in_turn (step_events w) step_time steps at)
-steps_alike w [] at = refl
-steps_alike w (s ∷ steps) at = alike_both noted failed (step_events w s at) (in_turn (step_events w) step_time steps (at + step_time s)) (step_alike w s at) (steps_alike w steps (at + step_time s))
+steps_alike : (steps : List Step) (es : List Event) → AreOfSteps steps es → Alike noted failed es
+steps_alike [] es are = subst (Alike noted failed) (sym are) refl
+steps_alike (s ∷ steps) es are =
+    ⊎_elim
+    (λ (none : es ≡ []). subst (Alike noted failed) (sym none) refl)
+    (λ (some : (w : ℕ) × (at : ℕ) × (rest : List Event) × (es ≡ step_events w s at ++ rest) × (goes_on s ≡ true → AreOfSteps steps rest) × (goes_on s ≡ false → rest ≡ [])).
+    subst (Alike noted failed) (sym some.3)
+    (alike_both noted failed (step_events some.0 s some.1) some.2 (step_alike some.0 s some.1) (others some.2 (λ on. steps_alike steps some.2 (some.4 on)) some.5 (goes_on s) refl)))
+    are
+  where
+    others : (rest : List Event) → (goes_on s ≡ true → Alike noted failed rest) → (goes_on s ≡ false → rest ≡ []) → (on : Bool) → goes_on s ≡ on → Alike noted failed rest
+    others rest then none true on = then on
+    others rest then none false off = subst (Alike noted failed) (sym (none off)) refl
 
 -- ---- all events
 
@@ -185,20 +194,18 @@ same_bools true b f g = sym (f refl)
 same_bools false true f g = g refl
 same_bools false false f g = refl
 
-carried : (p q : Event → Bool) (limit : ℕ) (es : List Event) → Each (λ e. e.change < limit) es → ((c : ℕ) → c < limit → list_any p (with_change c es) ≡ list_any q (with_change c es)) → list_any p es ≡ true → list_any q es ≡ true
+carried : (p q : Event → Bool) (limit : ℕ) (es : List Event) → Each (λ e. e.change < limit) es → ((c : ℕ) → c < limit → list_any p (events_of_change c es) ≡ list_any q (events_of_change c es)) → list_any p es ≡ true → list_any q es ≡ true
 carried p q limit es within same e =
     let found = found_change p limit es within e in
     any_of_kept q (λ (x : Event). x.change == found.0) es (sym (same found.0 found.1) ∙ found.2)
 
--- each change's part is its events
+-- each change has the events of its steps
 abbrev pub AreParts : Work → ℕ → List Event → Type 0
-AreParts work limit es = (c : ℕ) → c < limit → (w : ℕ) × (begin : ℕ) × (with_change c es ≡ change_events work w c begin)
+AreParts work limit es = (c : ℕ) → c < limit → AreOfSteps (steps_of work c) (events_of_change c es)
 
 all_alike : (work : Work) (limit : ℕ) (es : List Event) → Each (λ e. e.change < limit) es → AreParts work limit es → Alike noted failed es
 all_alike work limit es within parts =
-    let same : (c : ℕ) → c < limit → Alike noted failed (with_change c es) = λ c less.
-    let part = parts c less in
-    subst (Alike noted failed) (sym part.2) (steps_alike part.0 (begun (steps_of work c)) part.1) in
+    let same : (c : ℕ) → c < limit → Alike noted failed (events_of_change c es) = λ c less. steps_alike (steps_of work c) (events_of_change c es) (parts c less) in
     same_bools (list_any noted es) (list_any failed es) (carried noted failed limit es within same) (carried failed noted limit es within (λ c less. sym (same c less)))
 
 -- ---- what is told

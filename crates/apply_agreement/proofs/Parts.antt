@@ -1,11 +1,12 @@
 -- The part that each change has of what several workers report.
-use Rattle.std.proofs.Common.{filter, ◌≡◌, ◌≢◌, ℕ, ◌+◌, ◌<◌, ◌≤◌, ◌==◌, zero, suc, All, List, [], ◌∷◌, ◌++◌, length, map, get_or, sum_by, Bool, true, false, cond, Option, Some, None, refl, sym, ap, ◌∙◌, subst, ⊎_elim, slice_get, option_map, option_to_list, append-nil, arith, eq-eqb, ne_eqb}
+use Rattle.std.proofs.Common.{filter, ◌≡◌, ◌≢◌, ℕ, ◌+◌, ◌<◌, ◌≤◌, ◌==◌, zero, suc, All, List, [], ◌∷◌, ◌++◌, length, map, get_or, sum_by, Bool, true, false, cond, Option, Some, None, refl, sym, ap, ◌∙◌, subst, ⊎_elim, slice_get, option_map, option_to_list, append-nil, inr, arith, eq-eqb, ne_eqb}
 use Rattle.std.specs.Prelude.{is_some, not}
 use Rattle.std.specs.List.{enumerate_from}
 use Rattle.std.proofs.lemmas.Bool.{cases_eq, lt-ltb}
 use Rattle.std.proofs.lemmas.Bool.Decides.{eqb_tells}
-use Rattle.std.proofs.lemmas.List.Elements.{All-head, All-tail}
+use Rattle.std.proofs.lemmas.List.Elements.{All-cons, All-head, All-nil, All-tail}
 use Rattle.std.proofs.lemmas.List.Sums.{get_or-le-sum_by, sum_by-cons}
+use Rattle.std.proofs.lemmas.Option.{slice_get_within}
 use Rattle.apply_model.specs.declared.plan.step_kind.StepKind.{StepKind}
 use Rattle.apply_hooks.specs.declared.phase.Phase.TheVariants.{Pre}
 use Rattle.apply_events.specs.declared.event.Event.{Event}
@@ -13,6 +14,7 @@ use Rattle.apply_events.specs.declared.what.What.{What}
 use Rattle.apply_events.specs.declared.what.What.TheVariants.{Start, Halted}
 use Rattle.apply_events.specs.Diagnostics.{is_note}
 use Rattle.apply_events.specs.ChangeEvents.{begun, change_events, in_turn, span_of}
+use Rattle.apply_events.specs.Fits.{HasStep}
 use Rattle.apply_events.specs.Interleaving.{IsInterleaving}
 use Rattle.apply_events.specs.OfWorker.{of_worker}
 use Rattle.apply_events.specs.Partition.{IsPartition, count_of}
@@ -20,7 +22,7 @@ use Rattle.apply_events.specs.Step.{Step, Work, kinds_of, step_of, steps_of}
 use Rattle.apply_events.specs.StepEvents.{between, endings, event, goes_on, halts, phase_after, seconds_of, started, step_events, step_time}
 use Rattle.apply_events.specs.WorkerEvents.{worker_events}
 use Rattle.apply_text.specs.Order.{as_written, hook_messages_of, notes_of}
-use Rattle.apply_agreement.proofs.Deeds.{with_change}
+use Rattle.apply_agreement.specs.WholeSteps.{AreOfSteps, IsOfWholeSteps, events_of_change}
 
 -- ---- what holds of each event
 
@@ -98,21 +100,21 @@ change_is_of work w c at =
 
 -- ---- the part of a change in a list
 
-both_parts : (c : ℕ) (es fs : List Event) → with_change c (es ++ fs) ≡ with_change c es ++ with_change c fs
+both_parts : (c : ℕ) (es fs : List Event) → events_of_change c (es ++ fs) ≡ events_of_change c es ++ events_of_change c fs
 both_parts c [] fs = refl
 both_parts c (e ∷ es) fs = at (e.change == c) (both_parts c es fs)
   where
-    at : (b : Bool) → with_change c (es ++ fs) ≡ with_change c es ++ with_change c fs → cond b (e ∷ with_change c (es ++ fs)) (with_change c (es ++ fs)) ≡ cond b (e ∷ with_change c es) (with_change c es) ++ with_change c fs
+    at : (b : Bool) → events_of_change c (es ++ fs) ≡ events_of_change c es ++ events_of_change c fs → cond b (e ∷ events_of_change c (es ++ fs)) (events_of_change c (es ++ fs)) ≡ cond b (e ∷ events_of_change c es) (events_of_change c es) ++ events_of_change c fs
     at true is = ap (λ (l : List Event). e ∷ l) is
     at false is = is
 
-whole_part : (c : ℕ) (es : List Event) → Each (λ e. e.change ≡ c) es → with_change c es ≡ es
+whole_part : (c : ℕ) (es : List Event) → Each (λ e. e.change ≡ c) es → events_of_change c es ≡ es
 whole_part c [] h = refl
-whole_part c (e ∷ es) h = ap (λ (b : Bool). cond b (e ∷ with_change c es) (with_change c es)) (eq-eqb e.change c h.0) ∙ ap (λ (l : List Event). e ∷ l) (whole_part c es h.1)
+whole_part c (e ∷ es) h = ap (λ (b : Bool). cond b (e ∷ events_of_change c es) (events_of_change c es)) (eq-eqb e.change c h.0) ∙ ap (λ (l : List Event). e ∷ l) (whole_part c es h.1)
 
-no_part : (c : ℕ) (es : List Event) → Each (λ e. e.change ≢ c) es → with_change c es ≡ []
+no_part : (c : ℕ) (es : List Event) → Each (λ e. e.change ≢ c) es → events_of_change c es ≡ []
 no_part c [] h = refl
-no_part c (e ∷ es) h = ap (λ (b : Bool). cond b (e ∷ with_change c es) (with_change c es)) (ne_eqb e.change c h.0) ∙ no_part c es h.1
+no_part c (e ∷ es) h = ap (λ (b : Bool). cond b (e ∷ events_of_change c es) (events_of_change c es)) (ne_eqb e.change c h.0) ∙ no_part c es h.1
 
 first_counted : (c b : ℕ) (changes : List ℕ) → count_of c (b ∷ changes) ≡ cond (b == c) 1 0 + count_of c changes
 first_counted c b changes = sum_by-cons (λ x. cond (x == c) 1 0) b changes
@@ -121,13 +123,13 @@ module _ (work : Work) (w : ℕ) where
   abbrev turn : List ℕ → ℕ → List Event
   turn changes at = in_turn (change_events work w) (span_of work) changes at
 
-  other_part : (c b at : ℕ) → b ≢ c → with_change c (change_events work w b at) ≡ []
+  other_part : (c b at : ℕ) → b ≢ c → events_of_change c (change_events work w b at) ≡ []
   other_part c b at apart = no_part c (change_events work w b at) (each_weaker (TellsOfChange work b) (λ e. e.change ≢ c) (λ e is same. apart (sym is.named ∙ same)) (change_events work w b at) (change_is_of work w b at))
 
-  own_part : (c at : ℕ) → with_change c (change_events work w c at) ≡ change_events work w c at
+  own_part : (c at : ℕ) → events_of_change c (change_events work w c at) ≡ change_events work w c at
   own_part c at = whole_part c (change_events work w c at) (each_weaker (TellsOfChange work c) (λ e. e.change ≡ c) (λ e is. is.named) (change_events work w c at) (change_is_of work w c at))
 
-  none_left : (c : ℕ) (changes : List ℕ) (at : ℕ) → count_of c changes ≡ 0 → with_change c (turn changes at) ≡ []
+  none_left : (c : ℕ) (changes : List ℕ) (at : ℕ) → count_of c changes ≡ 0 → events_of_change c (turn changes at) ≡ []
   none_left c [] at none = refl
   none_left c (b ∷ changes) at none =
       let count = first_counted c b changes in
@@ -136,12 +138,12 @@ module _ (work : Work) (w : ℕ) where
       (λ (other : ((b == c) ≡ false) × (b ≢ c)).
       let here : cond {A = ℕ} (b == c) 1 0 ≡ 0 = ap (λ (t : Bool). cond t 1 0) other.0 in
       both_parts c (change_events work w b at) (turn changes (at + span_of work b))
-      ∙ ap (λ (l : List Event). l ++ with_change c (turn changes (at + span_of work b))) (other_part c b at other.1)
+      ∙ ap (λ (l : List Event). l ++ events_of_change c (turn changes (at + span_of work b))) (other_part c b at other.1)
       ∙ none_left c changes (at + span_of work b) (omega arith))
       (eqb_tells b c)
 
   -- a change that stands once has its events
-  pub part_of_turn : (c : ℕ) (changes : List ℕ) (at : ℕ) → count_of c changes ≡ 1 → (begin : ℕ) × (with_change c (turn changes at) ≡ change_events work w c begin)
+  pub part_of_turn : (c : ℕ) (changes : List ℕ) (at : ℕ) → count_of c changes ≡ 1 → (begin : ℕ) × (events_of_change c (turn changes at) ≡ change_events work w c begin)
   part_of_turn c [] at one = absurd (let none : count_of c [] ≡ 0 = refl in omega arith)
   part_of_turn c (b ∷ changes) at one =
       let count = first_counted c b changes in
@@ -150,13 +152,13 @@ module _ (work : Work) (w : ℕ) where
       (λ (same : ((b == c) ≡ true) × (b ≡ c)).
       let here : cond {A = ℕ} (b == c) 1 0 ≡ 1 = ap (λ (t : Bool). cond t 1 0) same.0 in (
         at,
-        split ∙ ap (λ (l : List Event). with_change c (change_events work w b at) ++ l) (none_left c changes (at + span_of work b) (omega arith))
-            ∙ append-nil (with_change c (change_events work w b at)) ∙ ap (λ (x : ℕ). with_change c (change_events work w x at)) same.1 ∙ own_part c at,
+        split ∙ ap (λ (l : List Event). events_of_change c (change_events work w b at) ++ l) (none_left c changes (at + span_of work b) (omega arith))
+            ∙ append-nil (events_of_change c (change_events work w b at)) ∙ ap (λ (x : ℕ). events_of_change c (change_events work w x at)) same.1 ∙ own_part c at,
       ))
       (λ (other : ((b == c) ≡ false) × (b ≢ c)).
       let here : cond {A = ℕ} (b == c) 1 0 ≡ 0 = ap (λ (t : Bool). cond t 1 0) other.0 in
       let rest = part_of_turn c changes (at + span_of work b) (omega arith) in
-      (rest.0, split ∙ ap (λ (l : List Event). l ++ with_change c (turn changes (at + span_of work b))) (other_part c b at other.1) ∙ rest.1))
+      (rest.0, split ∙ ap (λ (l : List Event). l ++ events_of_change c (turn changes (at + span_of work b))) (other_part c b at other.1) ∙ rest.1))
       (eqb_tells b c)
 
 -- ---- who has a change
@@ -201,25 +203,25 @@ spread P workers (e ∷ es) named h =
     rest Q false fs h = h
 
 -- a change whose events all name one worker has its part of that worker's part
-narrowed : (c w : ℕ) (es : List Event) → Each (λ e. e.change ≡ c → e.worker ≡ w) es → with_change c es ≡ with_change c (of_worker w es)
+narrowed : (c w : ℕ) (es : List Event) → Each (λ e. e.change ≡ c → e.worker ≡ w) es → events_of_change c es ≡ events_of_change c (of_worker w es)
 narrowed c w [] h = refl
 narrowed c w (e ∷ es) h =
     let rest = narrowed c w es h.1 in
     ⊎_elim
     (λ (same : ((e.change == c) ≡ true) × (e.change ≡ c)).
     let mine : (e.worker == w) ≡ true = eq-eqb e.worker w (h.0 same.1) in
-    ap (λ (b : Bool). cond b (e ∷ with_change c es) (with_change c es)) same.0
+    ap (λ (b : Bool). cond b (e ∷ events_of_change c es) (events_of_change c es)) same.0
     ∙ ap (λ (l : List Event). e ∷ l) rest
-    ∙ sym (ap (λ (b : Bool). cond b (e ∷ with_change c (of_worker w es)) (with_change c (of_worker w es))) same.0)
-    ∙ ap (with_change c) (sym (ap (λ (b : Bool). cond b (e ∷ of_worker w es) (of_worker w es)) mine)))
+    ∙ sym (ap (λ (b : Bool). cond b (e ∷ events_of_change c (of_worker w es)) (events_of_change c (of_worker w es))) same.0)
+    ∙ ap (events_of_change c) (sym (ap (λ (b : Bool). cond b (e ∷ of_worker w es) (of_worker w es)) mine)))
     (λ (other : ((e.change == c) ≡ false) × (e.change ≢ c)).
-    ap (λ (b : Bool). cond b (e ∷ with_change c es) (with_change c es)) other.0
+    ap (λ (b : Bool). cond b (e ∷ events_of_change c es) (events_of_change c es)) other.0
     ∙ rest
     ∙ skipped (e.worker == w) other.0)
     (eqb_tells e.change c)
   where
-    skipped : (b : Bool) → (e.change == c) ≡ false → with_change c (of_worker w es) ≡ with_change c (cond b (e ∷ of_worker w es) (of_worker w es))
-    skipped true no_part_of = sym (ap (λ (t : Bool). cond t (e ∷ with_change c (of_worker w es)) (with_change c (of_worker w es))) no_part_of)
+    skipped : (b : Bool) → (e.change == c) ≡ false → events_of_change c (of_worker w es) ≡ events_of_change c (cond b (e ∷ of_worker w es) (of_worker w es))
+    skipped true no_part_of = sym (ap (λ (t : Bool). cond t (e ∷ events_of_change c (of_worker w es)) (events_of_change c (of_worker w es))) no_part_of)
     skipped false no_part_of = refl
 
 -- each event of a worker is of a change that its list names, and the plan has its step
@@ -257,13 +259,51 @@ module _ (work : Work) (workers limit : ℕ) (lists : List (List ℕ)) (events :
   )
 
   -- the part of a change is its events, whoever applied it
-  pub part_of_change : (c : ℕ) → c < limit → (w : ℕ) × (begin : ℕ) × (with_change c events ≡ change_events work w c begin)
+  pub part_of_change : (c : ℕ) → c < limit → (w : ℕ) × (begin : ℕ) × (events_of_change c events ≡ change_events work w c begin)
   part_of_change c less =
       let whose = only_one (count_of c) lists (dealt.once c ∙ ap (λ (b : Bool). cond b 1 0) (lt-ltb c limit less)) in
       let count : length lists ≡ workers = dealt.count in
       let mine : Each (λ e. e.change ≡ c → e.worker ≡ whose.0) events = owners c whose.0 events told.named all_listed (λ v l. whose.3 v (omega arith)) in
       let part = part_of_turn work whose.0 c (get_or lists whose.0 []) 0 whose.2 in
-      (whose.0, part.0, narrowed c whose.0 events mine ∙ ap (with_change c) (told.parts whose.0 (let l : whose.0 < length lists = whose.1 in omega arith)) ∙ part.1)
+      (whose.0, part.0, narrowed c whose.0 events mine ∙ ap (events_of_change c) (told.parts whose.0 (let l : whose.0 < length lists = whose.1 in omega arith)) ∙ part.1)
+
+-- ---- all of it
+
+-- the steps of a change that begin are whole, one after another
+begun_are_whole : (w : ℕ) (steps : List Step) (at : ℕ) → AreOfSteps steps (in_turn (step_events w) step_time (begun steps) at)
+begun_are_whole w [] at = refl
+begun_are_whole w (s ∷ steps) at =
+    let then = at + step_time s in
+    inr (
+      w,
+      at,
+      in_turn (step_events w) step_time (cond (goes_on s) (begun steps) []) then,
+      refl,
+      λ on. subst (λ (b : Bool). AreOfSteps steps (in_turn (step_events w) step_time (cond b (begun steps) []) then)) (sym on) (begun_are_whole w steps then),
+      λ off. ap (λ (b : Bool). in_turn (step_events w) step_time (cond b (begun steps) []) then) off,
+    )
+
+all_of_each : (P : Event → Type 0) (es : List Event) → Each P es → All P es
+all_of_each P [] h = All-nil P
+all_of_each P (e ∷ es) h = All-cons P e es h.0 (all_of_each P es h.1)
+
+pub each_of_all : (P : Event → Type 0) (es : List Event) → All P es → Each P es
+each_of_all P [] h = tt
+each_of_all P (e ∷ es) h = (All-head P e es h, each_of_all P es (All-tail P e es h))
+
+-- what workers report to whom all changes are dealt out
+pub run_of_whole_steps : (work : Work) (workers : ℕ) (lists : List (List ℕ)) (events : List Event) → IsPartition workers (length work.plan.changes) lists → IsInterleaving workers (λ w. worker_events work w (get_or lists w [])) events
+    → IsOfWholeSteps work events
+run_of_whole_steps work workers lists events dealt told =
+    let limit = length work.plan.changes in
+    record {
+      planned = all_of_each (λ e. HasStep work.plan e.change e.step) events
+          (each_weaker (λ e. IsListed work (get_or lists e.worker []) e) (λ e. HasStep work.plan e.change e.step)
+          (λ e is. slice_get_within (kinds_of work.plan e.change) e.step is.planned.0 is.planned.1) events (all_listed work workers limit lists events dealt told));
+      whole = λ c less.
+          let part = part_of_change work workers limit lists events dealt told c less in
+          subst (AreOfSteps (steps_of work c)) (sym part.2) (begun_are_whole part.0 (steps_of work c) part.1);
+    }
 
 -- ---- as they are written
 
@@ -288,5 +328,5 @@ filters_swap p q (x ∷ xs) = at (p x) (q x) refl refl (filters_swap p q xs)
     at false true e f rest = ap (λ (t : Bool). cond t (x ∷ filter p (filter q xs)) (filter p (filter q xs))) e ∙ rest
     at false false e f rest = rest
 
-pub part_of_kept : (c : ℕ) (test : Event → Bool) (es : List Event) → with_change c (filter test es) ≡ filter test (with_change c es)
+pub part_of_kept : (c : ℕ) (test : Event → Bool) (es : List Event) → events_of_change c (filter test es) ≡ filter test (events_of_change c es)
 part_of_kept c test es = filters_swap (λ (e : Event). e.change == c) test es

@@ -1,10 +1,10 @@
 -- What the messages of events tell is what the events tell.
-use Rattle.std.proofs.Common.{◌≡◌, ℕ, suc, ◌+◌, ◌<◌, List, [], ◌∷◌, ◌++◌, length, map, get_or, slice_index_or, Bool, true, false, cond, Option, Some, None, Result, Ok, refl, sym, ap, ◌∙◌, subst, slice_get, count_by, arith}
+use Rattle.std.proofs.Common.{All, ◌≡◌, ℕ, suc, ◌+◌, ◌<◌, List, [], ◌∷◌, ◌++◌, length, map, get_or, Bool, true, false, cond, Option, Some, None, Result, Ok, refl, sym, ap, ◌∙◌, subst, slice_get, count_by, arith}
 use Rattle.std.specs.Prelude.{nat_lt, not, ◌&&◌}
 use Rattle.std.specs.List.{list_any}
 use Rattle.std.specs.Option.{option_map_or}
 use Rattle.std.proofs.lemmas.List.{length-append}
-use Rattle.std.proofs.lemmas.Option.{slice_get_within}
+use Rattle.std.proofs.lemmas.Option.{slice_get-get_or, slice_get_within}
 use Rattle.std.proofs.lemmas.List.Filters.{length-filter_both, sum_by-filter_both}
 use Rattle.std.proofs.lemmas.List.Sums.{sum_by-append, sum_by-cons}
 use Rattle.apply_model.specs.declared.plan.step_kind.StepKind.{StepKind}
@@ -21,24 +21,22 @@ use Rattle.apply_check.specs.Words.{same_action}
 use Rattle.apply_events.specs.declared.event.Event.{Event}
 use Rattle.apply_events.specs.declared.what.What.{What}
 use Rattle.apply_events.specs.declared.what.What.TheVariants.{Start, Progress, Complete, Errored, ErrorNote, WarnNote, Halted, ProvisionStart, ProvisionOutput, ProvisionComplete, ProvisionErrored}
-use Rattle.apply_events.specs.ChangeEvents.{change_events}
 use Rattle.apply_events.specs.Diagnostics.{is_note}
-use Rattle.apply_events.specs.Interleaving.{IsInterleaving}
-use Rattle.apply_events.specs.Partition.{IsPartition}
+use Rattle.apply_events.specs.Fits.{HasStep}
 use Rattle.apply_events.specs.Step.{Work, address_of, kinds_of}
 use Rattle.apply_events.specs.Totals as events_are
 use Rattle.apply_events.specs.Totals.{is_complete}
-use Rattle.apply_events.specs.WorkerEvents.{worker_events}
 use Rattle.apply_text.specs.Order.{as_written, hook_messages_of, notes_of}
 use Rattle.apply_agreement.specs.Accepted.{stream_told, totals_said, whole_stream}
 use Rattle.apply_agreement.specs.Passing.{plain, verdict_on}
 use Rattle.apply_agreement.specs.Plans.{IsOrdinary, ProvisionsCreates}
 use Rattle.apply_agreement.specs.Told.{action_of, all_told, told}
+use Rattle.apply_agreement.specs.WholeSteps.{IsOfWholeSteps, events_of_change}
 use Rattle.apply_agreement.proofs.ChangeDeeds.{change_written}
 use Rattle.apply_agreement.proofs.Deeds.{all_deeds, all_told_both, follows, of_change_is, told_is}
 use Rattle.apply_agreement.proofs.Errors.{IsPlanned, errors_told}
 use Rattle.apply_agreement.proofs.Ordinary.{Anywhere, Does, apart, found, known}
-use Rattle.apply_agreement.proofs.Parts.{Each, IsListed, all_listed, each_weaker, each_written, part_of_change, part_of_kept}
+use Rattle.apply_agreement.proofs.Parts.{Each, each_of_all, each_weaker, each_written, part_of_kept}
 use Rattle.apply_agreement.proofs.Phases.{Deed, Follows, between, of_change}
 use Rattle.apply_agreement.proofs.Turning.{Runs, behind, both_run, said}
 use Rattle.apply_agreement.proofs.Whole.{accepted, any_behind, at_begin, counts_behind, length_behind}
@@ -163,10 +161,15 @@ whole_is plans plan es lines errors =
 pub is_within : (plan : SavedPlan) (e : Event) → IsPlanned plan e → e.change < length plan.changes
 is_within plan e is = let change = found (slice_get plan.changes e.change) e.step is.0 is.1 in slice_get_within plan.changes e.change change.0 change.1
 
-pub run_accepted : (plans : Bool) (work : Work) (workers : ℕ) (lists : List (List ℕ)) (events : List Event) → IsOrdinary work.plan → ProvisionsCreates work.plan work.script → IsPartition workers (length work.plan.changes) lists
-    → IsInterleaving workers (λ worker. worker_events work worker (slice_index_or lists worker [])) events
+-- of an event whose step the plan has the step is of some kind
+pub are_planned : (plan : SavedPlan) (es : List Event) → All (λ e. HasStep plan e.change e.step) es → Each (IsPlanned plan) es
+are_planned plan es planned =
+    each_weaker (λ e. HasStep plan e.change e.step) (IsPlanned plan)
+    (λ e has. let kinds = kinds_of plan e.change in (get_or kinds e.step Create, slice_get-get_or kinds e.step Create has)) es (each_of_all (λ e. HasStep plan e.change e.step) es planned)
+
+pub whole_steps_accepted : (plans : Bool) (work : Work) (events : List Event) → IsOrdinary work.plan → ProvisionsCreates work.plan work.script → IsOfWholeSteps work events
     → verdict_on (plain plans) (stream_told work.plan events) ≡ Ok (whole_stream work.plan events)
-run_accepted plans work workers lists events ordinary provisioned dealt told_so =
+whole_steps_accepted plans work events ordinary provisioned steps =
     let plan = work.plan in
     let limit = length plan.changes in
     let addresses = address_of plan in
@@ -176,24 +179,24 @@ run_accepted plans work workers lists events ordinary provisioned dealt told_so 
     both_run limit addresses Anywhere (Does plan) ordinary.few (apart plan ordinary) hooks notes (λ c. between) (version ∷ []) (at_begin limit addresses (Does plan))
     (known plan (hook_messages_of events)) (known plan (notes_of events))
     (λ c less.
-    let part = part_of_change work workers limit lists events dealt told_so c less in
-    let written = change_written work provisioned part.0 c part.1 in
-    let first : of_change c hooks ≡ all_deeds plan (hook_messages_of (change_events work part.0 c part.1)) =
-    of_change_is plan c (hook_messages_of events) ∙ ap (all_deeds plan) (part_of_kept c (λ e. not (is_note e.what)) events ∙ ap hook_messages_of part.2) in
-    let second : of_change c notes ≡ all_deeds plan (notes_of (change_events work part.0 c part.1)) =
-    of_change_is plan c (notes_of events) ∙ ap (all_deeds plan) (part_of_kept c (λ e. is_note e.what) events ∙ ap notes_of part.2) in (
+    let part = events_of_change c events in
+    let written = change_written work provisioned c part (steps.whole c less) in
+    let first : of_change c hooks ≡ all_deeds plan (hook_messages_of part) =
+    of_change_is plan c (hook_messages_of events) ∙ ap (all_deeds plan) (part_of_kept c (λ e. not (is_note e.what)) events) in
+    let second : of_change c notes ≡ all_deeds plan (notes_of part) =
+    of_change_is plan c (notes_of events) ∙ ap (all_deeds plan) (part_of_kept c (λ e. is_note e.what) events) in (
       written.phase,
-      subst (λ (ds : List Deed). Follows between ds written.phase) (sym first) (follows plan between (hook_messages_of (change_events work part.0 c part.1)) written.phase written.hooks),
-      subst (λ (ds : List Deed). Follows written.phase ds between) (sym second) (follows plan written.phase (notes_of (change_events work part.0 c part.1)) between written.notes),
+      subst (λ (ds : List Deed). Follows between ds written.phase) (sym first) (follows plan between (hook_messages_of part) written.phase written.hooks),
+      subst (λ (ds : List Deed). Follows written.phase ds between) (sym second) (follows plan written.phase (notes_of part) between written.notes),
     )) in
     let same : map (said addresses) hooks ++ map (said addresses) notes ≡ all_told plan (as_written events) =
     ap (λ (l : List Message). l ++ map (said addresses) notes) (sym (told_is plan (hook_messages_of events)))
     ∙ ap (λ (l : List Message). all_told plan (hook_messages_of events) ++ l) (sym (told_is plan (notes_of events)))
     ∙ sym (all_told_both plan (hook_messages_of events) (notes_of events)) in
     let ran_so : Runs limit addresses Anywhere (Does plan) (version ∷ []) (all_told plan (as_written events)) = subst (Runs limit addresses Anywhere (Does plan) (version ∷ [])) same ran in
-    let planned = each_weaker (λ e. IsListed work (get_or lists e.worker []) e) (λ e. (kind : StepKind) × (slice_get (kinds_of plan e.change) e.step ≡ Some kind)) (λ e is. is.planned) events (all_listed work workers limit lists events dealt told_so) in
-    let lines = all_lines plan (as_written events) (each_written (λ e. (kind : StepKind) × (slice_get (kinds_of plan e.change) e.step ≡ Some kind)) events planned) in
-    let errors = errors_told work limit events (each_written (IsPlanned plan) events planned) (each_weaker (IsPlanned plan) (λ e. e.change < limit) (is_within plan) events planned) (part_of_change work workers limit lists events dealt told_so) in
+    let planned = are_planned plan events steps.planned in
+    let lines = all_lines plan (as_written events) (each_written (IsPlanned plan) events planned) in
+    let errors = errors_told work limit events (each_written (IsPlanned plan) events planned) (each_weaker (IsPlanned plan) (λ e. e.change < limit) (is_within plan) events planned) steps.whole in
     accepted plans limit addresses (Does plan) (all_told plan (as_written events)) (totals_said (events_are.totals_of plan events)) ran_so (totals_written plan events)
     ∙ ap (λ (w : Whole). fine w) (whole_is plans plan events lines errors)
   where

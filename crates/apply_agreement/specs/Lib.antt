@@ -7,3 +7,4 @@ pub mod Plans
 pub mod Sound
 pub mod Texts
 pub mod Told
+pub mod WholeSteps

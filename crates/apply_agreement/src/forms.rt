@@ -12,6 +12,7 @@ ghost use Rattle.apply_run.specs.InForm.{WasAppliedAsTold, WasAppliedAsToldInLan
 ghost use Rattle.apply_run.specs.Run.{Sight};
 ghost use Rattle.apply_agreement.specs.Levels.{HasAnEndOrAnError, is_error_line};
 
+use crate::laws::a_run_is_of_whole_steps;
 use apply_laws::a_time_line_is_applied_by_workers;
 
 /// A stream in Terraform's form that was written whole ends with a summary, and with it, of an apply, one line of outputs,
@@ -26,6 +27,7 @@ pub fn a_stream_has_an_end_or_an_error()
         → HasAnEndOrAnError applied.told start operation applied.streamed.events report.tells_error }
 {
     a_time_line_is_applied_by_workers();
+    a_run_is_of_whole_steps();
 }
 
 /// The lines with which a stream ends never have the level `error`.

@@ -28,6 +28,7 @@ ghost use Rattle.apply_agreement.specs.Plans.{IsOrdinary, ProvisionsCreates};
 ghost use Rattle.apply_agreement.specs.Sound.{CanBeRead, IsShort};
 ghost use Rattle.apply_agreement.specs.Texts.{FitBits, HasTexts};
 ghost use Rattle.apply_agreement.specs.Told.{action_of, told};
+ghost use Rattle.apply_agreement.specs.WholeSteps.{IsOfWholeSteps};
 
 use apply_laws::{a_line_has_one_line_feed, lanes_deal_out_the_changes};
 
@@ -48,11 +49,30 @@ pub fn a_script_provisions_creates()
     ensures empty { (plan : SavedPlan) → ProvisionsCreates plan [] }
 {}
 
-/// Whatever the script and the hooks, however the changes are dealt out to workers, and in whatever order the workers'
-/// events come: a checker accepts what their messages tell, in the order in which they are written, between the version
-/// and the summary. Its totals are theirs, and it tells of an error exactly where a step failed or was halted. Of the
-/// plan it is asked that no object is changed twice and that a deposed object is only deleted, and of the script that
-/// only creates have provisioners.
+/// The events of workers to whom all changes are dealt out are those of whole steps, of each change one after another, in
+/// whatever order the workers' events come.
+pub fn a_run_is_of_whole_steps()
+    ensures { (work : Work) (workers : ℕ) (lists : List (List ℕ)) (events : List Event)
+        → IsPartition workers (length work.plan.changes) lists
+        → IsInterleaving workers (λ worker. worker_events work worker (slice_index_or lists worker [])) events
+        → IsOfWholeSteps work events }
+{}
+
+/// Whatever the script and the hooks, whoever applies a step, and in whatever order events of several changes come: a checker
+/// accepts what the messages of whole steps tell, in the order in which they are written, between the version and the
+/// summary. Its totals are theirs, and it tells of an error exactly where a step failed or was halted. Of the plan it is asked
+/// that no object is changed twice and that a deposed object is only deleted, and of the script that only creates have
+/// provisioners.
+pub fn whole_steps_are_accepted()
+    ensures { (plans : Bool) (work : Work) (events : List Event)
+        → IsOrdinary work.plan
+        → ProvisionsCreates work.plan work.script
+        → IsOfWholeSteps work events
+        → verdict_on (plain plans) (stream_told work.plan events) ≡ Ok (whole_stream work.plan events) }
+{}
+
+/// So it accepts what the messages of a run tell, however the changes are dealt out to workers, and in whatever order the
+/// workers' events come.
 pub fn every_run_is_accepted()
     ensures { (plans : Bool) (work : Work) (workers : ℕ) (lists : List (List ℕ)) (events : List Event)
         → IsOrdinary work.plan
@@ -60,9 +80,12 @@ pub fn every_run_is_accepted()
         → IsPartition workers (length work.plan.changes) lists
         → IsInterleaving workers (λ worker. worker_events work worker (slice_index_or lists worker [])) events
         → verdict_on (plain plans) (stream_told work.plan events) ≡ Ok (whole_stream work.plan events) }
-{}
+{
+    a_run_is_of_whole_steps();
+    whole_steps_are_accepted();
+}
 
-/// So it accepts the objects that the stream of such a run is made of, whenever it began, of an apply and of a destroy.
+/// And it accepts the objects that the stream of such a run is made of, whenever it began, of an apply and of a destroy.
 pub fn every_stream_of_objects_is_accepted()
     ensures { (plans : Bool) (work : Work) (workers start : ℕ) (lists : List (List ℕ)) (events : List Event)
         (operation : Operation) → IsOrdinary work.plan → ProvisionsCreates work.plan work.script
@@ -70,7 +93,9 @@ pub fn every_stream_of_objects_is_accepted()
         → IsInterleaving workers (λ worker. worker_events work worker (slice_index_or lists worker [])) events
         → verdict_on_objects (plain plans) (stream_objects work.plan work.script start operation events)
         ≡ Ok (whole_stream work.plan events) }
-{}
+{
+    every_run_is_accepted();
+}
 
 /// The texts of a stream's objects are read back, where those of the plan and the script are UTF-8, the numbers of the
 /// events and their totals fit 64 bits, and no line is longer than 64 MiB: moments, lengths of time and the words of
@@ -89,8 +114,20 @@ pub fn events_that_can_happen_fit_bits()
         → All (Fits plan script) events → length events < 2 ^ 64 → FitBits plan events }
 {}
 
-/// And so it accepts the bytes of the stream of such a run, cut at their line feeds, where no text is damaged, no
-/// number is beyond 64 bits and no line is longer than 64 MiB.
+/// A checker accepts the bytes of the stream of whole steps, cut at their line feeds, where no text is damaged, no number is
+/// beyond 64 bits and no line is longer than 64 MiB.
+pub fn every_stream_of_whole_steps_is_accepted()
+    ensures { (plans : Bool) (work : Work) (start : ℕ) (events : List Event) (operation : Operation)
+        → IsOrdinary work.plan → ProvisionsCreates work.plan work.script → IsOfWholeSteps work events
+        → CanBeRead (stream_objects work.plan work.script start operation events)
+        → verdict_of (plain plans) (cut_lines (stream_of work.plan work.script start operation events))
+        ≡ Ok (whole_stream work.plan events) }
+{
+    a_line_has_one_line_feed();
+    whole_steps_are_accepted();
+}
+
+/// And so it accepts the bytes of the stream of a run by workers.
 pub fn every_stream_is_accepted()
     ensures { (plans : Bool) (work : Work) (workers start : ℕ) (lists : List (List ℕ)) (events : List Event)
         (operation : Operation) → IsOrdinary work.plan → ProvisionsCreates work.plan work.script
@@ -100,7 +137,8 @@ pub fn every_stream_is_accepted()
         → verdict_of (plain plans) (cut_lines (stream_of work.plan work.script start operation events))
         ≡ Ok (whole_stream work.plan events) }
 {
-    a_line_has_one_line_feed();
+    a_run_is_of_whole_steps();
+    every_stream_of_whole_steps_is_accepted();
 }
 
 /// It accepts the bytes of the stream of a time line too, of as many changes under way at once as there are lanes.

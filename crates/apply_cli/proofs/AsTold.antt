@@ -24,7 +24,7 @@ use Rattle.apply_cli.specs.CommandAsTold.{HasAppliedAsTold, HasAppliedAsToldInLa
 use Rattle.apply_cli.specs.Status.{refusal_status_of}
 use Rattle.apply_cli.proofs.Ending.{OneWorkerInOrder}
 use Rattle.apply_cli.proofs.Front.{too_large}
-use Rattle.apply_cli.proofs.Fronts.{HasBegunInForm, HasBegunInFormAndLanes, front_of_failed, front_of_failed_in_lanes, front_of_streamed, front_of_streamed_in_lanes, whole_kept}
+use Rattle.apply_cli.proofs.Fronts.{HasFrontInForm, HasFrontInFormAndLanes, front_of_failed, front_of_failed_in_lanes, front_of_streamed, front_of_streamed_in_lanes, whole_kept}
 
 -- too many bytes are not read, with 2
 unread_large : (given : Given) (r : Refusal) → WasNotRead given.plan given.script r → max_bytes < length given.plan → refusal_status_of r ≡ 2
@@ -40,7 +40,7 @@ unread_large given refusal.Size h long = absurd h
 unread_large given (refusal.Fault fault) h long = absurd h
 
 -- and nothing is told of them
-pub told_is_not_large : {P : Type 0} (given : Given) (told : Told) → IsTold given.plan given.script told → max_bytes < length given.plan → P
+told_is_not_large : {P : Type 0} (given : Given) (told : Told) → IsTold given.plan given.script told → max_bytes < length given.plan → P
 told_is_not_large given told read long = let refused = too_large given.plan long in let is = read.plan_is in absurd cc
 
 -- ---- by workers
@@ -70,7 +70,7 @@ module _ (given : Given) (options : Options) where
 
   -- a front of the stream
   begun_of_front_as_told : (before after : Sight) (told : Told) → IsTold given.plan given.script told
-      → HasBegunInForm (form_of told options.start options.operation) (work_of given told) options.workers before after → HasBegunAsTold given options before after
+      → HasFrontInForm (form_of told options.start options.operation) (work_of given told) options.workers before after → HasBegunAsTold given options before after
   begun_of_front_as_told before after told read h = record {
     told = told;
     read = read;
@@ -92,7 +92,7 @@ module _ (given : Given) (options : Options) where
   begun_of_fault_as_told cause report before after after' told kept more read h =
       ⊎_elim
       (λ same. inl same)
-      (λ (front : HasBegunInForm (form_of told options.start options.operation) (work_of given told) options.workers before after'). inr (begun_of_front_as_told before after' told read front))
+      (λ (front : HasFrontInForm (form_of told options.start options.operation) (work_of given told) options.workers before after'). inr (begun_of_front_as_told before after' told read front))
       (front_of_failed (form_of told options.start options.operation) (work_of given told) options.workers report before after after' cause kept more h)
 
   -- the output is as it was, or grew by a front of the stream
@@ -144,7 +144,7 @@ module _ (given : Given) (lanes start : ℕ) (operation : Operation) where
 
   -- a front of the stream
   begun_by_front_as_told : (before after : Sight) (told : Told) → IsTold given.plan given.script told
-      → HasBegunInFormAndLanes (form_of told start operation) (work_of given told) lanes before after → HasBegunAsToldInLanes given lanes start operation before after
+      → HasFrontInFormAndLanes (form_of told start operation) (work_of given told) lanes before after → HasBegunAsToldInLanes given lanes start operation before after
   begun_by_front_as_told before after told read h = record {
     told = told;
     read = read;
@@ -166,7 +166,7 @@ module _ (given : Given) (lanes start : ℕ) (operation : Operation) where
   begun_by_fault_as_told cause report before after after' told kept more read h =
       ⊎_elim
       (λ same. inl same)
-      (λ (front : HasBegunInFormAndLanes (form_of told start operation) (work_of given told) lanes before after'). inr (begun_by_front_as_told before after' told read front))
+      (λ (front : HasFrontInFormAndLanes (form_of told start operation) (work_of given told) lanes before after'). inr (begun_by_front_as_told before after' told read front))
       (front_of_failed_in_lanes (form_of told start operation) (work_of given told) lanes report before after after' cause kept more h)
 
   -- the output is as it was, or grew by a front of the stream

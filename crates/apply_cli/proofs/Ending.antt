@@ -1,9 +1,8 @@
 -- From how a run has ended to how the program has.
-use Rattle.std.proofs.Common.{◌≡◌, ◌≤◌, ◌<◌, ◌⊎◌, ◌↔◌, inl, inr, ℕ, zero, suc, List, length, nat_lt, if◌then◌else◌, Result, Ok, Err, IfOk, IfErr, sym, ap, ◌∙◌, subst, arith, ⊎_elim}
+use Rattle.std.proofs.Common.{◌≡◌, ◌≤◌, ◌<◌, ◌⊎◌, ◌↔◌, inl, inr, ℕ, List, length, Result, Ok, Err, IfOk, IfErr, sym, ap, ◌∙◌, subst, arith, ⊎_elim}
 use Rattle.std.specs.Io.KnownBytes.{Keeps}
 use Rattle.std.specs.List.{range_with_len}
 use Rattle.std.proofs.KnownBytes.{Keeps-refl}
-use Rattle.std.proofs.lemmas.Bool.{lt-ltb}
 use Rattle.apply_plan.specs.declared.plan.plan_error.PlanError.{PlanError}
 use Rattle.apply_plan.specs.declared.plan.plan_error.PlanError.TheVariants as plan_error
 use Rattle.apply_plan.specs.Bytes.{max_bytes}
@@ -22,20 +21,16 @@ use Rattle.apply_run.specs.declared.why.Why.{Why}
 use Rattle.apply_run.specs.Run.{HasFailed, Sight, plain_for, stream_for}
 use Rattle.apply_run.specs.Stream.Form.{plain_form}
 use Rattle.apply_cli.specs.Command.{HasApplied, HasBegun}
-use Rattle.apply_cli.specs.Status.{counts_status_of, refusal_status_of, unfinished}
+use Rattle.apply_cli.specs.Status.{refusal_status_of, unfinished}
 use Rattle.apply_cli.proofs.Front.{too_large}
-use Rattle.apply_cli.proofs.Fronts.{HasBegunInForm, front_of_failed, front_of_streamed, whole_kept}
-
-pub told_by : (n status : ℕ) → status ≡ (if nat_lt 0 n then 1 else 0) → (status ≡ 1) ↔ (0 < n)
-told_by zero status is = ((λ e. absurd (omega arith)), (λ l. absurd (omega arith)))
-told_by (suc n) status is = ((λ _. omega arith), (λ _. is ∙ ap (λ b. if b then 1 else 0) (lt-ltb 0 (suc n) (omega arith))))
+use Rattle.apply_cli.proofs.Fronts.{HasFrontInForm, front_of_failed, front_of_streamed, whole_kept}
 
 -- what one worker reports
 abbrev pub OneWorkerInOrder : Type 0
 OneWorkerInOrder = (work : Work) (lists : List (List ℕ)) (events : List Event) → IsApplied work 1 lists events → events ≡ worker_events work 0 (range_with_len 0 (length work.plan.changes))
 
 -- the whole stream was written, and a flush kept it
-pub applied_kept : OneWorkerInOrder → (given : Given) (options : Options) (report : Report) (before after after' : Sight) (status : ℕ) → Keeps after.bytes after'.bytes → after'.failed ≡ after.failed → status ≡ counts_status_of report.counts
+pub applied_kept : OneWorkerInOrder → (given : Given) (options : Options) (report : Report) (before after after' : Sight) (status : ℕ) → Keeps after.bytes after'.bytes → after'.failed ≡ after.failed → (status ≡ 1) ↔ (0 < unfinished report.counts)
     → WasApplied given options report before after → HasApplied given options before after' status
 applied_kept in_order given options report before after after' status kept failed is h = record {
   report = report;
@@ -52,12 +47,12 @@ applied_kept in_order given options report before after after' status kept faile
     };
   };
   alone = λ one. in_order (record { plan = h.plan; script = h.script; hooks = given.hooks }) h.streamed.lists h.streamed.events (subst (λ n. IsApplied (record { plan = h.plan; script = h.script; hooks = given.hooks }) n h.streamed.lists h.streamed.events) one h.streamed.applied);
-  told = told_by (unfinished report.counts) status is;
+  told = is;
 }
 
 -- a front in the default form
 begun_of_front : (given : Given) (options : Options) (before after : Sight) (plan : SavedPlan) (script : OutcomeMap) → IsRead given plan script
-    → HasBegunInForm (plain_form plan script options.start options.operation) (record { plan = plan; script = script; hooks = given.hooks }) options.workers before after → HasBegun given options before after
+    → HasFrontInForm (plain_form plan script options.start options.operation) (record { plan = plan; script = script; hooks = given.hooks }) options.workers before after → HasBegun given options before after
 begun_of_front given options before after plan script read h = record {
   plan = plan;
   script = script;
@@ -82,7 +77,7 @@ begun_of_fault cause given options report before after after' plan script kept m
     let work : Work = record { plan = plan; script = script; hooks = given.hooks } in
     ⊎_elim
     (λ same. inl same)
-    (λ (front : HasBegunInForm (plain_for work options) work options.workers before after'). inr (begun_of_front given options before after' plan script read front))
+    (λ (front : HasFrontInForm (plain_for work options) work options.workers before after'). inr (begun_of_front given options before after' plan script read front))
     (front_of_failed (plain_for work options) work options.workers report before after after' cause kept more h)
 
 -- the output is as it was, or grew by a front of the stream

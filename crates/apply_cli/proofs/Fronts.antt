@@ -38,7 +38,7 @@ whole_kept plan events all report before after after' kept failed h = record {
 -- ---- by workers
 
 -- the work was applied, or a part of it, and the output has a front of its stream in this form
-pub record HasBegunInForm (form : StreamForm) (work : Work) (workers : ℕ) (before after : Sight) : Type 0 where
+pub record HasFrontInForm (form : StreamForm) (work : Work) (workers : ℕ) (before after : Sight) : Type 0 where
   pub lists : List (List ℕ)
   pub events : List Event
   pub part : List ℕ
@@ -47,7 +47,7 @@ pub record HasBegunInForm (form : StreamForm) (work : Work) (workers : ℕ) (bef
 
 module _ (form : StreamForm) (work : Work) (workers : ℕ) (report : Report) (before after after' : Sight) where
   -- the whole stream was written, and then a flush failed
-  pub front_of_streamed : Keeps after.bytes after'.bytes → after.failed < after'.failed → HasStreamedInForm form work workers report before after → HasBegunInForm form work workers before after'
+  pub front_of_streamed : Keeps after.bytes after'.bytes → after.failed < after'.failed → HasStreamedInForm form work workers report before after → HasFrontInForm form work workers before after'
   front_of_streamed kept flushed h =
       let all = stream_in form h.events in
       record {
@@ -59,7 +59,7 @@ module _ (form : StreamForm) (work : Work) (workers : ℕ) (report : Report) (be
       }
 
   -- a write has failed
-  front_of_not_written : Keeps after.bytes after'.bytes → after.failed ≤ after'.failed → WasNotWrittenInForm form work workers report before after → HasBegunInForm form work workers before after'
+  front_of_not_written : Keeps after.bytes after'.bytes → after.failed ≤ after'.failed → WasNotWrittenInForm form work workers report before after → HasFrontInForm form work workers before after'
   front_of_not_written kept more h = record {
     lists = h.lists;
     events = h.events;
@@ -69,7 +69,7 @@ module _ (form : StreamForm) (work : Work) (workers : ℕ) (report : Report) (be
   }
 
   -- memory was refused for a line
-  front_of_no_memory : Keeps after.bytes after'.bytes → RanOutOfMemoryInForm form work workers report before after → HasBegunInForm form work workers before after'
+  front_of_no_memory : Keeps after.bytes after'.bytes → RanOutOfMemoryInForm form work workers report before after → HasFrontInForm form work workers before after'
   front_of_no_memory kept h = record {
     lists = h.lists;
     events = h.events;
@@ -79,7 +79,7 @@ module _ (form : StreamForm) (work : Work) (workers : ℕ) (report : Report) (be
   }
 
   -- the bus failed
-  front_of_cut_off : (failed : ℕ) → Keeps after.bytes after'.bytes → WasCutOffInForm failed form work workers report before after → HasBegunInForm form work workers before after'
+  front_of_cut_off : (failed : ℕ) → Keeps after.bytes after'.bytes → WasCutOffInForm failed form work workers report before after → HasFrontInForm form work workers before after'
   front_of_cut_off failed kept h = record {
     lists = h.lists;
     events = h.events;
@@ -89,7 +89,7 @@ module _ (form : StreamForm) (work : Work) (workers : ℕ) (report : Report) (be
   }
 
   -- the output is as it was, or grew by a front of the stream
-  pub front_of_failed : (cause : Why) → Keeps after.bytes after'.bytes → after.failed ≤ after'.failed → HasFailedInForm cause form work workers report before after → Keeps before.bytes after'.bytes ⊎ HasBegunInForm form work workers before after'
+  pub front_of_failed : (cause : Why) → Keeps after.bytes after'.bytes → after.failed ≤ after'.failed → HasFailedInForm cause form work workers report before after → Keeps before.bytes after'.bytes ⊎ HasFrontInForm form work workers before after'
   front_of_failed why.Write kept more h = inr (front_of_not_written kept more h)
   front_of_failed why.Workers kept more h = inl (subst (λ s. Keeps s.bytes after'.bytes) h.same kept)
   front_of_failed why.Memory kept more h =
@@ -102,7 +102,7 @@ module _ (form : StreamForm) (work : Work) (workers : ℕ) (report : Report) (be
 -- ---- in lanes
 
 -- the same of a time line
-pub record HasBegunInFormAndLanes (form : StreamForm) (work : Work) (lanes : ℕ) (before after : Sight) : Type 0 where
+pub record HasFrontInFormAndLanes (form : StreamForm) (work : Work) (lanes : ℕ) (before after : Sight) : Type 0 where
   pub events : List Event
   pub time_line : IsTimeLine work lanes events
   pub part : List ℕ
@@ -111,7 +111,7 @@ pub record HasBegunInFormAndLanes (form : StreamForm) (work : Work) (lanes : ℕ
 
 module _ (form : StreamForm) (work : Work) (lanes : ℕ) (report : Report) (before after after' : Sight) where
   -- the whole stream was written, and then a flush failed
-  pub front_of_streamed_in_lanes : Keeps after.bytes after'.bytes → after.failed < after'.failed → HasStreamedInFormAndLanes form work lanes report before after → HasBegunInFormAndLanes form work lanes before after'
+  pub front_of_streamed_in_lanes : Keeps after.bytes after'.bytes → after.failed < after'.failed → HasStreamedInFormAndLanes form work lanes report before after → HasFrontInFormAndLanes form work lanes before after'
   front_of_streamed_in_lanes kept flushed h =
       let all = stream_in form h.events in
       record {
@@ -123,7 +123,7 @@ module _ (form : StreamForm) (work : Work) (lanes : ℕ) (report : Report) (befo
       }
 
   -- a write has failed
-  front_of_not_written_in_lanes : Keeps after.bytes after'.bytes → after.failed ≤ after'.failed → IsCutOffInLanes form work lanes (stream_in form) (before.failed + 1) report before after → HasBegunInFormAndLanes form work lanes before after'
+  front_of_not_written_in_lanes : Keeps after.bytes after'.bytes → after.failed ≤ after'.failed → IsCutOffInLanes form work lanes (stream_in form) (before.failed + 1) report before after → HasFrontInFormAndLanes form work lanes before after'
   front_of_not_written_in_lanes kept more h = record {
     events = h.events;
     time_line = h.time_line;
@@ -133,7 +133,7 @@ module _ (form : StreamForm) (work : Work) (lanes : ℕ) (report : Report) (befo
   }
 
   -- memory was refused for a line
-  front_of_no_memory_in_lanes : Keeps after.bytes after'.bytes → IsCutOffInLanes form work lanes (λ events. lines_in form (as_written events)) before.failed report before after → HasBegunInFormAndLanes form work lanes before after'
+  front_of_no_memory_in_lanes : Keeps after.bytes after'.bytes → IsCutOffInLanes form work lanes (λ events. lines_in form (as_written events)) before.failed report before after → HasFrontInFormAndLanes form work lanes before after'
   front_of_no_memory_in_lanes kept h = record {
     events = h.events;
     time_line = h.time_line;
@@ -143,7 +143,7 @@ module _ (form : StreamForm) (work : Work) (lanes : ℕ) (report : Report) (befo
   }
 
   -- the output is as it was, or grew by a front of the stream
-  pub front_of_failed_in_lanes : (cause : Why) → Keeps after.bytes after'.bytes → after.failed ≤ after'.failed → HasFailedInFormAndLanes cause form work lanes report before after → Keeps before.bytes after'.bytes ⊎ HasBegunInFormAndLanes form work lanes before after'
+  pub front_of_failed_in_lanes : (cause : Why) → Keeps after.bytes after'.bytes → after.failed ≤ after'.failed → HasFailedInFormAndLanes cause form work lanes report before after → Keeps before.bytes after'.bytes ⊎ HasFrontInFormAndLanes form work lanes before after'
   front_of_failed_in_lanes why.Write kept more h = inr (front_of_not_written_in_lanes kept more h)
   front_of_failed_in_lanes why.Memory kept more h =
       ⊎_elim

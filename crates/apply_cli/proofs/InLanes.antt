@@ -1,5 +1,5 @@
 -- From how a run in lanes has ended to how the program has.
-use Rattle.std.proofs.Common.{◌≡◌, ◌<◌, ◌≤◌, ◌⊎◌, inl, inr, ℕ, length, subst, arith, ⊎_elim}
+use Rattle.std.proofs.Common.{◌≡◌, ◌<◌, ◌≤◌, ◌⊎◌, ◌↔◌, inl, inr, ℕ, length, subst, arith, ⊎_elim}
 use Rattle.std.specs.Io.KnownBytes.{Keeps}
 use Rattle.std.proofs.KnownBytes.{Keeps-refl}
 use Rattle.apply_plan.specs.Bytes.{max_bytes}
@@ -18,14 +18,14 @@ use Rattle.apply_run.specs.Lanes.{HasFailedInLanes, WasAppliedInLanes, WasRefuse
 use Rattle.apply_run.specs.Run.{Sight}
 use Rattle.apply_run.specs.Stream.Form.{plain_form}
 use Rattle.apply_cli.specs.CommandInLanes.{HasAppliedInLanes, HasBegunInLanes}
-use Rattle.apply_cli.specs.Status.{counts_status_of, refusal_status_of, unfinished}
-use Rattle.apply_cli.proofs.Ending.{refused_large, told_by}
+use Rattle.apply_cli.specs.Status.{refusal_status_of, unfinished}
+use Rattle.apply_cli.proofs.Ending.{refused_large}
 use Rattle.apply_cli.proofs.Front.{too_large}
-use Rattle.apply_cli.proofs.Fronts.{HasBegunInFormAndLanes, front_of_failed_in_lanes, front_of_streamed_in_lanes, whole_kept}
+use Rattle.apply_cli.proofs.Fronts.{HasFrontInFormAndLanes, front_of_failed_in_lanes, front_of_streamed_in_lanes, whole_kept}
 
 module _ (given : Given) (lanes start : ℕ) (operation : Operation) where
   -- the whole stream was written, and a flush kept it
-  pub applied_in_lanes : (report : Report) (before after after' : Sight) (status : ℕ) → Keeps after.bytes after'.bytes → after'.failed ≡ after.failed → status ≡ counts_status_of report.counts
+  pub applied_in_lanes : (report : Report) (before after after' : Sight) (status : ℕ) → Keeps after.bytes after'.bytes → after'.failed ≡ after.failed → (status ≡ 1) ↔ (0 < unfinished report.counts)
       → WasAppliedInLanes given lanes start operation report before after → HasAppliedInLanes given lanes start operation before after' status
   applied_in_lanes report before after after' status kept failed is h = record {
     report = report;
@@ -40,12 +40,12 @@ module _ (given : Given) (lanes start : ℕ) (operation : Operation) where
         whole = whole_kept h.plan h.streamed.events (stream_of h.plan h.script start operation h.streamed.events) report before after after' kept failed h.streamed.whole;
       };
     };
-    told = told_by (unfinished report.counts) status is;
+    told = is;
   }
 
   -- a front in the default form
   begun_by_front : (before after : Sight) (plan : SavedPlan) (script : OutcomeMap) → IsRead given plan script
-      → HasBegunInFormAndLanes (plain_form plan script start operation) (record { plan = plan; script = script; hooks = given.hooks }) lanes before after → HasBegunInLanes given lanes start operation before after
+      → HasFrontInFormAndLanes (plain_form plan script start operation) (record { plan = plan; script = script; hooks = given.hooks }) lanes before after → HasBegunInLanes given lanes start operation before after
   begun_by_front before after plan script read h = record {
     plan = plan;
     script = script;
@@ -70,7 +70,7 @@ module _ (given : Given) (lanes start : ℕ) (operation : Operation) where
       let work : Work = record { plan = plan; script = script; hooks = given.hooks } in
       ⊎_elim
       (λ same. inl same)
-      (λ (front : HasBegunInFormAndLanes (plain_form plan script start operation) work lanes before after'). inr (begun_by_front before after' plan script read front))
+      (λ (front : HasFrontInFormAndLanes (plain_form plan script start operation) work lanes before after'). inr (begun_by_front before after' plan script read front))
       (front_of_failed_in_lanes (plain_form plan script start operation) work lanes report before after after' cause kept more h)
 
   -- options that are looked at by no refusal of a plan or a script

@@ -3,6 +3,7 @@ mod Ending
 mod Followed
 mod Front
 mod Fronts
+mod InForm
 mod InLanes
 mod ScriptFile
 mod Statuses

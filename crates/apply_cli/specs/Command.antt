@@ -11,14 +11,13 @@ use Rattle.apply_events.specs.Step.{Work}
 use Rattle.apply_events.specs.WorkerEvents.{worker_events}
 use Rattle.apply_run.specs.Applied.{IsApplied, IsAppliedInPart}
 use Rattle.apply_text.specs.Order.{as_written, hook_messages_of}
-use Rattle.apply_run.specs.Bytes.{Given, IsRead, WasApplied, WasRefused}
+use Rattle.apply_run.specs.Bytes.{Given, IsRead, WasApplied}
 use Rattle.apply_run.specs.declared.options.Options.{Options}
-use Rattle.apply_run.specs.declared.refusal.Refusal.{Refusal}
 use Rattle.apply_run.specs.declared.report.Report.{Report}
 use Rattle.apply_run.specs.Run.{Sight}
 use Rattle.apply_run.specs.Sinks.{OverWriter}
 use Rattle.apply_run.specs.Stream.Form.{StreamForm, lines_in, plain_form, stream_in}
-use Rattle.apply_cli.specs.Status.{refusal_status_of, unfinished}
+use Rattle.apply_cli.specs.Status.{unfinished}
 
 -- the output, as the run sees it, where the writer tells these contents
 abbrev pub sight_of : {W : Type 0} → (contents : W → Option (List ℕ)) → OverWriter W → Sight
@@ -75,11 +74,6 @@ pub record HasBegun (given : Given) (options : Options) (before after : Sight) :
   pub front : IsFrontInForm (plain_form plan script options.start options.operation)
       (record { plan = plan; script = script; hooks = given.hooks }) options.workers before after lists events part
   pub appended : Appends before.bytes after.bytes part
-
--- what was given is refused for its own sake, with status 2: the plan or the script as it is defined, or the sizes
-abbrev pub HasRefused : Given → Options → (before after : Sight) → Type 0
-HasRefused given options before after =
-    (refusal : Refusal) × (refusal_status_of refusal ≡ 2) × WasRefused given options refusal before after
 
 -- it is so of some bytes, which are those of the input, where it tells them
 abbrev pub OfInput : (known : Option (List ℕ)) → (List ℕ → Type 0) → Type 0

@@ -7,15 +7,13 @@ use Rattle.apply_events.specs.Lanes.TimeLine.{IsTimeLine}
 use Rattle.apply_events.specs.WorkerEvents.{worker_events}
 use Rattle.apply_text.specs.declared.operation.Operation.{Operation}
 use Rattle.apply_run.specs.Bytes.{Given}
-use Rattle.apply_run.specs.InForm.{WasAppliedAsTold, WasAppliedAsToldInLanes, WasNotApplied, WasNotAppliedInLanes, form_of, work_of}
+use Rattle.apply_run.specs.InForm.{WasAppliedAsTold, WasAppliedAsToldInLanes, form_of, work_of}
 use Rattle.apply_run.specs.Read.{IsTold, Told, applied_plan}
 use Rattle.apply_run.specs.Run.{Sight}
 use Rattle.apply_run.specs.declared.form_report.FormReport.{FormReport}
 use Rattle.apply_run.specs.declared.options.Options.{Options}
-use Rattle.apply_run.specs.declared.refusal.Refusal.{Refusal}
 use Rattle.apply_cli.specs.Command.{IsFrontInForm}
 use Rattle.apply_cli.specs.CommandInLanes.{IsFrontOfTimeLine}
-use Rattle.apply_cli.specs.Status.{refusal_status_of}
 
 -- ---- by workers
 
@@ -42,11 +40,6 @@ pub record HasBegunAsTold (given : Given) (options : Options) (before after : Si
       before after lists events part
   pub appended : Appends before.bytes after.bytes part
 
--- what was given is refused for its own sake, with status 2: the plan, the script or its outputs, or the sizes
-abbrev pub HasRefusedAsTold : Given → Options → (before after : Sight) → Type 0
-HasRefusedAsTold given options before after =
-    (refusal : Refusal) × (refusal_status_of refusal ≡ 2) × WasNotApplied given options refusal before after
-
 -- ---- in lanes
 
 -- what was given was applied in so many lanes, the output has all of the stream of its time line behind the bytes that
@@ -67,9 +60,3 @@ pub record HasBegunAsToldInLanes (given : Given) (lanes start : ℕ) (operation 
   pub part : List ℕ
   pub front : IsFrontOfTimeLine (form_of told start operation) before after events part
   pub appended : Appends before.bytes after.bytes part
-
--- what was given is refused for its own sake, with status 2: the plan, the script or its outputs, or the lanes
-abbrev pub HasRefusedAsToldInLanes : Given → (lanes start : ℕ) (operation : Operation) → (before after : Sight) → Type 0
-HasRefusedAsToldInLanes given lanes start operation before after =
-    (refusal : Refusal) × (refusal_status_of refusal ≡ 2)
-    × WasNotAppliedInLanes given lanes start operation refusal before after

@@ -9,12 +9,11 @@ use Rattle.apply_events.specs.Lanes.TimeLine.{IsTimeLine}
 use Rattle.apply_text.specs.declared.operation.Operation.{Operation}
 use Rattle.apply_text.specs.Order.{as_written}
 use Rattle.apply_run.specs.Bytes.{Given, IsRead}
-use Rattle.apply_run.specs.declared.refusal.Refusal.{Refusal}
 use Rattle.apply_run.specs.declared.report.Report.{Report}
-use Rattle.apply_run.specs.Lanes.{WasAppliedInLanes, WasRefusedInLanes}
+use Rattle.apply_run.specs.Lanes.{WasAppliedInLanes}
 use Rattle.apply_run.specs.Run.{Sight}
 use Rattle.apply_run.specs.Stream.Form.{StreamForm, lines_in, plain_form, stream_in}
-use Rattle.apply_cli.specs.Status.{refusal_status_of, unfinished}
+use Rattle.apply_cli.specs.Status.{unfinished}
 
 -- what was given was applied in so many lanes, the output has all of the stream of its time line behind the bytes that
 -- it had, and the status is 1 exactly where a step failed or was halted
@@ -41,9 +40,3 @@ pub record HasBegunInLanes (given : Given) (lanes start : ℕ) (operation : Oper
   pub part : List ℕ
   pub front : IsFrontOfTimeLine (plain_form plan script start operation) before after events part
   pub appended : Appends before.bytes after.bytes part
-
--- what was given is refused for its own sake, with status 2: the plan or the script as it is defined, or the lanes
-abbrev pub HasRefusedInLanes : Given → (lanes start : ℕ) (operation : Operation) → (before after : Sight) → Type 0
-HasRefusedInLanes given lanes start operation before after =
-    (refusal : Refusal) × (refusal_status_of refusal ≡ 2)
-    × WasRefusedInLanes given lanes start operation refusal before after

@@ -2,35 +2,27 @@
 use Rattle.std.specs.Prelude.{ℕ, List, Option, Some, None}
 use Rattle.clap.specs.Walk.{Text}
 use Rattle.apply_form.specs.declared.form.Form.{Form}
-use Rattle.apply_form.specs.declared.form.Form.TheVariants.{Applystream, Terraform}
 use Rattle.apply_run.specs.Bytes.{Given}
 use Rattle.apply_run.specs.Run.{Sight}
 use Rattle.apply_settings.specs.Halt.{hooks_of_halts}
 use Rattle.apply_settings.specs.Invocation.{IsOfWords}
 use Rattle.apply_settings.specs.declared.invocation.Invocation.{Invocation}
 use Rattle.apply_settings.specs.declared.settings.Settings.{Settings}
-use Rattle.apply_cli.specs.Command.{HasApplied, HasBegun, OfFile, OfInput}
-use Rattle.apply_cli.specs.CommandAsTold.{HasAppliedAsTold, HasAppliedAsToldInLanes, HasBegunAsTold, HasBegunAsToldInLanes}
-use Rattle.apply_cli.specs.CommandInLanes.{HasAppliedInLanes, HasBegunInLanes}
+use Rattle.apply_cli.specs.Command.{OfFile, OfInput}
+use Rattle.apply_cli.specs.CommandInForm.{HasAppliedInForm, HasAppliedInFormAndLanes, HasBegunInForm, HasBegunInFormAndLanes}
 use Rattle.apply_cli.specs.Options.{options_of}
 
 -- what was given was applied, and told in that form: in lanes, where that is asked for, and else by workers
 unfoldable pub HasAppliedAsAsked : Given → Settings → (parallelism : Option ℕ) → Form → (before after : Sight) → (status : ℕ) → Type 0
-HasAppliedAsAsked given settings None Applystream before after status = HasApplied given (options_of settings) before after status
-HasAppliedAsAsked given settings (Some lanes) Applystream before after status =
-    HasAppliedInLanes given lanes settings.at settings.operation before after status
-HasAppliedAsAsked given settings None Terraform before after status = HasAppliedAsTold given (options_of settings) before after status
-HasAppliedAsAsked given settings (Some lanes) Terraform before after status =
-    HasAppliedAsToldInLanes given lanes settings.at settings.operation before after status
+HasAppliedAsAsked given settings None form before after status = HasAppliedInForm form given (options_of settings) before after status
+HasAppliedAsAsked given settings (Some lanes) form before after status =
+    HasAppliedInFormAndLanes form given lanes settings.at settings.operation before after status
 
 -- the output has a front of the stream in that form
 unfoldable pub HasBegunAsAsked : Given → Settings → (parallelism : Option ℕ) → Form → (before after : Sight) → Type 0
-HasBegunAsAsked given settings None Applystream before after = HasBegun given (options_of settings) before after
-HasBegunAsAsked given settings (Some lanes) Applystream before after =
-    HasBegunInLanes given lanes settings.at settings.operation before after
-HasBegunAsAsked given settings None Terraform before after = HasBegunAsTold given (options_of settings) before after
-HasBegunAsAsked given settings (Some lanes) Terraform before after =
-    HasBegunAsToldInLanes given lanes settings.at settings.operation before after
+HasBegunAsAsked given settings None form before after = HasBegunInForm form given (options_of settings) before after
+HasBegunAsAsked given settings (Some lanes) form before after =
+    HasBegunInFormAndLanes form given lanes settings.at settings.operation before after
 
 -- ---- from the words
 

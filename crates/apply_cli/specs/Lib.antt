@@ -1,5 +1,6 @@
 pub mod Command
 pub mod CommandAsTold
+pub mod CommandInForm
 pub mod CommandInLanes
 pub mod Invocation
 pub mod Options

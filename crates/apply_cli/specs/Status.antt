@@ -1,6 +1,6 @@
 -- The exit status: 0 where all is well, 1 where a step failed or was halted, 2 where the words or the input are at
 -- fault, and 3 where memory ran out or the run did not end well.
-use Rattle.std.specs.Prelude.{ℕ, ◌+◌, nat_lt, if◌then◌else◌}
+use Rattle.std.specs.Prelude.{ℕ, ◌+◌}
 use Rattle.apply_events.specs.declared.counts.Counts.{Counts}
 use Rattle.apply_hooks.specs.declared.hook_error.HookError.{HookError}
 use Rattle.apply_hooks.specs.declared.hook_error.HookError.TheVariants as hook
@@ -59,9 +59,6 @@ refusal_status_of (Fault fault) = 3
 -- how many steps failed and how many were halted
 abbrev pub unfinished : Counts → ℕ
 unfinished counts = counts.failed + counts.halted
-
-abbrev pub counts_status_of : Counts → ℕ
-counts_status_of counts = if nat_lt 0 (unfinished counts) then 1 else 0
 
 abbrev pub usage_status_of : Usage → ℕ
 usage_status_of (usage.Help text) = 0

@@ -6,15 +6,17 @@ ghost use Rattle.std.specs.Io.KnownBytes.{Keeps};
 ghost use Rattle.apply_plan.specs.Bytes.{max_bytes};
 ghost use Rattle.apply_hooks.specs.Registry.{rules_of};
 ghost use Rattle.apply_cli.specs.Command.{OfInput, sight_of};
-ghost use Rattle.apply_cli.specs.CommandInLanes.{HasAppliedInLanes, HasBegunInLanes, HasRefusedInLanes};
+ghost use Rattle.apply_cli.specs.CommandInForm.{HasAppliedInFormAndLanes, HasBegunInFormAndLanes, HasRefusedInFormAndLanes};
+ghost use Rattle.apply_cli.specs.CommandInLanes.{HasAppliedInLanes, HasBegunInLanes};
 ghost use Rattle.apply_cli.specs.Status.{input_status_of};
 
 use crate::input::read_input;
 use crate::input_fault::InputFault;
 use crate::run::{finish_reading, flush_unless_failed, report_unless_gone};
-use crate::status::{FAILED, counts_status, input_status, refusal_status};
+use crate::status::{FAILED, input_status, refusal_status, told_status};
+use apply_form::Form;
 use apply_hooks::Registry;
-use apply_run::{Refusal, Sink, StdSink, Why, apply_bytes_in_lanes};
+use apply_run::{Refusal, Sink, StdSink, Why, apply_bytes_in_form_and_lanes};
 use apply_settings::Settings;
 use std::alloc::Global;
 use std::io::{Read, Write};
@@ -30,7 +32,7 @@ pub fn run_in_lanes<R: Read + Drop, W: Write + Drop, E: Write>(
     lanes: u8,
     registry: &Registry,
     script: Option<&[u8]>,
-    mut input: R,
+    input: R,
     output: StdSink<W>,
     faults: &mut E,
 ) -> (StdSink<W>, u8)
@@ -47,19 +49,60 @@ pub fn run_in_lanes<R: Read + Drop, W: Write + Drop, E: Write>(
     ensures gone { result.0.is_reader_gone ≡ true → Keeps (E.contents faults.old) (E.contents faults.new) }
     ensures statuses { result.1 ≤ 3 }
 {
+    run_in_form_and_lanes(
+        alloc,
+        settings,
+        lanes,
+        Form::Applystream,
+        registry,
+        script,
+        input,
+        output,
+        faults,
+    )
+}
+
+/// Does what `run_in_lanes` does, and writes the stream in that form, as `run_command_in_form` does.
+///
+/// The exit status is that of `run_command_in_form`; it is 2 also where the lanes are not 1 to 64.
+pub fn run_in_form_and_lanes<R: Read + Drop, W: Write + Drop, E: Write>(
+    alloc: Global,
+    settings: &Settings,
+    lanes: u8,
+    form: Form,
+    registry: &Registry,
+    script: Option<&[u8]>,
+    mut input: R,
+    output: StdSink<W>,
+    faults: &mut E,
+) -> (StdSink<W>, u8)
+    requires { output.failures < 2 ^ 64 - 1 }
+    ensures applied { result.1 ≤ 1 → OfInput (R.remaining input) (λ bytes.
+        HasAppliedInFormAndLanes form (record { plan = bytes; script = option_copied script.entry; hooks = rules_of registry.now })
+        lanes settings.now.at settings.now.operation (sight_of W.contents output) (sight_of W.contents result.0) result.1) }
+    ensures refused { result.1 ≡ 2 → Keeps (W.contents output.writer) (W.contents result.0.writer) }
+    ensures cut_off { result.1 ≡ 3 → Keeps (W.contents output.writer) (W.contents result.0.writer)
+        ⊎ OfInput (R.remaining input) (λ bytes.
+        HasBegunInFormAndLanes form (record { plan = bytes; script = option_copied script.entry; hooks = rules_of registry.now })
+        lanes settings.now.at settings.now.operation (sight_of W.contents output) (sight_of W.contents result.0)) }
+    ensures quiet { result.1 ≤ 1 → Keeps (E.contents faults.old) (E.contents faults.new) }
+    ensures gone { result.0.is_reader_gone ≡ true → Keeps (E.contents faults.old) (E.contents faults.new) }
+    ensures statuses { result.1 ≤ 3 }
+{
     let (plan, is_whole) = read_input(alloc, &mut input);
     let (output, status) = run_input_in_lanes(
-        alloc, settings, lanes, registry, script, plan, output, faults,
+        alloc, settings, lanes, form, registry, script, plan, output, faults,
     );
     finish_reading(is_whole, &mut input, faults);
     (output, status)
 }
 
-/// Does what `run_in_lanes` does, with an input that was read or was not.
+/// Does what `run_in_form_and_lanes` does, with an input that was read or was not.
 fn run_input_in_lanes<W: Write + Drop, E: Write>(
     alloc: Global,
     settings: &Settings,
     lanes: u8,
+    form: Form,
     registry: &Registry,
     script: Option<&[u8]>,
     input: Result<Vec<u8>, InputFault>,
@@ -68,14 +111,14 @@ fn run_input_in_lanes<W: Write + Drop, E: Write>(
 ) -> (StdSink<W>, u8)
     requires { output.failures < 2 ^ 64 - 1 }
     ensures applied { IfOk input (λ bytes. result.1 ≤ 1 →
-        HasAppliedInLanes (record { plan = bytes.items; script = option_copied script.entry; hooks = rules_of registry.now })
+        HasAppliedInFormAndLanes form (record { plan = bytes.items; script = option_copied script.entry; hooks = rules_of registry.now })
         lanes settings.now.at settings.now.operation (sight_of W.contents output) (sight_of W.contents result.0) result.1) }
     ensures refused { IfOk input (λ bytes. result.1 ≡ 2 →
-        HasRefusedInLanes (record { plan = bytes.items; script = option_copied script.entry; hooks = rules_of registry.now })
+        HasRefusedInFormAndLanes form (record { plan = bytes.items; script = option_copied script.entry; hooks = rules_of registry.now })
         lanes settings.now.at settings.now.operation (sight_of W.contents output) (sight_of W.contents result.0)) }
     ensures kept { result.1 ≡ 2 → Keeps (W.contents output.writer) (W.contents result.0.writer) }
     ensures cut_off { IfOk input (λ bytes. result.1 ≡ 3 → Keeps (W.contents output.writer) (W.contents result.0.writer)
-        ⊎ HasBegunInLanes (record { plan = bytes.items; script = option_copied script.entry; hooks = rules_of registry.now })
+        ⊎ HasBegunInFormAndLanes form (record { plan = bytes.items; script = option_copied script.entry; hooks = rules_of registry.now })
         lanes settings.now.at settings.now.operation (sight_of W.contents output) (sight_of W.contents result.0)) }
     ensures large { IfOk input (λ bytes. max_bytes < length bytes.items → result.1 ≡ 2) }
     ensures unread { IfErr input (λ fault. result.1 ≡ input_status_of fault) }
@@ -86,7 +129,7 @@ fn run_input_in_lanes<W: Write + Drop, E: Write>(
 {
     match input {
         Ok(bytes) => run_bytes_in_lanes(
-            alloc, settings, lanes, registry, script, &bytes, output, faults,
+            alloc, settings, lanes, form, registry, script, &bytes, output, faults,
         ),
         Err(fault) => {
             report_unless_gone(&output, faults, fault);
@@ -95,12 +138,13 @@ fn run_input_in_lanes<W: Write + Drop, E: Write>(
     }
 }
 
-/// Does what `run_in_lanes` does, with the bytes of the input. Status 2 is answered only where they are no plan, the script
+/// Does what `run_in_form_and_lanes` does, with the bytes of the input. Status 2 is answered only where they are no plan, the script
 /// is none for it, or the lanes are out of range, and always where there are too many.
 fn run_bytes_in_lanes<W: Write + Drop, E: Write>(
     alloc: Global,
     settings: &Settings,
     lanes: u8,
+    form: Form,
     registry: &Registry,
     script: Option<&[u8]>,
     bytes: &[u8],
@@ -109,22 +153,22 @@ fn run_bytes_in_lanes<W: Write + Drop, E: Write>(
 ) -> (StdSink<W>, u8)
     requires { output.failures < 2 ^ 64 - 1 }
     ensures applied { result.1 ≤ 1 →
-        HasAppliedInLanes (record { plan = bytes.now; script = option_copied script.entry; hooks = rules_of registry.now })
+        HasAppliedInFormAndLanes form (record { plan = bytes.now; script = option_copied script.entry; hooks = rules_of registry.now })
         lanes settings.now.at settings.now.operation (sight_of W.contents output) (sight_of W.contents result.0) result.1 }
     ensures refused { result.1 ≡ 2 →
-        HasRefusedInLanes (record { plan = bytes.now; script = option_copied script.entry; hooks = rules_of registry.now })
+        HasRefusedInFormAndLanes form (record { plan = bytes.now; script = option_copied script.entry; hooks = rules_of registry.now })
         lanes settings.now.at settings.now.operation (sight_of W.contents output) (sight_of W.contents result.0) }
     ensures kept { result.1 ≡ 2 → Keeps (W.contents output.writer) (W.contents result.0.writer) }
     ensures large { max_bytes < length bytes.now → result.1 ≡ 2 }
     ensures cut_off { result.1 ≡ 3 → Keeps (W.contents output.writer) (W.contents result.0.writer)
-        ⊎ HasBegunInLanes (record { plan = bytes.now; script = option_copied script.entry; hooks = rules_of registry.now })
+        ⊎ HasBegunInFormAndLanes form (record { plan = bytes.now; script = option_copied script.entry; hooks = rules_of registry.now })
         lanes settings.now.at settings.now.operation (sight_of W.contents output) (sight_of W.contents result.0) }
     ensures quiet { result.1 ≤ 1 → Keeps (E.contents faults.old) (E.contents faults.new) }
     ensures gone { result.0.is_reader_gone ≡ true → Keeps (E.contents faults.old) (E.contents faults.new) }
     ensures statuses { result.1 ≤ 3 }
 {
     let failures = output.failures();
-    let (mut output, result) = apply_bytes_in_lanes(
+    let (mut output, result) = apply_bytes_in_form_and_lanes(
         alloc,
         bytes,
         script,
@@ -132,15 +176,16 @@ fn run_bytes_in_lanes<W: Write + Drop, E: Write>(
         lanes,
         settings.at,
         settings.operation,
+        form,
         output,
     );
     match result {
-        Ok(run) => {
+        Ok(report) => {
             if output.flush().is_err() {
                 report_unless_gone(&output, faults, Why::Write);
                 return (output, FAILED);
             }
-            (output, counts_status(&run.counts))
+            (output, told_status(report.tells_error))
         }
         Err(Refusal::Fault(fault)) => {
             flush_unless_failed(&mut output, failures);

@@ -2,8 +2,6 @@
 #![tactic(auto)]
 
 mod answer;
-mod as_told;
-mod as_told_in_lanes;
 mod awaited;
 mod in_lanes;
 mod input;
@@ -18,16 +16,14 @@ mod version;
 
 pub use answer::answer_usage;
 pub use apply_settings::{Halt, Invocation, Settings, Usage, VERSION, read_invocation, read_words};
-pub use as_told::run_command_as_told;
-pub use as_told_in_lanes::run_as_told_in_lanes;
 pub use awaited::Awaited;
-pub use in_lanes::run_in_lanes;
+pub use in_lanes::{run_in_form_and_lanes, run_in_lanes};
 pub use input::{drop_rest, read_all};
 pub use input_fault::InputFault;
 pub use options::run_options;
 pub use program::{follow, follow_invocation, given_words};
-pub use run::{report, run_bytes, run_command, run_input};
+pub use run::{report, run_bytes, run_command, run_command_in_form, run_input};
 pub use script_file::{read_file, report_script};
 pub use standard::{follow_standard, refuse_standard};
-pub use status::{counts_status, input_status, refusal_status, told_status};
+pub use status::{input_status, refusal_status, told_status};
 pub use version::{answer_version, ask_for_version};

@@ -12,11 +12,9 @@ ghost use Rattle.apply_cli.specs.Status.{usage_status_of};
 ghost use Rattle.apply_cli.specs.Version.{AskForVersion, AskForVersionAlone, WasTold, WereToldVersion};
 
 use crate::answer::{answer_usage, report_hook};
-use crate::as_told::run_command_as_told;
-use crate::as_told_in_lanes::run_as_told_in_lanes;
-use crate::in_lanes::run_in_lanes;
+use crate::in_lanes::run_in_form_and_lanes;
 use crate::input_fault::InputFault;
-use crate::run::run_command;
+use crate::run::run_command_in_form;
 use crate::script_file::{read_file, report_script};
 use crate::version::{answer_version, ask_for_version};
 use apply_form::Form;
@@ -128,9 +126,8 @@ fn answer_unfollowed<W: Write + Drop, E: Write>(
 /// by workers, or with so many changes under way at once in the stream's own time, where a parallelism is asked for. The
 /// stream is written in that form. The output comes back.
 ///
-/// The exit status is that of `run_command` or `run_in_lanes`, or, in Terraform's form, of `run_command_as_told` or
-/// `run_as_told_in_lanes`; before that it is 2 where there are more than 32 halts or the script's file could not be read, and
-/// 3 where memory was refused, and nothing was written then.
+/// The exit status is that of `run_command_in_form` or `run_in_form_and_lanes`; before that it is 2 where there are more than 32
+/// halts or the script's file could not be read, and 3 where memory was refused, and nothing was written then.
 pub fn follow_invocation<
     F: Files,
     R: Read + Drop,
@@ -275,21 +272,13 @@ fn run_script<R: Read + Drop, W: Write + Drop, E: Write, T: Threads + Wait + Syn
         → Keeps (E.contents faults.old) (E.contents faults.new) }
     ensures statuses { result.1 ≤ 3 }
 {
-    match form {
-        Form::Applystream => match parallelism {
-            Some(lanes) => run_in_lanes(
-                alloc, settings, lanes, registry, script, input, output, faults,
-            ),
-            None => run_command(rt, alloc, settings, registry, script, input, output, faults),
-        },
-        Form::Terraform => match parallelism {
-            Some(lanes) => run_as_told_in_lanes(
-                alloc, settings, lanes, registry, script, input, output, faults,
-            ),
-            None => run_command_as_told(
-                rt, alloc, settings, registry, script, input, output, faults,
-            ),
-        },
+    match parallelism {
+        Some(lanes) => run_in_form_and_lanes(
+            alloc, settings, lanes, form, registry, script, input, output, faults,
+        ),
+        None => run_command_in_form(
+            rt, alloc, settings, form, registry, script, input, output, faults,
+        ),
     }
 }
 

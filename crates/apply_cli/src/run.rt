@@ -5,17 +5,20 @@ ghost use Rattle.std.specs.Option.{option_copied};
 ghost use Rattle.std.specs.Io.KnownBytes.{IsAtEnd, Keeps};
 ghost use Rattle.apply_plan.specs.Bytes.{max_bytes};
 ghost use Rattle.apply_hooks.specs.Registry.{rules_of};
-ghost use Rattle.apply_cli.specs.Command.{HasApplied, HasBegun, HasRefused, OfInput, sight_of};
+ghost use Rattle.apply_cli.specs.Command.{HasApplied, HasBegun, OfInput, sight_of};
+ghost use Rattle.apply_cli.specs.CommandInForm.{HasAppliedInForm, HasBegunInForm, HasRefusedInForm};
 ghost use Rattle.apply_cli.specs.Options.{options_of};
 ghost use Rattle.apply_cli.specs.Status.{input_status_of};
 
 use crate::input::{drop_rest, read_input};
 use crate::input_fault::InputFault;
 use crate::options::run_options;
-use crate::status::{FAILED, counts_status, input_status, refusal_status};
+use crate::status::{FAILED, input_status, refusal_status, told_status};
+use apply_form::Form;
 use apply_hooks::Registry;
 use apply_run::{
-    NoGate, Refusal, Sink, StdSink, Why, apply_bytes, one_worker_applies_all_changes_in_order,
+    NoGate, Refusal, Sink, StdSink, Why, apply_bytes_in_form,
+    one_worker_applies_all_changes_in_order,
 };
 use apply_settings::Settings;
 use std::alloc::Global;
@@ -44,7 +47,7 @@ pub fn run_command<R: Read + Drop, W: Write + Drop, E: Write, T: Threads + Wait 
     settings: &Settings,
     registry: &Registry,
     script: Option<&[u8]>,
-    mut input: R,
+    input: R,
     output: StdSink<W>,
     faults: &mut E,
 ) -> (StdSink<W>, u8)
@@ -64,8 +67,53 @@ pub fn run_command<R: Read + Drop, W: Write + Drop, E: Write, T: Threads + Wait 
     ensures gone { result.0.is_reader_gone ≡ true → Keeps (E.contents faults.old) (E.contents faults.new) }
     ensures statuses { result.1 ≤ 3 }
 {
+    run_command_in_form(
+        rt,
+        alloc,
+        settings,
+        Form::Applystream,
+        registry,
+        script,
+        input,
+        output,
+        faults,
+    )
+}
+
+/// Does what `run_command` does, and writes the stream in that form: in Terraform's own with what the plan and the script say for
+/// it besides.
+///
+/// The exit status is that of `run_command`, and 1 exactly where all of a stream was written that tells of an error; in Terraform's
+/// form that is also where the making of the plan ended with one. There it is 2 also where the script's outputs are none of the
+/// plan.
+pub fn run_command_in_form<R: Read + Drop, W: Write + Drop, E: Write, T: Threads + Wait + Sync>(
+    rt: &T,
+    alloc: Global,
+    settings: &Settings,
+    form: Form,
+    registry: &Registry,
+    script: Option<&[u8]>,
+    mut input: R,
+    output: StdSink<W>,
+    faults: &mut E,
+) -> (StdSink<W>, u8)
+    requires { output.failures < 2 ^ 64 - 1 }
+    ensures applied { result.1 ≤ 1 → OfInput (R.remaining input) (λ bytes.
+        HasAppliedInForm form (record { plan = bytes; script = option_copied script.entry; hooks = rules_of registry.now })
+        (options_of settings.now) (sight_of W.contents output) (sight_of W.contents result.0) result.1) }
+    ensures refused { result.1 ≡ 2 → Keeps (W.contents output.writer) (W.contents result.0.writer) }
+    ensures cut_off { result.1 ≡ 3 → Keeps (W.contents output.writer) (W.contents result.0.writer)
+        ⊎ OfInput (R.remaining input) (λ bytes.
+        HasBegunInForm form (record { plan = bytes; script = option_copied script.entry; hooks = rules_of registry.now })
+        (options_of settings.now) (sight_of W.contents output) (sight_of W.contents result.0)) }
+    ensures quiet { result.1 ≤ 1 → Keeps (E.contents faults.old) (E.contents faults.new) }
+    ensures gone { result.0.is_reader_gone ≡ true → Keeps (E.contents faults.old) (E.contents faults.new) }
+    ensures statuses { result.1 ≤ 3 }
+{
     let (plan, is_whole) = read_input(alloc, &mut input);
-    let (output, status) = run_input(rt, alloc, settings, registry, script, plan, output, faults);
+    let (output, status) = run_input(
+        rt, alloc, settings, form, registry, script, plan, output, faults,
+    );
     finish_reading(is_whole, &mut input, faults);
     (output, status)
 }
@@ -88,13 +136,14 @@ pub(crate) fn finish_reading<R: Read, E: Write>(
     drop_rest(input)
 }
 
-/// Does what `run_command` does, with an input that was read or was not. Where it was read, status 2 is answered only where
+/// Does what `run_command_in_form` does, with an input that was read or was not. Where it was read, status 2 is answered only where
 /// its bytes are no plan, the script is none for it, or the settings are out of range; where it was not, the status is
 /// that of the fault.
 pub fn run_input<W: Write + Drop, E: Write, T: Threads + Wait + Sync>(
     rt: &T,
     alloc: Global,
     settings: &Settings,
+    form: Form,
     registry: &Registry,
     script: Option<&[u8]>,
     input: Result<Vec<u8>, InputFault>,
@@ -103,14 +152,14 @@ pub fn run_input<W: Write + Drop, E: Write, T: Threads + Wait + Sync>(
 ) -> (StdSink<W>, u8)
     requires { output.failures < 2 ^ 64 - 1 }
     ensures applied { IfOk input (λ bytes. result.1 ≤ 1 →
-        HasApplied (record { plan = bytes.items; script = option_copied script.entry; hooks = rules_of registry.now })
+        HasAppliedInForm form (record { plan = bytes.items; script = option_copied script.entry; hooks = rules_of registry.now })
         (options_of settings.now) (sight_of W.contents output) (sight_of W.contents result.0) result.1) }
     ensures refused { IfOk input (λ bytes. result.1 ≡ 2 →
-        HasRefused (record { plan = bytes.items; script = option_copied script.entry; hooks = rules_of registry.now })
+        HasRefusedInForm form (record { plan = bytes.items; script = option_copied script.entry; hooks = rules_of registry.now })
         (options_of settings.now) (sight_of W.contents output) (sight_of W.contents result.0)) }
     ensures kept { result.1 ≡ 2 → Keeps (W.contents output.writer) (W.contents result.0.writer) }
     ensures cut_off { IfOk input (λ bytes. result.1 ≡ 3 → Keeps (W.contents output.writer) (W.contents result.0.writer)
-        ⊎ HasBegun (record { plan = bytes.items; script = option_copied script.entry; hooks = rules_of registry.now })
+        ⊎ HasBegunInForm form (record { plan = bytes.items; script = option_copied script.entry; hooks = rules_of registry.now })
         (options_of settings.now) (sight_of W.contents output) (sight_of W.contents result.0)) }
     ensures large { IfOk input (λ bytes. max_bytes < length bytes.items → result.1 ≡ 2) }
     ensures unread { IfErr input (λ fault. result.1 ≡ input_status_of fault) }
@@ -121,7 +170,7 @@ pub fn run_input<W: Write + Drop, E: Write, T: Threads + Wait + Sync>(
 {
     match input {
         Ok(bytes) => run_bytes(
-            rt, alloc, settings, registry, script, &bytes, output, faults,
+            rt, alloc, settings, form, registry, script, &bytes, output, faults,
         ),
         Err(fault) => {
             report_unless_gone(&output, faults, fault);
@@ -130,12 +179,13 @@ pub fn run_input<W: Write + Drop, E: Write, T: Threads + Wait + Sync>(
     }
 }
 
-/// Does what `run_command` does, with the bytes of the input. Status 2 is answered only where they are no plan, the script
+/// Does what `run_command_in_form` does, with the bytes of the input. Status 2 is answered only where they are no plan, the script
 /// is none for it, or the settings are out of range, and always where there are too many.
 pub fn run_bytes<W: Write + Drop, E: Write, T: Threads + Wait + Sync>(
     rt: &T,
     alloc: Global,
     settings: &Settings,
+    form: Form,
     registry: &Registry,
     script: Option<&[u8]>,
     bytes: &[u8],
@@ -144,14 +194,14 @@ pub fn run_bytes<W: Write + Drop, E: Write, T: Threads + Wait + Sync>(
 ) -> (StdSink<W>, u8)
     requires { output.failures < 2 ^ 64 - 1 }
     ensures applied { result.1 ≤ 1 →
-        HasApplied (record { plan = bytes.now; script = option_copied script.entry; hooks = rules_of registry.now })
+        HasAppliedInForm form (record { plan = bytes.now; script = option_copied script.entry; hooks = rules_of registry.now })
         (options_of settings.now) (sight_of W.contents output) (sight_of W.contents result.0) result.1 }
     ensures refused { result.1 ≡ 2 →
-        HasRefused (record { plan = bytes.now; script = option_copied script.entry; hooks = rules_of registry.now })
+        HasRefusedInForm form (record { plan = bytes.now; script = option_copied script.entry; hooks = rules_of registry.now })
         (options_of settings.now) (sight_of W.contents output) (sight_of W.contents result.0) }
     ensures kept { result.1 ≡ 2 → Keeps (W.contents output.writer) (W.contents result.0.writer) }
     ensures cut_off { result.1 ≡ 3 → Keeps (W.contents output.writer) (W.contents result.0.writer)
-        ⊎ HasBegun (record { plan = bytes.now; script = option_copied script.entry; hooks = rules_of registry.now })
+        ⊎ HasBegunInForm form (record { plan = bytes.now; script = option_copied script.entry; hooks = rules_of registry.now })
         (options_of settings.now) (sight_of W.contents output) (sight_of W.contents result.0) }
     ensures large { max_bytes < length bytes.now → result.1 ≡ 2 }
     ensures quiet { result.1 ≤ 1 → Keeps (E.contents faults.old) (E.contents faults.new) }
@@ -159,24 +209,25 @@ pub fn run_bytes<W: Write + Drop, E: Write, T: Threads + Wait + Sync>(
     ensures statuses { result.1 ≤ 3 }
 {
     let failures = output.failures();
-    let (mut output, result) = apply_bytes(
+    let (mut output, result) = apply_bytes_in_form(
         rt,
         alloc,
         bytes,
         script,
         registry,
         run_options(settings),
+        form,
         output,
         &NoGate,
     );
     match result {
-        Ok(run) => {
+        Ok(report) => {
             if output.flush().is_err() {
                 report_unless_gone(&output, faults, Why::Write);
                 return (output, FAILED);
             }
             one_worker_applies_all_changes_in_order();
-            (output, counts_status(&run.counts))
+            (output, told_status(report.tells_error))
         }
         Err(Refusal::Fault(fault)) => {
             flush_unless_failed(&mut output, failures);

@@ -1,10 +1,9 @@
 //! The exit statuses.
 
 ghost use Rattle.std.specs.Prelude.{◌≡◌, ◌≤◌, ◌↔◌, IsTrue};
-ghost use Rattle.apply_cli.specs.Status.{counts_status_of, input_status_of, refusal_status_of};
+ghost use Rattle.apply_cli.specs.Status.{input_status_of, refusal_status_of};
 
 use crate::input_fault::InputFault;
-use apply_events::Counts;
 use apply_plan::{PlanError, ScriptError};
 use apply_run::Refusal;
 
@@ -37,18 +36,6 @@ pub fn refusal_status(refusal: Refusal) -> u8
         Refusal::Plan(PlanError::Memory) | Refusal::Script(ScriptError::Memory) => FAILED,
         Refusal::Plan(_) | Refusal::Script(_) | Refusal::Waits | Refusal::Size => REFUSED,
         Refusal::Fault(_) => FAILED,
-    }
-}
-
-/// The status for a run that has ended well, by how many steps failed and how many were halted.
-pub fn counts_status(counts: &Counts) -> u8
-    ensures status { result ≡ counts_status_of counts.now }
-    ensures good { result ≤ 1 }
-{
-    if counts.failed == 0 && counts.halted == 0 {
-        0
-    } else {
-        UNFINISHED
     }
 }
 

@@ -243,6 +243,7 @@ fn input_fails<T: Threads + Wait + Sync + Abort>(
         rt,
         alloc,
         &defaults(alloc),
+        Form::Applystream,
         &Registry::new(alloc),
         None,
         Err(input),

@@ -2,7 +2,7 @@
 
 use super::faults::{REFUSED_PLANS, UNWRITTEN, with_reader_gone, with_room};
 use super::*;
-use apply_cli::{run_as_told_in_lanes, run_command_as_told};
+use apply_cli::{run_command_in_form, run_in_form_and_lanes};
 use std::alloc::AllocError;
 
 /// Words, and the form that they say, or the name of the usage.
@@ -107,8 +107,16 @@ fn told_by_worker<R: Read + Drop, W: Write + Drop, T: Threads + Wait + Sync>(
 ) -> (W, u8) {
     let (settings, registry) = (defaults(alloc), Registry::new(alloc));
     let sink = StdSink::new(output);
-    let (sink, status) = run_command_as_told(
-        rt, alloc, &settings, &registry, script, input, sink, said,
+    let (sink, status) = run_command_in_form(
+        rt,
+        alloc,
+        &settings,
+        Form::Terraform,
+        &registry,
+        script,
+        input,
+        sink,
+        said,
     );
     (sink.into_inner(), status)
 }
@@ -124,8 +132,16 @@ fn told_in_lanes<R: Read + Drop, W: Write + Drop>(
 ) -> (W, u8) {
     let (settings, registry) = (defaults(alloc), Registry::new(alloc));
     let sink = StdSink::new(output);
-    let (sink, status) = run_as_told_in_lanes(
-        alloc, &settings, lanes, &registry, script, input, sink, said,
+    let (sink, status) = run_in_form_and_lanes(
+        alloc,
+        &settings,
+        lanes,
+        Form::Terraform,
+        &registry,
+        script,
+        input,
+        sink,
+        said,
     );
     (sink.into_inner(), status)
 }

@@ -7,13 +7,13 @@ use Rattle.apply_agreement.proofs.forms.a_stream_has_an_end_or_an_error.Goals as
 pub returns-clause-workers : goal.returns-clause-workers
 returns-clause-workers c given options report before after applied =
     let streamed = applied.streamed in
-    an_end_or_an_error applied.told options.start options.operation given.hooks options.workers streamed.lists streamed.events report.run.counts report.tells_error streamed.applied
-    streamed.whole.delivered.counts applied.error
+    an_end_or_an_error applied.told options.start options.operation given.hooks streamed.events report.run.counts report.tells_error
+    (c.a_run_is_of_whole_steps.ensures (work_of given applied.told) options.workers streamed.lists streamed.events streamed.applied.dealt_out streamed.applied.told) streamed.whole.delivered.counts applied.error
 
 pub returns-clause-lanes : goal.returns-clause-lanes
 returns-clause-lanes c given lanes start operation report before after applied =
     let streamed = applied.streamed in
     let work = work_of given applied.told in
     let some : 0 < lanes = (let low = applied.sizes.some in omega arith) in
-    an_end_or_an_error applied.told start operation given.hooks lanes (dealing.lanes work lanes) streamed.events report.run.counts report.tells_error
-    (c.a_time_line_is_applied_by_workers.ensures work lanes streamed.events some streamed.time_line) streamed.whole.delivered.counts applied.error
+    an_end_or_an_error applied.told start operation given.hooks streamed.events report.run.counts report.tells_error
+    (let run = c.a_time_line_is_applied_by_workers.ensures work lanes streamed.events some streamed.time_line in c.a_run_is_of_whole_steps.ensures work lanes (dealing.lanes work lanes) streamed.events run.dealt_out run.told) streamed.whole.delivered.counts applied.error

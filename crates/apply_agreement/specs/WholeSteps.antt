@@ -1,0 +1,25 @@
+-- Events of a run, change by change: those of its steps, one after another, each step whole.
+use Rattle.std.specs.Prelude.{◌≡◌, ◌<◌, ◌==◌, ◌++◌, ◌⊎◌, ℕ, All, List, [], ◌∷◌, false, length, true}
+use Rattle.std.specs.List.{filter}
+use Rattle.apply_events.specs.declared.event.Event.{Event}
+use Rattle.apply_events.specs.Fits.{HasStep}
+use Rattle.apply_events.specs.Step.{Step, Work, steps_of}
+use Rattle.apply_events.specs.StepEvents.{goes_on, step_events}
+
+-- the events of one change
+abbrev pub events_of_change : (c : ℕ) → List Event → List Event
+events_of_change c events = filter (λ (event : Event). event.change == c) events
+
+-- the events are those of some steps, one after another: of each all that it has where it begins at some moment, whoever
+-- applies it, and none behind a step that does not go on; from some step on there may be none
+abbrev pub AreOfSteps : List Step → List Event → Type 0
+AreOfSteps [] events = events ≡ []
+AreOfSteps (step ∷ steps) events =
+    (events ≡ [])
+    ⊎ ((worker : ℕ) × (begin : ℕ) × (rest : List Event) × (events ≡ step_events worker step begin ++ rest)
+    × (goes_on step ≡ true → AreOfSteps steps rest) × (goes_on step ≡ false → rest ≡ []))
+
+-- the plan has the step of each event, and each change has the events of its steps
+pub record IsOfWholeSteps (work : Work) (events : List Event) : Type 0 where
+  pub planned : All (λ event. HasStep work.plan event.change event.step) events
+  pub whole : (c : ℕ) → c < length work.plan.changes → AreOfSteps (steps_of work c) (events_of_change c events)
