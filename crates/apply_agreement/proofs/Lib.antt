@@ -1,3 +1,4 @@
+mod AppliedSteps
 pub mod BetweenSteps
 pub mod Bytes
 pub mod ChangeDeeds
@@ -36,6 +37,7 @@ pub mod Standings
 pub mod StepDeeds
 pub mod Tallies
 pub mod Tokens
-pub mod Turning
+pub mod TurnParts
+mod Turning
 pub mod WhatWasRead
 pub mod Whole

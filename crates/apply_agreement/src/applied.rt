@@ -27,15 +27,18 @@ ghost use Rattle.apply_agreement.specs.Applied.{HasShortLines, whole_reported};
 ghost use Rattle.apply_agreement.specs.Passing.{plain};
 ghost use Rattle.apply_agreement.specs.Plans.{DeletesDeposed, IsOrdinary, ProvisionsCreates};
 ghost use Rattle.apply_agreement.specs.Texts.{HasTexts};
+ghost use Rattle.apply_agreement.specs.WholeSteps.{IsOfWholeSteps};
 
 use crate::laws::{
-    a_stream_of_texts_can_be_read, events_that_can_happen_fit_bits, every_stream_is_accepted,
+    a_run_is_of_whole_steps, a_stream_of_texts_can_be_read, a_time_line_is_of_whole_steps,
+    events_that_can_happen_fit_bits, every_stream_of_whole_steps_is_accepted,
 };
 use apply_laws::{
     a_line_has_one_line_feed, a_list_of_a_partition_names_each_number_once,
     changes_that_are_dealt_out_have_few_events, each_object_is_named_once, every_event_fits,
-    lanes_deal_out_the_changes, relative_addresses_join_their_module,
+    every_event_of_a_time_line_fits, relative_addresses_join_their_module,
 };
+use apply_wait_laws::a_time_line_has_few_events;
 
 /// Each text that messages tell of a plan and a script that were read is UTF-8, as the bytes are that they were read
 /// from, and an instance key that is a number fits 64 bits.
@@ -85,6 +88,26 @@ pub fn every_event_of_a_run_fits()
     every_event_fits();
 }
 
+/// A checker accepts the bytes of the stream of whole steps of a plan and a script that were read, where each event can happen and
+/// there are few: no more is asked than that deposed objects are only deleted and that no line of the stream is longer than
+/// 64 MiB.
+pub fn every_stream_of_whole_steps_that_were_read_is_accepted()
+    ensures { (plans : Bool) (given : Given) (work : Work) (start : ℕ) (events : List Event) (operation : Operation)
+        → IsRead given work.plan work.script → DeletesDeposed work.plan
+        → length events ≤ max_events → AllFit work events → IsOfWholeSteps work events
+        → HasShortLines (stream_of work.plan work.script start operation events)
+        → verdict_of (plain plans) (cut_lines (stream_of work.plan work.script start operation events))
+        ≡ Ok (whole_stream work.plan events) }
+{
+    a_line_has_one_line_feed();
+    texts_that_were_read_are_utf8();
+    what_was_read_is_within_limits();
+    a_plan_that_was_read_is_ordinary();
+    events_that_can_happen_fit_bits();
+    a_stream_of_texts_can_be_read();
+    every_stream_of_whole_steps_is_accepted();
+}
+
 /// A checker accepts the bytes of the stream of a run of a plan and a script that were read, by 64 workers at most and
 /// with 32 hooks at most, whatever the hooks: no more is asked than that deposed objects are only deleted and that no
 /// line of the stream is longer than 64 MiB.
@@ -98,15 +121,11 @@ pub fn every_stream_of_what_was_read_is_accepted()
         → verdict_of (plain plans) (cut_lines (stream_of work.plan work.script start operation events))
         ≡ Ok (whole_stream work.plan events) }
 {
-    a_line_has_one_line_feed();
-    texts_that_were_read_are_utf8();
     what_was_read_is_within_limits();
-    a_plan_that_was_read_is_ordinary();
     a_run_has_few_events();
     every_event_of_a_run_fits();
-    events_that_can_happen_fit_bits();
-    a_stream_of_texts_can_be_read();
-    every_stream_is_accepted();
+    a_run_is_of_whole_steps();
+    every_stream_of_whole_steps_that_were_read_is_accepted();
 }
 
 /// What `apply_bytes` of `apply_run` writes a checker accepts, and says of it what the report says: the same totals, an
@@ -144,6 +163,9 @@ pub fn every_stream_applied_in_lanes_is_accepted()
         → before.bytes ≡ Some [] → after.bytes ≡ Some bytes → HasShortLines bytes
         → verdict_of (plain plans) (cut_lines bytes) ≡ Ok (whole_reported report) }
 {
-    lanes_deal_out_the_changes();
-    every_stream_of_what_was_read_is_accepted();
+    what_was_read_is_within_limits();
+    a_time_line_has_few_events();
+    every_event_of_a_time_line_fits();
+    a_time_line_is_of_whole_steps();
+    every_stream_of_whole_steps_that_were_read_is_accepted();
 }

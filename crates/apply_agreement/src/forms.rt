@@ -12,8 +12,8 @@ ghost use Rattle.apply_run.specs.InForm.{WasAppliedAsTold, WasAppliedAsToldInLan
 ghost use Rattle.apply_run.specs.Run.{Sight};
 ghost use Rattle.apply_agreement.specs.Levels.{HasAnEndOrAnError, is_error_line};
 
-use crate::laws::a_run_is_of_whole_steps;
-use apply_laws::a_time_line_is_applied_by_workers;
+use crate::applied::what_was_read_is_within_limits;
+use crate::laws::{a_run_is_of_whole_steps, a_time_line_is_of_whole_steps};
 
 /// A stream in Terraform's form that was written whole ends with a summary, and with it, of an apply, one line of outputs,
 /// exactly where none of its lines has the level `error`, be it one of events or what is said of the plan as a whole. That it
@@ -26,8 +26,9 @@ pub fn a_stream_has_an_end_or_an_error()
         (applied : WasAppliedAsToldInLanes given lanes start operation report before after)
         → HasAnEndOrAnError applied.told start operation applied.streamed.events report.tells_error }
 {
-    a_time_line_is_applied_by_workers();
     a_run_is_of_whole_steps();
+    what_was_read_is_within_limits();
+    a_time_line_is_of_whole_steps();
 }
 
 /// The lines with which a stream ends never have the level `error`.

@@ -16,6 +16,7 @@ ghost use Rattle.apply_events.specs.Fits.{Fits};
 ghost use Rattle.apply_events.specs.Interleaving.{IsInterleaving};
 ghost use Rattle.apply_events.specs.Lanes.TimeLine.{IsTimeLine};
 ghost use Rattle.apply_events.specs.Partition.{IsPartition};
+ghost use Rattle.apply_events.specs.Waits.TimeLine as waiting;
 ghost use Rattle.apply_events.specs.Step.{Work};
 ghost use Rattle.apply_events.specs.WorkerEvents.{worker_events};
 ghost use Rattle.apply_text.specs.declared.operation.Operation.{Operation};
@@ -29,8 +30,13 @@ ghost use Rattle.apply_agreement.specs.Sound.{CanBeRead, IsShort};
 ghost use Rattle.apply_agreement.specs.Texts.{FitBits, HasTexts};
 ghost use Rattle.apply_agreement.specs.Told.{action_of, told};
 ghost use Rattle.apply_agreement.specs.WholeSteps.{IsOfWholeSteps};
+ghost use Rattle.apply_wait_laws.specs.Laws.{HasFewSteps};
 
 use apply_laws::{a_line_has_one_line_feed, lanes_deal_out_the_changes};
+use apply_wait_laws::{
+    a_step_begins_where_all_that_it_waits_for_is_done, a_step_stands_behind_what_it_waits_for,
+    steps_are_whole,
+};
 
 /// The object of an event's message says to a checker what happens to which object: the address, the action, the
 /// seconds, and what becomes of a provisioner, are read as they were written, whenever it was, and whether or not lines
@@ -57,6 +63,16 @@ pub fn a_run_is_of_whole_steps()
         → IsInterleaving workers (λ worker. worker_events work worker (slice_index_or lists worker [])) events
         → IsOfWholeSteps work events }
 {}
+
+/// And so are those of a time line, where steps wait for others; of the plan it is asked that no change has more than two steps.
+pub fn a_time_line_is_of_whole_steps()
+    ensures { (work : Work) (n : ℕ) (events : List Event) → 0 < n → HasFewSteps work → waiting.IsTimeLine work n events
+        → IsOfWholeSteps work events }
+{
+    steps_are_whole();
+    a_step_stands_behind_what_it_waits_for();
+    a_step_begins_where_all_that_it_waits_for_is_done();
+}
 
 /// Whatever the script and the hooks, whoever applies a step, and in whatever order events of several changes come: a checker
 /// accepts what the messages of whole steps tell, in the order in which they are written, between the version and the
@@ -141,14 +157,23 @@ pub fn every_stream_is_accepted()
     every_stream_of_whole_steps_is_accepted();
 }
 
-/// It accepts the bytes of the stream of a time line too, of as many changes under way at once as there are lanes.
+/// It accepts the bytes of the stream of a time line too, of as many changes under way at once as there are lanes; and where steps
+/// wait for others, of a plan whose changes have two steps at most.
 pub fn every_stream_in_lanes_is_accepted()
-    ensures { (plans : Bool) (work : Work) (n start : ℕ) (events : List Event) (operation : Operation)
+    ensures of_changes { (plans : Bool) (work : Work) (n start : ℕ) (events : List Event) (operation : Operation)
         → IsOrdinary work.plan → ProvisionsCreates work.plan work.script → 0 < n → IsTimeLine work n events
+        → CanBeRead (stream_objects work.plan work.script start operation events)
+        → verdict_of (plain plans) (cut_lines (stream_of work.plan work.script start operation events))
+        ≡ Ok (whole_stream work.plan events) }
+    ensures of_steps { (plans : Bool) (work : Work) (n start : ℕ) (events : List Event) (operation : Operation)
+        → IsOrdinary work.plan → ProvisionsCreates work.plan work.script → HasFewSteps work → 0 < n
+        → waiting.IsTimeLine work n events
         → CanBeRead (stream_objects work.plan work.script start operation events)
         → verdict_of (plain plans) (cut_lines (stream_of work.plan work.script start operation events))
         ≡ Ok (whole_stream work.plan events) }
 {
     lanes_deal_out_the_changes();
     every_stream_is_accepted();
+    a_time_line_is_of_whole_steps();
+    every_stream_of_whole_steps_is_accepted();
 }

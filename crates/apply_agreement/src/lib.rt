@@ -9,14 +9,15 @@ mod laws;
 pub use applied::{
     a_plan_that_was_read_is_ordinary, a_run_has_few_events, every_applied_stream_is_accepted,
     every_event_of_a_run_fits, every_stream_applied_in_lanes_is_accepted,
-    every_stream_of_what_was_read_is_accepted, texts_that_were_read_are_utf8,
+    every_stream_of_what_was_read_is_accepted,
+    every_stream_of_whole_steps_that_were_read_is_accepted, texts_that_were_read_are_utf8,
     what_was_read_is_within_limits,
 };
 pub use forms::{a_stream_has_an_end_or_an_error, no_end_tells_of_an_error};
 pub use laws::{
     a_run_is_of_whole_steps, a_script_provisions_creates, a_stream_of_texts_can_be_read,
-    an_event_is_heard, events_that_can_happen_fit_bits, every_run_is_accepted,
-    every_stream_in_lanes_is_accepted, every_stream_is_accepted,
+    a_time_line_is_of_whole_steps, an_event_is_heard, events_that_can_happen_fit_bits,
+    every_run_is_accepted, every_stream_in_lanes_is_accepted, every_stream_is_accepted,
     every_stream_of_objects_is_accepted, every_stream_of_whole_steps_is_accepted,
     whole_steps_are_accepted,
 };

@@ -6,7 +6,7 @@ use Rattle.std.proofs.lemmas.List.{append-nil}
 use mathlib.Core.List.{IsPrefix}
 use Rattle.apply_plan.specs.Plan.SavedPlan.{SavedPlan}
 use Rattle.apply_events.specs.declared.event.Event.{Event}
-use Rattle.apply_events.specs.Lanes.TimeLine.{IsTimeLine}
+use Rattle.apply_events.specs.Waits.TimeLine.{IsTimeLine}
 use Rattle.apply_events.specs.Step.{Work}
 use Rattle.apply_text.specs.Order.{as_written}
 use Rattle.apply_run.specs.declared.report.Report.{Report}

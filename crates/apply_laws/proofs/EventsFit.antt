@@ -32,7 +32,7 @@ use Rattle.apply_events.proofs.Rising.{Rises-at_most, Rises-higher}
 use Rattle.apply_events.proofs.WorkerLists.{change_planned, worker_planned}
 
 -- it can happen to its step, as the script has that step end
-abbrev CanHappen : Work → Event → Type 0
+abbrev pub CanHappen : Work → Event → Type 0
 CanHappen work e = IsTrue (can_happen (outcome_of work.script e.change e.step) e.what)
 
 itself : (n : ℕ) → nat_eq n n ≡ true
@@ -97,7 +97,7 @@ all-started work w c n kind at few =
     (All-map (CanHappen work) (λ what. event w s (at + (seconds_of s)) what) (endings s) (all-endings outcome)))
     (all-halts work w c n kind (phase_after s.fails) (at + (seconds_of s)) (s.halts (phase_after s.fails)) (asked_after s.fails) (few-step work c n kind (phase_after s.fails) few)))
 
-all-step : (work : Work) (w c n : ℕ) (kind : StepKind) (at : ℕ) → length work.hooks ≤ max_hooks → All (CanHappen work) (step_events w (step_of work c n kind) at)
+pub all-step : (work : Work) (w c n : ℕ) (kind : StepKind) (at : ℕ) → length work.hooks ≤ max_hooks → All (CanHappen work) (step_events w (step_of work c n kind) at)
 all-step work w c n kind at few = all-step-at work w c n kind at ((step_of work c n kind).halts Pre) (few-step work c n kind Pre few) few
   where
     all-step-at : (work : Work) (w c n : ℕ) (kind : StepKind) (at : ℕ) (found : Option ℕ) → IsFew found → length work.hooks ≤ max_hooks

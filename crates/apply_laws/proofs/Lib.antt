@@ -12,5 +12,7 @@ mod PlannedElements
 mod PlannedLines
 mod ProvisionsFit
 mod RelativeAddresses
+mod TimeLineFits
 mod TimeLines
+mod WholeBegins
 mod WrittenOrder

@@ -1,6 +1,6 @@
 //! Laws of lists of events. Each function does nothing; its contract is the law.
 
-ghost use Rattle.std.specs.Prelude.{All, IfSome, List, count_by, length, slice_get, ℕ, ◌++◌, ◌+◌, ◌≡◌, ◌≤◌};
+ghost use Rattle.std.specs.Prelude.{All, IfSome, List, count_by, length, slice_get, ℕ, ◌++◌, ◌+◌, ◌<◌, ◌≡◌, ◌≤◌};
 ghost use Rattle.std.specs.List.Sorted.{IsNonDecreasingBy};
 ghost use Rattle.apply_hooks.specs.Hooks.{max_hooks};
 ghost use Rattle.apply_events.specs.declared.event.Event.{Event};
@@ -9,7 +9,10 @@ ghost use Rattle.apply_events.specs.Fits.{HasStep, last_moment, max_span};
 ghost use Rattle.apply_events.specs.Laws.{AllFit, IsWithinLimits, NamesEachOnce, ends_step};
 ghost use Rattle.apply_events.specs.OfWorker.{of_worker};
 ghost use Rattle.apply_events.specs.Step.{Work};
+ghost use Rattle.apply_events.specs.Waits.TimeLine.{IsTimeLine};
 ghost use Rattle.apply_events.specs.WorkerEvents.{worker_events};
+
+use apply_wait_laws::{a_time_line_has_few_events, steps_are_whole};
 
 /// The moments along a change's list never fall.
 pub fn moments_never_fall()
@@ -72,6 +75,15 @@ pub fn every_event_fits()
     ensures of_worker { (work : Work) (worker : ℕ) (changes : List ℕ) → IsWithinLimits work → length work.hooks ≤ max_hooks
         → NamesEachOnce work changes → AllFit work (worker_events work worker changes) }
 {}
+
+/// So can each event of a time line, where steps wait for others or do not.
+pub fn every_event_of_a_time_line_fits()
+    ensures { (work : Work) (n : ℕ) (events : List Event) → 0 < n → IsWithinLimits work → length work.hooks ≤ max_hooks
+        → IsTimeLine work n events → AllFit work events }
+{
+    steps_are_whole();
+    a_time_line_has_few_events();
+}
 
 /// With a plan and a script that were read, no change takes longer than two days.
 pub fn a_span_is_short()

@@ -1,4 +1,5 @@
-//! Laws of time lines. Each function does nothing; its contract is the law.
+//! Laws of time lines of changes that wait for nothing. Each function does nothing; its contract is the law. Where no step names
+//! what it waits for, these are the time lines of what is applied in lanes; for steps that wait see `apply_wait_laws`.
 
 ghost use Rattle.std.specs.Prelude.{All, IsTrue, List, [], get_or, length, sum_by, ℕ, ◌*◌, ◌++◌, ◌<◌, ◌≡◌, ◌≤◌};
 ghost use Rattle.std.specs.List.{range_with_len};
@@ -14,6 +15,9 @@ ghost use Rattle.apply_laws.specs.ChangesUnderWay.{is_under_way_at, open_after, 
 ghost use Rattle.apply_laws.specs.Sharing.{free_before, under_way};
 ghost use Rattle.apply_laws.specs.StepTimes.{HasOneBegin};
 ghost use Rattle.apply_events.specs.Lanes.TimeLine.{IsTimeLine};
+ghost use Rattle.apply_events.specs.Waits.TimeLine as waiting;
+
+use apply_wait_laws::steps_are_whole;
 
 /// Two time lines of the same work by as many lanes are equal.
 pub fn two_time_lines_are_equal()
@@ -33,11 +37,15 @@ pub fn moments_of_a_time_line_never_fall()
 {}
 
 /// Along a time line a step begins at one moment, and what happens to it comes as long after that as it says: between
-/// its start and its end lie exactly the seconds that the end tells.
+/// its start and its end lie exactly the seconds that the end tells. So it is where steps wait for others, too.
 pub fn a_step_takes_the_seconds_that_it_tells()
-    ensures { (work : Work) (n change step : ℕ) (events : List Event) → IsTimeLine work n events
+    ensures of_changes { (work : Work) (n change step : ℕ) (events : List Event) → IsTimeLine work n events
         → HasOneBegin change step events }
-{}
+    ensures of_steps { (work : Work) (n change step : ℕ) (events : List Event) → waiting.IsTimeLine work n events
+        → HasOneBegin change step events }
+{
+    steps_are_whole();
+}
 
 /// With one lane it is all changes in order.
 pub fn one_lane_has_all_changes_in_order()

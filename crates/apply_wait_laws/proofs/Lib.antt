@@ -2,6 +2,7 @@ pub mod Along
 pub mod Behind
 pub mod ByAnyLanes
 pub mod Computed
+pub mod FewInTime
 pub mod InVain
 pub mod LeftOut
 pub mod Named

@@ -4,14 +4,17 @@
 
 mod examples;
 
-ghost use Rattle.std.specs.Prelude.{◌≡◌, ◌<◌, ◌≤◌, ◌↔◌, ◌++◌, ◌∷◌, ℕ, All, List, false};
+ghost use Rattle.std.specs.Prelude.{◌≡◌, ◌<◌, ◌≤◌, ◌↔◌, ◌++◌, ◌∷◌, ℕ, All, List, false, length};
 ghost use Rattle.std.specs.List.Sorted.{IsNonDecreasingBy};
 ghost use Rattle.apply_model.specs.declared.script.wait.Wait.{Wait};
 ghost use Rattle.apply_events.specs.Step.{Work};
 ghost use Rattle.apply_model.specs.Script.Waits.{has_waits};
 ghost use Rattle.apply_events.specs.declared.event.Event.{Event};
 ghost use Rattle.apply_events.specs.declared.lanes.taken.Taken.{Taken};
+ghost use Rattle.apply_events.specs.Fits.{IsOfPlan};
 ghost use Rattle.apply_events.specs.Lanes.TimeLine as plain;
+ghost use Rattle.apply_events.specs.Lanes.ToCome.{max_events};
+ghost use Rattle.apply_events.specs.Laws.{IsWithinLimits};
 ghost use Rattle.apply_events.specs.Waits.Merging.{time_line};
 ghost use Rattle.apply_events.specs.Waits.Schedule.{schedule};
 ghost use Rattle.apply_events.specs.Waits.TakenUp.{IsAppliedInTurns, WereTakenUp};
@@ -90,6 +93,15 @@ pub fn any_lanes_begin_the_same_steps()
 pub fn a_time_line_ends_by_the_sum_of_all_times()
     ensures { (work : Work) (n : ℕ) (events : List Event) → 0 < n → IsTimeLine work n events
         → All (λ event. event.at ≤ time_of_all work (schedule work n)) events }
+{}
+
+/// Of a plan and a script that were read a time line has at most 189,180,000 events, whatever the hooks, and each is of a step of the
+/// plan and comes within 10,000 times two days.
+pub fn a_time_line_has_few_events()
+    ensures few { (work : Work) (n : ℕ) (events : List Event) → 0 < n → IsWithinLimits work → IsTimeLine work n events
+        → length events ≤ max_events }
+    ensures of_plan { (work : Work) (n : ℕ) (events : List Event) → 0 < n → IsWithinLimits work → IsTimeLine work n events
+        → All (IsOfPlan work.plan) events }
 {}
 
 /// Who is ready first goes first, into the lane that is free first, and begins as soon as it may. Begins never fall.

@@ -74,7 +74,7 @@ few_of_turn w one within can =
     let count = few_begun w one.turn in
     let mine = (turn_facts w one.turn limits.few (turn_is w one.turn (known_is w one.turn can.known))).share in omega arith
 
-few_of_turns : (w : Work) (taken : List Taken) → AllWithin w → All (IsStartable w) taken → sum_by (events_in w) taken ≤ 9459 * shares w taken
+pub few_of_turns : (w : Work) (taken : List Taken) → AllWithin w → All (IsStartable w) taken → sum_by (events_in w) taken ≤ 9459 * shares w taken
 few_of_turns w [] within can = omega arith
 few_of_turns w (one ∷ taken) within can =
     let here = few_of_turn w one within (All-head (IsStartable w) one taken can) in
@@ -83,7 +83,7 @@ few_of_turns w (one ∷ taken) within can =
     let sum : shares w (one ∷ taken) ≡ share w one.turn + shares w taken = sum_by-cons (λ (x : Taken). share w x.turn) one taken in omega arith
 
 -- lanes from one on, and so many of them, together
-abbrev lanes_tell : Work → List Taken → ℕ → ℕ → ℕ
+abbrev pub lanes_tell : Work → List Taken → ℕ → ℕ → ℕ
 lanes_tell w taken a zero = 0
 lanes_tell w taken a (suc m) = length (told_by w a taken) + lanes_tell w taken (a + 1) m
 
@@ -110,7 +110,7 @@ one_lane w one taken a (suc m) = ⊎_elim
     let rest = one_lane w one taken (a + 1) m in omega arith)
     (eqb_tells one.lane a)
 
-lanes_few : (w : Work) (taken : List Taken) (a m : ℕ) → lanes_tell w taken a m ≤ sum_by (events_in w) taken
+pub lanes_few : (w : Work) (taken : List Taken) (a m : ℕ) → lanes_tell w taken a m ≤ sum_by (events_in w) taken
 lanes_few w [] a m = let none = tell_none w a m in omega arith
 lanes_few w (one ∷ taken) a m =
     let here = one_lane w one taken a m in let rest = lanes_few w taken a m in

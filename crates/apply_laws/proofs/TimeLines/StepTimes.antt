@@ -30,7 +30,7 @@ use Rattle.apply_events.proofs.TimeLines.Order.{nobody_else}
 -- ---- within a step
 
 -- an event of the step, which begins at a moment
-abbrev IsOnTime : (begin : ℕ) → Step → Event → Type 0
+abbrev pub IsOnTime : (begin : ℕ) → Step → Event → Type 0
 IsOnTime begin s e = (e.change ≡ s.change) × (e.step ≡ s.number) × ComesAsTold begin e
 
 halt_on_time : (w begin at : ℕ) (s : Step) (phase : Phase) (found : Option ℕ) → All (IsOnTime begin s) (option_to_list (option_map (λ hook. event w s at (Halted phase hook)) found))
@@ -71,7 +71,7 @@ started_on_time w at s =
     (All-append (IsOnTime at s) told ends (between_on_time w at s) (end_on_time w at s s.fails s.warns))
     (halt_on_time w at (at + seconds_of s) s (phase_after s.fails) (s.halts (phase_after s.fails))))
 
-step_on_time : (w at : ℕ) (s : Step) → All (IsOnTime at s) (step_events w s at)
+pub step_on_time : (w at : ℕ) (s : Step) → All (IsOnTime at s) (step_events w s at)
 step_on_time w at s = with_halt w at s (s.halts Pre)
   where
     with_halt : (w at : ℕ) (s : Step) (found : Option ℕ) → All (IsOnTime at s) (cond (is_some found) (option_to_list (option_map (λ hook. event w s at (Halted Pre hook)) found)) (started w s at))

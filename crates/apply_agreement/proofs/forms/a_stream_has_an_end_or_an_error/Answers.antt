@@ -1,6 +1,6 @@
 use Rattle.std.proofs.Common.{◌<◌, arith}
-use Rattle.apply_events.specs.Lanes.Dealing as dealing
 use Rattle.apply_run.specs.InForm.{work_of}
+use Rattle.apply_agreement.proofs.AppliedSteps.{few_steps}
 use Rattle.apply_agreement.proofs.ErrorLevels.{an_end_or_an_error}
 use Rattle.apply_agreement.proofs.forms.a_stream_has_an_end_or_an_error.Goals as goal
 
@@ -16,4 +16,4 @@ returns-clause-lanes c given lanes start operation report before after applied =
     let work = work_of given applied.told in
     let some : 0 < lanes = (let low = applied.sizes.some in omega arith) in
     an_end_or_an_error applied.told start operation given.hooks streamed.events report.run.counts report.tells_error
-    (let run = c.a_time_line_is_applied_by_workers.ensures work lanes streamed.events some streamed.time_line in c.a_run_is_of_whole_steps.ensures work lanes (dealing.lanes work lanes) streamed.events run.dealt_out run.told) streamed.whole.delivered.counts applied.error
+    (c.a_time_line_is_of_whole_steps.ensures work lanes streamed.events some (few_steps given applied.told applied.read (c.what_was_read_is_within_limits.ensures given)) streamed.time_line) streamed.whole.delivered.counts applied.error
