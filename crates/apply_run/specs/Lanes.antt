@@ -4,8 +4,8 @@ use Rattle.apply_plan.specs.Plan.SavedPlan.{SavedPlan}
 use Rattle.apply_plan.specs.Script.OutcomeMap.{OutcomeMap}
 use Rattle.apply_events.specs.declared.event.Event.{Event}
 use Rattle.apply_events.specs.Lanes.{AreLanes}
-use Rattle.apply_events.specs.Lanes.TimeLine.{IsTimeLine}
 use Rattle.apply_events.specs.Step.{Work}
+use Rattle.apply_events.specs.Waits.TimeLine.{IsTimeLine}
 use Rattle.apply_text.specs.declared.operation.Operation.{Operation}
 use Rattle.apply_text.specs.Order.{as_written}
 use Rattle.apply_run.specs.Bytes.{Given, IsRead, WasRefused}

@@ -25,11 +25,13 @@ use apply_plan::{Plan, Script, read_plan};
 use apply_text::{Operation, Start};
 use std::alloc::Global;
 
-/// Applies a plan in 1 to 64 lanes, as `terraform apply -parallelism` has it: each change goes, in the plan's order, to
-/// the lane that is free first, at one moment to the lowest, and of what the lanes report the stream is written in the
-/// order of time, at one moment the lower lane first: the version, hook messages, then diagnostics, and the summary
-/// (Machine-Readable UI). A step without an entry in the script is done after 0 seconds. The sink comes back beside
-/// every answer.
+/// Applies a plan in 1 to 64 lanes, as `terraform apply -parallelism` has it. A lane takes up a change as a whole, or, of one
+/// whose second step says what it waits for, each step by itself. Which is ready first, since all that it waits for is
+/// done, goes first, at one moment in the plan's order, to the lane that is free first, at one moment to the lowest. What
+/// waits for a step that fails, is halted or never begins is left out. Of what the lanes report the stream is written in
+/// the order of time, at one moment the lower lane first: the version, hook messages, then diagnostics, and the summary
+/// (Machine-Readable UI). A step without an entry in the script is done after 0 seconds, and waits for nothing but the step
+/// before it. The sink comes back beside every answer.
 ///
 /// The same plan, script, hooks and number of lanes give the same bytes. No thread is started, and nothing is waited
 /// for.

@@ -1,8 +1,8 @@
 -- From how a stream has ended to how a run in lanes has.
 use Rattle.std.proofs.Common.{◌≡◌, ◌+◌, ℕ, List, sym, subst, inr, ⊎_elim}
 use Rattle.apply_events.specs.declared.event.Event.{Event}
-use Rattle.apply_events.specs.Lanes.TimeLine.{IsTimeLine}
 use Rattle.apply_events.specs.Step.{Work}
+use Rattle.apply_events.specs.Waits.TimeLine.{IsTimeLine}
 use Rattle.apply_text.specs.Order.{as_written}
 use Rattle.apply_run.specs.declared.fault.Fault.{Fault}
 use Rattle.apply_run.specs.declared.why.Why.TheVariants.{Memory, Write}

@@ -116,6 +116,8 @@ fn push_turn(rt: &impl Abort, turns: &mut Vec<Turn>, change: u32, first: u8, end
 #[derive(Drop)]
 struct Clock<'a> {
     job: Job<'a>,
+    /// The events of each change, where it begins at 0.
+    alone: Vec<&'static [Event]>,
     turns: Vec<Turn>,
     /// From when on each lane is free.
     free: Vec<Moment>,
@@ -125,12 +127,12 @@ struct Clock<'a> {
 
 impl Clock<'_> {
     /// When a step of a turn is done, if it is.
-    fn done_in(&self, rt: &impl Abort, alloc: Global, turn: Turn, step: u8) -> Option<Moment> {
+    fn done_in(&self, turn: Turn, step: u8) -> Option<Moment> {
         let mut at = turn.begun?;
         if step < turn.first || turn.end <= step {
             return None;
         }
-        let events = change_events(rt, alloc, self.job, turn.change, 0, 0);
+        let events = self.alone.get(turn.change as usize)?;
         for number in 0..2 {
             if turn.first <= number && number <= step {
                 let course = course_of(events, number)?;
@@ -144,10 +146,10 @@ impl Clock<'_> {
     }
 
     /// When a step is done, if it is.
-    fn done(&self, rt: &impl Abort, alloc: Global, change: u32, step: u8) -> Option<Moment> {
+    fn done(&self, change: u32, step: u8) -> Option<Moment> {
         for turn in &self.turns {
             if turn.change == change {
-                let done = self.done_in(rt, alloc, *turn, step);
+                let done = self.done_in(*turn, step);
                 if done.is_some() {
                     return done;
                 }
@@ -157,13 +159,13 @@ impl Clock<'_> {
     }
 
     /// From when on a turn is ready, if that is known.
-    fn ready(&self, rt: &impl Abort, alloc: Global, turn: Turn) -> Option<Moment> {
+    fn ready(&self, turn: Turn) -> Option<Moment> {
         let mut at: Moment = (0, 0);
         if turn.first == turn.end {
             return Some(at);
         }
         if turn.first == 1 {
-            let done = self.done(rt, alloc, turn.change, 0)?;
+            let done = self.done(turn.change, 0)?;
             at = later(at, (done.0, done.1.wrapping_add(1)));
         }
         let Some(outcome) = self.job.script.outcome(turn.change, turn.first) else {
@@ -171,19 +173,19 @@ impl Clock<'_> {
         };
         for item in 0..outcome.after.len() {
             let wait = outcome.after.get(item);
-            let done = self.done(rt, alloc, wait.change, wait.step)?;
+            let done = self.done(wait.change, wait.step)?;
             at = later(at, (done.0, done.1.wrapping_add(1)));
         }
         Some(at)
     }
 
     /// The turn that is ready first of those that are at the moment and have not begun, at one moment the plan's first.
-    fn first_ready(&self, rt: &impl Abort, alloc: Global, now: Moment) -> Option<usize> {
+    fn first_ready(&self, now: Moment) -> Option<usize> {
         let mut found: Option<(usize, Moment)> = None;
         for place in 0..self.turns.len() {
             let turn = self.turns[place];
             if turn.begun.is_none() {
-                if let Some(ready) = self.ready(rt, alloc, turn) {
+                if let Some(ready) = self.ready(turn) {
                     let first = match found {
                         Some((_, best)) => ready < best,
                         None => true,
@@ -221,7 +223,7 @@ impl Clock<'_> {
         turn.begun = Some(now);
         turn.lane = lane as u8;
         self.turns[place] = turn;
-        let alone = change_events(rt, alloc, self.job, turn.change, 0, 0);
+        let alone = *self.alone.get(turn.change as usize).expect(rt, "a change");
         let before = match course_of(alone, turn.first) {
             Some(course) => course.from,
             None => 0,
@@ -245,13 +247,25 @@ impl Clock<'_> {
         }
     }
 
-    /// All that begins at a moment.
-    fn show(&mut self, rt: &impl Abort, alloc: Global, now: Moment) {
+    /// All that begins at a moment. Whether something does.
+    fn show(&mut self, rt: &impl Abort, alloc: Global, now: Moment) -> bool {
+        let mut begins = false;
         for _ in 0..self.turns.len() {
-            if let Some(place) = self.first_ready(rt, alloc, now) {
-                if let Some(lane) = self.first_free(now) {
-                    self.begin(rt, alloc, place, lane, now);
-                }
+            match (self.first_ready(now), self.first_free(now)) {
+                (Some(place), Some(lane)) => self.begin(rt, alloc, place, lane, now),
+                _ => break,
+            }
+            begins = true;
+        }
+        begins
+    }
+
+    /// All that begins in a second. Nothing is ready in the round behind one in which nothing begins, but for the first.
+    fn show_second(&mut self, rt: &impl Abort, alloc: Global, second: u64) {
+        for round in 0..1000 {
+            let begins = self.show(rt, alloc, (second, round));
+            if 0 < round && !begins {
+                break;
             }
         }
     }
@@ -276,22 +290,24 @@ pub(super) fn clock_events(
         script,
         registry,
     };
-    let turns = all_turns(rt, alloc, job);
-    let rounds = turns.len().min(1000) as u32;
+    let mut alone = Vec::new(alloc);
+    for change in 0..plan.len() {
+        let events = change_events(rt, alloc, job, change, 0, 0);
+        alone.push(events).ok().expect(rt, "memory");
+    }
     let mut free = Vec::new(alloc);
     for _ in 0..count {
         free.push((0, 0)).ok().expect(rt, "memory");
     }
     let mut clock = Clock {
         job,
-        turns,
+        alone,
+        turns: all_turns(rt, alloc, job),
         free,
         told: Vec::new(alloc),
     };
     for second in 0..LAST_SECOND {
-        for round in 0..=rounds {
-            clock.show(rt, alloc, (second, round));
-        }
+        clock.show_second(rt, alloc, second);
     }
     let sorted = clock
         .told

@@ -114,12 +114,12 @@ const AN_UPDATE_HALTED_IN_TWO: &str =
 const DEPOSED_PLAN: &str =
     r#"{"format_version":"1.2","resource_changes":[{"address":"null_resource.a","mode":"managed","type":"null_resource","name":"a","change":{"actions":["no-op"]}},{"address":"null_resource.a","deposed":"k","mode":"managed","type":"null_resource","name":"a","change":{"actions":["delete"]}},{"address":"null_resource.b","mode":"managed","type":"null_resource","name":"b","change":{"actions":["update"]}}]}"#;
 
-/// The delete waits for the update, which names the object that has no step.
+/// The delete waits for the update, which names the object that has no step. The other lane was free first.
 const DEPOSED_SCRIPT: &str =
     r#"{"changes":[{"address":"null_resource.a","deposed":"k","steps":[{"seconds":1,"after":["null_resource.b"]}]},{"address":"null_resource.b","steps":[{"seconds":2,"after":["null_resource.a"]}]}]}"#;
 
 const DEPOSED_IN_TWO: &str =
-    "0 0 2.0 Start; 2 0 2.0 Complete(2); 2 0 1.0 Start; 3 0 1.0 Complete(1);";
+    "0 0 2.0 Start; 2 0 2.0 Complete(2); 2 1 1.0 Start; 3 1 1.0 Complete(1);";
 
 /// Fails where so many lanes report something else under the hooks, or the clock does.
 fn waits_report(

@@ -1,7 +1,7 @@
-use Rattle.std.proofs.Common.{subst}
+use Rattle.std.proofs.Common.{◌<◌, arith, subst}
 use Rattle.apply_hooks.specs.Registry.{rules_of}
-use Rattle.apply_events.specs.Lanes.Merging.{time_line}
 use Rattle.apply_events.specs.Step.{Work}
+use Rattle.apply_events.specs.Waits.Merging.{time_line}
 use Rattle.apply_run.specs.Run.{Sight, sight_of}
 use Rattle.apply_run.specs.Stream.Ended.{IsFaulted, IsWhole}
 use Rattle.apply_run.specs.Stream.Form.{stream_in}
@@ -24,7 +24,7 @@ returns-clause-ok g c =
     if_ok c.end.result.1 _ _
     (λ report h. record {
       events = events;
-      time_line = c.there_is_a_time_line.ensures work lanes;
+      time_line = c.there_is_a_time_line.ensures work lanes (let some = c.requires.lanes.some in omega arith);
       whole = for_form g.S.Sink.bytes g.S.Sink.failed g.F.FormLines.form form before events stream
           (λ f. IsWhole f.plan events (stream_in f events) report before.bytes after.bytes before.failed after.failed)
           told (h before.bytes before.failed events told.told);
@@ -43,7 +43,7 @@ returns-clause-err g c =
     subst (λ es. IsToldSince g.S.Sink.bytes g.S.Sink.failed g.F.FormLines.form first es stream) c.in-Ok.ensures.events c.tell_all.ensures.told in
     let told = told_for g.S.Sink.bytes g.S.Sink.failed g.F.FormLines.form c.args.lines c.args.sink events first stream made.lines made.sink c.tell_all.ensures.same since in
     if_err c.end.result.1 _ _
-    (λ fault h. faulted_in_lanes form work lanes fault before after events (c.there_is_a_time_line.ensures work lanes)
+    (λ fault h. faulted_in_lanes form work lanes fault before after events (c.there_is_a_time_line.ensures work lanes (let some = c.requires.lanes.some in omega arith))
     (for_form g.S.Sink.bytes g.S.Sink.failed g.F.FormLines.form form before events stream
     (λ f. IsFaulted f events fault before.bytes after.bytes before.failed after.failed)
     told (h before.bytes before.failed events told.told)))
