@@ -42,12 +42,12 @@ pub record WasApplied (given : Given) (options : Options) (report : Report) (bef
   pub read : IsRead given plan script
   pub sizes : IsInRange options
   pub streamed : HasStreamed (record { plan = plan; script = script; hooks = given.hooks }) options report before after
-  -- workers take no notice of what steps wait for, and so no script that says it is applied
+  -- workers keep no waits, and so no script that has some is applied
   pub no_waits : has_waits script ≡ false
 
 -- the plan is refused as it is defined, else the script as it is defined, else one that says what steps wait for, else the
--- sizes where they are out of range; the sink is as it was. Memory may be wanted before, but for no plan and no script that is too large, and for no
--- script where there is none. Otherwise the run has ended in a fault
+-- sizes where they are out of range; the sink is as it was. Memory may be wanted before, but for no plan and no script that
+-- is too large, and for no script where there is none. Otherwise the run has ended in a fault
 abbrev pub WasRefused : Given → Options → Refusal → (before after : Sight) → Type 0
 WasRefused given options (Plan refusal) before after =
     (((refusal ≡ plan_error.Memory) × (length given.plan ≤ max_bytes)) ⊎ (plan_of given.plan ≡ Err refusal))

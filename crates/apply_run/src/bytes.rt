@@ -25,8 +25,9 @@ use std::thread::Threads;
 /// every answer.
 ///
 /// `Err` with `Refusal::Plan` where the bytes are no plan, else with `Refusal::Script` where there is a script and it is none
-/// for the plan, else with `Refusal::Waits` where it says what steps wait for, of which workers take no notice, else with
-/// `Refusal::Size` where the options are out of range: then nothing was written, and the sink is as it was. `Err` with `Refusal::Fault` where the run did not end well.
+/// for the plan, else with `Refusal::Waits` where it says what steps wait for, which workers do not keep, else with
+/// `Refusal::Size` where the options are out of range: then nothing was written, and the sink is as it was. `Err` with
+/// `Refusal::Fault` where the run did not end well.
 pub fn apply_bytes<S: Sink + Drop, G: Gate, R: Threads + Wait + Sync>(
     rt: &R,
     alloc: Global,
