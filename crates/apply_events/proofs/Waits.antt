@@ -2,6 +2,7 @@
 pub mod AllTurns
 pub mod Earliest
 pub mod Ends
+pub mod Followers
 pub mod Found
 pub mod Free
 pub mod LanesRise
@@ -10,6 +11,7 @@ pub mod Merge
 pub mod Moments
 pub mod Once
 pub mod Order
+pub mod Standing
 pub mod TakenUp
 pub mod TurnEvents
 pub mod TurnSteps
