@@ -1,5 +1,6 @@
 -- Turns that lanes take up, and their time line.
 pub mod AllTurns
+pub mod Building
 pub mod Earliest
 pub mod Ends
 pub mod Followers

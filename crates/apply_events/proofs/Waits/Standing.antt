@@ -1,6 +1,6 @@
 -- The turns that wait, and those that are ready: one more step is heard of, or a turn is taken.
 use Rattle.std.proofs.Common.{◌≡◌, ◌≢◌, ℕ, zero, suc, ◌+◌, ◌-◌, ◌<◌, ◌≤◌, All, Bool, true, false, List, [], ◌∷◌, ◌++◌, Option, Some, None, cond, get_or, length, set, refl, sym, ap, ◌∙◌, subst, ⊎_elim, ◌⊎◌, inl, inr, arith, eqb, eq-eqb, ne_eqb, length-append, lt-ltb, le-ltb}
-use Rattle.std.specs.BinaryHeap.{IsHeap, IsUpperBound}
+use Rattle.std.specs.BinaryHeap.{IsHeap, IsUpperBound, heap_items}
 use Rattle.std.specs.List.{AllByRecursion, Contains}
 use Rattle.std.specs.Ordering.{is_lt, nat_cmp, ordering_then}
 use Rattle.std.specs.declared.cmp.Ordering.TheVariants.{Less, Equal, Greater}
@@ -17,7 +17,8 @@ use Rattle.apply_events.specs.declared.lanes.moment.Moment.{Moment}
 use Rattle.apply_events.specs.declared.lanes.queue.ReadyTurn.{ReadyTurn}
 use Rattle.apply_events.specs.declared.lanes.queue.Waiting.{Waiting}
 use Rattle.apply_events.specs.Waits.Moment.{IsNoLater, first_moment, later_of, next_round}
-use Rattle.apply_events.specs.Waits.Queue.{IsDue, IsFirstDue, IsRipe, Stands, is_same_wait, late_after, late_if, late_of, named, names_at, none_done, one_if, open_if, open_of, put, ready_cmp, reverse_cmp, standing, times, waiting_at}
+use Rattle.apply_events.specs.declared.lanes.queue.Queue.{Queue}
+use Rattle.apply_events.specs.Waits.Queue.{Follow, HasPlace, IsChain, IsQueue, counts_of, follower_at, last_at, IsDue, IsFirstDue, IsRipe, Stands, is_same_wait, late_after, late_if, late_of, named, names_at, none_done, one_if, open_if, open_of, put, ready_cmp, reverse_cmp, standing, times, waiting_at}
 use Rattle.apply_events.proofs.Waits.Followers.{same_wait}
 use Rattle.apply_events.proofs.Waits.Members.{in_cases, in_head, in_tail, not_in_none}
 use Rattle.apply_events.proofs.Waits.TurnSteps.{all_at}
@@ -107,6 +108,13 @@ module _ (done : Wait → Option Moment) (step : Wait) (at : Moment) (new : done
 
 -- ---- the queue hears of one
 
+some_missing : (names : List (List Wait)) (done : Wait → Option Moment) (left : List ℕ) (later : Moment) (taken : List ℕ) (waiting : List Waiting) (ready : List (Reverse ReadyTurn))
+    (number : ℕ) → Stands names done (number ∷ left) later taken waiting ready → number < length waiting → 0 < (waiting_at waiting number).missing
+some_missing names done left later taken waiting ready number h known =
+    let size = h.size in
+    let is = h.missing number (omega arith) in
+    let itself = ap one_if (eq-eqb number number refl) in omega arith
+
 module _ (names : List (List Wait)) (done : Wait → Option Moment) (left : List ℕ) (later : Moment) (taken : List ℕ) (waiting after : List Waiting) (ready : List (Reverse ReadyTurn))
     (number : ℕ) (h : Stands names done (number ∷ left) later taken waiting ready) (known : number < length waiting)
     (next : after ≡ set waiting number (record { missing = (waiting_at waiting number).missing - 1; at = later_of (waiting_at waiting number).at later })) where
@@ -116,8 +124,8 @@ module _ (names : List (List Wait)) (done : Wait → Option Moment) (left : List
   itself : times number (number ∷ left) ≡ suc (times number left)
   itself = let same = ap one_if (eq-eqb number number refl) in omega arith
 
-  pub is_missing : 0 < (waiting_at waiting number).missing
-  is_missing = let size = h.size in let is = h.missing number (omega arith) in let count = itself in omega arith
+  is_missing : 0 < (waiting_at waiting number).missing
+  is_missing = some_missing names done left later taken waiting ready number h known
 
   here : waiting_at after number ≡ heard
   here = ap (λ l. waiting_at l number) next ∙ get_or-set_same waiting number heard (record { missing = 0; at = first_moment }) known
@@ -168,6 +176,7 @@ module _ (names : List (List Wait)) (done : Wait → Option Moment) (left : List
   pub hears : (waiting_at waiting number).missing - 1 ≢ 0 → Stands names done left later taken after ready
   hears more = record {
     size = sizes ∙ h.size;
+    known = h.known.1;
     missing = missing_heard;
     late = late_heard;
     ripe = still_ripe;
@@ -192,6 +201,7 @@ module _ (names : List (List Wait)) (done : Wait → Option Moment) (left : List
       let size = sizes in
       record {
         size = sizes ∙ h.size;
+        known = h.known.1;
         missing = missing_heard;
         late = late_heard;
         ripe = All-permutation (IsRipe after) (new ∷ ready) more moved
@@ -353,9 +363,94 @@ module _ (names : List (List Wait)) (done : Wait → Option Moment) (taken : Lis
     pub is_taken_out : IsHeap reverse_cmp rest → Stands names done [] first_moment (one.number ∷ taken) waiting rest
     is_taken_out heap = record {
       size = h.size;
+      known = tt;
       missing = h.missing;
       late = h.late;
       ripe = All-tail (IsRipe waiting) (record { 0 = one }) rest (All-permutation (IsRipe waiting) ready (record { 0 = one } ∷ rest) moved h.ripe);
       each = λ number lt. (let each = h.each number lt in let sum = popped number in omega arith);
       heap = heap;
+    }
+
+-- ---- a step is done: the queue hears of it once for each turn that waits for it, as often as the turn names it
+
+pub beyond : {X : Type 0} (xs : List X) (k : ℕ) (d : X) → length xs ≤ k → get_or xs k d ≡ d
+beyond [] k d high = refl
+beyond (x ∷ xs) zero d high = absurd (omega arith)
+beyond (x ∷ xs) (suc k) d high = beyond xs k d (omega arith)
+
+all_known : (names : List (List Wait)) (step : Wait) (turns : List ℕ) → ((k : ℕ) → times k turns ≤ counts_of names step k) → AllByRecursion (λ number. number < length names) turns
+all_known names step [] few = tt
+all_known names step (turn ∷ turns) few = (
+  ⊎_elim
+      (λ (lt : turn < length names). lt)
+      (λ (high : length names ≤ turn).
+      let none : counts_of names step turn ≡ 0 = ap (named step) (beyond names turn [] high) in
+      let itself = ap one_if (eq-eqb turn turn refl) in
+      let some = few turn in absurd (omega arith))
+      (cases_lt turn (length names)),
+  all_known names step turns (λ k. (let less = few k in omega arith)),
+)
+
+pub are_told : (limit : ℕ) (names : List (List Wait)) (done : Wait → Option Moment) (taken : List ℕ) (queue : Queue) (step : Wait) (at later : Moment)
+    → HasPlace step limit → IsQueue limit names done taken queue → done step ≡ None → later ≡ next_round at
+    → (left : List ℕ) × IsChain queue.followers.all.items (last_at queue.followers step) left
+    × Stands names (put done step at) left later taken queue.waiting.items (heap_items queue.ready)
+are_told limit names done taken queue step at later place q new is =
+    let chain = q.follow.chains step place in
+    let h = q.stands in
+    (chain.0, chain.1, record {
+      size = h.size;
+      known = all_known names step chain.0 (λ k. (let same = chain.2 k in omega arith));
+      missing = λ number lt. (
+          let old = h.missing number lt in
+          let less = open_put done step at new (names_at names number) in
+          let count = chain.2 number in omega arith);
+      late = λ number lt.
+          ap (λ n. late_after n later (waiting_at queue.waiting.items number).at) (chain.2 number)
+          ∙ ap (late_after (named step (names_at names number)) later) (h.late number lt)
+          ∙ ap (λ m. late_after (named step (names_at names number)) m (late_of done (names_at names number))) is
+          ∙ sym (late_put done step at new (names_at names number));
+      ripe = h.ripe;
+      each = h.each;
+      heap = h.heap;
+    })
+
+pub all_told : (limit : ℕ) (names : List (List Wait)) (done : Wait → Option Moment) (left : List ℕ) (later : Moment) (taken : List ℕ) (queue : Queue) (place : ℕ) → place ≤ 0
+    → IsChain queue.followers.all.items place left → Follow limit (counts_of names) queue.followers
+    → Stands names done left later taken queue.waiting.items (heap_items queue.ready) → IsQueue limit names done taken queue
+all_told limit names done [] later taken queue place over chain follow h = record {
+  follow = follow;
+  stands = record { size = h.size; known = tt; missing = h.missing; late = h.late; ripe = h.ripe; each = h.each; heap = h.heap };
+}
+all_told limit names done (turn ∷ left) later taken queue place over chain follow h = let some = chain.0 in absurd (omega arith)
+
+-- the first of those of which the queue has not heard
+pub record IsNext (names : List (List Wait)) (done : Wait → Option Moment) (later : Moment) (taken : List ℕ) (queue : Queue) (place : ℕ) : Type 0 where
+  pub turns : List ℕ
+  pub fits : place ≤ length queue.followers.all.items
+  pub falls : (follower_at queue.followers.all.items (place - 1)).before < place
+  pub chain : IsChain queue.followers.all.items (follower_at queue.followers.all.items (place - 1)).before turns
+  pub stands : Stands names done ((follower_at queue.followers.all.items (place - 1)).turn ∷ turns) later taken queue.waiting.items (heap_items queue.ready)
+  pub is_known : (follower_at queue.followers.all.items (place - 1)).turn < length queue.waiting.items
+  pub is_missing : 0 < (waiting_at queue.waiting.items (follower_at queue.followers.all.items (place - 1)).turn).missing
+
+pub next_told : (names : List (List Wait)) (done : Wait → Option Moment) (later : Moment) (taken : List ℕ) (queue : Queue) (place : ℕ) (left : List ℕ) → 0 < place
+    → IsChain queue.followers.all.items place left → Stands names done left later taken queue.waiting.items (heap_items queue.ready) → IsNext names done later taken queue place
+next_told names done later taken queue place [] some chain h = absurd (omega arith)
+next_told names done later taken queue place (turn ∷ turns) some chain h =
+    let f = follower_at queue.followers.all.items (place - 1) in
+    let waiting = queue.waiting.items in
+    let same : f.turn ≡ turn = chain.2 in
+    let size = h.size in
+    let low = h.known.0 in
+    let known : turn < length waiting = omega arith in
+    let mine = subst (λ t. Stands names done (t ∷ turns) later taken waiting (heap_items queue.ready)) (sym same) h in
+    record {
+      turns = turns;
+      fits = chain.1;
+      falls = chain.3;
+      chain = chain.4;
+      stands = mine;
+      is_known = omega arith;
+      is_missing = some_missing names done turns later taken waiting (heap_items queue.ready) f.turn mine (omega arith);
     }

@@ -2,6 +2,7 @@
 -- are, and which turns are ready.
 use Rattle.std.specs.Prelude.{◌≡◌, ◌<◌, ◌≤◌, ℕ, zero, suc, ◌+◌, ◌-◌, ◌*◌, ◌==◌, ◌&&◌, All, Bool, true, false, List, [], ◌∷◌, Option, Some, None, length, slice_index_or, sum_by, if◌then◌else◌}
 use Rattle.std.specs.BinaryHeap.{IsHeap, heap_items}
+use Rattle.std.specs.List.{AllByRecursion}
 use Rattle.std.specs.Ordering.{nat_cmp, ordering_then}
 use Rattle.std.specs.declared.cmp.Ordering.{Ordering}
 use Rattle.std.specs.declared.cmp.Reverse.{Reverse}
@@ -147,6 +148,7 @@ IsRipe waiting one =
 -- done at one moment, of which the queue has not heard, and `later` is the round behind that moment.
 pub record Stands (names : List (List Wait)) (done : Wait → Option Moment) (left : List ℕ) (later : Moment) (taken : List ℕ) (waiting : List Waiting) (ready : List (Reverse ReadyTurn)) : Type 0 where
   pub size : length waiting ≡ length names
+  pub known : AllByRecursion (λ number. number < length names) left
   pub missing : (number : ℕ) → number < length names → (waiting_at waiting number).missing ≡ open_of done (names_at names number) + times number left
   pub late : (number : ℕ) → number < length names → late_after (times number left) later (waiting_at waiting number).at ≡ late_of done (names_at names number)
   pub ripe : All (IsRipe waiting) ready
