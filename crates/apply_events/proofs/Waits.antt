@@ -12,6 +12,7 @@ pub mod Merge
 pub mod Moments
 pub mod Once
 pub mod Order
+pub mod Passing
 pub mod Standing
 pub mod TakenUp
 pub mod TurnEvents

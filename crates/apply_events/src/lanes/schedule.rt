@@ -82,7 +82,7 @@ fn pass_steps(
         let course = StepCourse::of(plan, script, registry, turn.change, step, kinds[step as usize]);
         at = at.later_by(course.seconds);
         if !course.goes_on {
-            break;
+            return Ok(at);
         }
         let passed = Wait {
             change: turn.change,
