@@ -1,6 +1,7 @@
 -- Turns that lanes take up, and their time line.
 pub mod AllTurns
 pub mod Building
+pub mod Due
 pub mod Earliest
 pub mod Ends
 pub mod Followers
@@ -13,7 +14,9 @@ pub mod Moments
 pub mod Once
 pub mod Order
 pub mod Passing
+pub mod Rounds
 pub mod Standing
 pub mod TakenUp
 pub mod TurnEvents
+pub mod TurnNumbers
 pub mod TurnSteps

@@ -95,7 +95,7 @@ module _ (w : Work) (taken : Taken) where
   pub record IsPassing (k : ℕ) (at : Moment) (now done : Wait → Option Moment) : Type 0 where
     pub shows : (name : Wait) → first_found (cond (eqb taken.turn.change name.change) (done_among name.step at (left_at k)) None) (now name)
         ≡ first_found (done_in w taken name) (done name)
-    pub fresh : (step : ℕ) → k ≤ step → now (record { change = taken.turn.change; step = step }) ≡ None
+    pub fresh : (step : ℕ) → k ≤ step → step < taken.turn.first + taken.turn.count → now (record { change = taken.turn.change; step = step }) ≡ None
 
   left_first : left_at taken.turn.first ≡ begun_steps w taken.turn
   left_first =
@@ -105,7 +105,7 @@ module _ (w : Work) (taken : Taken) where
   pub ends_first : end_behind taken.begin (left_at taken.turn.first) ≡ end_of_turn w taken
   ends_first = ap (end_behind taken.begin) left_first
 
-  pub passing_first : (done : Wait → Option Moment) → ((step : ℕ) → taken.turn.first ≤ step → done (record { change = taken.turn.change; step = step }) ≡ None)
+  pub passing_first : (done : Wait → Option Moment) → ((step : ℕ) → taken.turn.first ≤ step → step < taken.turn.first + taken.turn.count → done (record { change = taken.turn.change; step = step }) ≡ None)
       → IsPassing taken.turn.first taken.begin done done
   passing_first done fresh = record {
     shows = λ name. ap (λ steps. first_found (cond (eqb taken.turn.change name.change) (done_among name.step taken.begin steps) None) (done name)) left_first;
@@ -206,11 +206,11 @@ module _ (w : Work) (taken : Taken) where
             ≡ first_found (cond (eqb taken.turn.change n.change) (done_among n.step at (left_at k)) None) (now n)) (same_wait it name same) itself)
             (λ (differ : is_same_wait it name ≡ false). other name differ)
             (cases_Bool (is_same_wait it name)) ∙ h.shows name;
-        fresh = λ step high.
+        fresh = λ step high last.
             (let name : Wait = record { change = taken.turn.change; step = step } in
             let differ : is_same_wait it name ≡ false = ⊎_elim
                 (λ (same : is_same_wait it name ≡ true). let is = ap (λ (n : Wait). n.step) (same_wait it name same) in absurd (omega arith))
                 (λ (off : is_same_wait it name ≡ false). off)
                 (cases_Bool (is_same_wait it name)) in
-            ap (λ t. cond t (Some next) (now name)) differ ∙ h.fresh step (omega arith));
+            ap (λ t. cond t (Some next) (now name)) differ ∙ h.fresh step (omega arith) last);
       }

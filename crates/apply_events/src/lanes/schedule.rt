@@ -38,7 +38,7 @@ pub(crate) fn schedule(
     let mut all = Vec::with_capacity(alloc, turns.len())?;
     while all.len() < turns.len() {
         let Some(ready) = queue.take() else {
-            break;
+            return Ok(all);
         };
         let lane = first_earliest(&free);
         let taken = Taken {
@@ -66,11 +66,12 @@ fn pass_steps(
     requires round { taken.begin.round + 1 < 2 ^ 32 }
     requires known { (names : List (List Wait)) × (done : Wait → Option Moment) × (numbers : List ℕ)
         × IsQueue (2 * length plan.now.changes) names done numbers queue.old
-        × ((step : ℕ) → taken.turn.first ≤ step → done (record { change = taken.turn.change; step = step }) ≡ None) }
+        × ((step : ℕ) → taken.turn.first ≤ step → step < taken.turn.first + taken.turn.count → done (record { change = taken.turn.change; step = step }) ≡ None) }
+    ensures short { IfOk result (λ end. end.second ≤ taken.begin.second + 2 * max_seconds) }
     ensures end { IfOk result (λ end. end ≡ end_of_turn (record { plan = plan.now; script = script.now; hooks = rules_of registry.now }) taken) }
     ensures queue { OnOk result ((names : List (List Wait)) (done : Wait → Option Moment) (numbers : List ℕ)
         → IsQueue (2 * length plan.now.changes) names done numbers queue.old
-        → ((step : ℕ) → taken.turn.first ≤ step → done (record { change = taken.turn.change; step = step }) ≡ None)
+        → ((step : ℕ) → taken.turn.first ≤ step → step < taken.turn.first + taken.turn.count → done (record { change = taken.turn.change; step = step }) ≡ None)
         → IsQueue (2 * length plan.now.changes) names
             (λ name. first_found (done_in (record { plan = plan.now; script = script.now; hooks = rules_of registry.now }) taken name) (done name))
             numbers queue.new) }

@@ -99,7 +99,7 @@ pass-requires-clause-known g c =
     let change = c.requires.change in
     let k = c.requires.known in
     let now = c.loop-step.invariant.queue k.0 k.1 k.2 k.3 k.4 in
-    (2 * length c.args.plan.now.changes, k.0, now.0, k.2, (omega arith, omega arith), now.1, now.2.fresh c.loop-step.step (omega arith))
+    (2 * length c.args.plan.now.changes, k.0, now.0, k.2, (omega arith, omega arith), now.1, now.2.fresh c.loop-step.step (omega arith) to)
 
 pub loop-step-preserved : goal.loop-step-preserved
 loop-step-preserved g c =
@@ -135,7 +135,7 @@ loop-step-preserved g c =
           let it : Wait = record { change = taken.turn.change; step = k } in
           (
             put now.0 it c.later_by-at.result,
-            c.in_ok-pass.ensures (2 * length c.args.plan.now.changes) names now.0 numbers (omega arith, omega arith) now.1 (now.2.fresh k (omega arith)),
+            c.in_ok-pass.ensures (2 * length c.args.plan.now.changes) names now.0 numbers (omega arith, omega arith) now.1 (now.2.fresh k (omega arith) to),
             subst (λ m. IsPassing w taken (k + 1) m (put now.0 it m) done) at (passed_on w taken k s to refl here c.loop-step.at now.0 done on now.2),
           ));
     }

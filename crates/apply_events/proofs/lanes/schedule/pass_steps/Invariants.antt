@@ -1,4 +1,4 @@
-use Rattle.std.proofs.Common.{◌≡◌, ◌+◌, ◌*◌, ◌-◌, ◌≤◌, ℕ, List, None, Option, length}
+use Rattle.std.proofs.Common.{◌≡◌, ◌+◌, ◌*◌, ◌-◌, ◌<◌, ◌≤◌, ℕ, List, None, Option, length}
 use Rattle.apply_hooks.specs.Registry.{rules_of}
 use Rattle.apply_model.specs.declared.script.wait.Wait.{Wait}
 use Rattle.apply_model.specs.Script.Limits.{max_seconds}
@@ -19,6 +19,6 @@ invariant-loop-step g l =
       round : l.at.round ≤ taken.begin.round;
       queue : (names : List (List Wait)) (done : Wait → Option Moment) (numbers : List ℕ)
           → IsQueue (2 * length l.plan.changes) names done numbers l.fn.queue
-          → ((step : ℕ) → taken.turn.first ≤ step → done (record { change = taken.turn.change; step = step }) ≡ None)
+          → ((step : ℕ) → taken.turn.first ≤ step → step < taken.turn.first + taken.turn.count → done (record { change = taken.turn.change; step = step }) ≡ None)
           → (now : Wait → Option Moment) × IsQueue (2 * length l.plan.changes) names now numbers l.queue × IsPassing w taken l.step l.at now done;
     }
