@@ -15,6 +15,7 @@ pub mod Once
 pub mod Order
 pub mod Passing
 pub mod Rounds
+pub mod Scheduling
 pub mod Standing
 pub mod TakenUp
 pub mod TurnEvents

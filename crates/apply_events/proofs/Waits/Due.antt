@@ -95,6 +95,9 @@ module _ (w : Work) (taken : List Taken) where
       ap (earlier_of (next_of w taken turn)) (first_is ts k ready (omega arith) is (λ j less. before_on ready k j (next_of w taken (turn_at ts j)) (h (suc j) (omega arith))))
       ∙ first_behind ready k (next_of w taken turn) (h 0 (omega arith))
 
+some_same : (a b : Ready) → Some a ≡ Some b → a ≡ b
+some_same a b is = cc
+
 -- ---- what the queue gives
 
 module _ (w : Work) (taken : List Taken) (numbers : List ℕ) (h : HaveNumbers (turns w) numbers taken) where
@@ -155,9 +158,6 @@ module _ (w : Work) (taken : List Taken) (numbers : List ℕ) (h : HaveNumbers (
           let at : late_of (done_at w taken) (names_at all_names j) ≡ other.at = ap (λ (r : Ready). r.at) same in
           let order = first.first j due in
           (subst (IsNoLater one.at) at order.0, λ is. order.1 (is ∙ sym at))
-
-      some_same : (a b : Ready) → Some a ≡ Some b → a ≡ b
-      some_same a b is = cc
 
   pub none_first : ((k : ℕ) → IsDue all_names (done_at w taken) numbers k → ⊥) → first_ready w taken (turns w) ≡ None
   none_first never = by_found (first_ready w taken (turns w)) refl
