@@ -14,10 +14,12 @@ pub mod Moments
 pub mod Once
 pub mod Order
 pub mod Passing
+pub mod ReadyFirst
 pub mod Rounds
 pub mod Scheduling
 pub mod Standing
 pub mod TakenUp
+pub mod Told
 pub mod TurnEvents
 pub mod TurnNumbers
 pub mod TurnSteps

@@ -1,5 +1,5 @@
 -- A queue of turns none of which was taken: one turn more.
-use Rattle.std.proofs.Common.{◌≡◌, ◌≢◌, ℕ, zero, suc, ◌+◌, ◌<◌, ◌≤◌, All, List, [], ◌∷◌, ◌++◌, cond, get_or, length, refl, sym, ap, ◌∙◌, subst, ⊎_elim, ◌⊎◌, inl, inr, arith, eqb, eq-eqb, ne_eqb, length-append}
+use Rattle.std.proofs.Common.{◌≡◌, ◌≢◌, ℕ, ◌+◌, ◌<◌, ◌≤◌, All, List, [], ◌∷◌, ◌++◌, cond, length, refl, sym, ap, ◌∙◌, ⊎_elim, ◌⊎◌, inl, inr, arith, eqb, eq-eqb, ne_eqb, length-append}
 use Rattle.std.specs.BinaryHeap.{IsHeap}
 use Rattle.std.specs.List.Sorted.{IsPermutation}
 use Rattle.std.specs.declared.cmp.Reverse.{Reverse}
@@ -13,9 +13,10 @@ use Rattle.apply_events.specs.declared.lanes.queue.ReadyTurn.{ReadyTurn}
 use Rattle.apply_events.specs.declared.lanes.queue.Waiting.{Waiting}
 use Rattle.apply_events.specs.declared.lanes.queue.followers.Followers.{Followers}
 use Rattle.apply_events.specs.Waits.Moment.{first_moment}
-use Rattle.apply_events.specs.Waits.Queue.{Follow, IsRipe, Stands, also, counts_of, late_of, named, names_at, none_done, one_if, open_of, reverse_cmp, standing, times, waiting_at}
+use Rattle.apply_events.specs.Waits.Queue.{Follow, IsRipe, Stands, also, counts_of, late_of, named, names_at, none_done, one_if, open_of, reverse_cmp, standing, waiting_at}
 use Rattle.apply_events.proofs.Waits.Followers.{same_counts}
-use Rattle.apply_events.proofs.Waits.Standing.{beyond, none_stand}
+use Rattle.apply_events.proofs.Waits.ReadyFirst.{none_stand}
+use Rattle.apply_events.proofs.Waits.Standing.{beyond}
 
 open_at_first : (names : List Wait) → open_of none_done names ≡ length names
 open_at_first [] = refl
@@ -49,11 +50,11 @@ module _ (names : List (List Wait)) (turn : List Wait) where
       (λ (ne : k ≢ length names).
       let off = ap (λ t. cond t (named name turn) 0) (ne_eqb k (length names) ne) in
       let same : counts_of (names ++ turn ∷ []) name k ≡ counts_of names name k = ⊎_elim
-          (λ (lt : k < length names). ap (named name) (old_names k lt))
-          (λ (high : length names ≤ k).
-          let size = length-append names (turn ∷ []) in
-          ap (named name) (beyond (names ++ turn ∷ []) k [] (omega arith) ∙ sym (beyond names k [] high)))
-          (cases_lt k (length names)) in omega arith)
+      (λ (lt : k < length names). ap (named name) (old_names k lt))
+      (λ (high : length names ≤ k).
+      let size = length-append names (turn ∷ []) in
+      ap (named name) (beyond (names ++ turn ∷ []) k [] (omega arith) ∙ sym (beyond names k [] high)))
+      (cases_lt k (length names)) in omega arith)
       (cases_eq k (length names))
 
   pub follow_turn : (limit number : ℕ) (f : Followers) → number ≡ length names → Follow limit (also (counts_of names) number turn) f → Follow limit (counts_of (names ++ turn ∷ [])) f
@@ -87,7 +88,7 @@ module _ (names : List (List Wait)) (turn : List Wait) where
         (λ (is : k ≡ length names).
         let mine : (waiting_at after k).missing ≡ missing = ap (λ j. (waiting_at after j).missing) is ∙ ap (λ (x : Waiting). x.missing) new_at in
         let its : open_of none_done (names_at (names ++ turn ∷ []) k) ≡ length turn =
-            ap (λ j. open_of none_done (names_at (names ++ turn ∷ []) j)) is ∙ ap (open_of none_done) new_names ∙ open_at_first turn in omega arith)
+        ap (λ j. open_of none_done (names_at (names ++ turn ∷ []) j)) is ∙ ap (open_of none_done) new_names ∙ open_at_first turn in omega arith)
         (last_cases names turn k lt)
 
     late_more : (k : ℕ) → k < length (names ++ turn ∷ []) → (waiting_at after k).at ≡ late_of none_done (names_at (names ++ turn ∷ []) k)
@@ -120,7 +121,7 @@ module _ (names : List (List Wait)) (turn : List Wait) where
           (λ (is : k ≡ length names).
           let none = ap (λ j. standing j ready) is in
           let off : one_if (eqb (waiting_at after k).missing 0) ≡ 0 = ap (λ j. one_if (eqb (waiting_at after j).missing 0)) is ∙ ap (λ (x : Waiting). one_if (eqb x.missing 0)) new_at
-              ∙ ap one_if (ne_eqb missing 0 some) in
+          ∙ ap one_if (ne_eqb missing 0 some) in
           let empty = none_yet in omega arith)
           (last_cases names turn k lt);
       heap = h.heap;
@@ -152,7 +153,7 @@ module _ (names : List (List Wait)) (turn : List Wait) where
               let same = ap (λ j. standing j ready) is in
               let empty = none_yet in
               let ripe : one_if (eqb (waiting_at after k).missing 0) ≡ 1 = ap (λ j. one_if (eqb (waiting_at after j).missing 0)) is ∙ ap (λ (x : Waiting). one_if (eqb x.missing 0)) new_at
-                  ∙ ap one_if (eq-eqb missing 0 none) in omega arith)
+              ∙ ap one_if (eq-eqb missing 0 none) in omega arith)
               (last_cases names turn k lt));
           heap = heap;
         }

@@ -1,7 +1,7 @@
 -- The turn that the queue gives is the one that is ready first.
-use Rattle.std.proofs.Common.{◌≡◌, ◌≢◌, ℕ, zero, suc, ◌+◌, ◌<◌, ◌≤◌, Bool, true, false, List, [], ◌∷◌, Option, Some, None, cond, get_or, length, map, refl, sym, ap, ◌∙◌, subst, ⊎_elim, ◌⊎◌, inl, inr, arith}
+use Rattle.std.proofs.Common.{◌≡◌, ◌≢◌, ℕ, zero, suc, ◌+◌, ◌<◌, ◌≤◌, true, false, List, [], ◌∷◌, Option, Some, None, cond, length, map, refl, sym, ap, ◌∙◌, subst, ⊎_elim, ◌⊎◌, arith}
 use Rattle.std.specs.Prelude.{option_map}
-use Rattle.std.proofs.lemmas.Bool.{cases_Bool, cases_eq, cases_lt, true≢false}
+use Rattle.std.proofs.lemmas.Bool.{cases_Bool, cases_lt, true≢false}
 use Rattle.std.proofs.lemmas.List.{get_or-map, length-map}
 use Rattle.apply_model.specs.declared.script.wait.Wait.{Wait}
 use Rattle.apply_events.specs.Step.{Work}
@@ -13,8 +13,7 @@ use Rattle.apply_events.specs.Waits.Done.{done_at, done_by, later_if_both, ready
 use Rattle.apply_events.specs.Waits.Moment.{IsNoLater, is_earlier, next_round}
 use Rattle.apply_events.specs.Waits.Queue.{IsDue, IsFirstDue, late_if, late_of, names_at, open_if, open_of, times, turn_waits}
 use Rattle.apply_events.specs.Waits.Schedule.{Ready, earlier_of, first_ready, is_taken, next_of, ready_turn, scheduled, schedule, with_next}
-use Rattle.apply_events.specs.Waits.Turn.{turns, waits_of_turn}
-use Rattle.apply_events.proofs.Waits.Members.{in_cases}
+use Rattle.apply_events.specs.Waits.Turn.{turns}
 use Rattle.apply_events.proofs.Waits.Merge.{not_before_itself}
 use Rattle.apply_events.proofs.Waits.Moments.{no_later_both, tells}
 use Rattle.apply_events.proofs.Waits.Standing.{any_default}
@@ -117,7 +116,7 @@ module _ (w : Work) (taken : List Taken) (numbers : List ℕ) (h : HaveNumbers (
       let lt : k < length (turns w) = omega arith in
       let turn = turn_at (turns w) k in
       let ready : ready_at w taken turn ≡ Some (late_of (done_at w taken) (names_at all_names k)) =
-          ap (done_by w taken) (sym (names_of k lt)) ∙ all_done w taken (names_at all_names k) due.1 in
+      ap (done_by w taken) (sym (names_of k lt)) ∙ all_done w taken (names_at all_names k) due.1 in
       is_next w taken turn (late_of (done_at w taken) (names_at all_names k)) (not_taken w numbers taken k h lt due.2) ready
 
   next_due : (k : ℕ) → k < length (turns w) → (other : Ready) → next_of w taken (turn_at (turns w) k) ≡ Some other → IsDue all_names (done_at w taken) numbers k
@@ -125,13 +124,13 @@ module _ (w : Work) (taken : List Taken) (numbers : List ℕ) (h : HaveNumbers (
       let size = count in
       let turn = turn_at (turns w) k in
       let new : is_taken taken turn ≡ false = ⊎_elim
-          (λ (yes : is_taken taken turn ≡ true). (let none : None ≡ Some other = sym (ap (λ t. cond t None (option_map (ready_turn turn) (ready_at w taken turn))) yes) ∙ is in absurd cc))
-          (λ (new : is_taken taken turn ≡ false). new)
-          (cases_Bool (is_taken taken turn)) in
+      (λ (yes : is_taken taken turn ≡ true). (let none : None ≡ Some other = sym (ap (λ t. cond t None (option_map (ready_turn turn) (ready_at w taken turn))) yes) ∙ is in absurd cc))
+      (λ (new : is_taken taken turn ≡ false). new)
+      (cases_Bool (is_taken taken turn)) in
       let never : times k numbers ≡ 0 = ⊎_elim
-          (λ (some : 0 < times k numbers). absurd (true≢false (sym (was_taken w numbers taken k h some) ∙ new)))
-          (λ (none : times k numbers ≤ 0). omega arith)
-          (cases_lt 0 (times k numbers)) in
+      (λ (some : 0 < times k numbers). absurd (true≢false (sym (was_taken w numbers taken k h some) ∙ new)))
+      (λ (none : times k numbers ≤ 0). omega arith)
+      (cases_lt 0 (times k numbers)) in
       let ready = sym (ap (λ t. cond t None (option_map (ready_turn turn) (ready_at w taken turn))) new) ∙ is in
       let done = by_found turn (ready_at w taken turn) other ready in
       let closed : open_of (done_at w taken) (names_at all_names k) ≡ 0 = ap (open_of (done_at w taken)) (names_of k lt) ∙ when_done w taken (turn_waits w.script turn) done.0 done.1 in

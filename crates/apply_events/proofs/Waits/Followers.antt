@@ -1,14 +1,12 @@
 -- The turns that wait for each step: each further one leads to those before it.
-use Rattle.std.proofs.Common.{◌≡◌, ◌≢◌, ℕ, zero, suc, ◌+◌, ◌-◌, ◌*◌, ◌<◌, ◌≤◌, Bool, true, false, ◌&&◌, List, [], ◌∷◌, ◌++◌, Option, Some, None, cond, get_or, length, set, take, refl, sym, ap, ◌∙◌, subst, ⊎_elim, arith, eqb, eq-eqb, ne_eqb, length-append}
-use Rattle.std.specs.Prelude.{option_copied, slice_get, unwrap_or}
+use Rattle.std.proofs.Common.{◌≡◌, ◌≢◌, ℕ, zero, suc, ◌+◌, ◌-◌, ◌<◌, ◌≤◌, Bool, true, false, ◌&&◌, List, [], ◌∷◌, ◌++◌, Some, cond, get_or, length, set, take, refl, sym, ap, ◌∙◌, subst, ⊎_elim, arith, eqb, eq-eqb, ne_eqb, length-append}
+use Rattle.std.specs.Prelude.{slice_get}
 use Rattle.std.proofs.lemmas.Bool.{and_parts, cases_Bool, cases_eq, true≢false}
 use Rattle.std.proofs.lemmas.Bool.Decides.{eqb_tells}
 use Rattle.std.proofs.lemmas.List.{get_or-set_other, get_or-set_same, get_or_append_left, length-set}
 use Rattle.std.proofs.Math.Seq.{get_or-append_seam}
-use Rattle.apply_model.specs.declared.script.outcome.Outcome.{Outcome}
 use Rattle.apply_model.specs.declared.script.wait.Wait.{Wait}
-use Rattle.apply_model.specs.Script.Outcome.{default_outcome}
-use Rattle.apply_model.specs.Script.OutcomeMap.{OutcomeMap, given_outcome, outcome_of}
+use Rattle.apply_model.specs.Script.OutcomeMap.{OutcomeMap, outcome_of}
 use Rattle.apply_model.specs.Script.Waits.{waits_of}
 use Rattle.apply_events.specs.declared.lanes.queue.followers.Follower.{Follower}
 use Rattle.apply_events.specs.declared.lanes.queue.followers.Followers.{Followers}
@@ -50,8 +48,7 @@ chain_on all more place [] h = h
 chain_on all more place (turn ∷ turns) h =
     let some = h.0 in let fits = h.1 in
     let size = length-append all more in
-    let same : follower_at (all ++ more) (place - 1) ≡ follower_at all (place - 1) = get_or_append_left all more (record { turn = 0; before = 0 }) (place - 1) (omega arith) in
-    (
+    let same : follower_at (all ++ more) (place - 1) ≡ follower_at all (place - 1) = get_or_append_left all more (record { turn = 0; before = 0 }) (place - 1) (omega arith) in (
       some,
       omega arith,
       ap (λ (f : Follower). f.turn) same ∙ h.2,
@@ -100,9 +97,9 @@ follow_other limit count turn step f none h = record {
   chains = λ name place. (
       let old = h.chains name place in
       let differ : is_same_wait step name ≡ false = ⊎_elim
-          (λ (same : is_same_wait step name ≡ true). absurd (none (subst (λ n. HasPlace n limit) (sym (same_wait step name same)) place)))
-          (λ (differ : is_same_wait step name ≡ false). differ)
-          (cases_Bool (is_same_wait step name)) in
+      (λ (same : is_same_wait step name ≡ true). absurd (none (subst (λ n. HasPlace n limit) (sym (same_wait step name same)) place)))
+      (λ (differ : is_same_wait step name ≡ false). differ)
+      (cases_Bool (is_same_wait step name)) in
       (old.0, old.1, λ number. old.2 number ∙ sym (also_other count turn step name number differ)));
 }
 
@@ -140,8 +137,7 @@ module _ (limit : ℕ) (count : Wait → ℕ → ℕ) (turn : ℕ) (step : Wait)
         ap (λ (y : Follower). y.turn) here,
         subst (λ (y : Follower). y.before < length F + 1) (sym here) (omega arith),
         subst (λ (y : Follower). IsChain (F ++ x ∷ []) y.before old.0) (sym here) (chain_on F (x ∷ []) (last_at f step) old.0 old.1),
-      ) in
-      (
+      ) in (
         turn ∷ old.0,
         subst (λ p. IsChain g.all.items p (turn ∷ old.0)) (sym at) (subst (λ l. IsChain l (length F + 1) (turn ∷ old.0)) (sym all) chain),
         λ number. counted number (times number old.0) (count step number) (old.2 number),
@@ -153,8 +149,7 @@ module _ (limit : ℕ) (count : Wait → ℕ → ℕ) (turn : ℕ) (step : Wait)
       let x : Follower = record { turn = turn; before = last_at f step } in
       let old = h.chains name there in
       let at : last_at g name ≡ last_at f name = ap (λ l. get_or l (place_of name) 0) last
-          ∙ get_or-set_other f.last.items (place_of step) (place_of name) (length F + 1) 0 (other_place step name place.0 there.0 differ) in
-      (
+      ∙ get_or-set_other f.last.items (place_of step) (place_of name) (length F + 1) 0 (other_place step name place.0 there.0 differ) in (
         old.0,
         subst (λ p. IsChain g.all.items p old.0) (sym at) (subst (λ l. IsChain l (last_at f name) old.0) (sym all) (chain_on F (x ∷ []) (last_at f name) old.0 old.1)),
         λ number. old.2 number ∙ sym (also_other count turn step name number differ),

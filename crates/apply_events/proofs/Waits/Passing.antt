@@ -1,5 +1,5 @@
 -- The steps of a turn are done one after another, up to the first that does not go on.
-use Rattle.std.proofs.Common.{◌≡◌, ◌≢◌, ℕ, zero, suc, ◌+◌, ◌-◌, ◌<◌, ◌≤◌, Bool, true, false, List, [], ◌∷◌, Option, Some, None, cond, drop, get_or, length, not, take, refl, sym, ap, ◌∙◌, subst, ⊎_elim, ◌⊎◌, inl, inr, arith, eqb, eq-eqb, ne_eqb}
+use Rattle.std.proofs.Common.{◌≡◌, ◌≢◌, ℕ, zero, suc, ◌+◌, ◌-◌, ◌<◌, ◌≤◌, Bool, true, false, List, [], ◌∷◌, Option, Some, None, cond, drop, get_or, length, not, take, refl, sym, ap, ◌∙◌, subst, ⊎_elim, ◌⊎◌, arith, eqb, eq-eqb, ne_eqb}
 use Rattle.std.specs.Prelude.{slice_get}
 use Rattle.std.proofs.lemmas.Bool.{cases_Bool, cases_eq, true≢false}
 use Rattle.apply_model.specs.Plan.ResourceChange.{ResourceChange}
@@ -14,7 +14,7 @@ use Rattle.apply_events.specs.declared.lanes.queue.Queue.{Queue}
 use Rattle.apply_events.specs.declared.lanes.taken.Taken.{Taken}
 use Rattle.apply_events.specs.Waits.Done.{done_among, done_in, end_behind, end_of_turn, first_found}
 use Rattle.apply_events.specs.Waits.Moment.{later_by}
-use Rattle.apply_events.specs.Waits.Queue.{IsQueue, is_same_wait, late_if, late_of, names_at, open_if, open_of, put, waiting_at}
+use Rattle.apply_events.specs.Waits.Queue.{IsQueue, is_same_wait, late_if, late_of, names_at, open_if, open_of, put}
 use Rattle.apply_events.specs.Waits.Turn.{begun_steps}
 use Rattle.apply_events.proofs.PlannedSteps.{at_hand, kinds_here}
 use Rattle.apply_events.proofs.StepNumbers.{AreNumbered, AreNumbered-begun, AreNumbered-drop, steps_of-numbered}
@@ -153,9 +153,9 @@ module _ (w : Work) (taken : Taken) where
     passed_last at now done off h name =
         let next = later_by (step_time s) at in
         let none : done_among name.step at (s ∷ []) ≡ None = ⊎_elim
-            (λ (is : s.number ≡ name.step). done_first name.step at s [] is ∙ ap (λ t. cond t (Some next) None) off)
-            (λ (ne : s.number ≢ name.step). done_later name.step at s [] ne)
-            (cases_eq s.number name.step) in
+        (λ (is : s.number ≡ name.step). done_first name.step at s [] is ∙ ap (λ t. cond t (Some next) None) off)
+        (λ (ne : s.number ≢ name.step). done_later name.step at s [] ne)
+        (cases_eq s.number name.step) in
         sym (none_more (eqb taken.turn.change name.change) (done_among name.step at (left_at k)) (now name) (ap (done_among name.step at) (last_left off) ∙ none)) ∙ h.shows name
 
     numbered_on : AreNumbered (k + 1) (left_at (k + 1))
@@ -209,8 +209,8 @@ module _ (w : Work) (taken : Taken) where
         fresh = λ step high last.
             (let name : Wait = record { change = taken.turn.change; step = step } in
             let differ : is_same_wait it name ≡ false = ⊎_elim
-                (λ (same : is_same_wait it name ≡ true). let is = ap (λ (n : Wait). n.step) (same_wait it name same) in absurd (omega arith))
-                (λ (off : is_same_wait it name ≡ false). off)
-                (cases_Bool (is_same_wait it name)) in
+            (λ (same : is_same_wait it name ≡ true). let is = ap (λ (n : Wait). n.step) (same_wait it name same) in absurd (omega arith))
+            (λ (off : is_same_wait it name ≡ false). off)
+            (cases_Bool (is_same_wait it name)) in
             ap (λ t. cond t (Some next) (now name)) differ ∙ h.fresh step (omega arith) last);
       }

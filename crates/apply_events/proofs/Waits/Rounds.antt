@@ -1,5 +1,5 @@
 -- The rounds of moments: no higher than turns were taken up before.
-use Rattle.std.proofs.Common.{◌≡◌, ℕ, zero, suc, ◌+◌, ◌<◌, ◌≤◌, true, false, List, [], ◌∷◌, Option, Some, None, cond, get_or, length, replicate, set, refl, sym, ap, ◌∙◌, ⊎_elim, ◌⊎◌, inl, inr, arith}
+use Rattle.std.proofs.Common.{◌≡◌, ℕ, zero, suc, ◌<◌, ◌≤◌, true, false, List, [], ◌∷◌, Option, Some, None, cond, get_or, length, replicate, set, refl, sym, ap, ◌∙◌, ⊎_elim, ◌⊎◌, inl, inr, arith}
 use Rattle.std.specs.Prelude.{option_map}
 use Rattle.std.proofs.lemmas.Bool.{cases_eq}
 use Rattle.std.proofs.lemmas.List.{get_or-set_other, get_or-set_same}
@@ -14,7 +14,7 @@ use Rattle.apply_events.specs.Waits.Schedule.{Ready, first_earliest, first_ready
 use Rattle.apply_events.specs.Waits.Turn.{begun_steps, turns, waits_of_turn}
 use Rattle.apply_events.proofs.Waits.Free.{first_earliest_lt, length-free}
 use Rattle.apply_events.proofs.Waits.Passing.{later_by_round}
-use Rattle.apply_events.proofs.Waits.TakenUp.{EachBehind, each_scheduled, is_fit}
+use Rattle.apply_events.proofs.Waits.TakenUp.{is_fit}
 use Rattle.apply_events.proofs.Waits.TurnEvents.{done_first, done_if, done_later, done_there}
 
 end_round : (at : Moment) (steps : List Step) → (end_behind at steps).round ≤ at.round

@@ -1,11 +1,11 @@
 -- One turn after another is taken up: what is known before each.
-use Rattle.std.proofs.Common.{◌≡◌, ℕ, zero, suc, ◌+◌, ◌*◌, ◌-◌, ◌<◌, ◌≤◌, ◌^◌, List, [], ◌∷◌, ◌++◌, Option, Some, None, get_or, length, map, replicate, reverse, set, sum_by, refl, sym, ap, ◌∙◌, subst, arith, length-append}
+use Rattle.std.proofs.Common.{◌≡◌, ℕ, suc, ◌+◌, ◌*◌, ◌-◌, ◌<◌, ◌≤◌, ◌^◌, List, [], ◌∷◌, ◌++◌, Some, None, get_or, length, map, replicate, reverse, set, refl, sym, ap, ◌∙◌, subst, arith, length-append}
 use Rattle.std.proofs.lemmas.List.{length-map, length-reverse, reverse-append}
 use Rattle.std.proofs.lemmas.List.Sums.{sum_by-cons}
 use Rattle.apply_model.specs.declared.script.wait.Wait.{Wait}
 use Rattle.apply_model.specs.Plan.SavedPlan.{max_changes}
 use Rattle.apply_model.specs.Script.Limits.{max_seconds}
-use Rattle.apply_events.specs.Step.{Work, kinds_of}
+use Rattle.apply_events.specs.Step.{Work}
 use Rattle.apply_events.specs.declared.lanes.moment.Moment.{Moment}
 use Rattle.apply_events.specs.declared.lanes.queue.Queue.{Queue}
 use Rattle.apply_events.specs.declared.lanes.queue.ReadyTurn.{ReadyTurn}
@@ -14,7 +14,7 @@ use Rattle.apply_events.specs.declared.lanes.turn.Turn.{Turn}
 use Rattle.apply_events.specs.Waits.Done.{done_at, done_in, end_of_turn, first_found}
 use Rattle.apply_events.specs.Waits.Moment.{first_moment, later_of}
 use Rattle.apply_events.specs.Waits.Queue.{IsFirstDue, IsDue, IsQueue, turn_waits}
-use Rattle.apply_events.specs.Waits.Schedule.{Ready, first_earliest, first_ready, free_behind, ready_turn, schedule, scheduled, taken_in, with_next}
+use Rattle.apply_events.specs.Waits.Schedule.{first_earliest, first_ready, free_behind, ready_turn, schedule, scheduled, taken_in, with_next}
 use Rattle.apply_events.specs.Waits.Turn.{turns}
 use Rattle.apply_events.proofs.Waits.Due.{first_due, is_over, none_first}
 use Rattle.apply_events.proofs.Waits.Ends.{each_begins, time_of, total, turn_end}
@@ -22,7 +22,7 @@ use Rattle.apply_events.proofs.Waits.Free.{first_earliest_lt, length-free}
 use Rattle.apply_events.proofs.Waits.Rounds.{rounds}
 use Rattle.apply_events.proofs.Waits.Standing.{any_default}
 use Rattle.apply_events.proofs.Waits.TakenUp.{EachBehind}
-use Rattle.apply_events.proofs.Waits.TurnNumbers.{HaveNumbers, few_turns, not_done, not_taken, turn_at, turn_fits}
+use Rattle.apply_events.proofs.Waits.TurnNumbers.{HaveNumbers, few_turns, not_done, not_taken, turn_at}
 
 abbrev names_of : Work → List (List Wait)
 names_of w = map (turn_waits w.script) (turns w)
@@ -91,7 +91,7 @@ module _ (w : Work) (n : ℕ) (some : 0 < n) (queue : Queue) (free : List Moment
   is_one its lane m begin same at read is =
       let fits = lane_fits.0 in
       let there : get_or free lane m ≡ get_or (free_behind w n (reverse all)) (first_earliest (free_behind w n (reverse all))) first_moment =
-          any_default free lane m first_moment (omega arith) ∙ ap (λ k. get_or free k first_moment) at ∙ ap (λ l. get_or l (first_earliest l) first_moment) h.lanes in
+      any_default free lane m first_moment (omega arith) ∙ ap (λ k. get_or free k first_moment) at ∙ ap (λ l. get_or l (first_earliest l) first_moment) h.lanes in
       ap (λ x. let t : Taken = record { turn = x; lane = lane; begin = begin } in t) same
       ∙ ap (λ k. let t : Taken = record { turn = turn; lane = k; begin = begin } in t) (at ∙ ap first_earliest h.lanes)
       ∙ ap (λ b. let t : Taken = record { turn = turn; lane = first_earliest (free_behind w n (reverse all)); begin = b } in t) (is ∙ ap (later_of ready.at) (read ∙ there))
@@ -105,7 +105,7 @@ module _ (w : Work) (n : ℕ) (some : 0 < n) (queue : Queue) (free : List Moment
   pub round_fits : one.begin.round + 1 < 2 ^ 32
   round_fits =
       let low = subst (λ l. (taken_in (free_behind w n l) (ready_turn turn ready.at)).begin.round ≤ length l) (sym h.are)
-          (rounds w n some (length all) (ready_turn turn ready.at) (subst (λ l. first_ready w l (turns w) ≡ Some (ready_turn turn ready.at)) h.are found)) in
+      (rounds w n some (length all) (ready_turn turn ready.at) (subst (λ l. first_ready w l (turns w) ≡ Some (ready_turn turn ready.at)) h.are found)) in
       let size = length-reverse all in let few = h.few in let turns = few_turns w in omega arith
 
   pub step_is_new : (step : ℕ) → one.turn.first ≤ step → step < one.turn.first + one.turn.count → done_at w (reverse all) (record { change = one.turn.change; step = step }) ≡ None

@@ -1,5 +1,5 @@
 -- The turns of a work by their numbers, and those that were taken.
-use Rattle.std.proofs.Common.{◌≡◌, ◌≢◌, ℕ, zero, suc, ◌+◌, ◌*◌, ◌<◌, ◌≤◌, Bool, true, false, ◌&&◌, ◌||◌, List, [], ◌∷◌, ◌++◌, Option, Some, None, cond, get_or, length, refl, sym, ap, ◌∙◌, subst, ⊎_elim, ◌⊎◌, inl, inr, arith, eqb, eq-eqb, ne_eqb, length-append}
+use Rattle.std.proofs.Common.{◌≡◌, ◌≢◌, ℕ, zero, suc, ◌+◌, ◌*◌, ◌<◌, ◌≤◌, Bool, true, false, ◌||◌, List, [], ◌∷◌, ◌++◌, Option, Some, None, cond, get_or, length, refl, sym, ap, ◌∙◌, subst, ⊎_elim, ◌⊎◌, arith, eqb, eq-eqb, ne_eqb, length-append}
 use Rattle.std.specs.List.{Contains, flat_map, range_with_len}
 use Rattle.std.proofs.lemmas.Bool.{and_parts, cases_Bool, cases_eq, cases_lt, true≢false}
 use Rattle.apply_model.specs.declared.script.wait.Wait.{Wait}
@@ -12,7 +12,7 @@ use Rattle.apply_events.specs.declared.lanes.turn.Turn.{Turn}
 use Rattle.apply_events.specs.Waits.Done.{done_at, done_in, first_found}
 use Rattle.apply_events.specs.Waits.Queue.{one_if, times}
 use Rattle.apply_events.specs.Waits.Schedule.{is_same_turn, is_taken}
-use Rattle.apply_events.specs.Waits.Turn.{begun_steps, single, turns, turns_of, whole}
+use Rattle.apply_events.specs.Waits.Turn.{single, turns, turns_of, whole}
 use Rattle.apply_events.proofs.Waits.Followers.{from_test}
 use Rattle.apply_events.proofs.Waits.Once.{IsTurnOf, is_split, same_turn, turn_is}
 use Rattle.apply_events.proofs.Waits.Standing.{any_default}
@@ -158,14 +158,14 @@ module _ (w : Work) where
       let name : Wait = record { change = turn.change; step = step } in
       let both = or_off (is_same_turn one.turn turn) (is_taken taken turn) new in
       let here : done_in w one name ≡ None = by_found one name (done_in w one name) refl (λ m is. (
-          let there = done_there w one name m is in
-          let within = begun_within w one.turn there.step.0 there.step.1 in
-          let at = there.step.2 in let from = within.0 in let to = within.1 in
-          let its = turn_is w (turn_at (turns w) number) (turn_in (turns w) number h.0) in
-          let mine = subst (λ t. IsTurnOf w t.change t) (sym h.1) its in
-          let same : one.turn ≡ turn = same_turn w turn.change step one.turn turn (subst (λ c. IsTurnOf w c one.turn) there.change mine) (turn_is w turn (turn_in (turns w) k lt))
-              (omega arith) (omega arith) low high in
-          true≢false (sym (ap (λ t. is_same_turn t turn) same ∙ same_itself turn) ∙ both.0))) in
+      let there = done_there w one name m is in
+      let within = begun_within w one.turn there.step.0 there.step.1 in
+      let at = there.step.2 in let from = within.0 in let to = within.1 in
+      let its = turn_is w (turn_at (turns w) number) (turn_in (turns w) number h.0) in
+      let mine = subst (λ t. IsTurnOf w t.change t) (sym h.1) its in
+      let same : one.turn ≡ turn = same_turn w turn.change step one.turn turn (subst (λ c. IsTurnOf w c one.turn) there.change mine) (turn_is w turn (turn_in (turns w) k lt))
+      (omega arith) (omega arith) low high in
+      true≢false (sym (ap (λ t. is_same_turn t turn) same ∙ same_itself turn) ∙ both.0))) in
       ap (λ f. first_found f (done_at w taken name)) here ∙ not_done numbers taken k step h.2 lt both.1 low high
     where
       by_found : (one : Taken) (name : Wait) (found : Option Moment) → done_in w one name ≡ found → ((m : Moment) → done_in w one name ≡ Some m → ⊥) → done_in w one name ≡ None

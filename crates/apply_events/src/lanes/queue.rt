@@ -1,6 +1,6 @@
 //! Turns that wait, and those that are ready.
 
-ghost use Rattle.std.specs.Prelude.{◌≡◌, ◌+◌, ◌*◌, ◌<◌, ◌≤◌, ◌^◌, ◌++◌, [], ◌∷◌, ℕ, IfNone, IfOk, IfSome, List, None, OnOk, Option, length, map};
+ghost use Rattle.std.specs.Prelude.{◌≡◌, ◌+◌, ◌*◌, ◌<◌, ◌^◌, ◌++◌, [], ◌∷◌, ℕ, IfNone, IfOk, IfSome, List, None, OnOk, Option, length, map};
 ghost use Rattle.std.specs.BinaryHeap.{heap_items};
 ghost use Rattle.apply_events.specs.Waits.Queue.{HasPlace, IsDue, IsFirstDue, IsQueue, Stands, none_done, put, turn_waits, waiting_at};
 

@@ -1,12 +1,11 @@
 //! Which turn is taken up when, and in which lane.
 
-ghost use Rattle.std.specs.Prelude.{◌≡◌, ◌+◌, ◌*◌, ◌<◌, ◌≤◌, ◌^◌, ℕ, IfOk, List, None, OnOk, Option, length, replicate, reverse};
+ghost use Rattle.std.specs.Prelude.{◌≡◌, ◌+◌, ◌*◌, ◌<◌, ◌≤◌, ◌^◌, ℕ, IfOk, List, None, OnOk, Option, length, reverse};
 ghost use Rattle.apply_hooks.specs.Registry.{rules_of};
 ghost use Rattle.apply_model.specs.Script.Limits.{max_seconds};
 ghost use Rattle.apply_events.specs.Step.{kinds_of};
 ghost use Rattle.apply_events.specs.Waits.Done.{done_in, end_of_turn, first_found};
-ghost use Rattle.apply_events.specs.Waits.Moment.{first_moment};
-ghost use Rattle.apply_events.specs.Waits.Queue.{HasPlace, IsQueue};
+ghost use Rattle.apply_events.specs.Waits.Queue.{IsQueue};
 ghost use Rattle.apply_events.specs.Waits.Schedule.{schedule};
 ghost use Rattle.apply_model.specs.declared.script.wait.Wait.{Wait};
 ghost use Rattle.apply_events.specs.declared.lanes.moment.Moment.{Moment};
@@ -73,14 +72,21 @@ fn pass_steps(
         → IsQueue (2 * length plan.now.changes) names done numbers queue.old
         → ((step : ℕ) → taken.turn.first ≤ step → step < taken.turn.first + taken.turn.count → done (record { change = taken.turn.change; step = step }) ≡ None)
         → IsQueue (2 * length plan.now.changes) names
-            (λ name. first_found (done_in (record { plan = plan.now; script = script.now; hooks = rules_of registry.now }) taken name) (done name))
-            numbers queue.new) }
+        (λ name. first_found (done_in (record { plan = plan.now; script = script.now; hooks = rules_of registry.now }) taken name) (done name))
+        numbers queue.new) }
 {
     let turn = taken.turn;
     let kinds = plan.change(turn.change).steps();
     let mut at = taken.begin;
     for step in turn.first..turn.first + turn.count {
-        let course = StepCourse::of(plan, script, registry, turn.change, step, kinds[step as usize]);
+        let course = StepCourse::of(
+            plan,
+            script,
+            registry,
+            turn.change,
+            step,
+            kinds[step as usize],
+        );
         at = at.later_by(course.seconds);
         if !course.goes_on {
             return Ok(at);

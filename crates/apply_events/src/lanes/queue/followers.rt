@@ -1,6 +1,6 @@
 //! The turns that wait for each step.
 
-ghost use Rattle.std.specs.Prelude.{◌≡◌, ◌+◌, ◌-◌, ◌*◌, ◌<◌, ◌≤◌, ◌^◌, [], ◌∷◌, ℕ, IfNone, IfOk, IfSome, OnOk, length};
+ghost use Rattle.std.specs.Prelude.{◌≡◌, ◌+◌, ◌-◌, ◌*◌, ◌<◌, ◌≤◌, [], ◌∷◌, ℕ, IfNone, IfOk, IfSome, OnOk, length};
 ghost use Rattle.apply_events.specs.Waits.Queue.{Follow, HasPlace, also, follower_at, last_at, place_of, step_before, turn_waits};
 
 use crate::lanes::turn::Turn;

@@ -1,13 +1,13 @@
-use Rattle.std.proofs.Common.{◌≡◌, ◌+◌, ◌-◌, ◌*◌, ◌<◌, ◌≤◌, true, false, get_or, length, refl, sym, ap, ◌∙◌, subst, arith}
+use Rattle.std.proofs.Common.{◌≡◌, ◌+◌, ◌*◌, true, false, get_or, length, refl, sym, ap, ◌∙◌, subst, arith}
 use Rattle.apply_hooks.specs.Registry.{rules_of}
 use Rattle.apply_model.specs.declared.plan.step_kind.StepKind.TheVariants.{Create}
 use Rattle.apply_model.specs.declared.script.wait.Wait.{Wait}
 use Rattle.apply_events.specs.declared.lanes.moment.Moment.{Moment}
-use Rattle.apply_events.specs.Step.{Step, Work, step_of}
+use Rattle.apply_events.specs.Step.{Work, step_of}
 use Rattle.apply_events.specs.StepEvents.{goes_on, step_time}
 use Rattle.apply_events.specs.Waits.Done.{done_in, end_behind, end_of_turn, first_found}
 use Rattle.apply_events.specs.Waits.Moment.{later_by}
-use Rattle.apply_events.specs.Waits.Queue.{IsQueue, put}
+use Rattle.apply_events.specs.Waits.Queue.{put}
 use Rattle.apply_events.proofs.Waits.Moments.{later_by_second}
 use Rattle.apply_events.proofs.Waits.Passing.{IsPassing, count_here, ends_first, ends_last, ends_on, ends_over, later_by_round, left_at, not_off, not_on, passed_last, passed_on, passed_over, passing_first, queue_same, step_here}
 use Rattle.apply_events.proofs.lanes.schedule.pass_steps.Goals as goal
@@ -132,8 +132,7 @@ loop-step-preserved g c =
           let low = c.loop-step.invariant.round in omega arith;
       queue = λ names done numbers q fresh.
           (let now = c.loop-step.invariant.queue names done numbers q fresh in
-          let it : Wait = record { change = taken.turn.change; step = k } in
-          (
+          let it : Wait = record { change = taken.turn.change; step = k } in (
             put now.0 it c.later_by-at.result,
             c.in_ok-pass.ensures (2 * length c.args.plan.now.changes) names now.0 numbers (omega arith, omega arith) now.1 (now.2.fresh k (omega arith) to),
             subst (λ m. IsPassing w taken (k + 1) m (put now.0 it m) done) at (passed_on w taken k s to refl here c.loop-step.at now.0 done on now.2),

@@ -1,16 +1,13 @@
-use Rattle.std.proofs.Common.{◌≡◌, ◌+◌, ◌*◌, ◌-◌, ◌<◌, ◌≤◌, ◌^◌, ◌++◌, ◌∷◌, [], ℕ, List, None, Option, length, map, reverse, set, arith, rules, subst, sym, ap, ◌∙◌}
+use Rattle.std.proofs.Common.{◌≡◌, ◌+◌, ◌*◌, ◌<◌, ◌≤◌, ◌^◌, ◌++◌, ◌∷◌, [], ℕ, None, length, map, reverse, set, arith, rules, subst, sym, ap, ◌∙◌}
 use Rattle.apply_hooks.specs.Registry.{rules_of}
-use Rattle.apply_model.specs.declared.script.wait.Wait.{Wait}
 use Rattle.apply_model.specs.Script.Limits.{max_seconds}
-use Rattle.apply_events.specs.declared.lanes.moment.Moment.{Moment}
 use Rattle.apply_events.specs.declared.lanes.taken.Taken.{Taken}
-use Rattle.apply_events.specs.declared.lanes.turn.Turn.{Turn}
 use Rattle.apply_events.specs.Step.{Work, kinds_of}
 use Rattle.apply_events.specs.Waits.Done.{done_at, done_in, end_of_turn, first_found}
 use Rattle.apply_events.specs.Waits.Queue.{IsQueue, none_done, turn_waits}
 use Rattle.apply_events.specs.Waits.Schedule.{first_earliest}
 use Rattle.apply_events.specs.Waits.Turn.{turns}
-use Rattle.apply_events.proofs.Waits.Scheduling.{IsUnderWay, at_first, full, goes_on_with, is_one, lane_fits, number_fits, one, over, round_fits, second_fits, step_is_new}
+use Rattle.apply_events.proofs.Waits.Scheduling.{at_first, full, goes_on_with, is_one, lane_fits, number_fits, over, round_fits, second_fits, step_is_new}
 use Rattle.apply_events.proofs.Waits.Standing.{any_default}
 use Rattle.apply_events.proofs.Waits.TurnNumbers.{few_turns, turn_at, turn_fits}
 use Rattle.apply_events.proofs.lanes.schedule.schedule.Goals as goal
@@ -120,9 +117,9 @@ pass_steps-requires-clause-change g c =
     let size = ap length turns_are in
     let fits = (number_fits w c.args.lanes c.requires c.loop-queue.queue free all h c.len.ensures.few c.in-Some.ready first.0) in
     let its : c.index.result.now ≡ turn_at (turns w) c.in-Some.ready.number = c.index.ensures
-        ∙ any_default c.in_ok-turns.turns.items c.in-Some.ready.number c.index.result.now (record { change = 0; first = 0; count = 0 }) (omega arith) ∙ ap (λ l. turn_at l c.in-Some.ready.number) turns_are in
+    ∙ any_default c.in_ok-turns.turns.items c.in-Some.ready.number c.index.result.now (record { change = 0; first = 0; count = 0 }) (omega arith) ∙ ap (λ l. turn_at l c.in-Some.ready.number) turns_are in
     let same = is_one w c.args.lanes c.requires c.loop-queue.queue free all h c.len.ensures.few c.in-Some.ready first.0
-        c.index.result.now c.first_earliest-lane.result c.index-in-loop-queue.result.now c.later_of.result its lane c.index-in-loop-queue.ensures c.later_of.ensures in
+    c.index.result.now c.first_earliest-lane.result c.index-in-loop-queue.result.now c.later_of.result its lane c.index-in-loop-queue.ensures c.later_of.ensures in
     subst (λ (t : Taken). t.turn.change < length w.plan.changes) (sym same) (turn_fits w c.in-Some.ready.number fits).0
 
 pub pass_steps-requires-clause-steps : goal.pass_steps-requires-clause-steps
@@ -137,9 +134,9 @@ pass_steps-requires-clause-steps g c =
     let size = ap length turns_are in
     let fits = (number_fits w c.args.lanes c.requires c.loop-queue.queue free all h c.len.ensures.few c.in-Some.ready first.0) in
     let its : c.index.result.now ≡ turn_at (turns w) c.in-Some.ready.number = c.index.ensures
-        ∙ any_default c.in_ok-turns.turns.items c.in-Some.ready.number c.index.result.now (record { change = 0; first = 0; count = 0 }) (omega arith) ∙ ap (λ l. turn_at l c.in-Some.ready.number) turns_are in
+    ∙ any_default c.in_ok-turns.turns.items c.in-Some.ready.number c.index.result.now (record { change = 0; first = 0; count = 0 }) (omega arith) ∙ ap (λ l. turn_at l c.in-Some.ready.number) turns_are in
     let same = is_one w c.args.lanes c.requires c.loop-queue.queue free all h c.len.ensures.few c.in-Some.ready first.0
-        c.index.result.now c.first_earliest-lane.result c.index-in-loop-queue.result.now c.later_of.result its lane c.index-in-loop-queue.ensures c.later_of.ensures in
+    c.index.result.now c.first_earliest-lane.result c.index-in-loop-queue.result.now c.later_of.result its lane c.index-in-loop-queue.ensures c.later_of.ensures in
     subst (λ (t : Taken). t.turn.first + t.turn.count ≤ length (kinds_of w.plan t.turn.change)) (sym same) (turn_fits w c.in-Some.ready.number fits).1
 
 pub pass_steps-requires-clause-second : goal.pass_steps-requires-clause-second
@@ -154,9 +151,9 @@ pass_steps-requires-clause-second g c =
     let size = ap length turns_are in
     let fits = (number_fits w c.args.lanes c.requires c.loop-queue.queue free all h c.len.ensures.few c.in-Some.ready first.0) in
     let its : c.index.result.now ≡ turn_at (turns w) c.in-Some.ready.number = c.index.ensures
-        ∙ any_default c.in_ok-turns.turns.items c.in-Some.ready.number c.index.result.now (record { change = 0; first = 0; count = 0 }) (omega arith) ∙ ap (λ l. turn_at l c.in-Some.ready.number) turns_are in
+    ∙ any_default c.in_ok-turns.turns.items c.in-Some.ready.number c.index.result.now (record { change = 0; first = 0; count = 0 }) (omega arith) ∙ ap (λ l. turn_at l c.in-Some.ready.number) turns_are in
     let same = is_one w c.args.lanes c.requires c.loop-queue.queue free all h c.len.ensures.few c.in-Some.ready first.0
-        c.index.result.now c.first_earliest-lane.result c.index-in-loop-queue.result.now c.later_of.result its lane c.index-in-loop-queue.ensures c.later_of.ensures in
+    c.index.result.now c.first_earliest-lane.result c.index-in-loop-queue.result.now c.later_of.result its lane c.index-in-loop-queue.ensures c.later_of.ensures in
     subst (λ (t : Taken). t.begin.second + 2 * max_seconds < 2 ^ 64) (sym same) (second_fits w c.args.lanes c.requires c.loop-queue.queue free all h c.len.ensures.few c.in-Some.ready first.0)
 
 pub pass_steps-requires-clause-round : goal.pass_steps-requires-clause-round
@@ -171,9 +168,9 @@ pass_steps-requires-clause-round g c =
     let size = ap length turns_are in
     let fits = (number_fits w c.args.lanes c.requires c.loop-queue.queue free all h c.len.ensures.few c.in-Some.ready first.0) in
     let its : c.index.result.now ≡ turn_at (turns w) c.in-Some.ready.number = c.index.ensures
-        ∙ any_default c.in_ok-turns.turns.items c.in-Some.ready.number c.index.result.now (record { change = 0; first = 0; count = 0 }) (omega arith) ∙ ap (λ l. turn_at l c.in-Some.ready.number) turns_are in
+    ∙ any_default c.in_ok-turns.turns.items c.in-Some.ready.number c.index.result.now (record { change = 0; first = 0; count = 0 }) (omega arith) ∙ ap (λ l. turn_at l c.in-Some.ready.number) turns_are in
     let same = is_one w c.args.lanes c.requires c.loop-queue.queue free all h c.len.ensures.few c.in-Some.ready first.0
-        c.index.result.now c.first_earliest-lane.result c.index-in-loop-queue.result.now c.later_of.result its lane c.index-in-loop-queue.ensures c.later_of.ensures in
+    c.index.result.now c.first_earliest-lane.result c.index-in-loop-queue.result.now c.later_of.result its lane c.index-in-loop-queue.ensures c.later_of.ensures in
     subst (λ (t : Taken). t.begin.round + 1 < 2 ^ 32) (sym same) (round_fits w c.args.lanes c.requires c.loop-queue.queue free all h c.len.ensures.few c.in-Some.ready first.0)
 
 pub pass_steps-requires-clause-known : goal.pass_steps-requires-clause-known
@@ -188,10 +185,9 @@ pass_steps-requires-clause-known g c =
     let size = ap length turns_are in
     let fits = (number_fits w c.args.lanes c.requires c.loop-queue.queue free all h c.len.ensures.few c.in-Some.ready first.0) in
     let its : c.index.result.now ≡ turn_at (turns w) c.in-Some.ready.number = c.index.ensures
-        ∙ any_default c.in_ok-turns.turns.items c.in-Some.ready.number c.index.result.now (record { change = 0; first = 0; count = 0 }) (omega arith) ∙ ap (λ l. turn_at l c.in-Some.ready.number) turns_are in
+    ∙ any_default c.in_ok-turns.turns.items c.in-Some.ready.number c.index.result.now (record { change = 0; first = 0; count = 0 }) (omega arith) ∙ ap (λ l. turn_at l c.in-Some.ready.number) turns_are in
     let same = is_one w c.args.lanes c.requires c.loop-queue.queue free all h c.len.ensures.few c.in-Some.ready first.0
-        c.index.result.now c.first_earliest-lane.result c.index-in-loop-queue.result.now c.later_of.result its lane c.index-in-loop-queue.ensures c.later_of.ensures in
-    (
+    c.index.result.now c.first_earliest-lane.result c.index-in-loop-queue.result.now c.later_of.result its lane c.index-in-loop-queue.ensures c.later_of.ensures in (
       map (turn_waits w.script) (turns w),
       done_at w (reverse all),
       c.in-Some.ready.number ∷ h.numbers,
@@ -212,11 +208,11 @@ loop-queue-preserved g c =
     let size = ap length turns_are in
     let fits = (number_fits w c.args.lanes c.requires c.loop-queue.queue free all h c.len.ensures.few c.in-Some.ready first.0) in
     let its : c.index.result.now ≡ turn_at (turns w) c.in-Some.ready.number = c.index.ensures
-        ∙ any_default c.in_ok-turns.turns.items c.in-Some.ready.number c.index.result.now (record { change = 0; first = 0; count = 0 }) (omega arith) ∙ ap (λ l. turn_at l c.in-Some.ready.number) turns_are in
+    ∙ any_default c.in_ok-turns.turns.items c.in-Some.ready.number c.index.result.now (record { change = 0; first = 0; count = 0 }) (omega arith) ∙ ap (λ l. turn_at l c.in-Some.ready.number) turns_are in
     let same = is_one w c.args.lanes c.requires c.loop-queue.queue free all h c.len.ensures.few c.in-Some.ready first.0
-        c.index.result.now c.first_earliest-lane.result c.index-in-loop-queue.result.now c.later_of.result its lane c.index-in-loop-queue.ensures c.later_of.ensures in
+    c.index.result.now c.first_earliest-lane.result c.index-in-loop-queue.result.now c.later_of.result its lane c.index-in-loop-queue.ensures c.later_of.ensures in
     let fresh = subst (λ (t : Taken). (step : ℕ) → t.turn.first ≤ step → step < t.turn.first + t.turn.count → done_at w (reverse all) (record { change = t.turn.change; step = step }) ≡ None)
-        (sym same) (step_is_new w c.args.lanes c.requires c.loop-queue.queue free all h c.len.ensures.few c.in-Some.ready first.0) in
+    (sym same) (step_is_new w c.args.lanes c.requires c.loop-queue.queue free all h c.len.ensures.few c.in-Some.ready first.0) in
     let end = c.in_ok-free-2.field-0 in
     let q = c.in_ok-free-2.ensures.queue (map (turn_waits w.script) (turns w)) (done_at w (reverse all)) (c.in-Some.ready.number ∷ h.numbers) first.1 fresh in
     goes_on_with w c.args.lanes c.requires c.loop-queue.queue free all h c.len.ensures.few c.in-Some.ready first.0

@@ -1,4 +1,4 @@
-use Rattle.std.proofs.Common.{◌≡◌, ◌+◌, ◌*◌, [], List, sym, subst, arith}
+use Rattle.std.proofs.Common.{◌*◌, [], List, sym, subst, arith}
 use Rattle.std.proofs.lemmas.List.{map_more}
 use Rattle.apply_model.specs.declared.script.wait.Wait.{Wait}
 use Rattle.apply_events.specs.Waits.Queue.{IsQueue, none_done, turn_waits}

@@ -1,9 +1,9 @@
-use Rattle.std.proofs.Common.{◌≡◌, ◌<◌, ◌-◌, ◌∷◌, length, refl, sym, ap, ◌∙◌, subst, arith}
+use Rattle.std.proofs.Common.{◌<◌, ◌∷◌, length, refl, sym, ◌∙◌, subst}
 use Rattle.std.specs.BinaryHeap.{heap_items}
 use Rattle.apply_events.specs.declared.lanes.queue.followers.Follower.{Follower}
 use Rattle.apply_events.specs.declared.lanes.queue.followers.Followers.{Followers}
-use Rattle.apply_events.specs.Waits.Queue.{Follow, IsChain, Stands, counts_of, follower_at, put, waiting_at}
-use Rattle.apply_events.proofs.Waits.Standing.{IsNext, all_told, are_told, next_told}
+use Rattle.apply_events.specs.Waits.Queue.{Follow, IsChain, Stands, counts_of, put, waiting_at}
+use Rattle.apply_events.proofs.Waits.Told.{all_told, are_told, next_told}
 use Rattle.apply_events.proofs.lanes.queue.Queue.pass.Goals as goal
 
 pub loop-place-init : goal.loop-place-init
@@ -53,8 +53,7 @@ loop-place-preserved c = record {
       let next = next_told names now later taken queue c.loop-place.place told.0 c.loop-place-test.true told.1 told.2 in
       let f = c.get-follower.result in
       let chain = subst (λ (y : Follower). IsChain queue.followers.all.items y.before next.turns) (sym c.get-follower.ensures) next.chain in
-      let stands = subst (λ (y : Follower). Stands names now (y.turn ∷ next.turns) later taken queue.waiting.items (heap_items queue.ready)) (sym c.get-follower.ensures) next.stands in
-      (
+      let stands = subst (λ (y : Follower). Stands names now (y.turn ∷ next.turns) later taken queue.waiting.items (heap_items queue.ready)) (sym c.get-follower.ensures) next.stands in (
         next.turns,
         subst (λ (all : Followers). IsChain all.all.items f.before next.turns) (sym c.release.ensures.followers) chain,
         c.in_ok-release.ensures.stands names now next.turns taken stands,

@@ -1,5 +1,5 @@
-use Rattle.std.proofs.Common.{◌≡◌, ◌∙◌, ◌-◌, sym, ap, arith}
-use Rattle.apply_events.specs.Waits.Moment.{first_moment, later_of}
+use Rattle.std.proofs.Common.{◌≡◌, ◌∙◌, ◌-◌, sym, ap}
+use Rattle.apply_events.specs.Waits.Moment.{later_of}
 use Rattle.apply_events.specs.declared.lanes.queue.Waiting.{Waiting}
 use Rattle.apply_events.specs.Waits.Queue.{waiting_at}
 use Rattle.apply_events.proofs.Waits.Standing.{any_default, hears, hears_last, written}

@@ -1,4 +1,4 @@
-use Rattle.std.proofs.Common.{get_or, ◌≡◌, ◌+◌, ◌++◌, [], ◌∷◌, length, set, sym, ap, ◌∙◌, subst, length-append, arith, rules}
+use Rattle.std.proofs.Common.{get_or, ◌≡◌, ◌+◌, ◌++◌, [], ◌∷◌, length, set, sym, ap, ◌∙◌, subst, arith, rules}
 use Rattle.apply_events.specs.declared.lanes.queue.followers.Follower.{Follower}
 use Rattle.apply_events.specs.Waits.Queue.{HasPlace, last_at, place_of}
 use Rattle.apply_events.proofs.Waits.Followers.{follow_more, follow_other}

@@ -1,7 +1,6 @@
 use Rattle.std.proofs.Common.{◌≡◌, ◌++◌, [], sym, ap, ◌∙◌, subst}
-use Rattle.std.specs.Prelude.{option_copied, unwrap_or}
+use Rattle.std.specs.Prelude.{unwrap_or}
 use Rattle.std.proofs.lemmas.List.{append-nil}
-use Rattle.apply_model.specs.declared.script.outcome.Outcome.{Outcome}
 use Rattle.apply_model.specs.Script.Outcome.{default_outcome}
 use Rattle.apply_model.specs.Script.OutcomeMap.{outcome_of}
 use Rattle.apply_events.specs.Waits.Queue.{Follow, also, step_before, turn_waits}
