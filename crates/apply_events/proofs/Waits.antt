@@ -1,10 +1,13 @@
 -- Turns that lanes take up, and their time line.
 pub mod AllTurns
 pub mod AtStart
+pub mod Building
 pub mod DoneBefore
+pub mod Due
 pub mod Earliest
 pub mod Ends
 pub mod FewEvents
+pub mod Followers
 pub mod Found
 pub mod Free
 pub mod LanesInCode
@@ -16,10 +19,17 @@ pub mod Moments
 pub mod Once
 pub mod OneLane
 pub mod Order
+pub mod Passing
+pub mod ReadyFirst
 pub mod Reversed
 pub mod Rises
+pub mod Rounds
+pub mod Scheduling
 pub mod Shares
+pub mod Standing
 pub mod Startable
 pub mod TakenUp
+pub mod Told
 pub mod TurnEvents
+pub mod TurnNumbers
 pub mod TurnSteps

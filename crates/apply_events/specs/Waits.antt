@@ -2,6 +2,7 @@
 pub mod Done
 pub mod Merging
 pub mod Moment
+pub mod Queue
 pub mod Schedule
 pub mod TakenUp
 pub mod TimeLine

@@ -17,7 +17,7 @@ use Rattle.apply_events.proofs.Waits.Members.{in_cases, in_head, in_tail, not_in
 
 -- ---- what is begun is among the steps
 
-AreNumbered-take : (n k : ℕ) (steps : List Step) → AreNumbered n steps → AreNumbered n (take k steps)
+pub AreNumbered-take : (n k : ℕ) (steps : List Step) → AreNumbered n steps → AreNumbered n (take k steps)
 AreNumbered-take n zero steps h = tt
 AreNumbered-take n (suc k) [] h = tt
 AreNumbered-take n (suc k) (s ∷ steps) h = (h.0, AreNumbered-take (n + 1) k steps h.1)

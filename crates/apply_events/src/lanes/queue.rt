@@ -1,8 +1,13 @@
 //! Turns that wait, and those that are ready.
 
-ghost use Rattle.std.specs.Prelude.{◌≡◌, ◌<◌, ◌≤◌};
+ghost use Rattle.std.specs.Prelude.{◌≡◌, ◌+◌, ◌*◌, ◌<◌, ◌^◌, ◌++◌, [], ◌∷◌, ℕ, IfNone, IfOk, IfSome, List, None, OnOk, Option, length, map};
+ghost use Rattle.std.specs.BinaryHeap.{heap_items};
+ghost use Rattle.apply_events.specs.Waits.Queue.{HasPlace, IsDue, IsFirstDue, IsQueue, Stands, none_done, put, turn_waits, waiting_at};
+
+pub mod followers;
 
 use crate::lanes::moment::Moment;
+use crate::lanes::queue::followers::Followers;
 use crate::lanes::turn::Turn;
 use apply_model::{Script, Wait};
 use std::alloc::{AllocError, Global};
@@ -11,125 +16,113 @@ use std::collections::BinaryHeap;
 
 /// A turn that is ready from a moment on, by its number.
 #[derive(Clone, Copy, Debug, PartialEq, Eq, PartialOrd, Ord)]
-pub struct Ready {
+pub struct ReadyTurn {
     pub at: Moment,
-    pub turn: u32,
+    pub number: u32,
 }
 
 /// What is missing until a turn is ready.
 #[derive(Clone, Copy, Debug)]
 pub struct Waiting {
     /// How many of the steps that it waits for are not done.
-    pub open: u32,
+    pub missing: u32,
     /// The greatest of the next rounds of the moments at which the others are.
     pub at: Moment,
-}
-
-/// A step, and the number of a turn that waits for it.
-#[derive(Clone, Copy, Debug)]
-pub struct Follower {
-    pub step: u32,
-    pub turn: u32,
 }
 
 /// Turns by their numbers: those that wait, and those that are ready.
 #[derive(Drop)]
 pub struct Queue {
     waiting: Vec<Waiting>,
-    /// By the step.
-    followers: Vec<Follower>,
-    ready: BinaryHeap<Reverse<Ready>>,
-}
-
-/// The number of a step among all, two for each change.
-fn number_of(change: u32, step: u8) -> Option<u32> {
-    change.checked_mul(2)?.checked_add(step as u32)
+    followers: Followers,
+    ready: BinaryHeap<Reverse<ReadyTurn>>,
 }
 
 impl Queue {
-    /// All of the turns, none of which was taken up.
-    pub fn new(alloc: Global, script: &Script, turns: &[Turn]) -> Result<Queue, AllocError> {
+    ghost use Rattle.apply_model.specs.declared.script.wait.Wait.{Wait};
+
+    /// These turns of a plan of so many changes, none of which was taken.
+    pub(crate) fn new(
+        alloc: Global,
+        changes: u32,
+        script: &Script,
+        turns: &[Turn],
+    ) -> Result<Queue, AllocError>
+        requires { length turns.now < 2 ^ 32 }
+        ensures { IfOk result (λ queue. IsQueue (2 * changes) (map (turn_waits script.now) turns.now) none_done [] queue) }
+    {
         let mut queue = Queue {
             waiting: Vec::with_capacity(alloc, turns.len())?,
-            followers: Vec::new(alloc),
+            followers: Followers::new(alloc, changes)?,
             ready: BinaryHeap::new(alloc),
         };
-        for (number, turn) in turns.iter().enumerate() {
-            queue.add(script, number as u32, *turn)?;
+        for turn in turns {
+            queue.add(script, *turn)?;
         }
-        queue.followers.sort_by_key(|follower| follower.step)?;
         Ok(queue)
     }
 
     /// A further turn.
-    fn add(&mut self, script: &Script, number: u32, turn: Turn) -> Result<(), AllocError> {
-        let mut open = 0;
-        if turn.count > 0 {
-            if turn.first > 0 {
-                self.follow(number, turn.change, turn.first - 1)?;
-                open += 1;
-            }
-            if let Some(outcome) = script.outcome(turn.change, turn.first) {
-                for item in 0..outcome.after.len() {
-                    let wait = outcome.after.get(item);
-                    self.follow(number, wait.change, wait.step)?;
-                    open += 1;
-                }
-            }
-        }
-        let waiting = Waiting {
-            open,
-            at: Moment::first(),
-        };
-        self.waiting.push(waiting)?;
-        if open == 0 {
-            self.ready.push(Reverse(Ready {
-                at: waiting.at,
-                turn: number,
-            }))?;
+    fn add(&mut self, script: &Script, turn: Turn) -> Result<(), AllocError>
+        requires { length self.old.waiting.items < 2 ^ 32 }
+        ensures { OnOk result ((limit : ℕ) (names : List (List Wait)) → IsQueue limit names none_done [] self.old
+            → IsQueue limit (names ++ turn_waits script.now turn ∷ []) none_done [] self.new) }
+    {
+        let number = self.waiting.len() as u32;
+        let missing = self.followers.add_turn(script, turn, number)?;
+        let at = Moment::first();
+        self.waiting.push(Waiting { missing, at })?;
+        if missing == 0 {
+            self.ready.push(Reverse(ReadyTurn { at, number }))?;
         }
         Ok(())
     }
 
-    /// Notes that the turn waits for the step.
-    fn follow(&mut self, turn: u32, change: u32, step: u8) -> Result<(), AllocError> {
-        if let Some(step) = number_of(change, step) {
-            self.followers.push(Follower { step, turn })?;
-        }
-        Ok(())
-    }
-
-    /// Takes up the turn that is ready first. `None` where none is, now and until a step is done.
-    pub fn take(&mut self) -> Option<Ready> {
+    /// Takes the turn that is ready first. `None` where none is, now and until a step is done.
+    pub(crate) fn take(&mut self) -> Option<ReadyTurn>
+        ensures some { IfSome result (λ one. (limit : ℕ) (names : List (List Wait)) (done : Wait → Option Moment) (taken : List ℕ)
+            → IsQueue limit names done taken self.old
+            → IsFirstDue names done taken one × IsQueue limit names done (one.number ∷ taken) self.new) }
+        ensures none { IfNone result ((limit : ℕ) (names : List (List Wait)) (done : Wait → Option Moment) (taken : List ℕ)
+            → IsQueue limit names done taken self.old → (number : ℕ) → IsDue names done taken number → ⊥) }
+    {
         Some(self.ready.pop()?.0)
     }
 
     /// A step is done at a moment.
-    pub fn pass(&mut self, step: Wait, at: Moment) -> Result<(), AllocError> {
-        let Some(step) = number_of(step.change, step.step) else {
-            return Ok(());
-        };
-        let from = self.followers.partition_point(|follower| follower.step < step);
-        for place in from..self.followers.len() {
-            let follower = self.followers[place];
-            if follower.step != step {
-                break;
-            }
-            self.release(follower.turn, at.next_round())?;
+    pub(crate) fn pass(&mut self, step: Wait, at: Moment) -> Result<(), AllocError>
+        requires round { at.round + 1 < 2 ^ 32 }
+        requires known { (limit : ℕ) × (names : List (List Wait)) × (done : Wait → Option Moment) × (taken : List ℕ)
+            × HasPlace step limit × IsQueue limit names done taken self.old × (done step ≡ None) }
+        ensures { OnOk result ((limit : ℕ) (names : List (List Wait)) (done : Wait → Option Moment) (taken : List ℕ)
+            → HasPlace step limit → IsQueue limit names done taken self.old → done step ≡ None
+            → IsQueue limit names (put done step at) taken self.new) }
+    {
+        let later = at.next_round();
+        let mut place = self.followers.last_of(step);
+        while place > 0 {
+            let follower = self.followers.get(place);
+            self.release(follower.turn, later)?;
+            place = follower.before;
         }
         Ok(())
     }
 
-    /// One of the steps that the turn waits for is done, and it is not ready before that moment.
-    fn release(&mut self, turn: u32, at: Moment) -> Result<(), AllocError> {
-        let waiting = &mut self.waiting[turn as usize];
-        waiting.open -= 1;
-        waiting.at = waiting.at.later_of(at);
-        if waiting.open == 0 {
-            self.ready.push(Reverse(Ready {
-                at: waiting.at,
-                turn,
-            }))?;
+    /// One of the steps that a turn waits for is done, and the turn is not ready before that moment.
+    fn release(&mut self, number: u32, later: Moment) -> Result<(), AllocError>
+        requires known { number < length self.old.waiting.items }
+        requires some { 0 < (waiting_at self.old.waiting.items number).missing }
+        ensures stands { OnOk result ((names : List (List Wait)) (done : Wait → Option Moment) (left : List ℕ) (taken : List ℕ)
+            → Stands names done (number ∷ left) later taken self.old.waiting.items (heap_items self.old.ready)
+            → Stands names done left later taken self.new.waiting.items (heap_items self.new.ready)) }
+        ensures followers { self.new.followers ≡ self.old.followers }
+    {
+        let before = self.waiting[number as usize];
+        let missing = before.missing - 1;
+        let at = before.at.later_of(later);
+        self.waiting[number as usize] = Waiting { missing, at };
+        if missing == 0 {
+            self.ready.push(Reverse(ReadyTurn { at, number }))?;
         }
         Ok(())
     }

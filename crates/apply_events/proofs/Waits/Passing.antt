@@ -1,0 +1,216 @@
+-- The steps of a turn are done one after another, up to the first that does not go on.
+use Rattle.std.proofs.Common.{◌≡◌, ◌≢◌, ℕ, zero, suc, ◌+◌, ◌-◌, ◌<◌, ◌≤◌, Bool, true, false, List, [], ◌∷◌, Option, Some, None, cond, drop, get_or, length, not, take, refl, sym, ap, ◌∙◌, subst, ⊎_elim, ◌⊎◌, arith, eqb, eq-eqb, ne_eqb}
+use Rattle.std.specs.Prelude.{slice_get}
+use Rattle.std.proofs.lemmas.Bool.{cases_Bool, cases_eq, true≢false}
+use Rattle.apply_model.specs.Plan.ResourceChange.{ResourceChange}
+use Rattle.apply_model.specs.declared.plan.step_kind.StepKind.{StepKind}
+use Rattle.apply_model.specs.declared.plan.step_kind.StepKind.TheVariants.{Create}
+use Rattle.apply_model.specs.declared.script.wait.Wait.{Wait}
+use Rattle.apply_events.specs.ChangeEvents.{begun}
+use Rattle.apply_events.specs.Step.{Step, Work, kinds_of, step_of, steps_of}
+use Rattle.apply_events.specs.StepEvents.{goes_on, step_time}
+use Rattle.apply_events.specs.declared.lanes.moment.Moment.{Moment}
+use Rattle.apply_events.specs.declared.lanes.queue.Queue.{Queue}
+use Rattle.apply_events.specs.declared.lanes.taken.Taken.{Taken}
+use Rattle.apply_events.specs.Waits.Done.{done_among, done_in, end_behind, end_of_turn, first_found}
+use Rattle.apply_events.specs.Waits.Moment.{later_by}
+use Rattle.apply_events.specs.Waits.Queue.{IsQueue, is_same_wait, late_if, late_of, names_at, open_if, open_of, put}
+use Rattle.apply_events.specs.Waits.Turn.{begun_steps}
+use Rattle.apply_events.proofs.PlannedSteps.{at_hand, kinds_here}
+use Rattle.apply_events.proofs.StepNumbers.{AreNumbered, AreNumbered-begun, AreNumbered-drop, steps_of-numbered}
+use Rattle.apply_events.proofs.Waits.Followers.{is_same, same_wait}
+use Rattle.apply_events.proofs.Waits.Moments.{later_by_none, later_by_some}
+use Rattle.apply_events.proofs.Waits.TurnEvents.{done_first, done_later}
+use Rattle.apply_events.proofs.Waits.TurnSteps.{AreNumbered-take}
+
+-- ---- what a queue knows depends on when steps are done, however that is said
+
+open_same : (done other : Wait → Option Moment) → ((name : Wait) → done name ≡ other name) → (names : List Wait) → open_of done names ≡ open_of other names
+open_same done other same [] = refl
+open_same done other same (name ∷ names) = ap (λ o. open_if o + open_of done names) (same name) ∙ ap (λ n. open_if (other name) + n) (open_same done other same names)
+
+late_same : (done other : Wait → Option Moment) → ((name : Wait) → done name ≡ other name) → (names : List Wait) → late_of done names ≡ late_of other names
+late_same done other same [] = refl
+late_same done other same (name ∷ names) = ap (λ o. late_if o (late_of done names)) (same name) ∙ ap (late_if (other name)) (late_same done other same names)
+
+pub queue_same : (limit : ℕ) (names : List (List Wait)) (done other : Wait → Option Moment) (taken : List ℕ) (queue : Queue) → ((name : Wait) → done name ≡ other name)
+    → IsQueue limit names done taken queue → IsQueue limit names other taken queue
+queue_same limit names done other taken queue same q =
+    let h = q.stands in record {
+      follow = q.follow;
+      stands = record {
+        size = h.size;
+        known = tt;
+        missing = λ number lt. h.missing number lt ∙ ap (λ n. n + 0) (open_same done other same (names_at names number));
+        late = λ number lt. h.late number lt ∙ late_same done other same (names_at names number);
+        ripe = h.ripe;
+        each = h.each;
+        heap = h.heap;
+      };
+    }
+
+-- ---- rounds
+
+pub later_by_round : (m : Moment) (seconds : ℕ) → (later_by seconds m).round ≤ m.round
+later_by_round m seconds = ⊎_elim
+    (λ (is : seconds ≡ 0). let same = ap (λ (l : Moment). l.round) (later_by_none m seconds is) in omega arith)
+    (λ (ne : seconds ≢ 0). let none = ap (λ (l : Moment). l.round) (later_by_some m seconds ne) in omega arith)
+    (cases_eq seconds 0)
+
+-- ---- the step at hand
+
+pub not_off : (t : Bool) → not t ≡ false → t ≡ true
+not_off true is = refl
+not_off false is = absurd cc
+
+pub not_on : (t : Bool) → not t ≡ true → t ≡ false
+not_on true is = absurd cc
+not_on false is = refl
+
+read_at : {X : Type 0} (xs : List X) (k : ℕ) (d : X) → k < length xs → Some (get_or xs k d) ≡ slice_get xs k
+read_at [] k d lt = absurd (omega arith)
+read_at (x ∷ xs) zero d lt = refl
+read_at (x ∷ xs) (suc k) d lt = read_at xs k d (omega arith)
+
+pub step_here : (w : Work) (c k : ℕ) (change : ResourceChange) (kinds : List StepKind) → Some change ≡ slice_get w.plan.changes c → kinds ≡ change.steps → k < length kinds
+    → drop k (steps_of w c) ≡ step_of w c k (get_or kinds k Create) ∷ drop (k + 1) (steps_of w c)
+step_here w c k change kinds is steps lt = at_hand w c k change kinds (Some (get_or kinds k Create)) is steps (read_at kinds k Create lt)
+
+pub count_here : (w : Work) (c : ℕ) (change : ResourceChange) (kinds : List StepKind) → Some change ≡ slice_get w.plan.changes c → kinds ≡ change.steps → length (kinds_of w.plan c) ≡ length kinds
+count_here w c change kinds is steps = ap length (kinds_here w c change kinds is steps)
+
+-- ---- the steps that are left
+
+none_behind : (n k : ℕ) (at : Moment) (steps : List Step) → AreNumbered n steps → k < n → done_among k at steps ≡ None
+none_behind n k at [] h less = refl
+none_behind n k at (s ∷ steps) h less =
+    let first = h.0 in
+    done_later k at s steps (λ is. absurd (omega arith)) ∙ none_behind (n + 1) k (later_by (step_time s) at) steps h.1 (omega arith)
+
+module _ (w : Work) (taken : Taken) where
+  abbrev pub left_at : ℕ → List Step
+  left_at k = begun (take (taken.turn.first + taken.turn.count - k) (drop k (steps_of w taken.turn.change)))
+
+  -- those that are done already, and what comes of the steps that are left, are together what comes of the turn
+  pub record IsPassing (k : ℕ) (at : Moment) (now done : Wait → Option Moment) : Type 0 where
+    pub shows : (name : Wait) → first_found (cond (eqb taken.turn.change name.change) (done_among name.step at (left_at k)) None) (now name)
+        ≡ first_found (done_in w taken name) (done name)
+    pub fresh : (step : ℕ) → k ≤ step → step < taken.turn.first + taken.turn.count → now (record { change = taken.turn.change; step = step }) ≡ None
+
+  left_first : left_at taken.turn.first ≡ begun_steps w taken.turn
+  left_first =
+      let all : taken.turn.first + taken.turn.count - taken.turn.first ≡ taken.turn.count = omega arith in
+      ap (λ n. begun (take n (drop taken.turn.first (steps_of w taken.turn.change)))) all
+
+  pub ends_first : end_behind taken.begin (left_at taken.turn.first) ≡ end_of_turn w taken
+  ends_first = ap (end_behind taken.begin) left_first
+
+  pub passing_first : (done : Wait → Option Moment) → ((step : ℕ) → taken.turn.first ≤ step → step < taken.turn.first + taken.turn.count → done (record { change = taken.turn.change; step = step }) ≡ None)
+      → IsPassing taken.turn.first taken.begin done done
+  passing_first done fresh = record {
+    shows = λ name. ap (λ steps. first_found (cond (eqb taken.turn.change name.change) (done_among name.step taken.begin steps) None) (done name)) left_first;
+    fresh = fresh;
+  }
+
+  none_left : (k : ℕ) → taken.turn.first + taken.turn.count ≤ k → left_at k ≡ []
+  none_left k over =
+      let none : taken.turn.first + taken.turn.count - k ≡ 0 = omega arith in
+      ap (λ n. begun (take n (drop k (steps_of w taken.turn.change)))) none
+
+  pub ends_over : (k : ℕ) (at : Moment) → taken.turn.first + taken.turn.count ≤ k → end_behind at (left_at k) ≡ at
+  ends_over k at over = ap (end_behind at) (none_left k over)
+
+  none_more : (t : Bool) (found : Option Moment) (now : Option Moment) → found ≡ None → first_found (cond t found None) now ≡ now
+  none_more true found now none = ap (λ f. first_found f now) none
+  none_more false found now none = refl
+
+  pub passed_over : (k : ℕ) (at : Moment) (now done : Wait → Option Moment) → taken.turn.first + taken.turn.count ≤ k → IsPassing k at now done
+      → (name : Wait) → now name ≡ first_found (done_in w taken name) (done name)
+  passed_over k at now done over h name =
+      sym (none_more (eqb taken.turn.change name.change) (done_among name.step at (left_at k)) (now name) (ap (done_among name.step at) (none_left k over))) ∙ h.shows name
+
+  module _ (k : ℕ) (s : Step) (more : k < taken.turn.first + taken.turn.count) (number : s.number ≡ k)
+      (here : drop k (steps_of w taken.turn.change) ≡ s ∷ drop (k + 1) (steps_of w taken.turn.change)) where
+    left_here : left_at k ≡ s ∷ cond (goes_on s) (left_at (k + 1)) []
+    left_here =
+        let count : taken.turn.first + taken.turn.count - k ≡ suc (taken.turn.first + taken.turn.count - (k + 1)) = omega arith in
+        ap (λ n. begun (take n (drop k (steps_of w taken.turn.change)))) count
+        ∙ ap (λ l. begun (take (suc (taken.turn.first + taken.turn.count - (k + 1))) l)) here
+
+    on_left : goes_on s ≡ true → left_at k ≡ s ∷ left_at (k + 1)
+    on_left on = left_here ∙ ap (λ t. s ∷ cond t (left_at (k + 1)) []) on
+
+    last_left : goes_on s ≡ false → left_at k ≡ s ∷ []
+    last_left off = left_here ∙ ap (λ t. s ∷ cond t (left_at (k + 1)) []) off
+
+    pub ends_on : (at end : Moment) → goes_on s ≡ true → end_behind at (left_at k) ≡ end → end_behind (later_by (step_time s) at) (left_at (k + 1)) ≡ end
+    ends_on at end on is = sym (ap (end_behind at) (on_left on)) ∙ is
+
+    pub ends_last : (at end : Moment) → goes_on s ≡ false → end_behind at (left_at k) ≡ end → later_by (step_time s) at ≡ end
+    ends_last at end off is = sym (ap (end_behind at) (last_left off)) ∙ is
+
+    pub passed_last : (at : Moment) (now done : Wait → Option Moment) → goes_on s ≡ false → IsPassing k at now done → (name : Wait) → now name ≡ first_found (done_in w taken name) (done name)
+    passed_last at now done off h name =
+        let next = later_by (step_time s) at in
+        let none : done_among name.step at (s ∷ []) ≡ None = ⊎_elim
+        (λ (is : s.number ≡ name.step). done_first name.step at s [] is ∙ ap (λ t. cond t (Some next) None) off)
+        (λ (ne : s.number ≢ name.step). done_later name.step at s [] ne)
+        (cases_eq s.number name.step) in
+        sym (none_more (eqb taken.turn.change name.change) (done_among name.step at (left_at k)) (now name) (ap (done_among name.step at) (last_left off) ∙ none)) ∙ h.shows name
+
+    numbered_on : AreNumbered (k + 1) (left_at (k + 1))
+    numbered_on =
+        let steps = steps_of w taken.turn.change in
+        let place : 0 + (k + 1) ≡ k + 1 = omega arith in
+        let left = taken.turn.first + taken.turn.count - (k + 1) in
+        AreNumbered-begun (k + 1) (take left (drop (k + 1) steps)) (AreNumbered-take (k + 1) left (drop (k + 1) steps)
+        (subst (λ n. AreNumbered n (drop (k + 1) steps)) place (AreNumbered-drop 0 (k + 1) steps (steps_of-numbered w taken.turn.change))))
+
+    module _ (at : Moment) (now done : Wait → Option Moment) (on : goes_on s ≡ true) (h : IsPassing k at now done) where
+      abbrev next : Moment
+      next = later_by (step_time s) at
+
+      abbrev it : Wait
+      it = record { change = taken.turn.change; step = k }
+
+      -- of a step of another change or number nothing changes
+      other : (name : Wait) → is_same_wait it name ≡ false
+          → first_found (cond (eqb taken.turn.change name.change) (done_among name.step next (left_at (k + 1))) None) (put now it next name)
+          ≡ first_found (cond (eqb taken.turn.change name.change) (done_among name.step at (left_at k)) None) (now name)
+      other name differ =
+          ap (λ t. first_found (cond (eqb taken.turn.change name.change) (done_among name.step next (left_at (k + 1))) None) (cond t (Some next) (now name))) differ ∙ ⊎_elim
+          (λ (same : taken.turn.change ≡ name.change).
+          let apart : s.number ≢ name.step = λ is. true≢false (sym (is_same it name same (sym number ∙ is)) ∙ differ) in
+          ap (λ f. first_found (cond (eqb taken.turn.change name.change) f None) (now name))
+          (sym (done_later name.step at s (left_at (k + 1)) apart) ∙ sym (ap (done_among name.step at) (on_left on))))
+          (λ (ne : taken.turn.change ≢ name.change).
+          ap (λ t. first_found (cond t (done_among name.step next (left_at (k + 1))) None) (now name)) (ne_eqb taken.turn.change name.change ne)
+          ∙ sym (ap (λ t. first_found (cond t (done_among name.step at (left_at k)) None) (now name)) (ne_eqb taken.turn.change name.change ne)))
+          (cases_eq taken.turn.change name.change)
+
+      itself : first_found (cond (eqb taken.turn.change it.change) (done_among it.step next (left_at (k + 1))) None) (put now it next it)
+          ≡ first_found (cond (eqb taken.turn.change it.change) (done_among it.step at (left_at k)) None) (now it)
+      itself =
+          let mine = eq-eqb taken.turn.change taken.turn.change refl in
+          ap (λ t. first_found (cond t (done_among k next (left_at (k + 1))) None) (put now it next it)) mine
+          ∙ ap (λ f. first_found f (put now it next it)) (none_behind (k + 1) k next (left_at (k + 1)) numbered_on (omega arith))
+          ∙ ap (λ t. cond t (Some next) (now it)) (is_same it it refl refl)
+          ∙ sym (ap (λ t. first_found (cond t (done_among k at (left_at k)) None) (now it)) mine
+          ∙ ap (λ f. first_found f (now it)) (ap (done_among k at) (on_left on) ∙ done_first k at s (left_at (k + 1)) number ∙ ap (λ t. cond t (Some next) None) on))
+
+      pub passed_on : IsPassing (k + 1) (later_by (step_time s) at) (put now (record { change = taken.turn.change; step = k }) (later_by (step_time s) at)) done
+      passed_on = record {
+        shows = λ name. ⊎_elim
+            (λ (same : is_same_wait it name ≡ true).
+            subst (λ n. first_found (cond (eqb taken.turn.change n.change) (done_among n.step next (left_at (k + 1))) None) (put now it next n)
+            ≡ first_found (cond (eqb taken.turn.change n.change) (done_among n.step at (left_at k)) None) (now n)) (same_wait it name same) itself)
+            (λ (differ : is_same_wait it name ≡ false). other name differ)
+            (cases_Bool (is_same_wait it name)) ∙ h.shows name;
+        fresh = λ step high last.
+            (let name : Wait = record { change = taken.turn.change; step = step } in
+            let differ : is_same_wait it name ≡ false = ⊎_elim
+            (λ (same : is_same_wait it name ≡ true). let is = ap (λ (n : Wait). n.step) (same_wait it name same) in absurd (omega arith))
+            (λ (off : is_same_wait it name ≡ false). off)
+            (cases_Bool (is_same_wait it name)) in
+            ap (λ t. cond t (Some next) (now name)) differ ∙ h.fresh step (omega arith) last);
+      }
