@@ -58,7 +58,11 @@ impl<'a> Lanes<'a> {
     ghost use Rattle.apply_events.specs.Waits.Merging.{time_line};
     ghost use Rattle.apply_events.specs.Waits.Schedule.{first_earliest};
 
-    /// A plan that is applied in so many lanes.
+    /// A plan that is applied in so many lanes. Which steps begin, and when, is known from here on: of each of them the hooks
+    /// are asked here whether they halt it before its start or after its completion, and once more by the calls that tell
+    /// of it.
+    ///
+    /// `Err` where memory is refused.
     pub fn start(
         alloc: Global,
         plan: &'a Plan,
@@ -87,7 +91,7 @@ impl<'a> Lanes<'a> {
         })
     }
 
-    /// The next event. `None` where none is left, now and from then on.
+    /// The next event. `None` where none is left, now and from then on. No memory is taken.
     pub fn next(&mut self) -> Option<Event>
         ensures next { GivesNext (to_come self.old) result (to_come self.new) }
         ensures of_plan { IfSome result (λ event. IsOfPlan (work_of self.old).plan event) }

@@ -170,31 +170,42 @@ module _ (w : Work) (n : ℕ) (some : 0 < n) (few : length w.plan.changes ≤ 10
   known_here one before place =
       all_at (λ (y : Taken). Contains (turns w) y.turn) (schedule w n) one up.known (subst (λ l. Contains l one) (sym place.is) (Contains-append_right place.later (one ∷ before) one (in_head one before)))
 
+  -- where the second step of its change was taken up, the first was before it
+  second_behind : (one : Taken) (before front rest : List Taken) (second : Taken) → Place one before → before ≡ front ++ second ∷ rest → second.turn ≡ single one.turn.change 1
+      → IsBehindFirst w one.turn.change rest second.begin
+  second_behind one before front rest second place split its =
+      let all : schedule w n ≡ (place.later ++ one ∷ front) ++ second ∷ rest =
+      place.is ∙ ap (λ l. place.later ++ one ∷ l) split ∙ sym (append_assoc place.later (one ∷ front) (second ∷ rest)) in
+      let ready = up.ready (place.later ++ one ∷ front) rest second all in
+      behind_first w one.turn.change rest ready.at second.begin (sym (ap (ready_at w rest) its) ∙ ready.ready) ready.in_time
+
+  -- so that it would be taken up twice
+  first_again : (one : Taken) (before front rest : List Taken) (second : Taken) → before ≡ front ++ second ∷ rest → one.turn.first ≡ 0 → IsBehindFirst w one.turn.change rest second.begin
+      → is_taken before one.turn ≡ true
+  first_again one before front rest second split first behind =
+      let other = behind.one in
+      let inside : Contains before other = subst (λ l. Contains l other) (sym split) (Contains-append_right front (second ∷ rest) other (in_tail second rest other behind.there)) in
+      let low = (begun_within w other.turn behind.step.0 behind.step.1).0 in
+      let number = behind.step.2 in
+      let zero : other.turn.first ≡ one.turn.first = omega arith in
+      any_in (λ (x : Taken). is_same_turn x.turn one.turn) before other inside
+      (ap (λ t. t && eqb other.turn.first one.turn.first) (eq-eqb other.turn.change one.turn.change behind.change) ∙ eq-eqb other.turn.first one.turn.first zero)
+
   -- the second step of its change was not taken up before the first
-  second_is_open : (one : Taken) (before : List Taken) → Place one before → is_split w one.turn.change ≡ true → one.turn ≡ single one.turn.change 0 → is_taken before (single one.turn.change 1) ≡ false
-  second_is_open one before place split first = ⊎_elim
+  second_is_open : (one : Taken) (before : List Taken) → Place one before → one.turn ≡ single one.turn.change 0 → is_taken before (single one.turn.change 1) ≡ false
+  second_is_open one before place first = ⊎_elim
       (λ (yes : is_taken before (single one.turn.change 1) ≡ true).
       let c = one.turn.change in
       let found = in_any (λ (x : Taken). is_same_turn x.turn (single c 1)) before yes in
       let second = found.0 in
       let parts = and_parts (eqb second.turn.change c) (eqb second.turn.first 1) found.2 in
       let change = same_number second.turn.change c parts.0 in
-      let place_of = same_number second.turn.first 1 parts.1 in
+      let number = same_number second.turn.first 1 parts.1 in
       let known = known_before one before place second found.1 in
       let facts = turn_facts w second.turn (within second.turn.change (known_change w second.turn known)).few (turn_is w second.turn known) in
       let its : second.turn ≡ single c 1 = (facts.two (omega arith)).1 ∙ ap (λ k. single k 1) change in
-      let split_there = in_split before second found.1 in
-      let all : schedule w n ≡ (place.later ++ one ∷ split_there.0) ++ second ∷ split_there.1 =
-      place.is ∙ ap (λ l. place.later ++ one ∷ l) split_there.2 ∙ sym (append_assoc place.later (one ∷ split_there.0) (second ∷ split_there.1)) in
-      let ready = up.ready (place.later ++ one ∷ split_there.0) split_there.1 second all in
-      let behind = behind_first w c split_there.1 ready.at second.begin (sym (ap (ready_at w split_there.1) its) ∙ ready.ready) ready.in_time in
-      let inside : Contains before behind.one = subst (λ l. Contains l behind.one) (sym split_there.2) (Contains-append_right split_there.0 (second ∷ split_there.1) behind.one (in_tail second split_there.1 behind.one behind.there)) in
-      let low = (begun_within w behind.one.turn behind.step.0 behind.step.1).0 in
-      let number = behind.step.2 in
-      let same : is_same_turn behind.one.turn one.turn ≡ true =
-      ap (λ t. t && eqb behind.one.turn.first one.turn.first) (eq-eqb behind.one.turn.change c behind.change)
-      ∙ eq-eqb behind.one.turn.first one.turn.first (let at = ap (λ (t : Turn). t.first) first in omega arith) in
-      let again : is_taken before one.turn ≡ true = any_in (λ (x : Taken). is_same_turn x.turn one.turn) before behind.one inside same in
+      let split = in_split before second found.1 in
+      let again = first_again one before split.0 split.1 second split.2 (ap (λ (t : Turn). t.first) first) (second_behind one before split.0 split.1 second place split.2 its) in
       absurd (true≢false (sym again ∙ up.once place.later before one place.is)))
       (λ (no : is_taken before (single one.turn.change 1) ≡ false). no)
       (cases_Bool (is_taken before (single one.turn.change 1)))
@@ -230,7 +241,7 @@ module _ (w : Work) (n : ℕ) (some : 0 < n) (few : length w.plan.changes ≤ 10
           let its : share w (single c 1) ≡ 1 = ap (λ (t : Bool). cond t 1 2) split in
           let apart : is_same_turn one.turn (single c 1) ≡ false =
           ap (λ t. t && eqb one.turn.first 1) (eq-eqb one.turn.change c refl) ∙ ne_eqb one.turn.first 1 (let at = ap (λ (t : Turn). t.first) first in omega arith) in
-          let new : is_taken (one ∷ before) (single c 1) ≡ false = ap (λ t. t || is_taken before (single c 1)) apart ∙ second_is_open one before place split first in
+          let new : is_taken (one ∷ before) (single c 1) ≡ false = ap (λ t. t || is_taken before (single c 1)) apart ∙ second_is_open one before place first in
           let lesser = one_taken w other (one ∷ before) (turns w) (second_known c (known_change w one.turn (known_here one before place)) split) new in omega arith
 
   pub startable : (one : Taken) (before : List Taken) → Place one before → IsStartable w one
