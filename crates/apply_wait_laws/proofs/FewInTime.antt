@@ -72,5 +72,5 @@ module _ (w : Work) (n : ℕ) (events : List Event) (some : 0 < n) (limits : IsW
       let each = few_of_turns w taken within startable in
       let two = two_each w n (length (turns w)) in
       let changes = limits.few_changes in
-      let same : shares w taken ≡ shares w (schedule w n) = sum_by-IsPermutation (λ (x : Taken). share w x.turn) taken (schedule w n) (IsPermutation-reverse (schedule w n)) in
+      let same : shares w taken ≡ shares w (schedule w n) = sum_by-IsPermutation (λ (x : Taken). share w x.turn) (schedule w n) taken (IsPermutation-reverse (schedule w n)) in
       omega arith
