@@ -1,13 +1,13 @@
 //! The escapes of a line.
 
-ghost use Rattle.std.specs.Prelude.{◌≡◌, ◌≤◌, ◌<◌, ◌++◌, drop, false, length, take, IfOk, OnOk, OnErr};
+ghost use Rattle.std.specs.Prelude.{◌≡◌, ◌≤◌, ◌<◌, ◌++◌, drop, false, length, string_bytes, take, IfOk, OnOk, OnErr};
 ghost use Rattle.std.specs.List.{list_any};
 ghost use Rattle.memchr.specs.Find.{is_byte, is_byte3};
 ghost use Rattle.apply_form.specs.Escapes.{begins_with, escaped, is_special};
 ghost use Rattle.apply_form.specs.Lines.{line_of_text};
 
 use memchr::{memchr, memchr3};
-use std::alloc::AllocError;
+use std::alloc::{AllocError, Global};
 
 /// How far the next character with an escape is looked for at a time, so that no long text is looked through anew for each.
 const SEARCH_LEN: usize = 1_024;
@@ -26,6 +26,15 @@ pub fn push_line(lines: &mut Vec<u8>, text: &[u8]) -> Result<(), AllocError>
             Err(refused)
         }
     }
+}
+
+/// The text with its escapes. `Err` where memory is refused.
+pub fn escaped_text(alloc: Global, text: &str) -> Result<String, AllocError>
+    ensures { IfOk result (λ whole. string_bytes whole ≡ escaped text.now) }
+{
+    let mut bytes = Vec::with_capacity(alloc, text.len())?;
+    push_escaped(&mut bytes, text.as_bytes())?;
+    Ok(String::from_utf8(bytes).unwrap())
 }
 
 /// Appends a line to others, or a part of it where memory is refused.
