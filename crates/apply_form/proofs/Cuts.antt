@@ -104,13 +104,17 @@ plain_whole (byte ∷ xs) plain =
     let parts = and_parts _ _ plain in
     stays byte (escaped xs) parts.0 ∙ ap (λ t. byte ∷ t) (plain_whole xs parts.1)
 
-plain_begins : (xs ys : List ℕ) → IsPlain xs → Begins ys → Begins (xs ++ ys)
+pub plain_begins : (xs ys : List ℕ) → IsPlain xs → Begins ys → Begins (xs ++ ys)
 plain_begins [] ys plain begins = begins
 plain_begins (byte ∷ xs) ys plain begins = inl (ltb-true _ _ (and_parts _ _ (and_parts _ _ plain).0).0)
 
-plain_starts : (xs : List ℕ) → IsPlain xs → Begins xs
+pub plain_starts : (xs : List ℕ) → IsPlain xs → Begins xs
 plain_starts [] plain = tt
 plain_starts (byte ∷ xs) plain = inl (ltb-true _ _ (and_parts _ _ (and_parts _ _ plain).0).0)
+
+pub both_begin : (xs ys : List ℕ) → Begins xs → Begins ys → Begins (xs ++ ys)
+both_begin [] ys first second = second
+both_begin (byte ∷ xs) ys first second = first
 
 in_a_row : (f e m d t rest : List ℕ) → ((f ++ (e ++ m)) ++ (d ++ t)) ++ rest ≡ f ++ ((e ++ (m ++ (d ++ t))) ++ rest)
 in_a_row f e m d t rest = simp append_assoc

@@ -133,3 +133,7 @@ all_chars (c ∷ cs) e =
 
 pub still_utf8 : (text : List ℕ) → IsUtf8 text → IsUtf8 (escaped text)
 still_utf8 text u = subst (λ t. IsUtf8 (escaped t)) u.1.1 (all_chars u.0 u.1.0)
+
+-- a text in UTF-8 begins with no byte that goes on with a character
+pub text_begins : (text : List ℕ) → IsUtf8 text → Begins text
+text_begins text u = subst Begins u.1.1 (begins_all u.0)

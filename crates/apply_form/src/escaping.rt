@@ -48,7 +48,7 @@ fn push_parts(lines: &mut Vec<u8>, text: &[u8]) -> Result<(), AllocError>
 }
 
 /// Appends the text with its escapes, or a part of it where memory is refused.
-fn push_escaped(lines: &mut Vec<u8>, text: &[u8]) -> Result<(), AllocError>
+pub fn push_escaped(lines: &mut Vec<u8>, text: &[u8]) -> Result<(), AllocError>
     ensures ok { OnOk result (lines.new.items ≡ lines.old.items ++ escaped text.now) }
     ensures behind { take (length lines.old.items) lines.new.items ≡ lines.old.items }
 {

@@ -15,7 +15,7 @@ use crate::escaping::push_line;
 use crate::messages::{put_event, put_note, put_planned, put_summary, put_version};
 use crate::moment::FineMoment;
 use crate::output::Output;
-use crate::outputs::say_outputs;
+use crate::outputs::push_outputs;
 use crate::plan_note::PlanNote;
 use apply_events::{Counts, Event, What};
 use apply_model::{Change, Plan, Script, StepKind};
@@ -214,8 +214,13 @@ impl FormBuffer {
         ensures err { OnErr result (self.new ≡ self.old) }
     {
         let moment = FineMoment::new(start, latest);
-        say_outputs(self.alloc, &mut self.scratch, &moment, outputs)?;
-        push_line(&mut self.bytes, self.scratch.as_bytes())
+        push_outputs(
+            self.alloc,
+            &mut self.bytes,
+            &mut self.scratch,
+            &moment,
+            outputs,
+        )
     }
 
     /// Appends the line of a change that is planned in that word.

@@ -16,7 +16,7 @@ use Rattle.serde_json.proofs.Texts.{print-outline}
 use Rattle.apply_model.specs.declared.plan.step_kind.StepKind.{StepKind}
 use Rattle.apply_model.specs.Plan.ResourceChange.{ResourceChange}
 use Rattle.apply_text.specs.Calendar.{date_of_day}
-use Rattle.apply_text.specs.CachedParts.{back_text, front_text, open_date, middle_text, open_text, time_of_day}
+use Rattle.apply_text.specs.CachedParts.{KeptPieces, ProgressPieces, back_text, front_text, kept_step, line_pieces, middle_text, open_date, open_text, time_of_day}
 use Rattle.apply_text.specs.Moment.{date_text, moment_text, time_text, two_digits}
 use Rattle.apply_text.specs.Objects.{resource_object}
 use Rattle.apply_text.specs.Sending.{member_tokens}
@@ -76,6 +76,22 @@ middle_is action new step is grown = grown ∙ ap (λ a. codes "Z\",\"hook\":{\"
 pub back_is : (resource new : List ℕ) (change : ResourceChange) → resource ≡ codes "\"resource\":" ++ compact_text (resource_object change) → new ≡ codes "," ++ (resource ++ codes "},\"type\":\"apply_progress\"}\n") → new ≡ back_text change
 unfolding back_text
 back_is resource new change is grown = grown ∙ ap (λ r. codes "," ++ (r ++ codes "},\"type\":\"apply_progress\"}\n")) is
+
+-- what is kept of a change is what is shown of it
+back_shown : (change : ResourceChange) (step : StepKind) → back_text change ≡ back_text (kept_step change step).change
+unfolding back_text resource_object
+back_shown change step = refl
+
+-- texts that were put together
+pub pieces_same : (pieces : ProgressPieces) (front middle back : List ℕ) → pieces.front ≡ front → pieces.middle ≡ middle → pieces.back ≡ back → pieces ≡ record { front = front; middle = middle; back = back }
+pieces_same pieces front middle back fronts middles backs =
+    let of : List ℕ → List ℕ → List ℕ → ProgressPieces = λ f m b. record { front = f; middle = m; back = b } in
+    ap₂ (λ f m. of f m pieces.back) fronts middles ∙ ap (λ b. of front middle b) backs
+
+pub pieces_of : (kept : KeptPieces) (change : ResourceChange) (step : StepKind) → kept.step ≡ kept_step change step → kept.pieces.front ≡ front_text change.address step → kept.pieces.middle ≡ middle_text step → kept.pieces.back ≡ back_text change
+    → kept.pieces ≡ line_pieces kept.step
+pieces_of kept change step is fronts middles backs =
+    pieces_same kept.pieces (front_text change.address step) (middle_text step) (back_text (kept_step change step).change) fronts middles (backs ∙ back_shown change step) ∙ sym (ap line_pieces is)
 
 -- ---- moments
 

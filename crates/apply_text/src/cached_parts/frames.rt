@@ -1,6 +1,6 @@
 //! The frames of the steps whose progress was told last.
 
-ghost use Rattle.std.specs.Prelude.{◌≡◌, ◌/◌, ◌<◌, ◌≤◌, length, string_bytes, IfOk, IfSome, IsSome, OnOk};
+ghost use Rattle.std.specs.Prelude.{◌≡◌, ◌/◌, ◌<◌, ◌≤◌, length, option_map, string_bytes, Some, IfOk, IsTrue, OnOk};
 ghost use Rattle.apply_text.specs.CachedParts.{kept_step, progress_line};
 ghost use Rattle.apply_text.specs.Start.{last_second};
 
@@ -93,14 +93,21 @@ fn keep_frame<F: ProgressFrame>(
     change: &Change,
     step: StepKind,
 ) -> Result<(), AllocError>
-    ensures kept { OnOk result (IsSome place.new) }
-    ensures frame { OnOk result (IfSome place.new (λ frame. F.kept frame ≡ kept_step change.now step)) }
+    ensures { OnOk result (option_map F.kept place.new ≡ Some (kept_step change.now step)) }
 {
-    if let Some(frame) = place {
-        if frame.texts().is_of(change, step) {
-            return Ok(());
-        }
+    if has_frame(place, change, step) {
+        return Ok(());
     }
     *place = Some(F::new(alloc, change, step)?);
     Ok(())
+}
+
+/// Whether the frame is that of such a step of the change.
+fn has_frame<F: ProgressFrame>(place: &Option<F>, change: &Change, step: StepKind) -> bool
+    ensures { IsTrue result → option_map F.kept place.now ≡ Some (kept_step change.now step) }
+{
+    match place {
+        Some(frame) => frame.texts().is_of(change, step),
+        None => false,
+    }
 }

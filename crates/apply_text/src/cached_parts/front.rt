@@ -10,11 +10,7 @@ use std::alloc::{AllocError, Global};
 
 /// A line of a step's progress up to the time in its message: the same in every form, before its escapes. `Err` where memory
 /// is refused.
-pub fn progress_front(
-    alloc: Global,
-    address: &str,
-    step: StepKind,
-) -> Result<String, AllocError>
+pub fn progress_front(alloc: Global, address: &str, step: StepKind) -> Result<String, AllocError>
     ensures { IfOk result (λ front. string_bytes front ≡ front_text address.now step) }
 {
     let word = StepWords::new(step).still;

@@ -1,4 +1,4 @@
-use Rattle.apply_form.proofs.Texts.{first_of, first_told}
+use Rattle.apply_form.proofs.Outputs.{first_of, first_told}
 use Rattle.apply_form.proofs.outputs.push_all.Goals as goal
 
 pub returns-in_ok-push_output-in-len1-up : goal.returns-in_ok-push_output-in-len1-up

@@ -1,4 +1,4 @@
-use Rattle.apply_form.proofs.Texts.{more_told}
+use Rattle.apply_form.proofs.Outputs.{more_told}
 use Rattle.apply_form.proofs.outputs.push_more.Goals as goal
 
 pub loop-output-preserved : goal.loop-output-preserved
