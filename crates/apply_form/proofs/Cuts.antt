@@ -40,8 +40,8 @@ seen second (x ∷ []) v begins least most = ap (λ t. (x == 128) && t) (not_fir
 seen second (x ∷ y ∷ u) v begins least most = refl
 
 never : (p q : Bool) → q ≡ false → (p && q) ≡ true → ⊥
-never true q no e = absurd cc
-never false q no e = absurd cc
+never true q h e = absurd cc
+never false q h e = absurd cc
 
 dropped : (second : ℕ) (u v : List ℕ) → 128 ≤ second → begins_with 128 second u ≡ true → drop 2 (u ++ v) ≡ drop 2 u ++ v
 dropped second [] v least e = absurd cc

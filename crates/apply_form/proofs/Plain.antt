@@ -1,13 +1,12 @@
 -- Numbers and moments have no escapes.
-use Rattle.std.proofs.Common.{◌≡◌, ℕ, zero, suc, ◌+◌, ◌/◌, ◌%◌, ◌<◌, ◌≤◌, ◌==◌, List, [], ◌∷◌, ◌++◌, codes, cond, decimal, nat_lt, slice_get, Bool, true, false, refl, sym, ap, ap₂, ◌∙◌, arith}
+use Rattle.std.proofs.Common.{◌≡◌, ℕ, zero, suc, ◌+◌, ◌/◌, ◌%◌, ◌<◌, ◌≤◌, ◌==◌, List, [], ◌∷◌, ◌++◌, codes, cond, decimal, nat_lt, slice_get, Bool, true, false, refl, ap₂, arith}
 use Rattle.std.specs.Prelude.{◌&&◌, ◌||◌, not}
 use Rattle.std.specs.Fmt.{digit_glyph, digits, digits_onto}
-use Rattle.std.specs.List.{AllByRecursion, list_all}
+use Rattle.std.specs.List.{AllByRecursion}
 use Rattle.std.specs.Option.{option_map_or}
-use Rattle.std.proofs.lemmas.Bool.{and_parts, ne_eqb}
+use Rattle.std.proofs.lemmas.Bool.{ne_eqb}
 use Rattle.std.proofs.lemmas.Bool.Decides.{nat_tests}
 use Rattle.std.proofs.lemmas.Grind.{common_steps}
-use Rattle.std.proofs.lemmas.List.Folds.{list_all-append}
 use Rattle.json.specs.Print.{escape, escape_byte}
 use Rattle.json.proofs.Printed.Strings.{escape_byte_plain}
 use Rattle.apply_text.specs.Calendar.{CivilDate, date_of_day, dates}
@@ -15,7 +14,6 @@ use Rattle.apply_text.specs.CachedParts.{open_date, time_of_day}
 use Rattle.apply_text.specs.Elapsed.{elapsed_of, minutes_text, seconds_text}
 use Rattle.apply_text.specs.Moment.{date_text, two_digits}
 use Rattle.apply_text.proofs.ShortDates.{IsShort, dates_short}
-use Rattle.apply_form.specs.Escapes.{is_special}
 use Rattle.apply_form.proofs.Cuts.{IsPlain, both_plain, is_plain}
 
 -- ---- figures

@@ -9,12 +9,12 @@ use Rattle.serde_json.specs.Written.{compact_text}
 use Rattle.apply_model.specs.declared.plan.step_kind.StepKind.{StepKind}
 use Rattle.apply_model.specs.Plan.ResourceChange.{ResourceChange}
 use Rattle.apply_text.specs.Calendar.{date_of_day}
-use Rattle.apply_text.specs.CachedParts.{front_text, kept_step, open_date, progress_line, time_of_day}
+use Rattle.apply_text.specs.CachedParts.{KeptPieces, front_text, kept_step, open_date, progress_line, time_of_day}
 use Rattle.apply_text.specs.Elapsed.{elapsed_of}
 use Rattle.apply_text.specs.Message.{progress_message}
 use Rattle.apply_text.specs.Moment.{date_text, moment_text, time_text}
 use Rattle.apply_text.specs.Words.{action_word, still_word}
-use Rattle.apply_text.proofs.CachedTexts.{moment_is}
+use Rattle.apply_text.proofs.CachedTexts.{moment_is, pieces_same}
 use Rattle.apply_text.proofs.Progress.{in_action, in_elapsed, message_is, said, told}
 use Rattle.apply_form.specs.CachedParts.{form_pieces, middle_text, progress_text}
 use Rattle.apply_form.specs.Escapes.{escaped}
@@ -133,3 +133,9 @@ pub middle_is : (bytes resource action : List ℕ) (change : ResourceChange) (st
     → resource ≡ codes "\"resource\":" ++ compact_text (resource_object change) → action ≡ action_word step → bytes ≡ middle_text change step
 unfolding middle_text
 middle_is bytes resource action change step is resources actions = is ∙ ap₂ (λ r a. codes ".000000Z\",\"hook\":{" ++ (r ++ (codes ",\"action\":\"" ++ (a ++ codes "\",\"elapsed_seconds\":")))) resources actions
+
+pub pieces_of : (kept : KeptPieces) (change : ResourceChange) (step : StepKind) → kept.step ≡ kept_step change step → kept.pieces.front ≡ escaped (front_text change.address step) → kept.pieces.middle ≡ escaped (middle_text change step)
+    → kept.pieces.back ≡ codes "},\"type\":\"apply_progress\"}\n" → kept.pieces ≡ form_pieces kept.step
+pieces_of kept change step is fronts middles backs =
+    pieces_same kept.pieces (escaped (front_text change.address step)) (escaped (middle_text (kept_step change step).change step)) (codes "},\"type\":\"apply_progress\"}\n") fronts (middles ∙ ap escaped (sym (middle_shown change step))) backs
+    ∙ sym (ap form_pieces is)

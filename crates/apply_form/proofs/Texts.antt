@@ -1,17 +1,12 @@
 -- Texts that are put together in an empty buffer.
-use Rattle.std.proofs.Common.{◌≡◌, ℕ, ◌+◌, ◌-◌, ◌<◌, ◌≤◌, List, [], ◌∷◌, ◌++◌, drop, length, codes, decimal, Ok, Err, OnOk, cond, true, false, refl, sym, ap, ◌∙◌, append_assoc, append-nil, take, arith}
-use Rattle.std.specs.Prelude.{Result, get_or, if◌then◌else◌, is_ok}
-use Rattle.std.proofs.Math.Seq.{take-length}
+use Rattle.std.proofs.Common.{◌≡◌, ℕ, List, [], ◌∷◌, ◌++◌, codes, decimal, Ok, Err, OnOk, cond, sym, ap, ◌∙◌, append_assoc, append-nil}
+use Rattle.std.specs.Prelude.{Result, if◌then◌else◌, is_ok}
 use Rattle.std.proofs.lemmas.Bool.{ne_eqb}
-use Rattle.std.proofs.lemmas.List.{drop_more}
-use Rattle.std.proofs.lemmas.Result.{on_ok_weaker}
 use Rattle.json.specs.Print.{print, print_from, quoted}
 use Rattle.json.specs.Token.{Token}
 use Rattle.apply_events.specs.declared.counts.Counts.{Counts}
 use Rattle.apply_text.specs.declared.operation.Operation.TheVariants.{Apply}
-use Rattle.apply_form.specs.declared.output.Output.{Output}
 use Rattle.apply_form.specs.Message.{imported_text, summary_words}
-use Rattle.apply_form.specs.Outputs.{output_text, outputs_from}
 
 -- what was put into a buffer that was empty is what was wanted
 pub filled : {E : Type 0} (r : Result (Unit {0}) E) (old new piece wanted : List ℕ) → old ≡ [] → new ≡ (if is_ok r then old ++ piece else old) → piece ≡ wanted → OnOk r (new ≡ wanted)

@@ -44,8 +44,8 @@ stays byte text high one other =
 -- a byte that begins no separator
 other_byte : (byte : ℕ) (text : List ℕ) → 128 ≤ byte → (byte ≡ 226 → ⊥) → escaped_onto byte text ≡ byte ∷ text
 other_byte byte text high is =
-    let no : (byte == 226) ≡ false = ne_eqb byte 226 is in
-    stays byte text high (ap (λ b. b && begins_with 128 168 text) no) (ap (λ b. b && begins_with 128 169 text) no)
+    let other : (byte == 226) ≡ false = ne_eqb byte 226 is in
+    stays byte text high (ap (λ b. b && begins_with 128 168 text) other) (ap (λ b. b && begins_with 128 169 text) other)
 
 -- a byte behind the first of a character
 later_byte : (bits : ℕ) (text : List ℕ) → escaped_onto (128 + bits % 64) text ≡ (128 + bits % 64) ∷ text
