@@ -1,9 +1,13 @@
 pub mod Absent
+pub mod Cuts
 pub mod Escapes
 pub mod Events
 pub mod LinesAdded
 pub mod Members
 pub mod Moments
+pub mod OutputTexts
+pub mod Plain
 pub mod Progress
 pub mod Separators
 pub mod Texts
+pub mod Utf8

@@ -1,5 +1,5 @@
 -- The pieces of a message that tells of a step's progress are its text.
-use Rattle.std.proofs.Common.{◌≡◌, ℕ, ◌/◌, ◌%◌, List, [], ◌∷◌, ◌++◌, codes, decimal, Some, None, refl, sym, ap, ap₂, ◌∙◌, append_assoc}
+use Rattle.std.proofs.Common.{◌≡◌, ℕ, ◌/◌, ◌%◌, inl, List, [], ◌∷◌, ◌++◌, codes, decimal, Some, None, refl, sym, ap, ap₂, ◌∙◌, append_assoc, arith}
 use Rattle.std.specs.Option.{option_map_or}
 use Rattle.std.proofs.lemmas.Grind.{flat_map-append}
 use Rattle.std.proofs.lemmas.List.{append_cancel_right}
@@ -9,16 +9,20 @@ use Rattle.serde_json.specs.Written.{compact_text}
 use Rattle.apply_model.specs.declared.plan.step_kind.StepKind.{StepKind}
 use Rattle.apply_model.specs.Plan.ResourceChange.{ResourceChange}
 use Rattle.apply_text.specs.Calendar.{date_of_day}
-use Rattle.apply_text.specs.CachedParts.{KeptStep, front_text, kept_step, open_date, time_of_day}
+use Rattle.apply_text.specs.CachedParts.{KeptPieces, front_text, kept_step, open_date, progress_line, time_of_day}
 use Rattle.apply_text.specs.Elapsed.{elapsed_of}
 use Rattle.apply_text.specs.Message.{progress_message}
 use Rattle.apply_text.specs.Moment.{date_text, moment_text, time_text}
 use Rattle.apply_text.specs.Words.{action_word, still_word}
-use Rattle.apply_text.proofs.CachedTexts.{moment_is}
+use Rattle.apply_text.proofs.CachedTexts.{moment_is, pieces_same}
 use Rattle.apply_text.proofs.Progress.{in_action, in_elapsed, message_is, said, told}
-use Rattle.apply_form.specs.CachedParts.{back_text, progress_text}
+use Rattle.apply_form.specs.CachedParts.{form_pieces, middle_text, progress_text}
+use Rattle.apply_form.specs.Escapes.{escaped}
+use Rattle.apply_form.specs.Lines.{line_of_text}
 use Rattle.apply_form.specs.Moment.{fine_text}
 use Rattle.apply_form.specs.Objects.{hook_object, resource_object}
+use Rattle.apply_form.proofs.Cuts.{Begins, two_of_seven}
+use Rattle.apply_form.proofs.Plain.{date_plain, decimal_plain, elapsed_plain, time_plain}
 
 -- ---- moments
 
@@ -71,9 +75,9 @@ assembled front elapsed moment action seconds resource =
     ∙ sym (as_message (codes "{\"@level\":\"info\",\"@message\":") (34 ∷ front) elapsed (codes " elapsed]\"") (codes ",\"@module\":\"terraform.ui\",\"@timestamp\":") moment (codes ".000000Z\"") (codes ",\"hook\":") (codes "{\"resource\":") resource (codes ",\"action\":\"") action (34 ∷ []) (codes ",\"elapsed_seconds\":") seconds (codes "}" ++ codes ",\"type\":\"apply_progress\"}"))
 
 pub pieces_are : (change : ResourceChange) (step : StepKind) (moment seconds : ℕ)
-    → ((front_text change.address step ++ (elapsed_of seconds ++ codes " elapsed]\",\"@module\":\"terraform.ui\",\"@timestamp\":")) ++ (open_date (moment / 86400) ++ time_of_day (moment % 86400))) ++ (codes ".000000Z\"" ++ (back_text change step ++ (decimal seconds ++ codes "},\"type\":\"apply_progress\"}")))
+    → ((front_text change.address step ++ (elapsed_of seconds ++ codes " elapsed]\",\"@module\":\"terraform.ui\",\"@timestamp\":")) ++ (open_date (moment / 86400) ++ time_of_day (moment % 86400))) ++ (middle_text change step ++ (decimal seconds ++ codes "},\"type\":\"apply_progress\"}"))
     ≡ progress_text moment change step seconds
-unfolding front_text back_text
+unfolding front_text middle_text
 pieces_are change step moment seconds =
     let front = change.address ++ (codes ": Still " ++ (still_word step ++ codes "... [")) in
     let elapsed = elapsed_of seconds in
@@ -88,20 +92,50 @@ pieces_are change step moment seconds =
     ∙ ap (λ t. codes "{\"@level\":\"info\",\"@message\":" ++ t) (ap₂ (λ q b. q ++ (codes ",\"@module\":\"terraform.ui\",\"@timestamp\":" ++ (quoted (fine_text moment) ++ (codes ",\"hook\":" ++ b)))) (said front elapsed text (in_elapsed seconds) is)
     (hook_is change step seconds (codes ",\"type\":\"apply_progress\"}") ∙ ap (λ a. codes "{\"resource\":" ++ (resource ++ (codes ",\"action\":" ++ (a ++ (codes ",\"elapsed_seconds\":" ++ (decimal seconds ++ behind)))))) (in_action step))))
 
--- what is kept of a change shows as the change does
-pub shown_message : (kept : KeptStep) (change : ResourceChange) (step : StepKind) (moment seconds : ℕ) → kept ≡ kept_step change step → progress_text moment kept.change kept.step seconds ≡ progress_text moment change step seconds
-unfolding hook_object resource_object
-shown_message kept change step moment seconds same = ap (λ (k : KeptStep). progress_text moment k.change k.step seconds) same
+-- ---- the line
 
-pub back_shown : (change : ResourceChange) (step : StepKind) → back_text change step ≡ back_text (kept_step change step).change step
-unfolding back_text resource_object
-back_shown change step = refl
+-- what is kept of a change shows as the change does
+middle_shown : (change : ResourceChange) (step : StepKind) → middle_text (kept_step change step).change step ≡ middle_text change step
+unfolding middle_text resource_object
+middle_shown change step = refl
+
+middle_begins : (change : ResourceChange) (step : StepKind) (rest : List ℕ) → Begins (middle_text change step ++ rest)
+unfolding middle_text
+middle_begins change step rest = inl (omega arith)
+
+with_feed : (f e m d t b s z : List ℕ) → ((f ++ (e ++ m)) ++ (d ++ t)) ++ (b ++ (s ++ (z ++ 10 ∷ []))) ≡ (((f ++ (e ++ m)) ++ (d ++ t)) ++ (b ++ (s ++ z))) ++ 10 ∷ []
+with_feed f e m d t b s z = simp append_assoc
+
+-- the texts that are kept, their escapes done, give the line
+pub line_is : (change : ResourceChange) (step : StepKind) (moment seconds : ℕ) → progress_line (form_pieces (kept_step change step)) moment seconds ≡ line_of_text (progress_text moment change step seconds)
+line_is change step moment seconds =
+    let f = front_text change.address step in
+    let e = elapsed_of seconds in
+    let m = codes " elapsed]\",\"@module\":\"terraform.ui\",\"@timestamp\":" in
+    let d = open_date (moment / 86400) in
+    let t = time_of_day (moment % 86400) in
+    let b = middle_text change step in
+    let s = decimal seconds in
+    let z = codes "},\"type\":\"apply_progress\"}" in
+    ap (λ b. ((escaped f ++ (e ++ m)) ++ (d ++ t)) ++ (escaped b ++ (s ++ (z ++ 10 ∷ [])))) (middle_shown change step)
+    ∙ with_feed (escaped f) e m d t (escaped b) s z
+    ∙ ap (λ x. x ++ 10 ∷ [])
+    (sym (two_of_seven f e m d t b s z (elapsed_plain seconds) refl (date_plain (moment / 86400)) (time_plain (moment % 86400) (omega arith)) (decimal_plain seconds) refl (middle_begins change step (s ++ z)))
+    ∙ ap escaped (pieces_are change step moment seconds))
+
+-- ---- what is kept
 
 pub resource_is : (bytes : List ℕ) (change : ResourceChange) → bytes ≡ quoted (codes "resource") ++ 58 ∷ compact_text (resource_object change) → bytes ≡ codes "\"resource\":" ++ compact_text (resource_object change)
 unfolding json_on_literals
 resource_is bytes change is = is
 
-pub back_is : (bytes resource action : List ℕ) (change : ResourceChange) (step : StepKind) → bytes ≡ codes ",\"hook\":{" ++ (resource ++ (codes ",\"action\":\"" ++ (action ++ codes "\",\"elapsed_seconds\":")))
-    → resource ≡ codes "\"resource\":" ++ compact_text (resource_object change) → action ≡ action_word step → bytes ≡ back_text change step
-unfolding back_text
-back_is bytes resource action change step is resources actions = is ∙ ap₂ (λ r a. codes ",\"hook\":{" ++ (r ++ (codes ",\"action\":\"" ++ (a ++ codes "\",\"elapsed_seconds\":")))) resources actions
+pub middle_is : (bytes resource action : List ℕ) (change : ResourceChange) (step : StepKind) → bytes ≡ codes ".000000Z\",\"hook\":{" ++ (resource ++ (codes ",\"action\":\"" ++ (action ++ codes "\",\"elapsed_seconds\":")))
+    → resource ≡ codes "\"resource\":" ++ compact_text (resource_object change) → action ≡ action_word step → bytes ≡ middle_text change step
+unfolding middle_text
+middle_is bytes resource action change step is resources actions = is ∙ ap₂ (λ r a. codes ".000000Z\",\"hook\":{" ++ (r ++ (codes ",\"action\":\"" ++ (a ++ codes "\",\"elapsed_seconds\":")))) resources actions
+
+pub pieces_of : (kept : KeptPieces) (change : ResourceChange) (step : StepKind) → kept.step ≡ kept_step change step → kept.pieces.front ≡ escaped (front_text change.address step) → kept.pieces.middle ≡ escaped (middle_text change step)
+    → kept.pieces.back ≡ codes "},\"type\":\"apply_progress\"}\n" → kept.pieces ≡ form_pieces kept.step
+pieces_of kept change step is fronts middles backs =
+    pieces_same kept.pieces (escaped (front_text change.address step)) (escaped (middle_text (kept_step change step).change step)) (codes "},\"type\":\"apply_progress\"}\n") fronts (middles ∙ ap escaped (sym (middle_shown change step))) backs
+    ∙ sym (ap form_pieces is)

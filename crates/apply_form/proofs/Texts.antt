@@ -1,17 +1,12 @@
 -- Texts that are put together in an empty buffer.
-use Rattle.std.proofs.Common.{◌≡◌, ℕ, ◌+◌, ◌-◌, ◌<◌, ◌≤◌, List, [], ◌∷◌, ◌++◌, drop, length, codes, decimal, Ok, Err, OnOk, cond, true, false, refl, sym, ap, ◌∙◌, append_assoc, append-nil, take, arith}
-use Rattle.std.specs.Prelude.{Result, get_or, if◌then◌else◌, is_ok}
-use Rattle.std.proofs.Math.Seq.{take-length}
+use Rattle.std.proofs.Common.{◌≡◌, ℕ, List, [], ◌∷◌, ◌++◌, codes, decimal, Ok, Err, OnOk, cond, sym, ap, ◌∙◌, append_assoc, append-nil}
+use Rattle.std.specs.Prelude.{Result, if◌then◌else◌, is_ok}
 use Rattle.std.proofs.lemmas.Bool.{ne_eqb}
-use Rattle.std.proofs.lemmas.List.{drop_more}
-use Rattle.std.proofs.lemmas.Result.{on_ok_weaker}
 use Rattle.json.specs.Print.{print, print_from, quoted}
 use Rattle.json.specs.Token.{Token}
 use Rattle.apply_events.specs.declared.counts.Counts.{Counts}
 use Rattle.apply_text.specs.declared.operation.Operation.TheVariants.{Apply}
-use Rattle.apply_form.specs.declared.output.Output.{Output}
 use Rattle.apply_form.specs.Message.{imported_text, summary_words}
-use Rattle.apply_form.specs.Outputs.{output_text, outputs_from}
 
 -- what was put into a buffer that was empty is what was wanted
 pub filled : {E : Type 0} (r : Result (Unit {0}) E) (old new piece wanted : List ℕ) → old ≡ [] → new ≡ (if is_ok r then old ++ piece else old) → piece ≡ wanted → OnOk r (new ≡ wanted)
@@ -59,50 +54,3 @@ pub printed_text : (items before : List ℕ) (start tokens : List Token) (text :
 unfolding print_from
 printed_text items before start tokens text none begun grown is =
     is ∙ ap (λ b. b ++ print tokens) none ∙ ap print grown ∙ ap (λ s. print (s ++ Token.string text ∷ [])) begun ∙ append-nil (quoted text)
-
--- ---- outputs
-
-pub hidden_text : (output : Output) (kind : List ℕ) → output.sensitive ≡ true → kind ≡ output.kind → codes ":{\"sensitive\":true,\"type\":" ++ (kind ++ codes "}") ≡ output_text output
-hidden_text output kind is kinds = rw (is, kinds) refl
-
-pub shown_text : (output : Output) (kind value : List ℕ) → output.sensitive ≡ false → kind ≡ output.kind → value ≡ output.value
-    → codes ":{\"sensitive\":false,\"type\":" ++ (kind ++ (codes ",\"value\":" ++ (value ++ codes "}"))) ≡ output_text output
-shown_text output kind value is kinds values = rw (is, kinds, values) refl
-
-in_pieces : (a n b m c o d : List ℕ) → ((a ++ (n ++ (b ++ (m ++ c)))) ++ o) ++ d ≡ a ++ (n ++ (b ++ (m ++ (c ++ (o ++ d)))))
-in_pieces a n b m c o d = simp append_assoc
-
--- the message of the outputs, of its front, the outputs and its end
-pub whole_message : {E : Type 0} (r : Result (Unit {0}) E) (front middle new a n b m c o d : List ℕ) → front ≡ a ++ (n ++ (b ++ (m ++ c))) → middle ≡ front ++ o → new ≡ (if is_ok r then middle ++ d else middle)
-    → OnOk r (new ≡ a ++ (n ++ (b ++ (m ++ (c ++ (o ++ d))))))
-whole_message (Ok u) front middle new a n b m c o d fronts middles grown = grown ∙ ap (λ t. t ++ d) (middles ∙ ap (λ t. t ++ o) fronts) ∙ in_pieces a n b m c o d
-whole_message (Err e) front middle new a n b m c o d fronts middles grown = tt
-
--- one output more
-pub more_told : (old new start : List ℕ) (outputs : List Output) (i : ℕ) (x : Output) → i < length outputs → x ≡ get_or outputs i x
-    → new ≡ old ++ (codes "," ++ (quoted x.name ++ output_text x))
-    → old ++ outputs_from (codes ",") (drop i outputs) ≡ start
-    → new ++ outputs_from (codes ",") (drop (i + 1) outputs) ≡ start
-more_told old new start outputs i x few is grown before =
-    let rest = outputs_from (codes ",") (drop (i + 1) outputs) in
-    let next : drop i outputs ≡ x ∷ drop (i + 1) outputs = drop_more outputs i x few ∙ ap (λ y. y ∷ drop (i + 1) outputs) (sym is) in
-    ap (λ t. t ++ rest) grown ∙ five old (codes ",") (quoted x.name) (output_text x) rest ∙ sym (ap (λ xs. old ++ outputs_from (codes ",") xs) next) ∙ before
-  where
-    five : (a b c d e : List ℕ) → (a ++ (b ++ (c ++ d))) ++ e ≡ a ++ (b ++ (c ++ (d ++ e)))
-    five a b c d e = simp append_assoc
-
--- the first output, and then the others
-pub first_told : {E : Type 0} (r : Result (Unit {0}) E) (old mid new : List ℕ) (outputs others : List Output) (x : Output) → outputs ≡ x ∷ others
-    → mid ≡ old ++ ([] ++ (quoted x.name ++ output_text x)) → OnOk r (new ≡ mid ++ outputs_from (codes ",") others) → OnOk r (new ≡ old ++ outputs_from [] outputs)
-first_told r old mid new outputs others x is grown told =
-    on_ok_weaker r (λ e. e ∙ ap (λ t. t ++ outputs_from (codes ",") others) grown ∙ four old (quoted x.name) (output_text x) (outputs_from (codes ",") others) ∙ sym (ap (λ xs. old ++ outputs_from [] xs) is)) told
-  where
-    four : (a c d e : List ℕ) → (a ++ ([] ++ (c ++ d))) ++ e ≡ a ++ ([] ++ (c ++ (d ++ e)))
-    four a c d e = simp append_assoc
-
--- the first output of some, and the others as they are cut off
-pub first_of : (outputs : List Output) (x : Output) → 1 ≤ length outputs → x ≡ get_or outputs 0 x → outputs ≡ x ∷ take (length outputs - 1) (drop 1 outputs)
-first_of [] x some is = absurd (omega (arith, some))
-first_of (output ∷ outputs) x some is =
-    let few : length (output ∷ outputs) - 1 ≡ length outputs = omega arith in
-    ap (λ y. y ∷ outputs) (sym is) ∙ ap (λ ys. x ∷ ys) (sym (ap (λ n. take n outputs) few ∙ take-length outputs))

@@ -1,5 +1,5 @@
 -- The message of the outputs (Machine-Readable UI, "Outputs"). Types and values are texts of JSON that stand as they are.
-use Rattle.std.specs.Prelude.{ℕ, List, [], ◌∷◌, ◌++◌, codes, decimal, length, if◌then◌else◌}
+use Rattle.std.specs.Prelude.{ℕ, List, [], ◌∷◌, ◌++◌, codes, decimal, length, Bool, if◌then◌else◌}
 use Rattle.json.specs.Print.{quoted}
 use Rattle.apply_form.specs.declared.output.Output.{Output}
 
@@ -8,6 +8,10 @@ abbrev pub output_text : Output → List ℕ
 output_text output =
     if output.sensitive then codes ":{\"sensitive\":true,\"type\":" ++ (output.kind ++ codes "}")
     else (codes ":{\"sensitive\":false,\"type\":" ++ (output.kind ++ (codes ",\"value\":" ++ (output.value ++ codes "}"))))
+
+-- what stands between the name of an output and its type, for private clauses
+abbrev pub before_type : (sensitive : Bool) → List ℕ
+before_type sensitive = if sensitive then codes ":{\"sensitive\":true,\"type\":" else codes ":{\"sensitive\":false,\"type\":"
 
 -- some outputs by name, with that before the first and a comma before each other
 abbrev pub outputs_from : (before : List ℕ) → List Output → List ℕ

@@ -1,13 +1,13 @@
 //! The escapes of a line.
 
-ghost use Rattle.std.specs.Prelude.{◌≡◌, ◌≤◌, ◌<◌, ◌++◌, drop, false, length, take, IfOk, OnOk, OnErr};
+ghost use Rattle.std.specs.Prelude.{◌≡◌, ◌≤◌, ◌<◌, ◌++◌, drop, false, length, string_bytes, take, IfOk, OnOk, OnErr};
 ghost use Rattle.std.specs.List.{list_any};
 ghost use Rattle.memchr.specs.Find.{is_byte, is_byte3};
 ghost use Rattle.apply_form.specs.Escapes.{begins_with, escaped, is_special};
 ghost use Rattle.apply_form.specs.Lines.{line_of_text};
 
 use memchr::{memchr, memchr3};
-use std::alloc::AllocError;
+use std::alloc::{AllocError, Global};
 
 /// How far the next character with an escape is looked for at a time, so that no long text is looked through anew for each.
 const SEARCH_LEN: usize = 1_024;
@@ -28,6 +28,15 @@ pub fn push_line(lines: &mut Vec<u8>, text: &[u8]) -> Result<(), AllocError>
     }
 }
 
+/// The text with its escapes. `Err` where memory is refused.
+pub fn escaped_text(alloc: Global, text: &str) -> Result<String, AllocError>
+    ensures { IfOk result (λ whole. string_bytes whole ≡ escaped text.now) }
+{
+    let mut bytes = Vec::with_capacity(alloc, text.len())?;
+    push_escaped(&mut bytes, text.as_bytes())?;
+    Ok(String::from_utf8(bytes).unwrap())
+}
+
 /// Appends a line to others, or a part of it where memory is refused.
 fn push_parts(lines: &mut Vec<u8>, text: &[u8]) -> Result<(), AllocError>
     ensures ok { OnOk result (lines.new.items ≡ lines.old.items ++ line_of_text text.now) }
@@ -39,7 +48,7 @@ fn push_parts(lines: &mut Vec<u8>, text: &[u8]) -> Result<(), AllocError>
 }
 
 /// Appends the text with its escapes, or a part of it where memory is refused.
-fn push_escaped(lines: &mut Vec<u8>, text: &[u8]) -> Result<(), AllocError>
+pub fn push_escaped(lines: &mut Vec<u8>, text: &[u8]) -> Result<(), AllocError>
     ensures ok { OnOk result (lines.new.items ≡ lines.old.items ++ escaped text.now) }
     ensures behind { take (length lines.old.items) lines.new.items ≡ lines.old.items }
 {

@@ -9,17 +9,17 @@ ghost use Rattle.apply_form.specs.CachedParts.{progress_text};
 ghost use Rattle.apply_form.specs.Lines.{event_text, line_of_text, message_line, note_text, outputs_text, planned_text, summary_text, version_text};
 ghost use Rattle.apply_form.specs.Message.{is_silent as is_silent_event, planned_message};
 
-use crate::cached_parts::frames::ProgressFrames;
+use crate::cached_parts::frame::FormFrame;
 use crate::change_details::ChangeDetails;
 use crate::escaping::push_line;
 use crate::messages::{put_event, put_note, put_planned, put_summary, put_version};
 use crate::moment::FineMoment;
 use crate::output::Output;
-use crate::outputs::say_outputs;
+use crate::outputs::push_outputs;
 use crate::plan_note::PlanNote;
 use apply_events::{Counts, Event, What};
 use apply_model::{Change, Plan, Script, StepKind};
-use apply_text::parts::AppliedStep;
+use apply_text::parts::{AppliedStep, ProgressFrames};
 use apply_text::{Operation, Start};
 use json::Writer;
 use std::alloc::{AllocError, Global};
@@ -45,10 +45,10 @@ pub struct FormBuffer {
     bytes: Vec<u8>,
     // A line before its escapes.
     line: Vec<u8>,
-    // The texts that a message is put together of, one after the other, or a whole message.
+    // The texts that a message is put together of, one after the other, or a line of progress.
     scratch: String,
     // What lines of progress have in common with those before them.
-    kept: ProgressFrames,
+    kept: ProgressFrames<FormFrame>,
 }
 
 impl Model for FormBuffer {
@@ -214,8 +214,13 @@ impl FormBuffer {
         ensures err { OnErr result (self.new ≡ self.old) }
     {
         let moment = FineMoment::new(start, latest);
-        say_outputs(self.alloc, &mut self.scratch, &moment, outputs)?;
-        push_line(&mut self.bytes, self.scratch.as_bytes())
+        push_outputs(
+            self.alloc,
+            &mut self.bytes,
+            &mut self.scratch,
+            &moment,
+            outputs,
+        )
     }
 
     /// Appends the line of a change that is planned in that word.
@@ -280,8 +285,8 @@ impl FormBuffer {
     {
         let moment = start.seconds() + latest;
         self.kept
-            .put_message(&mut self.scratch, change, step, number, moment, seconds)?;
-        push_line(&mut self.bytes, self.scratch.as_bytes())
+            .put_line(&mut self.scratch, change, step, number, moment, seconds)?;
+        self.bytes.extend_from_slice(self.scratch.as_bytes())
     }
 
     /// A writer of a line.

@@ -1,26 +1,74 @@
-//! The message of the outputs, whose types and values are texts of JSON already.
+//! The line of the outputs, whose types and values are texts of JSON already.
 
-ghost use Rattle.std.specs.Prelude.{◌≡◌, ◌++◌, [], codes, decimal, string_bytes, IfOk, OnOk};
+ghost use Rattle.std.specs.Prelude.{◌≡◌, ◌++◌, [], codes, decimal, length, string_bytes, take, IfOk, OnErr, OnOk};
 ghost use Rattle.json.specs.Print.{quoted};
+ghost use Rattle.apply_form.specs.Escapes.{escaped};
+ghost use Rattle.apply_form.specs.Lines.{line_of_text};
+ghost use Rattle.apply_form.specs.Outputs as specs;
 ghost use Rattle.apply_form.specs.Outputs.{output_text, outputs_from, outputs_message};
 
+use crate::escaping::push_escaped;
 use crate::moment::FineMoment;
 use crate::output::Output;
 use json::Writer;
 use std::alloc::{AllocError, Global};
 
-/// Puts the message of the outputs into `text`, in the place of what stood there. `Err` where memory is refused.
-pub fn say_outputs(
+/// How long a line is but for its outputs, and an output but for its texts, at most.
+const FRAME_LEN: usize = 160;
+
+/// Appends the line of the outputs to others, text by text, so that no text is copied twice. `Err` where memory is refused;
+/// the lines are then as they were. `scratch` is used up.
+pub fn push_outputs(
     alloc: Global,
-    text: &mut String,
+    lines: &mut Vec<u8>,
+    scratch: &mut String,
     moment: &FineMoment,
     outputs: &[Output],
 ) -> Result<(), AllocError>
-    ensures { OnOk result (string_bytes text.new ≡ outputs_message moment.now outputs.now) }
+    ensures ok { OnOk result (lines.new.items
+        ≡ lines.old.items ++ line_of_text (outputs_message moment.now outputs.now)) }
+    ensures err { OnErr result (lines.new.items ≡ lines.old.items) }
 {
-    say_front(text, moment, outputs.len())?;
-    push_all(alloc, text, outputs)?;
-    text.push_str("},\"type\":\"outputs\"}")
+    let before = lines.len();
+    match push_message(alloc, lines, scratch, moment, outputs) {
+        Ok(()) => Ok(()),
+        Err(refused) => {
+            lines.truncate(before);
+            Err(refused)
+        }
+    }
+}
+
+/// Appends the line of the outputs, or a part of it where memory is refused. Room for all of it is made at once.
+fn push_message(
+    alloc: Global,
+    lines: &mut Vec<u8>,
+    scratch: &mut String,
+    moment: &FineMoment,
+    outputs: &[Output],
+) -> Result<(), AllocError>
+    ensures ok { OnOk result (lines.new.items
+        ≡ lines.old.items ++ line_of_text (outputs_message moment.now outputs.now)) }
+    ensures behind { take (length lines.old.items) lines.new.items ≡ lines.old.items }
+{
+    lines.reserve(room_for(outputs))?;
+    say_front(scratch, moment, outputs.len())?;
+    push_escaped(lines, scratch.as_bytes())?;
+    push_all(alloc, lines, scratch, outputs)?;
+    lines.extend_from_slice(b"},\"type\":\"outputs\"}\n")
+}
+
+/// How long the line of the outputs is at most, where nothing in it has an escape.
+fn room_for(outputs: &[Output]) -> usize {
+    let mut room = FRAME_LEN;
+    for output in outputs {
+        room = room
+            .saturating_add(FRAME_LEN)
+            .saturating_add(output.name.as_str().len())
+            .saturating_add(output.kind.as_str().len())
+            .saturating_add(output.value.as_str().len());
+    }
+    room
 }
 
 /// Puts the message up to the first of so many outputs into `text`.
@@ -36,58 +84,101 @@ fn say_front(text: &mut String, moment: &FineMoment, count: usize) -> Result<(),
     )
 }
 
-/// Appends the outputs, with a comma between two. `Err` where memory is refused.
-fn push_all(alloc: Global, text: &mut String, outputs: &[Output]) -> Result<(), AllocError>
-    ensures { OnOk result (string_bytes text.new ≡ string_bytes text.old ++ outputs_from [] outputs.now) }
+/// Appends the outputs, with a comma between two, or a part of them where memory is refused.
+fn push_all(
+    alloc: Global,
+    lines: &mut Vec<u8>,
+    scratch: &mut String,
+    outputs: &[Output],
+) -> Result<(), AllocError>
+    ensures ok { OnOk result
+        (lines.new.items ≡ lines.old.items ++ escaped (outputs_from [] outputs.now)) }
+    ensures behind { take (length lines.old.items) lines.new.items ≡ lines.old.items }
 {
     match outputs {
         [] => Ok(()),
         [first, others @ ..] => {
-            push_output(alloc, text, "", first)?;
-            push_more(alloc, text, others)
+            push_output(alloc, lines, scratch, "", first)?;
+            push_more(alloc, lines, scratch, others)
         }
     }
 }
 
-/// Appends further outputs, with a comma before each. `Err` where memory is refused.
-fn push_more(alloc: Global, text: &mut String, outputs: &[Output]) -> Result<(), AllocError>
-    ensures { OnOk result
-        (string_bytes text.new ≡ string_bytes text.old ++ outputs_from (codes ",") outputs.now) }
+/// Appends further outputs, with a comma before each, or a part of them where memory is refused.
+fn push_more(
+    alloc: Global,
+    lines: &mut Vec<u8>,
+    scratch: &mut String,
+    outputs: &[Output],
+) -> Result<(), AllocError>
+    ensures ok { OnOk result
+        (lines.new.items ≡ lines.old.items ++ escaped (outputs_from (codes ",") outputs.now)) }
+    ensures behind { take (length lines.old.items) lines.new.items ≡ lines.old.items }
 {
     for output in outputs {
-        push_output(alloc, text, ",", output)?;
+        push_output(alloc, lines, scratch, ",", output)?;
     }
     Ok(())
 }
 
-/// Appends an output behind that comma. `Err` where memory is refused.
+/// Appends an output behind that comma, or a part of it where memory is refused.
 fn push_output(
+    alloc: Global,
+    lines: &mut Vec<u8>,
+    scratch: &mut String,
+    comma: &str,
+    output: &Output,
+) -> Result<(), AllocError>
+    ensures ok { OnOk result (lines.new.items ≡ lines.old.items
+        ++ escaped (comma.now ++ (quoted output.now.name ++ output_text output.now))) }
+    ensures behind { take (length lines.old.items) lines.new.items ≡ lines.old.items }
+{
+    say_name(alloc, scratch, comma, output)?;
+    push_escaped(lines, scratch.as_bytes())?;
+    push_escaped(lines, output.kind.as_str().as_bytes())?;
+    if output.sensitive {
+        lines.extend_from_slice(b"}")
+    } else {
+        push_value(lines, output.value.as_str())
+    }
+}
+
+/// Appends the value of an output, behind its type, or a part of it where memory is refused.
+fn push_value(lines: &mut Vec<u8>, value: &str) -> Result<(), AllocError>
+    ensures ok { OnOk result
+        (lines.new.items ≡ lines.old.items ++ escaped (codes ",\"value\":" ++ (value.now ++ codes "}"))) }
+    ensures behind { take (length lines.old.items) lines.new.items ≡ lines.old.items }
+{
+    lines.extend_from_slice(b",\"value\":")?;
+    push_escaped(lines, value.as_bytes())?;
+    lines.extend_from_slice(b"}")
+}
+
+/// Puts what stands before the type of an output into `text`, behind that comma. `Err` where memory is refused.
+fn say_name(
     alloc: Global,
     text: &mut String,
     comma: &str,
     output: &Output,
 ) -> Result<(), AllocError>
     ensures { OnOk result (string_bytes text.new
-        ≡ string_bytes text.old ++ (comma.now ++ (quoted output.now.name ++ output_text output.now))) }
+        ≡ comma.now ++ (quoted output.now.name ++ specs.before_type output.now.sensitive)) }
 {
     let name = quoted_text(alloc, output.name.as_str())?;
-    push_named(text, comma, name.as_str(), output)
+    let name = name.as_str();
+    let before_type = before_type(output.sensitive);
+    text.clear();
+    write!(text, "{comma}{name}{before_type}")
 }
 
-/// Appends an output behind that comma and its name in JSON. `Err` where memory is refused.
-fn push_named(text: &mut String, comma: &str, name: &str, output: &Output) -> Result<(), AllocError>
-    ensures { OnOk result (string_bytes text.new
-        ≡ string_bytes text.old ++ (comma.now ++ (name.now ++ output_text output.now))) }
+/// What stands between the name of an output and its type.
+fn before_type(sensitive: bool) -> &'static str
+    ensures { result.now ≡ specs.before_type sensitive }
 {
-    let kind = output.kind.as_str();
-    let value = output.value.as_str();
-    if output.sensitive {
-        write!(text, "{comma}{name}:{{\"sensitive\":true,\"type\":{kind}}}")
+    if sensitive {
+        ":{\"sensitive\":true,\"type\":"
     } else {
-        write!(
-            text,
-            "{comma}{name}:{{\"sensitive\":false,\"type\":{kind},\"value\":{value}}}"
-        )
+        ":{\"sensitive\":false,\"type\":"
     }
 }
 

@@ -13,15 +13,14 @@ use Rattle.json.proofs.OnLiterals.{json_on_literals}
 use Rattle.serde_json.specs.Data.{Data}
 use Rattle.serde_json.specs.Written.{compact_text}
 use Rattle.serde_json.proofs.Texts.{print-outline}
-use Rattle.apply_model.specs.declared.plan.key.Key.{Key}
 use Rattle.apply_model.specs.declared.plan.step_kind.StepKind.{StepKind}
 use Rattle.apply_model.specs.Plan.ResourceChange.{ResourceChange}
 use Rattle.apply_text.specs.Calendar.{date_of_day}
-use Rattle.apply_text.specs.CachedParts.{back_text, front_text, open_date, open_text, rest_of_day, shown}
+use Rattle.apply_text.specs.CachedParts.{KeptPieces, ProgressPieces, back_text, front_text, kept_step, line_pieces, middle_text, open_date, open_text, time_of_day}
 use Rattle.apply_text.specs.Moment.{date_text, moment_text, time_text, two_digits}
 use Rattle.apply_text.specs.Objects.{resource_object}
 use Rattle.apply_text.specs.Sending.{member_tokens}
-use Rattle.apply_text.specs.Words.{still_word}
+use Rattle.apply_text.specs.Words.{action_word, still_word}
 
 -- a piece, and then others
 pub then_piece : {E : Type 0} (r : Result (Unit {0}) E) (old mid new first rest : List ℕ) → mid ≡ old ++ first → OnOk r (new ≡ mid ++ rest) → OnOk r (new ≡ old ++ (first ++ rest))
@@ -66,14 +65,33 @@ front_is front opened slice text slice₂ word address new step fronts slices op
     let same : slice₂ ≡ open_text (address ++ (codes ": Still " ++ (still_word step ++ codes "... ["))) = slices ∙ opens ∙ ap open_text (texts ∙ are ∙ ap (λ w. address ++ (codes ": Still " ++ (w ++ codes "... ["))) words) in
     grown ∙ ap (λ f. f ++ slice₂) fronts ∙ ap (λ s. codes "{\"@level\":\"info\",\"@message\":" ++ s) same
 
-pub back_is : (back new : List ℕ) (change : ResourceChange) → back ≡ quoted (codes "resource") ++ 58 ∷ compact_text (resource_object change) → new ≡ back ++ codes "},\"type\":\"apply_progress\"}\n" → new ≡ back_text change
-unfolding back_text json_on_literals
-back_is back new change is grown = grown ∙ ap (λ b. b ++ codes "},\"type\":\"apply_progress\"}\n") is
+pub resource_is : (bytes : List ℕ) (change : ResourceChange) → bytes ≡ quoted (codes "resource") ++ 58 ∷ compact_text (resource_object change) → bytes ≡ codes "\"resource\":" ++ compact_text (resource_object change)
+unfolding json_on_literals
+resource_is bytes change is = is
+
+pub middle_is : (action new : List ℕ) (step : StepKind) → action ≡ action_word step → new ≡ codes "Z\",\"hook\":{\"action\":\"" ++ (action ++ codes "\",\"elapsed_seconds\":") → new ≡ middle_text step
+unfolding middle_text
+middle_is action new step is grown = grown ∙ ap (λ a. codes "Z\",\"hook\":{\"action\":\"" ++ (a ++ codes "\",\"elapsed_seconds\":")) is
+
+pub back_is : (resource new : List ℕ) (change : ResourceChange) → resource ≡ codes "\"resource\":" ++ compact_text (resource_object change) → new ≡ codes "," ++ (resource ++ codes "},\"type\":\"apply_progress\"}\n") → new ≡ back_text change
+unfolding back_text
+back_is resource new change is grown = grown ∙ ap (λ r. codes "," ++ (r ++ codes "},\"type\":\"apply_progress\"}\n")) is
 
 -- what is kept of a change is what is shown of it
-pub back_shown : (change : ResourceChange) (address module_address kind_name name : List ℕ) (key : Key) → address ≡ change.address → module_address ≡ change.module_address → kind_name ≡ change.kind_name → name ≡ change.name → key ≡ change.key → back_text change ≡ back_text (shown address module_address kind_name name key)
+back_shown : (change : ResourceChange) (step : StepKind) → back_text change ≡ back_text (kept_step change step).change
 unfolding back_text resource_object
-back_shown change address module_address kind_name name key addresses modules kinds names keys = rw (addresses, modules, kinds, names, keys) refl
+back_shown change step = refl
+
+-- texts that were put together
+pub pieces_same : (pieces : ProgressPieces) (front middle back : List ℕ) → pieces.front ≡ front → pieces.middle ≡ middle → pieces.back ≡ back → pieces ≡ record { front = front; middle = middle; back = back }
+pieces_same pieces front middle back fronts middles backs =
+    let of : List ℕ → List ℕ → List ℕ → ProgressPieces = λ f m b. record { front = f; middle = m; back = b } in
+    ap₂ (λ f m. of f m pieces.back) fronts middles ∙ ap (λ b. of front middle b) backs
+
+pub pieces_of : (kept : KeptPieces) (change : ResourceChange) (step : StepKind) → kept.step ≡ kept_step change step → kept.pieces.front ≡ front_text change.address step → kept.pieces.middle ≡ middle_text step → kept.pieces.back ≡ back_text change
+    → kept.pieces ≡ line_pieces kept.step
+pieces_of kept change step is fronts middles backs =
+    pieces_same kept.pieces (front_text change.address step) (middle_text step) (back_text (kept_step change step).change) fronts middles (backs ∙ back_shown change step) ∙ sym (ap line_pieces is)
 
 -- ---- moments
 
@@ -105,7 +123,7 @@ in_time second few =
     (ap (λ t. 58 ∷ t)
     (joined d₃ (codes "Z") ∙ ap (λ x. x ++ codes "Z") (in_two (second % 60) (omega arith)))))))
 
-pub moment_is : (seconds : ℕ) → open_date (seconds / 86400) ++ rest_of_day (seconds % 86400) ≡ quoted (moment_text seconds)
+pub moment_is : (seconds : ℕ) → open_date (seconds / 86400) ++ (time_of_day (seconds % 86400) ++ codes "Z\"") ≡ quoted (moment_text seconds)
 unfolding open_date moment_text
 moment_is seconds =
     let second = seconds % 86400 in

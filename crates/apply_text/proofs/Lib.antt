@@ -6,4 +6,5 @@ pub mod LinesAdded
 pub mod Moments
 pub mod Progress
 pub mod Sending
+pub mod ShortDates
 pub mod Texts

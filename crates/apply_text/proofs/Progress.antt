@@ -1,5 +1,5 @@
 -- The pieces of a line that tells of a step's progress are its line.
-use Rattle.std.proofs.Common.{◌≡◌, ℕ, zero, suc, ◌<◌, List, [], ◌∷◌, ◌++◌, codes, decimal, Some, None, false, refl, sym, ap, ap₂, ◌∙◌, append_assoc, arith}
+use Rattle.std.proofs.Common.{◌≡◌, ℕ, zero, suc, ◌/◌, ◌%◌, ◌<◌, List, [], ◌∷◌, ◌++◌, codes, decimal, Some, None, false, refl, sym, ap, ap₂, ◌∙◌, append_assoc, arith}
 use Rattle.std.specs.Fmt.{digit_glyph, digits, digits_onto}
 use Rattle.std.proofs.lemmas.Grind.{common_steps, flat_map-append}
 use Rattle.json.specs.Print.{escape, escape_byte, quoted}
@@ -10,12 +10,13 @@ use Rattle.apply_model.specs.declared.plan.step_kind.StepKind.{StepKind}
 use Rattle.apply_model.specs.declared.plan.step_kind.StepKind.TheVariants.{Create, Update, Delete, Read}
 use Rattle.apply_model.specs.Plan.ResourceChange.{ResourceChange}
 use Rattle.apply_text.specs.Elapsed.{elapsed_of}
-use Rattle.apply_text.specs.CachedParts.{KeptStep, back_text, front_text, kept_step}
+use Rattle.apply_text.specs.CachedParts.{back_text, front_text, kept_step, line_pieces, middle_text, open_date, progress_line, time_of_day}
 use Rattle.apply_text.specs.Lines.{message_line, message_object, typed}
 use Rattle.apply_text.specs.Message.{progress_message}
 use Rattle.apply_text.specs.Moment.{moment_text}
 use Rattle.apply_text.specs.Objects.{hook_object, resource_object}
 use Rattle.apply_text.specs.Words.{action_word, still_word}
+use Rattle.apply_text.proofs.CachedTexts.{moment_is}
 
 joined : (xs ys : List ℕ) → escape (xs ++ ys) ≡ escape xs ++ escape ys
 joined xs ys = flat_map-append escape_byte xs ys
@@ -72,28 +73,36 @@ pub told : (address still elapsed : List ℕ) → address ++ codes ": " ++ (code
 told address still elapsed = simp append_assoc
 
 -- the pieces, one behind the other
-assembled : (front elapsed moment action seconds resource : List ℕ)
-    → (((codes "{\"@level\":\"info\",\"@message\":" ++ (34 ∷ front)) ++ (elapsed ++ codes " elapsed]\",\"@module\":\"terraform.ui\",\"@timestamp\":")) ++ moment) ++ (codes ",\"hook\":{\"action\":\"" ++ (action ++ (codes "\",\"elapsed_seconds\":" ++ (seconds ++ (codes "," ++ (codes "\"resource\":" ++ (resource ++ codes "},\"type\":\"apply_progress\"}\n")))))))
-    ≡ (codes "{\"@level\":\"info\",\"@message\":" ++ ((34 ∷ (front ++ (elapsed ++ codes " elapsed]\""))) ++ (codes ",\"@module\":\"terraform.ui\",\"@timestamp\":" ++ (moment ++ (codes ",\"hook\":" ++ (codes "{\"action\":" ++ ((34 ∷ (action ++ 34 ∷ [])) ++ (codes ",\"elapsed_seconds\":" ++ (seconds ++ (codes ",\"resource\":" ++ (resource ++ (codes "}" ++ codes ",\"type\":\"apply_progress\"}")))))))))))) ++ 10 ∷ []
-assembled front elapsed moment action seconds resource = simp append_assoc
+in_a_row : (a front elapsed m date time z action d seconds c resource e : List ℕ)
+    → (((a ++ front) ++ (elapsed ++ m)) ++ (date ++ time)) ++ ((z ++ (action ++ d)) ++ (seconds ++ (c ++ (resource ++ e))))
+    ≡ a ++ (front ++ (elapsed ++ (m ++ (date ++ (time ++ (z ++ (action ++ (d ++ (seconds ++ (c ++ (resource ++ e)))))))))))
+in_a_row a front elapsed m date time z action d seconds c resource e = simp append_assoc
 
-pub pieces_are : (change : ResourceChange) (step : StepKind) (moment seconds : ℕ)
-    → ((front_text change.address step ++ (elapsed_of seconds ++ codes " elapsed]\",\"@module\":\"terraform.ui\",\"@timestamp\":")) ++ quoted (moment_text moment)) ++ (codes ",\"hook\":{\"action\":\"" ++ (action_word step ++ (codes "\",\"elapsed_seconds\":" ++ (decimal seconds ++ (codes "," ++ back_text change)))))
-    ≡ message_line moment (progress_message change step seconds)
-unfolding front_text back_text
+as_line : (a front elapsed q m date time z h action quote d seconds r resource e feed : List ℕ)
+    → (a ++ ((front ++ (elapsed ++ q)) ++ (m ++ ((date ++ (time ++ z)) ++ (h ++ ((action ++ quote) ++ (d ++ (seconds ++ (r ++ (resource ++ e)))))))))) ++ feed
+    ≡ a ++ (front ++ (elapsed ++ (q ++ (m ++ (date ++ (time ++ (z ++ (h ++ (action ++ (quote ++ (d ++ (seconds ++ (r ++ (resource ++ (e ++ feed)))))))))))))))
+as_line a front elapsed q m date time z h action quote d seconds r resource e feed = simp append_assoc
+
+assembled : (front elapsed date time action seconds resource : List ℕ)
+    → (((codes "{\"@level\":\"info\",\"@message\":" ++ (34 ∷ front)) ++ (elapsed ++ codes " elapsed]\",\"@module\":\"terraform.ui\",\"@timestamp\":")) ++ (date ++ time)) ++ ((codes "Z\",\"hook\":{\"action\":\"" ++ (action ++ codes "\",\"elapsed_seconds\":")) ++ (seconds ++ (codes "," ++ ((codes "\"resource\":" ++ resource) ++ codes "},\"type\":\"apply_progress\"}\n"))))
+    ≡ (codes "{\"@level\":\"info\",\"@message\":" ++ ((34 ∷ (front ++ (elapsed ++ codes " elapsed]\""))) ++ (codes ",\"@module\":\"terraform.ui\",\"@timestamp\":" ++ ((date ++ (time ++ codes "Z\"")) ++ (codes ",\"hook\":" ++ (codes "{\"action\":" ++ ((34 ∷ (action ++ 34 ∷ [])) ++ (codes ",\"elapsed_seconds\":" ++ (seconds ++ (codes ",\"resource\":" ++ (resource ++ (codes "}" ++ codes ",\"type\":\"apply_progress\"}")))))))))))) ++ 10 ∷ []
+assembled front elapsed date time action seconds resource =
+    in_a_row (codes "{\"@level\":\"info\",\"@message\":") (34 ∷ front) elapsed (codes " elapsed]\",\"@module\":\"terraform.ui\",\"@timestamp\":") date time (codes "Z\",\"hook\":{\"action\":\"") action (codes "\",\"elapsed_seconds\":") seconds (codes ",") (codes "\"resource\":" ++ resource) (codes "},\"type\":\"apply_progress\"}\n")
+    ∙ sym (as_line (codes "{\"@level\":\"info\",\"@message\":") (34 ∷ front) elapsed (codes " elapsed]\"") (codes ",\"@module\":\"terraform.ui\",\"@timestamp\":") date time (codes "Z\"") (codes ",\"hook\":{\"action\":\"") action (34 ∷ []) (codes ",\"elapsed_seconds\":") seconds (codes ",\"resource\":") resource (codes "}" ++ codes ",\"type\":\"apply_progress\"}") (10 ∷ []))
+
+pub pieces_are : (change : ResourceChange) (step : StepKind) (moment seconds : ℕ) → progress_line (line_pieces (kept_step change step)) moment seconds ≡ message_line moment (progress_message change step seconds)
+unfolding front_text middle_text back_text resource_object
 pieces_are change step moment seconds =
     let front = change.address ++ (codes ": Still " ++ (still_word step ++ codes "... [")) in
     let elapsed = elapsed_of seconds in
     let text = (progress_message change step seconds).text in
     let body = hook_object change step (Some seconds) None in
+    let resource = compact_text (resource_object change) in
+    let behind = codes "}" ++ codes ",\"type\":\"apply_progress\"}" in
     let is : text ≡ front ++ (elapsed ++ codes " elapsed]") = told change.address (still_word step) elapsed in
     let time = quoted (moment_text moment) in
-    assembled (escape front) elapsed time (action_word step) (decimal seconds) (compact_text (resource_object change))
+    assembled (escape front) elapsed (open_date (moment / 86400)) (time_of_day (moment % 86400)) (action_word step) (decimal seconds) resource
+    ∙ ap (λ time. (codes "{\"@level\":\"info\",\"@message\":" ++ ((34 ∷ (escape front ++ (elapsed ++ codes " elapsed]\""))) ++ (codes ",\"@module\":\"terraform.ui\",\"@timestamp\":" ++ (time ++ (codes ",\"hook\":" ++ (codes "{\"action\":" ++ ((34 ∷ (action_word step ++ 34 ∷ [])) ++ (codes ",\"elapsed_seconds\":" ++ (decimal seconds ++ (codes ",\"resource\":" ++ (resource ++ behind))))))))))) ++ 10 ∷ []) (moment_is moment)
     ∙ sym (ap (λ t. t ++ 10 ∷ []) (message_is text (moment_text moment) body
     ∙ ap (λ t. codes "{\"@level\":\"info\",\"@message\":" ++ t) (ap₂ (λ q b. q ++ (codes ",\"@module\":\"terraform.ui\",\"@timestamp\":" ++ (time ++ (codes ",\"hook\":" ++ b)))) (said front elapsed text (in_elapsed seconds) is)
-    (hook_is change step seconds (codes ",\"type\":\"apply_progress\"}") ∙ ap (λ a. codes "{\"action\":" ++ (a ++ (codes ",\"elapsed_seconds\":" ++ (decimal seconds ++ (codes ",\"resource\":" ++ (compact_text (resource_object change) ++ (codes "}" ++ codes ",\"type\":\"apply_progress\"}"))))))) (in_action step)))))
-
--- what is kept of a change shows as the change does
-pub shown_line : (kept : KeptStep) (change : ResourceChange) (step : StepKind) (moment seconds : ℕ) → kept ≡ kept_step change step → message_line moment (progress_message kept.change kept.step seconds) ≡ message_line moment (progress_message change step seconds)
-unfolding hook_object resource_object
-shown_line kept change step moment seconds same = ap (λ (k : KeptStep). message_line moment (progress_message k.change k.step seconds)) same
+    (hook_is change step seconds (codes ",\"type\":\"apply_progress\"}") ∙ ap (λ a. codes "{\"action\":" ++ (a ++ (codes ",\"elapsed_seconds\":" ++ (decimal seconds ++ (codes ",\"resource\":" ++ (resource ++ behind)))))) (in_action step)))))

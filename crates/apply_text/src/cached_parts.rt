@@ -6,3 +6,6 @@ pub mod front;
 pub mod kept_date;
 pub mod key;
 pub mod open_text;
+pub mod progress_frame;
+pub mod progress_texts;
+pub mod shown_step;

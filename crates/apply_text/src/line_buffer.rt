@@ -9,6 +9,7 @@ ghost use Rattle.apply_text.specs.Lines.{event_text, message_line, summary_text,
 ghost use Rattle.apply_text.specs.Message.{progress_message};
 
 use crate::applied_step::AppliedStep;
+use crate::cached_parts::frame::LineFrame;
 use crate::cached_parts::frames::ProgressFrames;
 use crate::display::moment::Moment;
 use crate::messages::{put_event, put_summary, put_version};
@@ -41,7 +42,7 @@ pub struct LineBuffer {
     // The texts that a message is put together of, one after the other, or a line of progress.
     scratch: String,
     // What lines of progress have in common with those before them.
-    kept: ProgressFrames,
+    kept: ProgressFrames<LineFrame>,
 }
 
 impl Model for LineBuffer {

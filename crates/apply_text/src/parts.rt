@@ -2,8 +2,11 @@
 //! members.
 
 pub use crate::applied_step::{AppliedStep, DiagTexts};
-pub use crate::cached_parts::front::ProgressFront;
-pub use crate::cached_parts::kept_date::{KeptDate, keep_date};
+pub use crate::cached_parts::frames::ProgressFrames;
+pub use crate::cached_parts::front::progress_front;
+pub use crate::cached_parts::progress_frame::ProgressFrame;
+pub use crate::cached_parts::progress_texts::ProgressTexts;
+pub use crate::cached_parts::shown_step::ShownStep;
 pub use crate::display::elapsed::Elapsed;
 pub use crate::display::id_note::IdNote;
 pub use crate::messages::{level, say_event, type_name};

@@ -1,91 +1,70 @@
 //! What the progress lines of a step have in common.
 
-ghost use Rattle.std.specs.Prelude.{◌≡◌, ◌++◌, codes, decimal, string_bytes, IfOk, IsTrue, OnOk};
+ghost use Rattle.std.specs.Prelude.{◌≡◌, ◌++◌, codes, string_bytes, IfOk};
 ghost use Rattle.serde_json.specs.Written.{compact_text};
-ghost use Rattle.apply_text.specs.CachedParts.{front_text, kept_step};
-ghost use Rattle.apply_text.specs.Elapsed.{elapsed_of};
-ghost use Rattle.apply_form.specs.CachedParts.{back_text};
+ghost use Rattle.apply_form.specs.CachedParts.{middle_text};
 ghost use Rattle.apply_form.specs.Objects.{resource_object};
 
+use crate::escaping::escaped_text;
 use crate::objects::resource_object::put_resource;
 use apply_model::{Change, StepKind};
-use apply_text::parts::{ProgressFront, StepWords};
+use apply_text::parts::{ProgressFrame, ProgressTexts, ShownStep, StepWords, progress_front};
 use json::Writer;
 use std::alloc::{AllocError, Global};
 use std::marker::Model;
 
-/// What the progress lines of a step have in common, and what they show of the change.
+/// What the progress lines of a step have in common, its escapes done.
 ///
 /// Contracts see the step, with what is shown of its change.
 #[derive(Drop)]
-pub struct ProgressFrame {
-    front: ProgressFront,
-    // A line from behind its moment up to the seconds.
-    back: String,
+pub struct FormFrame {
+    texts: ProgressTexts,
 }
 
-impl Model for ProgressFrame {
-    ghost use Rattle.std.specs.Prelude.{◌≡◌, string_bytes};
+impl Model for FormFrame {
+    ghost use Rattle.std.specs.Prelude.{◌≡◌};
     ghost use Rattle.apply_text.specs.CachedParts.{KeptStep};
-    ghost use Rattle.apply_form.specs.CachedParts.{back_text};
+    ghost use Rattle.apply_form.specs.CachedParts.{form_pieces};
 
     ghost Value = { KeptStep };
 
-    ghost view = { λ frame. frame.front };
+    ghost view = { λ frame. frame.texts.step };
 
-    ghost invariant = { λ frame. string_bytes frame.back ≡ back_text frame.front.change frame.front.step };
+    ghost invariant = { λ frame. frame.texts.pieces ≡ form_pieces frame.texts.step };
 }
 
-impl ProgressFrame {
-    /// The frame of a step of the change. `Err` where memory is refused.
-    pub fn new(alloc: Global, change: &Change, step: StepKind) -> Result<ProgressFrame, AllocError>
-        ensures { IfOk result (λ frame. frame ≡ kept_step change.now step) }
-    {
-        let back = back_of(alloc, change, step)?;
-        Ok(ProgressFrame {
-            front: ProgressFront::new(alloc, change, step)?,
-            back,
+impl ProgressFrame for FormFrame {
+    ghost use Rattle.apply_form.specs.CachedParts.{form_pieces};
+
+    ghost kept = { λ frame. frame };
+
+    ghost pieces = { form_pieces };
+
+    fn new(alloc: Global, change: &Change, step: StepKind) -> Result<FormFrame, AllocError> {
+        let front = progress_front(alloc, change.address(), step)?;
+        let front = escaped_text(alloc, front.as_str())?;
+        let middle = middle_of(alloc, change, step)?;
+        let middle = escaped_text(alloc, middle.as_str())?;
+        let back = String::from_str(alloc, "},\"type\":\"apply_progress\"}\n")?;
+        let shown = ShownStep::new(alloc, change, step)?;
+        Ok(FormFrame {
+            texts: ProgressTexts::new(shown, front, middle, back),
         })
     }
 
-    /// Whether it is the frame of such a step, and of a change that shows as this one does.
-    pub fn is_of(&self, change: &Change, step: StepKind) -> bool
-        ensures { IsTrue result → self.now ≡ kept_step change.now step }
-    {
-        self.front.is_of(change, step)
-    }
-
-    /// Appends a line up to its moment. `Err` where memory is refused.
-    pub fn push_front(&self, line: &mut String, seconds: u32) -> Result<(), AllocError>
-        ensures { OnOk result (string_bytes line.new ≡ string_bytes line.old
-            ++ (front_text self.now.change.address self.now.step
-            ++ (elapsed_of seconds ++ codes " elapsed]\",\"@module\":\"terraform.ui\",\"@timestamp\":"))) }
-    {
-        self.front.push(line, seconds)
-    }
-
-    /// Appends a line from behind its second on. `Err` where memory is refused.
-    pub fn push_back(&self, line: &mut String, seconds: u32) -> Result<(), AllocError>
-        ensures { OnOk result (string_bytes line.new ≡ string_bytes line.old
-            ++ (codes ".000000Z\"" ++ (back_text self.now.change self.now.step
-            ++ (decimal seconds ++ codes "},\"type\":\"apply_progress\"}")))) }
-    {
-        let back = self.back.as_str();
-        write!(
-            line,
-            ".000000Z\"{back}{seconds}}},\"type\":\"apply_progress\"}}"
-        )
+    fn texts(&self) -> &ProgressTexts {
+        &self.texts
     }
 }
 
-/// A line from behind its moment up to the seconds.
-fn back_of(alloc: Global, change: &Change, step: StepKind) -> Result<String, AllocError>
-    ensures { IfOk result (λ back. string_bytes back ≡ back_text change.now step) }
+/// A line from behind the second of its moment up to its seconds, before its escapes.
+fn middle_of(alloc: Global, change: &Change, step: StepKind) -> Result<String, AllocError>
+    ensures { IfOk result (λ middle. string_bytes middle ≡ middle_text change.now step) }
 {
     let resource = resource_of(alloc, change)?;
     let resource = resource.as_str();
     let action = StepWords::new(step).action;
-    format!(in alloc; ",\"hook\":{{{resource},\"action\":\"{action}\",\"elapsed_seconds\":")
+    format!(in alloc; ".000000Z\",\"hook\":{{{resource},\"action\":\"{action}\",\"elapsed_seconds\":")
 }
 
 /// The member `resource`.

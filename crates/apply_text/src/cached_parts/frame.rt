@@ -1,11 +1,14 @@
 //! What the progress lines of a step have in common.
 
-ghost use Rattle.std.specs.Prelude.{◌≡◌, ◌++◌, codes, decimal, string_bytes, IfOk, IsTrue, OnOk};
-ghost use Rattle.apply_text.specs.Elapsed.{elapsed_of};
-ghost use Rattle.apply_text.specs.CachedParts.{back_text, front_text, kept_step};
-ghost use Rattle.apply_text.specs.Words.{action_word};
+ghost use Rattle.std.specs.Prelude.{◌≡◌, ◌++◌, codes, string_bytes, IfOk};
+ghost use Rattle.serde_json.specs.Written.{compact_text};
+ghost use Rattle.apply_text.specs.CachedParts.{back_text, middle_text};
+ghost use Rattle.apply_text.specs.Objects.{resource_object};
 
-use crate::cached_parts::front::ProgressFront;
+use crate::cached_parts::front::progress_front;
+use crate::cached_parts::progress_frame::ProgressFrame;
+use crate::cached_parts::progress_texts::ProgressTexts;
+use crate::cached_parts::shown_step::ShownStep;
 use crate::objects::resource_object::put_resource;
 use crate::step_words::StepWords;
 use apply_model::{Change, StepKind};
@@ -13,77 +16,70 @@ use json::Writer;
 use std::alloc::{AllocError, Global};
 use std::marker::Model;
 
-/// What the progress lines of a step have in common, and what they show of the change.
+/// What the progress lines of a step have in common, in the form of this program's own.
 ///
 /// Contracts see the step, with what is shown of its change.
 #[derive(Drop)]
-pub struct ProgressFrame {
-    front: ProgressFront,
-    // A line from behind the seconds on.
-    back: String,
+pub struct LineFrame {
+    texts: ProgressTexts,
 }
 
-impl Model for ProgressFrame {
-    ghost use Rattle.std.specs.Prelude.{◌≡◌, string_bytes};
-    ghost use Rattle.apply_text.specs.CachedParts.{KeptStep, back_text};
+impl Model for LineFrame {
+    ghost use Rattle.std.specs.Prelude.{◌≡◌};
+    ghost use Rattle.apply_text.specs.CachedParts.{KeptStep, line_pieces};
 
     ghost Value = { KeptStep };
 
-    ghost view = { λ frame. frame.front };
+    ghost view = { λ frame. frame.texts.step };
 
-    ghost invariant = { λ frame. string_bytes frame.back ≡ back_text frame.front.change };
+    ghost invariant = { λ frame. frame.texts.pieces ≡ line_pieces frame.texts.step };
 }
 
-impl ProgressFrame {
-    /// The frame of a step of the change. `Err` where memory is refused.
-    pub fn new(alloc: Global, change: &Change, step: StepKind) -> Result<ProgressFrame, AllocError>
-        ensures { IfOk result (λ frame. frame ≡ kept_step change.now step) }
-    {
+impl ProgressFrame for LineFrame {
+    ghost use Rattle.apply_text.specs.CachedParts.{line_pieces};
+
+    ghost kept = { λ frame. frame };
+
+    ghost pieces = { line_pieces };
+
+    fn new(alloc: Global, change: &Change, step: StepKind) -> Result<LineFrame, AllocError> {
+        let front = progress_front(alloc, change.address(), step)?;
+        let middle = middle_of(alloc, step)?;
         let back = back_of(alloc, change)?;
-        Ok(ProgressFrame {
-            front: ProgressFront::new(alloc, change, step)?,
-            back,
+        let shown = ShownStep::new(alloc, change, step)?;
+        Ok(LineFrame {
+            texts: ProgressTexts::new(shown, front, middle, back),
         })
     }
 
-    /// Whether it is the frame of such a step, and of a change that shows as this one does.
-    pub fn is_of(&self, change: &Change, step: StepKind) -> bool
-        ensures { IsTrue result → self.now ≡ kept_step change.now step }
-    {
-        self.front.is_of(change, step)
-    }
-
-    /// Appends a line up to its moment. `Err` where memory is refused.
-    pub fn push_front(&self, line: &mut String, seconds: u32) -> Result<(), AllocError>
-        ensures { OnOk result (string_bytes line.new ≡ string_bytes line.old
-            ++ (front_text self.now.change.address self.now.step
-            ++ (elapsed_of seconds ++ codes " elapsed]\",\"@module\":\"terraform.ui\",\"@timestamp\":"))) }
-    {
-        self.front.push(line, seconds)
-    }
-
-    /// Appends a line from behind its moment on. `Err` where memory is refused.
-    pub fn push_back(&self, line: &mut String, seconds: u32) -> Result<(), AllocError>
-        ensures { OnOk result (string_bytes line.new ≡ string_bytes line.old
-            ++ (codes ",\"hook\":{\"action\":\"" ++ (action_word self.now.step
-            ++ (codes "\",\"elapsed_seconds\":" ++ (decimal seconds ++ (codes "," ++ back_text self.now.change)))))) }
-    {
-        let action = StepWords::new(self.front.step()).action;
-        let back = self.back.as_str();
-        write!(
-            line,
-            ",\"hook\":{{\"action\":\"{action}\",\"elapsed_seconds\":{seconds},{back}"
-        )
+    fn texts(&self) -> &ProgressTexts {
+        &self.texts
     }
 }
 
-/// A line from behind the seconds on.
+/// A line from behind the second of its moment up to its seconds.
+fn middle_of(alloc: Global, step: StepKind) -> Result<String, AllocError>
+    ensures { IfOk result (λ middle. string_bytes middle ≡ middle_text step) }
+{
+    let action = StepWords::new(step).action;
+    format!(in alloc; "Z\",\"hook\":{{\"action\":\"{action}\",\"elapsed_seconds\":")
+}
+
+/// A line from behind its seconds on.
 fn back_of(alloc: Global, change: &Change) -> Result<String, AllocError>
     ensures { IfOk result (λ back. string_bytes back ≡ back_text change.now) }
 {
+    let resource = resource_of(alloc, change)?;
+    let resource = resource.as_str();
+    format!(in alloc; ",{resource}}},\"type\":\"apply_progress\"}}\n")
+}
+
+/// The member `resource`.
+fn resource_of(alloc: Global, change: &Change) -> Result<String, AllocError>
+    ensures { IfOk result (λ resource. string_bytes resource
+        ≡ codes "\"resource\":" ++ compact_text (resource_object change.now)) }
+{
     let mut out = Writer::new(Vec::new(alloc));
     put_resource(&mut out, change)?;
-    let mut back = String::from_utf8(out.into_inner()).unwrap();
-    back.push_str("},\"type\":\"apply_progress\"}\n")?;
-    Ok(back)
+    Ok(String::from_utf8(out.into_inner()).unwrap())
 }

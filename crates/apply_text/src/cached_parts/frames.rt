@@ -1,30 +1,28 @@
 //! The frames of the steps whose progress was told last.
 
-ghost use Rattle.std.specs.Prelude.{◌≡◌, ◌/◌, ◌<◌, ◌≤◌, length, string_bytes, Some, IfOk, OnOk};
-ghost use Rattle.apply_text.specs.CachedParts.{kept_step};
-ghost use Rattle.apply_text.specs.Lines.{message_line};
-ghost use Rattle.apply_text.specs.Message.{progress_message};
+ghost use Rattle.std.specs.Prelude.{◌≡◌, ◌/◌, ◌<◌, ◌≤◌, length, option_map, string_bytes, Some, IfOk, IsTrue, OnOk};
+ghost use Rattle.apply_text.specs.CachedParts.{kept_step, progress_line};
 ghost use Rattle.apply_text.specs.Start.{last_second};
 
-use crate::cached_parts::frame::ProgressFrame;
 use crate::cached_parts::kept_date::{KeptDate, keep_date};
+use crate::cached_parts::progress_frame::ProgressFrame;
 use apply_model::{Change, StepKind};
 use std::alloc::{AllocError, Global};
 
 /// How many steps texts are kept of.
 const PLACES: usize = 64;
 
-/// What is kept from progress line to progress line: a frame for each step, and the date.
+/// What is kept from progress line to progress line, in one form: a frame for each step, and the date.
 #[derive(Drop)]
-pub struct ProgressFrames {
+pub struct ProgressFrames<F> {
     alloc: Global,
-    places: Vec<Option<ProgressFrame>>,
+    places: Vec<Option<F>>,
     date: Option<KeptDate>,
 }
 
-impl ProgressFrames {
+impl<F: ProgressFrame> ProgressFrames<F> {
     /// None. Takes no memory.
-    pub fn new(alloc: Global) -> ProgressFrames {
+    pub fn new(alloc: Global) -> ProgressFrames<F> {
         ProgressFrames {
             alloc,
             places: Vec::new(alloc),
@@ -44,8 +42,8 @@ impl ProgressFrames {
         seconds: u32,
     ) -> Result<(), AllocError>
         requires { moment ≤ last_second }
-        ensures { OnOk result
-            (string_bytes line.new ≡ message_line moment (progress_message change.now step seconds)) }
+        ensures { OnOk result (string_bytes line.new
+            ≡ progress_line (F.pieces (kept_step change.now step)) moment seconds) }
     {
         let place = self.make_place(number)?;
         keep_date(self.alloc, &mut self.date, moment)?;
@@ -69,9 +67,9 @@ impl ProgressFrames {
 }
 
 /// Puts the line of a step's progress into `line`, and keeps its frame at the place. `Err` where memory is refused.
-fn put_kept(
+fn put_kept<F: ProgressFrame>(
     alloc: Global,
-    place: &mut Option<ProgressFrame>,
+    place: &mut Option<F>,
     date: &KeptDate,
     line: &mut String,
     change: &Change,
@@ -80,46 +78,36 @@ fn put_kept(
     seconds: u32,
 ) -> Result<(), AllocError>
     requires { date.now ≡ moment / 86400 }
-    ensures { OnOk result
-        (string_bytes line.new ≡ message_line moment (progress_message change.now step seconds)) }
+    ensures { OnOk result (string_bytes line.new
+        ≡ progress_line (F.pieces (kept_step change.now step)) moment seconds) }
 {
     keep_frame(alloc, place, change, step)?;
     let Some(frame) = place else { unreachable!() };
-    put_pieces(line, frame, date, moment, seconds)
-}
-
-/// Puts the line of a step's progress into `line`.
-fn put_pieces(
-    line: &mut String,
-    frame: &ProgressFrame,
-    date: &KeptDate,
-    moment: u64,
-    seconds: u32,
-) -> Result<(), AllocError>
-    requires { date.now ≡ moment / 86400 }
-    ensures { OnOk result
-        (string_bytes line.new ≡ message_line moment (progress_message frame.now.change frame.now.step seconds)) }
-{
-    line.clear();
-    frame.push_front(line, seconds)?;
-    date.push_moment(line, moment)?;
-    frame.push_back(line, seconds)
+    frame.texts().put_line(line, date, moment, seconds)
 }
 
 /// Sees that the frame is that of such a step of the change. `Err` where memory is refused.
-fn keep_frame(
+fn keep_frame<F: ProgressFrame>(
     alloc: Global,
-    place: &mut Option<ProgressFrame>,
+    place: &mut Option<F>,
     change: &Change,
     step: StepKind,
 ) -> Result<(), AllocError>
-    ensures { OnOk result (place.new ≡ Some (kept_step change.now step)) }
+    ensures { OnOk result (option_map F.kept place.new ≡ Some (kept_step change.now step)) }
 {
-    if let Some(frame) = place {
-        if frame.is_of(change, step) {
-            return Ok(());
-        }
+    if has_frame(place, change, step) {
+        return Ok(());
     }
-    *place = Some(ProgressFrame::new(alloc, change, step)?);
+    *place = Some(F::new(alloc, change, step)?);
     Ok(())
+}
+
+/// Whether the frame is that of such a step of the change.
+fn has_frame<F: ProgressFrame>(place: &Option<F>, change: &Change, step: StepKind) -> bool
+    ensures { IsTrue result → option_map F.kept place.now ≡ Some (kept_step change.now step) }
+{
+    match place {
+        Some(frame) => frame.texts().is_of(change, step),
+        None => false,
+    }
 }

@@ -1,9 +1,8 @@
 //! The date of moments of one day.
 
 ghost use Rattle.std.specs.Prelude.{◌≡◌, ◌≤◌, ◌<◌, ◌/◌, ◌%◌, ◌++◌, string_bytes, Some, IfOk, OnOk, IsTrue, ◌↔◌};
-ghost use Rattle.json.specs.Print.{quoted};
 ghost use Rattle.apply_text.specs.CachedParts.{open_date, time_of_day};
-ghost use Rattle.apply_text.specs.Moment.{moment_text, two_digits};
+ghost use Rattle.apply_text.specs.Moment.{two_digits};
 ghost use Rattle.apply_text.specs.Start.{last_second};
 
 use crate::cached_parts::open_text::open_text;
@@ -66,16 +65,6 @@ impl KeptDate {
     {
         line.push_str(self.date.as_str())?;
         push_time(line, seconds % DAY)
-    }
-
-    /// Appends a moment of this day in JSON. `Err` where memory is refused.
-    pub fn push_moment(&self, line: &mut String, seconds: u64) -> Result<(), AllocError>
-        requires { self.now ≡ seconds / 86400 }
-        ensures { OnOk result
-            (string_bytes line.new ≡ string_bytes line.old ++ quoted (moment_text seconds)) }
-    {
-        self.push_second(line, seconds)?;
-        line.push_str("Z\"")
     }
 }
 

@@ -1,8 +1,10 @@
-use Rattle.std.proofs.Common.{◌≡◌, ◌++◌, codes, drop}
-use Rattle.std.specs.Prelude.{string_bytes}
+use Rattle.std.proofs.Common.{◌≡◌, ◌++◌, codes, drop, length, take}
+use Rattle.apply_form.specs.Escapes.{escaped}
 use Rattle.apply_form.specs.Outputs.{outputs_from}
 use Rattle.apply_form.proofs.outputs.push_more.Given as goal
 
 abbrev pub invariant-loop-output : goal.invariant-loop-output
-invariant-loop-output l =
-    string_bytes l.text ++ outputs_from (codes ",") (drop l.output-index l.outputs) ≡ string_bytes l.initial.text ++ outputs_from (codes ",") l.outputs
+invariant-loop-output l = record {
+  told : l.lines.items ++ escaped (outputs_from (codes ",") (drop l.output-index l.outputs)) ≡ l.initial.lines.items ++ escaped (outputs_from (codes ",") l.outputs);
+  behind : take (length l.initial.lines.items) l.lines.items ≡ l.initial.lines.items
+}

@@ -1,9 +1,7 @@
-use Rattle.std.proofs.Common.{◌≡◌, IfOk, ap, ◌∙◌, subst}
-use Rattle.std.specs.String.{string_vec}
-use Rattle.apply_text.proofs.CachedTexts.{back_is, printed_member}
+use Rattle.std.proofs.Common.{◌∙◌}
+use Rattle.std.proofs.lemmas.Result.{IfOk-weaker}
+use Rattle.apply_text.proofs.CachedTexts.{back_is}
 use Rattle.apply_text.proofs.cached_parts.frame.back_of.Goals as goal
 
 pub returns : goal.returns
-returns c =
-    let same : string_vec c.unwrap-back.result ≡ c.into_inner.result = subst (λ r. IfOk r (λ t. string_vec t ≡ c.into_inner.result)) c.unwrap-back.ensures c.from_utf8.ensures.ok in
-    back_is _ _ _ (ap (λ v. v.items) same ∙ printed_member _ _ _ _ _ _ (c.in_ok-put_resource.ensures.before ∙ c.new-out.ensures.before ∙ c.new.ensures.items) c.new-out.ensures.tokens c.in_ok-put_resource.ensures.ok c.into_inner.ensures.items) c.in_ok-push_str.ensures.bytes
+returns c = IfOk-weaker c.format.result _ _ (λ back is. back_is c.as_str-resource.result.now _ c.args.change.now (c.as_str-resource.ensures.value ∙ c.in_ok-resource.ensures) is) c.format.ensures.ok
