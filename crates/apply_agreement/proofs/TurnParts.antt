@@ -1,5 +1,5 @@
 -- The events of a time line are those of whole steps, of each change one after another.
-use Rattle.std.proofs.Common.{◌≡◌, ◌≢◌, ◌∙◌, ℕ, zero, suc, ◌+◌, ◌<◌, ◌≤◌, ◌==◌, ◌⊎◌, inl, inr, All, List, [], ◌∷◌, ◌++◌, append-nil, length, map, filter, Bool, true, false, cond, Option, Some, None, refl, sym, ap, ap₂, subst, slice_get, ⊎_elim, arith, eq-eqb, ne_eqb}
+use Rattle.std.proofs.Common.{◌≡◌, ◌≢◌, ◌∙◌, ℕ, zero, suc, ◌+◌, ◌<◌, ◌≤◌, ◌==◌, ◌⊎◌, inl, inr, All, List, [], ◌∷◌, ◌++◌, append-nil, length, map, filter, Bool, true, false, cond, Some, None, refl, sym, ap, ap₂, subst, slice_get, ⊎_elim, arith, eq-eqb, ne_eqb}
 use Rattle.std.specs.Prelude.{◌&&◌, ◌||◌}
 use Rattle.std.specs.List.{enumerate_from, list_all, list_any}
 use Rattle.std.specs.Option.{option_map_or}
@@ -20,11 +20,11 @@ use Rattle.apply_agreement.specs.WholeSteps.{AreOfSteps, IsOfWholeSteps, events_
 
 filter_none : {X : Type 0} (p : X → Bool) (xs : List X) → list_any p xs ≡ false → filter p xs ≡ []
 filter_none p [] h = refl
-filter_none p (x ∷ xs) h = at (p x) h
+filter_none p (x ∷ xs) h = at (p x) (filter_none p xs) h
   where
-    at : (b : Bool) → (b || list_any p xs) ≡ false → cond b (x ∷ filter p xs) (filter p xs) ≡ []
-    at true no = absurd cc
-    at false no = filter_none p xs no
+    at : (b : Bool) → (list_any p xs ≡ false → filter p xs ≡ []) → (b || list_any p xs) ≡ false → cond b (x ∷ filter p xs) (filter p xs) ≡ []
+    at true rest absent = absurd cc
+    at false rest absent = rest absent
 
 numbered_length : {X : Type 0} (n : ℕ) (xs : List X) → length (enumerate_from n xs) ≡ length xs
 numbered_length n [] = refl
@@ -92,8 +92,8 @@ module _ (work : Work) (events : List Event) (whole : AreWhole work events) (beg
 
   -- the plan has a step that has an event
   step_there : (name : Wait) → has_events events name ≡ true → HasStep work.plan name.change name.step
-  step_there name yes =
-      let one = whole name yes in
+  step_there name there =
+      let one = whole name there in
       let within : name.step < length (steps_of work name.change) = slice_get_within (steps_of work name.change) name.step one.step one.is_step in
       let same = kinds_and_steps name.change in omega arith
 
@@ -103,23 +103,23 @@ module _ (work : Work) (events : List Event) (whole : AreWhole work events) (beg
       let name = named e.change e.step in
       let here : is_of_step name e ≡ true = ap₂ (λ (a b : Bool). a && b) (eq-eqb e.change e.change refl) (eq-eqb e.step e.step refl) in
       All-cons (λ e. HasStep work.plan e.change e.step) e es (step_there name (within name (ap (λ (b : Bool). b || has_events es name) here)))
-      (planned_in es (λ name yes. within name (or_right (is_of_step name e) (has_events es name) yes)))
+      (planned_in es (λ name there. within name (or_right (is_of_step name e) (has_events es name) there)))
 
   module _ (c : ℕ) where
     abbrev part : ℕ → List Event
     part k = events_of (named c k) events
 
     without : (k : ℕ) → has_events events (named c k) ≡ false → part k ≡ []
-    without k no = filter_none (is_of_step (named c k)) events no
+    without k absent = filter_none (is_of_step (named c k)) events absent
 
     -- the events of a step are none, or all that it has where it begins
     one_step : (k : ℕ) (s : Step) → slice_get (steps_of work c) k ≡ Some s → (has_events events (named c k) ≡ false) ⊎ ((w : ℕ) × (at : ℕ) × (part k ≡ step_events w s at))
     one_step k s is = either (has_events events (named c k)) refl
       where
         either : (b : Bool) → has_events events (named c k) ≡ b → (has_events events (named c k) ≡ false) ⊎ ((w : ℕ) × (at : ℕ) × (part k ≡ step_events w s at))
-        either false no = inl no
-        either true yes =
-            let one = whole (named c k) yes in
+        either false absent = inl absent
+        either true there =
+            let one = whole (named c k) there in
             let same : one.step ≡ s = cc in
             inr (one.lane, one.begin, one.are_all ∙ ap (λ (t : Step). step_events one.lane t one.begin) same)
 
@@ -127,8 +127,8 @@ module _ (work : Work) (events : List Event) (whole : AreWhole work events) (beg
     no_step k is = without k (either (has_events events (named c k)) refl)
       where
         either : (b : Bool) → has_events events (named c k) ≡ b → has_events events (named c k) ≡ false
-        either false no = no
-        either true yes = let one = whole (named c k) yes in let found = one.is_step in absurd cc
+        either false absent = absent
+        either true there = let one = whole (named c k) there in let found = one.is_step in absurd cc
 
     -- the second step has events only where the first is done
     second_waits : HasStep work.plan c 1 → is_done_along work events (named c 0) ≡ false → part 1 ≡ []
@@ -144,7 +144,7 @@ module _ (work : Work) (events : List Event) (whole : AreWhole work events) (beg
     of_steps (s ∷ []) is few =
         let none : part 1 ≡ [] = no_step 1 (ap (λ (l : List Step). slice_get l 1) is) in
         ⊎_elim
-        (λ (no : has_events events (named c 0) ≡ false). inl (ap₂ (λ (a b : List Event). a ++ b) (without 0 no) none))
+        (λ (absent : has_events events (named c 0) ≡ false). inl (ap₂ (λ (a b : List Event). a ++ b) (without 0 absent) none))
         (λ (some : (w : ℕ) × (at : ℕ) × (part 0 ≡ step_events w s at)). inr (some.0, some.1, [], ap₂ (λ (a b : List Event). a ++ b) some.2 none, (λ on. refl), (λ off. refl)))
         (one_step 0 s (ap (λ (l : List Step). slice_get l 0) is))
     of_steps (s ∷ t ∷ []) is few =
@@ -153,8 +153,8 @@ module _ (work : Work) (events : List Event) (whole : AreWhole work events) (beg
         let has : HasStep work.plan c 1 = omega arith in
         let first_goes : goes_on_if_begun work (named c 0) ≡ goes_on s = ap (λ (l : List Step). option_map_or goes_on (slice_get l 0) false) is in
         ⊎_elim
-        (λ (no : has_events events (named c 0) ≡ false).
-        inl (ap₂ (λ (a b : List Event). a ++ b) (without 0 no) (second_waits has (ap (λ (b : Bool). b && goes_on_if_begun work (named c 0)) no))))
+        (λ (absent : has_events events (named c 0) ≡ false).
+        inl (ap₂ (λ (a b : List Event). a ++ b) (without 0 absent) (second_waits has (ap (λ (b : Bool). b && goes_on_if_begun work (named c 0)) absent))))
         (λ (some : (w : ℕ) × (at : ℕ) × (part 0 ≡ step_events w s at)).
         inr (
           some.0,
@@ -173,16 +173,16 @@ module _ (work : Work) (events : List Event) (whole : AreWhole work events) (beg
         second : (t : Step) → slice_get (steps_of work c) 1 ≡ Some t → AreOfSteps (t ∷ []) (part 1)
         second t is =
             ⊎_elim
-            (λ (no : has_events events (named c 1) ≡ false). inl (without 1 no))
+            (λ (absent : has_events events (named c 1) ≡ false). inl (without 1 absent))
             (λ (some : (w : ℕ) × (at : ℕ) × (part 1 ≡ step_events w t at)). inr (some.0, some.1, [], some.2 ∙ sym (append-nil (step_events some.0 t some.1)), (λ on. refl), (λ off. refl)))
             (one_step 1 t is)
-    of_steps (s ∷ t ∷ u ∷ steps) is few = absurd (let same = kinds_and_steps c in let many : length (steps_of work c) ≡ 3 + length steps = ap length is in omega arith)
+    of_steps (s ∷ t ∷ u ∷ steps) is few = absurd (let same = kinds_and_steps c in let many : length (steps_of work c) ≡ suc (suc (suc (length steps))) = ap length is in omega arith)
 
 -- ---- all of it
 
 pub of_whole_steps : (work : Work) (events : List Event) → HasFewSteps work → AreWhole work events → StandBehindWhatTheyWaitFor work events → BeginWhereAllIsDone work events → IsOfWholeSteps work events
 of_whole_steps work events few whole stand begins =
-    let planned = planned_in work events whole begins events (λ name yes. yes) in
+    let planned = planned_in work events whole begins events (λ name there. there) in
     record {
       planned = planned;
       whole = λ c less.

@@ -30,9 +30,9 @@ module _ (work : Work) (events : List Event) (hooks : length work.hooks ≤ max_
   of_step c k = either (has_events events (named c k)) refl
     where
       either : (b : Bool) → has_events events (named c k) ≡ b → All (λ e. e.change ≡ c → e.step ≡ k → CanHappen work e) events
-      either false no = of_named (CanHappen work) c k events (subst (All (CanHappen work)) (sym (filter_none (is_of_step (named c k)) events no)) (All-nil (CanHappen work)))
-      either true yes =
-          let one = whole (named c k) yes in
+      either false absent = of_named (CanHappen work) c k events (subst (All (CanHappen work)) (sym (filter_none (is_of_step (named c k)) events absent)) (All-nil (CanHappen work)))
+      either true there =
+          let one = whole (named c k) there in
           let step = step_is work c 0 k (kinds_of work.plan c) one.step one.is_step in
           let all : All (CanHappen work) (step_events one.lane one.step one.begin) =
           subst (λ (s : Step). All (CanHappen work) (step_events one.lane s one.begin)) (sym step.1) (all-step work one.lane c (0 + k) step.0 one.begin hooks) in

@@ -16,33 +16,33 @@ named c k = record { change = c; step = k }
 
 filter_none : {X : Type 0} (p : X → Bool) (xs : List X) → list_any p xs ≡ false → filter p xs ≡ []
 filter_none p [] h = refl
-filter_none p (x ∷ xs) h = at (p x) h
+filter_none p (x ∷ xs) h = at (p x) (filter_none p xs) h
   where
-    at : (b : Bool) → (b || list_any p xs) ≡ false → cond b (x ∷ filter p xs) (filter p xs) ≡ []
-    at true no = absurd cc
-    at false no = filter_none p xs no
+    at : (b : Bool) → (list_any p xs ≡ false → filter p xs ≡ []) → (b || list_any p xs) ≡ false → cond b (x ∷ filter p xs) (filter p xs) ≡ []
+    at true rest absent = absurd cc
+    at false rest absent = rest absent
 
 -- what holds of the events of a step, said of all
 pub of_named : (P : Event → Type 0) (c k : ℕ) (es : List Event) → All P (events_of (named c k) es) → All (λ e. e.change ≡ c → e.step ≡ k → P e) es
 of_named P c k [] h = All-nil (λ e. e.change ≡ c → e.step ≡ k → P e)
-of_named P c k (e ∷ es) h = at (is_of_step (named c k) e) refl h
+of_named P c k (e ∷ es) h = at (is_of_step (named c k) e) refl (of_named P c k es) h
   where
-    at : (b : Bool) → is_of_step (named c k) e ≡ b → All P (cond b (e ∷ events_of (named c k) es) (events_of (named c k) es)) → All (λ x. x.change ≡ c → x.step ≡ k → P x) (e ∷ es)
-    at true is h = All-cons (λ x. x.change ≡ c → x.step ≡ k → P x) e es (λ _ _. All-head P e (events_of (named c k) es) h) (of_named P c k es (All-tail P e (events_of (named c k) es) h))
-    at false is h =
+    at : (b : Bool) → is_of_step (named c k) e ≡ b → (All P (events_of (named c k) es) → All (λ x. x.change ≡ c → x.step ≡ k → P x) es) → All P (cond b (e ∷ events_of (named c k) es) (events_of (named c k) es)) → All (λ x. x.change ≡ c → x.step ≡ k → P x) (e ∷ es)
+    at true is rest h = All-cons (λ x. x.change ≡ c → x.step ≡ k → P x) e es (λ _ _. All-head P e (events_of (named c k) es) h) (rest (All-tail P e (events_of (named c k) es) h))
+    at false is rest h =
         All-cons (λ x. x.change ≡ c → x.step ≡ k → P x) e es
-        (λ change step. let yes : is_of_step (named c k) e ≡ true = ap₂ (λ (a b : Bool). a && b) (eq-eqb e.change c change) (eq-eqb e.step k step) in absurd cc) (of_named P c k es h)
+        (λ change step. let same : is_of_step (named c k) e ≡ true = ap₂ (λ (a b : Bool). a && b) (eq-eqb e.change c change) (eq-eqb e.step k step) in absurd cc) (rest h)
 
 pub begins_once : (work : Work) (c k : ℕ) (events : List Event) → AreWhole work events → HasOneBegin c k events
 begins_once work c k events whole = either (has_events events (named c k)) refl
   where
     either : (b : Bool) → has_events events (named c k) ≡ b → HasOneBegin c k events
-    either false no = record {
+    either false absent = record {
       begin = 0;
-      told = of_named (ComesAsTold 0) c k events (subst (All (ComesAsTold 0)) (sym (filter_none (is_of_step (named c k)) events no)) (All-nil (ComesAsTold 0)));
+      told = of_named (ComesAsTold 0) c k events (subst (All (ComesAsTold 0)) (sym (filter_none (is_of_step (named c k)) events absent)) (All-nil (ComesAsTold 0)));
     }
-    either true yes =
-        let one = whole (named c k) yes in
+    either true there =
+        let one = whole (named c k) there in
         let all = step_events one.lane one.step one.begin in
         record {
           begin = one.begin;
