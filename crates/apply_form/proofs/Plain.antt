@@ -56,10 +56,13 @@ elapsed_plain seconds = either (nat_lt seconds 60) (nat_lt seconds 3600)
   where
     last : IsPlain (seconds_text seconds)
     last = both_plain (decimal (seconds % 60)) (codes "s") (decimal_plain (seconds % 60)) refl
+
     minutes : IsPlain (minutes_text seconds)
     minutes = both_plain (decimal (seconds / 60 % 60) ++ codes "m") (seconds_text seconds) (both_plain (decimal (seconds / 60 % 60)) (codes "m") (decimal_plain (seconds / 60 % 60)) refl) last
+
     hours : IsPlain (decimal (seconds / 3600) ++ codes "h" ++ minutes_text seconds)
     hours = both_plain (decimal (seconds / 3600) ++ codes "h") (minutes_text seconds) (both_plain (decimal (seconds / 3600)) (codes "h") (decimal_plain (seconds / 3600)) refl) minutes
+
     either : (a b : Bool) → IsPlain (cond a (seconds_text seconds) (cond b (minutes_text seconds) (decimal (seconds / 3600) ++ codes "h" ++ minutes_text seconds)))
     either true b = last
     either false true = minutes

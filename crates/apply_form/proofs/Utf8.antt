@@ -72,10 +72,13 @@ char_stays c high line paragraph = of_tests (nat_lt c 128) (nat_lt c 2048) (nat_
   where
     two : List ℕ
     two = (128 + c / 64 % 64) ∷ (128 + c % 64) ∷ []
+
     last_stays : escaped ((128 + c % 64) ∷ []) ≡ (128 + c % 64) ∷ []
     last_stays = later_byte c []
+
     two_stay : escaped ((128 + c / 64 % 64) ∷ (128 + c % 64) ∷ []) ≡ (128 + c / 64 % 64) ∷ (128 + c % 64) ∷ []
     two_stay = ap (escaped_onto (128 + c / 64 % 64)) last_stays ∙ later_byte (c / 64) ((128 + c % 64) ∷ [])
+
     of_tests : (x y z : Bool) → (x ≡ true → c < 128) → (y ≡ true → c < 2048)
         → let bytes = cond x (c ∷ []) (cond y ((192 + c / 64) ∷ (128 + c % 64) ∷ []) (cond z ((224 + c / 4096) ∷ (128 + c / 64 % 64) ∷ (128 + c % 64) ∷ []) ((240 + c / 262144) ∷ (128 + c / 4096 % 64) ∷ (128 + c / 64 % 64) ∷ (128 + c % 64) ∷ []))) in escaped bytes ≡ bytes
     of_tests true y z small few = absurd (omega (arith, small refl, high))

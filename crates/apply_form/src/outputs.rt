@@ -13,8 +13,11 @@ use crate::output::Output;
 use json::Writer;
 use std::alloc::{AllocError, Global};
 
-/// How long a line is but for its outputs, and an output but for its texts, at most.
-const FRAME_LEN: usize = 160;
+/// How long a line is but for its outputs, at most.
+const LINE_LEN: usize = 160;
+
+/// How long an output is but for its name, type and value, at most.
+const OUTPUT_LEN: usize = 48;
 
 /// Appends the line of the outputs to others, text by text, so that no text is copied twice. `Err` where memory is refused;
 /// the lines are then as they were. `scratch` is used up.
@@ -60,10 +63,10 @@ fn push_message(
 
 /// How long the line of the outputs is at most, where nothing in it has an escape.
 fn room_for(outputs: &[Output]) -> usize {
-    let mut room = FRAME_LEN;
+    let mut room = LINE_LEN;
     for output in outputs {
         room = room
-            .saturating_add(FRAME_LEN)
+            .saturating_add(OUTPUT_LEN)
             .saturating_add(output.name.as_str().len())
             .saturating_add(output.kind.as_str().len())
             .saturating_add(output.value.as_str().len());

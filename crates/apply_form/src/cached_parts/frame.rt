@@ -64,7 +64,9 @@ fn middle_of(alloc: Global, change: &Change, step: StepKind) -> Result<String, A
     let resource = resource_of(alloc, change)?;
     let resource = resource.as_str();
     let action = StepWords::new(step).action;
-    format!(in alloc; ".000000Z\",\"hook\":{{{resource},\"action\":\"{action}\",\"elapsed_seconds\":")
+    format!(in alloc;
+        ".000000Z\",\"hook\":{{{resource},\"action\":\"{action}\",\"elapsed_seconds\":"
+    )
 }
 
 /// The member `resource`.

@@ -6,5 +6,5 @@ use Rattle.apply_form.proofs.outputs.push_more.Given as goal
 abbrev pub invariant-loop-output : goal.invariant-loop-output
 invariant-loop-output l = record {
   told : l.lines.items ++ escaped (outputs_from (codes ",") (drop l.output-index l.outputs)) ≡ l.initial.lines.items ++ escaped (outputs_from (codes ",") l.outputs);
-  behind : take (length l.initial.lines.items) l.lines.items ≡ l.initial.lines.items
+  behind : take (length l.initial.lines.items) l.lines.items ≡ l.initial.lines.items;
 }
