@@ -92,8 +92,29 @@ fn asked_along(
     }
 }
 
+/// The same in a lane: four times and once for the first event, before any is given, and then one event ahead.
+const ASKED_IN_A_LANE: [u64; 9] = [5, 5, 6, 7, 7, 8, 8, 8, 8];
+
+/// Fails where it was asked another number of times up to some event that a lane gives.
+fn asked_in_a_lane(
+    rt: &impl Abort,
+    alloc: Global,
+    plan: &Plan,
+    script: &Script,
+    registry: &Registry,
+    calls: &AtomicU64,
+) {
+    let lanes = Lanes::start(alloc, plan, script, registry, 1);
+    let mut lanes = lanes.ok().expect(rt, "memory");
+    for asked in ASKED_IN_A_LANE {
+        number_is(rt, "asked in a lane", calls.load(Ordering::SeqCst), asked);
+        let _event = lanes.next();
+    }
+}
+
 /// A stored closure is asked once for each phase of each step: before the step by the call that gives its first event,
-/// after it by the call that gives the last event that comes whatever the hooks say.
+/// after it by the call that gives the last event that comes whatever the hooks say. Lanes ask it once more, when they
+/// start.
 #[test]
 fn hooks_are_asked_once_for_each_phase(rt: HostRuntime) {
     let alloc = rt.alloc();
@@ -109,4 +130,6 @@ fn hooks_are_asked_once_for_each_phase(rt: HostRuntime) {
     let plan = plan_of(&rt, alloc, REPLACEMENT);
     let script = script_of(&rt, alloc, plan, ELEVEN_AND_TWO);
     asked_along(&rt, plan, script, &registry, &calls);
+    calls.store(0, Ordering::SeqCst);
+    asked_in_a_lane(&rt, alloc, plan, script, &registry, &calls);
 }

@@ -218,7 +218,8 @@ impl Clock<'_> {
     /// A turn begins.
     fn begin(&mut self, rt: &impl Abort, alloc: Global, place: usize, lane: usize, now: Moment) {
         holds(rt, "a turn", place < self.turns.len());
-        holds(rt, "a lane", lane < self.free.len() && lane < 64);
+        holds(rt, "a lane", lane < self.free.len());
+        holds(rt, "64 lanes at most", lane < 64);
         let mut turn = self.turns[place];
         turn.begun = Some(now);
         turn.lane = lane as u8;
@@ -269,6 +270,19 @@ impl Clock<'_> {
             }
         }
     }
+
+    /// All that was told, in the order of time.
+    fn in_order(&mut self, rt: &impl Abort, alloc: Global) -> &'static [Event] {
+        let sorted = self
+            .told
+            .sort_by_key(|told: &(u64, u32, u8, Event)| (told.0, told.1, told.2));
+        sorted.expect(rt, "memory");
+        let mut events = Vec::new(alloc);
+        for told in &self.told {
+            events.push(told.3).ok().expect(rt, "memory");
+        }
+        kept(rt, alloc, events).as_slice()
+    }
 }
 
 /// The later of two moments.
@@ -309,13 +323,5 @@ pub(super) fn clock_events(
     for second in 0..LAST_SECOND {
         clock.show_second(rt, alloc, second);
     }
-    let sorted = clock
-        .told
-        .sort_by_key(|told: &(u64, u32, u8, Event)| (told.0, told.1, told.2));
-    sorted.expect(rt, "memory");
-    let mut events = Vec::new(alloc);
-    for told in &clock.told {
-        events.push(told.3).ok().expect(rt, "memory");
-    }
-    kept(rt, alloc, events).as_slice()
+    clock.in_order(rt, alloc)
 }
