@@ -2,7 +2,7 @@
 complete -c applystream -n __fish_use_subcommand -a check -d 'says whether a stream of terraform apply -json is whole'
 complete -c applystream -n __fish_use_subcommand -a play -d 'writes a stream of terraform apply -json in its own time'
 complete -c applystream -n 'not __fish_seen_subcommand_from check play' -l at -x -d 'When the first steps begin, in whole seconds: 1970-01-01T00:00:00Z to 8999-12-31T23:59:59Z, with any offset [default: 1970-01-01T00:00:00Z]'
-complete -c applystream -n 'not __fish_seen_subcommand_from check play' -l script -r -F -d 'A script in JSON, which says how many seconds each step takes and which fail, with at most 67108864 bytes. Without it each step is done at once'
+complete -c applystream -n 'not __fish_seen_subcommand_from check play' -l script -r -F -d 'A script in JSON, which says how many seconds each step takes, which fail and what each comes after, with at most 67108864 bytes. Without it each step is done at once'
 complete -c applystream -n 'not __fish_seen_subcommand_from check play' -l workers -x -d 'How many workers apply the changes at once, 1 to 8 [default: 1]'
 complete -c applystream -n 'not __fish_seen_subcommand_from check play' -l queue -x -d 'How many messages may wait to be written, 1 to 1024 [default: 64]'
 complete -c applystream -n 'not __fish_seen_subcommand_from check play' -l destroy -d 'Says in the last message that the apply was a destroy'

@@ -123,7 +123,7 @@ fn script<'a>(alloc: Global) -> Arg<'a>
         .long("script")
         .value_name("FILE")
         .help(
-            "A script in JSON, which says how many seconds each step takes and which fail, with at most 67108864 bytes. Without it each step is done at once",
+            "A script in JSON, which says how many seconds each step takes, which fail and what each comes after, with at most 67108864 bytes. Without it each step is done at once",
         )
 }
 
