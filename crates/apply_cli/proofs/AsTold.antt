@@ -54,6 +54,7 @@ module _ (given : Given) (options : Options) where
     applied = record {
       told = h.told;
       read = h.read;
+      no_waits = h.no_waits;
       sizes = h.sizes;
       streamed = record {
         lists = h.streamed.lists;

@@ -38,6 +38,7 @@ applied_kept in_order given options report before after after' status kept faile
     plan = h.plan;
     script = h.script;
     read = h.read;
+    no_waits = h.no_waits;
     sizes = h.sizes;
     streamed = record {
       lists = h.streamed.lists;

@@ -1,5 +1,5 @@
 -- Each event of a time line can happen: it is one of its step's, which are whole.
-use Rattle.std.proofs.Common.{◌≡◌, ℕ, zero, suc, ◌+◌, All, Bool, true, false, List, [], ◌∷◌, Option, Some, None, length, map, slice_get, refl, sym, ap, ◌∙◌, subst, arith}
+use Rattle.std.proofs.Common.{◌≡◌, ℕ, zero, suc, ◌+◌, All, Bool, true, false, List, [], ◌∷◌, Some, length, map, slice_get, refl, sym, ap, ◌∙◌, subst, arith}
 use Rattle.std.specs.Prelude.{◌≤◌}
 use Rattle.std.specs.List.{enumerate_from}
 use Rattle.std.proofs.lemmas.List.Elements.{All-nil}
@@ -8,7 +8,7 @@ use Rattle.apply_hooks.specs.Hooks.{max_hooks}
 use Rattle.apply_events.specs.declared.event.Event.{Event}
 use Rattle.apply_events.specs.Fits.{IsOfPlan}
 use Rattle.apply_events.specs.Laws.{AllFit}
-use Rattle.apply_events.specs.Step.{Step, Work, kinds_of, step_of, steps_of}
+use Rattle.apply_events.specs.Step.{Step, Work, kinds_of, step_of}
 use Rattle.apply_events.specs.StepEvents.{step_events}
 use Rattle.apply_laws.proofs.EventsFit.{CanHappen, all-step}
 use Rattle.apply_laws.proofs.WholeBegins.{filter_none, named, of_named}

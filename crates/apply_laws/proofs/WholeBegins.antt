@@ -14,7 +14,7 @@ use Rattle.apply_wait_laws.specs.Laws.{AreWhole, events_of, has_events, is_of_st
 abbrev pub named : (c k : ℕ) → Wait
 named c k = record { change = c; step = k }
 
-filter_none : {X : Type 0} (p : X → Bool) (xs : List X) → list_any p xs ≡ false → filter p xs ≡ []
+pub filter_none : {X : Type 0} (p : X → Bool) (xs : List X) → list_any p xs ≡ false → filter p xs ≡ []
 filter_none p [] h = refl
 filter_none p (x ∷ xs) h = at (p x) (filter_none p xs) h
   where

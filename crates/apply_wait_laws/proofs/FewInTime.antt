@@ -1,5 +1,5 @@
 -- A time line has few events, each of a step of the plan and in time.
-use Rattle.std.proofs.Common.{◌≡◌, ℕ, zero, suc, ◌+◌, ◌*◌, ◌<◌, ◌≤◌, All, List, [], ◌∷◌, length, map, reverse, sum_by, Option, Some, None, IfSome, refl, sym, ap, ◌∙◌, subst, ⊎_elim, arith, unwrap_or}
+use Rattle.std.proofs.Common.{◌≡◌, ℕ, zero, suc, ◌+◌, ◌<◌, ◌≤◌, All, List, ◌∷◌, length, map, reverse, sum_by, Option, Some, None, IfSome, refl, sym, ap, subst, ⊎_elim, arith, unwrap_or}
 use Rattle.std.specs.List.{range_with_len}
 use Rattle.std.proofs.lemmas.Bool.{cases_lt}
 use Rattle.std.proofs.lemmas.List.Elements.{All-nil}
@@ -11,15 +11,13 @@ use Rattle.apply_model.specs.Script.OutcomeMap.{IsInRange, OutcomeMap, given_out
 use Rattle.apply_events.specs.declared.event.Event.{Event}
 use Rattle.apply_events.specs.declared.lanes.taken.Taken.{Taken}
 use Rattle.apply_events.specs.Fits.{IsOfPlan}
-use Rattle.apply_events.specs.Interleaving.{lists_of}
 use Rattle.apply_events.specs.Lanes.LaneState.{told_by}
 use Rattle.apply_events.specs.Lanes.Startable.{IsStartable}
 use Rattle.apply_events.specs.Lanes.ToCome.{max_events}
 use Rattle.apply_events.specs.Laws.{IsWithinLimits}
-use Rattle.apply_events.specs.OfWorker.{of_worker}
 use Rattle.apply_events.specs.Step.{Work}
 use Rattle.apply_events.specs.Waits.Schedule.{schedule}
-use Rattle.apply_events.specs.Waits.TimeLine.{IsTimeLine, lane_turns, turn_events}
+use Rattle.apply_events.specs.Waits.TimeLine.{IsTimeLine, lane_turns}
 use Rattle.apply_events.specs.Waits.Turn.{turns}
 use Rattle.apply_events.proofs.Interleaved.{summed_length}
 use Rattle.apply_events.proofs.TimeLines.Merge.{all_parts}

@@ -1,9 +1,9 @@
 -- Who is ready first goes first, and begins never fall.
-use Rattle.std.proofs.Common.{◌≡◌, ◌≢◌, ℕ, zero, suc, ◌+◌, ◌<◌, ◌≤◌, All, Bool, true, false, ◌&&◌, ◌||◌, List, [], ◌∷◌, ◌++◌, Option, Some, None, cond, get_or, length, set, refl, sym, ap, ◌∙◌, subst, ⊎_elim, ◌⊎◌, inl, inr, arith}
+use Rattle.std.proofs.Common.{◌≡◌, ℕ, zero, suc, ◌+◌, ◌<◌, All, Bool, true, false, ◌&&◌, ◌||◌, List, [], ◌∷◌, ◌++◌, Option, Some, None, cond, get_or, length, set, refl, sym, ap, ◌∙◌, subst, ⊎_elim, ◌⊎◌, inl, inr, arith}
 use Rattle.std.specs.Prelude.{not, option_map}
 use Rattle.std.specs.List.{Contains, list_all}
-use Rattle.std.proofs.lemmas.Bool.{and_parts, cases_Bool, cases_eq, or_cases, true≢false}
-use Rattle.std.proofs.lemmas.List.{get_or-set_other, get_or-set_same, length-set}
+use Rattle.std.proofs.lemmas.Bool.{and_parts, cases_Bool, cases_eq, true≢false}
+use Rattle.std.proofs.lemmas.List.{get_or-set_other, get_or-set_same}
 use Rattle.std.proofs.lemmas.List.Elements.{All-cons, All-contains_itself, All-nil, All-weaker}
 use Rattle.apply_model.specs.declared.script.wait.Wait.{Wait}
 use Rattle.apply_events.specs.declared.lanes.moment.Moment.{Moment}
@@ -11,14 +11,14 @@ use Rattle.apply_events.specs.declared.lanes.taken.Taken.{Taken}
 use Rattle.apply_events.specs.declared.lanes.turn.Turn.{Turn}
 use Rattle.apply_events.specs.Step.{Step, Work}
 use Rattle.apply_events.specs.StepEvents.{goes_on, step_time}
-use Rattle.apply_events.specs.Waits.Done.{done_among, done_at, done_by, done_in, end_behind, end_of_turn, first_found, later_if_both, ready_at}
+use Rattle.apply_events.specs.Waits.Done.{done_among, done_at, done_by, done_in, end_of_turn, first_found, later_if_both, ready_at}
 use Rattle.apply_events.specs.Waits.Moment.{IsNoLater, first_moment, is_earlier, later_by, later_of, next_round}
 use Rattle.apply_events.specs.Waits.Schedule.{Ready, earlier_of, first_earliest, first_ready, free_behind, is_same_turn, is_taken, next_of, ready_turn, schedule, scheduled, taken_in, with_next}
 use Rattle.apply_events.specs.Waits.Turn.{begun_steps, turns, waits_of_turn}
 use Rattle.apply_events.proofs.Waits.Free.{first_earliest_lt, length-free}
 use Rattle.apply_events.proofs.Waits.Members.{in_cases, not_in_none}
 use Rattle.apply_events.proofs.Waits.Moments.{end_no_earlier, first_no_later, later_no_earlier, later_no_later, no_later_on, no_later_refl, second_no_later, tells}
-use Rattle.apply_events.proofs.Waits.TakenUp.{EachBehind, each_scheduled, each_split, is_fit}
+use Rattle.apply_events.proofs.Waits.TakenUp.{each_scheduled, each_split, is_fit}
 use Rattle.apply_events.proofs.Waits.TurnEvents.{done_first, done_if, done_later, done_there}
 use Rattle.apply_wait_laws.specs.Laws.{IsNext}
 use Rattle.apply_wait_laws.proofs.Waited.{both_are, round_is}

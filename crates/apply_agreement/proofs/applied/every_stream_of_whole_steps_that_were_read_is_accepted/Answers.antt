@@ -1,5 +1,4 @@
-use Rattle.std.proofs.Common.{◌<◌, ◌≤◌, ◌^◌, length, arith}
-use Rattle.apply_events.specs.Lanes.ToCome.{max_events}
+use Rattle.std.proofs.Common.{◌<◌, ◌^◌, length, arith}
 use Rattle.apply_agreement.proofs.Bytes.{short_objects}
 use Rattle.apply_agreement.proofs.applied.every_stream_of_whole_steps_that_were_read_is_accepted.Goals as goal
 
