@@ -80,18 +80,20 @@ whole_begins w lane at c =
     let size = length-steps_of w c in
     let es = in_turn (step_events lane) step_time (begun (steps_of w c)) at in
     let end = 0 + length (kinds_of w.plan c) in
-    let low : (e : Event) → Contains es e → e.step < end = λ e there. (let high = (all_low w lane at c 0 e there).1 in omega arith) in
-    (ap (stops_at end) (sym (append-nil es)) ∙ stops_all end es [] low,
-    before_all end es low ∙ ap (λ steps. in_turn (step_events lane) step_time (begun steps) at) (sym (take_all (length (kinds_of w.plan c)) (steps_of w c) (omega arith))))
+    let low : (e : Event) → Contains es e → e.step < end = λ e there. (let high = (all_low w lane at c 0 e there).1 in omega arith) in (
+      ap (stops_at end) (sym (append-nil es)) ∙ stops_all end es [] low,
+      before_all end es low ∙ ap (λ steps. in_turn (step_events lane) step_time (begun steps) at) (sym (take_all (length (kinds_of w.plan c)) (steps_of w c) (omega arith))),
+    )
 
 second_begins_turn : (w : Work) (lane at c : ℕ) → length (kinds_of w.plan c) ≡ 2 → Begins w lane at (single c 1)
 second_begins_turn w lane at c two =
     let size = length-steps_of w c in
     let left = length-drop 1 (steps_of w c) in
     let es = in_turn (step_events lane) step_time (begun (drop 1 (steps_of w c))) at in
-    let low : (e : Event) → Contains es e → e.step < 2 = λ e there. (let high = (all_low w lane at c 1 e there).1 in omega arith) in
-    (ap (stops_at 2) (sym (append-nil es)) ∙ stops_all 2 es [] low,
-    before_all 2 es low ∙ ap (λ steps. in_turn (step_events lane) step_time (begun steps) at) (sym (take_all 1 (drop 1 (steps_of w c)) (omega arith))))
+    let low : (e : Event) → Contains es e → e.step < 2 = λ e there. (let high = (all_low w lane at c 1 e there).1 in omega arith) in (
+      ap (stops_at 2) (sym (append-nil es)) ∙ stops_all 2 es [] low,
+      before_all 2 es low ∙ ap (λ steps. in_turn (step_events lane) step_time (begun steps) at) (sym (take_all 1 (drop 1 (steps_of w c)) (omega arith))),
+    )
 
 same_none : (t : Bool) → cond t (begun []) [] ≡ []
 same_none true = refl
@@ -123,10 +125,11 @@ first_begins_turn w lane at c two =
     let given : Given w lane at (single c 0) ≡ mine ++ rest = ap (λ l. events_from lane l at) steps in
     let wanted : in_turn (step_events lane) step_time (begun (take 1 (steps_of w c))) at ≡ mine =
     ap (λ l. in_turn (step_events lane) step_time (begun (take 1 l)) at) steps ∙ ap (λ l. mine ++ in_turn (step_events lane) step_time l (at + step_time s)) (same_none (goes_on s)) ∙ append-nil mine in
-    let low : (e : Event) → Contains mine e → e.step < 1 = λ e there. (let number = (of_step lane s at e there).step in omega arith) in
-    (ap (stops_at 1) given ∙ stops_all 1 mine rest low ∙ rest_stops lane (at + step_time s) next refl (goes_on s),
-    ap (before_step 1) given ∙ filter-append (λ (e : Event). ltb e.step 1) mine rest ∙ ap (λ l. l ++ before_step 1 rest) (before_all 1 mine low)
-    ∙ ap (λ l. mine ++ l) (before_none 1 rest (rest_high lane (at + step_time s) next refl (goes_on s))) ∙ append-nil mine ∙ sym wanted)
+    let low : (e : Event) → Contains mine e → e.step < 1 = λ e there. (let number = (of_step lane s at e there).step in omega arith) in (
+      ap (stops_at 1) given ∙ stops_all 1 mine rest low ∙ rest_stops lane (at + step_time s) next refl (goes_on s),
+      ap (before_step 1) given ∙ filter-append (λ (e : Event). ltb e.step 1) mine rest ∙ ap (λ l. l ++ before_step 1 rest) (before_all 1 mine low)
+          ∙ ap (λ l. mine ++ l) (before_none 1 rest (rest_high lane (at + step_time s) next refl (goes_on s))) ∙ append-nil mine ∙ sym wanted,
+    )
 
 same_number : (a b : ℕ) → eqb a b ≡ true → a ≡ b
 same_number a b same = ⊎_elim

@@ -35,12 +35,7 @@ impl Turn {
 }
 
 /// Adds the turns of a change of so many steps, which is one or, where it is split, two.
-fn push_turns(
-    all: &mut Vec<Turn>,
-    change: u32,
-    count: u8,
-    split: bool,
-) -> Result<(), AllocError>
+fn push_turns(all: &mut Vec<Turn>, change: u32, count: u8, split: bool) -> Result<(), AllocError>
     ensures { OnOk result (all.new.items ≡ all.old.items ++ (if split
         then single change 0 ∷ single change 1 ∷ []
         else record { change = change; first = 0; count = count } ∷ [])) }

@@ -20,7 +20,7 @@ returns-in_ok-push-2 c = λ limit names q.
     let missing = c.in_ok-missing.missing in
     let next = c.in_ok-push.ensures.items ∙ ap (λ (m : Moment). waiting ++ (let w : Waiting = record { missing = missing; at = m } in w) ∷ []) c.first-at.ensures in
     let moved = subst (λ (m : Moment). IsPermutation ((let r : Reverse ReadyTurn = record { 0 = record { at = m; number = c.len-number.result } } in r) ∷ ready) more)
-        c.first-at.ensures c.in_ok-push-2.ensures.permutation in
+    c.first-at.ensures c.in_ok-push-2.ensures.permutation in
     record {
       follow = follow_turn names turn limit c.len-number.result c.add_turn.new.self last (c.in_ok-missing.ensures.follow limit (counts_of names) q.follow);
       stands = stands_ready names turn waiting _ ready missing q.stands next c.in_ok-missing.ensures.count more c.len-number.result c.if-missing-eq0.true last moved
