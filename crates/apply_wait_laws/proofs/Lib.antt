@@ -7,6 +7,7 @@ pub mod InVain
 pub mod LeftOut
 pub mod Named
 pub mod Queued
+pub mod UnderWay
 pub mod Waited
 pub mod WholeSteps
 pub mod WithoutWaits

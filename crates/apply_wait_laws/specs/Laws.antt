@@ -7,8 +7,8 @@ use Rattle.apply_events.specs.declared.lanes.taken.Taken.{Taken}
 use Rattle.apply_events.specs.Fits.{HasStep}
 use Rattle.apply_events.specs.Step.{Step, Work, kinds_of, steps_of}
 use Rattle.apply_events.specs.declared.lanes.moment.Moment.{Moment}
-use Rattle.apply_events.specs.Waits.Done.{ready_at}
-use Rattle.apply_events.specs.Waits.Moment.{IsNoLater, first_moment, later_of}
+use Rattle.apply_events.specs.Waits.Done.{end_of_turn, ready_at}
+use Rattle.apply_events.specs.Waits.Moment.{IsNoLater, first_moment, is_earlier, later_of}
 use Rattle.apply_events.specs.Waits.Schedule.{free_behind, is_taken}
 use Rattle.apply_events.specs.Waits.Turn.{begun_steps, turns}
 use Rattle.apply_events.specs.StepEvents.{goes_on, step_events, step_time}
@@ -94,6 +94,12 @@ LeaveOutNoneWithoutNeed work events = ((name : Wait) → has_stopped work events
 -- the times of all steps that some turns begin
 abbrev pub time_of_all : Work → List Taken → ℕ
 time_of_all work taken = sum_by (λ one. sum_by step_time (begun_steps work one.turn)) taken
+
+-- ---- the lanes
+
+-- at a moment a turn that was taken up is under way: it has begun, and has not ended
+abbrev pub is_under_way : Work → Moment → Taken → Bool
+is_under_way work at one = not (is_earlier at one.begin) && is_earlier at (end_of_turn work one)
 
 -- ---- the queue
 

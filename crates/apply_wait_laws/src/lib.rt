@@ -4,12 +4,13 @@
 
 mod examples;
 
-ghost use Rattle.std.specs.Prelude.{◌≡◌, ◌<◌, ◌≤◌, ◌↔◌, ◌++◌, ◌∷◌, ℕ, All, List, false, length};
+ghost use Rattle.std.specs.Prelude.{◌≡◌, ◌<◌, ◌≤◌, ◌↔◌, ◌++◌, ◌∷◌, ℕ, All, List, count_by, false, length};
 ghost use Rattle.std.specs.List.Sorted.{IsNonDecreasingBy};
 ghost use Rattle.apply_model.specs.declared.script.wait.Wait.{Wait};
 ghost use Rattle.apply_events.specs.Step.{Work};
 ghost use Rattle.apply_model.specs.Script.Waits.{has_waits};
 ghost use Rattle.apply_events.specs.declared.event.Event.{Event};
+ghost use Rattle.apply_events.specs.declared.lanes.moment.Moment.{Moment};
 ghost use Rattle.apply_events.specs.declared.lanes.taken.Taken.{Taken};
 ghost use Rattle.apply_events.specs.Fits.{IsOfPlan};
 ghost use Rattle.apply_events.specs.Lanes.TimeLine as plain;
@@ -19,7 +20,7 @@ ghost use Rattle.apply_events.specs.Waits.Merging.{time_line};
 ghost use Rattle.apply_events.specs.Waits.Schedule.{schedule};
 ghost use Rattle.apply_events.specs.Waits.TakenUp.{IsAppliedInTurns, WereTakenUp};
 ghost use Rattle.apply_events.specs.Waits.TimeLine.{IsTimeLine};
-ghost use Rattle.apply_wait_laws.specs.Laws.{AreWhole, BeginWhereAllIsDone, HasFewSteps, IsNext, LeaveOutNoneWithoutNeed, LeaveOutWhatWaitsInVain, NamesSteps, StandBehindWhatTheyWaitFor, has_events, time_of_all};
+ghost use Rattle.apply_wait_laws.specs.Laws.{AreWhole, BeginWhereAllIsDone, HasFewSteps, IsNext, LeaveOutNoneWithoutNeed, LeaveOutWhatWaitsInVain, NamesSteps, StandBehindWhatTheyWaitFor, has_events, is_under_way, time_of_all};
 
 pub use examples::worked_examples;
 
@@ -93,6 +94,11 @@ pub fn any_lanes_begin_the_same_steps()
 pub fn a_time_line_ends_by_the_sum_of_all_times()
     ensures { (work : Work) (n : ℕ) (events : List Event) → 0 < n → IsTimeLine work n events
         → All (λ event. event.at ≤ time_of_all work (schedule work n)) events }
+{}
+
+/// At no moment are more turns under way than there are lanes.
+pub fn no_more_turns_are_under_way_than_lanes()
+    ensures { (work : Work) (n : ℕ) (at : Moment) → 0 < n → count_by (is_under_way work at) (schedule work n) ≤ n }
 {}
 
 /// Of a plan and a script that were read a time line has at most 189,180,000 events, whatever the hooks, and each is of a step of the
