@@ -77,9 +77,9 @@ module _ {X : Type 0} (p : X → Bool) where
       let old = counted y xs in
       let new = counted x xs in
       let kept : one_if (p y) ≤ one_if (p x) = ⊎_elim
-          (λ (its : p y ≡ true). let one : one_if (p x) ≡ 1 = ap one_if (keeps its) in let was : one_if (p y) ≡ 1 = ap one_if its in omega arith)
-          (λ (its : p y ≡ false). let none : one_if (p y) ≡ 0 = ap one_if its in omega arith)
-          (cases_Bool (p y)) in
+      (λ (its : p y ≡ true). let one : one_if (p x) ≡ 1 = ap one_if (keeps its) in let was : one_if (p y) ≡ 1 = ap one_if its in omega arith)
+      (λ (its : p y ≡ false). let none : one_if (p y) ≡ 0 = ap one_if its in omega arith)
+      (cases_Bool (p y)) in
       omega arith
   no_fewer (y ∷ xs) (suc k) x d lt keeps =
       let old = counted y xs in
