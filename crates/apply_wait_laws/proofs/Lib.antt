@@ -1,6 +1,7 @@
 pub mod Along
 pub mod Behind
 pub mod ByAnyLanes
+pub mod Chains
 pub mod Computed
 pub mod FewInTime
 pub mod InVain

@@ -1,5 +1,5 @@
 -- Words of the laws of waits.
-use Rattle.std.specs.Prelude.{◌≡◌, ◌<◌, ◌≤◌, ◌↔◌, ℕ, ◌++◌, ◌==◌, ◌&&◌, ◌∷◌, All, Bool, true, false, List, Some, get_or, length, not, slice_get, sum_by}
+use Rattle.std.specs.Prelude.{◌≡◌, ◌<◌, ◌≤◌, ◌↔◌, ℕ, ◌+◌, ◌++◌, ◌==◌, ◌&&◌, ◌∷◌, All, Bool, true, false, List, Some, get_or, length, not, slice_get, sum_by}
 use Rattle.std.specs.List.{Contains, filter, list_all, list_any}
 use Rattle.std.specs.Option.{option_map_or}
 use Rattle.apply_events.specs.declared.event.Event.{Event}
@@ -94,6 +94,14 @@ LeaveOutNoneWithoutNeed work events = ((name : Wait) → has_stopped work events
 -- the times of all steps that some turns begin
 abbrev pub time_of_all : Work → List Taken → ℕ
 time_of_all work taken = sum_by (λ one. sum_by step_time (begun_steps work one.turn)) taken
+
+-- a chain of waits that ends with a step takes so many seconds: those of the step, and of a chain that ends with one that it waits
+-- for, if there is one
+pub data TakesAsLong (work : Work) : Wait → ℕ → Type 0 where
+  alone : (name : Wait) (step : Step) → slice_get (steps_of work name.change) name.step ≡ Some step → TakesAsLong work name (step_time step)
+  behind : (name other : Wait) (step : Step) (seconds : ℕ) → slice_get (steps_of work name.change) name.step ≡ Some step
+      → Contains (waits_of work.script name.change name.step) other → TakesAsLong work other seconds
+      → TakesAsLong work name (seconds + step_time step)
 
 -- ---- the lanes
 

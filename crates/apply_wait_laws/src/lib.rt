@@ -4,7 +4,7 @@
 
 mod examples;
 
-ghost use Rattle.std.specs.Prelude.{◌≡◌, ◌<◌, ◌≤◌, ◌↔◌, ◌++◌, ◌∷◌, ℕ, All, List, count_by, false, length};
+ghost use Rattle.std.specs.Prelude.{◌≡◌, ◌<◌, ◌≤◌, ◌↔◌, ◌++◌, ◌∷◌, ℕ, All, List, Some, count_by, false, length};
 ghost use Rattle.std.specs.List.Sorted.{IsNonDecreasingBy};
 ghost use Rattle.apply_model.specs.declared.script.wait.Wait.{Wait};
 ghost use Rattle.apply_events.specs.Step.{Work};
@@ -16,11 +16,12 @@ ghost use Rattle.apply_events.specs.Fits.{IsOfPlan};
 ghost use Rattle.apply_events.specs.Lanes.TimeLine as plain;
 ghost use Rattle.apply_events.specs.Lanes.ToCome.{max_events};
 ghost use Rattle.apply_events.specs.Laws.{IsWithinLimits};
+ghost use Rattle.apply_events.specs.Waits.Done.{done_at};
 ghost use Rattle.apply_events.specs.Waits.Merging.{time_line};
 ghost use Rattle.apply_events.specs.Waits.Schedule.{schedule};
 ghost use Rattle.apply_events.specs.Waits.TakenUp.{IsAppliedInTurns, WereTakenUp};
 ghost use Rattle.apply_events.specs.Waits.TimeLine.{IsTimeLine};
-ghost use Rattle.apply_wait_laws.specs.Laws.{AreWhole, BeginWhereAllIsDone, HasFewSteps, IsNext, LeaveOutNoneWithoutNeed, LeaveOutWhatWaitsInVain, NamesSteps, StandBehindWhatTheyWaitFor, has_events, is_under_way, time_of_all};
+ghost use Rattle.apply_wait_laws.specs.Laws.{AreWhole, BeginWhereAllIsDone, HasFewSteps, IsNext, LeaveOutNoneWithoutNeed, LeaveOutWhatWaitsInVain, NamesSteps, StandBehindWhatTheyWaitFor, TakesAsLong, has_events, is_under_way, time_of_all};
 
 pub use examples::worked_examples;
 
@@ -95,6 +96,14 @@ pub fn a_time_line_ends_by_the_sum_of_all_times()
     ensures { (work : Work) (n : ℕ) (events : List Event) → 0 < n → IsTimeLine work n events
         → All (λ event. event.at ≤ time_of_all work (schedule work n)) events }
 {}
+
+/// A step is done no sooner than any chain of waits that ends with it takes.
+pub fn no_end_comes_before_a_chain_of_waits()
+    ensures { (work : Work) (n : ℕ) (name : Wait) (at : Moment) (seconds : ℕ) → 0 < n → HasFewSteps work
+        → done_at work (schedule work n) name ≡ Some at → TakesAsLong work name seconds → seconds ≤ at.second }
+{
+    the_schedule_takes_up_what_it_may();
+}
 
 /// At no moment are more turns under way than there are lanes.
 pub fn no_more_turns_are_under_way_than_lanes()
