@@ -1,24 +1,22 @@
 -- A runner of a change gives the events of a turn first, and stops behind them.
-use Rattle.std.proofs.Common.{◌≡◌, ◌≢◌, ℕ, zero, suc, ◌+◌, ◌<◌, ◌≤◌, Bool, true, false, ◌&&◌, List, [], ◌∷◌, ◌++◌, Option, Some, None, cond, drop, length, map, take, refl, sym, ap, ◌∙◌, subst, ⊎_elim, inl, inr, arith, eqb, leb, ltb, eq-eqb, ne_eqb, lt-ltb, le-ltb}
+use Rattle.std.proofs.Common.{◌≡◌, ◌≢◌, ℕ, ◌+◌, ◌<◌, ◌≤◌, Bool, true, false, ◌&&◌, List, [], ◌∷◌, ◌++◌, Option, Some, None, cond, drop, length, map, take, refl, sym, ap, ◌∙◌, subst, ⊎_elim, inl, inr, arith, eqb, leb, ltb, eq-eqb, ne_eqb, lt-ltb, le-ltb}
 use Rattle.std.specs.Prelude.{is_some, option_map, option_to_list}
-use Rattle.std.specs.List.{Contains, enumerate_from, filter, list_all}
-use Rattle.std.proofs.lemmas.Bool.{and_parts, cases_Bool, cases_lt, le-leb, leb-true, ltb-true, true≢false}
+use Rattle.std.specs.List.{Contains, enumerate_from, list_all}
+use Rattle.std.proofs.lemmas.Bool.{and_parts, cases_lt, le-leb, leb-true, ltb-true, true≢false}
 use Rattle.std.proofs.lemmas.Bool.Decides.{eqb_tells}
 use Rattle.std.specs.Option.{option_map_or}
 use Rattle.std.proofs.lemmas.List.{append-nil, length-drop, take_all}
-use Rattle.std.proofs.lemmas.List.Elements.{Contains-append_cases, filter-append}
+use Rattle.std.proofs.lemmas.List.Elements.{filter-append}
 use Rattle.apply_hooks.specs.declared.phase.Phase.TheVariants.{Pre}
 use Rattle.apply_events.specs.declared.event.Event.{Event}
-use Rattle.apply_events.specs.declared.lanes.taken.Taken.{Taken}
 use Rattle.apply_events.specs.declared.lanes.turn.Turn.{Turn}
 use Rattle.apply_events.specs.declared.what.What.TheVariants.{Halted, Start}
 use Rattle.apply_events.specs.ChangeEvents.{begun, in_turn}
-use Rattle.apply_events.specs.Course.{GivesNext, beginning_of, is_beginning}
+use Rattle.apply_events.specs.Course.{GivesNext, is_beginning}
 use Rattle.apply_events.specs.Stages.{events_from}
 use Rattle.apply_events.specs.Step.{Step, Work, kinds_of, step_of, steps_of}
 use Rattle.apply_events.specs.StepEvents.{event, goes_on, started, step_events, step_time}
 use Rattle.apply_events.specs.BeforeStep.{before_step, begins_with, stops_at}
-use Rattle.apply_events.specs.Waits.TimeLine.{turn_events}
 use Rattle.apply_events.specs.Waits.Turn.{single, turns, whole}
 use Rattle.apply_events.proofs.StepNumbers.{AreNumbered, AreNumbered-begun, AreNumbered-drop, steps_of-numbered}
 use Rattle.apply_events.proofs.Waits.Members.{all_in, filter_all, in_all, filter_no, in_cases, in_head, in_tail, not_in_none}

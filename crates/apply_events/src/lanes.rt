@@ -113,12 +113,12 @@ impl<'a> Lanes<'a> {
         ensures { result ≡ first_earliest (moments_of self.now) }
     {
         let mut first = 0;
+        let mut least = self.lanes[0].moment();
         for lane in 1..self.lanes.len() {
-            if self.lanes[lane]
-                .moment()
-                .is_earlier(self.lanes[first].moment())
-            {
+            let moment = self.lanes[lane].moment();
+            if moment.is_earlier(least) {
                 first = lane;
+                least = moment;
             }
         }
         first

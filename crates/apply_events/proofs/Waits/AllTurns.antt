@@ -1,5 +1,5 @@
 -- All turns, one change after another.
-use Rattle.std.proofs.Common.{◌≡◌, ℕ, zero, suc, ◌+◌, ◌&&◌, List, [], ◌∷◌, ◌++◌, Option, Some, cond, length, refl, sym, ap, ◌∙◌, arith, eqb, Bool}
+use Rattle.std.proofs.Common.{◌≡◌, ℕ, zero, suc, ◌+◌, ◌&&◌, List, [], ◌∷◌, ◌++◌, Some, cond, length, refl, sym, ap, ◌∙◌, arith, eqb, Bool}
 use Rattle.std.specs.Prelude.{slice_get}
 use Rattle.std.specs.List.{flat_map, range_with_len}
 use Rattle.std.proofs.lemmas.List.{append-nil, append_assoc}
@@ -8,7 +8,7 @@ use Rattle.apply_model.specs.Script.OutcomeMap.{outcome_of}
 use Rattle.apply_model.specs.Script.Waits.{names_a_wait}
 use Rattle.apply_events.specs.declared.lanes.turn.Turn.{Turn}
 use Rattle.apply_events.specs.Step.{Work, kinds_of}
-use Rattle.apply_events.specs.Waits.Turn.{single, turns_of, whole}
+use Rattle.apply_events.specs.Waits.Turn.{single, turns_of}
 use Rattle.apply_events.proofs.PlannedSteps.{kinds_here}
 
 -- those of one change more

@@ -1,5 +1,5 @@
 -- The turn that the queue gives is the one that is ready first.
-use Rattle.std.proofs.Common.{◌≡◌, ◌≢◌, ℕ, zero, suc, ◌+◌, ◌<◌, ◌≤◌, true, false, List, [], ◌∷◌, Option, Some, None, cond, length, map, refl, sym, ap, ◌∙◌, subst, ⊎_elim, ◌⊎◌, arith}
+use Rattle.std.proofs.Common.{◌≡◌, ◌≢◌, ℕ, zero, suc, ◌+◌, ◌<◌, ◌≤◌, true, false, List, [], ◌∷◌, Option, Some, None, cond, length, map, refl, sym, ap, ◌∙◌, subst, ⊎_elim, arith}
 use Rattle.std.specs.Prelude.{option_map}
 use Rattle.std.proofs.lemmas.Bool.{cases_Bool, cases_lt, true≢false}
 use Rattle.std.proofs.lemmas.List.{get_or-map, length-map}
@@ -12,7 +12,7 @@ use Rattle.apply_events.specs.declared.lanes.turn.Turn.{Turn}
 use Rattle.apply_events.specs.Waits.Done.{done_at, done_by, later_if_both, ready_at}
 use Rattle.apply_events.specs.Waits.Moment.{IsNoLater, is_earlier, next_round}
 use Rattle.apply_events.specs.Waits.Queue.{IsDue, IsFirstDue, late_if, late_of, names_at, open_if, open_of, times, turn_waits}
-use Rattle.apply_events.specs.Waits.Schedule.{Ready, earlier_of, first_ready, is_taken, next_of, ready_turn, scheduled, schedule, with_next}
+use Rattle.apply_events.specs.Waits.Schedule.{Ready, earlier_of, first_ready, is_taken, next_of, ready_turn, scheduled, with_next}
 use Rattle.apply_events.specs.Waits.Turn.{turns}
 use Rattle.apply_events.proofs.Waits.Merge.{not_before_itself}
 use Rattle.apply_events.proofs.Waits.Moments.{no_later_both, tells}

@@ -1,4 +1,4 @@
-use Rattle.std.proofs.Common.{◌≡◌, arith}
+use Rattle.std.proofs.Common.{arith}
 use Rattle.apply_hooks.specs.Registry.{rules_of}
 use Rattle.apply_events.proofs.Resumed.{resumed_time}
 use Rattle.apply_events.proofs.runner.Runner.resume.Goals as goal
