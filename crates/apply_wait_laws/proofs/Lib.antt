@@ -5,7 +5,8 @@ pub mod Chains
 pub mod Computed
 pub mod FewInTime
 pub mod InVain
-pub mod LeftOut
+pub mod LastEvents
+mod LeftOut
 pub mod Named
 pub mod Queued
 pub mod UnderWay

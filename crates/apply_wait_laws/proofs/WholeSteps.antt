@@ -4,7 +4,7 @@ use Rattle.std.specs.Prelude.{slice_get}
 use Rattle.std.specs.List.{Contains, filter}
 use Rattle.std.proofs.lemmas.Bool.{and_parts}
 use Rattle.std.proofs.lemmas.List.{append-nil}
-use Rattle.std.proofs.lemmas.List.Elements.{Contains-append_cases, filter-append}
+use Rattle.std.proofs.lemmas.List.Elements.{filter-append}
 use Rattle.apply_model.specs.declared.script.wait.Wait.{Wait}
 use Rattle.apply_events.specs.declared.event.Event.{Event}
 use Rattle.apply_events.specs.declared.lanes.taken.Taken.{Taken}
@@ -17,9 +17,9 @@ use Rattle.apply_events.specs.Waits.TimeLine.{lane_turns}
 use Rattle.apply_events.specs.Waits.Turn.{begun_steps}
 use Rattle.apply_events.proofs.StepNumbers.{AreNumbered}
 use Rattle.apply_events.proofs.Waits.Found.{IsOnly, found, part_is}
-use Rattle.apply_events.proofs.Waits.Members.{filter_all, filter_no, in_cases, in_head, in_tail, not_in_none}
+use Rattle.apply_events.proofs.Waits.Members.{filter_all, filter_no, in_cases, not_in_none}
 use Rattle.apply_events.proofs.Waits.Once.{one_event}
-use Rattle.apply_events.proofs.Waits.TurnEvents.{of_step, of_turn}
+use Rattle.apply_events.proofs.Waits.TurnEvents.{of_step, of_turn, step_of_event}
 use Rattle.apply_events.proofs.Waits.TurnSteps.{begun_numbered, begun_of_change, numbered_in, step_at_number, step_names_change}
 use Rattle.apply_wait_laws.specs.Laws.{AreWhole, is_of_step}
 use Rattle.apply_wait_laws.proofs.Behind.{are_turns, eq_from}
@@ -30,17 +30,8 @@ of_name name e is =
     let both = and_parts (eqb e.change name.change) (eqb e.step name.step) is in
     (eq_from e.change name.change both.0, eq_from e.step name.step both.1)
 
-name_of : (name : Wait) (e : Event) → e.change ≡ name.change → e.step ≡ name.step → is_of_step name e ≡ true
+pub name_of : (name : Wait) (e : Event) → e.change ≡ name.change → e.step ≡ name.step → is_of_step name e ≡ true
 name_of name e change step = ap (λ t. t && eqb e.step name.step) (eq-eqb e.change name.change change) ∙ eq-eqb e.step name.step step
-
--- the step of an event of some steps one after another
-step_of_event : (lane : ℕ) (steps : List Step) (at : ℕ) (e : Event) → Contains (in_turn (step_events lane) step_time steps at) e → (s : Step) × Contains steps s × (e.step ≡ s.number)
-step_of_event lane [] at e h = absurd (not_in_none e h)
-step_of_event lane (s ∷ steps) at e h = ⊎_elim
-    (λ (here : Contains (step_events lane s at) e). (s, in_head s steps, (of_step lane s at e here).step))
-    (λ (later : Contains (in_turn (step_events lane) step_time steps (at + step_time s)) e).
-    let rest = step_of_event lane steps (at + step_time s) e later in (rest.0, in_tail s steps rest.0 rest.1, rest.2))
-    (Contains-append_cases (step_events lane s at) (in_turn (step_events lane) step_time steps (at + step_time s)) e h)
 
 -- the events of one of the steps
 step_part : (lane n : ℕ) (steps : List Step) (at : ℕ) (s : Step) (name : Wait) → AreNumbered n steps → Contains steps s → s.number ≡ name.step → s.change ≡ name.change

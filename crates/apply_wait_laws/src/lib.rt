@@ -4,7 +4,8 @@
 
 mod examples;
 
-ghost use Rattle.std.specs.Prelude.{◌≡◌, ◌<◌, ◌≤◌, ◌↔◌, ◌++◌, ◌∷◌, ℕ, All, List, Some, count_by, false, length};
+ghost use Rattle.std.specs.Prelude.{◌≡◌, ◌<◌, ◌≤◌, ◌↔◌, ◌++◌, ◌∷◌, ℕ, All, List, Some, count_by, false, length, true};
+ghost use Rattle.std.specs.List.{Contains};
 ghost use Rattle.std.specs.List.Sorted.{IsNonDecreasingBy};
 ghost use Rattle.apply_model.specs.declared.script.wait.Wait.{Wait};
 ghost use Rattle.apply_events.specs.Step.{Work};
@@ -21,7 +22,7 @@ ghost use Rattle.apply_events.specs.Waits.Merging.{time_line};
 ghost use Rattle.apply_events.specs.Waits.Schedule.{schedule};
 ghost use Rattle.apply_events.specs.Waits.TakenUp.{IsAppliedInTurns, WereTakenUp};
 ghost use Rattle.apply_events.specs.Waits.TimeLine.{IsTimeLine};
-ghost use Rattle.apply_wait_laws.specs.Laws.{AreWhole, BeginWhereAllIsDone, HasFewSteps, IsNext, LeaveOutNoneWithoutNeed, LeaveOutWhatWaitsInVain, NamesSteps, StandBehindWhatTheyWaitFor, TakesAsLong, has_events, is_under_way, time_of_all};
+ghost use Rattle.apply_wait_laws.specs.Laws.{AreWhole, BeginWhereAllIsDone, HasFewSteps, IsNext, LeaveOutNoneWithoutNeed, LeaveOutWhatWaitsInVain, NamesSteps, StandBehindWhatTheyWaitFor, TakesAsLong, has_events, is_of_step, is_under_way, time_of_all};
 
 pub use examples::worked_examples;
 
@@ -97,10 +98,14 @@ pub fn a_time_line_ends_by_the_sum_of_all_times()
         → All (λ event. event.at ≤ time_of_all work (schedule work n)) events }
 {}
 
-/// A step is done no sooner than any chain of waits that ends with it takes.
+/// A step is done no sooner than any chain of waits that ends with it takes, and where it has events it ends no sooner, whether it
+/// is done, has failed or was halted. So a time line is as long as each chain of waits of steps that begin.
 pub fn no_end_comes_before_a_chain_of_waits()
-    ensures { (work : Work) (n : ℕ) (name : Wait) (at : Moment) (seconds : ℕ) → 0 < n → HasFewSteps work
+    ensures done { (work : Work) (n : ℕ) (name : Wait) (at : Moment) (seconds : ℕ) → 0 < n → HasFewSteps work
         → done_at work (schedule work n) name ≡ Some at → TakesAsLong work name seconds → seconds ≤ at.second }
+    ensures events { (work : Work) (n : ℕ) (events : List Event) (name : Wait) (seconds : ℕ) → 0 < n → HasFewSteps work
+        → IsTimeLine work n events → has_events events name ≡ true → TakesAsLong work name seconds
+        → (event : Event) × Contains events event × (is_of_step name event ≡ true) × (seconds ≤ event.at) }
 {
     the_schedule_takes_up_what_it_may();
 }
