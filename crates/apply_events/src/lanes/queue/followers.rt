@@ -15,7 +15,8 @@ pub struct Follower {
     pub before: u32,
 }
 
-/// The turns that wait for each step. Their places count from 1.
+/// The turns that wait for each step. Their places count from 1, so that no more than 4,294,967,295 find room: one more is
+/// refused as if there were no memory for it. A script that was read has a million at most.
 #[derive(Drop)]
 pub struct Followers {
     all: Vec<Follower>,
@@ -37,12 +38,12 @@ impl Followers {
         })
     }
 
-    /// The number of a step among all. `None` where no change has it.
-    fn number_of(&self, step: Wait) -> Option<usize>
+    /// The number of a step. `None` where no change has it.
+    fn known_number(&self, step: Wait) -> Option<usize>
         ensures some { IfSome result (λ number. HasPlace step (length self.now.last.items) × (number ≡ place_of step)) }
         ensures none { IfNone result (HasPlace step (length self.now.last.items) → ⊥) }
     {
-        let number = 2 * step.change as usize + step.step as usize;
+        let number = number_of(step);
         if step.step < 2 && number < self.last.len() {
             Some(number)
         } else {
@@ -54,7 +55,7 @@ impl Followers {
     fn add(&mut self, step: Wait, turn: u32) -> Result<(), AllocError>
         ensures { OnOk result ((limit : ℕ) (count : Wait → ℕ → ℕ) → Follow limit count self.old → Follow limit (also count turn (step ∷ [])) self.new) }
     {
-        let Some(number) = self.number_of(step) else {
+        let Some(number) = self.known_number(step) else {
             return Ok(());
         };
         if self.all.len() >= u32::MAX as usize {
@@ -121,7 +122,7 @@ impl Followers {
         requires { HasPlace step (length self.now.last.items) }
         ensures { result ≡ last_at self.now step }
     {
-        self.last[2 * step.change as usize + step.step as usize]
+        self.last[number_of(step)]
     }
 
     /// The one at a place, which counts from 1.
@@ -132,4 +133,11 @@ impl Followers {
     {
         self.all[place as usize - 1]
     }
+}
+
+/// The number of a step among all, of which each change has two.
+fn number_of(step: Wait) -> usize
+    ensures { result ≡ place_of step }
+{
+    2 * step.change as usize + step.step as usize
 }
