@@ -19,7 +19,7 @@ const LINE_LEN: usize = 160;
 /// How long an output is but for its name, type and value, at most.
 const OUTPUT_LEN: usize = 48;
 
-/// Appends the line of the outputs to others, text by text, so that no text is copied twice. `Err` where memory is refused;
+/// Appends the line of the outputs to others, text by text, so that no value is copied twice. `Err` where memory is refused;
 /// the lines are then as they were. `scratch` is used up.
 pub fn push_outputs(
     alloc: Global,
