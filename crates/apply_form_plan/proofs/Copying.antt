@@ -5,9 +5,9 @@ use Rattle.std.specs.Borrow.{Bor}
 use Rattle.json.specs.declared.token.Token as token
 use Rattle.json.specs.declared.token.Token.TheVariants as variant
 use Rattle.json.specs.Token.{Token}
-use Rattle.json.specs.Json.{Json, null, boolean, number, string, array, object, Items, Members, item, member, parse_map, items, members, value}
+use Rattle.json.specs.Json.{Json, null, boolean, number, string, array, object, Items, Members, parse_map, items, members, value}
 use Rattle.json.specs.Reads.{token_of}
-use Rattle.json.specs.Tree.{json_tokens, items_tokens, members_tokens}
+use Rattle.json.specs.Tree.{json_tokens}
 use Rattle.json.proofs.Grammar.{value_is, value-begin_array, value-begin_object}
 
 -- what follows of a success

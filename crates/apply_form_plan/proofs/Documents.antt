@@ -1,5 +1,5 @@
 -- The value that bytes are.
-use Rattle.std.proofs.Common.{◌≡◌, ℕ, true, false, List, Option, Some, None, refl, ap, ⊎_elim}
+use Rattle.std.proofs.Common.{◌≡◌, ℕ, true, false, List, Some, None, refl, ⊎_elim}
 use Rattle.std.specs.Prelude.{option_and_then}
 use Rattle.std.specs.Str.{IsUtf8, is_utf8}
 use Rattle.std.proofs.lemmas.Bool.{cases_Bool}

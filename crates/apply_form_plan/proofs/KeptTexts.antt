@@ -13,6 +13,7 @@ use Rattle.serde_json.specs.View.{view}
 use Rattle.serde_json.specs.declared.value.Value.{String, the_lemmas}
 use Rattle.apply_form_plan.specs.Texts.{is_text, members_with_texts, part_named, text_of, with_texts}
 use Rattle.apply_form_plan.specs.declared.texts.part.Part.{Part}
+use Rattle.apply_form_plan.specs.declared.texts.part.Part.TheVariants.{Text}
 
 pub text_seen : (text : Owned Global) → view (String text) ≡ tree.string (string_bytes text)
 text_seen text = search (rules, the_lemmas)
@@ -79,3 +80,6 @@ named part inner name j ms found new is grown =
 pub not_named : (part : Part) (name : List ℕ) (j : Json) (ms : Members) (found : tree.Members) → None ≡ part_named part name
     → members_with_texts part (member name j ms) found ≡ members_with_texts part ms found
 not_named part name j ms found is = ap (λ o. members_with_texts part ms (option_map_or (λ inner. put name (with_texts inner j) found) o found)) (sym is)
+
+pub kept_text : (j : Json) → with_texts Text j ≡ tree.string (text_of j)
+kept_text j = kept_whole Text j refl

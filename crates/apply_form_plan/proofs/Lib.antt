@@ -1,7 +1,11 @@
 mod ActionLists
+mod Beginnings
 mod Copying
 mod Documents
 mod ElementLists
+mod KeptOutputs
 mod KeptTexts
 mod MapMembers
+mod MemberTurns
+mod Seeking
 mod Trimmed

@@ -1,7 +1,9 @@
 pub mod Changes
 pub mod Details
+pub mod Kept
 pub mod Outputs
 pub mod Plan
 pub mod Selection
+pub mod Sought
 pub mod Texts
 pub mod Told

@@ -6,7 +6,7 @@ use Rattle.std.specs.Str.{bytes_eq}
 use Rattle.json.specs.Json.{Json}
 use Rattle.serde_json.specs.Data.{Data, Members, no_members, member, put}
 use Rattle.serde_json.specs.Find.{as_object, as_str, get, get_member}
-use Rattle.serde_json.specs.View.{view, members_view}
+use Rattle.serde_json.specs.View.{view}
 use Rattle.apply_json.specs.Tree.{◌>>=◌}
 use Rattle.apply_plan.specs.declared.script.script_error.ScriptError.{ScriptError}
 use Rattle.apply_plan.specs.declared.script.script_error.ScriptError.TheVariants.{BadOutput, BadShape, NotJson, UnknownOutput}
@@ -14,6 +14,7 @@ use Rattle.apply_plan.specs.Results as results
 use Rattle.apply_form.specs.declared.output.Output.{Output}
 use Rattle.apply_form_plan.specs.declared.plan_outputs.PlanOutputs.{PlanOutputs}
 use Rattle.apply_form_plan.specs.declared.texts.part.Part.TheVariants as part
+use Rattle.apply_form_plan.specs.Kept.{members_view}
 use Rattle.apply_form_plan.specs.Texts.{json_of, with_texts}
 
 -- a member that is kept as text

@@ -2,16 +2,17 @@
 
 ghost use Rattle.std.specs.Prelude.{◌≡◌};
 ghost use Rattle.serde_json.specs.Data.{no_members};
-ghost use Rattle.serde_json.specs.View.{members_view};
+ghost use Rattle.apply_form_plan.specs.Kept.{members_view};
 
-use serde_json::{Map, Value};
+use crate::kept::kept_output::KeptOutput;
+use serde_json::Map;
 use std::alloc::Global;
 
 /// What a script says for Terraform's form alone, with types and values as texts.
 #[derive(Debug, Drop)]
 pub struct Extras {
     /// The outputs, by their names.
-    pub(crate) outputs: Map<String, Value>,
+    pub(crate) outputs: Map<String, KeptOutput>,
 }
 
 impl Extras {

@@ -8,6 +8,7 @@ mod details_shape;
 mod elements;
 mod extras;
 mod flags;
+mod kept;
 mod notes;
 mod output_changes;
 mod outputs;
@@ -16,7 +17,6 @@ mod plan_outputs;
 mod reading;
 mod reasons;
 mod script_outputs;
-mod taking;
 mod telling;
 mod texts;
 

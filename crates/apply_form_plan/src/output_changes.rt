@@ -3,9 +3,11 @@
 ghost use Rattle.std.specs.Prelude.{◌≡◌, option_map};
 ghost use Rattle.std.specs.Option.{option_copied};
 ghost use Rattle.serde_json.specs.View.{view};
+ghost use Rattle.apply_form_plan.specs.Kept as kept;
 ghost use Rattle.apply_form_plan.specs.Outputs as said;
 
-use crate::outputs::{is_that, is_typed, text_in};
+use crate::kept::kept_output::KeptOutput;
+use crate::outputs::{is_that, is_typed};
 use serde_json::Value;
 
 /// What is planned of the output of that name.
@@ -14,6 +16,21 @@ pub fn change_of<'a>(changes: Option<&'a Value>, name: &str) -> Option<&'a Value
         ≡ said.change_of (option_map (λ value. view value.now) changes.entry) name.now }
 {
     changes?.get(name)
+}
+
+/// A member that is kept as text.
+fn text_at<'a>(object: &'a Value, name: &str) -> Option<&'a str>
+    ensures { option_copied result ≡ said.text_at name.now (view object.now) }
+{
+    object.get(name)?.as_str()
+}
+
+/// The same of a value, where there is one.
+fn text_in<'a>(object: Option<&'a Value>, name: &str) -> Option<&'a str>
+    ensures { option_copied result
+        ≡ said.text_in name.now (option_map (λ value. view value.now) object.entry) }
+{
+    text_at(object?, name)
 }
 
 /// Whether its value is not known before the apply.
@@ -46,9 +63,9 @@ fn text_of(value: Option<&Value>) -> Option<&str>
 }
 
 /// Whether the plan's own output of that name is told.
-pub fn is_told(changes: Option<&Value>, name: &str, output: &Value) -> bool
+pub fn is_told(changes: Option<&Value>, name: &str, output: &KeptOutput) -> bool
     ensures { result ≡ said.is_told (option_map (λ value. view value.now) changes.entry)
-        name.now (view output.now) }
+        name.now (kept.view output.now) }
 {
     let change = change_of(changes, name);
     is_typed(output) && !(is_unknown(change) || is_gone(change))

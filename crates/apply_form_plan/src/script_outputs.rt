@@ -1,20 +1,26 @@
 //! Reading what a script says for Terraform's form alone.
 
-ghost use Rattle.std.specs.Prelude.{◌≡◌, codes};
-ghost use Rattle.serde_json.specs.Find.{get};
-ghost use Rattle.serde_json.specs.View.{view, members_view};
-ghost use Rattle.apply_plan.specs.Results.{Gives, IsExactly};
-ghost use Rattle.apply_form_plan.specs.Outputs.{fault_of, outputs_in_script, outputs_of_bytes, outputs_of_script, seen_outputs};
+ghost use Rattle.std.specs.Prelude.{◌≡◌, Err, IfOk, None, Some, option_map};
+ghost use Rattle.json.specs.Json.{Json};
+ghost use Rattle.apply_plan.specs.Results.{Gives};
+ghost use Rattle.apply_form_plan.specs.Kept.{found_view, members_view};
+ghost use Rattle.apply_form_plan.specs.Outputs.{fault_of, outputs_in_script, outputs_of_bytes, seen_outputs, unless_faulty};
+ghost use Rattle.apply_form_plan.specs.Sought.{IsSoughtIn};
+ghost use Rattle.apply_form_plan.specs.Texts.{json_of, with_texts};
+ghost use Rattle.apply_form_plan.specs.declared.texts.part.Part.TheVariants as part;
 
 use crate::extras::Extras;
+use crate::kept::by_name::by_name;
+use crate::kept::found_outputs::FoundOutputs;
+use crate::kept::kept_output::KeptOutput;
+use crate::kept::sought::Sought;
 use crate::outputs::{is_output, is_that};
 use crate::plan_outputs::PlanOutputs;
-use crate::taking::taken;
 use crate::texts::part::Part;
-use crate::texts::reading::read_with_texts;
+use crate::texts::seeking::read_sought;
 use apply_json::{ReadFault, Scratch};
 use apply_plan::ScriptError;
-use serde_json::{Map, Value};
+use serde_json::Map;
 use std::alloc::Global;
 
 /// What a script says for Terraform's form alone: its `outputs`, an object whose members are outputs of the plan by their
@@ -29,20 +35,33 @@ pub fn read_extras(alloc: Global, bytes: &[u8], plan: &PlanOutputs) -> Result<Ex
     ensures { Gives ScriptError.Memory (λ extras. members_view extras.outputs.entries) result
         (outputs_of_bytes (seen_outputs plan.now) bytes.now) }
 {
-    let mut scratch = Scratch::new(alloc);
-    match read_with_texts(alloc, &mut scratch, bytes, Part::Script) {
-        Ok(script) => extras_of(alloc, script, plan),
+    match read_script(alloc, bytes) {
+        Ok(Sought { outputs, .. }) => extras_of(alloc, outputs, plan),
         Err(ReadFault::NotJson) => Err(ScriptError::NotJson),
         Err(ReadFault::Memory) => Err(ScriptError::Memory),
     }
 }
 
-/// What the script says.
-fn extras_of(alloc: Global, script: Value, plan: &PlanOutputs) -> Result<Extras, ScriptError>
-    ensures { IsExactly (λ extras. members_view extras.outputs.entries) result
-        (outputs_of_script (seen_outputs plan.now) (view script)) }
+/// What is looked for in the script.
+fn read_script(alloc: Global, bytes: &[u8]) -> Result<Sought, ReadFault>
+    ensures ok { IfOk result (λ sought. (j : Json) × (json_of bytes.now ≡ Some j)
+        × IsSoughtIn part.Script (with_texts part.Script j) sought) }
+    ensures err { result ≡ Err ReadFault.NotJson → json_of bytes.now ≡ None }
 {
-    match outputs_in(alloc, script) {
+    let mut scratch = Scratch::new(alloc);
+    read_sought(alloc, &mut scratch, bytes, Part::Script)
+}
+
+/// What the script says, in which that was found.
+fn extras_of(
+    alloc: Global,
+    found: Option<FoundOutputs>,
+    plan: &PlanOutputs,
+) -> Result<Extras, ScriptError>
+    ensures { Gives ScriptError.Memory (λ extras. members_view extras.outputs.entries) result
+        (unless_faulty (seen_outputs plan.now) (outputs_in_script (option_map found_view found))) }
+{
+    match outputs_in(alloc, found) {
         Ok(outputs) => match fault(&outputs, plan) {
             Some(fault) => Err(fault),
             None => Ok(Extras { outputs }),
@@ -52,14 +71,20 @@ fn extras_of(alloc: Global, script: Value, plan: &PlanOutputs) -> Result<Extras,
 }
 
 /// The outputs by their names.
-fn outputs_in(alloc: Global, script: Value) -> Result<Map<String, Value>, ScriptError>
-    ensures { IsExactly (λ outputs. members_view outputs.entries) result
-        (outputs_in_script (get (codes "outputs") (view script))) }
+fn outputs_in(
+    alloc: Global,
+    found: Option<FoundOutputs>,
+) -> Result<Map<String, KeptOutput>, ScriptError>
+    ensures { Gives ScriptError.Memory (λ outputs. members_view outputs.entries) result
+        (outputs_in_script (option_map found_view found)) }
 {
-    match taken(Some(script), "outputs") {
+    match found {
         None => Ok(Map::new(alloc)),
-        Some(Value::Object(outputs)) => Ok(outputs),
-        Some(other) => if is_that(other.as_str(), "null") {
+        Some(FoundOutputs::Object(outputs)) => match by_name(alloc, outputs) {
+            Ok(outputs) => Ok(outputs),
+            Err(_) => Err(ScriptError::Memory),
+        },
+        Some(FoundOutputs::Other(text)) => if is_that(Some(text.as_str()), "null") {
             Ok(Map::new(alloc))
         } else {
             Err(ScriptError::BadShape(None))
@@ -68,7 +93,7 @@ fn outputs_in(alloc: Global, script: Value) -> Result<Map<String, Value>, Script
 }
 
 /// The first fault of the outputs.
-fn fault(outputs: &Map<String, Value>, plan: &PlanOutputs) -> Option<ScriptError>
+fn fault(outputs: &Map<String, KeptOutput>, plan: &PlanOutputs) -> Option<ScriptError>
     ensures { result ≡ fault_of (seen_outputs plan.now) 0 (members_view outputs.now.entries) }
 {
     let count = outputs.len();

@@ -1,11 +1,13 @@
 //! The outputs that are told.
 
 ghost use Rattle.std.specs.Prelude.{◌≡◌, IfOk, option_map};
-ghost use Rattle.serde_json.specs.View.{view, members_view};
+ghost use Rattle.serde_json.specs.View.{view};
+ghost use Rattle.apply_form_plan.specs.Kept.{members_view};
 ghost use Rattle.apply_form_plan.specs.Outputs as told;
 ghost use Rattle.apply_form_plan.specs.Outputs.{seen_outputs};
 
 use crate::extras::Extras;
+use crate::kept::kept_output::KeptOutput;
 use crate::output_changes::is_told;
 use crate::outputs::output_of;
 use crate::plan_outputs::PlanOutputs;
@@ -30,10 +32,10 @@ pub fn told_outputs(
 
 /// What was found, and beside it those of the plan that are told.
 fn beside(
-    known: Map<String, Value>,
+    known: Map<String, KeptOutput>,
     changes: Option<&Value>,
-    found: Map<String, Value>,
-) -> Result<Map<String, Value>, AllocError>
+    found: Map<String, KeptOutput>,
+) -> Result<Map<String, KeptOutput>, AllocError>
     ensures { IfOk result (λ all. members_view all.entries
         ≡ told.beside (option_map (λ value. view value.now) changes.entry)
         (members_view known.entries) (members_view found.entries)) }
@@ -49,7 +51,7 @@ fn beside(
 }
 
 /// All of them as outputs.
-fn as_outputs(alloc: Global, found: Map<String, Value>) -> Result<Vec<Output>, AllocError>
+fn as_outputs(alloc: Global, found: Map<String, KeptOutput>) -> Result<Vec<Output>, AllocError>
     ensures { IfOk result (λ outputs. outputs.items ≡ told.as_outputs (members_view found.entries)) }
 {
     let mut found = found;

@@ -1,5 +1,8 @@
 //! Values that are kept as their own texts.
 
+mod beginning;
 mod copying;
+mod outputs;
 pub mod part;
-pub mod reading;
+mod reading;
+pub mod seeking;

@@ -1,6 +1,7 @@
 //! What of a plan and of a script is kept as text.
 
 ghost use Rattle.std.specs.Prelude.{◌≡◌};
+ghost use Rattle.apply_form_plan.specs.Sought.{is_changes};
 ghost use Rattle.apply_form_plan.specs.Texts.{is_text, part_named};
 
 /// What of a plan or a script a value is, on the way to what is kept as text. Values of no part are passed over.
@@ -32,6 +33,13 @@ impl Part {
         ensures { result ≡ is_text self }
     {
         self == Part::Text
+    }
+
+    /// Whether it is what is planned of outputs.
+    pub fn is_changes(self) -> bool
+        ensures { result ≡ is_changes self }
+    {
+        self == Part::OutputChanges
     }
 
     /// What the member of that name is. `None` where it is passed over.

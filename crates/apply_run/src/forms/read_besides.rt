@@ -2,10 +2,10 @@
 
 ghost use Rattle.std.specs.Prelude.{◌≡◌, ◌≤◌, length, Err, IfErr, IfOk, IfSome};
 ghost use Rattle.std.specs.Option.{option_copied};
-ghost use Rattle.serde_json.specs.View.{members_view};
 ghost use Rattle.apply_plan.specs.declared.script.script_error.ScriptError.TheVariants as script_error;
 ghost use Rattle.apply_plan.specs.Bytes.{max_bytes};
 ghost use Rattle.apply_plan.specs.Results.{Gives};
+ghost use Rattle.apply_form_plan.specs.Kept.{members_view};
 ghost use Rattle.apply_form_plan.specs.Outputs.{seen_outputs};
 ghost use Rattle.apply_form_plan.specs.Told.{seen_details};
 ghost use Rattle.apply_run.specs.Bytes.{MayBeRead};

@@ -1,5 +1,5 @@
 use Rattle.std.proofs.Common.{◌≡◌, ◌-◌, ◌≤◌, length}
-use Rattle.serde_json.specs.View.{members_view}
+use Rattle.apply_form_plan.specs.Kept.{members_view}
 use Rattle.apply_form_plan.specs.Outputs.{fault_of, seen_outputs}
 use Rattle.apply_form_plan.proofs.script_outputs.fault.Given as goal
 

@@ -1,5 +1,5 @@
 use Rattle.std.proofs.Common.{◌≡◌, ◌++◌, length}
-use Rattle.serde_json.specs.View.{members_view}
+use Rattle.apply_form_plan.specs.Kept.{members_view}
 use Rattle.apply_form_plan.specs.Outputs.{as_outputs}
 use Rattle.apply_form_plan.proofs.telling.as_outputs.Given as goal
 

@@ -1,10 +1,12 @@
-use Rattle.std.proofs.Common.{◌≡◌, true, false, Some, option_map, string_bytes, sym, ap, ◌∙◌, rules, arith}
+use Rattle.std.proofs.Common.{◌≡◌, true, false, option_map, string_bytes, sym, ap, ◌∙◌, rules}
 use Rattle.std.specs.Option.{is_some}
 use Rattle.serde_json.specs.Data.{put}
 use Rattle.serde_json.specs.Find.{get_member}
-use Rattle.serde_json.specs.View.{view, members_view}
-use Rattle.serde_json.proofs.Views.{members_view-insert_entry}
+use Rattle.serde_json.specs.View.{view}
+use Rattle.apply_form_plan.specs.Kept as kept
+use Rattle.apply_form_plan.specs.Kept.{members_view}
 use Rattle.apply_form_plan.specs.Outputs.{beside, is_told}
+use Rattle.apply_form_plan.proofs.KeptOutputs.{members_view-insert_entry}
 use Rattle.apply_form_plan.proofs.MapMembers.{found_already, not_told, present_at, put_beside}
 use Rattle.apply_form_plan.proofs.telling.beside.Goals as goal
 use Rattle.apply_form_plan.proofs.telling.beside.Goals.{else-is_told-via-then-is_told+else-not-contains_key, else-is_told-via-else-is_told}
@@ -14,7 +16,7 @@ loop-name-preserved-then-not-contains_key c =
     let changes = option_map (λ value. view value.now) c.args.changes in
     let l = c.loop-name in
     let name = string_bytes c.in-Some.name in
-    let output = view c.in-Some.output in
+    let output = kept.view c.in-Some.output in
     let rest = members_view c.pop_first.new.self.entries in
     let found = members_view l.found.entries in
     let told : is_told changes name output ≡ true = search rules in
@@ -30,7 +32,7 @@ loop-name-preserved c =
     let changes = option_map (λ value. view value.now) c.args.changes in
     let l = c.loop-name in
     let name = string_bytes c.in-Some.name in
-    let output = view c.in-Some.output in
+    let output = kept.view c.in-Some.output in
     let rest = members_view c.pop_first.new.self.entries in
     let found = members_view l.found.entries in
     let passed : beside changes (members_view l.known.entries) found ≡ beside changes rest found = ap (λ es. beside changes (members_view es) found) c.in-Some.ensures.removal ∙ elim c.else-is_told.branch [

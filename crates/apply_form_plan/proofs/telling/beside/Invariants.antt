@@ -1,5 +1,6 @@
 use Rattle.std.proofs.Common.{◌≡◌, length, option_map}
-use Rattle.serde_json.specs.View.{view, members_view}
+use Rattle.serde_json.specs.View.{view}
+use Rattle.apply_form_plan.specs.Kept.{members_view}
 use Rattle.apply_form_plan.specs.Outputs.{beside}
 use Rattle.apply_form_plan.proofs.telling.beside.Given as goal
 

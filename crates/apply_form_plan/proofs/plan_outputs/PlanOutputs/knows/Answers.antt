@@ -1,4 +1,4 @@
-use Rattle.std.proofs.Common.{◌≡◌, Some, None, false, sym, ap, ◌∙◌}
+use Rattle.std.proofs.Common.{Some, None, false, ap, ◌∙◌}
 use Rattle.std.specs.Option.{option_copied, option_map_or}
 use Rattle.apply_form_plan.specs.Outputs.{is_typed}
 use Rattle.apply_form_plan.proofs.MapMembers.{borrowed_at}

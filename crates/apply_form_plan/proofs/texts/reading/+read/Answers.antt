@@ -1,18 +1,15 @@
-use Rattle.std.proofs.Common.{rules, ◌≡◌, ◌<◌, ◌-◌, ◌∷◌, [], length, None, Some, refl, sym, ap, ◌∙◌, arith, string_bytes}
-use Rattle.std.specs.Borrow.{Bor}
-use Rattle.json.specs.Json.{object, member, no_members, parse_map, members, read_key, value}
-use Rattle.json.specs.Reads.{token_of}
+use Rattle.std.proofs.Common.{rules, ◌≡◌, ◌-◌, length, None, Some, sym, ap, ◌∙◌, arith, string_bytes}
+use Rattle.json.specs.Json.{object, member, no_members, parse_map, read_key, value}
 use Rattle.json.proofs.Grammar.{left_none, left_some, members_end, members_fail, members_more, members_no_key, read_key-shorter}
 use Rattle.serde_json.specs.Data as tree
 use Rattle.serde_json.specs.Data.{put}
 use Rattle.serde_json.specs.View.{view, members_view}
 use Rattle.serde_json.proofs.Views.{members_view-insert_entry, view-Object}
-use Rattle.apply_json.proofs.FirstToken.{first_token, shorter}
 use Rattle.apply_json.proofs.Turns.{key_named}
-use Rattle.apply_json.specs.declared.read_fault.ReadFault.TheVariants.{NotJson}
 use Rattle.apply_form_plan.specs.Texts.{members_with_texts}
-use Rattle.apply_form_plan.proofs.Copying.{fused, nothing_left, object_is, object_too_deep, unchanged}
-use Rattle.apply_form_plan.proofs.KeptTexts.{kept_other, kept_whole, looked_into, named, not_named, text_seen}
+use Rattle.apply_form_plan.proofs.Beginnings.{if_none, if_some}
+use Rattle.apply_form_plan.proofs.Copying.{fused, unchanged}
+use Rattle.apply_form_plan.proofs.KeptTexts.{kept_whole, looked_into, named, not_named, text_seen}
 use Rattle.apply_form_plan.proofs.texts.reading.+read.Goals as goal
 
 pub read-returns-then-is_text-clause-ok : goal.read-returns-then-is_text-clause-ok
@@ -20,45 +17,24 @@ read-returns-then-is_text-clause-ok t c =
     let done = c.in_ok-read_as_text.ensures.ok in
     (done.0, done.1, text_seen c.in_ok-read_as_text.field-0 ∙ ap tree.string done.2 ∙ sym (kept_whole c.args.part done.0 (grind arith)))
 
-pub read-returns-in_err-token-clause-err : goal.read-returns-in_err-token-clause-err
-read-returns-in_err-token-clause-err t c =
-    let empty : c.args.reader.now ≡ [] = grind arith in
-    λ refused. nothing_left c.args.depth [] c.args.reader.now empty
+pub read-returns-in_err-read_members-in-None-clause-err : goal.read-returns-in_err-read_members-in-None-clause-err
+read-returns-in_err-read_members-in-None-clause-err t c =
+    let begun = if_none _ _ c.in_ok-begin.field-0 c.in-None.is c.in_ok-begin.ensures.ok in
+    λ refused. begun.1 ∙ ap (parse_map object) (c.read_members.ensures.err (grind arith))
 
-pub read-returns-then-depth-eq0-clause-err : goal.read-returns-then-depth-eq0-clause-err
-read-returns-then-depth-eq0-clause-err t c =
-    let first = first_token c.next.result c.in_ok-token.token NotJson c.args.reader.now c.next.new.self c.in_ok-token.ensures.value c.next.ensures.value in
-    λ refused. ap (value c.args.depth) first ∙ object_too_deep c.args.depth c.next.new.self c.in_ok-token.token c.in-BeginObject.is c.if-depth-eq0.true
-
-pub read-returns-in_err-read_members-in-BeginObject-clause-err : goal.read-returns-in_err-read_members-in-BeginObject-clause-err
-read-returns-in_err-read_members-in-BeginObject-clause-err t c =
-    let first = first_token c.next.result c.in_ok-token.token NotJson c.args.reader.now c.next.new.self c.in_ok-token.ensures.value c.next.ensures.value in
-    λ refused. ap (value c.args.depth) first
-    ∙ object_is c.args.depth c.next.new.self c.in_ok-token.token None c.in-BeginObject.is (omega arith) (c.read_members.ensures.err (grind arith))
-
-pub read-returns-in_ok-read_members-in-BeginObject-clause-ok : goal.read-returns-in_ok-read_members-in-BeginObject-clause-ok
-read-returns-in_ok-read_members-in-BeginObject-clause-ok t c =
-    let first = first_token c.next.result c.in_ok-token.token NotJson c.args.reader.now c.next.new.self c.in_ok-token.ensures.value c.next.ensures.value in
-    let done = c.in_ok-read_members-in-BeginObject.ensures.ok in (
+pub read-returns-in_ok-read_members-in-None-clause-ok : goal.read-returns-in_ok-read_members-in-None-clause-ok
+read-returns-in_ok-read_members-in-None-clause-ok t c =
+    let begun = if_none _ _ c.in_ok-begin.field-0 c.in-None.is c.in_ok-begin.ensures.ok in
+    let done = c.in_ok-read_members-in-None.ensures.ok in (
       object done.0,
-      ap (value c.args.depth) first ∙ object_is c.args.depth c.next.new.self c.in_ok-token.token _ c.in-BeginObject.is (omega arith) done.1,
-      view-Object c.in_ok-read_members-in-BeginObject.field-0 ∙ ap tree.object done.2 ∙ sym (looked_into c.args.part done.0 (grind arith)),
+      begun.1 ∙ ap (parse_map object) done.1,
+      view-Object c.in_ok-read_members-in-None.field-0 ∙ ap tree.object done.2 ∙ sym (looked_into c.args.part done.0 (grind arith)),
     )
 
-pub read-returns-in_ok-read_rest_as_text-in_default : goal.read-returns-in_ok-read_rest_as_text-in_default
-read-returns-in_ok-read_rest_as_text-in_default t c =
-    let first = first_token c.next.result c.in_ok-token.token NotJson c.args.reader.now c.next.new.self c.in_ok-token.ensures.value c.next.ensures.value in
-    let done = c.in_ok-read_rest_as_text-in_default.ensures in
-    let less = shorter c.args.reader.now c.next.new.self (token_of c.in_ok-token.token) first in
-    record {
-      ok = (
-        done.ok.0,
-        ap (value c.args.depth) first ∙ done.ok.1,
-        text_seen c.in_ok-read_rest_as_text-in_default.field-0 ∙ ap tree.string done.ok.2 ∙ sym (kept_other c.args.part c.args.depth c.in_ok-token.token c.next.new.self _ done.ok.0 c.in_default.not-BeginObject done.ok.1),
-      );
-      shorter = omega (arith, less, done.shorter);
-      err = λ refused. absurd cc;
-    }
+pub read-returns-in-Some-clause-ok : goal.read-returns-in-Some-clause-ok
+read-returns-in-Some-clause-ok t c =
+    let begun = if_some _ _ c.in_ok-begin.field-0 c.in-Some.text c.in-Some.is c.in_ok-begin.ensures.ok in
+    (begun.0, begun.1, text_seen c.in-Some.text ∙ sym (begun.2 c.args.part))
 
 pub read_members-members-init : goal.read_members-members-init
 read_members-members-init t c =

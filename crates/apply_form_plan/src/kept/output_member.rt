@@ -1,0 +1,35 @@
+//! Which member of an output is kept.
+
+ghost use Rattle.std.specs.Prelude.{◌≡◌, IfSome, option_map};
+ghost use Rattle.apply_form_plan.specs.Kept.{name_of};
+ghost use Rattle.apply_form_plan.specs.Texts.{part_named};
+ghost use Rattle.apply_form_plan.specs.declared.texts.part.Part.TheVariants.{Output, Text};
+
+/// A member of an output that is kept.
+#[derive(Clone, Copy, Debug, PartialEq, Eq)]
+pub enum OutputMember {
+    /// `sensitive`.
+    Sensitive,
+    /// `type`.
+    Type,
+    /// `value`.
+    Value,
+}
+
+impl OutputMember {
+    /// The member of that name. `None` where it is passed over.
+    pub fn named(name: &str) -> Option<OutputMember>
+        ensures part { option_map (λ _. Text) result ≡ part_named Output name.now }
+        ensures name { IfSome result (λ member. name_of member ≡ name.now) }
+    {
+        if name == "sensitive" {
+            Some(OutputMember::Sensitive)
+        } else if name == "type" {
+            Some(OutputMember::Type)
+        } else if name == "value" {
+            Some(OutputMember::Value)
+        } else {
+            None
+        }
+    }
+}
