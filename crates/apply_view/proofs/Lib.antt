@@ -1,0 +1,17 @@
+pub mod Adding
+pub mod AtPlace
+pub mod BarLaws
+pub mod Bounds
+pub mod Cuts
+pub mod DetailLines
+pub mod FirstOpen
+pub mod Holding
+pub mod Kept
+pub mod LastOne
+pub mod Marking
+pub mod NumberLaws
+pub mod OpenAt
+pub mod Places
+pub mod Sums
+pub mod Swept
+pub mod Trimmed
