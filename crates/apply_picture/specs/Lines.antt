@@ -40,6 +40,11 @@ is_no_control (piece.Character character) = is_some (char_width false character)
 is_no_control (piece.Begin paint) = true
 is_no_control piece.End = true
 
+abbrev pub is_character : Piece → Bool
+is_character (piece.Character character) = true
+is_character (piece.Begin paint) = false
+is_character piece.End = false
+
 -- the pieces are a line of at most so many columns, without a control character
 pub record IsLine (width : ℕ) (pieces : List Piece) : Type 0 where
   pub columns : sum_by piece_columns pieces ≤ width

@@ -1,16 +1,19 @@
 //! Why a picture was not drawn to its end.
 
 use std::alloc::{AllocError, AllocFailed};
-use std::io::{self, ErrorKind};
+use thiserror::Error;
 
 /// Why a picture was not drawn to its end.
-#[derive(Clone, Copy, Debug, PartialEq, Eq)]
+#[derive(Clone, Copy, Debug, Drop, Error, PartialEq, Eq)]
 pub enum DrawFault {
     /// Memory was refused.
+    #[error("out of memory")]
     Memory,
     /// A write or a flush failed since the reader of the output is gone, as the writer's error says.
+    #[error("the output could not be written")]
     Gone,
     /// A write or a flush failed for another reason.
+    #[error("the output could not be written")]
     Unwritten,
 }
 
@@ -23,14 +26,5 @@ impl From<AllocError> for DrawFault {
 impl<T: Drop> From<AllocFailed<T>> for DrawFault {
     fn from(_refused: AllocFailed<T>) -> DrawFault {
         DrawFault::Memory
-    }
-}
-
-/// What a failed write or flush is.
-pub(crate) fn write_fault(error: &io::Error) -> DrawFault {
-    if error.kind() == ErrorKind::BrokenPipe {
-        DrawFault::Gone
-    } else {
-        DrawFault::Unwritten
     }
 }

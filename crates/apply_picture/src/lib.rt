@@ -4,11 +4,13 @@
 mod command;
 mod draw_fault;
 mod kind;
+mod laws;
 mod picture;
 mod svg;
 mod telling;
 mod text;
 mod words;
+mod writing;
 
 pub use command::arguments::read_words;
 pub use command::colour::Colour;
@@ -19,6 +21,9 @@ pub use command::outcome::Outcome;
 pub use command::picture_fault::PictureFault;
 pub use command::settings::Settings;
 pub use draw_fault::DrawFault;
+pub use laws::{
+    colours_are_sequences_alone, no_line_has_a_control, what_is_escaped_is_no_markup,
+};
 pub use picture::Picture;
 pub use svg::drawing::draw_svg;
 pub use svg::part::Part;

@@ -3,7 +3,7 @@
 pub(crate) mod alone;
 pub(crate) mod heading;
 pub(crate) mod left_out;
-pub(crate) mod notes;
 pub(crate) mod note;
+pub(crate) mod notes;
 pub(crate) mod overlap;
 pub(crate) mod passed;

@@ -12,6 +12,7 @@ static COLOURS: [&str; 3] = ["auto", "always", "never"];
 
 /// How many steps get a row where nothing else is said: in a text, and in an SVG.
 const TEXT_ROWS: u32 = 40;
+
 const SVG_ROWS: u32 = 200;
 
 /// How wide a text is where nothing else is said.
@@ -99,7 +100,9 @@ fn color<'a>(alloc: Global) -> Arg<'a> {
         .value_name("WHEN")
         .value_parser(COLOURS.as_slice())
         .default_value("auto")
-        .help("When the text has colours; auto is where it goes to a terminal and NO_COLOR is absent or empty")
+        .help(
+            "When the text has colours; auto is where it goes to a terminal and NO_COLOR is absent or empty",
+        )
 }
 
 /// What the matches say.
@@ -119,7 +122,10 @@ fn form_of(matches: &ArgMatches<'_>) -> Form {
         return Form::Svg;
     }
     Form::Text {
-        width: matches.get_one::<u32>("width").unwrap_or(WIDTH).clamp(60, 400),
+        width: matches
+            .get_one::<u32>("width")
+            .unwrap_or(WIDTH)
+            .clamp(60, 400),
         colour: colour_of(matches),
     }
 }

@@ -1,5 +1,7 @@
 //! When a text has colours.
 
+ghost use Rattle.std.specs.Prelude.{◌≡◌};
+
 /// When a text has colours.
 #[derive(Clone, Copy, Debug, PartialEq, Eq)]
 pub enum Colour {
@@ -10,8 +12,12 @@ pub enum Colour {
 }
 
 impl Colour {
+    ghost use Rattle.apply_picture.specs.Viewed.{is_on};
+
     /// Whether a text has colours; `is_wanted` says whether somebody sees it on a terminal, and wants them.
-    pub fn is_on(self, is_wanted: bool) -> bool {
+    pub fn is_on(self, is_wanted: bool) -> bool
+        ensures { result ≡ is_on is_wanted self }
+    {
         match self {
             Colour::Auto => is_wanted,
             Colour::Always => true,

@@ -1,11 +1,19 @@
 //! The command `view`, from its arguments to its exit status, over any files and streams.
 
+ghost use Rattle.std.specs.Prelude.{◌≡◌, ◌≤◌, Err, IfErr, IfSome, None, OnOk, Some, false};
+ghost use Rattle.std.specs.Io.KnownBytes.{IsAtEnd, Keeps};
+ghost use Rattle.apply_picture.specs.Viewed.{IsStatusOf, WasDrawn};
+ghost use Rattle.apply_picture.specs.declared.command.form.Form.{Form as form_type};
+ghost use Rattle.apply_picture.specs.declared.command.picture_fault.PictureFault.TheVariants.{Undrawn};
+ghost use Rattle.apply_picture.specs.declared.draw_fault.DrawFault.TheVariants.{Gone};
+
 use crate::command::arguments::read_words;
 use crate::command::followed::Followed;
 use crate::command::form::Form;
 use crate::command::outcome::Outcome;
 use crate::command::picture_fault::PictureFault;
 use crate::command::refusals::refuse;
+use crate::draw_fault::DrawFault;
 use crate::picture::Picture;
 use crate::svg::drawing::draw_svg;
 use crate::text::drawing::draw_text;
@@ -34,7 +42,15 @@ pub fn follow<F: Files, R: Read, W: Write, E: Write>(
     input: &mut R,
     out: &mut W,
     faults: &mut E,
-) -> Followed {
+) -> Followed
+    ensures drawn { IfSome result.answer (λ answer. (form : form_type)
+        × WasDrawn form is_colour_wanted (W.contents out.old) (W.contents out.new) answer) }
+    ensures kept { result.answer ≡ None → 1 ≤ result.status → Keeps (W.contents out.old) (W.contents out.new) }
+    ensures quiet { result.status ≡ 0 → Keeps (E.contents faults.old) (E.contents faults.new) }
+    ensures gone { result.answer ≡ Some (Err (Undrawn Gone)) → Keeps (E.contents faults.old) (E.contents faults.new) }
+    ensures statuses { result.status ≤ 3 }
+    ensures read { result.answer ≡ None → 1 ≤ result.status → is_terminal ≡ false → OnOk result.rest (IsAtEnd (R.remaining input.new)) }
+{
     let settings = match read_words(alloc, words) {
         Ok(settings) => settings,
         Err(usage) => {
@@ -46,7 +62,16 @@ pub fn follow<F: Files, R: Read, W: Write, E: Write>(
     let form = settings.form;
     let rows = settings.rows;
     let Some(name) = &settings.file else {
-        let outcome = view_input(alloc, form, rows, is_colour_wanted, None, input, out, faults);
+        let outcome = view_input(
+            alloc,
+            form,
+            rows,
+            is_colour_wanted,
+            None,
+            input,
+            out,
+            faults,
+        );
         return Followed::with_answer(outcome);
     };
     let name = name.as_str();
@@ -77,25 +102,43 @@ pub fn view_input<R: Read, W: Write, E: Write>(
     input: &mut R,
     out: &mut W,
     faults: &mut E,
-) -> Outcome {
-    let answer = match told_of(alloc, input) {
-        Ok(told) => draw(alloc, form, rows, is_colour_wanted, &told, out),
-        Err(fault) => Err(PictureFault::Untold(fault)),
-    };
+) -> Outcome
+    ensures drawn { WasDrawn form is_colour_wanted (W.contents out.old) (W.contents out.new) result.answer }
+    ensures status { IsStatusOf result.answer result.status }
+    ensures quiet { result.status ≡ 0 → Keeps (E.contents faults.old) (E.contents faults.new) }
+    ensures gone { result.answer ≡ Err (Undrawn Gone) → Keeps (E.contents faults.old) (E.contents faults.new) }
+    ensures statuses { result.status ≤ 3 }
+    ensures read { IfErr result.answer (λ fault. OnOk result.rest (IsAtEnd (R.remaining input.new))) }
+{
+    let answer = draw_input(alloc, form, rows, is_colour_wanted, input, out);
     match answer {
         Ok(()) => Outcome {
             status: 0,
             answer,
             rest: Ok(()),
         },
-        Err(fault) => {
-            let status = refuse(alloc, faults, name, fault);
-            Outcome {
-                status,
-                answer,
-                rest: read_on(is_unread(fault), input, faults),
-            }
-        }
+        Err(fault) => Outcome {
+            status: refuse(alloc, faults, name, fault),
+            answer,
+            rest: read_on(true, input, faults),
+        },
+    }
+}
+
+/// Draws the stream that the input gives.
+fn draw_input<R: Read, W: Write>(
+    alloc: Global,
+    form: Form,
+    rows: Option<usize>,
+    is_colour_wanted: bool,
+    input: &mut R,
+    out: &mut W,
+) -> Result<(), PictureFault>
+    ensures { WasDrawn form is_colour_wanted (W.contents out.old) (W.contents out.new) result }
+{
+    match told_of(alloc, input) {
+        Ok(told) => draw(alloc, form, rows, is_colour_wanted, &told, out),
+        Err(fault) => Err(PictureFault::Untold(fault)),
     }
 }
 
@@ -115,9 +158,11 @@ fn draw<W: Write>(
     is_colour_wanted: bool,
     told: &Told,
     out: &mut W,
-) -> Result<(), PictureFault> {
+) -> Result<(), PictureFault>
+    ensures { WasDrawn form is_colour_wanted (W.contents out.old) (W.contents out.new) result }
+{
     let Ok(picture) = Picture::of(alloc, told, rows) else {
-        return Err(PictureFault::Memory);
+        return Err(PictureFault::Undrawn(DrawFault::Memory));
     };
     let drawn = match form {
         Form::Text { width, colour } => {
@@ -127,11 +172,6 @@ fn draw<W: Write>(
     };
     match drawn {
         Ok(()) => Ok(()),
-        Err(fault) => Err(PictureFault::from(fault)),
+        Err(fault) => Err(PictureFault::Undrawn(fault)),
     }
-}
-
-/// Whether the input may have more to give: a picture is drawn only where it had none.
-fn is_unread(fault: PictureFault) -> bool {
-    matches!(fault, PictureFault::Untold(_))
 }

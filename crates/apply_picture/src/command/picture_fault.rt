@@ -7,26 +7,10 @@ use thiserror::Error;
 /// Why there is no picture, or not all of it.
 #[derive(Clone, Copy, Debug, Drop, Error, PartialEq, Eq)]
 pub enum PictureFault {
-    /// The stream was not told to its end.
+    /// The stream was not told to its end: nothing was written.
     #[error("{0}")]
     Untold(ViewFault),
-    /// Memory was refused while it was drawn.
-    #[error("out of memory")]
-    Memory,
-    /// A write or a flush failed since the reader of the output is gone, as the writer's error says.
-    #[error("the output could not be written")]
-    Gone,
-    /// A write or a flush failed for another reason.
-    #[error("the output could not be written")]
-    Unwritten,
-}
-
-impl From<DrawFault> for PictureFault {
-    fn from(given: DrawFault) -> PictureFault {
-        match given {
-            DrawFault::Memory => PictureFault::Memory,
-            DrawFault::Gone => PictureFault::Gone,
-            DrawFault::Unwritten => PictureFault::Unwritten,
-        }
-    }
+    /// It was not drawn to its end.
+    #[error("{0}")]
+    Undrawn(DrawFault),
 }

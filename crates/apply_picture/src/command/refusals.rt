@@ -1,6 +1,13 @@
 //! Why a stream was not viewed.
 
+ghost use Rattle.std.specs.Prelude.{◌≡◌, ◌⊎◌};
+ghost use Rattle.std.specs.Io.KnownBytes.{Keeps};
+ghost use Rattle.apply_picture.specs.Viewed.{fault_status_of};
+ghost use Rattle.apply_picture.specs.declared.command.picture_fault.PictureFault.TheVariants.{Undrawn};
+ghost use Rattle.apply_picture.specs.declared.draw_fault.DrawFault.TheVariants.{Gone};
+
 use crate::command::picture_fault::PictureFault;
+use crate::draw_fault::DrawFault;
 use apply_view::ViewFault;
 use apply_words::{FAILED, REFUSED, refuse_unread, report};
 use std::alloc::Global;
@@ -13,9 +20,12 @@ pub fn refuse<E: Write>(
     faults: &mut E,
     name: Option<&str>,
     fault: PictureFault,
-) -> u8 {
+) -> u8
+    ensures status { (result ≡ 3) ⊎ (result ≡ fault_status_of fault) }
+    ensures gone { fault ≡ Undrawn Gone → Keeps (E.contents faults.old) (E.contents faults.new) }
+{
     match (fault, name) {
-        (PictureFault::Gone, _) => FAILED,
+        (PictureFault::Undrawn(DrawFault::Gone), _) => FAILED,
         (PictureFault::Untold(ViewFault::Unread(failed)), Some(name)) => {
             refuse_unread(alloc, faults, name, failed)
         }
@@ -27,12 +37,11 @@ pub fn refuse<E: Write>(
 }
 
 /// The exit status of a fault.
-fn fault_status(fault: PictureFault) -> u8 {
+fn fault_status(fault: PictureFault) -> u8
+    ensures { result ≡ fault_status_of fault }
+{
     match fault {
-        PictureFault::Untold(ViewFault::Memory)
-        | PictureFault::Memory
-        | PictureFault::Gone
-        | PictureFault::Unwritten => FAILED,
+        PictureFault::Untold(ViewFault::Memory) | PictureFault::Undrawn(_) => FAILED,
         PictureFault::Untold(_) => REFUSED,
     }
 }

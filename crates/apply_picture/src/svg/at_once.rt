@@ -23,7 +23,12 @@ pub fn push_at_once(
     let peak = Count(picture.numbers.peak as u64);
     let text = format!(in alloc; "at once, at most {peak}")?;
     let text = ShownText::of(alloc, text.as_str().as_bytes())?;
-    markup.line(scale.left.saturating_sub(80), bottom, "small soft end", &text)?;
+    markup.line(
+        scale.left.saturating_sub(80),
+        bottom,
+        "small soft end",
+        &text,
+    )?;
     markup.own("<path d=\"M")?;
     markup.tenths(scale.left)?;
     markup.own(" ")?;

@@ -16,6 +16,7 @@ use std::alloc::{AllocError, Global};
 
 /// Where the columns of what was alone under way stand, in tenths of a pixel from the edge.
 const ALONE_END: u64 = 620;
+
 const ALONE_TEXT: u64 = 720;
 
 /// How far details stand from the edge: two characters.
@@ -23,6 +24,7 @@ const INDENT: u64 = 2 * CHARACTER;
 
 /// How far apart lines are, and what stands before a group of them.
 const LINE: u64 = 18;
+
 const GAP: u64 = 14;
 
 /// How many characters a line has.
@@ -90,12 +92,7 @@ fn push_alone(
 }
 
 /// Adds a line of the diagnostics.
-fn push_note(
-    alloc: Global,
-    markup: &mut Markup,
-    note: &Note,
-    y: u64,
-) -> Result<u64, AllocError> {
+fn push_note(alloc: Global, markup: &mut Markup, note: &Note, y: u64) -> Result<u64, AllocError> {
     let (indent, columns, class) = match note.voice {
         Voice::Detail => (INDENT, COLUMNS - 2, "soft"),
         Voice::Error => (0, COLUMNS, "fail"),

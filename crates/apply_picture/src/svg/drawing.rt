@@ -1,6 +1,9 @@
 //! The whole SVG.
 
-use crate::draw_fault::{DrawFault, write_fault};
+ghost use Rattle.std.specs.Prelude.{OnOk};
+ghost use Rattle.apply_picture.specs.Markup.{MarkupWritten};
+
+use crate::draw_fault::DrawFault;
 use crate::picture::Picture;
 use crate::svg::back::push_back;
 use crate::svg::front::{push_front, push_grid};
@@ -10,6 +13,7 @@ use crate::svg::scale::Scale;
 use crate::svg::sheet::{EDGE, ROW, WIDTH};
 use crate::svg::style::STYLE;
 use crate::telling::heading::heading;
+use crate::writing::flush;
 use std::alloc::{AllocError, Global};
 use std::io::Write;
 
@@ -20,7 +24,9 @@ pub fn draw_svg<W: Write>(
     alloc: Global,
     picture: &Picture<'_>,
     out: &mut W,
-) -> Result<(), DrawFault> {
+) -> Result<(), DrawFault>
+    ensures { OnOk result (MarkupWritten (W.contents out.old) (W.contents out.new)) }
+{
     let scale = Scale::of(alloc, picture)?;
     let mut front = Markup::new(alloc);
     let top = push_front(alloc, &mut front, picture, scale)?;
@@ -32,15 +38,10 @@ pub fn draw_svg<W: Write>(
     push_head(alloc, &mut head, picture, height)?;
     head.send(alloc, out)?;
     front.send(alloc, out)?;
-    if count > 0 {
-        draw_rows(alloc, picture, scale, top, bottom, out)?;
-    }
+    draw_rows(alloc, picture, scale, top, bottom, out)?;
     back.own("</svg>\n")?;
     back.send(alloc, out)?;
-    match out.flush() {
-        Ok(()) => Ok(()),
-        Err(error) => Err(write_fault(&error)),
-    }
+    flush(out)
 }
 
 /// Adds what an SVG begins with, of that height.
@@ -81,7 +82,7 @@ fn push_size(markup: &mut Markup, height: u64) -> Result<(), AllocError> {
     markup.own("\"")
 }
 
-/// Writes the rows, between those heights.
+/// Writes the rows, between those heights, where there are any.
 fn draw_rows<W: Write>(
     alloc: Global,
     picture: &Picture<'_>,
@@ -89,21 +90,52 @@ fn draw_rows<W: Write>(
     top: u64,
     bottom: u64,
     out: &mut W,
-) -> Result<(), DrawFault> {
-    let mut markup = Markup::new(alloc);
-    for row in 0..picture.rows.places.len() as u64 {
-        if row % 2 == 1 {
-            push_band(&mut markup, y_of(top, row))?;
-            markup.send(alloc, out)?;
-        }
+) -> Result<(), DrawFault>
+    ensures { OnOk result (MarkupWritten (W.contents out.old) (W.contents out.new)) }
+{
+    if picture.rows.places.is_empty() {
+        return Ok(());
     }
+    draw_bands(alloc, picture.rows.places.len(), top, out)?;
+    let mut markup = Markup::new(alloc);
     push_grid(&mut markup, scale, top, bottom)?;
     for (row, place) in picture.rows.places.iter().enumerate() {
-        if let Some(step) = picture.told.steps().get(*place) {
-            let y = y_of(top, row as u64);
-            push_row(alloc, &mut markup, picture, scale, *place, step, y)?;
-            markup.send(alloc, out)?;
-        }
+        push_step(
+            alloc,
+            &mut markup,
+            picture,
+            scale,
+            *place,
+            y_of(top, row as u64),
+        )?;
+        markup.send(alloc, out)?;
+    }
+    Ok(())
+}
+
+/// Adds the row of the step at that place, at that height.
+fn push_step(
+    alloc: Global,
+    markup: &mut Markup,
+    picture: &Picture<'_>,
+    scale: Scale,
+    place: usize,
+    y: u64,
+) -> Result<(), AllocError> {
+    match picture.told.steps().get(place) {
+        Some(step) => push_row(alloc, markup, picture, scale, place, step, y),
+        None => Ok(()),
+    }
+}
+
+/// Writes what stands behind every second of so many rows.
+fn draw_bands<W: Write>(alloc: Global, count: usize, top: u64, out: &mut W) -> Result<(), DrawFault>
+    ensures { OnOk result (MarkupWritten (W.contents out.old) (W.contents out.new)) }
+{
+    let mut markup = Markup::new(alloc);
+    for pair in 0..count / 2 {
+        push_band(&mut markup, y_of(top, pair as u64 * 2 + 1))?;
+        markup.send(alloc, out)?;
     }
     Ok(())
 }

@@ -27,7 +27,9 @@ pub fn push_front(
         markup.line(EDGE * 10, y + 13, "sub soft", &how)?;
         y += 20;
     }
-    y = y.saturating_add(push_legend(alloc, markup, picture, y)?).saturating_add(6);
+    y = y
+        .saturating_add(push_legend(alloc, markup, picture, y)?)
+        .saturating_add(6);
     if picture.rows.places.is_empty() {
         return Ok(y);
     }
@@ -52,7 +54,11 @@ pub fn push_ticks(
         };
         let text = format!(in alloc; "{tick}")?;
         let text = ShownText::of(alloc, text.as_str().as_bytes())?;
-        let class = if count == 0 { "small soft" } else { "small soft mid" };
+        let class = if count == 0 {
+            "small soft"
+        } else {
+            "small soft mid"
+        };
         markup.line(scale.x_of(offset), y, class, &text)?;
     }
     Ok(())

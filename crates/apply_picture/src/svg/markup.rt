@@ -1,8 +1,14 @@
 //! Parts of the SVG that go out.
 
-use crate::draw_fault::{DrawFault, write_fault};
+ghost use Rattle.std.specs.Prelude.{◌≡◌, IfOk, OnOk, string_bytes};
+ghost use Rattle.std.specs.Io.KnownBytes.{Appends};
+ghost use Rattle.std.specs.List.{flat_map};
+ghost use Rattle.apply_picture.specs.Markup.{part_bytes};
+
+use crate::draw_fault::DrawFault;
 use crate::svg::part::Part;
 use crate::words::shown_text::ShownText;
+use crate::writing::write_text;
 use std::alloc::{AllocError, Global};
 use std::io::Write;
 
@@ -87,15 +93,22 @@ impl Markup {
     }
 
     /// Writes the parts, and forgets them.
-    pub fn send<W: Write>(&mut self, alloc: Global, out: &mut W) -> Result<(), DrawFault> {
-        let mut text = String::new(alloc);
-        for part in &self.parts {
-            part.push_to(&mut text)?;
-        }
+    pub fn send<W: Write>(&mut self, alloc: Global, out: &mut W) -> Result<(), DrawFault>
+        ensures { OnOk result (Appends (W.contents out.old) (W.contents out.new) (flat_map part_bytes self.old.parts.items)) }
+    {
+        let text = text_of(alloc, &self.parts)?;
         self.parts.clear();
-        match out.write_all(text.as_str().as_bytes()) {
-            Ok(()) => Ok(()),
-            Err(error) => Err(write_fault(&error)),
-        }
+        write_text(text.as_str(), out)
     }
+}
+
+/// The text that the parts are.
+fn text_of(alloc: Global, parts: &[Part]) -> Result<String, AllocError>
+    ensures { IfOk result (λ text. string_bytes text ≡ flat_map part_bytes parts.now) }
+{
+    let mut text = String::new(alloc);
+    for part in parts {
+        part.push_to(&mut text)?;
+    }
+    Ok(text)
 }

@@ -1,5 +1,8 @@
 //! What the SVG is made of.
 
+ghost use Rattle.std.specs.Prelude.{◌≡◌, ◌++◌, OnOk, string_bytes};
+ghost use Rattle.apply_picture.specs.Markup.{escaped, part_bytes, tenths};
+
 use std::alloc::AllocError;
 
 /// What the SVG is made of.
@@ -17,30 +20,39 @@ pub enum Part {
 
 impl Part {
     /// Adds it to a text. `Err` where memory is refused.
-    pub fn push_to(self, text: &mut String) -> Result<(), AllocError> {
+    pub fn push_to(self, text: &mut String) -> Result<(), AllocError>
+        ensures { OnOk result (string_bytes text.new ≡ string_bytes text.old ++ part_bytes self) }
+    {
         match self {
             Part::Own(own) => text.push_str(own),
             Part::Number(number) => {
                 write!(text, "{number}")?;
                 Ok(())
             }
-            Part::Tenths(tenths) => push_tenths(text, tenths / 10, tenths % 10),
+            Part::Tenths(tenths) => push_tenths(text, tenths),
             Part::Character(character) => push_escaped(text, character),
         }
     }
 }
 
-fn push_tenths(text: &mut String, whole: u64, tenths: u64) -> Result<(), AllocError> {
-    if tenths == 0 {
+/// Adds so many tenths, without a fraction where there is none.
+fn push_tenths(text: &mut String, count: u64) -> Result<(), AllocError>
+    ensures { OnOk result (string_bytes text.new ≡ string_bytes text.old ++ tenths count) }
+{
+    let whole = count / 10;
+    let rest = count % 10;
+    if rest == 0 {
         write!(text, "{whole}")?;
     } else {
-        write!(text, "{whole}.{tenths}")?;
+        write!(text, "{whole}.{rest}")?;
     }
     Ok(())
 }
 
 /// Adds a character, as an entity (XML 1.0, section 4.6) where it would be read as markup.
-fn push_escaped(text: &mut String, character: char) -> Result<(), AllocError> {
+fn push_escaped(text: &mut String, character: char) -> Result<(), AllocError>
+    ensures { OnOk result (string_bytes text.new ≡ string_bytes text.old ++ escaped character) }
+{
     match character {
         '&' => text.push_str("&amp;"),
         '<' => text.push_str("&lt;"),

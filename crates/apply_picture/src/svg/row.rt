@@ -100,12 +100,7 @@ fn interval_of(picture: &Picture<'_>, step: &Step, provisioner: &Provisioner) ->
 }
 
 /// Adds the sign and the address of a step.
-fn push_label(
-    alloc: Global,
-    markup: &mut Markup,
-    step: &Step,
-    y: u64,
-) -> Result<(), AllocError> {
+fn push_label(alloc: Global, markup: &mut Markup, step: &Step, y: u64) -> Result<(), AllocError> {
     markup.own("<text x=\"")?;
     markup.number(EDGE)?;
     markup.own("\" y=\"")?;
@@ -185,7 +180,11 @@ fn push_length(
     bar: Place,
     y: u64,
 ) -> Result<(), AllocError> {
-    let class = if step.has_failed() { "small fail" } else { "small soft" };
+    let class = if step.has_failed() {
+        "small fail"
+    } else {
+        "small soft"
+    };
     let x = bar.left.saturating_add(bar.width).saturating_add(50);
     markup.begin_text(x, y.saturating_add(14), class)?;
     markup.own(match (step.has_failed(), step.end()) {

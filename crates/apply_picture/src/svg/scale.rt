@@ -10,6 +10,7 @@ use std::alloc::{AllocError, Global};
 
 /// The room between an address and the begin of the axis, and behind its end for a duration, in tenths of a pixel.
 const BEFORE: u64 = 120;
+
 const BEHIND: u64 = 560;
 
 /// The most ticks of the axis, besides 0.
@@ -64,5 +65,9 @@ impl Scale {
 
 /// The address of a step, as it stands beside its bar.
 pub fn label_of(alloc: Global, step: &Step) -> Result<ShownText, AllocError> {
-    fitted(alloc, &ShownText::of(alloc, step.address().as_bytes())?, LABEL)
+    fitted(
+        alloc,
+        &ShownText::of(alloc, step.address().as_bytes())?,
+        LABEL,
+    )
 }

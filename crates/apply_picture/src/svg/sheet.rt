@@ -8,6 +8,7 @@ pub const EDGE: u64 = 16;
 
 /// How high a row is, and the bar in it.
 pub const ROW: u64 = 20;
+
 pub const BAR: u64 = 12;
 
 /// How many tenths of a pixel a character takes.

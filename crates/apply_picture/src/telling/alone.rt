@@ -9,6 +9,7 @@ use std::cmp::Reverse;
 
 /// How long a step has to be the only one under way to be told, in microseconds, and which part of the span.
 const LEAST: u64 = 1_000;
+
 const PARTS: u128 = 100;
 
 /// How many are told.
@@ -35,7 +36,11 @@ pub fn alone_places(alloc: Global, picture: &Picture<'_>) -> Result<Vec<usize>, 
 }
 
 /// How long a step was alone under way, as it stands before the rest of its line.
-pub fn alone_time(alloc: Global, picture: &Picture<'_>, place: usize) -> Result<String, AllocError> {
+pub fn alone_time(
+    alloc: Global,
+    picture: &Picture<'_>,
+    place: usize,
+) -> Result<String, AllocError> {
     let alone = Duration::of(picture.alone_of(place));
     format!(in alloc; "{alone}")
 }

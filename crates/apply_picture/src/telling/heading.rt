@@ -40,27 +40,31 @@ fn push_completed(text: &mut String, picture: &Picture<'_>) -> Result<(), AllocE
     let added = Count(picture.numbers.created as u64);
     let changed = Count(picture.numbers.updated as u64);
     let destroyed = Count(picture.numbers.deleted as u64);
-    write!(text, "{added} added, {changed} changed, {destroyed} destroyed")?;
+    write!(
+        text,
+        "{added} added, {changed} changed, {destroyed} destroyed"
+    )?;
     Ok(())
 }
 
 fn push_uncompleted(text: &mut String, picture: &Picture<'_>) -> Result<(), AllocError> {
-    let mut failed = 0;
-    let mut open = 0;
-    for step in picture.told.steps() {
-        if step.has_failed() {
-            failed += 1;
-        } else if step.end().is_none() {
-            open += 1;
-        }
-    }
-    if failed > 0 {
-        let failed = Count(failed);
-        write!(text, ", {failed} failed")?;
-    }
-    if open > 0 {
-        let open = Count(open);
-        write!(text, ", {open} not ended")?;
+    let steps = picture.told.steps();
+    let failed = steps.iter().filter(|step| step.has_failed()).count();
+    push_if_any(text, failed, "failed")?;
+    let open = steps.iter().filter(|step| is_open(step)).count();
+    push_if_any(text, open, "not ended")
+}
+
+/// Whether no end of the step was told, nor that it failed.
+fn is_open(step: &Step) -> bool {
+    step.end().is_none() && !step.has_failed()
+}
+
+/// Adds how many steps came to that, where some did.
+fn push_if_any(text: &mut String, count: usize, what: &str) -> Result<(), AllocError> {
+    if count > 0 {
+        let count = Count(count as u64);
+        write!(text, ", {count} {what}")?;
     }
     Ok(())
 }

@@ -69,12 +69,7 @@ fn push_diagnostic(
 }
 
 /// Adds a line.
-fn push(
-    alloc: Global,
-    notes: &mut Vec<Note>,
-    voice: Voice,
-    line: &[u8],
-) -> Result<(), AllocError> {
+fn push(alloc: Global, notes: &mut Vec<Note>, voice: Voice, line: &[u8]) -> Result<(), AllocError> {
     let line = ShownText::of(alloc, without_blank_end(line))?;
     notes.push(Note {
         voice,
@@ -84,11 +79,7 @@ fn push(
 }
 
 /// What a diagnostic says in short, and of what.
-fn first_line(
-    alloc: Global,
-    voice: Voice,
-    diagnostic: &Diagnostic,
-) -> Result<Vec<u8>, AllocError> {
+fn first_line(alloc: Global, voice: Voice, diagnostic: &Diagnostic) -> Result<Vec<u8>, AllocError> {
     let mut line = Vec::new(alloc);
     line.extend_from_slice(match voice {
         Voice::Error => b"Error: ".as_slice(),

@@ -8,6 +8,7 @@ use std::alloc::{AllocError, Global};
 
 /// How long nothing has to be under way to be told, in microseconds, and which part of the span.
 const IDLE: u64 = 1_000_000;
+
 const IDLE_PARTS: u128 = 50;
 
 /// How many steps were under way at once, and for how long none was; none where no step took any time. `Err` where memory is
@@ -41,7 +42,10 @@ fn push_average(text: &mut String, picture: &Picture<'_>) -> Result<(), AllocErr
     let average = Count(u64::try_from(whole).unwrap_or(u64::MAX));
     let tenths = rest * 10 / busy.max(1) as u128;
     let tenths = u64::try_from(tenths).unwrap_or(0);
-    write!(text, "{peak} at once at most, {average}.{tenths} on average; ")?;
+    write!(
+        text,
+        "{peak} at once at most, {average}.{tenths} on average; "
+    )?;
     let work = Duration(work);
     let busy = Duration::of(busy);
     write!(text, "{work} of steps in {busy}")?;

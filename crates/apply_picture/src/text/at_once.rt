@@ -1,5 +1,7 @@
 //! How many steps were under way at once.
 
+ghost use Rattle.std.specs.Prelude.{◌≡◌, OnOk};
+
 use crate::picture::Picture;
 use crate::text::chart::{Chart, DURATION};
 use crate::text::line::Line;
@@ -13,20 +15,25 @@ use std::alloc::{AllocError, Global};
 /// None, and one to eight eighths of a cell.
 const EIGHTHS: [char; 9] = [' ', '▁', '▂', '▃', '▄', '▅', '▆', '▇', '█'];
 
-/// Adds the line that says how many steps were under way at once, cell by cell, in eighths of the peak, rounded up.
+/// Adds the line that says how many steps were under way at once, cell by cell, in eighths of the peak, rounded up; none where
+/// there was never more than one.
 pub fn push_at_once(
     alloc: Global,
     page: &mut Page,
     picture: &Picture<'_>,
     chart: &Chart,
-) -> Result<(), AllocError> {
+) -> Result<(), AllocError>
+    ensures { OnOk result (page.new.style ≡ page.old.style) }
+{
+    if picture.numbers.peak <= 1 {
+        return Ok(());
+    }
     let peak = Count(picture.numbers.peak as u64);
     let peak = format!(in alloc; "{peak}")?;
     let peak = ShownText::of(alloc, peak.as_str().as_bytes())?;
     let name = ShownText::of(alloc, b"at once")?;
     let mut line = Line::new(alloc, page.width());
-    line.push_blanks(chart.action)?;
-    line.push(' ')?;
+    line.push_blanks(chart.indent())?;
     line.push_left(&name, chart.label)?;
     line.push_blanks(2)?;
     line.push_right(&fitted(alloc, &peak, DURATION)?, DURATION)?;

@@ -1,9 +1,11 @@
 //! The axis above the bars.
 
+ghost use Rattle.std.specs.Prelude.{◌≡◌, OnOk};
+
 use crate::text::chart::Chart;
-use crate::words::shown_text::without_blanks;
 use crate::text::line::Line;
 use crate::text::page::Page;
+use crate::words::shown_text::without_blanks;
 use crate::words::tick::Tick;
 use std::alloc::{AllocError, Global};
 
@@ -11,7 +13,9 @@ use std::alloc::{AllocError, Global};
 const MOST_TICKS: u64 = 1_000;
 
 /// Adds the axis: the text of each tick, where it fits.
-pub fn push_axis(alloc: Global, page: &mut Page, chart: &Chart) -> Result<(), AllocError> {
+pub fn push_axis(alloc: Global, page: &mut Page, chart: &Chart) -> Result<(), AllocError>
+    ensures { OnOk result (page.new.style ≡ page.old.style) }
+{
     let cells = axis_cells(alloc, chart)?;
     let mut line = Line::new(alloc, page.width());
     line.push_blanks(chart.front())?;

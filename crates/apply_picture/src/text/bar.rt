@@ -14,25 +14,20 @@ pub struct Bar {
 impl Bar {
     /// Its character in a cell; none where it covers neither half.
     pub fn character(self, cell: u32) -> Option<char> {
-        let left = self.halves.covers(cell * 2);
-        let right = self.halves.covers(cell * 2 + 1);
-        if !left && !right {
-            None
-        } else if self.has_failed && self.is_last(cell) {
-            Some('✗')
-        } else if !self.has_ended {
-            Some('░')
-        } else if left && right {
-            Some('▄')
-        } else if left {
-            Some('▖')
-        } else {
-            Some('▗')
+        let left = cell as u128 * 2;
+        let right = left + 1;
+        match (self.covers(left), self.covers(right)) {
+            (false, false) => None,
+            _ if self.has_failed && self.halves.end <= right + 1 => Some('✗'),
+            _ if !self.has_ended => Some('░'),
+            (true, true) => Some('▄'),
+            (true, false) => Some('▖'),
+            (false, true) => Some('▗'),
         }
     }
 
-    /// Whether it covers nothing behind that cell.
-    fn is_last(self, cell: u32) -> bool {
-        self.halves.end <= cell as u128 * 2 + 2
+    /// Whether it covers that half.
+    fn covers(self, half: u128) -> bool {
+        self.halves.first <= half && half < self.halves.end
     }
 }

@@ -1,5 +1,7 @@
 //! The columns of the rows.
 
+ghost use Rattle.std.specs.Prelude.{◌≤◌};
+
 use crate::picture::Picture;
 use crate::words::shown_text::ShownText;
 use crate::words::tick_step::tick_step;
@@ -21,7 +23,7 @@ const TICK_COLUMNS: u64 = 9;
 /// How many columns a duration takes.
 pub const DURATION: usize = 8;
 
-/// The columns of the rows: how many the actions take, the addresses, and the bars.
+/// The columns of the rows: how many the actions take, the addresses, and the bars, which have one at least.
 #[derive(Clone, Copy)]
 pub struct Chart {
     pub action: usize,
@@ -31,11 +33,12 @@ pub struct Chart {
     pub step: u64,
     /// How long the stream is, in microseconds, and 1 at least.
     pub span: u64,
+    ghost some: { 1 ≤ cells },
 }
 
 impl Chart {
     /// Those of the picture's rows, for lines of that width, which is 60 at least.
-    pub fn of(alloc: Global, picture: &Picture<'_>, width: u32) -> Result<Chart, AllocError> {
+    pub fn of(alloc: Global, picture: &Picture<'_>, width: usize) -> Result<Chart, AllocError> {
         let steps = picture.told.steps();
         let mut action = 0;
         let mut label = LEAST_LABEL;
@@ -46,9 +49,11 @@ impl Chart {
             }
         }
         let action = action.min(MOST_ACTION);
-        let room = (width as usize).saturating_sub(action + OTHERS);
+        let room = width.saturating_sub(action + OTHERS);
         let label = label.min(room / 20 * 11 + room % 20 * 11 / 20);
-        let cells = u32::try_from(room.saturating_sub(label)).unwrap_or(1).max(1);
+        let cells = u32::try_from(room.saturating_sub(label))
+            .unwrap_or(1)
+            .max(1);
         let span = picture.span().max(1);
         Ok(Chart {
             action,
@@ -59,9 +64,16 @@ impl Chart {
         })
     }
 
+    /// How many columns stand before what is said below the rows.
+    pub fn indent(&self) -> usize {
+        self.action.saturating_add(1)
+    }
+
     /// How many columns stand before the bars.
     pub fn front(&self) -> usize {
-        self.action.saturating_add(self.label).saturating_add(OTHERS)
+        self.action
+            .saturating_add(self.label)
+            .saturating_add(OTHERS)
     }
 
     /// In which cell a moment stands, if it stands in one. It is given by how long after the first it comes, in microseconds.

@@ -1,8 +1,14 @@
 //! Lines that go out.
 
-use crate::draw_fault::{DrawFault, write_fault};
+ghost use Rattle.std.specs.Prelude.{◌≡◌, ◌==◌, All, IfOk, IsTrue, OnOk, map};
+ghost use Rattle.std.specs.Io.KnownBytes.{Appends};
+ghost use Rattle.std.specs.List.{list_all};
+
+use crate::draw_fault::DrawFault;
 use crate::text::line::Line;
 use crate::text::paint::Paint;
+use crate::text::style::Style;
+use crate::text::writing::write_lines;
 use crate::words::shown_text::{ShownText, without_blanks};
 use crate::words::wrapping::wrapped;
 use std::alloc::{AllocError, Global};
@@ -12,34 +18,44 @@ use std::io::Write;
 #[derive(Drop)]
 pub struct Page {
     lines: Vec<Line>,
-    width: usize,
-    has_colour: bool,
+    style: Style,
+    ghost even: { IsTrue (list_all (λ line. line.width == style.width) lines.items) },
 }
 
 impl Page {
-    /// Without lines, which may be that wide, and have colours or not.
-    pub fn new(alloc: Global, width: usize, has_colour: bool) -> Page {
+    ghost use Rattle.apply_picture.specs.Lines.{IsLine, text_bytes};
+
+    /// Without lines, which look so.
+    pub fn new(alloc: Global, style: Style) -> Page
+        ensures { result.style ≡ style }
+    {
         Page {
             lines: Vec::new(alloc),
-            width,
-            has_colour,
+            style,
         }
     }
 
     /// How wide its lines may be.
-    pub fn width(&self) -> usize {
-        self.width
+    pub fn width(&self) -> usize
+        ensures { result ≡ self.now.style.width }
+    {
+        self.style.width
     }
 
     /// Adds a line.
-    pub fn push(&mut self, line: Line) -> Result<(), AllocError> {
+    pub fn push(&mut self, line: Line) -> Result<(), AllocError>
+        requires { line.width ≡ self.old.style.width }
+        ensures { OnOk result (self.new.style ≡ self.old.style) }
+    {
         self.lines.push(line)?;
         Ok(())
     }
 
     /// Adds an empty line.
-    pub fn push_empty(&mut self, alloc: Global) -> Result<(), AllocError> {
-        self.push(Line::new(alloc, self.width))
+    pub fn push_empty(&mut self, alloc: Global) -> Result<(), AllocError>
+        ensures { OnOk result (self.new.style ≡ self.old.style) }
+    {
+        self.push(Line::new(alloc, self.style.width))
     }
 
     /// Adds a text behind so many blanks, without the blanks at its end.
@@ -49,16 +65,10 @@ impl Page {
         indent: usize,
         text: &ShownText,
         paint: Option<Paint>,
-    ) -> Result<(), AllocError> {
-        let characters = without_blanks(text.characters());
-        let mut line = Line::new(alloc, self.width);
-        if !characters.is_empty() {
-            line.push_blanks(indent)?;
-            match paint {
-                Some(paint) => line.push_painted(characters, paint)?,
-                None => line.push_all(characters)?,
-            }
-        }
+    ) -> Result<(), AllocError>
+        ensures { OnOk result (self.new.style ≡ self.old.style) }
+    {
+        let line = text_line(alloc, self.style.width, indent, text, paint)?;
         self.push(line)
     }
 
@@ -69,8 +79,10 @@ impl Page {
         indent: usize,
         text: &ShownText,
         paint: Option<Paint>,
-    ) -> Result<(), AllocError> {
-        let lines = wrapped(alloc, text, self.width.saturating_sub(indent))?;
+    ) -> Result<(), AllocError>
+        ensures { OnOk result (self.new.style ≡ self.old.style) }
+    {
+        let lines = wrapped(alloc, text, self.style.width.saturating_sub(indent))?;
         for line in &lines {
             self.push_text(alloc, indent, line, paint)?;
         }
@@ -78,29 +90,37 @@ impl Page {
     }
 
     /// Writes the lines, and forgets them.
-    pub fn send<W: Write>(&mut self, alloc: Global, out: &mut W) -> Result<(), DrawFault> {
-        for line in &self.lines {
-            write_line(alloc, line, self.has_colour, out)?;
-        }
+    pub fn send<W: Write>(&mut self, alloc: Global, out: &mut W) -> Result<(), DrawFault>
+        ensures style { OnOk result (self.new.style ≡ self.old.style) }
+        ensures fine { All (IsLine self.old.style.width) (map (λ line. line.pieces.items) self.old.lines.items) }
+        ensures sent { OnOk result (Appends (W.contents out.old) (W.contents out.new)
+            (text_bytes self.old.style.has_colour (map (λ line. line.pieces.items) self.old.lines.items))) }
+    {
+        write_lines(alloc, &self.lines, self.style.has_colour, out)?;
         self.lines.clear();
         Ok(())
     }
 }
 
-/// Writes a line.
-fn write_line<W: Write>(
+/// A line of that width: a text behind so many blanks, without the blanks at its end.
+fn text_line(
     alloc: Global,
-    line: &Line,
-    has_colour: bool,
-    out: &mut W,
-) -> Result<(), DrawFault> {
-    let mut text = String::new(alloc);
-    for piece in line.pieces() {
-        piece.push_to(&mut text, has_colour)?;
+    width: usize,
+    indent: usize,
+    text: &ShownText,
+    paint: Option<Paint>,
+) -> Result<Line, AllocError>
+    ensures { IfOk result (λ line. line.width ≡ width) }
+{
+    let characters = without_blanks(text.characters());
+    let mut line = Line::new(alloc, width);
+    if characters.is_empty() {
+        return Ok(line);
     }
-    text.push_str("\n")?;
-    match out.write_all(text.as_str().as_bytes()) {
-        Ok(()) => Ok(()),
-        Err(error) => Err(write_fault(&error)),
+    line.push_blanks(indent)?;
+    match paint {
+        Some(paint) => line.push_painted(characters, paint)?,
+        None => line.push_all(characters)?,
     }
+    Ok(line)
 }

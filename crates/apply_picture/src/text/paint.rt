@@ -1,5 +1,8 @@
 //! How a stretch of a text is shown.
 
+ghost use Rattle.std.specs.Prelude.{◌≡◌};
+ghost use Rattle.apply_picture.specs.Lines.{paint_words, sequence};
+
 /// How a stretch of a text is shown (ECMA-48, section 8.3.117).
 #[derive(Clone, Copy, Debug, PartialEq, Eq)]
 pub enum Paint {
@@ -15,7 +18,9 @@ pub enum Paint {
 
 impl Paint {
     /// The sequence that begins the stretch.
-    pub fn sequence(self) -> &'static str {
+    pub fn sequence(self) -> &'static str
+        ensures { result.now ≡ sequence (paint_words self) }
+    {
         match self {
             Paint::Bold => "\u{1b}[1m",
             Paint::Dim => "\u{1b}[2m",

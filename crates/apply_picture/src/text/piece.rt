@@ -1,5 +1,8 @@
 //! What a line of the text is made of.
 
+ghost use Rattle.std.specs.Prelude.{◌≡◌, ◌++◌, OnOk, string_bytes};
+ghost use Rattle.apply_picture.specs.Lines.{piece_bytes};
+
 use crate::text::paint::Paint;
 use std::alloc::AllocError;
 
@@ -18,7 +21,9 @@ pub enum Piece {
 
 impl Piece {
     /// Adds it to a text, with the sequences of colours or without.
-    pub fn push_to(self, text: &mut String, has_colour: bool) -> Result<(), AllocError> {
+    pub fn push_to(self, text: &mut String, has_colour: bool) -> Result<(), AllocError>
+        ensures { OnOk result (string_bytes text.new ≡ string_bytes text.old ++ piece_bytes has_colour self) }
+    {
         match self {
             Piece::Character(character) => text.push(character),
             Piece::Begin(paint) if has_colour => text.push_str(paint.sequence()),

@@ -1,5 +1,7 @@
 //! The row of a step.
 
+ghost use Rattle.std.specs.Prelude.{◌≡◌, IfOk, OnOk};
+
 use crate::kind::Kind;
 use crate::picture::Picture;
 use crate::text::bar::Bar;
@@ -20,7 +22,9 @@ pub fn row_of(
     ticks: &[bool],
     step: &Step,
     width: usize,
-) -> Result<Line, AllocError> {
+) -> Result<Line, AllocError>
+    ensures { IfOk result (λ line. line.width ≡ width) }
+{
     let mut line = Line::new(alloc, width);
     let paint = if step.has_failed() {
         Paint::Red
@@ -40,12 +44,9 @@ pub fn row_of(
 }
 
 /// Adds a text at the left of so many columns, fitted to them.
-fn push_text(
-    alloc: Global,
-    line: &mut Line,
-    text: &str,
-    columns: usize,
-) -> Result<(), AllocError> {
+fn push_text(alloc: Global, line: &mut Line, text: &str, columns: usize) -> Result<(), AllocError>
+    ensures { OnOk result (line.new.width ≡ line.old.width) }
+{
     let text = ShownText::of(alloc, text.as_bytes())?;
     line.push_left(&fitted(alloc, &text, columns)?, columns)
 }
@@ -56,7 +57,9 @@ fn push_duration(
     line: &mut Line,
     picture: &Picture<'_>,
     step: &Step,
-) -> Result<(), AllocError> {
+) -> Result<(), AllocError>
+    ensures { OnOk result (line.new.width ≡ line.old.width) }
+{
     let length = Duration::of(step.length(picture.moments));
     let (mark, bound) = match (step.has_failed(), step.end()) {
         (true, Some(_)) => ('✗', ""),
@@ -69,13 +72,13 @@ fn push_duration(
     let text = fitted(alloc, &text, DURATION)?;
     if step.has_failed() {
         line.begin(Paint::Red)?;
+        line.push(mark)?;
+        line.push_right(&text, DURATION)?;
+        line.end()
+    } else {
+        line.push(mark)?;
+        line.push_right(&text, DURATION)
     }
-    line.push(mark)?;
-    line.push_right(&text, DURATION)?;
-    if step.has_failed() {
-        line.end()?;
-    }
-    Ok(())
 }
 
 /// Adds the bar of a step, and the ticks that it does not cover.
@@ -87,7 +90,9 @@ fn push_bar(
     ticks: &[bool],
     step: &Step,
     paint: Paint,
-) -> Result<(), AllocError> {
+) -> Result<(), AllocError>
+    ensures { OnOk result (line.new.width ≡ line.old.width) }
+{
     let bar = Bar {
         halves: halves_of(
             chart.cells,
@@ -114,7 +119,9 @@ fn push_bar(
 }
 
 /// Adds cells that no bar covers, where there are any.
-fn push_dim(line: &mut Line, cells: &[char]) -> Result<(), AllocError> {
+fn push_dim(line: &mut Line, cells: &[char]) -> Result<(), AllocError>
+    ensures { OnOk result (line.new.width ≡ line.old.width) }
+{
     if cells.is_empty() {
         Ok(())
     } else {

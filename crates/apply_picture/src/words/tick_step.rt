@@ -1,9 +1,13 @@
 //! How far apart the ticks of an axis stand.
 
 const MILLISECOND: u64 = 1_000;
+
 const SECOND: u64 = 1_000 * MILLISECOND;
+
 const MINUTE: u64 = 60 * SECOND;
+
 const HOUR: u64 = 60 * MINUTE;
+
 const WEEK: u64 = 168 * HOUR;
 
 /// The distances up to a week, in microseconds.
