@@ -28,8 +28,8 @@ escaped_is_fine : (character : ℕ) → IsFine (escaped character)
 escaped_is_fine character =
     if_either IsFine (character == 38) _ _ (λ is. inl refl)
     (λ no_and. if_either IsFine (character == 60) _ _ (λ is. inl refl)
-        (λ no_less. if_either IsFine (character == 62) _ _ (λ is. inl refl)
-            (λ no_greater. if_either IsFine (character == 34) _ _ (λ is. inl refl) (λ no_quote. other_is_fine character no_and no_less))))
+    (λ no_less. if_either IsFine (character == 62) _ _ (λ is. inl refl)
+    (λ no_greater. if_either IsFine (character == 34) _ _ (λ is. inl refl) (λ no_quote. other_is_fine character no_and no_less))))
 
 pub are_escaped : (characters : List ℕ) → IsEscaped (flat_map escaped characters)
 are_escaped characters = record {

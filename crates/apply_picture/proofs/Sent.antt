@@ -12,6 +12,7 @@ use Rattle.apply_picture.specs.Markup.{MarkupWritten, part_bytes}
 use Rattle.apply_picture.specs.declared.svg.part.Part.{Part}
 use Rattle.apply_picture.specs.declared.text.line.Line.{Line}
 use Rattle.apply_picture.specs.declared.text.piece.Piece.{Piece}
+use Rattle.apply_picture.specs.declared.text.style.Style.{Style}
 
 -- ---- one element more
 
@@ -54,6 +55,14 @@ more_lines width colour a b c lines before fine more = record {
 
 pub lines_kept : (width : ℕ) (colour : Bool) (a b c : Option (List ℕ)) → LinesWritten width colour a b → Keeps b c → LinesWritten width colour a c
 lines_kept width colour a b c before kept = record { lines = before.lines; fine = before.fine; written = Appends-kept a b c _ before.written kept }
+
+-- the lines of a page, of the style that the first one had
+pub page_sent : (first style : Style) (a b c : Option (List ℕ)) (lines : List (List Piece)) → style ≡ first
+    → LinesWritten first.width first.has_colour a b → All (IsLine style.width) lines → Appends b c (text_bytes style.has_colour lines)
+    → LinesWritten first.width first.has_colour a c
+page_sent first style a b c lines is before fine more =
+    more_lines first.width first.has_colour a b c lines before (subst (λ (s : Style). All (IsLine s.width) lines) is fine)
+    (subst (λ (s : Style). Appends b c (text_bytes s.has_colour lines)) is more)
 
 -- ---- markup
 

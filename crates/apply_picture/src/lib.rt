@@ -21,9 +21,7 @@ pub use command::outcome::Outcome;
 pub use command::picture_fault::PictureFault;
 pub use command::settings::Settings;
 pub use draw_fault::DrawFault;
-pub use laws::{
-    colours_are_sequences_alone, no_line_has_a_control, what_is_escaped_is_no_markup,
-};
+pub use laws::{colours_are_sequences_alone, no_line_has_a_control, what_is_escaped_is_no_markup};
 pub use picture::Picture;
 pub use svg::drawing::draw_svg;
 pub use svg::part::Part;

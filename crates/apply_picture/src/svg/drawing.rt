@@ -41,7 +41,8 @@ pub fn draw_svg<W: Write>(
     draw_rows(alloc, picture, scale, top, bottom, out)?;
     back.own("</svg>\n")?;
     back.send(alloc, out)?;
-    flush(out)
+    flush(out)?;
+    Ok(())
 }
 
 /// Adds what an SVG begins with, of that height.

@@ -71,7 +71,9 @@ fn entries(alloc: Global, picture: &Picture<'_>) -> Result<Vec<Entry>, AllocErro
 }
 
 /// Whether such a step has a row.
-fn has_row<F: Fn(&Step) -> bool>(picture: &Picture<'_>, is_such: F) -> bool {
+fn has_row<F: Fn(&Step) -> bool>(picture: &Picture<'_>, is_such: F) -> bool
+    requires { F.IsAlwaysCallable is_such }
+{
     let steps = picture.told.steps();
     for place in &picture.rows.places {
         if let Some(step) = steps.get(*place) {

@@ -59,7 +59,7 @@ impl Scale {
 
     /// How many ticks there are, with that at 0.
     pub fn ticks(self) -> u64 {
-        self.span / self.step.max(1) + 1
+        (self.span / self.step.max(1)).saturating_add(1)
     }
 }
 

@@ -52,15 +52,15 @@ fn level_cells(
     let levels = levels_of(alloc, &picture.numbers.stretches, chart.span, chart.cells)?;
     let mut cells = Vec::new(alloc);
     for level in &levels {
-        cells.push(eighths(*level as u128, picture.numbers.peak as u128))?;
+        cells.push(eighths(*level, picture.numbers.peak))?;
     }
     Ok(cells)
 }
 
 /// A number in eighths of a greater one, rounded up.
-fn eighths(level: u128, peak: u128) -> char {
-    let peak = peak.max(1);
-    let count = (level * 8 + (peak - 1)) / peak;
+fn eighths(level: usize, peak: usize) -> char {
+    let peak = peak.max(1) as u128;
+    let count = (level as u128 * 8 + (peak - 1)) / peak;
     match EIGHTHS.get(count.min(8) as usize) {
         Some(character) => *character,
         None => ' ',

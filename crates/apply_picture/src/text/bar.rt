@@ -1,5 +1,7 @@
 //! The bar of a row.
 
+ghost use Rattle.std.specs.Prelude.{◌<◌};
+
 use apply_view::Halves;
 
 /// How the bar of a step looks.
@@ -13,21 +15,17 @@ pub struct Bar {
 
 impl Bar {
     /// Its character in a cell; none where it covers neither half.
-    pub fn character(self, cell: u32) -> Option<char> {
-        let left = cell as u128 * 2;
-        let right = left + 1;
-        match (self.covers(left), self.covers(right)) {
+    pub fn character(self, cell: u32) -> Option<char>
+        requires { cell < 400 }
+    {
+        let (left, right) = (cell * 2, cell * 2 + 1);
+        match (self.halves.covers(left), self.halves.covers(right)) {
             (false, false) => None,
-            _ if self.has_failed && self.halves.end <= right + 1 => Some('✗'),
+            _ if self.has_failed && !self.halves.covers(right + 1) => Some('✗'),
             _ if !self.has_ended => Some('░'),
             (true, true) => Some('▄'),
             (true, false) => Some('▖'),
             (false, true) => Some('▗'),
         }
-    }
-
-    /// Whether it covers that half.
-    fn covers(self, half: u128) -> bool {
-        self.halves.first <= half && half < self.halves.end
     }
 }

@@ -17,6 +17,9 @@ const LEAST_LABEL: usize = 7;
 /// The columns of a row that are neither action nor address nor bar: three blanks, a mark and a duration.
 const OTHERS: usize = 12;
 
+/// The most cells: a line has no more columns.
+const MOST_CELLS: usize = 400;
+
 /// How many columns a tick has at least.
 const TICK_COLUMNS: u64 = 9;
 
@@ -34,6 +37,7 @@ pub struct Chart {
     /// How long the stream is, in microseconds, and 1 at least.
     pub span: u64,
     ghost some: { 1 ≤ cells },
+    ghost few: { cells ≤ 400 },
 }
 
 impl Chart {
@@ -51,9 +55,7 @@ impl Chart {
         let action = action.min(MOST_ACTION);
         let room = width.saturating_sub(action + OTHERS);
         let label = label.min(room / 20 * 11 + room % 20 * 11 / 20);
-        let cells = u32::try_from(room.saturating_sub(label))
-            .unwrap_or(1)
-            .max(1);
+        let cells = room.saturating_sub(label).min(MOST_CELLS).max(1) as u32;
         let span = picture.span().max(1);
         Ok(Chart {
             action,

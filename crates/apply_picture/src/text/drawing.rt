@@ -45,7 +45,8 @@ pub fn draw_text<W: Write>(
     push_notes(alloc, &mut page, picture)?;
     push_passed(alloc, &mut page, picture)?;
     page.send(alloc, out)?;
-    flush(out)
+    flush(out)?;
+    Ok(())
 }
 
 /// Adds what was done, and what ran beside what.

@@ -1,5 +1,7 @@
 //! Texts that have little room.
 
+ghost use Rattle.std.specs.Prelude.{◌≤◌, length};
+
 use crate::words::columns::{columns, columns_of};
 use crate::words::shown_text::ShownText;
 use std::alloc::{AllocError, Global};
@@ -44,7 +46,9 @@ fn with_few_marks(alloc: Global, characters: &[char]) -> Result<Vec<char>, Alloc
 }
 
 /// How many of the first characters fit into so many columns.
-fn front_len(characters: &[char], limit: usize) -> usize {
+fn front_len(characters: &[char], limit: usize) -> usize
+    ensures { result ≤ length characters.now }
+{
     let mut left = limit;
     for (len, character) in characters.iter().enumerate() {
         let columns = columns_of(*character);
@@ -57,7 +61,9 @@ fn front_len(characters: &[char], limit: usize) -> usize {
 }
 
 /// How many of the last characters fit into so many columns.
-fn back_len(characters: &[char], limit: usize) -> usize {
+fn back_len(characters: &[char], limit: usize) -> usize
+    ensures { result ≤ length characters.now }
+{
     let mut left = limit;
     let mut len = 0;
     'back: while len < characters.len() {

@@ -1,5 +1,7 @@
 //! Texts that take several lines.
 
+ghost use Rattle.std.specs.Prelude.{◌≤◌, length};
+
 use crate::words::columns::columns_of;
 use crate::words::shown_text::{ShownText, without_blanks};
 use std::alloc::{AllocError, Global};
@@ -27,7 +29,9 @@ pub fn wrapped(
 }
 
 /// How many of the first characters fit, and one at least.
-fn full_len(characters: &[char], limit: usize) -> usize {
+fn full_len(characters: &[char], limit: usize) -> usize
+    ensures { result ≤ length characters.now }
+{
     let mut left = limit;
     for (len, character) in characters.iter().enumerate() {
         let columns = columns_of(*character);
@@ -40,7 +44,9 @@ fn full_len(characters: &[char], limit: usize) -> usize {
 }
 
 /// How many characters stand on a line into which so many fit: those before the last blank of these.
-fn line_len(characters: &[char], full: usize) -> usize {
+fn line_len(characters: &[char], full: usize) -> usize
+    ensures { result ≤ length characters.now }
+{
     if full >= characters.len() {
         return characters.len();
     }
