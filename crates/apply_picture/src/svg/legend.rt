@@ -45,7 +45,7 @@ pub fn push_legend(
         markup.begin_text(x.saturating_add(190), y.saturating_add(13), "small soft")?;
         push_words(markup, *entry)?;
         markup.end_text()?;
-        x = x.saturating_add(190 + entry.len() * 66 + 180);
+        x = x.saturating_add(entry.len().saturating_mul(66).saturating_add(370));
     }
     Ok(22)
 }

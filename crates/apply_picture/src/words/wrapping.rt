@@ -15,17 +15,23 @@ pub fn wrapped(
 ) -> Result<Vec<ShownText>, AllocError> {
     let mut lines = Vec::new(alloc);
     let mut rest = text.characters();
-    'lines: for _ in 0..=text.characters().len() {
-        let full = full_len(rest, limit);
-        let len = line_len(rest, full);
-        let line = Vec::from_slice(alloc, without_blanks(&rest[..len]))?;
-        lines.push(ShownText { characters: line })?;
-        rest = without_front_blanks(&rest[len..]);
+    for _ in 0..=text.characters().len() {
+        let (line, more) = split_line(rest, limit);
+        let characters = Vec::from_slice(alloc, line)?;
+        lines.push(ShownText { characters })?;
+        rest = more;
         if rest.is_empty() {
             break;
         }
     }
     Ok(lines)
+}
+
+/// The first line of characters, and those behind it; blanks between them are dropped.
+fn split_line(characters: &[char], limit: usize) -> (&[char], &[char]) {
+    let len = line_len(characters, full_len(characters, limit));
+    let line = without_blanks(&characters[..len]);
+    (line, without_front_blanks(&characters[len..]))
 }
 
 /// How many of the first characters fit, and one at least.
