@@ -89,17 +89,17 @@ passes_weaker p q w zero (x ∷ xs) h = w x h
 passes_weaker p q w (suc n) (x ∷ xs) h = passes_weaker p q w n xs h
 
 -- the first of the places from n on is that many behind
-first_passes : (p : ToldStep → Bool) (n k : ℕ) (xs : List ToldStep) → first_of (places_from n p xs) ≡ Some k → (j : ℕ) × (k ≡ n + j) × (passes_at j p xs ≡ true)
+pub first_passes : (p : ToldStep → Bool) (n k : ℕ) (xs : List ToldStep) → first_of (places_from n p xs) ≡ Some k → (j : ℕ) × (k ≡ n + j) × (passes_at j p xs ≡ true)
 first_passes p n k [] e = absurd cc
 first_passes p n k (x ∷ xs) e =
     ⊎_elim
     (λ (yes : p x ≡ true).
     let here : Some n ≡ Some k = rw yes at e in
     let same : n ≡ k = cc in
-    (0, (omega arith, yes)))
+    (0, omega arith, yes))
     (λ (out : p x ≡ false).
     let there = first_passes p (n + 1) k xs (rw out at e) in
-    (suc there.0, (omega (arith, there.1), there.2)))
+    (suc there.0, omega (arith, there.1), there.2))
     (cases_Bool (p x))
 
 other_address : (a b : List ℕ) (s : ToldStep) → bytes_eq a b ≡ false → is_open_at a s ≡ true → is_open_at b s ≡ false

@@ -28,8 +28,8 @@ marked_behind a front (x ∷ xs) =
     let rest = marked_behind a (front ++ marked x ∷ []) xs in
     let there : marked_at (places_from (length front + 1) (is_open_at a) xs) ((front ++ marked x ∷ []) ++ xs) ≡ (front ++ marked x ∷ []) ++ map (marked_by_error (Some a)) xs =
     subst (λ (n : ℕ). marked_at (places_from n (is_open_at a) xs) ((front ++ marked x ∷ []) ++ xs) ≡ (front ++ marked x ∷ []) ++ map (marked_by_error (Some a)) xs) (one_on front (marked x)) rest in
-    rw (yes, at_front front x xs)
-    (ap (marked_at (places_from (length front + 1) (is_open_at a) xs)) (sym (append_assoc front (marked x ∷ []) xs)) ∙ (there ∙ append_assoc front (marked x ∷ []) (map (marked_by_error (Some a)) xs))))
+    rw yes
+    (ap (marked_at (places_from (length front + 1) (is_open_at a) xs)) (at_front front x xs ∙ sym (append_assoc front (marked x ∷ []) xs)) ∙ (there ∙ append_assoc front (marked x ∷ []) (map (marked_by_error (Some a)) xs))))
     (λ (out : is_open_at a x ≡ false).
     let rest = marked_behind a (front ++ x ∷ []) xs in
     let there : marked_at (places_from (length front + 1) (is_open_at a) xs) ((front ++ x ∷ []) ++ xs) ≡ (front ++ x ∷ []) ++ map (marked_by_error (Some a)) xs =

@@ -134,7 +134,7 @@ only_sum [] = refl
 only_sum (i ∷ []) = let e : i.place ≡ 0 + i.place = omega arith in ap Some e
 only_sum (i ∷ (j ∷ is)) = rw (ne_eqb (length (i ∷ (j ∷ is))) 1 (λ e. omega arith)) refl
 
-pub filtered_sum : (p : Interval → Bool) (w : Interval → ℕ) (is : List Interval) → sum_by w (filter p is) ≡ sum_by (weighed p w) is
+pub filtered_sum : {X : Type 0} (p : X → Bool) (w : X → ℕ) (is : List X) → sum_by w (filter p is) ≡ sum_by (weighed p w) is
 filtered_sum p w [] = refl
 filtered_sum p w (i ∷ is) =
     ⊎_elim

@@ -68,11 +68,10 @@ count_same shape k d is =
 
 same_address : (d : Data) → address_of (trimmed line_selection Line d) ≡ address_of d
 same_address d =
-    ap (λ o. o >>= text_of (codes "addr")) refl
-    ∙ (assoc (member_of (codes "hook") (trimmed line_selection Line d)) (member_of (codes "resource")) (text_of (codes "addr"))
+    assoc (member_of (codes "hook") (trimmed line_selection Line d)) (member_of (codes "resource")) (text_of (codes "addr"))
     ∙ (member_same Line Hook (codes "hook") (λ hook. member_of (codes "resource") hook >>= text_of (codes "addr")) d refl
     (λ hook. member_same Hook Resource (codes "resource") (text_of (codes "addr")) hook refl (λ resource. text_same Resource (codes "addr") resource refl))
-    ∙ sym (assoc (member_of (codes "hook") d) (member_of (codes "resource")) (text_of (codes "addr")))))
+    ∙ sym (assoc (member_of (codes "hook") d) (member_of (codes "resource")) (text_of (codes "addr"))))
 
 same_action : (d : Data) → hook_text (codes "action") (trimmed line_selection Line d) ≡ hook_text (codes "action") d
 same_action d = member_same Line Hook (codes "hook") (text_of (codes "action")) d refl (λ hook. text_same Hook (codes "action") hook refl)
