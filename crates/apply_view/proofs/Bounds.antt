@@ -1,5 +1,5 @@
 -- Intervals end no sooner than they begin, and the lengths of all stretches together have 64 bits.
-use Rattle.std.proofs.Common.{◌≡◌, ℕ, ◌+◌, ◌-◌, ◌^◌, ◌<◌, ◌≤◌, ℤ, pos, negsuc, List, [], ◌∷◌, Bool, true, false, cond, eqb, ltb, length, get_or, suc, zero, refl, sym, ap, ◌∙◌, subst, ⊎_elim, arith, All}
+use Rattle.std.proofs.Common.{◌≡◌, ℕ, ◌+◌, ◌^◌, ◌<◌, ◌≤◌, ℤ, pos, negsuc, List, [], ◌∷◌, Bool, true, false, cond, eqb, ltb, length, get_or, suc, zero, ⊎_elim, arith, All}
 use Rattle.std.specs.Prelude.{int_lt, unwrap_or}
 use Rattle.std.specs.Int.{int_gap, int_max}
 use Rattle.std.specs.List.{AllByRecursion, sum_by}
@@ -9,11 +9,11 @@ use Rattle.std.proofs.lemmas.List.Sums.{sum_by-cons, sum_by-le-sum_by}
 use Rattle.apply_view.specs.declared.numbers.interval.Interval.{Interval}
 use Rattle.apply_view.specs.declared.numbers.stretch.Stretch.{Stretch}
 use Rattle.apply_view.specs.declared.told.moments.Moments.{Moments}
-use Rattle.apply_view.specs.Intervals.{interval_of, intervals_from, intervals_of, is_counted}
+use Rattle.apply_view.specs.Intervals.{intervals_from, intervals_of, is_counted}
 use Rattle.apply_view.specs.Numbers.{busy_in, stretch_length}
 use Rattle.apply_view.specs.Steps.{ToldStep}
 use Rattle.apply_view.specs.Stretches.{AreInOrder, IsOrdered, IsSmallInterval, cuts, put, stretch_of, stretches_between, stretches_of}
-use Rattle.apply_view.proofs.Cuts.{Above, Ascends, cuts_ascend}
+use Rattle.apply_view.proofs.Cuts.{Ascends, cuts_ascend}
 use Rattle.apply_view.proofs.Kept.{all_from}
 
 -- ---- an end is no sooner than its begin

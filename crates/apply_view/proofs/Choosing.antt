@@ -1,5 +1,5 @@
 -- The first so many in the order are those that get a row.
-use Rattle.std.proofs.Common.{◌≡◌, ℕ, ◌+◌, ◌-◌, ◌<◌, ◌≤◌, List, [], ◌∷◌, Bool, true, false, cond, not, eqb, length, get_or, take, drop, max, suc, zero, Option, refl, sym, ap, ◌∙◌, subst, ⊎_elim, arith, AllPairs, IsPermutation, count_by, filter, sum_by}
+use Rattle.std.proofs.Common.{◌≡◌, ℕ, ◌-◌, ◌<◌, ◌≤◌, List, [], ◌∷◌, Bool, true, false, cond, not, eqb, length, get_or, take, drop, max, suc, zero, Option, refl, sym, ap, ◌∙◌, subst, ⊎_elim, arith, AllPairs, IsPermutation, count_by, filter, sum_by}
 use Rattle.std.specs.List.{AllByRecursion}
 use Rattle.std.proofs.lemmas.Bool.{cases_Bool, cases_lt}
 use Rattle.std.proofs.lemmas.List.{length-drop}
@@ -10,7 +10,7 @@ use Rattle.apply_view.specs.declared.rows.candidate.Candidate.{Candidate}
 use Rattle.apply_view.specs.declared.rows.choosing.Rows.{Rows}
 use Rattle.apply_view.specs.declared.told.moments.Moments.{Moments}
 use Rattle.apply_view.specs.Intervals.{span_of}
-use Rattle.apply_view.specs.Rows.{AreRanked, AreRowsOf, IsPrintedBefore, candidates_of, chosen, gets_row, is_chosen, left_out, longest, together}
+use Rattle.apply_view.specs.Rows.{AreRanked, AreRowsOf, IsPrintedBefore, candidates_of, gets_row, is_chosen, longest, together}
 use Rattle.apply_view.specs.Steps.{ToldStep}
 use Rattle.apply_view.proofs.Ranking.{chosen_at, is_at, none_behind}
 use Rattle.apply_view.proofs.Sums.{filtered_sum, weighed}

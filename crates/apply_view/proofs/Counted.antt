@@ -1,11 +1,11 @@
 -- How many lines were counted, and what one line more tells.
-use Rattle.std.proofs.Common.{◌≡◌, ℕ, ◌+◌, ◌<◌, ◌≤◌, ℤ, List, [], ◌∷◌, ◌++◌, Bool, true, false, length, get_or, take, Option, Some, None, fold, refl, sym, ap, ◌∙◌, subst, ⊎_elim, arith}
+use Rattle.std.proofs.Common.{◌≡◌, ℕ, ◌+◌, ◌<◌, ℤ, List, [], ◌∷◌, Bool, true, false, length, get_or, take, Option, Some, None, fold, refl, ◌∙◌, ⊎_elim, arith}
 use Rattle.std.specs.Option.{option_map_or}
 use Rattle.std.proofs.lemmas.Bool.{cases_Bool}
 use Rattle.std.proofs.lemmas.List.Sums.{fold_more}
 use Rattle.apply_view.specs.Messages.{Message, Said, begins, ends, begins_provisioner, ends_provisioner, error, warning, version, plan_summary, summary, other, lacking, message_of}
 use Rattle.apply_view.specs.Steps.{first_of, is_open_at, is_open_with, last_of, passes_at, places, provisions}
-use Rattle.apply_view.specs.Telling.{Telling, is_blank_line, nothing_told, told_of, with_end, with_line, with_line_said, with_message_or_passed, with_passed, with_provisioner_begin, with_provisioner_end, with_provisioner_end_at, with_said}
+use Rattle.apply_view.specs.Telling.{Telling, is_blank_line, nothing_told, told_of, with_line, with_line_said, with_message_or_passed, with_passed, with_provisioner_end_at, with_said}
 
 -- ---- what a message says counts no line
 

@@ -1,5 +1,5 @@
 -- The lines of a detail, one after another.
-use Rattle.std.proofs.Common.{◌≡◌, ◌≢◌, ℕ, ◌+◌, ◌-◌, ◌<◌, ◌≤◌, List, [], ◌∷◌, ◌++◌, Bool, true, false, cond, eqb, length, map, take, drop, get_or, suc, zero, refl, sym, ap, ap₂, ◌∙◌, subst, arith, All, Vec, Global}
+use Rattle.std.proofs.Common.{◌≡◌, ◌≢◌, ℕ, ◌+◌, ◌-◌, ◌<◌, ◌≤◌, List, [], ◌∷◌, ◌++◌, length, map, take, drop, get_or, suc, zero, refl, sym, ap, ap₂, ◌∙◌, arith, All, Vec, Global}
 use Rattle.std.proofs.lemmas.Bool.{eq-eqb, ne_eqb}
 use Rattle.std.proofs.lemmas.List.{append_assoc, length_push, map_push}
 use Rattle.apply_lines.specs.Cut.{cut_lines, onto_first}

@@ -1,7 +1,6 @@
 -- What is known of a viewer, one thing told after another.
-use Rattle.std.proofs.Common.{◌≡◌, ℕ, ◌+◌, ◌<◌, ◌≤◌, ℤ, List, [], ◌∷◌, ◌++◌, Bool, true, false, cond, length, get_or, map, min, Option, Some, None, suc, zero, refl, sym, ap, ap₂, ◌∙◌, subst, ⊎_elim, arith}
+use Rattle.std.proofs.Common.{◌≡◌, ℕ, ◌+◌, ◌<◌, ◌≤◌, ℤ, List, [], ◌∷◌, ◌++◌, Bool, true, false, cond, length, min, Some, None, suc, zero, refl, sym, ap, ap₂, ◌∙◌, subst, ⊎_elim, arith}
 use Rattle.std.specs.Prelude.{◌&&◌, not, is_none}
-use Rattle.std.specs.Option.{option_map_or}
 use Rattle.std.specs.Str.{bytes_eq}
 use Rattle.std.proofs.lemmas.Bool.{cases_Bool, and_parts}
 use Rattle.std.proofs.lemmas.List.{append-nil}
@@ -9,8 +8,8 @@ use Rattle.std.proofs.lemmas.Slice.Eq.{bytes_eq-Decides}
 use Rattle.apply_view.specs.declared.told.viewer.Viewer.{Viewer}
 use Rattle.apply_view.specs.Details.{ToldDiagnostic}
 use Rattle.apply_view.specs.OpenPlaces.{places_at, without}
-use Rattle.apply_view.specs.Steps.{ToldStep, at_place, begun_step, ended, first_of, is_open_at, is_open_with, last_of, marked, marked_by_error, passes_at, places, places_from, provisions, with_provisioner, with_provisioner_ended}
-use Rattle.apply_view.specs.Telling.{KeptDiagnostics, Telling, max_lines, max_steps, with_begin, with_diagnostic, with_end, with_passed, with_provisioner_begin, with_provisioner_end, with_provisioner_end_at}
+use Rattle.apply_view.specs.Steps.{ToldStep, at_place, begun_step, ended, first_of, is_open_at, is_open_with, last_of, passes_at, places, places_from, provisions, with_provisioner, with_provisioner_ended}
+use Rattle.apply_view.specs.Telling.{KeptDiagnostics, Telling, max_lines, with_begin, with_diagnostic, with_end, with_passed, with_provisioner_begin, with_provisioner_end}
 use Rattle.apply_view.specs.Viewing.{HasTold, Takes, added}
 use Rattle.apply_view.proofs.Places.{places_apart, places_kept, places_left, places_push}
 

@@ -1,20 +1,19 @@
 -- The steps of a stream lie between its first moment and its last.
-use Rattle.std.proofs.Common.{◌≡◌, ℕ, ◌+◌, ◌-◌, ◌<◌, ◌≤◌, ℤ, pos, negsuc, ◌≤ℤ◌, List, [], ◌∷◌, ◌++◌, Bool, true, false, map, length, Option, Some, None, fold, suc, zero, refl, sym, ap, ◌∙◌, subst, ⊎_elim, arith}
+use Rattle.std.proofs.Common.{◌≡◌, ℕ, ◌+◌, ◌≤◌, ℤ, ◌≤ℤ◌, List, [], ◌∷◌, ◌++◌, Bool, true, false, map, Option, Some, None, fold, suc, zero, refl, sym, subst, ⊎_elim, arith}
 use Rattle.std.specs.Prelude.{IfSome, int_lt, unwrap_or}
-use Rattle.std.specs.Int.{int_gap, int_max, int_min}
-use Rattle.std.specs.List.{AllByRecursion, sum_by}
+use Rattle.std.specs.Int.{int_gap, int_max}
+use Rattle.std.specs.List.{AllByRecursion}
 use Rattle.std.specs.Option.{option_map_or}
 use Rattle.std.proofs.lemmas.Bool.{cases_Bool}
 use Rattle.std.proofs.lemmas.Int.{clamps, ints}
-use Rattle.apply_view.specs.declared.numbers.interval.Interval.{Interval}
 use Rattle.apply_view.specs.declared.told.moments.Moments.{Moments}
 use Rattle.apply_view.specs.Intervals.{intervals_from, intervals_of, is_counted, span_of, until_of}
 use Rattle.apply_view.specs.Messages.{Message, Said, begins, ends, begins_provisioner, ends_provisioner, error, warning, version, plan_summary, summary, other, lacking, message_of}
 use Rattle.apply_view.specs.Moments.{with_moment}
 use Rattle.apply_view.specs.Numbers.{busy_in}
 use Rattle.apply_view.specs.Steps.{ToldStep, at_place, begun_step, ended, first_of, is_open_at, is_open_with, last_of, marked_by_error, passes_at, places, provisions, with_provisioner, with_provisioner_ended}
-use Rattle.apply_view.specs.Stretches.{cuts, stretches_of}
-use Rattle.apply_view.specs.Telling.{Telling, is_blank_line, nothing_told, told_of, with_line, with_line_said, with_message_or_passed, with_passed, with_provisioner_end_at, with_said}
+use Rattle.apply_view.specs.Stretches.{stretches_of}
+use Rattle.apply_view.specs.Telling.{Telling, is_blank_line, nothing_told, told_of, with_line, with_message_or_passed, with_passed, with_provisioner_end_at, with_said}
 use Rattle.apply_view.proofs.Bounds.{EndsBy, busy_le_lengths, gap_rises, intervals_ordered, lengths_within}
 
 -- it begins and ends between these

@@ -1,7 +1,6 @@
 -- A step's begin and end are the moments of its lines.
-use Rattle.std.proofs.Common.{◌≡◌, ℕ, ◌+◌, ◌-◌, ◌<◌, ◌≤◌, ℤ, List, [], ◌∷◌, ◌++◌, Bool, true, false, length, get_or, map, take, Option, Some, None, suc, zero, refl, sym, ap, ap₂, ◌∙◌, subst, ⊎_elim, arith, All}
-use Rattle.std.specs.Prelude.{◌&&◌, IfSome, is_none}
-use Rattle.std.specs.Int.{int_max}
+use Rattle.std.proofs.Common.{◌≡◌, ℕ, ◌+◌, ◌-◌, ◌≤◌, ℤ, List, [], ◌∷◌, ◌++◌, Bool, true, false, length, get_or, map, take, Option, Some, None, suc, zero, refl, sym, ap, ap₂, ◌∙◌, subst, ⊎_elim, arith, All}
+use Rattle.std.specs.Prelude.{IfSome, is_none}
 use Rattle.std.specs.List.{AllByRecursion}
 use Rattle.std.specs.Option.{option_map_or}
 use Rattle.std.specs.Str.{bytes_eq}
@@ -11,8 +10,8 @@ use Rattle.std.proofs.lemmas.List.Elements.{All-from_recursion}
 use Rattle.std.proofs.lemmas.Slice.Eq.{bytes_eq-Decides}
 use Rattle.apply_view.specs.Laws.{IsOfItsLines, message_at, message_in, says}
 use Rattle.apply_view.specs.Messages.{Message, Said, begins, ends, begins_provisioner, ends_provisioner, error, warning, version, plan_summary, summary, other, lacking, message_of}
-use Rattle.apply_view.specs.Steps.{ToldStep, at_place, begun_step, ended, first_of, is_open, is_open_at, is_open_with, last_of, marked_by_error, passes_at, places, provisions, with_provisioner, with_provisioner_ended}
-use Rattle.apply_view.specs.Telling.{Telling, is_blank_line, nothing_told, told_of, with_line, with_message_or_passed, with_passed, with_provisioner_end_at, with_said}
+use Rattle.apply_view.specs.Steps.{ToldStep, at_place, begun_step, ended, first_of, is_open_at, is_open_with, last_of, marked_by_error, passes_at, places, provisions, with_provisioner, with_provisioner_ended}
+use Rattle.apply_view.specs.Telling.{Telling, is_blank_line, told_of, with_line, with_message_or_passed, with_passed, with_provisioner_end_at, with_said}
 use Rattle.apply_view.proofs.Counted.{lines_told, told_more}
 use Rattle.apply_view.proofs.Holding.{first_passes}
 
@@ -70,14 +69,14 @@ ended_known lines n address action failed m s said passes few h =
     let same_action : s.action ≡ action = (bytes_eq-Decides s.action action).0 parts.1 in
     record {
       is = record {
-          begin = h.is.begin;
-          end = (
-            n + 1,
-            m,
-            omega (arith, few),
-            said ∙ ap₂ (λ (a b : List ℕ). says m (ends a b failed)) (sym same_address) (sym same_action),
-            refl,
-          );
+        begin = h.is.begin;
+        end = (
+          n + 1,
+          m,
+          omega (arith, few),
+          said ∙ ap₂ (λ (a b : List ℕ). says m (ends a b failed)) (sym same_address) (sym same_action),
+          refl,
+        );
       };
       within = h.within;
     }

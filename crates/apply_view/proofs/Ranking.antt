@@ -1,5 +1,5 @@
 -- Candidates in the order in which they get rows.
-use Rattle.std.proofs.Common.{◌≡◌, ◌≢◌, ℕ, ◌+◌, ◌*◌, ◌<◌, ◌≤◌, List, [], ◌∷◌, Bool, true, false, cond, not, eqb, ltb, leb, length, get_or, take, drop, max, suc, zero, Option, Some, None, refl, sym, ap, ◌∙◌, subst, ⊎_elim, arith, All, AllPairs, IsPermutation, count_by, filter, sum_by}
+use Rattle.std.proofs.Common.{◌≡◌, ◌≢◌, ℕ, ◌+◌, ◌*◌, ◌<◌, ◌≤◌, List, [], ◌∷◌, Bool, true, false, cond, eqb, ltb, leb, length, get_or, suc, zero, Option, Some, None, refl, sym, ap, ◌∙◌, ⊎_elim, arith, IsPermutation, count_by}
 use Rattle.std.specs.Prelude.{◌&&◌, ◌||◌}
 use Rattle.std.specs.Cmp.{IsStrictWeakOrder}
 use Rattle.std.specs.List.{AllByRecursion}
@@ -10,7 +10,7 @@ use Rattle.std.proofs.lemmas.List.Sorted.{sum_by-IsPermutation}
 use Rattle.std.proofs.lemmas.List.Sums.{get_or-le-sum_by, sum_by-cons}
 use Rattle.apply_view.specs.declared.rows.candidate.Candidate.{Candidate}
 use Rattle.apply_view.specs.declared.told.moments.Moments.{Moments}
-use Rattle.apply_view.specs.Rows.{AreRanked, candidate_of, candidates_from, candidates_of, comes_before, gets_row, gets_row_within, is_chosen, longest, rank_of, same_bool}
+use Rattle.apply_view.specs.Rows.{AreRanked, candidate_of, candidates_from, candidates_of, comes_before, gets_row, is_chosen, rank_of, same_bool}
 use Rattle.apply_view.specs.Steps.{ToldStep}
 
 -- ---- what the sort compares

@@ -3,7 +3,7 @@ use Rattle.std.proofs.Common.{◌≡◌, ℕ, ℤ, List, [], codes, Bool, true, 
 use Rattle.std.specs.Prelude.{option_map, unwrap_or}
 use Rattle.std.specs.Option.{option_map_or}
 use Rattle.serde_json.specs.Data.{Data, null, boolean, number, string, array, object}
-use Rattle.serde_json.specs.Find.{as_number, as_str, as_u64, get}
+use Rattle.serde_json.specs.Find.{as_number, as_u64, get}
 use Rattle.apply_json.specs.Parsed.{IsTrimmedTree}
 use Rattle.apply_json.specs.Tree.{◌>>=◌, member_of, text_of, tree_of, unless_null}
 use Rattle.apply_json.specs.Trimmed.{trimmed}

@@ -76,7 +76,10 @@ fn order_of(first: Candidate, second: Candidate) -> Ordering
     ensures { is_lt result ≡ comes_before first second }
 {
     if first.marked == second.marked {
-        second.length.cmp(&first.length).then(first.place.cmp(&second.place))
+        second
+            .length
+            .cmp(&first.length)
+            .then(first.place.cmp(&second.place))
     } else if first.marked {
         Ordering::Less
     } else {

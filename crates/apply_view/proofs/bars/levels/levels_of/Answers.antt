@@ -1,4 +1,4 @@
-use Rattle.std.proofs.Common.{◌≡◌, ◌+◌, ◌<◌, ◌≤◌, ℕ, arith, get_or, length}
+use Rattle.std.proofs.Common.{◌≡◌, ◌+◌, ◌<◌, ◌≤◌, ℕ, arith, get_or}
 use Rattle.apply_view.specs.Bars.{cell_begin}
 use Rattle.apply_view.specs.declared.numbers.stretch.Stretch.{Stretch}
 use Rattle.apply_view.proofs.Levels.{cells_rise, level_pushed, past_more}

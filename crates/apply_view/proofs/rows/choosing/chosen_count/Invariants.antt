@@ -1,4 +1,4 @@
-use Rattle.std.proofs.Common.{◌≡◌, ◌-◌, ◌<◌, ◌≤◌, ℕ, Some, get_or, length, true}
+use Rattle.std.proofs.Common.{◌≡◌, ◌-◌, ◌<◌, ◌≤◌, ℕ, get_or, length, true}
 use Rattle.apply_view.specs.declared.rows.candidate.Candidate.{Candidate}
 use Rattle.apply_view.specs.Rows.{gets_row_within}
 use Rattle.apply_view.proofs.rows.choosing.chosen_count.Given as goal

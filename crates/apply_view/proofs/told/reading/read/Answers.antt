@@ -1,11 +1,11 @@
-use Rattle.std.proofs.Common.{◌<◌, Err, arith, subst}
+use Rattle.std.proofs.Common.{Err, arith, subst}
 use Rattle.std.specs.Prelude.{IfSome}
 use Rattle.apply_lines.specs.declared.line_end.LineEnd.{LineEnd}
 use Rattle.apply_lines.specs.Reading.{Gives}
 use Rattle.apply_view.specs.declared.told.view_fault.ViewFault.TheVariants.{TooManyLines}
-use Rattle.apply_view.specs.Telling.{Telling, with_line}
+use Rattle.apply_view.specs.Telling.{with_line}
 use Rattle.apply_view.specs.Viewing.{HasTold}
-use Rattle.apply_view.proofs.FromReader.{as_ended, as_refused, as_unread, full_lines, leads_nowhere, leads_on, leads_out, leads_too_far, leads_too_long, starts}
+use Rattle.apply_view.proofs.FromReader.{as_ended, as_refused, full_lines, leads_nowhere, leads_on, leads_out, leads_too_far, leads_too_long, starts}
 use Rattle.apply_view.proofs.told.reading.read.Goals as goal
 
 pub lines-init : goal.lines-init

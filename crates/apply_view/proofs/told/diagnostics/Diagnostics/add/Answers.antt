@@ -1,4 +1,4 @@
-use Rattle.std.proofs.Common.{◌≡◌, ◌+◌, ◌<◌, ◌≤◌, ◌∷◌, [], ◌++◌, List, ℕ, ap, ap₂, arith, cond, false, length, min, refl, rules, sym, true, ◌∙◌}
+use Rattle.std.proofs.Common.{◌≡◌, ◌+◌, ◌<◌, ◌≤◌, ◌∷◌, [], ◌++◌, List, ℕ, ap, ap₂, length, min, refl, rules, ◌∙◌}
 use Rattle.std.proofs.lemmas.Bool.{le-ltb, lt-ltb}
 use Rattle.serde_json.specs.View.{view}
 use Rattle.apply_view.specs.Details.{ToldDiagnostic, diagnostic_of}
@@ -23,13 +23,13 @@ returns-clause-ok c =
     let d = diagnostic_of (view c.args.members.now) in
     let old = made c.self.inside.kept.items c.self.inside.count in
     elim c.if-len-lt-MAX_KEPT.branch [
-    then-len-lt-MAX_KEPT+in_ok-diagnostic+in_ok-push w ↦
-    let room : length c.self.inside.kept.items < max_kept = search rules in
-    rw w.self-inside-is
-    (with_room d old w.push.new.self.items c.saturating_add-self-inside.result room (w.in_ok-push.ensures.items ∙ ap (λ (x : ToldDiagnostic). c.self.inside.kept.items ++ x ∷ []) w.in_ok-diagnostic.ensures)
-    (rw w.self-inside-is at c.saturating_add-self-inside.ensures) ∙ ap (added d) c.self.view_is)
-    | else-len-lt-MAX_KEPT w ↦
-    let full : max_kept ≤ length c.self.inside.kept.items = search rules in
-    rw w.self-inside-is
-    (without_room d old c.self.inside.kept.items c.saturating_add-self-inside.result full refl (rw w.self-inside-is at c.saturating_add-self-inside.ensures) ∙ ap (added d) c.self.view_is)
+      | then-len-lt-MAX_KEPT+in_ok-diagnostic+in_ok-push w ↦
+          let room : length c.self.inside.kept.items < max_kept = search rules in
+          rw w.self-inside-is
+          (with_room d old w.push.new.self.items c.saturating_add-self-inside.result room (w.in_ok-push.ensures.items ∙ ap (λ (x : ToldDiagnostic). c.self.inside.kept.items ++ x ∷ []) w.in_ok-diagnostic.ensures)
+          (rw w.self-inside-is at c.saturating_add-self-inside.ensures) ∙ ap (added d) c.self.view_is)
+      | else-len-lt-MAX_KEPT w ↦
+          let full : max_kept ≤ length c.self.inside.kept.items = search rules in
+          rw w.self-inside-is
+          (without_room d old c.self.inside.kept.items c.saturating_add-self-inside.result full refl (rw w.self-inside-is at c.saturating_add-self-inside.ensures) ∙ ap (added d) c.self.view_is)
     ]

@@ -2,7 +2,6 @@ use Rattle.std.proofs.Common.{ℕ, [], ◌∷◌, ◌++◌, ap, cond, length, �
 use Rattle.std.specs.Str.{bytes_eq}
 use Rattle.std.proofs.lemmas.Int.{to_z-of_z}
 use Rattle.apply_view.specs.OpenPlaces.{places_at}
-use Rattle.apply_view.specs.Steps.{ToldStep}
 use Rattle.apply_view.proofs.Holding.{begun_held}
 use Rattle.apply_view.proofs.told.viewer.Viewer.begin.Goals as goal
 

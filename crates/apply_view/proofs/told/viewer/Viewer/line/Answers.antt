@@ -1,7 +1,7 @@
 use Rattle.std.proofs.Common.{refl, sym, ◌∙◌, ◌+◌}
 use Rattle.serde_json.specs.View.{view}
 use Rattle.apply_view.specs.declared.told.viewer.Viewer.{Viewer}
-use Rattle.apply_view.specs.Telling.{Telling, with_line, with_tree}
+use Rattle.apply_view.specs.Telling.{with_line, with_tree}
 use Rattle.apply_view.specs.Viewing.{HasTold, Takes}
 use Rattle.apply_view.proofs.Going.{counted_takes, goes_from, not_blank}
 use Rattle.apply_view.proofs.Trimmed.{of_trimmed}
