@@ -6,6 +6,7 @@ use apply_view::{
     rows_of,
 };
 use std::alloc::{AllocError, Global};
+use std::io::{self, BufReader, ErrorKind, Read};
 use std::process::Abort;
 
 /// A line for each name; the number behind `@` is the second at which it comes.
@@ -209,6 +210,23 @@ fn rows(rt: HostRuntime) {
     assert_eq!(rt; rows.together, 1_000_000);
 }
 
+/// Behind the tenth row steps get none that take less than a 200th of the span; where there is no limit all get one.
+#[test]
+fn short_steps_get_ten_rows(rt: HostRuntime) {
+    let alloc = rt.alloc();
+    let short = " 3000:Ca 3001:ca".repeat(alloc, 11).expect(&rt, "memory");
+    let names = format!(in alloc; "0:Ca 3000:ca{short}").expect(&rt, "memory");
+    let told = told_of(&rt, alloc, names.as_str());
+    let rows = rows_of(alloc, moments_of(&told), told.steps(), Some(40)).expect(&rt, "memory");
+    assert_eq!(rt; rows.places.len(), 10);
+    assert_eq!(rt; rows.left_out, 2);
+    assert_eq!(rt; rows.longest, 1_000_000);
+    assert_eq!(rt; rows.together, 2_000_000);
+    let all = rows_of(alloc, moments_of(&told), told.steps(), None).expect(&rt, "memory");
+    assert_eq!(rt; all.places.len(), 12);
+    assert_eq!(rt; all.left_out, 0);
+}
+
 #[test]
 fn bars(rt: HostRuntime) {
     let halves = halves_of(10, 100, 0, 50);
@@ -230,6 +248,53 @@ fn levels(rt: HostRuntime) {
     let numbers = numbers_of(alloc, moments, told.steps()).expect(&rt, "memory");
     let levels = levels_of(alloc, &numbers.stretches, moments.span(), 5).expect(&rt, "memory");
     assert_eq!(rt; levels.as_slice(), [1, 1, 2, 1, 0].as_slice());
+}
+
+/// The last line needs no line feed, and what is no message is passed over, unless it is blank.
+#[test]
+fn streams(rt: HostRuntime) {
+    let alloc = rt.alloc();
+    let line = line_of(&rt, alloc, "Ca", 7);
+    let bytes = format!(in alloc; "\n{{}}\n{line}\nno message\n{line}").expect(&rt, "memory");
+    let told = read(alloc, &mut bytes.as_bytes()).expect(&rt, "a message");
+    assert_eq!(rt; told.lines(), 5);
+    assert_eq!(rt; told.passed(), 2);
+    assert_eq!(rt; told.steps().len(), 2);
+    for step in told.steps() {
+        assert!(rt; step.line() == 3 || step.line() == 5);
+    }
+}
+
+/// A reader that gives its bytes one by one, and fails behind them.
+#[derive(Drop)]
+struct Broken<'a> {
+    bytes: &'a [u8],
+}
+
+impl Read for Broken<'_> {
+    fn read(&mut self, buf: &mut [u8]) -> io::Result<usize> {
+        match self.bytes.split_first() {
+            Some((byte, rest)) if !buf.is_empty() => {
+                buf[0] = *byte;
+                self.bytes = rest;
+                Ok(1)
+            }
+            _ => Err(io::Error::from(ErrorKind::BrokenPipe)),
+        }
+    }
+}
+
+#[test]
+fn a_read_fails(rt: HostRuntime) {
+    let alloc = rt.alloc();
+    let line = line_of(&rt, alloc, "Ca", 7);
+    let broken = Broken {
+        bytes: line.as_bytes(),
+    };
+    let mut reader = BufReader::new(alloc, broken).expect(&rt, "memory");
+    let fault = read(alloc, &mut reader).err().expect(&rt, "a fault");
+    let said = format!(in alloc; "{fault}").expect(&rt, "memory");
+    assert_eq!(rt; said.as_str(), "the stream could not be read");
 }
 
 /// What is said where nothing is told.
