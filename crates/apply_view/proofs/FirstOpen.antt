@@ -72,10 +72,6 @@ open_with address action steps =
 
 -- ---- a loop that looks for the first
 
-pub look_on : (test : ℕ → Bool) (ps : List ℕ) (i : ℕ) → i < length ps → test (get_or ps i 0) ≡ false
-    → first_of (filter test (drop i ps)) ≡ first_of (filter test (drop (i + 1) ps))
-look_on test ps i l out = at_drop_more (λ xs. first_of (filter test xs)) ps i 0 l ∙ (rw out refl)
-
 pub look_found : (test : ℕ → Bool) (ps : List ℕ) (i : ℕ) → i < length ps → test (get_or ps i 0) ≡ true
     → first_of (filter test (drop i ps)) ≡ Some (get_or ps i 0)
 look_found test ps i l passes = at_drop_more (λ xs. first_of (filter test xs)) ps i 0 l ∙ (rw passes refl)
@@ -92,10 +88,6 @@ last_get (p ∷ (q ∷ ps)) l =
     let e : suc (suc (length ps)) - 1 ≡ suc (length ps) = omega arith in
     let f : suc (length ps) - 1 ≡ length ps = omega arith in
     last_get (q ∷ ps) (omega arith) ∙ (ap (λ n. Some (get_or (q ∷ ps) n 0)) f ∙ ap (λ n. Some (get_or (p ∷ (q ∷ ps)) n 0)) (sym e))
-
-pub last_none : (ps : List ℕ) → length ps ≤ 0 → last_of ps ≡ None
-last_none [] l = refl
-last_none (p ∷ ps) l = absurd (omega arith)
 
 -- ---- as a viewer looks them up
 
@@ -124,7 +116,3 @@ first_none viewer t a action ps i h is l none =
 pub last_found : (viewer : Viewer) (t : Telling) (a ps : List ℕ) → Takes viewer t → ps ≡ places_at viewer.opened a → 0 < length ps
     → Some (get_or ps (length ps - 1) 0) ≡ last_of (places (is_open_at a) t.steps)
 last_found viewer t a ps h is some = sym (last_get ps some) ∙ ap last_of (looked_up viewer t a ps h is)
-
-pub last_is_none : (viewer : Viewer) (t : Telling) (a ps : List ℕ) → Takes viewer t → ps ≡ places_at viewer.opened a → length ps ≤ 0
-    → None ≡ last_of (places (is_open_at a) t.steps)
-last_is_none viewer t a ps h is none = sym (last_none ps none) ∙ ap last_of (looked_up viewer t a ps h is)

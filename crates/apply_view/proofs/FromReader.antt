@@ -9,12 +9,9 @@ use Rattle.apply_lines.specs.Limits.{max_bytes}
 use Rattle.apply_lines.specs.Reading.{Gives}
 use Rattle.apply_lines.specs.declared.line_end.LineEnd.{LineEnd}
 use Rattle.apply_lines.specs.declared.line_end.LineEnd.TheVariants as next
-use Rattle.apply_lines.specs.declared.line_fault.LineFault.{LineFault}
-use Rattle.apply_lines.specs.declared.line_fault.LineFault.TheVariants as of
 use Rattle.apply_view.specs.declared.told.view_fault.ViewFault.{ViewFault}
 use Rattle.apply_view.specs.declared.told.view_fault.ViewFault.TheVariants as fault
 use Rattle.apply_view.specs.declared.told.viewer.Viewer.{Viewer}
-use Rattle.apply_view.specs.Faults.{as_view_fault}
 use Rattle.apply_view.specs.Lines.{IsToldOf}
 use Rattle.apply_view.specs.Telling.{Telling, max_lines, max_steps, told_of, with_line}
 use Rattle.apply_view.specs.Viewing.{Goes, HasTold}
@@ -162,12 +159,6 @@ as_refused all left rest viewer new n line taken feed fault.TooManyLines h gives
 as_refused all left rest viewer new n line taken feed (fault.TooLong number) h gives same goes = absurd goes
 as_refused all left rest viewer new n line taken feed fault.NoMessage h gives same goes = absurd goes
 as_refused all left rest viewer new n line taken feed (fault.Unread failed) h gives same goes = absurd goes
-
--- why no line is given
-pub as_unread : (all : Option (List ℕ)) (given : LineFault) (why : ViewFault) → why ≡ as_view_fault given → IfSome all (λ bytes. IsToldOf bytes (Err why))
-as_unread None given why is = tt
-as_unread (Some bytes) (of.Unread failed) why is = subst (λ (f : ViewFault). IsToldOf bytes (Err f)) (sym is) tt
-as_unread (Some bytes) of.Memory why is = subst (λ (f : ViewFault). IsToldOf bytes (Err f)) (sym is) tt
 
 -- a viewer that is full has as many lines as there may be
 pub full_lines : (viewer : Viewer) (b : Bool) → (viewer.told.lines < max_lines → b ≡ false) → b ≡ true → max_lines ≤ viewer.told.lines

@@ -162,9 +162,6 @@ difference w is a done e rest h last l =
 
 -- ---- the stretch
 
-count_weighed : (p : Interval → Bool) (is : List Interval) → count_by p is ≡ sum_by (weighed p (interval_weight one)) is
-count_weighed p is = refl
-
 places_weighed : (p : Interval → Bool) (is : List Interval) → sum_by (λ (i : Interval). i.place) (filter p is) ≡ sum_by (weighed p (interval_weight itself)) is
 places_weighed p is = filtered_sum p (λ i. i.place) is
 
@@ -272,9 +269,6 @@ kept_more is done e rest running stretches last h k = record {
   begun_places = next_begun_places e running ∙ sum_more is_begin itself done e running.begun_places k.begun_places;
   ended_places = next_ended_places e running ∙ sum_more is_end itself done e running.ended_places k.ended_places;
 }
-
-pub kept_none : (is : List Interval) → IsKept is [] (record { begun = 0; ended = 0; begun_places = 0; ended_places = 0 }) None []
-kept_none is = record { stretches = refl; last = refl; begun = refl; ended = refl; begun_places = refl; ended_places = refl }
 
 -- ---- at the end
 

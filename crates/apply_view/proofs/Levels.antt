@@ -1,10 +1,8 @@
 -- The greatest number in a cell, of stretches that are looked through once.
-use Rattle.std.proofs.Common.{◌≡◌, ℕ, ◌+◌, ◌*◌, ◌<◌, ◌≤◌, List, [], ◌∷◌, ◌++◌, map, Bool, true, false, cond, ltb, length, get_or, drop, max, suc, zero, refl, sym, ap, ap₂, ◌∙◌, ⊎_elim, arith}
+use Rattle.std.proofs.Common.{◌≡◌, ℕ, ◌+◌, ◌*◌, ◌<◌, ◌≤◌, List, [], ◌∷◌, ◌++◌, map, Bool, true, false, ltb, length, get_or, drop, max, suc, zero, refl, sym, ap, ap₂, ◌∙◌, ⊎_elim, arith}
 use Rattle.std.specs.Prelude.{◌&&◌}
-use Rattle.std.proofs.Math.Nat.{div-le_of_le-mul}
 use Rattle.std.specs.List.{range_with_len}
-use Rattle.std.proofs.lemmas.Bool.{cases_Bool, cases_lt, le-ltb, lt-ltb}
-use Rattle.std.proofs.lemmas.List.{at_drop_more, at_drop_all}
+use Rattle.std.proofs.lemmas.Bool.{cases_lt, le-ltb}
 use Rattle.std.proofs.lemmas.List.FromFn.{map-range_with_len_more}
 use Rattle.apply_view.specs.Bars.{cell_begin, level_in, level_of, reaches_into}
 use Rattle.apply_view.specs.Stretches.{AreInOrder}
@@ -15,9 +13,6 @@ use Rattle.apply_view.proofs.BarLaws.{div_le, times_le}
 
 pub cells_rise : (cells span sooner later : ℕ) → 1 ≤ cells → sooner ≤ later → cell_begin cells span sooner ≤ cell_begin cells span later
 cells_rise cells span sooner later some l = div_le (sooner * max 1 span) (later * max 1 span) cells (omega arith) (times_le sooner later (max 1 span) l)
-
-pub cell_within : (cells span cell : ℕ) → 1 ≤ cells → cell ≤ cells → cell_begin cells span cell ≤ max 1 span
-cell_within cells span cell some l = div-le_of_le-mul cells (times_le cell cells (max 1 span) l)
 
 -- ---- those that end too soon
 
@@ -52,28 +47,12 @@ late_from begin end (s ∷ ss) (suc i) d order l late = late_from begin end ss i
 
 -- ---- a look through those that reach into a cell
 
-max_assoc : (a b c : ℕ) → max (max a b) c ≡ max a (max b c)
-max_assoc a b c = omega arith
-
 max_zero : (n : ℕ) → max n 0 ≡ n
 max_zero n = omega arith
-
--- one that may reach into it
-pub level_more : (begin end : ℕ) (ss : List Stretch) (i n : ℕ) (d : Stretch) → i < length ss → (get_or ss i d).begin < end
-    → max n (level_in begin end (drop i ss)) ≡ max (cond (ltb begin (get_or ss i d).end) (max n (get_or ss i d).number) n) (level_in begin end (drop (i + 1) ss))
-level_more begin end ss i n d l soon =
-    at_drop_more (λ xs. max n (level_in begin end xs)) ss i d l
-    ∙ ⊎_elim
-    (λ (yes : ltb begin (get_or ss i d).end ≡ true). rw (lt-ltb (get_or ss i d).begin end soon, yes) (sym (max_assoc n (get_or ss i d).number (level_in begin end (drop (i + 1) ss)))))
-    (λ (no : ltb begin (get_or ss i d).end ≡ false). rw (lt-ltb (get_or ss i d).begin end soon, no) (omega arith))
-    (cases_Bool (ltb begin (get_or ss i d).end))
 
 -- the first that begins behind it, or the end
 pub level_late : (begin end : ℕ) (ss : List Stretch) (i n : ℕ) (d : Stretch) → AreInOrder ss → i < length ss → end ≤ (get_or ss i d).begin → max n (level_in begin end (drop i ss)) ≡ n
 level_late begin end ss i n d order l late = ap (max n) (late_from begin end ss i d order l late) ∙ max_zero n
-
-pub level_all : (begin end : ℕ) (ss : List Stretch) (i n : ℕ) → length ss ≤ i → max n (level_in begin end (drop i ss)) ≡ n
-level_all begin end ss i n l = ap (max n) (at_drop_all (level_in begin end) ss i l) ∙ max_zero n
 
 -- ---- one cell more
 

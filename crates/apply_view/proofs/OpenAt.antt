@@ -41,18 +41,6 @@ one_less_at a place v w old new was n items o =
     rw (here, other) refl)
     (cases_Bool (bytes_eq a o))
 
--- nothing stood at the address
-pub none_less_at : (a : List ℕ) (place : ℕ) (old new : List ℕ → Option (Vec ℕ Global)) → old a ≡ None → ((o : List ℕ) → new o ≡ old o)
-    → (o : List ℕ) → items_in (new o) ≡ cond (bytes_eq a o) (without place (items_in (old o))) (items_in (old o))
-none_less_at a place old new was n o =
-    ⊎_elim
-    (λ (yes : bytes_eq a o ≡ true).
-    let same : a ≡ o = (bytes_eq-Decides a o).0 yes in
-    let there : old o ≡ None = ap old (sym same) ∙ was in
-    rw (n o, there, yes) refl)
-    (λ (other : bytes_eq a o ≡ false). rw (n o, other) refl)
-    (cases_Bool (bytes_eq a o))
-
 -- what was left at the address was nothing, and was taken away
 pub emptied_at : (a : List ℕ) (old mid new : List ℕ → Option (Vec ℕ Global)) (f : List ℕ → List ℕ)
     → ((o : List ℕ) → items_in (mid o) ≡ f o) → items_in (mid a) ≡ [] → ((o : List ℕ) → new o ≡ cond (bytes_eq a o) None (mid o))

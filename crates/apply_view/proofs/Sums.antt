@@ -48,9 +48,6 @@ one_weighed begin end a b w l o apart =
     (cases_lt a begin)))
     (cases_lt end b)
 
-add_swap : (a b c d : ℕ) → (a + b) + (c + d) ≡ (a + c) + (b + d)
-add_swap a b c d = omega arith
-
 pub under_way_sum : (w : ℕ → ℕ) (a b : ℕ) (is : List Interval) → a < b → AllOrdered is → AllApart a b is
     → sum_by (weighed (is_under_way a b) (interval_weight w)) is + sum_by (weighed (λ (i : Interval). leb i.end a) (interval_weight w)) is
     ≡ sum_by (weighed (λ (i : Interval). leb i.begin a) (interval_weight w)) is

@@ -5,7 +5,7 @@ use Rattle.std.specs.Option.{option_map_or}
 use Rattle.serde_json.specs.Data.{Data, null, boolean, number, string, array, object}
 use Rattle.serde_json.specs.Find.{as_number, as_u64, get}
 use Rattle.apply_json.specs.Parsed.{IsTrimmedTree}
-use Rattle.apply_json.specs.Tree.{◌>>=◌, member_of, text_of, tree_of, unless_null}
+use Rattle.apply_json.specs.Tree.{◌>>=◌, member_of, text_of, unless_null}
 use Rattle.apply_json.specs.Trimmed.{trimmed}
 use Rattle.apply_json.proofs.Trimmed.Lookups.{as_number_trimmed, get_trimmed, text_trimmed}
 use Rattle.apply_view.specs.declared.told.line_shape.LineShape.{LineShape}
@@ -165,7 +165,3 @@ pub of_trimmed : (line : List ℕ) (tree : Data) (t : Telling) → IsTrimmedTree
 of_trimmed line tree t h =
     ap (λ (o : Option Message). with_message_or_passed o t)
     (ap tree_message h.2 ∙ (same_message h.0 ∙ ap (λ (o : Option Data). o >>= tree_message) (sym h.1)))
-
--- what is no tree is no message
-pub of_no_tree : (line : List ℕ) (t : Telling) → tree_of line ≡ None → with_message_or_passed None t ≡ with_message_or_passed (message_of line) t
-of_no_tree line t none = ap (λ (o : Option Data). with_message_or_passed (o >>= tree_message) t) (sym none)

@@ -20,6 +20,7 @@ use Rattle.apply_check.specs.Message as check
 use Rattle.apply_check.specs.Words.{action_named, action_word}
 use Rattle.apply_view.specs.Details.{diagnostic_of, text_or_empty}
 use Rattle.apply_view.specs.Messages as view
+use Rattle.apply_view_laws.specs.Agreement as words
 use Rattle.apply_view_laws.specs.Agreement.{is_ephemeral}
 use Rattle.apply_view_laws.proofs.Looking.{Subject, bind_ok, hook_address_found, same_ok, subject_found}
 
@@ -362,8 +363,8 @@ split name word here other =
     (λ (apart : bytes_eq name word ≡ false). other apart)
     (cases_Bool (bytes_eq name word))
 
-pub matched : (name : List ℕ) → is_ephemeral name ≡ false → At name
-matched name lasting =
+lasting_matched : (name : List ℕ) → is_ephemeral name ≡ false → At name
+lasting_matched name lasting =
     split name (codes "version") at_version (λ a.
     split name (codes "apply_start") at_start (λ b.
     split name (codes "apply_progress") at_progress (λ c.
@@ -396,3 +397,59 @@ matched name lasting =
       diagnostic = n;
       outputs = o;
     }))))))))))))))))
+
+-- ---- ephemeral operations
+
+no_change : (w : List ℕ) → words.is_change w ≡ false → (k : Action) → is_change k ≡ true → bytes_eq w (action_word k) ≡ false
+no_change w e Create h = (neither _ (bytes_eq w (codes "update")) (bytes_eq w (codes "delete")) e).0
+no_change w e Update h = (neither (bytes_eq w (codes "create")) _ (bytes_eq w (codes "delete")) e).1
+no_change w e Delete h = (neither (bytes_eq w (codes "create")) (bytes_eq w (codes "update")) _ e).2
+no_change w e Read h = absurd cc
+no_change w e Refresh h = absurd cc
+
+abbrev TellsNoChange : Data → Type 0
+TellsNoChange d = option_map_or words.is_change (view.hook_text (codes "action") d) false ≡ false
+
+harmless_begin : (d : Data) → TellsNoChange d → Harmless (view.begin_of d)
+harmless_begin d e = each (view.address_of d) (view.hook_text (codes "action") d) e where
+  each : (a w : Option (List ℕ)) → option_map_or words.is_change w false ≡ false → Harmless (option_map_or (λ address. option_map_or (λ action. view.begins address action) w view.lacking) a view.lacking)
+  each None w f = tt
+  each (Some a) None f = tt
+  each (Some a) (Some w) f = no_change w f
+
+harmless_end : (failed : Bool) (d : Data) → TellsNoChange d → Harmless (view.end_of failed d)
+harmless_end failed d e = each (view.address_of d) (view.hook_text (codes "action") d) e where
+  each : (a w : Option (List ℕ)) → option_map_or words.is_change w false ≡ false → Harmless (option_map_or (λ address. option_map_or (λ action. view.ends address action failed) w view.lacking) a view.lacking)
+  each None w f = tt
+  each (Some a) None f = tt
+  each (Some a) (Some w) f = no_change w f
+
+abbrev AtEphemeral : List ℕ → Type 0
+AtEphemeral name = (d : Data) (m : check.Message) → TellsNoChange d → check.typed_message name d ≡ Ok m → Matches m (view.said_of name d)
+
+at_ephemeral_start : AtEphemeral (codes "ephemeral_op_start")
+unfolding check.typed_message
+at_ephemeral_start = λ d m none e. subst (λ n. Matches n (view.said_of (codes "ephemeral_op_start") d)) (same_ok check.other m e) (harmless_begin d none)
+
+at_ephemeral_complete : AtEphemeral (codes "ephemeral_op_complete")
+unfolding check.typed_message
+at_ephemeral_complete = λ d m none e. subst (λ n. Matches n (view.said_of (codes "ephemeral_op_complete") d)) (same_ok check.other m e) (harmless_end false d none)
+
+at_ephemeral_errored : AtEphemeral (codes "ephemeral_op_errored")
+unfolding check.typed_message
+at_ephemeral_errored = λ d m none e. subst (λ n. Matches n (view.said_of (codes "ephemeral_op_errored") d)) (same_ok check.other m e) (harmless_end true d none)
+
+ephemeral_by : (name : List ℕ) (a b c : Bool) → bytes_eq name (codes "ephemeral_op_start") ≡ a → bytes_eq name (codes "ephemeral_op_complete") ≡ b → bytes_eq name (codes "ephemeral_op_errored") ≡ c
+    → (a || (b || c)) ≡ true → AtEphemeral name
+ephemeral_by name true b c x y z e = subst AtEphemeral (sym (same_text name (codes "ephemeral_op_start") x)) at_ephemeral_start
+ephemeral_by name false true c x y z e = subst AtEphemeral (sym (same_text name (codes "ephemeral_op_complete") y)) at_ephemeral_complete
+ephemeral_by name false false true x y z e = subst AtEphemeral (sym (same_text name (codes "ephemeral_op_errored") z)) at_ephemeral_errored
+ephemeral_by name false false false x y z e = absurd cc
+
+pub matched : (name : List ℕ) (d : Data) (m : check.Message) → (is_ephemeral name ≡ true → TellsNoChange d) → check.typed_message name d ≡ Ok m → Matches m (view.said_of name d)
+matched name d m lasting e =
+    ⊎_elim
+    (λ (yes : is_ephemeral name ≡ true).
+    ephemeral_by name (bytes_eq name (codes "ephemeral_op_start")) (bytes_eq name (codes "ephemeral_op_complete")) (bytes_eq name (codes "ephemeral_op_errored")) refl refl refl yes d m (lasting yes) e)
+    (λ (no : is_ephemeral name ≡ false). lasting_matched name no d m e)
+    (cases_Bool (is_ephemeral name))

@@ -27,10 +27,11 @@ use Rattle.apply_check.specs.Results.{or_refuse}
 use Rattle.apply_check.specs.Tally.{completed_totals, completes}
 use Rattle.apply_check.specs.Words.{action_word}
 use Rattle.apply_view.specs.Laws.{message_in}
-use Rattle.apply_view.specs.Messages.{Message, message_of, moment_of, said_of, tree_message}
+use Rattle.apply_view.specs.Messages.{Message, hook_text, message_of, moment_of, said_of, tree_message}
 use Rattle.apply_view.specs.Numbers.{completed_of}
 use Rattle.apply_view.specs.Steps.{ToldStep, is_open_with}
 use Rattle.apply_view.specs.Telling.{Telling, is_blank_line, nothing_told, told_of, with_line, with_message_or_passed}
+use Rattle.apply_view_laws.specs.Agreement as words
 use Rattle.apply_view_laws.specs.Agreement.{AllEnded, AreCounted, IsTimed, is_ephemeral, type_of}
 use Rattle.apply_view_laws.proofs.Counting.{Agrees, agrees_more, one_if, open_with}
 use Rattle.apply_view_laws.proofs.Looking.{bind_ok}
@@ -47,7 +48,7 @@ record Line (text : List ℕ) (m : check.Message) : Type 0 where
   type : json.text_of (codes "type") whole ≡ Some name
   time : moment_of whole ≡ Some moment
   said : check.typed_message name whole ≡ Ok m
-  lasting : is_ephemeral name ≡ false
+  lasting : is_ephemeral name ≡ true → option_map_or words.is_change (hook_text (codes "action") whole) false ≡ false
   some : is_blank_line text ≡ false
 
 not_too_long : (b : Bool) (r : Result check.Message Fault) (m : check.Message) → cond b (Err TooLong) r ≡ Ok m → r ≡ Ok m
@@ -98,7 +99,7 @@ line_agrees : (ms : List check.Message) (text : List ℕ) (m : check.Message) (t
 line_agrees ms text m t l order h =
     let message : Message = record { moment = l.moment; said = said_of l.name l.whole } in
     let is : message_of text ≡ Some message = rw (l.tree, l.type, l.time) refl in
-    rw (l.some, is) (agrees_more ms m l.moment (said_of l.name l.whole) _ (matched l.name l.lasting l.whole m l.said) order h)
+    rw (l.some, is) (agrees_more ms m l.moment (said_of l.name l.whole) _ (matched l.name l.whole m l.lasting l.said) order h)
 
 -- ---- all lines
 

@@ -5,6 +5,7 @@ use Rattle.std.specs.Str.{bytes_eq}
 use Rattle.apply_json.specs.Tree.{◌>>=◌, text_of, tree_of}
 use Rattle.apply_check.specs.declared.messages.totals.Totals.{Totals}
 use Rattle.apply_view.specs.Laws.{message_in}
+use Rattle.apply_view.specs.Messages.{hook_text}
 use Rattle.apply_view.specs.Numbers.{completed_of}
 use Rattle.apply_view.specs.Steps.{ToldStep}
 
@@ -18,10 +19,17 @@ is_ephemeral name =
     bytes_eq name (codes "ephemeral_op_start")
     || (bytes_eq name (codes "ephemeral_op_complete") || bytes_eq name (codes "ephemeral_op_errored"))
 
--- the line is a message that tells a moment, and not about an ephemeral operation
+-- the action that it tells
+abbrev pub action_of : List ℕ → Option (List ℕ)
+action_of text = tree_of text >>= hook_text (codes "action")
+
+abbrev pub is_change : List ℕ → Bool
+is_change word = bytes_eq word (codes "create") || (bytes_eq word (codes "update") || bytes_eq word (codes "delete"))
+
+-- the line is a message that tells a moment, and an ephemeral operation is no create, update or delete
 pub record IsTimed (text : List ℕ) : Type 0 where
   pub message : is_some (message_in text) ≡ true
-  pub lasting : option_map_or is_ephemeral (type_of text) false ≡ false
+  pub lasting : option_map_or is_ephemeral (type_of text) false ≡ true → option_map_or is_change (action_of text) false ≡ false
 
 -- no step of that action is without an end
 abbrev pub AllEnded : (action : List ℕ) → List ToldStep → Type 0

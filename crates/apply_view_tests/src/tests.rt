@@ -81,16 +81,21 @@ const NUMBERS: &str = r#"
 0:V => busy 0 peak 0 work 0 alone
 "#;
 
+/// What a row says of a stream.
+#[derive(Clone, Copy)]
+enum Asked {
+    Steps,
+    Numbers,
+}
+
 /// Fails where something else becomes of a row than it says.
-fn row_is(
-    rt: &impl Abort,
-    alloc: Global,
-    row: &str,
-    said: fn(&Told, Global) -> Result<String, AllocError>,
-) {
+fn row_is(rt: &impl Abort, alloc: Global, row: &str, asked: Asked) {
     let (names, wanted) = row.split_once(" => ").expect(rt, "two cells");
     let told = told_of(rt, alloc, names);
-    let found = said(&told, alloc).expect(rt, "memory");
+    let found = match asked {
+        Asked::Steps => steps_said(&told, alloc).expect(rt, "memory"),
+        Asked::Numbers => numbers_said(&told, alloc).expect(rt, "memory"),
+    };
     assert_eq!(rt; found.as_str(), wanted, "{names}");
 }
 
@@ -158,14 +163,14 @@ fn numbers_said(told: &Told, alloc: Global) -> Result<String, AllocError> {
 #[test]
 fn steps(rt: HostRuntime) {
     for row in STEPS.trim().lines() {
-        row_is(&rt, rt.alloc(), row, steps_said);
+        row_is(&rt, rt.alloc(), row, Asked::Steps);
     }
 }
 
 #[test]
 fn numbers(rt: HostRuntime) {
     for row in NUMBERS.trim().lines() {
-        row_is(&rt, rt.alloc(), row, numbers_said);
+        row_is(&rt, rt.alloc(), row, Asked::Numbers);
     }
 }
 
