@@ -1,28 +1,16 @@
 -- Sums in loops that add up one after another.
-use Rattle.std.proofs.Common.{◌≡◌, ℕ, ◌+◌, ◌*◌, ◌^◌, ◌<◌, ◌≤◌, List, [], ◌∷◌, Bool, true, false, cond, max, take, drop, length, get_or, refl, sym, ap, ◌∙◌, ⊎_elim, arith}
+use Rattle.std.proofs.Common.{◌≡◌, ℕ, ◌+◌, ◌<◌, ◌≤◌, List, [], ◌∷◌, true, false, cond, take, length, get_or, ⊎_elim, arith}
 use Rattle.std.specs.List.{sum_by}
 use Rattle.std.proofs.lemmas.Bool.{cases_Bool}
-use Rattle.std.proofs.lemmas.List.{at_drop_more, get_or_past}
+use Rattle.std.proofs.lemmas.List.{get_or_past}
 use Rattle.std.proofs.lemmas.List.Sums.{get_or-le-sum_by, sum_by-cons, sum_by_more, sum_by-take-le}
 use Rattle.apply_view.specs.declared.numbers.stretch.Stretch.{Stretch}
-use Rattle.apply_view.specs.Numbers.{alone_in, is_alone, peak_in, stretch_length}
+use Rattle.apply_view.specs.Numbers.{alone_in, is_alone, stretch_length}
 
 -- what a part of a sum has, and one more, are no more than the whole
 pub one_more_le : {X : Type 0} (f : X → ℕ) (xs : List X) (i : ℕ) (d : X) (n : ℕ) → i < length xs → n ≤ sum_by f (take i xs)
     → n + f (get_or xs i d) ≤ sum_by f xs
 one_more_le f xs i d n l h = omega (arith, sum_by_more f xs i d l, sum_by-take-le f xs (i + 1))
-
-pub bound_more : {X : Type 0} (f : X → ℕ) (xs : List X) (i : ℕ) (d : X) (n : ℕ) → i < length xs → n ≤ sum_by f (take i xs)
-    → n + f (get_or xs i d) ≤ sum_by f (take (i + 1) xs)
-bound_more f xs i d n l h = omega (arith, sum_by_more f xs i d l)
-
-pub max_assoc : (a b c : ℕ) → max (max a b) c ≡ max a (max b c)
-max_assoc a b c = omega arith
-
--- the greatest so far and those to come
-pub peak_more : (ss : List Stretch) (i : ℕ) (d : Stretch) (n : ℕ) → i < length ss
-    → max n (peak_in (drop i ss)) ≡ max (max n (get_or ss i d).number) (peak_in (drop (i + 1) ss))
-peak_more ss i d n l = rw (at_drop_more peak_in ss i d l) (sym (max_assoc n (get_or ss i d).number (peak_in (drop (i + 1) ss))))
 
 -- how long a step was alone is part of all lengths
 alone_le : (place : ℕ) (ss : List Stretch) → alone_in place ss ≤ sum_by stretch_length ss

@@ -1,5 +1,5 @@
 -- What stands at a place of a list.
-use Rattle.std.proofs.Common.{◌≡◌, ℕ, ◌<◌, ◌≤◌, List, [], ◌∷◌, Bool, true, false, length, get_or, set, suc, zero, refl, sym, ap, ◌∙◌, arith}
+use Rattle.std.proofs.Common.{◌≡◌, ℕ, ◌<◌, ◌≤◌, List, [], ◌∷◌, Bool, false, length, get_or, set, suc, zero, refl, sym, ap, ◌∙◌, arith}
 use Rattle.apply_view.specs.Steps.{at_place, passes_at}
 
 pub at_place_get : {A : Type 0} (n : ℕ) (f : A → A) (xs : List A) (d : A) → n < length xs → at_place n f xs ≡ set xs n (f (get_or xs n d))

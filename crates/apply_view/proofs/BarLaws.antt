@@ -1,13 +1,13 @@
 -- What comes no later stands no further.
-use Rattle.std.proofs.Common.{◌≡◌, ℕ, ◌+◌, ◌-◌, ◌*◌, ◌/◌, ◌<◌, ◌≤◌, max, min, arith}
+use Rattle.std.proofs.Common.{ℕ, ◌+◌, ◌-◌, ◌*◌, ◌/◌, ◌<◌, ◌≤◌, max, arith}
 use Rattle.std.proofs.Math.Nat.{div-mul-le_self, mul_comm, mul-le-mul_left}
 use Rattle.std.proofs.lemmas.Nat.{le-div}
 use Rattle.apply_view.specs.Bars.{end_half, first_half, place_above, place_on}
 
-times_le : (n m d : ℕ) → n ≤ m → n * d ≤ m * d
+pub times_le : (n m d : ℕ) → n ≤ m → n * d ≤ m * d
 times_le n m d l = rw (mul_comm n d, mul_comm m d) (mul-le-mul_left d l)
 
-div_le : (a b k : ℕ) → 0 < k → a ≤ b → a / k ≤ b / k
+pub div_le : (a b k : ℕ) → 0 < k → a ≤ b → a / k ≤ b / k
 div_le a b k l h = le-div (a / k) b k l (omega (arith, div-mul-le_self a k))
 
 pub place_rises : (width span sooner later : ℕ) → sooner ≤ later → place_on width span sooner ≤ place_on width span later

@@ -1,24 +1,24 @@
 -- Intervals end no sooner than they begin, and the lengths of all stretches together have 64 bits.
-use Rattle.std.proofs.Common.{◌≡◌, ℕ, ◌+◌, ◌-◌, ◌^◌, ◌<◌, ◌≤◌, ℤ, pos, negsuc, List, [], ◌∷◌, Bool, true, false, cond, eqb, ltb, length, get_or, suc, refl, sym, ap, ◌∙◌, subst, ⊎_elim, arith, All}
+use Rattle.std.proofs.Common.{◌≡◌, ℕ, ◌+◌, ◌^◌, ◌<◌, ◌≤◌, ℤ, pos, negsuc, List, [], ◌∷◌, Bool, true, false, cond, eqb, ltb, length, get_or, suc, zero, ⊎_elim, arith, All}
 use Rattle.std.specs.Prelude.{int_lt, unwrap_or}
 use Rattle.std.specs.Int.{int_gap, int_max}
 use Rattle.std.specs.List.{AllByRecursion, sum_by}
 use Rattle.std.proofs.lemmas.Bool.{cases_Bool, ltb-false}
 use Rattle.std.proofs.lemmas.List.Elements.{recursion_from_All}
-use Rattle.std.proofs.lemmas.List.Sums.{sum_by-cons}
+use Rattle.std.proofs.lemmas.List.Sums.{sum_by-cons, sum_by-le-sum_by}
 use Rattle.apply_view.specs.declared.numbers.interval.Interval.{Interval}
 use Rattle.apply_view.specs.declared.numbers.stretch.Stretch.{Stretch}
 use Rattle.apply_view.specs.declared.told.moments.Moments.{Moments}
-use Rattle.apply_view.specs.Intervals.{interval_of, intervals_from, intervals_of, is_counted}
-use Rattle.apply_view.specs.Numbers.{stretch_length}
+use Rattle.apply_view.specs.Intervals.{intervals_from, intervals_of, is_counted}
+use Rattle.apply_view.specs.Numbers.{busy_in, stretch_length}
 use Rattle.apply_view.specs.Steps.{ToldStep}
-use Rattle.apply_view.specs.Stretches.{IsOrdered, IsSmallInterval, cuts, put, stretch_of, stretches_between, stretches_of}
-use Rattle.apply_view.proofs.Cuts.{Above, Ascends, cuts_ascend}
+use Rattle.apply_view.specs.Stretches.{AreInOrder, IsOrdered, IsSmallInterval, cuts, put, stretch_of, stretches_between, stretches_of}
+use Rattle.apply_view.proofs.Cuts.{Ascends, cuts_ascend}
 use Rattle.apply_view.proofs.Kept.{all_from}
 
 -- ---- an end is no sooner than its begin
 
-gap_rises : (f a x : ℤ) → int_lt x a ≡ false → int_gap f a ≤ int_gap f x
+pub gap_rises : (f a x : ℤ) → int_lt x a ≡ false → int_gap f a ≤ int_gap f x
 gap_rises (pos k) (pos m) (pos n) e = let le : m ≤ n = ltb-false n m e in omega arith
 gap_rises (negsuc k) (pos m) (pos n) e = let le : m ≤ n = ltb-false n m e in omega arith
 gap_rises f (pos m) (negsuc n) e = absurd cc
@@ -63,12 +63,15 @@ up_to_put m k (c ∷ cs) l h =
     (cases_Bool (eqb k c)))
     (cases_Bool (ltb k c))
 
-up_to_cuts : (m : ℕ) (is : List Interval) → AllByRecursion IsOrdered is → AllByRecursion IsSmallInterval is → 2 ^ 64 ≤ m + 1 → UpTo m (cuts is)
-up_to_cuts m [] o s l = tt
-up_to_cuts m (i ∷ is) o s l =
-    let end : i.end < 2 ^ 64 = s.0.end in
+abbrev pub EndsBy : ℕ → Interval → Type 0
+EndsBy m i = i.end ≤ m
+
+up_to_cuts : (m : ℕ) (is : List Interval) → AllByRecursion IsOrdered is → AllByRecursion (EndsBy m) is → UpTo m (cuts is)
+up_to_cuts m [] o by = tt
+up_to_cuts m (i ∷ is) o by =
+    let end : i.end ≤ m = by.0 in
     let begin : i.begin ≤ i.end = o.0 in
-    up_to_put m i.begin (put i.end (cuts is)) (omega arith) (up_to_put m i.end (cuts is) (omega arith) (up_to_cuts m is o.1 s.1 l))
+    up_to_put m i.begin (put i.end (cuts is)) (omega arith) (up_to_put m i.end (cuts is) end (up_to_cuts m is o.1 by.1))
 
 lengths_between : (is : List Interval) (a : ℕ) (cs : List ℕ) (m : ℕ) → Ascends (a ∷ cs) → UpTo m (a ∷ cs)
     → sum_by stretch_length (stretches_between is (a ∷ cs)) + a ≤ m
@@ -82,7 +85,43 @@ lengths_to : (is : List Interval) (cs : List ℕ) (m : ℕ) → Ascends cs → U
 lengths_to is [] m up to = omega arith
 lengths_to is (a ∷ cs) m up to = let all = lengths_between is a cs m up to in omega arith
 
+pub lengths_within : (m : ℕ) (is : List Interval) → All IsOrdered is → AllByRecursion (EndsBy m) is → sum_by stretch_length (stretches_of is) ≤ m
+lengths_within m is o by = lengths_to is (cuts is) m (cuts_ascend is) (up_to_cuts m is (recursion_from_All IsOrdered is o) by)
+
+small_end : (is : List Interval) → AllByRecursion IsSmallInterval is → AllByRecursion (EndsBy 18446744073709551615) is
+small_end [] s = tt
+small_end (i ∷ is) s = (let end = s.0.end in omega arith, small_end is s.1)
+
 pub lengths_fit : (is : List Interval) → All IsOrdered is → All IsSmallInterval is → sum_by stretch_length (stretches_of is) < 2 ^ 64
-lengths_fit is o s =
-    let all = lengths_to is (cuts is) 18446744073709551615 (cuts_ascend is) (up_to_cuts 18446744073709551615 is (recursion_from_All IsOrdered is o) (recursion_from_All IsSmallInterval is s) (omega arith)) in
-    omega (arith, all)
+lengths_fit is o s = let all = lengths_within 18446744073709551615 is o (small_end is (recursion_from_All IsSmallInterval is s)) in omega (arith, all)
+
+-- some step is under way in no more than all of them
+pub busy_le_lengths : (ss : List Stretch) → busy_in ss ≤ sum_by stretch_length ss
+busy_le_lengths ss = sum_by-le-sum_by (λ (s : Stretch). cond (ltb 0 s.number) (stretch_length s) 0) stretch_length ss (λ s. part_le (ltb 0 s.number) (stretch_length s)) where
+  part_le : (b : Bool) (n : ℕ) → cond b n 0 ≤ n
+  part_le true n = omega arith
+  part_le false n = omega arith
+
+-- ---- none begins sooner than those before it
+
+begins_from : (is : List Interval) (a : ℕ) (cs : List ℕ) → Ascends (a ∷ cs) → (k : ℕ) (d : Stretch) → k < length (stretches_between is (a ∷ cs)) → a ≤ (get_or (stretches_between is (a ∷ cs)) k d).begin
+begins_from is a [] up k d l = absurd (omega arith)
+begins_from is a (b ∷ cs) up zero d l = omega arith
+begins_from is a (b ∷ cs) up (suc k) d l =
+    let rest = begins_from is b cs up.1 k d (omega arith) in
+    let less : a < b = up.0.0 in
+    omega (arith, rest)
+
+between_in_order : (is : List Interval) (a : ℕ) (cs : List ℕ) → Ascends (a ∷ cs) → (i j : ℕ) (d : Stretch) → i ≤ j → j < length (stretches_between is (a ∷ cs))
+    → (get_or (stretches_between is (a ∷ cs)) i d).begin ≤ (get_or (stretches_between is (a ∷ cs)) j d).begin
+between_in_order is a [] up i j d le l = absurd (omega arith)
+between_in_order is a (b ∷ cs) up zero j d le l = begins_from is a (b ∷ cs) up j d l
+between_in_order is a (b ∷ cs) up (suc i) zero d le l = absurd (omega arith)
+between_in_order is a (b ∷ cs) up (suc i) (suc j) d le l = between_in_order is b cs up.1 i j d (omega arith) (omega arith)
+
+in_order_between : (is : List Interval) (cs : List ℕ) → Ascends cs → AreInOrder (stretches_between is cs)
+in_order_between is [] up = λ i j d le l. absurd (omega arith)
+in_order_between is (a ∷ cs) up = between_in_order is a cs up
+
+pub stretches_in_order : (is : List Interval) → AreInOrder (stretches_of is)
+stretches_in_order is = in_order_between is (cuts is) (cuts_ascend is)

@@ -1,11 +1,15 @@
 -- The first and the last place of steps that pass a test.
-use Rattle.std.proofs.Common.{◌≡◌, ℕ, ◌+◌, ◌-◌, ◌<◌, ◌≤◌, List, [], ◌∷◌, Bool, true, false, cond, length, get_or, take, drop, Option, Some, None, suc, zero, refl, sym, ap, ◌∙◌, subst, ⊎_elim, arith}
-use Rattle.std.specs.Prelude.{◌&&◌, slice_get}
+use Rattle.std.proofs.Common.{◌≡◌, ℕ, ◌+◌, ◌-◌, ◌<◌, ◌≤◌, List, [], ◌∷◌, Bool, true, false, length, get_or, drop, Some, None, suc, refl, sym, ap, ◌∙◌, ⊎_elim, arith}
+use Rattle.std.specs.Prelude.{◌&&◌}
 use Rattle.std.specs.List.{filter}
 use Rattle.std.specs.Str.{bytes_eq}
 use Rattle.std.proofs.lemmas.Bool.{cases_Bool}
 use Rattle.std.proofs.lemmas.List.{at_drop_more, at_drop_all}
+use Rattle.apply_view.specs.declared.told.viewer.Viewer.{Viewer}
+use Rattle.apply_view.specs.OpenPlaces.{places_at}
 use Rattle.apply_view.specs.Steps.{ToldStep, first_of, is_open_at, is_open_with, last_of, passes_at, places, places_from}
+use Rattle.apply_view.specs.Telling.{Telling}
+use Rattle.apply_view.specs.Viewing.{Takes}
 
 -- ---- of those that pass one test, those that pass another too
 
@@ -68,13 +72,9 @@ open_with address action steps =
 
 -- ---- a loop that looks for the first
 
-pub look_on : (test : ℕ → Bool) (ps : List ℕ) (i : ℕ) → i < length ps → test (get_or ps i 0) ≡ false
-    → first_of (filter test (drop i ps)) ≡ first_of (filter test (drop (i + 1) ps))
-look_on test ps i l out = at_drop_more (λ xs. first_of (filter test xs)) ps i 0 l ∙ (rw out refl)
-
 pub look_found : (test : ℕ → Bool) (ps : List ℕ) (i : ℕ) → i < length ps → test (get_or ps i 0) ≡ true
     → first_of (filter test (drop i ps)) ≡ Some (get_or ps i 0)
-look_found test ps i l yes = at_drop_more (λ xs. first_of (filter test xs)) ps i 0 l ∙ (rw yes refl)
+look_found test ps i l passes = at_drop_more (λ xs. first_of (filter test xs)) ps i 0 l ∙ (rw passes refl)
 
 pub look_all : (test : ℕ → Bool) (ps : List ℕ) (i : ℕ) → length ps ≤ i → first_of (filter test (drop i ps)) ≡ None
 look_all test ps i l = at_drop_all (λ xs. first_of (filter test xs)) ps i l
@@ -89,6 +89,30 @@ last_get (p ∷ (q ∷ ps)) l =
     let f : suc (length ps) - 1 ≡ length ps = omega arith in
     last_get (q ∷ ps) (omega arith) ∙ (ap (λ n. Some (get_or (q ∷ ps) n 0)) f ∙ ap (λ n. Some (get_or (p ∷ (q ∷ ps)) n 0)) (sym e))
 
-pub last_none : (ps : List ℕ) → length ps ≤ 0 → last_of ps ≡ None
-last_none [] l = refl
-last_none (p ∷ ps) l = absurd (omega arith)
+-- ---- as a viewer looks them up
+
+-- what it has at an address are the places of the steps that are open there
+looked_up : (viewer : Viewer) (t : Telling) (a : List ℕ) (ps : List ℕ) → Takes viewer t → ps ≡ places_at viewer.opened a → ps ≡ places (is_open_at a) t.steps
+looked_up viewer t a ps h is = is ∙ h.places a
+
+among_open : (viewer : Viewer) (t : Telling) (a action ps : List ℕ) → Takes viewer t → ps ≡ places_at viewer.opened a
+    → filter (has_action action viewer.told.steps) ps ≡ places (is_open_with a action) t.steps
+among_open viewer t a action ps h is =
+    ap (λ (x : Telling). filter (has_action action x.steps) ps) h.is
+    ∙ (ap (λ qs. filter (has_action action t.steps) qs) (looked_up viewer t a ps h is) ∙ sym (open_with a action t.steps))
+
+pub first_found : (viewer : Viewer) (t : Telling) (a action ps : List ℕ) (i : ℕ) → Takes viewer t → ps ≡ places_at viewer.opened a → i < length ps
+    → first_of (filter (has_action action viewer.told.steps) (drop i ps)) ≡ first_of (filter (has_action action viewer.told.steps) ps)
+    → has_action action viewer.told.steps (get_or ps i 0) ≡ true → Some (get_or ps i 0) ≡ first_of (places (is_open_with a action) t.steps)
+first_found viewer t a action ps i h is l none passes =
+    sym (look_found (has_action action viewer.told.steps) ps i l passes) ∙ (none ∙ ap first_of (among_open viewer t a action ps h is))
+
+pub first_none : (viewer : Viewer) (t : Telling) (a action ps : List ℕ) (i : ℕ) → Takes viewer t → ps ≡ places_at viewer.opened a → length ps ≤ i
+    → first_of (filter (has_action action viewer.told.steps) (drop i ps)) ≡ first_of (filter (has_action action viewer.told.steps) ps)
+    → None ≡ first_of (places (is_open_with a action) t.steps)
+first_none viewer t a action ps i h is l none =
+    sym (look_all (has_action action viewer.told.steps) ps i l) ∙ (none ∙ ap first_of (among_open viewer t a action ps h is))
+
+pub last_found : (viewer : Viewer) (t : Telling) (a ps : List ℕ) → Takes viewer t → ps ≡ places_at viewer.opened a → 0 < length ps
+    → Some (get_or ps (length ps - 1) 0) ≡ last_of (places (is_open_at a) t.steps)
+last_found viewer t a ps h is some = sym (last_get ps some) ∙ ap last_of (looked_up viewer t a ps h is)

@@ -1,7 +1,6 @@
 -- What is known of a viewer, one thing told after another.
-use Rattle.std.proofs.Common.{◌≡◌, ℕ, ◌+◌, ◌<◌, ◌≤◌, ℤ, List, [], ◌∷◌, ◌++◌, Bool, true, false, cond, length, get_or, map, min, Option, Some, None, suc, zero, refl, sym, ap, ap₂, ◌∙◌, subst, ⊎_elim, arith}
+use Rattle.std.proofs.Common.{◌≡◌, ℕ, ◌+◌, ◌<◌, ◌≤◌, ℤ, List, [], ◌∷◌, ◌++◌, Bool, true, false, cond, length, min, Some, suc, zero, refl, sym, ap, ap₂, ◌∙◌, subst, ⊎_elim, arith}
 use Rattle.std.specs.Prelude.{◌&&◌, not, is_none}
-use Rattle.std.specs.Option.{option_map_or}
 use Rattle.std.specs.Str.{bytes_eq}
 use Rattle.std.proofs.lemmas.Bool.{cases_Bool, and_parts}
 use Rattle.std.proofs.lemmas.List.{append-nil}
@@ -9,8 +8,8 @@ use Rattle.std.proofs.lemmas.Slice.Eq.{bytes_eq-Decides}
 use Rattle.apply_view.specs.declared.told.viewer.Viewer.{Viewer}
 use Rattle.apply_view.specs.Details.{ToldDiagnostic}
 use Rattle.apply_view.specs.OpenPlaces.{places_at, without}
-use Rattle.apply_view.specs.Steps.{ToldStep, at_place, begun_step, ended, first_of, is_open_at, is_open_with, last_of, marked, marked_by_error, passes_at, places, places_from, provisions, with_provisioner, with_provisioner_ended}
-use Rattle.apply_view.specs.Telling.{KeptDiagnostics, Telling, max_lines, max_steps, with_begin, with_diagnostic, with_end, with_passed, with_provisioner_begin, with_provisioner_end, with_provisioner_end_at}
+use Rattle.apply_view.specs.Steps.{ToldStep, at_place, begun_step, ended, first_of, is_open_at, is_open_with, last_of, passes_at, places, places_from, provisions, with_provisioner, with_provisioner_ended}
+use Rattle.apply_view.specs.Telling.{KeptDiagnostics, Telling, max_lines, with_begin, with_diagnostic, with_end, with_provisioner_begin, with_provisioner_end}
 use Rattle.apply_view.specs.Viewing.{HasTold, Takes, added}
 use Rattle.apply_view.proofs.Places.{places_apart, places_kept, places_left, places_push}
 
@@ -38,14 +37,6 @@ held old new t u h is at lines passed errors warnings = record {
 pub less : (n m : ℕ) → n < m → n ≤ m
 less n m l = omega arith
 
--- a line is passed over
-pub passed_held : (old new : Viewer) (t : Telling) → Takes old t → new.told ≡ record old.told { passed = min (old.told.passed + 1) 18446744073709551615 }
-    → ((a : List ℕ) → places_at new.opened a ≡ places_at old.opened a) → HasTold new (with_passed t)
-passed_held old new t h is at =
-    let told : record old.told { passed = min (old.told.passed + 1) 18446744073709551615 } ≡ with_passed t =
-    ap (λ (x : Telling). record x { passed = min (x.passed + 1) 18446744073709551615 }) h.is ∙ ap (λ (n : ℕ). record t { passed = n }) (capped t.passed t.lines h.passed h.lines) in
-    held old new t (with_passed t) h (is ∙ told) (λ a. at a ∙ h.places a) refl (omega (arith, h.passed)) (less _ _ h.errors) (less _ _ h.warnings)
-
 -- what is told changes neither the steps nor the counts
 pub kept_held : (old new : Viewer) (t u : Telling) → Takes old t → new.told ≡ u → ((a : List ℕ) → places_at new.opened a ≡ places_at old.opened a)
     → ((a : List ℕ) → places (is_open_at a) u.steps ≡ places (is_open_at a) t.steps) → u.lines ≡ t.lines → u.passed ≡ t.passed → u.errors.count ≤ t.lines → u.warnings.count ≤ t.lines
@@ -54,9 +45,6 @@ kept_held old new t u h is at same lines passed errors warnings =
     held old new t u h is (λ a. at a ∙ (h.places a ∙ sym (same a))) lines (rw passed (less _ _ h.passed)) errors warnings
 
 -- ---- a step begins
-
-begun_open : (a address action : List ℕ) (line : ℕ) (m : ℤ) → is_open_at a (begun_step line address action m) ≡ bytes_eq address a
-begun_open a address action line m = refl
 
 add_zero : (n : ℕ) → 0 + n ≡ n
 add_zero n = omega arith
@@ -89,17 +77,17 @@ passes_weaker p q w zero (x ∷ xs) h = w x h
 passes_weaker p q w (suc n) (x ∷ xs) h = passes_weaker p q w n xs h
 
 -- the first of the places from n on is that many behind
-first_passes : (p : ToldStep → Bool) (n k : ℕ) (xs : List ToldStep) → first_of (places_from n p xs) ≡ Some k → (j : ℕ) × (k ≡ n + j) × (passes_at j p xs ≡ true)
+pub first_passes : (p : ToldStep → Bool) (n k : ℕ) (xs : List ToldStep) → first_of (places_from n p xs) ≡ Some k → (j : ℕ) × (k ≡ n + j) × (passes_at j p xs ≡ true)
 first_passes p n k [] e = absurd cc
 first_passes p n k (x ∷ xs) e =
     ⊎_elim
     (λ (yes : p x ≡ true).
     let here : Some n ≡ Some k = rw yes at e in
     let same : n ≡ k = cc in
-    (0, (omega arith, yes)))
+    (0, omega arith, yes))
     (λ (out : p x ≡ false).
     let there = first_passes p (n + 1) k xs (rw out at e) in
-    (suc there.0, (omega (arith, there.1), there.2)))
+    (suc there.0, omega (arith, there.1), there.2))
     (cases_Bool (p x))
 
 other_address : (a b : List ℕ) (s : ToldStep) → bytes_eq a b ≡ false → is_open_at a s ≡ true → is_open_at b s ≡ false
@@ -139,12 +127,6 @@ end_held old new t address action failed m k h e is at =
     (λ b. at b ∙ (ap (λ (ps : List ℕ). cond (bytes_eq address b) (without k ps) ps) (h.places b) ∙ sym (ended_places address action failed m t.steps k e b)))
     refl (less _ _ h.passed) (less _ _ h.errors) (less _ _ h.warnings))
 
-pub no_end_held : (old new : Viewer) (t : Telling) (address action : List ℕ) (failed : Bool) (m : ℤ) → Takes old t
-    → first_of (places (is_open_with address action) t.steps) ≡ None
-    → new.told ≡ record old.told { passed = min (old.told.passed + 1) 18446744073709551615 }
-    → ((a : List ℕ) → places_at new.opened a ≡ places_at old.opened a) → HasTold new (with_end address action failed m t)
-no_end_held old new t address action failed m h e is at = rw e (passed_held old new t h is at)
-
 -- ---- provisioners
 
 pub provisioner_begun_held : (old new : Viewer) (t : Telling) (address name : List ℕ) (m : ℤ) (k : ℕ) → Takes old t
@@ -157,12 +139,6 @@ provisioner_begun_held old new t address name m k h e is at =
     (is ∙ ap (λ (x : Telling). record x { steps = at_place k (with_provisioner name m) x.steps; begun = x.begun + 1 }) h.is) at
     (λ a. places_kept (is_open_at a) (with_provisioner name m) (λ s. refl) 0 k t.steps) refl refl (less _ _ h.errors) (less _ _ h.warnings))
 
-pub no_step_held : (old new : Viewer) (t : Telling) (address name : List ℕ) (m : ℤ) → Takes old t
-    → last_of (places (is_open_at address) t.steps) ≡ None
-    → new.told ≡ record old.told { passed = min (old.told.passed + 1) 18446744073709551615 }
-    → ((a : List ℕ) → places_at new.opened a ≡ places_at old.opened a) → HasTold new (with_provisioner_begin address name m t)
-no_step_held old new t address name m h e is at = rw e (passed_held old new t h is at)
-
 pub provisioner_ended_held : (old new : Viewer) (t : Telling) (address : List ℕ) (failed : Bool) (m : ℤ) (k : ℕ) → Takes old t
     → last_of (places (is_open_at address) t.steps) ≡ Some k → passes_at k provisions old.told.steps ≡ true
     → new.told ≡ record old.told { steps = at_place k (with_provisioner_ended m failed) old.told.steps }
@@ -173,17 +149,3 @@ provisioner_ended_held old new t address failed m k h e passes is at =
     (kept_held old new t (record t { steps = at_place k (with_provisioner_ended m failed) t.steps }) h
     (is ∙ ap (λ (x : Telling). record x { steps = at_place k (with_provisioner_ended m failed) x.steps }) h.is) at
     (λ a. places_kept (is_open_at a) (with_provisioner_ended m failed) (λ s. refl) 0 k t.steps) refl refl (less _ _ h.errors) (less _ _ h.warnings))
-
-pub no_provisioner_held : (old new : Viewer) (t : Telling) (address : List ℕ) (failed : Bool) (m : ℤ) (k : ℕ) → Takes old t
-    → last_of (places (is_open_at address) t.steps) ≡ Some k → passes_at k provisions old.told.steps ≡ false
-    → new.told ≡ record old.told { passed = min (old.told.passed + 1) 18446744073709551615 }
-    → ((a : List ℕ) → places_at new.opened a ≡ places_at old.opened a) → HasTold new (with_provisioner_end address failed m t)
-no_provisioner_held old new t address failed m k h e passes is at =
-    let there : passes_at k provisions t.steps ≡ false = ap (λ (x : Telling). passes_at k provisions x.steps) (sym h.is) ∙ passes in
-    rw (e, there) (passed_held old new t h is at)
-
-pub no_step_end_held : (old new : Viewer) (t : Telling) (address : List ℕ) (failed : Bool) (m : ℤ) → Takes old t
-    → last_of (places (is_open_at address) t.steps) ≡ None
-    → new.told ≡ record old.told { passed = min (old.told.passed + 1) 18446744073709551615 }
-    → ((a : List ℕ) → places_at new.opened a ≡ places_at old.opened a) → HasTold new (with_provisioner_end address failed m t)
-no_step_end_held old new t address failed m h e is at = rw e (passed_held old new t h is at)

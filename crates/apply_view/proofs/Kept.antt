@@ -1,10 +1,10 @@
 -- What a sweep keeps of the edges so far, and that the stretch it gives is the one that is defined.
-use Rattle.std.proofs.Common.{◌≡◌, ℕ, ◌+◌, ◌-◌, ◌*◌, ◌^◌, ◌<◌, ◌≤◌, List, [], ◌∷◌, ◌++◌, Bool, true, false, cond, eqb, leb, ltb, map, length, take, drop, get_or, Option, Some, None, refl, sym, ap, ap₂, ◌∙◌, subst, ⊎_elim, arith, All, suc, zero}
-use Rattle.std.specs.Prelude.{◌&&◌, ◌||◌, not}
+use Rattle.std.proofs.Common.{◌≡◌, ℕ, ◌+◌, ◌-◌, ◌^◌, ◌<◌, ◌≤◌, List, [], ◌∷◌, ◌++◌, Bool, true, false, cond, eqb, leb, map, length, take, drop, get_or, Option, Some, None, refl, sym, ap, ap₂, ◌∙◌, subst, ⊎_elim, arith, All, suc, zero}
+use Rattle.std.specs.Prelude.{◌||◌, not}
 use Rattle.std.specs.List.{AllByRecursion, count_by, filter, list_any, sum_by}
 use Rattle.std.specs.List.Sorted.{IsNonDecreasingBy, IsPermutation}
-use Rattle.std.proofs.lemmas.Bool.{cases_Bool, cases_lt, le-ltb, lt-ltb, ltb-true, ltb-false, ne_eqb, eq-eqb}
-use Rattle.std.proofs.lemmas.List.{drop_more, map-append, take-append-drop, take_all, take_more}
+use Rattle.std.proofs.lemmas.Bool.{cases_Bool, cases_lt, le-ltb, lt-ltb, ne_eqb, eq-eqb}
+use Rattle.std.proofs.lemmas.List.{drop_more, map-append, take-append-drop}
 use Rattle.std.proofs.lemmas.List.Elements.{recursion_from_All}
 use Rattle.std.proofs.lemmas.List.Sorted.{All-permutation, IsPermutation-sym, list_any-IsPermutation, sum_by-IsPermutation}
 use Rattle.std.proofs.lemmas.List.Sums.{length-filter, sum_by_push}
@@ -12,10 +12,10 @@ use Rattle.apply_view.specs.declared.numbers.edge.Edge.{Edge}
 use Rattle.apply_view.specs.declared.numbers.interval.Interval.{Interval}
 use Rattle.apply_view.specs.declared.numbers.running.Running.{Running}
 use Rattle.apply_view.specs.declared.numbers.stretch.Stretch.{Stretch}
-use Rattle.apply_view.specs.Edges.{begin_of, edges_of, end_of}
+use Rattle.apply_view.specs.Edges.{edges_of}
 use Rattle.apply_view.specs.Steps.{last_of}
 use Rattle.apply_view.specs.Stretches.{IsOrdered, IsSmallInterval, cuts, is_under_way, only_place, stretch_of, stretches_of}
-use Rattle.apply_view.specs.Sweeping.{IsReady, IsSmall, next_running, pushed, running_stretch}
+use Rattle.apply_view.specs.Sweeping.{IsReady, next_running, pushed, running_stretch}
 use Rattle.apply_view.proofs.Cuts.{has, has_cuts}
 use Rattle.apply_view.proofs.Sums.{AllApart, AllBehind, AllBy, AllOrdered, begins_sum, edge_weight, ends_sum, filtered_sum, interval_weight, is_begin_by, is_end_by, only_sum, split_sum, under_way_sum, weighed}
 use Rattle.apply_view.proofs.Swept.{NoneBelow, Rises, swept, swept_all, swept_more}
@@ -162,9 +162,6 @@ difference w is a done e rest h last l =
 
 -- ---- the stretch
 
-count_weighed : (p : Interval → Bool) (is : List Interval) → count_by p is ≡ sum_by (weighed p (interval_weight one)) is
-count_weighed p is = refl
-
 places_weighed : (p : Interval → Bool) (is : List Interval) → sum_by (λ (i : Interval). i.place) (filter p is) ≡ sum_by (weighed p (interval_weight itself)) is
 places_weighed p is = filtered_sum p (λ i. i.place) is
 
@@ -272,9 +269,6 @@ kept_more is done e rest running stretches last h k = record {
   begun_places = next_begun_places e running ∙ sum_more is_begin itself done e running.begun_places k.begun_places;
   ended_places = next_ended_places e running ∙ sum_more is_end itself done e running.ended_places k.ended_places;
 }
-
-pub kept_none : (is : List Interval) → IsKept is [] (record { begun = 0; ended = 0; begun_places = 0; ended_places = 0 }) None []
-kept_none is = record { stretches = refl; last = refl; begun = refl; ended = refl; begun_places = refl; ended_places = refl }
 
 -- ---- at the end
 

@@ -1,5 +1,5 @@
 -- The provisioner that began last.
-use Rattle.std.proofs.Common.{◌≡◌, ℕ, ℤ, ◌-◌, ◌<◌, ◌≤◌, List, [], ◌∷◌, Bool, true, false, ◌+◌, ◌++◌, drop, length, get_or, map, set, suc, take, zero, refl, sym, ap, ◌∙◌, arith}
+use Rattle.std.proofs.Common.{◌≡◌, ℕ, ℤ, ◌-◌, ◌<◌, ◌≤◌, List, [], ◌∷◌, Bool, false, ◌+◌, ◌++◌, drop, length, get_or, map, set, suc, take, refl, sym, ap, ◌∙◌, arith}
 use Rattle.std.specs.Prelude.{is_none}
 use Rattle.std.proofs.lemmas.List.Edits.{map_over_more}
 use Rattle.apply_view.specs.Steps.{ToldProvisioner, ended_provisioner, ended_with_step, last_is_open, with_last_ended}

@@ -1,5 +1,5 @@
 -- An error marks the steps that are open at its address.
-use Rattle.std.proofs.Common.{◌≡◌, ℕ, ◌+◌, ◌<◌, ◌≤◌, List, [], ◌∷◌, ◌++◌, Bool, true, false, cond, length, map, Option, Some, None, suc, zero, refl, sym, ap, ap₂, ◌∙◌, subst, ⊎_elim, arith}
+use Rattle.std.proofs.Common.{◌≡◌, ℕ, ◌+◌, List, [], ◌∷◌, ◌++◌, true, false, length, map, Option, Some, None, refl, sym, ap, ◌∙◌, subst, ⊎_elim, arith}
 use Rattle.std.proofs.lemmas.Bool.{cases_Bool}
 use Rattle.std.proofs.lemmas.List.{append_assoc}
 use Rattle.apply_view.specs.declared.told.viewer.Viewer.{Viewer}
@@ -28,8 +28,8 @@ marked_behind a front (x ∷ xs) =
     let rest = marked_behind a (front ++ marked x ∷ []) xs in
     let there : marked_at (places_from (length front + 1) (is_open_at a) xs) ((front ++ marked x ∷ []) ++ xs) ≡ (front ++ marked x ∷ []) ++ map (marked_by_error (Some a)) xs =
     subst (λ (n : ℕ). marked_at (places_from n (is_open_at a) xs) ((front ++ marked x ∷ []) ++ xs) ≡ (front ++ marked x ∷ []) ++ map (marked_by_error (Some a)) xs) (one_on front (marked x)) rest in
-    rw (yes, at_front front x xs)
-    (ap (marked_at (places_from (length front + 1) (is_open_at a) xs)) (sym (append_assoc front (marked x ∷ []) xs)) ∙ (there ∙ append_assoc front (marked x ∷ []) (map (marked_by_error (Some a)) xs))))
+    rw yes
+    (ap (marked_at (places_from (length front + 1) (is_open_at a) xs)) (at_front front x xs ∙ sym (append_assoc front (marked x ∷ []) xs)) ∙ (there ∙ append_assoc front (marked x ∷ []) (map (marked_by_error (Some a)) xs))))
     (λ (out : is_open_at a x ≡ false).
     let rest = marked_behind a (front ++ x ∷ []) xs in
     let there : marked_at (places_from (length front + 1) (is_open_at a) xs) ((front ++ x ∷ []) ++ xs) ≡ (front ++ x ∷ []) ++ map (marked_by_error (Some a)) xs =

@@ -1,16 +1,16 @@
 -- Laws of the numbers.
-use Rattle.std.proofs.Common.{◌≡◌, ℕ, ◌+◌, ◌-◌, ◌*◌, ◌<◌, ◌≤◌, List, [], ◌∷◌, Bool, true, false, cond, eqb, leb, ltb, max, length, Option, Some, None, suc, zero, refl, sym, ap, ap₂, ◌∙◌, subst, ⊎_elim, arith, All}
+use Rattle.std.proofs.Common.{◌≡◌, ℕ, ◌+◌, ◌-◌, ◌*◌, ◌<◌, ◌≤◌, List, [], ◌∷◌, Bool, true, false, cond, eqb, leb, ltb, length, Option, Some, None, suc, zero, refl, sym, ap, ap₂, ◌∙◌, ⊎_elim, arith, All}
 use Rattle.std.specs.Prelude.{◌&&◌, ◌||◌}
 use Rattle.std.specs.List.{AllByRecursion, count_by, filter, sum_by}
 use Rattle.std.specs.Option.{option_map_or}
-use Rattle.std.proofs.lemmas.Bool.{cases_Bool, cases_lt, cases_order, eq-eqb, eqb-true, eqb-false, le-leb, lt-leb, lt-ltb, le-ltb, ltb-true, ltb-false, ne_eqb, or_cases}
+use Rattle.std.proofs.lemmas.Bool.{cases_Bool, cases_order, eq-eqb, eqb-true, le-leb, lt-leb, lt-ltb, le-ltb, ltb-true, ltb-false, ne_eqb, or_cases}
 use Rattle.std.proofs.lemmas.List.Elements.{recursion_from_All}
 use Rattle.std.proofs.lemmas.List.Sums.{length-filter, sum_by-cons}
 use Rattle.std.proofs.Math.Nat.{add-mul, mul_comm, mul-add, mul-le-mul_left, suc-mul}
 use Rattle.apply_view.specs.declared.numbers.interval.Interval.{Interval}
 use Rattle.apply_view.specs.declared.numbers.stretch.Stretch.{Stretch}
-use Rattle.apply_view.specs.Numbers.{alone_below, alone_in, busy_in, interval_length, is_alone, peak_in, stretch_length, work_of}
-use Rattle.apply_view.specs.Stretches.{IsOrdered, cuts, is_under_way, only_place, put, stretch_of, stretches_between, stretches_of}
+use Rattle.apply_view.specs.Numbers.{alone_below, busy_in, interval_length, is_alone, peak_in, stretch_length, work_of}
+use Rattle.apply_view.specs.Stretches.{IsOrdered, cuts, is_under_way, only_place, stretch_of, stretches_between, stretches_of}
 use Rattle.apply_view.proofs.Cuts.{Above, Ascends, cuts_ascend, has, has_cuts}
 
 -- ---- sums between neighbours

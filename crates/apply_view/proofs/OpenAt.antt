@@ -1,6 +1,5 @@
 -- The places of open steps at each address, when those of one address change.
-use Rattle.std.proofs.Common.{◌≡◌, ℕ, List, [], ◌∷◌, ◌++◌, Bool, true, false, cond, Option, Some, None, Vec, Global, refl, sym, ap, ◌∙◌, subst, ⊎_elim}
-use Rattle.std.specs.List.{filter}
+use Rattle.std.proofs.Common.{◌≡◌, ℕ, List, [], ◌∷◌, ◌++◌, true, false, cond, Option, Some, None, Vec, Global, refl, sym, ap, ◌∙◌, ⊎_elim}
 use Rattle.std.specs.Option.{option_map_or}
 use Rattle.std.specs.Str.{bytes_eq}
 use Rattle.std.proofs.lemmas.Bool.{cases_Bool}
@@ -40,18 +39,6 @@ one_less_at a place v w old new was n items o =
     (λ (other : bytes_eq a o ≡ false).
     let here : new o ≡ old o = n o ∙ ap (λ b. cond b (Some w) (old o)) other in
     rw (here, other) refl)
-    (cases_Bool (bytes_eq a o))
-
--- nothing stood at the address
-pub none_less_at : (a : List ℕ) (place : ℕ) (old new : List ℕ → Option (Vec ℕ Global)) → old a ≡ None → ((o : List ℕ) → new o ≡ old o)
-    → (o : List ℕ) → items_in (new o) ≡ cond (bytes_eq a o) (without place (items_in (old o))) (items_in (old o))
-none_less_at a place old new was n o =
-    ⊎_elim
-    (λ (yes : bytes_eq a o ≡ true).
-    let same : a ≡ o = (bytes_eq-Decides a o).0 yes in
-    let there : old o ≡ None = ap old (sym same) ∙ was in
-    rw (n o, there, yes) refl)
-    (λ (other : bytes_eq a o ≡ false). rw (n o, other) refl)
     (cases_Bool (bytes_eq a o))
 
 -- what was left at the address was nothing, and was taken away

@@ -1,10 +1,9 @@
 -- The places of steps that pass a test, when the steps change.
-use Rattle.std.proofs.Common.{◌≡◌, ℕ, ◌+◌, ◌<◌, ◌≤◌, List, [], ◌∷◌, ◌++◌, Bool, true, false, cond, eqb, length, get_or, Option, Some, None, map, suc, zero, refl, sym, ap, ap₂, ◌∙◌, subst, ⊎_elim, arith}
-use Rattle.std.specs.Prelude.{◌&&◌, ◌||◌, not}
-use Rattle.std.specs.List.{filter}
+use Rattle.std.proofs.Common.{◌≡◌, ℕ, ◌+◌, ◌<◌, ◌≤◌, List, [], ◌∷◌, ◌++◌, Bool, true, false, cond, eqb, length, map, suc, zero, refl, sym, ap, ◌∙◌, ⊎_elim, arith}
+use Rattle.std.specs.Prelude.{◌&&◌, not}
 use Rattle.std.proofs.lemmas.Bool.{cases_Bool, eq-eqb, ne_eqb}
 use Rattle.apply_view.specs.OpenPlaces.{without}
-use Rattle.apply_view.specs.Steps.{at_place, first_of, last_of, passes_at, places, places_from}
+use Rattle.apply_view.specs.Steps.{at_place, passes_at, places_from}
 
 -- ---- one more step
 

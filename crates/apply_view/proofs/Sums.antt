@@ -1,10 +1,8 @@
 -- Sums over intervals and over their edges.
-use Rattle.std.proofs.Common.{◌≡◌, ℕ, ◌+◌, ◌<◌, ◌≤◌, List, [], ◌∷◌, ◌++◌, Bool, true, false, cond, eqb, leb, map, length, Option, Some, None, refl, sym, ap, ◌∙◌, ⊎_elim, arith, All}
+use Rattle.std.proofs.Common.{◌≡◌, ℕ, ◌+◌, ◌<◌, ◌≤◌, List, [], ◌∷◌, ◌++◌, Bool, true, false, cond, eqb, leb, length, Some, None, refl, sym, ap, ◌∙◌, ⊎_elim, arith}
 use Rattle.std.specs.Prelude.{◌&&◌, not}
-use Rattle.std.specs.List.{count_by, filter, flat_map, sum_by}
-use Rattle.std.specs.List.Sorted.{IsPermutation}
-use Rattle.std.proofs.lemmas.Bool.{cases_lt, cases_Bool, le-leb, lt-leb, leb-true, leb-false, ne_eqb}
-use Rattle.std.proofs.lemmas.List.Sorted.{sum_by-IsPermutation}
+use Rattle.std.specs.List.{filter, sum_by}
+use Rattle.std.proofs.lemmas.Bool.{cases_lt, cases_Bool, le-leb, lt-leb, ne_eqb}
 use Rattle.std.proofs.lemmas.List.Sums.{sum_by-cons, sum_by-append}
 use Rattle.apply_view.specs.declared.numbers.edge.Edge.{Edge}
 use Rattle.apply_view.specs.declared.numbers.interval.Interval.{Interval}
@@ -49,9 +47,6 @@ one_weighed begin end a b w l o apart =
     (λ (begun : begin ≤ a). rw (le-leb begin a begun) (omega arith))
     (cases_lt a begin)))
     (cases_lt end b)
-
-add_swap : (a b c d : ℕ) → (a + b) + (c + d) ≡ (a + c) + (b + d)
-add_swap a b c d = omega arith
 
 pub under_way_sum : (w : ℕ → ℕ) (a b : ℕ) (is : List Interval) → a < b → AllOrdered is → AllApart a b is
     → sum_by (weighed (is_under_way a b) (interval_weight w)) is + sum_by (weighed (λ (i : Interval). leb i.end a) (interval_weight w)) is
@@ -134,7 +129,7 @@ only_sum [] = refl
 only_sum (i ∷ []) = let e : i.place ≡ 0 + i.place = omega arith in ap Some e
 only_sum (i ∷ (j ∷ is)) = rw (ne_eqb (length (i ∷ (j ∷ is))) 1 (λ e. omega arith)) refl
 
-pub filtered_sum : (p : Interval → Bool) (w : Interval → ℕ) (is : List Interval) → sum_by w (filter p is) ≡ sum_by (weighed p w) is
+pub filtered_sum : {X : Type 0} (p : X → Bool) (w : X → ℕ) (is : List X) → sum_by w (filter p is) ≡ sum_by (weighed p w) is
 filtered_sum p w [] = refl
 filtered_sum p w (i ∷ is) =
     ⊎_elim

@@ -1,14 +1,12 @@
 -- The stretches between moments in order, some of which may be the same.
-use Rattle.std.proofs.Common.{◌≡◌, ℕ, ◌+◌, ◌<◌, ◌≤◌, List, [], ◌∷◌, ◌++◌, Bool, true, false, cond, eqb, leb, map, Option, Some, None, refl, sym, ap, ◌∙◌, subst, ⊎_elim, arith}
+use Rattle.std.proofs.Common.{◌≡◌, ℕ, ◌<◌, ◌≤◌, List, [], ◌∷◌, ◌++◌, Bool, true, false, cond, eqb, Option, Some, None, refl, ap, ◌∙◌, subst, ⊎_elim, arith}
 use Rattle.std.specs.Prelude.{◌||◌}
-use Rattle.std.specs.List.{list_any}
-use Rattle.std.proofs.lemmas.Bool.{cases_Bool, eqb-true, eqb-false, cases_order, ne_eqb, eq-eqb}
-use Rattle.apply_view.specs.declared.numbers.edge.Edge.{Edge}
+use Rattle.std.proofs.lemmas.Bool.{cases_Bool, eqb-true, eqb-false, cases_order, ne_eqb}
 use Rattle.apply_view.specs.declared.numbers.interval.Interval.{Interval}
 use Rattle.apply_view.specs.declared.numbers.stretch.Stretch.{Stretch}
 use Rattle.apply_view.specs.Steps.{last_of}
 use Rattle.apply_view.specs.Stretches.{cuts, stretch_of, stretches_between, stretches_of}
-use Rattle.apply_view.proofs.Cuts.{Above, Ascends, cuts_ascend, has, has_cuts, same_ascending}
+use Rattle.apply_view.proofs.Cuts.{Above, Ascends, cuts_ascend, has, same_ascending}
 
 -- those behind a number that differ from the one before them
 abbrev pub behind : ℕ → List ℕ → List ℕ

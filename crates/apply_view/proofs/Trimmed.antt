@@ -3,9 +3,9 @@ use Rattle.std.proofs.Common.{◌≡◌, ℕ, ℤ, List, [], codes, Bool, true, 
 use Rattle.std.specs.Prelude.{option_map, unwrap_or}
 use Rattle.std.specs.Option.{option_map_or}
 use Rattle.serde_json.specs.Data.{Data, null, boolean, number, string, array, object}
-use Rattle.serde_json.specs.Find.{as_number, as_str, as_u64, get}
+use Rattle.serde_json.specs.Find.{as_number, as_u64, get}
 use Rattle.apply_json.specs.Parsed.{IsTrimmedTree}
-use Rattle.apply_json.specs.Tree.{◌>>=◌, member_of, text_of, tree_of, unless_null}
+use Rattle.apply_json.specs.Tree.{◌>>=◌, member_of, text_of, unless_null}
 use Rattle.apply_json.specs.Trimmed.{trimmed}
 use Rattle.apply_json.proofs.Trimmed.Lookups.{as_number_trimmed, get_trimmed, text_trimmed}
 use Rattle.apply_view.specs.declared.told.line_shape.LineShape.{LineShape}
@@ -68,11 +68,10 @@ count_same shape k d is =
 
 same_address : (d : Data) → address_of (trimmed line_selection Line d) ≡ address_of d
 same_address d =
-    ap (λ o. o >>= text_of (codes "addr")) refl
-    ∙ (assoc (member_of (codes "hook") (trimmed line_selection Line d)) (member_of (codes "resource")) (text_of (codes "addr"))
+    assoc (member_of (codes "hook") (trimmed line_selection Line d)) (member_of (codes "resource")) (text_of (codes "addr"))
     ∙ (member_same Line Hook (codes "hook") (λ hook. member_of (codes "resource") hook >>= text_of (codes "addr")) d refl
     (λ hook. member_same Hook Resource (codes "resource") (text_of (codes "addr")) hook refl (λ resource. text_same Resource (codes "addr") resource refl))
-    ∙ sym (assoc (member_of (codes "hook") d) (member_of (codes "resource")) (text_of (codes "addr")))))
+    ∙ sym (assoc (member_of (codes "hook") d) (member_of (codes "resource")) (text_of (codes "addr"))))
 
 same_action : (d : Data) → hook_text (codes "action") (trimmed line_selection Line d) ≡ hook_text (codes "action") d
 same_action d = member_same Line Hook (codes "hook") (text_of (codes "action")) d refl (λ hook. text_same Hook (codes "action") hook refl)
@@ -166,7 +165,3 @@ pub of_trimmed : (line : List ℕ) (tree : Data) (t : Telling) → IsTrimmedTree
 of_trimmed line tree t h =
     ap (λ (o : Option Message). with_message_or_passed o t)
     (ap tree_message h.2 ∙ (same_message h.0 ∙ ap (λ (o : Option Data). o >>= tree_message) (sym h.1)))
-
--- what is no tree is no message
-pub of_no_tree : (line : List ℕ) (t : Telling) → tree_of line ≡ None → with_message_or_passed None t ≡ with_message_or_passed (message_of line) t
-of_no_tree line t none = ap (λ (o : Option Data). with_message_or_passed (o >>= tree_message) t) (sym none)

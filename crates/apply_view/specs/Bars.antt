@@ -1,5 +1,6 @@
 -- Where on a line of so many places the moments of a stream stand.
-use Rattle.std.specs.Prelude.{ℕ, ◌+◌, ◌-◌, ◌*◌, ◌/◌, max, min, nat_lt, List, [], ◌∷◌, Bool, ◌&&◌, if◌then◌else◌}
+use Rattle.std.specs.Prelude.{ℕ, ◌+◌, ◌-◌, ◌*◌, ◌/◌, max, min, nat_lt, map, List, [], ◌∷◌, Bool, ◌&&◌, if◌then◌else◌}
+use Rattle.std.specs.List.{range_with_len}
 use Rattle.apply_view.specs.declared.numbers.stretch.Stretch.{Stretch}
 
 -- where a moment stands on a line of that width: so many places behind its begin; a rest is cut off
@@ -39,3 +40,7 @@ level_in begin end (s ∷ ss) = max (if reaches_into begin end s then s.number e
 
 abbrev pub level_of : List Stretch → (cells span cell : ℕ) → ℕ
 level_of stretches cells span cell = level_in (cell_begin cells span cell) (cell_end cells span cell) stretches
+
+-- in each of so many cells
+abbrev pub levels_of : List Stretch → (cells span : ℕ) → List ℕ
+levels_of stretches cells span = map (level_of stretches cells span) (range_with_len 0 cells)

@@ -1,7 +1,7 @@
 -- What is kept of the texts of diagnostics.
-use Rattle.std.specs.Prelude.{◌≡◌, ℕ, ◌+◌, ◌-◌, ◌==◌, ◌||◌, nat_le, List, [], ◌++◌, codes, Bool, if◌then◌else◌, length, map, take, drop, Option, None, unwrap_or}
+use Rattle.std.specs.Prelude.{ℕ, ◌+◌, ◌-◌, ◌==◌, ◌||◌, nat_le, List, [], ◌++◌, codes, Bool, if◌then◌else◌, length, map, take, drop, Option, unwrap_or}
 use Rattle.std.specs.List.{prefix_len, suffix_len}
-use Rattle.std.specs.Option.{option_map, option_map_or}
+use Rattle.std.specs.Option.{option_map}
 use Rattle.serde_json.specs.Data.{Data}
 use Rattle.serde_json.specs.Find.{as_number, as_u64}
 use Rattle.apply_json.specs.Tree.{◌>>=◌, member_of, text_of}

@@ -1,5 +1,5 @@
 -- The begins and ends of intervals, for private clauses.
-use Rattle.std.specs.Prelude.{ℕ, List, [], ◌∷◌, true, false}
+use Rattle.std.specs.Prelude.{List, [], ◌∷◌, true, false}
 use Rattle.std.specs.List.{flat_map}
 use Rattle.apply_view.specs.declared.numbers.edge.Edge.{Edge}
 use Rattle.apply_view.specs.declared.numbers.interval.Interval.{Interval}

@@ -1,7 +1,6 @@
 -- When steps were under way, in microseconds since the first moment of the stream.
-use Rattle.std.specs.Prelude.{ℕ, ◌+◌, ◌-◌, ℤ, List, [], ◌∷◌, Bool, ◌&&◌, ◌||◌, not, if◌then◌else◌, is_none, unwrap_or}
+use Rattle.std.specs.Prelude.{ℕ, ◌+◌, ℤ, List, [], ◌∷◌, Bool, ◌&&◌, not, if◌then◌else◌, is_none, unwrap_or}
 use Rattle.std.specs.Int.{int_gap, int_max}
-use Rattle.std.specs.List.{sum_by}
 use Rattle.apply_view.specs.declared.numbers.interval.Interval.{Interval}
 use Rattle.apply_view.specs.declared.told.moments.Moments.{Moments}
 use Rattle.apply_view.specs.Steps.{ToldStep}

@@ -3,6 +3,7 @@ pub mod Details
 pub mod Edges
 pub mod Faults
 pub mod Intervals
+pub mod Laws
 pub mod Lines
 pub mod Messages
 pub mod Moments

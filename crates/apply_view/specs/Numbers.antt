@@ -9,7 +9,7 @@ use Rattle.apply_view.specs.declared.numbers.measures.Numbers.{Numbers}
 use Rattle.apply_view.specs.declared.told.moments.Moments.{Moments}
 use Rattle.apply_view.specs.Intervals.{intervals_of}
 use Rattle.apply_view.specs.Steps.{ToldStep}
-use Rattle.apply_view.specs.Stretches.{stretches_of}
+use Rattle.apply_view.specs.Stretches.{AreInOrder, stretches_of}
 
 abbrev pub stretch_length : Stretch → ℕ
 stretch_length s = s.end - s.begin
@@ -52,6 +52,7 @@ completed_of action steps = count_by (is_completed action) steps
 -- the numbers of these steps, of a stream with these moments
 pub record IsNumbersOf (moments : Moments) (steps : List ToldStep) (numbers : Numbers) : Type 0 where
   pub stretches : numbers.stretches.items ≡ stretches_of (intervals_of moments steps)
+  pub in_order : AreInOrder numbers.stretches.items
   pub busy : numbers.busy ≡ busy_in (stretches_of (intervals_of moments steps))
   pub peak : numbers.peak ≡ peak_in (stretches_of (intervals_of moments steps))
   pub work : numbers.work ≡ work_of (intervals_of moments steps)

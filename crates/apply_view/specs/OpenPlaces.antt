@@ -1,5 +1,5 @@
 -- What contracts see of the places of open steps, for private clauses.
-use Rattle.std.specs.Prelude.{ℕ, ◌==◌, List, [], ◌∷◌, not, Option, Some, None}
+use Rattle.std.specs.Prelude.{ℕ, ◌==◌, List, [], not}
 use Rattle.std.specs.BTreeMap.{get_by_text}
 use Rattle.std.specs.List.{filter}
 use Rattle.std.specs.Option.{option_map_or}

@@ -1,6 +1,7 @@
 -- The stretches between the moments at which steps begin and end, and how many steps are under way in each.
 use Rattle.std.specs.Prelude.{ℕ, ◌<◌, ◌≤◌, ◌^◌, ◌==◌, nat_lt, nat_le, List, [], ◌∷◌, Bool, ◌&&◌, if◌then◌else◌, Option, Some, None}
 use Rattle.std.specs.List.{count_by, filter}
+use Rattle.std.specs.List.Sorted.{IsNonDecreasingBy}
 use Rattle.apply_view.specs.declared.numbers.interval.Interval.{Interval}
 use Rattle.apply_view.specs.declared.numbers.stretch.Stretch.{Stretch}
 
@@ -49,3 +50,7 @@ stretches_between is (a ∷ (b ∷ cs)) = stretch_of is a b ∷ stretches_betwee
 
 abbrev pub stretches_of : List Interval → List Stretch
 stretches_of is = stretches_between is (cuts is)
+
+-- none begins sooner than those before it
+abbrev pub AreInOrder : List Stretch → Type 0
+AreInOrder stretches = IsNonDecreasingBy (λ (s : Stretch). s.begin) stretches

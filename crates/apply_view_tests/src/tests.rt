@@ -6,6 +6,7 @@ use apply_view::{
     rows_of,
 };
 use std::alloc::{AllocError, Global};
+use std::io::{self, BufReader, ErrorKind, Read};
 use std::process::Abort;
 
 /// A line for each name; the number behind `@` is the second at which it comes.
@@ -80,16 +81,21 @@ const NUMBERS: &str = r#"
 0:V => busy 0 peak 0 work 0 alone
 "#;
 
+/// What a row says of a stream.
+#[derive(Clone, Copy)]
+enum Asked {
+    Steps,
+    Numbers,
+}
+
 /// Fails where something else becomes of a row than it says.
-fn row_is(
-    rt: &impl Abort,
-    alloc: Global,
-    row: &str,
-    said: fn(&Told, Global) -> Result<String, AllocError>,
-) {
+fn row_is(rt: &impl Abort, alloc: Global, row: &str, asked: Asked) {
     let (names, wanted) = row.split_once(" => ").expect(rt, "two cells");
     let told = told_of(rt, alloc, names);
-    let found = said(&told, alloc).expect(rt, "memory");
+    let found = match asked {
+        Asked::Steps => steps_said(&told, alloc).expect(rt, "memory"),
+        Asked::Numbers => numbers_said(&told, alloc).expect(rt, "memory"),
+    };
     assert_eq!(rt; found.as_str(), wanted, "{names}");
 }
 
@@ -157,14 +163,14 @@ fn numbers_said(told: &Told, alloc: Global) -> Result<String, AllocError> {
 #[test]
 fn steps(rt: HostRuntime) {
     for row in STEPS.trim().lines() {
-        row_is(&rt, rt.alloc(), row, steps_said);
+        row_is(&rt, rt.alloc(), row, Asked::Steps);
     }
 }
 
 #[test]
 fn numbers(rt: HostRuntime) {
     for row in NUMBERS.trim().lines() {
-        row_is(&rt, rt.alloc(), row, numbers_said);
+        row_is(&rt, rt.alloc(), row, Asked::Numbers);
     }
 }
 
@@ -209,6 +215,23 @@ fn rows(rt: HostRuntime) {
     assert_eq!(rt; rows.together, 1_000_000);
 }
 
+/// Behind the tenth row steps get none that take less than a 200th of the span; where there is no limit all get one.
+#[test]
+fn short_steps_get_ten_rows(rt: HostRuntime) {
+    let alloc = rt.alloc();
+    let short = " 3000:Ca 3001:ca".repeat(alloc, 11).expect(&rt, "memory");
+    let names = format!(in alloc; "0:Ca 3000:ca{short}").expect(&rt, "memory");
+    let told = told_of(&rt, alloc, names.as_str());
+    let rows = rows_of(alloc, moments_of(&told), told.steps(), Some(40)).expect(&rt, "memory");
+    assert_eq!(rt; rows.places.len(), 10);
+    assert_eq!(rt; rows.left_out, 2);
+    assert_eq!(rt; rows.longest, 1_000_000);
+    assert_eq!(rt; rows.together, 2_000_000);
+    let all = rows_of(alloc, moments_of(&told), told.steps(), None).expect(&rt, "memory");
+    assert_eq!(rt; all.places.len(), 12);
+    assert_eq!(rt; all.left_out, 0);
+}
+
 #[test]
 fn bars(rt: HostRuntime) {
     let halves = halves_of(10, 100, 0, 50);
@@ -230,6 +253,53 @@ fn levels(rt: HostRuntime) {
     let numbers = numbers_of(alloc, moments, told.steps()).expect(&rt, "memory");
     let levels = levels_of(alloc, &numbers.stretches, moments.span(), 5).expect(&rt, "memory");
     assert_eq!(rt; levels.as_slice(), [1, 1, 2, 1, 0].as_slice());
+}
+
+/// The last line needs no line feed, and what is no message is passed over, unless it is blank.
+#[test]
+fn streams(rt: HostRuntime) {
+    let alloc = rt.alloc();
+    let line = line_of(&rt, alloc, "Ca", 7);
+    let bytes = format!(in alloc; "\n{{}}\n{line}\nno message\n{line}").expect(&rt, "memory");
+    let told = read(alloc, &mut bytes.as_bytes()).expect(&rt, "a message");
+    assert_eq!(rt; told.lines(), 5);
+    assert_eq!(rt; told.passed(), 2);
+    assert_eq!(rt; told.steps().len(), 2);
+    for step in told.steps() {
+        assert!(rt; step.line() == 3 || step.line() == 5);
+    }
+}
+
+/// A reader that gives its bytes one by one, and fails behind them.
+#[derive(Drop)]
+struct Broken<'a> {
+    bytes: &'a [u8],
+}
+
+impl Read for Broken<'_> {
+    fn read(&mut self, buf: &mut [u8]) -> io::Result<usize> {
+        match self.bytes.split_first() {
+            Some((byte, rest)) if !buf.is_empty() => {
+                buf[0] = *byte;
+                self.bytes = rest;
+                Ok(1)
+            }
+            _ => Err(io::Error::from(ErrorKind::BrokenPipe)),
+        }
+    }
+}
+
+#[test]
+fn a_read_fails(rt: HostRuntime) {
+    let alloc = rt.alloc();
+    let line = line_of(&rt, alloc, "Ca", 7);
+    let broken = Broken {
+        bytes: line.as_bytes(),
+    };
+    let mut reader = BufReader::new(alloc, broken).expect(&rt, "memory");
+    let fault = read(alloc, &mut reader).err().expect(&rt, "a fault");
+    let said = format!(in alloc; "{fault}").expect(&rt, "memory");
+    assert_eq!(rt; said.as_str(), "the stream could not be read");
 }
 
 /// What is said where nothing is told.

@@ -1,6 +1,6 @@
 //! Which halves of the cells of a row a bar covers.
 
-ghost use Rattle.std.specs.Prelude.{◌≡◌, ◌<◌, ◌≤◌, ◌*◌, ◌^◌, ◌+◌};
+ghost use Rattle.std.specs.Prelude.{◌≡◌, ◌<◌, ◌≤◌, ◌*◌, ◌^◌, ◌+◌, ◌&&◌, nat_le, nat_lt};
 ghost use Rattle.apply_view.specs.Bars.{end_half, first_half};
 
 use crate::bars::scale::{place_above, place_on};
@@ -30,7 +30,9 @@ pub fn halves_of(cells: u32, span: u64, begin: u64, end: u64) -> Halves
 
 impl Halves {
     /// Whether that half is covered.
-    pub fn covers(self, half: u32) -> bool {
+    pub fn covers(self, half: u32) -> bool
+        ensures { result ≡ (nat_le self.first half && nat_lt half self.end) }
+    {
         self.first <= half as u128 && (half as u128) < self.end
     }
 }

@@ -1,13 +1,17 @@
 //! Which steps get a row.
 
-ghost use Rattle.std.specs.Prelude.{◌≡◌, ◌≤◌, length};
-ghost use Rattle.apply_view.specs.Rows.{longest, together};
+ghost use Rattle.std.specs.Prelude.{◌≡◌, ◌<◌, ◌≤◌, ◌==◌, ℕ, IfOk, All, false, get_or, length, true};
+ghost use Rattle.std.specs.List.{AllPairs, count_by};
+ghost use Rattle.std.specs.List.Sorted.{IsPermutation};
+ghost use Rattle.std.specs.Ordering.{is_lt};
+ghost use Rattle.apply_view.specs.Rows.{AreRanked, AreRowsOf, IsPrintedBefore, candidates_of, comes_before, gets_row, gets_row_within, longest, together};
+ghost use Rattle.apply_view.specs.declared.rows.candidate.Candidate.{Candidate as candidate};
 
 use crate::rows::candidate::Candidate;
 use crate::told::moments::Moments;
 use crate::told::step::Step;
 use std::alloc::{AllocError, Global};
-use std::cmp::Reverse;
+use std::cmp::Ordering;
 
 /// How many rows no step is too short for.
 const SURE_ROWS: usize = 10;
@@ -37,7 +41,9 @@ pub fn rows_of(
     moments: Moments,
     steps: &[Step],
     limit: Option<usize>,
-) -> Result<Rows, AllocError> {
+) -> Result<Rows, AllocError>
+    ensures { IfOk result (λ rows. AreRowsOf moments steps.now limit rows) }
+{
     let ranked = ranked(alloc, moments, steps)?;
     let count = chosen_count(&ranked, moments.span(), limit);
     Ok(Rows {
@@ -49,7 +55,10 @@ pub fn rows_of(
 }
 
 /// All steps in the order in which they get rows.
-fn ranked(alloc: Global, moments: Moments, steps: &[Step]) -> Result<Vec<Candidate>, AllocError> {
+fn ranked(alloc: Global, moments: Moments, steps: &[Step]) -> Result<Vec<Candidate>, AllocError>
+    ensures all { IfOk result (λ ranked. IsPermutation (candidates_of moments steps.now) ranked.items) }
+    ensures ordered { IfOk result (λ ranked. AreRanked ranked.items) }
+{
     let mut candidates = Vec::new(alloc);
     for (place, step) in steps.iter().enumerate() {
         candidates.push(Candidate {
@@ -58,27 +67,50 @@ fn ranked(alloc: Global, moments: Moments, steps: &[Step]) -> Result<Vec<Candida
             place,
         })?;
     }
-    candidates.sort_by_key(|c: &Candidate| (!c.marked, Reverse(c.length), c.place))?;
+    candidates.sort_by(|first: &Candidate, second: &Candidate| order_of(*first, *second))?;
     Ok(candidates)
+}
+
+/// Marked ones come first, then longer ones, then those of earlier lines.
+fn order_of(first: Candidate, second: Candidate) -> Ordering
+    ensures { is_lt result ≡ comes_before first second }
+{
+    if first.marked == second.marked {
+        second
+            .length
+            .cmp(&first.length)
+            .then(first.place.cmp(&second.place))
+    } else if first.marked {
+        Ordering::Less
+    } else {
+        Ordering::Greater
+    }
 }
 
 /// How many of the first get a row.
 fn chosen_count(ranked: &[Candidate], span: u64, limit: Option<usize>) -> usize
-    ensures { result ≤ length ranked.now }
+    ensures bound { result ≤ length ranked.now }
+    ensures before { (rank : ℕ) (d : candidate) → rank < result → gets_row limit span rank (get_or ranked.now rank d) ≡ true }
+    ensures behind { (d : candidate) → result < length ranked.now → gets_row limit span result (get_or ranked.now result d) ≡ false }
 {
     let Some(limit) = limit else {
         return ranked.len();
     };
     let mut count = 0;
-    'front: while count < ranked.len() && count < limit && is_worth_it(ranked[count], count, span) {
+    'front: while count < ranked.len() && gets_row(ranked[count], count, span, limit) {
         count += 1;
     }
     count
 }
 
-/// Whether a step gets a row behind so many others.
-fn is_worth_it(candidate: Candidate, count: usize, span: u64) -> bool {
-    count < SURE_ROWS || candidate.marked || candidate.length as u128 * SPAN_PARTS >= span as u128
+/// Whether a step gets a row behind so many others, where so many may have one.
+fn gets_row(candidate: Candidate, rank: usize, span: u64, limit: usize) -> bool
+    ensures { result ≡ gets_row_within limit span rank candidate }
+{
+    rank < limit
+        && (rank < SURE_ROWS
+            || candidate.marked
+            || span as u128 <= candidate.length as u128 * SPAN_PARTS)
 }
 
 /// Their places, in the order in which they began.
@@ -86,12 +118,15 @@ fn in_order_of_begin(
     alloc: Global,
     steps: &[Step],
     chosen: &[Candidate],
-) -> Result<Vec<usize>, AllocError> {
+) -> Result<Vec<usize>, AllocError>
+    requires { All (λ (c : candidate). c.place < length steps.now) chosen.now }
+    ensures shown { IfOk result (λ places. (place : ℕ) → count_by (λ shown. shown == place) places.items
+        ≡ count_by (λ (c : candidate). c.place == place) chosen.now) }
+    ensures ordered { IfOk result (λ places. AllPairs (IsPrintedBefore steps.now) places.items) }
+{
     let mut begins = Vec::new(alloc);
     for candidate in chosen {
-        if candidate.place < steps.len() {
-            begins.push((steps[candidate.place].begin(), candidate.place))?;
-        }
+        begins.push((steps[candidate.place].begin(), candidate.place))?;
     }
     begins.sort()?;
     let mut places = Vec::new(alloc);

@@ -1,7 +1,8 @@
 //! What a message says, as it stands in the tree.
 
-ghost use Rattle.std.specs.Prelude.{◌≡◌, codes, option_map, List, ℕ};
+ghost use Rattle.std.specs.Prelude.{◌≡◌, ◌||◌, codes, option_map, List, ℕ};
 ghost use Rattle.std.specs.Option.{option_copied};
+ghost use Rattle.std.specs.Str.{bytes_eq};
 ghost use Rattle.serde_json.specs.View.{view};
 ghost use Rattle.apply_view.specs.Messages.{address_of, begin_of, diagnostic_said, diagnostic_with, end_of, general_said, hook_text, moment_of, other_step_said, provisioner_begin_of, provisioner_end_of, provisioner_said, refresh_begin_of, refresh_end_of, said_of, summary_in, summary_of, totals_in};
 
@@ -78,6 +79,13 @@ fn hook_text<'a>(tree: &'a Value, name: &str) -> Option<&'a str>
     ensures { option_copied result ≡ hook_text name.now (view tree.now) }
 {
     text_member(member(tree, "hook")?, name)
+}
+
+/// Whether the name is one of two.
+fn is_either(name: &str, first: &str, second: &str) -> bool
+    ensures { result ≡ (bytes_eq name.now first.now || bytes_eq name.now second.now) }
+{
+    name == first || name == second
 }
 
 /// The totals of `changes`.
@@ -232,11 +240,11 @@ impl<'a> Said<'a> {
     pub fn of(name: &str, tree: &'a Value) -> Said<'a>
         ensures { said_view result ≡ said_of name.now (view tree.now) }
     {
-        if name == "apply_start" || name == "ephemeral_op_start" {
+        if is_either(name, "apply_start", "ephemeral_op_start") {
             Said::of_begin(tree)
-        } else if name == "apply_complete" || name == "ephemeral_op_complete" {
+        } else if is_either(name, "apply_complete", "ephemeral_op_complete") {
             Said::of_end(tree, false)
-        } else if name == "apply_errored" || name == "ephemeral_op_errored" {
+        } else if is_either(name, "apply_errored", "ephemeral_op_errored") {
             Said::of_end(tree, true)
         } else {
             Said::of_other_step(name, tree)

@@ -1,4 +1,4 @@
-use Rattle.std.proofs.Common.{◌≡◌, rules}
+use Rattle.std.proofs.Common.{rules}
 use Rattle.std.proofs.lemmas.List.Sorted.{IsNonDecreasingBy-from_sort_by_key}
 use Rattle.apply_view.proofs.Kept.{moment_of}
 use Rattle.apply_view.proofs.numbers.edge.edges_of.Goals as goal

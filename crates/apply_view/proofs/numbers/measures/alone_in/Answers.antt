@@ -1,9 +1,5 @@
-use Rattle.std.proofs.Common.{◌≡◌, ◌+◌, ◌<◌, ◌≤◌, ℕ, None, get_or, length, take, rules, arith, ap, sym, ◌∙◌, ⊎_elim}
-use Rattle.std.specs.List.{sum_by}
+use Rattle.std.proofs.Common.{◌≡◌, ◌<◌, ◌≤◌, None, arith, ⊎_elim}
 use Rattle.std.proofs.lemmas.Bool.{cases_lt}
-use Rattle.std.proofs.lemmas.List.{get_or_past}
-use Rattle.std.proofs.lemmas.List.Sums.{get_or-le-sum_by}
-use Rattle.apply_view.specs.Numbers.{alone_in, stretch_length}
 use Rattle.apply_view.proofs.Adding.{alone_fits, past_fits}
 use Rattle.apply_view.proofs.numbers.measures.alone_in.Goals as goal
 

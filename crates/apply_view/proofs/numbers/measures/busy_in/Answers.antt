@@ -1,5 +1,4 @@
-use Rattle.std.proofs.Common.{◌≡◌, ◌+◌, ◌≤◌, None, arith}
-use Rattle.std.specs.List.{sum_by}
+use Rattle.std.proofs.Common.{None, arith}
 use Rattle.apply_view.specs.Numbers.{stretch_length}
 use Rattle.apply_view.proofs.Adding.{one_more_le}
 use Rattle.apply_view.proofs.numbers.measures.busy_in.Goals as goal

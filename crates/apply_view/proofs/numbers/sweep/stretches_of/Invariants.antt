@@ -1,4 +1,4 @@
-use Rattle.std.proofs.Common.{◌≡◌, ◌≤◌, ◌*◌, take}
+use Rattle.std.proofs.Common.{◌≤◌, ◌*◌, take}
 use Rattle.apply_view.proofs.Kept.{IsKept}
 use Rattle.apply_view.proofs.numbers.sweep.stretches_of.Given as goal
 

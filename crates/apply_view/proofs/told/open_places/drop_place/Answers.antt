@@ -1,6 +1,5 @@
-use Rattle.std.proofs.Common.{◌≡◌, eqb, rules}
+use Rattle.std.proofs.Common.{eqb, rules}
 use Rattle.std.specs.Prelude.{not}
-use Rattle.std.specs.Fn.{CalledAt}
 use Rattle.std.proofs.lemmas.Fn.{filter_same}
 use Rattle.apply_view.proofs.told.open_places.drop_place.Goals as goal
 

@@ -1,5 +1,4 @@
 use Rattle.std.proofs.Common.{◌≡◌, drop}
-use Rattle.apply_view.specs.Telling.{Telling}
 use Rattle.apply_view.specs.Viewing.{marked_at}
 use Rattle.apply_view.proofs.told.stream_told.Told.mark_all.Given as goal
 

@@ -1,6 +1,5 @@
 use Rattle.std.proofs.Common.{◌≡◌, drop}
 use Rattle.std.specs.List.{filter}
-use Rattle.apply_view.specs.OpenPlaces.{places_at}
 use Rattle.apply_view.specs.Steps.{first_of}
 use Rattle.apply_view.proofs.FirstOpen.{has_action}
 use Rattle.apply_view.proofs.told.viewer.Viewer.first_open.Given as goal
