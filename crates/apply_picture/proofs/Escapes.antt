@@ -1,13 +1,13 @@
 -- What is escaped, and what has no width.
-use Rattle.std.proofs.Common.{◌≡◌, ◌∙◌, ℕ, ◌≤◌, ◌<◌, ◌∷◌, [], ◌++◌, List, Bool, true, false, ap, inl, inr, refl, sym, subst, get_or, codes, append-nil, arith}
-use Rattle.std.specs.Prelude.{◌==◌, ◌||◌, ◌⊎◌, All, encode_utf8, filter, if◌then◌else◌, is_some, map, nat_le, nat_lt}
+use Rattle.std.proofs.Common.{◌≡◌, ℕ, ◌≤◌, ◌<◌, ◌∷◌, [], ◌++◌, List, Bool, true, false, ap, inl, inr, refl, sym, get_or, append-nil, arith}
+use Rattle.std.specs.Prelude.{◌==◌, ◌⊎◌, encode_utf8, filter, if◌then◌else◌, is_some, map}
 use Rattle.std.specs.List.{flat_map}
 use Rattle.std.specs.Str.{NoCharPasses}
 use Rattle.std.proofs.lemmas.Bool.Decides.{nat_tests}
 use Rattle.std.proofs.lemmas.List.Elements.{All-map}
 use Rattle.std.proofs.lemmas.List.Folds.{flat_map-map}
 use Rattle.unicode_width.specs.Width.{char_width}
-use Rattle.apply_picture.specs.Lines.{is_character, is_no_control, line_bytes, piece_bytes}
+use Rattle.apply_picture.specs.Lines.{is_character, piece_bytes}
 use Rattle.apply_picture.specs.Markup.{IsEntity, IsEscaped, escaped, is_markup}
 use Rattle.apply_picture.specs.declared.text.piece.Piece.{Piece}
 use Rattle.apply_picture.specs.declared.text.piece.Piece.TheVariants as piece

@@ -1,11 +1,11 @@
 -- Lines that grow by a piece, and pages by a line.
-use Rattle.std.proofs.Common.{◌≡◌, ◌∙◌, ℕ, ◌+◌, ◌≤◌, ◌∷◌, [], ◌++◌, List, Bool, true, ap, ap₂, subst, sym, get_or, eqb-true, eq-eqb, arith}
+use Rattle.std.proofs.Common.{◌≡◌, ◌∙◌, ℕ, ◌+◌, ◌≤◌, ◌∷◌, [], ◌++◌, List, Bool, true, ap₂, get_or, eqb-true, eq-eqb, arith}
 use Rattle.std.specs.Prelude.{◌&&◌, ◌==◌, All, map}
 use Rattle.std.specs.List.{list_all, sum_by}
 use Rattle.std.proofs.lemmas.List.Elements.{All-map}
 use Rattle.std.proofs.lemmas.List.Folds.{list_all-append}
 use Rattle.std.proofs.lemmas.List.Sums.{AllPass-from_list_all, sum_by-append}
-use Rattle.apply_picture.specs.Lines.{IsLine, is_no_control, piece_columns}
+use Rattle.apply_picture.specs.Lines.{IsLine, piece_columns}
 use Rattle.apply_picture.specs.declared.text.line.Line.{Line}
 use Rattle.apply_picture.specs.declared.text.piece.Piece.{Piece}
 
