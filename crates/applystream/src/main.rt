@@ -1,8 +1,10 @@
 //! Prints the stream of messages for applying a saved plan, which is read from standard input, as the words of the command
-//! line say; or checks such a stream, where the first of them is `check`, or plays it, where it is `play`.
+//! line say; or checks such a stream, where the first of them is `check`, plays it, where it is `play`, or draws it, where it is
+//! `view`.
 #![tactic(auto)]
 
 use apply_cli::{Awaited, Usage, follow_standard, given_words, refuse_standard};
+use std::env;
 use std::io::{BufWriter, IsTerminal};
 use std::process::ExitCode;
 
@@ -14,12 +16,16 @@ const NO_STREAM: &str =
 const NO_STREAM_TO_PLAY: &str =
     "a stream is awaited from this terminal: name its file, as in applystream play stream.jsonl";
 
+/// Said where somebody has typed `applystream view` alone.
+const NO_STREAM_TO_VIEW: &str =
+    "a stream is awaited from this terminal: name its file, as in applystream view stream.jsonl";
+
 /// How many bytes of output are gathered before they are written.
 const OUTPUT_ROOM: usize = 65_536;
 
 fn main(rt: HostRuntime) -> ExitCode {
     let status = match given_words(&rt) {
-        Ok(words) => match check_stream(&rt, &words).or_else(|| play_stream(&rt, &words)) {
+        Ok(words) => match use_tool(&rt, &words) {
             Some(status) => status,
             None => follow_standard(&rt, &rt, words.get(1..).unwrap_or(&[])),
         },
@@ -28,11 +34,18 @@ fn main(rt: HostRuntime) -> ExitCode {
     ExitCode::from(status)
 }
 
-/// Checks a stream, where the first word behind the program's name is `check`, and answers the exit status.
-fn check_stream(rt: &HostRuntime, words: &[String]) -> Option<u8> {
-    if words.get(1)?.as_str() != "check" {
-        return None;
+/// Does what a tool does, where the first word behind the program's name is that of one, and answers the exit status.
+fn use_tool(rt: &HostRuntime, words: &[String]) -> Option<u8> {
+    match words.get(1)?.as_str() {
+        "check" => Some(check_stream(rt, words)),
+        "play" => Some(play_stream(rt, words)),
+        "view" => Some(view_stream(rt, words)),
+        _ => None,
     }
+}
+
+/// Checks a stream, as the words behind the second say, and answers the exit status.
+fn check_stream(rt: &HostRuntime, words: &[String]) -> u8 {
     let words = words.get(2..).unwrap_or(&[]);
     let is_terminal = rt.stdin().is_terminal();
     let text = is_terminal.then_some(NO_STREAM);
@@ -45,17 +58,14 @@ fn check_stream(rt: &HostRuntime, words: &[String]) -> Option<u8> {
         &mut rt.stdout(),
         &mut rt.stderr(),
     );
-    Some(followed.status)
+    followed.status
 }
 
-/// Plays a stream, where the first word behind the program's name is `play`, and answers the exit status.
-fn play_stream(rt: &HostRuntime, words: &[String]) -> Option<u8> {
-    if words.get(1)?.as_str() != "play" {
-        return None;
-    }
+/// Plays a stream, as the words behind the second say, and answers the exit status.
+fn play_stream(rt: &HostRuntime, words: &[String]) -> u8 {
     let words = words.get(2..).unwrap_or(&[]);
     let Ok(mut output) = BufWriter::with_capacity(rt.alloc(), OUTPUT_ROOM, rt.stdout()) else {
-        return Some(refuse_standard(rt, &Usage::Memory));
+        return refuse_standard(rt, &Usage::Memory);
     };
     let is_terminal = rt.stdin().is_terminal();
     let text = is_terminal.then_some(NO_STREAM_TO_PLAY);
@@ -71,5 +81,36 @@ fn play_stream(rt: &HostRuntime, words: &[String]) -> Option<u8> {
     );
     // What a failed write left behind is given up: a drop would write it once more, behind the fault.
     let (_stdout, _unwritten) = output.into_parts();
-    Some(followed.status)
+    followed.status
+}
+
+/// Draws a stream, as the words behind the second say, and answers the exit status.
+fn view_stream(rt: &HostRuntime, words: &[String]) -> u8 {
+    let words = words.get(2..).unwrap_or(&[]);
+    let Ok(mut output) = BufWriter::with_capacity(rt.alloc(), OUTPUT_ROOM, rt.stdout()) else {
+        return refuse_standard(rt, &Usage::Memory);
+    };
+    let is_terminal = rt.stdin().is_terminal();
+    let text = is_terminal.then_some(NO_STREAM_TO_VIEW);
+    let followed = apply_picture::follow(
+        rt,
+        rt.alloc(),
+        words,
+        is_terminal,
+        rt.stdout().is_terminal() && wants_colour(rt),
+        &mut Awaited::new(rt.reader(), rt.stderr(), text),
+        &mut output,
+        &mut rt.stderr(),
+    );
+    // What a failed write left behind is given up: a drop would write it once more, behind the fault.
+    let (_stdout, _unwritten) = output.into_parts();
+    followed.status
+}
+
+/// Whether `NO_COLOR` is absent or empty.
+fn wants_colour(rt: &HostRuntime) -> bool {
+    match env::var(rt, "NO_COLOR") {
+        Ok(text) => text.is_empty(),
+        Err(error) => matches!(error, env::VarError::NotPresent),
+    }
 }

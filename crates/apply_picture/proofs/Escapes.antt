@@ -1,0 +1,53 @@
+-- What is escaped, and what has no width.
+use Rattle.std.proofs.Common.{◌≡◌, ℕ, ◌≤◌, ◌<◌, ◌∷◌, [], ◌++◌, List, Bool, true, false, ap, inl, inr, refl, sym, get_or, append-nil, arith}
+use Rattle.std.specs.Prelude.{◌==◌, ◌⊎◌, encode_utf8, filter, if◌then◌else◌, is_some, map}
+use Rattle.std.specs.List.{flat_map}
+use Rattle.std.specs.Str.{NoCharPasses}
+use Rattle.std.proofs.lemmas.Bool.Decides.{nat_tests}
+use Rattle.std.proofs.lemmas.List.Elements.{All-map}
+use Rattle.std.proofs.lemmas.List.Folds.{flat_map-map}
+use Rattle.unicode_width.specs.Width.{char_width}
+use Rattle.apply_picture.specs.Lines.{is_character, piece_bytes}
+use Rattle.apply_picture.specs.Markup.{IsEntity, IsEscaped, escaped, is_markup}
+use Rattle.apply_picture.specs.declared.text.piece.Piece.{Piece}
+use Rattle.apply_picture.specs.declared.text.piece.Piece.TheVariants as piece
+
+if_either : {X : Type 0} (P : X → Type 0) (test : Bool) (x y : X) → (test ≡ true → P x) → (test ≡ false → P y) → P (if test then x else y)
+if_either P true x y then_is else_is = then_is refl
+if_either P false x y then_is else_is = else_is refl
+
+-- ---- escapes
+
+abbrev IsFine : List ℕ → Type 0
+IsFine bytes = IsEntity bytes ⊎ NoCharPasses is_markup bytes
+
+other_is_fine : (character : ℕ) → (character == 38) ≡ false → (character == 60) ≡ false → IsFine (encode_utf8 character)
+other_is_fine character no_and no_less = inr (character ∷ [], append-nil (encode_utf8 character), (rw (no_and, no_less) refl, tt))
+
+escaped_is_fine : (character : ℕ) → IsFine (escaped character)
+escaped_is_fine character =
+    if_either IsFine (character == 38) _ _ (λ is. inl refl)
+    (λ no_and. if_either IsFine (character == 60) _ _ (λ is. inl refl)
+    (λ no_less. if_either IsFine (character == 62) _ _ (λ is. inl refl)
+    (λ no_greater. if_either IsFine (character == 34) _ _ (λ is. inl refl) (λ no_quote. other_is_fine character no_and no_less))))
+
+pub are_escaped : (characters : List ℕ) → IsEscaped (flat_map escaped characters)
+are_escaped characters = record {
+  pieces = map escaped characters;
+  each = All-map IsFine escaped characters (λ k d below. escaped_is_fine (get_or characters k d));
+  are = sym (flat_map-map (λ (piece : List ℕ). piece) escaped characters);
+}
+
+-- ---- widths
+
+pub has_width : (character : ℕ) → is_some (char_width false character) ≡ true → (32 ≤ character) × ((character < 127) ⊎ (160 ≤ character))
+unfolding char_width
+has_width character wide = grind (arith, nat_tests)
+
+-- ---- colours
+
+pub without_colours : (pieces : List Piece) → flat_map (piece_bytes false) pieces ≡ flat_map (piece_bytes true) (filter is_character pieces)
+without_colours [] = refl
+without_colours (piece.Character character ∷ pieces) = ap (λ bytes. encode_utf8 character ++ bytes) (without_colours pieces)
+without_colours (piece.Begin paint ∷ pieces) = without_colours pieces
+without_colours (piece.End ∷ pieces) = without_colours pieces

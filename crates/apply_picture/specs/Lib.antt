@@ -1,0 +1,4 @@
+pub mod Columns
+pub mod Lines
+pub mod Markup
+pub mod Viewed

@@ -1,0 +1,160 @@
+//! The whole SVG.
+
+ghost use Rattle.std.specs.Prelude.{OnOk};
+ghost use Rattle.apply_picture.specs.Markup.{MarkupWritten};
+
+use crate::draw_fault::DrawFault;
+use crate::picture::Picture;
+use crate::svg::back::push_back;
+use crate::svg::front::{push_front, push_grid};
+use crate::svg::markup::Markup;
+use crate::svg::row::push_row;
+use crate::svg::scale::Scale;
+use crate::svg::sheet::{EDGE, ROW, WIDTH};
+use crate::svg::style::STYLE;
+use crate::telling::heading::heading;
+use crate::writing::flush;
+use std::alloc::{AllocError, Global};
+use std::io::Write;
+
+/// Writes the picture as one SVG, without scripts or other files; memory is taken for one row. `Err` with `DrawFault::Memory`
+/// where memory is refused, and with `DrawFault::Gone` or `DrawFault::Unwritten` where a write or a flush fails: then some of
+/// its first bytes were written.
+pub fn draw_svg<W: Write>(
+    alloc: Global,
+    picture: &Picture<'_>,
+    out: &mut W,
+) -> Result<(), DrawFault>
+    ensures { OnOk result (MarkupWritten (W.contents out.old) (W.contents out.new)) }
+{
+    let scale = Scale::of(alloc, picture)?;
+    let mut front = Markup::new(alloc);
+    let top = push_front(alloc, &mut front, picture, scale)?;
+    let count = picture.rows.places.len() as u64;
+    let bottom = top.saturating_add(count.saturating_mul(ROW));
+    let mut back = Markup::new(alloc);
+    let height = push_back(alloc, &mut back, picture, scale, bottom)?;
+    let mut head = Markup::new(alloc);
+    push_head(alloc, &mut head, picture, height)?;
+    head.send(alloc, out)?;
+    front.send(alloc, out)?;
+    draw_rows(alloc, picture, scale, top, bottom, out)?;
+    back.own("</svg>\n")?;
+    back.send(alloc, out)?;
+    flush(out)?;
+    Ok(())
+}
+
+/// Adds what an SVG begins with, of that height.
+fn push_head(
+    alloc: Global,
+    markup: &mut Markup,
+    picture: &Picture<'_>,
+    height: u64,
+) -> Result<(), AllocError> {
+    let title = heading(alloc, picture)?;
+    markup.own("<svg xmlns=\"http://www.w3.org/2000/svg\"")?;
+    push_size(markup, height)?;
+    markup.own(" viewBox=\"0 0 ")?;
+    markup.number(WIDTH)?;
+    markup.own(" ")?;
+    markup.number(height)?;
+    markup.own("\" role=\"img\" aria-label=\"")?;
+    markup.text(&title)?;
+    markup.own("\">\n<title>")?;
+    markup.text(&title)?;
+    markup.own("</title>\n<style>")?;
+    for rules in STYLE {
+        markup.own(rules)?;
+    }
+    markup.own("</style>\n<defs><pattern id=\"stripes\" width=\"6\" height=\"6\" ")?;
+    markup.own("patternUnits=\"userSpaceOnUse\" patternTransform=\"rotate(45)\">")?;
+    markup.own("<path d=\"M0 0V6\" class=\"stripe\" stroke-width=\"6\"/></pattern></defs>\n<rect")?;
+    push_size(markup, height)?;
+    markup.own(" class=\"ground\"/>\n")
+}
+
+/// Adds the width and the height of the whole.
+fn push_size(markup: &mut Markup, height: u64) -> Result<(), AllocError> {
+    markup.own(" width=\"")?;
+    markup.number(WIDTH)?;
+    markup.own("\" height=\"")?;
+    markup.number(height)?;
+    markup.own("\"")
+}
+
+/// Writes the rows, between those heights, where there are any.
+fn draw_rows<W: Write>(
+    alloc: Global,
+    picture: &Picture<'_>,
+    scale: Scale,
+    top: u64,
+    bottom: u64,
+    out: &mut W,
+) -> Result<(), DrawFault>
+    ensures { OnOk result (MarkupWritten (W.contents out.old) (W.contents out.new)) }
+{
+    if picture.rows.places.is_empty() {
+        return Ok(());
+    }
+    draw_bands(alloc, picture.rows.places.len(), top, out)?;
+    let mut markup = Markup::new(alloc);
+    push_grid(&mut markup, scale, top, bottom)?;
+    for (row, place) in picture.rows.places.iter().enumerate() {
+        push_step(
+            alloc,
+            &mut markup,
+            picture,
+            scale,
+            *place,
+            y_of(top, row as u64),
+        )?;
+        markup.send(alloc, out)?;
+    }
+    Ok(())
+}
+
+/// Adds the row of the step at that place, at that height.
+fn push_step(
+    alloc: Global,
+    markup: &mut Markup,
+    picture: &Picture<'_>,
+    scale: Scale,
+    place: usize,
+    y: u64,
+) -> Result<(), AllocError> {
+    match picture.told.steps().get(place) {
+        Some(step) => push_row(alloc, markup, picture, scale, place, step, y),
+        None => Ok(()),
+    }
+}
+
+/// Writes what stands behind every second of so many rows.
+fn draw_bands<W: Write>(alloc: Global, count: usize, top: u64, out: &mut W) -> Result<(), DrawFault>
+    ensures { OnOk result (MarkupWritten (W.contents out.old) (W.contents out.new)) }
+{
+    let mut markup = Markup::new(alloc);
+    for pair in 0..count / 2 {
+        push_band(&mut markup, y_of(top, pair as u64 * 2 + 1))?;
+        markup.send(alloc, out)?;
+    }
+    Ok(())
+}
+
+/// At which height a row stands.
+fn y_of(top: u64, row: u64) -> u64 {
+    top.saturating_add(row.saturating_mul(ROW))
+}
+
+/// Adds what stands behind every second row.
+fn push_band(markup: &mut Markup, y: u64) -> Result<(), AllocError> {
+    markup.own("<rect x=\"")?;
+    markup.number(EDGE - 6)?;
+    markup.own("\" y=\"")?;
+    markup.number(y)?;
+    markup.own("\" width=\"")?;
+    markup.number(WIDTH - 2 * EDGE + 12)?;
+    markup.own("\" height=\"")?;
+    markup.number(ROW)?;
+    markup.own("\" class=\"band\"/>\n")
+}

@@ -1,0 +1,84 @@
+//! What stands above the rows.
+
+use crate::picture::Picture;
+use crate::svg::at_once::push_at_once;
+use crate::svg::legend::push_legend;
+use crate::svg::markup::Markup;
+use crate::svg::scale::Scale;
+use crate::svg::sheet::EDGE;
+use crate::telling::heading::heading;
+use crate::telling::overlap::overlap;
+use crate::words::shown_text::ShownText;
+use crate::words::tick::Tick;
+use std::alloc::{AllocError, Global};
+
+/// Adds what stands above the rows; answers at which height these begin.
+pub fn push_front(
+    alloc: Global,
+    markup: &mut Markup,
+    picture: &Picture<'_>,
+    scale: Scale,
+) -> Result<u64, AllocError> {
+    let mut y = EDGE;
+    let what = heading(alloc, picture)?;
+    markup.line(EDGE * 10, y + 16, "head ink", &what)?;
+    y += 24;
+    if let Some(how) = overlap(alloc, picture)? {
+        markup.line(EDGE * 10, y + 13, "sub soft", &how)?;
+        y += 20;
+    }
+    y = y
+        .saturating_add(push_legend(alloc, markup, picture, y)?)
+        .saturating_add(6);
+    if picture.rows.places.is_empty() {
+        return Ok(y);
+    }
+    if picture.numbers.peak > 1 {
+        y = y.saturating_add(push_at_once(alloc, markup, picture, scale, y)?);
+    }
+    push_ticks(alloc, markup, scale, y.saturating_add(12))?;
+    Ok(y.saturating_add(18))
+}
+
+/// Adds the texts of the axis at that height.
+pub fn push_ticks(
+    alloc: Global,
+    markup: &mut Markup,
+    scale: Scale,
+    y: u64,
+) -> Result<(), AllocError> {
+    for count in 0..scale.ticks() {
+        let offset = scale.step.saturating_mul(count);
+        let tick = Tick {
+            milliseconds: offset / 1_000,
+        };
+        let text = format!(in alloc; "{tick}")?;
+        let text = ShownText::of(alloc, text.as_str().as_bytes())?;
+        let class = if count == 0 {
+            "small soft"
+        } else {
+            "small soft mid"
+        };
+        markup.line(scale.x_of(offset), y, class, &text)?;
+    }
+    Ok(())
+}
+
+/// Adds the lines of the ticks, over so many rows from that height on.
+pub fn push_grid(
+    markup: &mut Markup,
+    scale: Scale,
+    top: u64,
+    bottom: u64,
+) -> Result<(), AllocError> {
+    markup.own("<path d=\"")?;
+    for count in 0..scale.ticks() {
+        markup.own("M")?;
+        markup.tenths(scale.x_of(scale.step.saturating_mul(count)))?;
+        markup.own(" ")?;
+        markup.number(top)?;
+        markup.own("V")?;
+        markup.number(bottom)?;
+    }
+    markup.own("\" class=\"grid\"/>\n")
+}

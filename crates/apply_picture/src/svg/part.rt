@@ -1,0 +1,63 @@
+//! What the SVG is made of.
+
+ghost use Rattle.std.specs.Prelude.{◌≡◌, ◌++◌, OnOk, string_bytes};
+ghost use Rattle.apply_picture.specs.Markup.{escaped, part_bytes, tenths};
+
+use std::alloc::AllocError;
+
+/// What the SVG is made of.
+#[derive(Clone, Copy, Debug, PartialEq, Eq)]
+pub enum Part {
+    /// Text of ours, as it stands.
+    Own(&'static str),
+    /// A whole number.
+    Number(u64),
+    /// So many tenths.
+    Tenths(u64),
+    /// A character of a text, which is escaped.
+    Character(char),
+}
+
+impl Part {
+    /// Adds it to a text. `Err` where memory is refused.
+    pub fn push_to(self, text: &mut String) -> Result<(), AllocError>
+        ensures { OnOk result (string_bytes text.new ≡ string_bytes text.old ++ part_bytes self) }
+    {
+        match self {
+            Part::Own(own) => text.push_str(own),
+            Part::Number(number) => {
+                write!(text, "{number}")?;
+                Ok(())
+            }
+            Part::Tenths(tenths) => push_tenths(text, tenths),
+            Part::Character(character) => push_escaped(text, character),
+        }
+    }
+}
+
+/// Adds so many tenths, without a fraction where there is none.
+fn push_tenths(text: &mut String, count: u64) -> Result<(), AllocError>
+    ensures { OnOk result (string_bytes text.new ≡ string_bytes text.old ++ tenths count) }
+{
+    let whole = count / 10;
+    let rest = count % 10;
+    if rest == 0 {
+        write!(text, "{whole}")?;
+    } else {
+        write!(text, "{whole}.{rest}")?;
+    }
+    Ok(())
+}
+
+/// Adds a character, as an entity (XML 1.0, section 4.6) where it would be read as markup.
+fn push_escaped(text: &mut String, character: char) -> Result<(), AllocError>
+    ensures { OnOk result (string_bytes text.new ≡ string_bytes text.old ++ escaped character) }
+{
+    match character {
+        '&' => text.push_str("&amp;"),
+        '<' => text.push_str("&lt;"),
+        '>' => text.push_str("&gt;"),
+        '"' => text.push_str("&quot;"),
+        _ => text.push(character),
+    }
+}

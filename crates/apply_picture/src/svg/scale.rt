@@ -1,0 +1,73 @@
+//! Where the moments stand.
+
+use crate::picture::Picture;
+use crate::svg::sheet::{CHARACTER, EDGE, LABEL, LEAST_LABEL, WIDTH};
+use crate::words::fitting::fitted;
+use crate::words::shown_text::ShownText;
+use crate::words::tick_step::tick_step;
+use apply_view::{Step, place_on};
+use std::alloc::{AllocError, Global};
+
+/// The room between an address and the begin of the axis, and behind its end for a duration, in tenths of a pixel.
+const BEFORE: u64 = 120;
+
+const BEHIND: u64 = 560;
+
+/// The most ticks of the axis, besides 0.
+const TICKS: u64 = 8;
+
+/// Where the axis begins and ends, in tenths of a pixel.
+#[derive(Clone, Copy)]
+pub struct Scale {
+    pub left: u64,
+    pub right: u64,
+    /// How long the stream is, in microseconds, and 1 at least.
+    pub span: u64,
+    /// How far apart the ticks are, in microseconds.
+    pub step: u64,
+}
+
+impl Scale {
+    /// That of the picture's rows.
+    pub fn of(alloc: Global, picture: &Picture<'_>) -> Result<Scale, AllocError> {
+        let mut widest = LEAST_LABEL;
+        for place in &picture.rows.places {
+            if let Some(step) = picture.told.steps().get(*place) {
+                let columns = label_of(alloc, step)?.columns();
+                widest = widest.max(columns.min(LABEL) as u64);
+            }
+        }
+        let span = picture.span().max(1);
+        Ok(Scale {
+            left: EDGE * 10 + (widest + 2) * CHARACTER + BEFORE,
+            right: (WIDTH - EDGE) * 10 - BEHIND,
+            span,
+            step: tick_step(span, TICKS),
+        })
+    }
+
+    /// How long the axis is, in tenths of a pixel.
+    pub fn width(self) -> u64 {
+        self.right.saturating_sub(self.left)
+    }
+
+    /// Where a moment stands, in tenths of a pixel. It is given by how long after the first it comes, in microseconds.
+    pub fn x_of(self, offset: u64) -> u64 {
+        let place = place_on(self.width(), self.span, offset);
+        self.left.saturating_add(u64::try_from(place).unwrap_or(0))
+    }
+
+    /// How many ticks there are, with that at 0.
+    pub fn ticks(self) -> u64 {
+        (self.span / self.step.max(1)).saturating_add(1)
+    }
+}
+
+/// The address of a step, as it stands beside its bar.
+pub fn label_of(alloc: Global, step: &Step) -> Result<ShownText, AllocError> {
+    fitted(
+        alloc,
+        &ShownText::of(alloc, step.address().as_bytes())?,
+        LABEL,
+    )
+}

@@ -1,0 +1,66 @@
+//! The axis above the bars.
+
+ghost use Rattle.std.specs.Prelude.{◌≡◌, OnOk};
+
+use crate::text::chart::Chart;
+use crate::text::line::Line;
+use crate::text::page::Page;
+use crate::words::shown_text::without_blanks;
+use crate::words::tick::Tick;
+use std::alloc::{AllocError, Global};
+
+/// How many ticks an axis has at most.
+const MOST_TICKS: u64 = 1_000;
+
+/// Adds the axis: the text of each tick, where it fits.
+pub fn push_axis(alloc: Global, page: &mut Page, chart: &Chart) -> Result<(), AllocError>
+    ensures { OnOk result (page.new.style ≡ page.old.style) }
+{
+    let cells = axis_cells(alloc, chart)?;
+    let mut line = Line::new(alloc, page.width());
+    line.push_blanks(chart.front())?;
+    line.push_all(without_blanks(&cells))?;
+    page.push(line)
+}
+
+/// The characters above the bars.
+fn axis_cells(alloc: Global, chart: &Chart) -> Result<Vec<char>, AllocError> {
+    let mut cells = vec![in alloc; ' '; chart.cells as usize]?;
+    for count in 0..MOST_TICKS {
+        let offset = chart.step.saturating_mul(count);
+        let Some(cell) = chart.cell_of(offset) else {
+            break;
+        };
+        let tick = Tick {
+            milliseconds: offset / 1_000,
+        };
+        let text = format!(in alloc; "{tick}")?;
+        put(&mut cells, cell, text.as_str());
+    }
+    Ok(cells)
+}
+
+/// Writes a text of one byte a character from a cell on, where all of it fits.
+fn put(cells: &mut [char], from: usize, text: &str) {
+    let bytes = text.as_bytes();
+    if from > cells.len() || bytes.len() > cells.len() - from {
+        return;
+    }
+    for (place, byte) in bytes.iter().enumerate() {
+        cells[from + place] = char::from(*byte);
+    }
+}
+
+/// Which cells have a tick.
+pub fn tick_cells(alloc: Global, chart: &Chart) -> Result<Vec<bool>, AllocError> {
+    let mut ticks = vec![in alloc; false; chart.cells as usize]?;
+    for count in 0..MOST_TICKS {
+        let Some(cell) = chart.cell_of(chart.step.saturating_mul(count)) else {
+            break;
+        };
+        if cell < ticks.len() {
+            ticks[cell] = true;
+        }
+    }
+    Ok(ticks)
+}

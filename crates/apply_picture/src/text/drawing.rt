@@ -1,0 +1,204 @@
+//! The whole text.
+
+ghost use Rattle.std.specs.Prelude.{◌≡◌, OnOk};
+ghost use Rattle.apply_picture.specs.Lines.{LinesWritten};
+
+use crate::draw_fault::DrawFault;
+use crate::picture::Picture;
+use crate::telling::alone::{alone_line, alone_places};
+use crate::telling::heading::heading;
+use crate::telling::left_out::left_out;
+use crate::telling::note::{Note, Voice};
+use crate::telling::notes::notes;
+use crate::telling::overlap::overlap;
+use crate::telling::passed::passed;
+use crate::text::at_once::push_at_once;
+use crate::text::axis::{push_axis, tick_cells};
+use crate::text::chart::Chart;
+use crate::text::page::Page;
+use crate::text::paint::Paint;
+use crate::text::row::row_of;
+use crate::text::style::Style;
+use crate::words::fitting::fitted;
+use crate::words::shown_text::ShownText;
+use crate::writing::flush;
+use std::alloc::{AllocError, Global};
+use std::io::Write;
+
+/// Writes the picture as a text in lines of at most `width` columns, which is 60 at least, with the sequences of colours or
+/// without; memory is taken for one row. `Err` with `DrawFault::Memory` where memory is refused, and with `DrawFault::Gone` or
+/// `DrawFault::Unwritten` where a write or a flush fails: then some of its first bytes were written.
+pub fn draw_text<W: Write>(
+    alloc: Global,
+    picture: &Picture<'_>,
+    width: u32,
+    has_colour: bool,
+    out: &mut W,
+) -> Result<(), DrawFault>
+    ensures { OnOk result (LinesWritten width has_colour (W.contents out.old) (W.contents out.new)) }
+{
+    let width = width as usize;
+    let mut page = Page::new(alloc, Style { width, has_colour });
+    push_head(alloc, &mut page, picture)?;
+    draw_chart(alloc, &mut page, picture, out)?;
+    push_alone(alloc, &mut page, picture)?;
+    push_notes(alloc, &mut page, picture)?;
+    push_passed(alloc, &mut page, picture)?;
+    page.send(alloc, out)?;
+    flush(out)?;
+    Ok(())
+}
+
+/// Adds what was done, and what ran beside what.
+fn push_head(alloc: Global, page: &mut Page, picture: &Picture<'_>) -> Result<(), AllocError>
+    ensures { OnOk result (page.new.style ≡ page.old.style) }
+{
+    page.push_wrapped(alloc, 0, &heading(alloc, picture)?, Some(Paint::Bold))?;
+    match overlap(alloc, picture)? {
+        Some(text) => page.push_wrapped(alloc, 0, &text, None),
+        None => Ok(()),
+    }
+}
+
+/// Writes the axis and the rows, where some step has one.
+fn draw_chart<W: Write>(
+    alloc: Global,
+    page: &mut Page,
+    picture: &Picture<'_>,
+    out: &mut W,
+) -> Result<(), DrawFault>
+    ensures style { OnOk result (page.new.style ≡ page.old.style) }
+    ensures lines { OnOk result (LinesWritten page.old.style.width page.old.style.has_colour (W.contents out.old) (W.contents out.new)) }
+{
+    if picture.rows.places.is_empty() {
+        return Ok(());
+    }
+    let chart = Chart::of(alloc, picture, page.width())?;
+    page.push_empty(alloc)?;
+    push_axis(alloc, page, &chart)?;
+    let ticks = tick_cells(alloc, &chart)?;
+    for place in &picture.rows.places {
+        push_row(alloc, page, picture, &chart, &ticks, *place)?;
+        page.send(alloc, out)?;
+    }
+    push_left_out(alloc, page, picture, &chart)?;
+    push_at_once(alloc, page, picture, &chart)?;
+    Ok(())
+}
+
+/// Adds the row of the step at that place.
+fn push_row(
+    alloc: Global,
+    page: &mut Page,
+    picture: &Picture<'_>,
+    chart: &Chart,
+    ticks: &[bool],
+    place: usize,
+) -> Result<(), AllocError>
+    ensures { OnOk result (page.new.style ≡ page.old.style) }
+{
+    match picture.told.steps().get(place) {
+        Some(step) => {
+            let line = row_of(alloc, picture, chart, ticks, step, page.width())?;
+            page.push(line)
+        }
+        None => Ok(()),
+    }
+}
+
+/// Adds what has no row.
+fn push_left_out(
+    alloc: Global,
+    page: &mut Page,
+    picture: &Picture<'_>,
+    chart: &Chart,
+) -> Result<(), AllocError>
+    ensures { OnOk result (page.new.style ≡ page.old.style) }
+{
+    match left_out(alloc, picture)? {
+        Some(text) => page.push_wrapped(alloc, chart.indent(), &text, Some(Paint::Dim)),
+        None => Ok(()),
+    }
+}
+
+/// Adds the steps that everything else waited for.
+fn push_alone(alloc: Global, page: &mut Page, picture: &Picture<'_>) -> Result<(), AllocError>
+    ensures { OnOk result (page.new.style ≡ page.old.style) }
+{
+    let places = alone_places(alloc, picture)?;
+    if places.is_empty() {
+        return Ok(());
+    }
+    page.push_empty(alloc)?;
+    let title = ShownText::of(alloc, b"Alone under way")?;
+    page.push_text(alloc, 0, &title, Some(Paint::Bold))?;
+    for place in &places {
+        push_alone_line(alloc, page, picture, *place)?;
+    }
+    Ok(())
+}
+
+/// Adds the line of the step at that place.
+fn push_alone_line(
+    alloc: Global,
+    page: &mut Page,
+    picture: &Picture<'_>,
+    place: usize,
+) -> Result<(), AllocError>
+    ensures { OnOk result (page.new.style ≡ page.old.style) }
+{
+    match picture.told.steps().get(place) {
+        Some(step) => {
+            let line = alone_line(alloc, picture, place, step)?;
+            let line = fitted(alloc, &line, page.width())?;
+            page.push_text(alloc, 0, &line, None)
+        }
+        None => Ok(()),
+    }
+}
+
+/// Adds the diagnostics.
+fn push_notes(alloc: Global, page: &mut Page, picture: &Picture<'_>) -> Result<(), AllocError>
+    ensures { OnOk result (page.new.style ≡ page.old.style) }
+{
+    for note in &notes(alloc, picture)? {
+        push_note(alloc, page, note)?;
+    }
+    Ok(())
+}
+
+fn push_note(alloc: Global, page: &mut Page, note: &Note) -> Result<(), AllocError>
+    ensures { OnOk result (page.new.style ≡ page.old.style) }
+{
+    let (indent, paint) = match note.voice {
+        Voice::Detail => (2, None),
+        Voice::Error => (0, Some(Paint::Red)),
+        Voice::Warning => (0, Some(Paint::Yellow)),
+        Voice::Rest => (0, None),
+    };
+    push_gap(alloc, page, note.voice)?;
+    page.push_wrapped(alloc, indent, &note.text, paint)
+}
+
+/// Adds an empty line, except before a detail.
+fn push_gap(alloc: Global, page: &mut Page, voice: Voice) -> Result<(), AllocError>
+    ensures { OnOk result (page.new.style ≡ page.old.style) }
+{
+    match voice {
+        Voice::Detail => Ok(()),
+        Voice::Error | Voice::Warning | Voice::Rest => page.push_empty(alloc),
+    }
+}
+
+/// Adds how many lines were passed over.
+fn push_passed(alloc: Global, page: &mut Page, picture: &Picture<'_>) -> Result<(), AllocError>
+    ensures { OnOk result (page.new.style ≡ page.old.style) }
+{
+    match passed(alloc, picture)? {
+        Some(text) => {
+            page.push_empty(alloc)?;
+            page.push_wrapped(alloc, 0, &text, None)
+        }
+        None => Ok(()),
+    }
+}

@@ -1,0 +1,78 @@
+//! Texts that have little room.
+
+ghost use Rattle.std.specs.Prelude.{◌≤◌, length};
+
+use crate::words::columns::{columns, columns_of};
+use crate::words::shown_text::ShownText;
+use std::alloc::{AllocError, Global};
+
+/// How many characters that take no column are kept one behind another.
+const MOST_MARKS: usize = 4;
+
+/// The text in at most so many columns. Of characters without a column the first four are kept of those that stand one behind
+/// another. Where it is wider then, its begin and its end stand round `…`: two fifths of what room there is for the begin, and
+/// the rest for the end. `Err` where memory is refused.
+pub fn fitted(alloc: Global, text: &ShownText, limit: usize) -> Result<ShownText, AllocError> {
+    let characters = with_few_marks(alloc, text.characters())?;
+    if columns(&characters) <= limit {
+        return Ok(ShownText { characters });
+    }
+    let room = limit.saturating_sub(1);
+    let front = front_len(&characters, room / 5 * 2 + room % 5 * 2 / 5);
+    let used = columns(&characters[..front]);
+    let back = back_len(&characters, room.saturating_sub(used));
+    let mut short = Vec::new(alloc);
+    short.extend_from_slice(&characters[..front])?;
+    short.push('…')?;
+    short.extend_from_slice(&characters[characters.len() - back..])?;
+    Ok(ShownText { characters: short })
+}
+
+/// The characters, but of those without a column no more than four that stand one behind another.
+fn with_few_marks(alloc: Global, characters: &[char]) -> Result<Vec<char>, AllocError> {
+    let mut few = Vec::new(alloc);
+    let mut marks = 0;
+    for character in characters {
+        if columns_of(*character) > 0 {
+            marks = 0;
+        } else if marks >= MOST_MARKS {
+            continue;
+        } else {
+            marks += 1;
+        }
+        few.push(*character)?;
+    }
+    Ok(few)
+}
+
+/// How many of the first characters fit into so many columns.
+fn front_len(characters: &[char], limit: usize) -> usize
+    ensures { result ≤ length characters.now }
+{
+    let mut left = limit;
+    for (len, character) in characters.iter().enumerate() {
+        let columns = columns_of(*character);
+        if columns > left {
+            return len;
+        }
+        left -= columns;
+    }
+    characters.len()
+}
+
+/// How many of the last characters fit into so many columns.
+fn back_len(characters: &[char], limit: usize) -> usize
+    ensures { result ≤ length characters.now }
+{
+    let mut left = limit;
+    let mut len = 0;
+    'back: while len < characters.len() {
+        let columns = columns_of(characters[characters.len() - 1 - len]);
+        if columns > left {
+            return len;
+        }
+        left -= columns;
+        len += 1;
+    }
+    len
+}

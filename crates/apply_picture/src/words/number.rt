@@ -1,0 +1,24 @@
+//! Numbers of things.
+
+use crate::words::count::Count;
+use std::fmt;
+
+/// So many of something, as `1 step` and `2 steps`.
+#[derive(Clone, Copy)]
+pub struct Number<'a> {
+    pub count: u64,
+    /// The word for one.
+    pub noun: &'a str,
+}
+
+impl fmt::Display for Number<'_> {
+    fn fmt<W: fmt::Write>(&self, f: &mut fmt::Formatter<W>) -> fmt::Result {
+        let count = Count(self.count);
+        let noun = self.noun;
+        if self.count == 1 {
+            write!(f, "{count} {noun}")
+        } else {
+            write!(f, "{count} {noun}s")
+        }
+    }
+}

@@ -1,0 +1,49 @@
+-- From what is known before a line, or before what it says, to the answer.
+use Rattle.std.proofs.Common.{◌≡◌, ◌<◌, ℕ, ◌+◌, List, false, Result, Ok, Err, refl, ap, ◌∙◌, subst, arith}
+use Rattle.apply_view.specs.declared.told.view_fault.ViewFault.{ViewFault}
+use Rattle.apply_view.specs.declared.told.view_fault.ViewFault.TheVariants as fault
+use Rattle.apply_view.specs.declared.told.viewer.Viewer.{Viewer}
+use Rattle.apply_view.specs.Messages.{message_of}
+use Rattle.apply_view.specs.OpenPlaces.{places_at}
+use Rattle.apply_view.specs.Telling.{Telling, max_lines, is_blank_line, with_line_said, with_message_or_passed}
+use Rattle.apply_view.specs.Viewing.{Goes, HasTold, IsTooMuch, Takes}
+
+-- ---- answers
+
+-- the same answer, where what is known before leads to what it was said of
+pub goes_from : (Before Then : Telling → Type 0) (new : Viewer) (f g : Telling → Telling) (r : Result (Unit {0}) ViewFault)
+    → ((t : Telling) → Before t → (u : Telling) × Then u × (f u ≡ g t)) → Goes Then new f r → Goes Before new g r
+goes_from Before Then new f g (Ok done) leads h = λ t b. let k = leads t b in subst (λ (u : Telling). HasTold new u) k.2 (h k.0 k.1)
+goes_from Before Then new f g (Err fault.TooManySteps) leads h = λ t b. let k = leads t b in subst (λ (u : Telling). IsTooMuch u) k.2 (h k.0 k.1)
+goes_from Before Then new f g (Err fault.Memory) leads h = tt
+goes_from Before Then new f g (Err fault.TooManyLines) leads h = h
+goes_from Before Then new f g (Err (fault.TooLong number)) leads h = h
+goes_from Before Then new f g (Err fault.NoMessage) leads h = h
+goes_from Before Then new f g (Err (fault.Unread failed)) leads h = h
+
+-- ---- a line is counted
+
+pub counted_takes : (old new : Viewer) (t : Telling) → HasTold old t → new.told ≡ record old.told { lines = old.told.lines + 1 } → old.told.lines < max_lines
+    → ((a : List ℕ) → places_at new.opened a ≡ places_at old.opened a) → Takes new (record t { lines = t.lines + 1 })
+counted_takes old new t h is room at =
+    let lines : old.told.lines ≡ t.lines = ap (λ (x : Telling). x.lines) h.is in
+    record {
+      is = is ∙ ap (λ (x : Telling). record x { lines = x.lines + 1 }) h.is;
+      places = λ a. at a ∙ h.places a;
+      lines = omega (arith, lines, room);
+      passed = omega (arith, h.passed);
+      errors = omega (arith, h.errors);
+      warnings = omega (arith, h.warnings);
+    }
+
+-- one that is not blank tells what its message says
+pub not_blank : (line : List ℕ) (t : Telling) → is_blank_line line ≡ false → with_message_or_passed (message_of line) t ≡ with_line_said line t
+not_blank line t other = rw other refl
+
+-- ---- the moment of a message is seen
+
+-- ---- a tree, by its type and moment
+
+-- ---- what changes neither steps nor lines
+
+-- ---- one more than there may be

@@ -1,0 +1,4 @@
+//! Which steps get a row.
+
+pub(crate) mod candidate;
+pub(crate) mod choosing;

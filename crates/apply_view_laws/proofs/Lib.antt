@@ -1,0 +1,4 @@
+pub mod Looking
+pub mod Matching
+pub mod Counting
+pub mod Streams

@@ -1,0 +1,1 @@
+cat ../../cases/check/terraform_create_many_keys/input.jsonl

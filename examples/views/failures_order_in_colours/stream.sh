@@ -1,0 +1,1 @@
+cat ../failures_order/stream.jsonl

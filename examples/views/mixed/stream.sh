@@ -1,0 +1,1 @@
+cat ../../cases/check/terraform_mixed/input.jsonl

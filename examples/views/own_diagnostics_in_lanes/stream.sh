@@ -1,0 +1,1 @@
+cat ../../cases/parallelism/diagnostics/stream.jsonl

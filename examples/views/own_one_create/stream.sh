@@ -1,0 +1,1 @@
+cat ../../cases/streams/one_create/stream.jsonl

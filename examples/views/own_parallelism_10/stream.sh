@@ -1,0 +1,1 @@
+cat ../../cases/parallelism/10/stream.jsonl

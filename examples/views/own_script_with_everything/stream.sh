@@ -1,0 +1,1 @@
+cat ../../cases/scripts/with_everything/stream.jsonl

@@ -1,0 +1,1 @@
+(cd ../ten_lanes && bash stream.sh) | head -n 700
