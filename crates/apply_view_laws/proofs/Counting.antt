@@ -1,5 +1,5 @@
 -- Steps that are open and completed, counted, one message after another.
-use Rattle.std.proofs.Common.{◌≡◌, ℕ, ◌+◌, ◌<◌, ◌≤◌, ℤ, List, [], ◌∷◌, ◌++◌, Bool, true, false, cond, length, map, Option, Some, None, suc, zero, refl, sym, ap, ◌∙◌, subst, ⊎_elim, arith, count_by, sum_by}
+use Rattle.std.proofs.Common.{◌≡◌, ℕ, ◌+◌, ◌≤◌, ℤ, List, [], ◌∷◌, ◌++◌, Bool, true, false, cond, map, Option, Some, None, suc, zero, refl, sym, ap, ◌∙◌, subst, ⊎_elim, arith, count_by}
 use Rattle.std.specs.Prelude.{◌&&◌, is_none, is_some, not}
 use Rattle.std.specs.Option.{option_map_or}
 use Rattle.std.specs.Str.{bytes_eq}
@@ -16,7 +16,7 @@ use Rattle.apply_check.specs.Tally.{completes}
 use Rattle.apply_check.specs.Words.{action_word, same_action}
 use Rattle.apply_view.specs.Messages as view
 use Rattle.apply_view.specs.Numbers.{is_completed}
-use Rattle.apply_view.specs.Steps.{ToldStep, at_place, begun_step, ended, first_of, is_open, is_open_at, is_open_with, last_of, marked_by_error, passes_at, places, places_from, provisions, with_provisioner, with_provisioner_ended}
+use Rattle.apply_view.specs.Steps.{ToldStep, at_place, begun_step, ended, first_of, is_open_at, is_open_with, last_of, marked_by_error, passes_at, places, places_from, provisions, with_provisioner, with_provisioner_ended}
 use Rattle.apply_view.specs.Telling.{Telling, with_passed, with_provisioner_end_at, with_said}
 use Rattle.apply_view.proofs.Holding.{first_passes}
 use Rattle.apply_view_laws.proofs.Matching.{Harmless, Matches, is_change}

@@ -1,5 +1,5 @@
 -- What a message says to a check, and what it says to a picture.
-use Rattle.std.proofs.Common.{◌≡◌, ℕ, List, [], codes, Bool, true, false, cond, Option, Some, None, Result, Ok, Err, refl, sym, ap, ◌∙◌, subst, ⊎_elim}
+use Rattle.std.proofs.Common.{◌≡◌, ℕ, List, [], codes, Bool, true, false, cond, Option, Some, None, Ok, refl, sym, ap, ◌∙◌, subst, ⊎_elim}
 use Rattle.std.specs.Prelude.{◌||◌, unwrap_or}
 use Rattle.std.specs.Option.{option_map_or}
 use Rattle.std.specs.Str.{bytes_eq}
@@ -18,7 +18,7 @@ use Rattle.apply_check.specs.declared.messages.totals.Totals.{Totals}
 use Rattle.apply_check.specs.Members.{count_at, object_at, text_at}
 use Rattle.apply_check.specs.Message as check
 use Rattle.apply_check.specs.Words.{action_named, action_word}
-use Rattle.apply_view.specs.Details.{diagnostic_of, text_or_empty}
+use Rattle.apply_view.specs.Details.{text_or_empty}
 use Rattle.apply_view.specs.Messages as view
 use Rattle.apply_view_laws.specs.Agreement as words
 use Rattle.apply_view_laws.specs.Agreement.{is_ephemeral}
