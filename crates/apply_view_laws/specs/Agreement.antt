@@ -1,5 +1,5 @@
 -- What a picture shows of what a check counts.
-use Rattle.std.specs.Prelude.{◌≡◌, All, ℕ, List, codes, Bool, true, false, ◌&&◌, ◌||◌, Option, Some, None, is_none, is_some}
+use Rattle.std.specs.Prelude.{◌≡◌, All, ℕ, List, codes, Bool, true, false, ◌&&◌, ◌||◌, Option, is_none, is_some}
 use Rattle.std.specs.Option.{option_map_or}
 use Rattle.std.specs.Str.{bytes_eq}
 use Rattle.apply_json.specs.Tree.{◌>>=◌, text_of, tree_of}
