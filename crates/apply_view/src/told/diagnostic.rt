@@ -13,9 +13,9 @@ use serde_json::Value;
 use std::alloc::{AllocError, Global};
 use std::marker::Model;
 
-/// An error or a warning that a stream tells. Of a text of more than 20,480 bytes the first 8,192 and the last 12,288
-/// are kept, maybe with a cut character where they meet: fitted to 1,000 columns both are the same. Contracts see what
-/// is kept.
+/// An error or a warning that a stream tells. Of a text of more than 20,480 bytes the first 8,192 and the last 12,288 are
+/// kept, maybe with a cut character where they meet: fitted to 1,000 columns both are the same, where at most four
+/// characters without width stand behind one another. Contracts see what is kept.
 #[derive(Drop)]
 pub struct Diagnostic {
     summary: Vec<u8>,
