@@ -1,11 +1,11 @@
 -- What a slot holds of the members, and how it is asked.
-use Rattle.std.proofs.Common.{◌≡◌, ℕ, List, [], codes, true, false, Option, Some, None, refl, sym, ap, ◌∙◌}
+use Rattle.std.proofs.Common.{◌≡◌, ℕ, List, true, false, Option, Some, None, refl, sym, ap, ◌∙◌}
 use Rattle.std.specs.Str.{bytes_eq}
 use Rattle.std.proofs.lemmas.Slice.Eq.{bytes_eq-Decides}
 use Rattle.serde_json.specs.Data.{Data, null, boolean, number, string, array, object, Members, put}
 use Rattle.serde_json.specs.Find.{as_number, as_str, as_u64, get, get_member}
 use Rattle.serde_json.proofs.Views.{get_member-put, get_member-put_other}
-use Rattle.apply_json.specs.Seen.{Seen, absent, members_in, seen, text_seen, text_seen_or, whole_seen}
+use Rattle.apply_json.specs.Seen.{members_in, seen, text_seen, text_seen_or, whole_seen}
 use Rattle.apply_json.specs.Tree.{◌>>=◌, member_of, text_of, text_or, unless_null}
 
 pub is_name : (k q : List ℕ) → bytes_eq k q ≡ true → k ≡ q

@@ -1,5 +1,5 @@
 -- What is seen of a value without a tree: a scalar, and what stands in it.
-use Rattle.std.specs.Prelude.{ℕ, List, Bool, true, false, Option, Some, None, ⊤}
+use Rattle.std.specs.Prelude.{ℕ, List, Bool, Option, Some, None, ⊤}
 use Rattle.serde_json.specs.Data as tree
 use Rattle.serde_json.specs.Data.{Data, Items, no_items, Members, no_members, Num}
 use Rattle.serde_json.specs.Find.{as_u64}
