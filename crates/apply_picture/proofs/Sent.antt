@@ -1,5 +1,5 @@
 -- What was written, with more of it.
-use Rattle.std.proofs.Common.{◌≡◌, ◌∙◌, ℕ, ◌+◌, ◌<◌, ◌∷◌, [], ◌++◌, List, Bool, Option, ap, subst, sym, get_or, length, take, append-nil, length-append, refl, arith}
+use Rattle.std.proofs.Common.{◌≡◌, ◌∙◌, ℕ, ◌+◌, ◌<◌, ◌∷◌, [], ◌++◌, List, Bool, Option, ap, subst, sym, get_or, length, take, append-nil, length-append, refl, codes, arith}
 use Rattle.std.specs.Prelude.{All, map}
 use Rattle.std.specs.List.{flat_map}
 use Rattle.std.specs.Io.KnownBytes.{Appends, Keeps}
@@ -8,7 +8,7 @@ use Rattle.std.proofs.lemmas.Grind.{flat_map-append}
 use Rattle.std.proofs.lemmas.List.{map-append, take_more}
 use Rattle.std.proofs.lemmas.List.Elements.{All-append}
 use Rattle.apply_picture.specs.Lines.{IsLine, LinesWritten, RowsWritten, TextWritten, line_bytes, text_bytes}
-use Rattle.apply_picture.specs.Markup.{MarkupWritten, part_bytes}
+use Rattle.apply_picture.specs.Markup.{GroupWritten, GroupsWritten, MarkupWritten, SvgWritten, group_bytes, part_bytes}
 use Rattle.apply_picture.specs.declared.svg.part.Part.{Part}
 use Rattle.apply_picture.specs.declared.text.line.Line.{Line}
 use Rattle.apply_picture.specs.declared.text.piece.Piece.{Piece}
@@ -101,5 +101,26 @@ more_markup a b c parts before more = record {
 pub markup_then : (a b c : Option (List ℕ)) → MarkupWritten a b → MarkupWritten b c → MarkupWritten a c
 markup_then a b c before more = more_markup a b c more.parts before more.written
 
-pub markup_kept : (a b c : Option (List ℕ)) → MarkupWritten a b → Keeps b c → MarkupWritten a c
-markup_kept a b c before kept = record { parts = before.parts; written = Appends-kept a b c _ before.written kept }
+pub no_groups : (a : Option (List ℕ)) → GroupsWritten 0 a a
+no_groups a = record { groups = []; each = refl; written = Appends-nil a }
+
+pub group_more : (count : ℕ) (a b c : Option (List ℕ)) → GroupsWritten count a b → GroupWritten b c → GroupsWritten (count + 1) a c
+group_more count a b c before more =
+    let one : flat_map group_bytes (more.group ∷ []) ≡ group_bytes more.group = append-nil (group_bytes more.group) in
+    record {
+      groups = before.groups ++ more.group ∷ [];
+      each = omega (arith, length-append before.groups (more.group ∷ []), before.each);
+      written = subst (Appends a c)
+          (sym (flat_map-append group_bytes before.groups (more.group ∷ []) ∙ ap (λ bs. flat_map group_bytes before.groups ++ bs) one))
+          (Appends-trans a b c _ _ before.written more.written);
+    }
+
+pub svg_written : (count : ℕ) (a b c d e f : Option (List ℕ)) (tail : List Part) → MarkupWritten a b → GroupsWritten count b c
+    → Appends c d (flat_map part_bytes tail) → Appends d e (codes "</svg>\n") → Keeps e f → SvgWritten count a f
+svg_written count a b c d e f tail head groups tail_sent end kept = record {
+  head = head.parts;
+  groups = groups.groups;
+  tail = tail;
+  each = groups.each;
+  written = Appends-kept a e f _ (Appends-trans a d e _ _ (Appends-trans a c d _ _ (Appends-trans a b c _ _ head.written groups.written) tail_sent) end) kept;
+}
