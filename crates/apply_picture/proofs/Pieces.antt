@@ -20,13 +20,16 @@ pub even-push : (lines : List Line) (line : Line) (width : ℕ) → list_all (λ
     → list_all (λ (l : Line). l.width == width) (lines ++ line ∷ []) ≡ true
 even-push lines line width even is = passes-push (λ (l : Line). l.width == width) lines line even (eq-eqb line.width width is)
 
--- lines of one width are lines of at most so many columns
+-- a line that may be so wide is one of at most so many columns
+pub line_fine : (line : Line) (width : ℕ) → line.width ≡ width → IsLine width line.pieces.items
+line_fine line width is =
+    let counted : line.columns ≡ sum_by piece_columns line.pieces.items = line.counted in
+    let fits : line.columns ≤ line.width = line.fits in
+    record { columns = omega (arith, is, counted, fits); no_control = line.no_control }
+
 pub page_fine : (lines : List Line) (width : ℕ) → list_all (λ (l : Line). l.width == width) lines ≡ true
     → All (IsLine width) (map (λ (l : Line). l.pieces.items) lines)
 page_fine lines width even =
     All-map (IsLine width) (λ (l : Line). l.pieces.items) lines (λ k d below.
-    let line = get_or lines k d in
-    let is : line.width ≡ width = eqb-true line.width width (AllPass-from_list_all (λ (l : Line). l.width == width) lines even k d below) in
-    let counted : line.columns ≡ sum_by piece_columns line.pieces.items = line.counted in
-    let fits : line.columns ≤ line.width = line.fits in
-    record { columns = omega (arith, is, counted, fits); no_control = line.no_control })
+    line_fine (get_or lines k d) width
+    (eqb-true (get_or lines k d).width width (AllPass-from_list_all (λ (l : Line). l.width == width) lines even k d below)))

@@ -1,5 +1,5 @@
 -- What a text of lines is: how wide they are, and what steers the terminal that shows it.
-use Rattle.std.specs.Prelude.{◌≡◌, ◌≤◌, ◌++◌, ◌∷◌, [], ℕ, List, Bool, true, false, All, Option, codes, encode_utf8, if◌then◌else◌, is_some}
+use Rattle.std.specs.Prelude.{◌≡◌, ◌≤◌, ◌++◌, ◌∷◌, [], ℕ, List, Bool, true, false, All, Option, codes, encode_utf8, if◌then◌else◌, is_some, length}
 use Rattle.std.specs.List.{flat_map, list_all, sum_by}
 use Rattle.std.specs.Io.KnownBytes.{Appends}
 use Rattle.unicode_width.specs.Width.{char_width}
@@ -64,3 +64,19 @@ pub record LinesWritten (width : ℕ) (has_colour : Bool) (before after : Option
   pub lines : List (List Piece)
   pub fine : All (IsLine width) lines
   pub written : Appends before after (text_bytes has_colour lines)
+
+-- the same, of so many lines
+pub record RowsWritten (width : ℕ) (has_colour : Bool) (count : ℕ) (before after : Option (List ℕ)) : Type 0 where
+  pub rows : List (List Piece)
+  pub each : length rows ≡ count
+  pub fine : All (IsLine width) rows
+  pub written : Appends before after (text_bytes has_colour rows)
+
+-- the same, of lines among which there are so many rows, behind those of the head and before those of the tail
+pub record TextWritten (width : ℕ) (has_colour : Bool) (count : ℕ) (before after : Option (List ℕ)) : Type 0 where
+  pub head : List (List Piece)
+  pub rows : List (List Piece)
+  pub tail : List (List Piece)
+  pub each : length rows ≡ count
+  pub fine : All (IsLine width) (head ++ rows ++ tail)
+  pub written : Appends before after (text_bytes has_colour (head ++ rows ++ tail))

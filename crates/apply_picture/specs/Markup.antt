@@ -1,5 +1,5 @@
 -- What the SVG is made of: markup of ours, numbers, and characters of texts, which are escaped.
-use Rattle.std.specs.Prelude.{◌≡◌, ◌++◌, ◌∷◌, ◌==◌, ◌||◌, ◌⊎◌, [], ℕ, ◌/◌, ◌%◌, List, Bool, All, Option, IsTrue, codes, encode_utf8, if◌then◌else◌}
+use Rattle.std.specs.Prelude.{◌≡◌, ◌++◌, ◌∷◌, ◌==◌, ◌||◌, ◌⊎◌, [], ℕ, ◌/◌, ◌%◌, List, Bool, All, Option, IsTrue, codes, encode_utf8, if◌then◌else◌, length}
 use Rattle.std.specs.Fmt.{decimal}
 use Rattle.std.specs.List.{flat_map, list_any}
 use Rattle.std.specs.Str.{NoCharPasses, bytes_eq}
@@ -29,6 +29,32 @@ part_bytes (part.Character character) = escaped character
 pub record MarkupWritten (before after : Option (List ℕ)) : Type 0 where
   pub parts : List Part
   pub written : Appends before after (flat_map part_bytes parts)
+
+-- a row: what the group has
+abbrev pub group_bytes : List Part → List ℕ
+group_bytes parts = codes "<g>" ++ flat_map part_bytes parts ++ codes "</g>\n"
+
+pub record GroupWritten (before after : Option (List ℕ)) : Type 0 where
+  pub group : List Part
+  pub written : Appends before after (group_bytes group)
+
+-- so many rows were written, and nothing else
+pub record GroupsWritten (count : ℕ) (before after : Option (List ℕ)) : Type 0 where
+  pub groups : List (List Part)
+  pub each : length groups ≡ count
+  pub written : Appends before after (flat_map group_bytes groups)
+
+-- parts, so many rows, other parts, and the end of the SVG
+pub record SvgWritten (count : ℕ) (before after : Option (List ℕ)) : Type 0 where
+  pub head : List Part
+  pub groups : List (List Part)
+  pub tail : List Part
+  pub each : length groups ≡ count
+  pub written : Appends before after
+      (flat_map part_bytes head ++ flat_map group_bytes groups ++ flat_map part_bytes tail ++ codes "</svg>\n")
+
+abbrev pub SomeSvgWritten : (before after : Option (List ℕ)) → Type 0
+SomeSvgWritten before after = (count : ℕ) × SvgWritten count before after
 
 -- ---- text that is no markup
 

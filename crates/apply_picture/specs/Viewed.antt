@@ -4,7 +4,7 @@ use Rattle.std.specs.Io.KnownBytes.{Keeps}
 use Rattle.apply_view.specs.declared.told.view_fault.ViewFault.{ViewFault}
 use Rattle.apply_view.specs.declared.told.view_fault.ViewFault.TheVariants as told
 use Rattle.apply_picture.specs.Lines.{LinesWritten}
-use Rattle.apply_picture.specs.Markup.{MarkupWritten}
+use Rattle.apply_picture.specs.Markup.{SomeSvgWritten}
 use Rattle.apply_picture.specs.declared.command.colour.Colour.{Colour}
 use Rattle.apply_picture.specs.declared.command.colour.Colour.TheVariants as colour
 use Rattle.apply_picture.specs.declared.command.form.Form.{Form}
@@ -21,7 +21,7 @@ is_on is_wanted colour.Never = false
 -- a picture was written
 abbrev pub PictureWritten : Form → (is_wanted : Bool) → (before after : Option (List ℕ)) → Type 0
 PictureWritten (form.Text width colour) is_wanted before after = LinesWritten width (is_on is_wanted colour) before after
-PictureWritten form.Svg is_wanted before after = MarkupWritten before after
+PictureWritten form.Svg is_wanted before after = SomeSvgWritten before after
 
 -- What was written: the picture, or nothing where there was nothing to draw; where it could not be drawn to its end, nobody
 -- knows.

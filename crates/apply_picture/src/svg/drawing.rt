@@ -1,7 +1,7 @@
 //! The whole SVG.
 
-ghost use Rattle.std.specs.Prelude.{OnOk};
-ghost use Rattle.apply_picture.specs.Markup.{MarkupWritten};
+ghost use Rattle.std.specs.Prelude.{OnOk, length};
+ghost use Rattle.apply_picture.specs.Markup.{GroupWritten, GroupsWritten, MarkupWritten, SomeSvgWritten, SvgWritten};
 
 use crate::draw_fault::DrawFault;
 use crate::picture::Picture;
@@ -13,7 +13,7 @@ use crate::svg::scale::Scale;
 use crate::svg::sheet::{EDGE, ROW, WIDTH};
 use crate::svg::style::STYLE;
 use crate::telling::heading::heading;
-use crate::writing::flush;
+use crate::writing::{flush, write_text};
 use std::alloc::{AllocError, Global};
 use std::io::Write;
 
@@ -25,7 +25,8 @@ pub fn draw_svg<W: Write>(
     picture: &Picture<'_>,
     out: &mut W,
 ) -> Result<(), DrawFault>
-    ensures { OnOk result (MarkupWritten (W.contents out.old) (W.contents out.new)) }
+    ensures rows { OnOk result (SvgWritten (length picture.now.rows.places.items) (W.contents out.old) (W.contents out.new)) }
+    ensures svg { OnOk result (SomeSvgWritten (W.contents out.old) (W.contents out.new)) }
 {
     let scale = Scale::of(alloc, picture)?;
     let mut front = Markup::new(alloc);
@@ -38,9 +39,10 @@ pub fn draw_svg<W: Write>(
     push_head(alloc, &mut head, picture, height)?;
     head.send(alloc, out)?;
     front.send(alloc, out)?;
-    draw_rows(alloc, picture, scale, top, bottom, out)?;
-    back.own("</svg>\n")?;
+    draw_grid(alloc, picture, scale, top, bottom, out)?;
+    draw_rows(alloc, picture, scale, top, out)?;
     back.send(alloc, out)?;
+    write_text("</svg>\n", out)?;
     flush(out)?;
     Ok(())
 }
@@ -83,8 +85,8 @@ fn push_size(markup: &mut Markup, height: u64) -> Result<(), AllocError> {
     markup.own("\"")
 }
 
-/// Writes the rows, between those heights, where there are any.
-fn draw_rows<W: Write>(
+/// Writes what stands behind the rows, between those heights, where there are any.
+fn draw_grid<W: Write>(
     alloc: Global,
     picture: &Picture<'_>,
     scale: Scale,
@@ -100,17 +102,44 @@ fn draw_rows<W: Write>(
     draw_bands(alloc, picture.rows.places.len(), top, out)?;
     let mut markup = Markup::new(alloc);
     push_grid(&mut markup, scale, top, bottom)?;
-    for (row, place) in picture.rows.places.iter().enumerate() {
-        push_step(
-            alloc,
-            &mut markup,
-            picture,
-            scale,
-            *place,
-            y_of(top, row as u64),
-        )?;
-        markup.send(alloc, out)?;
+    markup.send(alloc, out)?;
+    Ok(())
+}
+
+/// Writes the rows from that height on, a group for each.
+fn draw_rows<W: Write>(
+    alloc: Global,
+    picture: &Picture<'_>,
+    scale: Scale,
+    top: u64,
+    out: &mut W,
+) -> Result<(), DrawFault>
+    ensures { OnOk result (GroupsWritten (length picture.now.rows.places.items) (W.contents out.old) (W.contents out.new)) }
+{
+    let mut y = top;
+    for place in &picture.rows.places {
+        draw_row(alloc, picture, scale, *place, y, out)?;
+        y = y.saturating_add(ROW);
     }
+    Ok(())
+}
+
+/// Writes the row of the step at that place, at that height; an empty group where none is.
+fn draw_row<W: Write>(
+    alloc: Global,
+    picture: &Picture<'_>,
+    scale: Scale,
+    place: usize,
+    y: u64,
+    out: &mut W,
+) -> Result<(), DrawFault>
+    ensures { OnOk result (GroupWritten (W.contents out.old) (W.contents out.new)) }
+{
+    let mut markup = Markup::new(alloc);
+    push_step(alloc, &mut markup, picture, scale, place, y)?;
+    write_text("<g>", out)?;
+    markup.send(alloc, out)?;
+    write_text("</g>\n", out)?;
     Ok(())
 }
 

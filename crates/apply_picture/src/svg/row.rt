@@ -34,13 +34,12 @@ pub fn push_row(
         width: right.saturating_sub(left).max(LEAST_BAR),
         top: y.saturating_add((ROW - BAR) / 2),
     };
-    markup.own("<g><title>")?;
+    markup.own("<title>")?;
     push_title(alloc, markup, picture, place, step)?;
     markup.own("</title>")?;
     push_label(alloc, markup, step, y)?;
     push_bar(markup, picture, scale, step, bar)?;
-    push_length(alloc, markup, picture, step, bar, y)?;
-    markup.own("</g>\n")
+    push_length(alloc, markup, picture, step, bar, y)
 }
 
 /// Adds all that is told of a step.

@@ -2,6 +2,7 @@
 
 ghost use Rattle.std.specs.Prelude.{◌≡◌, OnOk};
 
+use crate::picture::Picture;
 use crate::text::chart::Chart;
 use crate::text::line::Line;
 use crate::text::page::Page;
@@ -12,10 +13,19 @@ use std::alloc::{AllocError, Global};
 /// How many ticks an axis has at most.
 const MOST_TICKS: u64 = 1_000;
 
-/// Adds the axis: the text of each tick, where it fits.
-pub fn push_axis(alloc: Global, page: &mut Page, chart: &Chart) -> Result<(), AllocError>
+/// Adds an empty line and the axis, the text of each tick, where it fits; none where no step has a row.
+pub fn push_axis(
+    alloc: Global,
+    page: &mut Page,
+    picture: &Picture<'_>,
+    chart: &Chart,
+) -> Result<(), AllocError>
     ensures { OnOk result (page.new.style ≡ page.old.style) }
 {
+    if picture.rows.places.is_empty() {
+        return Ok(());
+    }
+    page.push_empty(alloc)?;
     let cells = axis_cells(alloc, chart)?;
     let mut line = Line::new(alloc, page.width());
     line.push_blanks(chart.front())?;

@@ -1,7 +1,7 @@
 //! The whole text.
 
-ghost use Rattle.std.specs.Prelude.{◌≡◌, OnOk};
-ghost use Rattle.apply_picture.specs.Lines.{LinesWritten};
+ghost use Rattle.std.specs.Prelude.{◌≡◌, IfOk, OnOk, length};
+ghost use Rattle.apply_picture.specs.Lines.{LinesWritten, RowsWritten, TextWritten};
 
 use crate::draw_fault::DrawFault;
 use crate::picture::Picture;
@@ -15,10 +15,12 @@ use crate::telling::passed::passed;
 use crate::text::at_once::push_at_once;
 use crate::text::axis::{push_axis, tick_cells};
 use crate::text::chart::Chart;
+use crate::text::line::Line;
 use crate::text::page::Page;
 use crate::text::paint::Paint;
 use crate::text::row::row_of;
 use crate::text::style::Style;
+use crate::text::writing::write_line;
 use crate::words::fitting::fitted;
 use crate::words::shown_text::ShownText;
 use crate::writing::flush;
@@ -35,16 +37,26 @@ pub fn draw_text<W: Write>(
     has_colour: bool,
     out: &mut W,
 ) -> Result<(), DrawFault>
-    ensures { OnOk result (LinesWritten width has_colour (W.contents out.old) (W.contents out.new)) }
+    ensures lines { OnOk result (LinesWritten width has_colour (W.contents out.old) (W.contents out.new)) }
+    ensures rows { OnOk result (TextWritten width has_colour (length picture.now.rows.places.items) (W.contents out.old) (W.contents out.new)) }
 {
-    let width = width as usize;
-    let mut page = Page::new(alloc, Style { width, has_colour });
-    push_head(alloc, &mut page, picture)?;
-    draw_chart(alloc, &mut page, picture, out)?;
-    push_alone(alloc, &mut page, picture)?;
-    push_notes(alloc, &mut page, picture)?;
-    push_passed(alloc, &mut page, picture)?;
-    page.send(alloc, out)?;
+    let style = Style {
+        width: width as usize,
+        has_colour,
+    };
+    let chart = Chart::of(alloc, picture, style.width)?;
+    let mut head = Page::new(alloc, style);
+    push_head(alloc, &mut head, picture)?;
+    push_axis(alloc, &mut head, picture, &chart)?;
+    head.send(alloc, out)?;
+    draw_rows(alloc, picture, &chart, style, out)?;
+    let mut tail = Page::new(alloc, style);
+    push_left_out(alloc, &mut tail, picture, &chart)?;
+    push_at_once(alloc, &mut tail, picture, &chart)?;
+    push_alone(alloc, &mut tail, picture)?;
+    push_notes(alloc, &mut tail, picture)?;
+    push_passed(alloc, &mut tail, picture)?;
+    tail.send(alloc, out)?;
     flush(out)?;
     Ok(())
 }
@@ -60,49 +72,38 @@ fn push_head(alloc: Global, page: &mut Page, picture: &Picture<'_>) -> Result<()
     }
 }
 
-/// Writes the axis and the rows, where some step has one.
-fn draw_chart<W: Write>(
+/// Writes the rows, a line for each.
+fn draw_rows<W: Write>(
     alloc: Global,
-    page: &mut Page,
     picture: &Picture<'_>,
+    chart: &Chart,
+    style: Style,
     out: &mut W,
 ) -> Result<(), DrawFault>
-    ensures style { OnOk result (page.new.style ≡ page.old.style) }
-    ensures lines { OnOk result (LinesWritten page.old.style.width page.old.style.has_colour (W.contents out.old) (W.contents out.new)) }
+    ensures { OnOk result (RowsWritten style.width style.has_colour (length picture.now.rows.places.items) (W.contents out.old) (W.contents out.new)) }
 {
-    if picture.rows.places.is_empty() {
-        return Ok(());
-    }
-    let chart = Chart::of(alloc, picture, page.width())?;
-    page.push_empty(alloc)?;
-    push_axis(alloc, page, &chart)?;
-    let ticks = tick_cells(alloc, &chart)?;
+    let ticks = tick_cells(alloc, chart)?;
     for place in &picture.rows.places {
-        push_row(alloc, page, picture, &chart, &ticks, *place)?;
-        page.send(alloc, out)?;
+        let line = line_of(alloc, picture, chart, &ticks, *place, style.width)?;
+        write_line(alloc, &line, style.has_colour, out)?;
     }
-    push_left_out(alloc, page, picture, &chart)?;
-    push_at_once(alloc, page, picture, &chart)?;
     Ok(())
 }
 
-/// Adds the row of the step at that place.
-fn push_row(
+/// The row of the step at that place; an empty line where none is.
+fn line_of(
     alloc: Global,
-    page: &mut Page,
     picture: &Picture<'_>,
     chart: &Chart,
     ticks: &[bool],
     place: usize,
-) -> Result<(), AllocError>
-    ensures { OnOk result (page.new.style ≡ page.old.style) }
+    width: usize,
+) -> Result<Line, AllocError>
+    ensures { IfOk result (λ line. line.width ≡ width) }
 {
     match picture.told.steps().get(place) {
-        Some(step) => {
-            let line = row_of(alloc, picture, chart, ticks, step, page.width())?;
-            page.push(line)
-        }
-        None => Ok(()),
+        Some(step) => row_of(alloc, picture, chart, ticks, step, width),
+        None => Ok(Line::new(alloc, width)),
     }
 }
 

@@ -21,9 +21,22 @@ pub fn write_lines<W: Write>(
         (text_bytes has_colour (map (λ line. line.pieces.items) lines.now))) }
 {
     for line in lines {
-        let text = line_text(alloc, line, has_colour)?;
-        write_text(text.as_str(), out)?;
+        write_line(alloc, line, has_colour, out)?;
     }
+    Ok(())
+}
+
+/// Writes a line, with the sequences of colours or without.
+pub fn write_line<W: Write>(
+    alloc: Global,
+    line: &Line,
+    has_colour: bool,
+    out: &mut W,
+) -> Result<(), DrawFault>
+    ensures { OnOk result (Appends (W.contents out.old) (W.contents out.new) (line_bytes has_colour line.now.pieces.items)) }
+{
+    let text = line_text(alloc, line, has_colour)?;
+    write_text(text.as_str(), out)?;
     Ok(())
 }
 

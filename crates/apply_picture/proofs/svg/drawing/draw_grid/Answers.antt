@@ -1,0 +1,5 @@
+use Rattle.apply_picture.proofs.Sent.{more_markup}
+use Rattle.apply_picture.proofs.svg.drawing.draw_grid.Goals as goal
+
+pub returns : goal.returns
+returns g c = more_markup _ _ _ c.push_grid.new.markup.parts.items c.in_ok-draw_bands.ensures c.in_ok-send.ensures

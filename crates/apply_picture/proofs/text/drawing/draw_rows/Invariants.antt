@@ -1,0 +1,5 @@
+use Rattle.apply_picture.specs.Lines.{RowsWritten}
+use Rattle.apply_picture.proofs.text.drawing.draw_rows.Given as goal
+
+abbrev pub invariant-loop-place : goal.invariant-loop-place
+invariant-loop-place g l = RowsWritten l.style.width l.style.has_colour l.place-index (g.W.Write.contents l.initial.out) (g.W.Write.contents l.out)
