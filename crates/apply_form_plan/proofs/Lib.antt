@@ -3,9 +3,11 @@ mod Beginnings
 mod Copying
 mod Documents
 mod ElementLists
+mod InOrder
 mod KeptOutputs
 mod KeptTexts
 mod MapMembers
 mod MemberTurns
+mod Names
 mod Seeking
 mod Trimmed

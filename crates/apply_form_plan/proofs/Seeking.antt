@@ -63,10 +63,10 @@ changes_are OutputChange is = absurd cc
 changes_are Text is = absurd cc
 
 -- it is found at its name, and the others stay
-at_name : (key name : List ℕ) (d : Data) (ms : Members) → bytes_eq name key ≡ true → get_member key (put name d ms) ≡ Some d
+pub at_name : (key name : List ℕ) (d : Data) (ms : Members) → bytes_eq name key ≡ true → get_member key (put name d ms) ≡ Some d
 at_name key name d ms is = let same : name ≡ key = (bytes_eq-Decides name key).0 is in ap (λ k. get_member k (put name d ms)) (sym same) ∙ get_member-put name d ms
 
-at_other : (key name : List ℕ) (d : Data) (ms : Members) → bytes_eq name key ≡ false → get_member key (put name d ms) ≡ get_member key ms
+pub at_other : (key name : List ℕ) (d : Data) (ms : Members) → bytes_eq name key ≡ false → get_member key (put name d ms) ≡ get_member key ms
 at_other key name d ms not = get_member-put_other key name d ms (λ same. true≢false (sym ((bytes_eq-Decides name key).1 (sym same)) ∙ not))
 
 apart : (name key other : List ℕ) → bytes_eq name key ≡ true → bytes_eq key other ≡ false → bytes_eq name other ≡ false

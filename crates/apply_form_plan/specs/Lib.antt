@@ -1,5 +1,6 @@
 pub mod Changes
 pub mod Details
+pub mod InOrder
 pub mod Kept
 pub mod Outputs
 pub mod Plan

@@ -14,7 +14,7 @@ use Rattle.apply_plan.specs.Results as results
 use Rattle.apply_form.specs.declared.output.Output.{Output}
 use Rattle.apply_form_plan.specs.declared.plan_outputs.PlanOutputs.{PlanOutputs}
 use Rattle.apply_form_plan.specs.declared.texts.part.Part.TheVariants as part
-use Rattle.apply_form_plan.specs.Kept.{members_view}
+use Rattle.apply_form_plan.specs.Kept.{put_all}
 use Rattle.apply_form_plan.specs.Texts.{json_of, with_texts}
 
 -- a member that is kept as text
@@ -60,7 +60,7 @@ outputs_of_plan plan = record {
 
 -- the same, as code has it
 abbrev pub seen_outputs : PlanOutputs → OutputsOfPlan
-seen_outputs outputs = record { known = members_view outputs.known.entries; changes = option_map view outputs.changes }
+seen_outputs outputs = record { known = put_all outputs.known.items no_members; changes = option_map view outputs.changes }
 
 -- what is planned of the output of that name
 abbrev pub change_of : (changes : Option Data) → List ℕ → Option Data

@@ -35,10 +35,10 @@ pub fn read_details(alloc: Global, bytes: &[u8]) -> Result<Details, JsonFault>
     ensures err { IfErr result (λ fault. IsNoTree max_bytes fault bytes.now) }
 {
     let (plan, sought) = read_parts(alloc, bytes)?;
-    match PlanOutputs::of(alloc, sought) {
-        Ok(outputs) => Ok(Details { plan, outputs }),
-        Err(_) => Err(JsonFault::Memory),
-    }
+    Ok(Details {
+        plan,
+        outputs: PlanOutputs::of(alloc, sought),
+    })
 }
 
 /// What is read of the bytes, without the room that reading takes.

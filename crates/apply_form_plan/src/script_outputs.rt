@@ -3,6 +3,7 @@
 ghost use Rattle.std.specs.Prelude.{◌≡◌, Err, IfOk, None, Some, option_map};
 ghost use Rattle.json.specs.Json.{Json};
 ghost use Rattle.apply_plan.specs.Results.{Gives};
+ghost use Rattle.apply_form_plan.specs.InOrder.{KnowsAs};
 ghost use Rattle.apply_form_plan.specs.Kept.{found_view, members_view};
 ghost use Rattle.apply_form_plan.specs.Outputs.{fault_of, outputs_in_script, outputs_of_bytes, seen_outputs, unless_faulty};
 ghost use Rattle.apply_form_plan.specs.Sought.{IsSoughtIn};
@@ -21,7 +22,8 @@ use crate::texts::seeking::read_sought;
 use apply_json::{ReadFault, Scratch};
 use apply_plan::ScriptError;
 use serde_json::Map;
-use std::alloc::Global;
+use std::alloc::{AllocError, Global};
+use std::collections::BTreeMap;
 
 /// What a script says for Terraform's form alone: its `outputs`, an object whose members are outputs of the plan by their
 /// names, each an object with `type`, and with `value` and `sensitive` where it has them. What `terraform output -json`
@@ -62,9 +64,10 @@ fn extras_of(
         (unless_faulty (seen_outputs plan.now) (outputs_in_script (option_map found_view found))) }
 {
     match outputs_in(alloc, found) {
-        Ok(outputs) => match fault(&outputs, plan) {
-            Some(fault) => Err(fault),
-            None => Ok(Extras { outputs }),
+        Ok(outputs) => match fault(alloc, &outputs, plan) {
+            Ok(Some(fault)) => Err(fault),
+            Ok(None) => Ok(Extras { outputs }),
+            Err(_) => Err(ScriptError::Memory),
         },
         Err(fault) => Err(fault),
     }
@@ -92,8 +95,29 @@ fn outputs_in(
     }
 }
 
-/// The first fault of the outputs.
-fn fault(outputs: &Map<String, KeptOutput>, plan: &PlanOutputs) -> Option<ScriptError>
+/// The first fault of the outputs. `Err` where memory is refused.
+fn fault(
+    alloc: Global,
+    outputs: &Map<String, KeptOutput>,
+    plan: &PlanOutputs,
+) -> Result<Option<ScriptError>, AllocError>
+    ensures { IfOk result
+        (λ fault. fault ≡ fault_of (seen_outputs plan.now) 0 (members_view outputs.now.entries)) }
+{
+    if outputs.is_empty() {
+        return Ok(None);
+    }
+    let names = plan.names(alloc)?;
+    Ok(first_fault(outputs, plan, &names))
+}
+
+/// The first fault of the outputs, by the names of those that the plan knows.
+fn first_fault(
+    outputs: &Map<String, KeptOutput>,
+    plan: &PlanOutputs,
+    names: &BTreeMap<&str, bool>,
+) -> Option<ScriptError>
+    requires { KnowsAs (seen_outputs plan.now) names.now }
     ensures { result ≡ fault_of (seen_outputs plan.now) 0 (members_view outputs.now.entries) }
 {
     let count = outputs.len();
@@ -102,7 +126,7 @@ fn fault(outputs: &Map<String, KeptOutput>, plan: &PlanOutputs) -> Option<Script
         if !is_output(output) {
             return Some(ScriptError::BadOutput(count - left));
         }
-        if !plan.has(name.as_str()) {
+        if !plan.has(names, name.as_str()) {
             return Some(ScriptError::UnknownOutput(count - left));
         }
         left -= 1;

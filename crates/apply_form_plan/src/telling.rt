@@ -1,12 +1,15 @@
 //! The outputs that are told.
 
-ghost use Rattle.std.specs.Prelude.{◌≡◌, IfOk, option_map};
+ghost use Rattle.std.specs.Prelude.{◌≡◌, ◌++◌, IfOk, IsTrue, OnOk, option_map};
 ghost use Rattle.serde_json.specs.View.{view};
+ghost use Rattle.apply_form_plan.specs.InOrder.{IsAscending, told_each, told_one};
+ghost use Rattle.apply_form_plan.specs.Kept as kept;
 ghost use Rattle.apply_form_plan.specs.Kept.{members_view};
 ghost use Rattle.apply_form_plan.specs.Outputs as told;
 ghost use Rattle.apply_form_plan.specs.Outputs.{seen_outputs};
 
 use crate::extras::Extras;
+use crate::kept::by_name::by_name;
 use crate::kept::kept_output::KeptOutput;
 use crate::output_changes::is_told;
 use crate::outputs::output_of;
@@ -26,8 +29,62 @@ pub fn told_outputs(
         ≡ told.told_outputs (seen_outputs plan) (members_view script.outputs.entries)) }
 {
     let PlanOutputs { known, changes } = plan;
+    // Terraform writes them in this order, and there may be very many: so no map of them is made.
+    if script.outputs.is_empty() && is_ascending(known.as_slice()) {
+        return in_order(alloc, known, changes.as_ref());
+    }
+    let known = by_name(alloc, known)?;
     let found = beside(known, changes.as_ref(), script.outputs)?;
     as_outputs(alloc, found)
+}
+
+/// Whether each name is below the next, as it is in what Terraform writes.
+fn is_ascending(outputs: &[(String, KeptOutput)]) -> bool
+    ensures { IsTrue result → IsAscending outputs.now }
+{
+    let mut rest = outputs;
+    while let [output, others @ ..] = rest {
+        if let Some(next) = others.first() {
+            if output.0.as_str() >= next.0.as_str() {
+                return false;
+            }
+        }
+        rest = others;
+    }
+    true
+}
+
+/// Those that are told, in their order. `Err` where memory is refused.
+fn in_order(
+    alloc: Global,
+    known: Vec<(String, KeptOutput)>,
+    changes: Option<&Value>,
+) -> Result<Vec<Output>, AllocError>
+    ensures { IfOk result (λ outputs. outputs.items
+        ≡ told_each (option_map (λ value. view value.now) changes.entry) known.items) }
+{
+    let mut outputs = Vec::with_capacity(alloc, known.len())?;
+    for (name, output) in known {
+        push_told(alloc, &mut outputs, changes, name.as_str(), &output)?;
+    }
+    Ok(outputs)
+}
+
+/// Appends the output of that name, where it is told. `Err` where memory is refused.
+fn push_told(
+    alloc: Global,
+    outputs: &mut Vec<Output>,
+    changes: Option<&Value>,
+    name: &str,
+    output: &KeptOutput,
+) -> Result<(), AllocError>
+    ensures { OnOk result (outputs.new.items ≡ outputs.old.items
+        ++ told_one (option_map (λ value. view value.now) changes.entry) name.now (kept.view output.now)) }
+{
+    if is_told(changes, name, output) {
+        outputs.push(output_of(alloc, name, output)?)?;
+    }
+    Ok(())
 }
 
 /// What was found, and beside it those of the plan that are told.

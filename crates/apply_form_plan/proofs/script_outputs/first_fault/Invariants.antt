@@ -1,7 +1,7 @@
 use Rattle.std.proofs.Common.{◌≡◌, ◌-◌, ◌≤◌, length}
 use Rattle.apply_form_plan.specs.Kept.{members_view}
 use Rattle.apply_form_plan.specs.Outputs.{fault_of, seen_outputs}
-use Rattle.apply_form_plan.proofs.script_outputs.fault.Given as goal
+use Rattle.apply_form_plan.proofs.script_outputs.first_fault.Given as goal
 
 abbrev pub invariant-loop-name : goal.invariant-loop-name
 invariant-loop-name l =
