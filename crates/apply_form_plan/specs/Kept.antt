@@ -10,8 +10,6 @@ use Rattle.apply_form_plan.specs.declared.kept.kept_output.KeptOutput.TheVariant
 use Rattle.apply_form_plan.specs.declared.kept.output_member.OutputMember.{OutputMember}
 use Rattle.apply_form_plan.specs.declared.kept.output_member.OutputMember.TheVariants as kind
 use Rattle.apply_form_plan.specs.declared.kept.output_members.OutputMembers.{OutputMembers}
-use Rattle.apply_form_plan.specs.declared.kept.output_type.OutputType.{OutputType}
-use Rattle.apply_form_plan.specs.declared.kept.output_type.OutputType.TheVariants as type
 use Rattle.apply_form_plan.specs.declared.kept.sensitivity.Sensitivity.{Sensitivity}
 use Rattle.apply_form_plan.specs.declared.kept.sensitivity.Sensitivity.TheVariants.{Absent, Yes, No, Other}
 
@@ -40,16 +38,12 @@ abbrev pub members_of_output : OutputMembers → Members
 members_of_output output =
     three_members (sensitive_text output.sensitive) (option_map string_bytes output.kind) (option_map string_bytes output.value)
 
-abbrev pub type_text : OutputType → List ℕ
-type_text type.Text = codes "\"string\""
-type_text (type.Other text) = string_bytes text
-
 abbrev pub flag_text : Bool → List ℕ
 flag_text flag = if flag then codes "true" else codes "false"
 
 abbrev pub view : KeptOutput → Data
 view (kept.Usual output) =
-    object (three_members (Some (flag_text output.is_sensitive)) (Some (type_text output.kind)) (Some (string_bytes output.value)))
+    object (three_members (Some (flag_text output.is_sensitive)) (Some (string_bytes output.kind)) (Some (string_bytes output.value)))
 view (kept.Object output) = object (members_of_output output.value)
 view (kept.Other text) = string (string_bytes text)
 

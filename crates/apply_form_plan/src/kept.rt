@@ -5,7 +5,6 @@ pub mod found_outputs;
 pub mod kept_output;
 pub mod output_member;
 pub mod output_members;
-mod output_type;
 pub mod sensitivity;
 pub mod sought;
 mod usual_output;

@@ -7,7 +7,6 @@ ghost use Rattle.apply_form_plan.specs.Kept.{flag_text, members_of_output, view}
 ghost use Rattle.apply_form_plan.specs.Outputs as outputs;
 
 use crate::kept::output_members::OutputMembers;
-use crate::kept::output_type::OutputType;
 use crate::kept::sensitivity::Sensitivity;
 use crate::kept::usual_output::UsualOutput;
 use std::alloc::{AllocError, Global};
@@ -41,7 +40,7 @@ impl KeptOutput {
             Some(kind) => match value {
                 Some(value) => Ok(KeptOutput::Usual(UsualOutput {
                     is_sensitive,
-                    kind: OutputType::of(kind),
+                    kind,
                     value,
                 })),
                 None => boxed(alloc, sensitive, Some(kind), None),
@@ -66,7 +65,7 @@ impl KeptOutput {
         ensures { option_copied result ≡ outputs.text_at (codes "type") (view self.now) }
     {
         match self {
-            KeptOutput::Usual(output) => Some(output.kind.text()),
+            KeptOutput::Usual(output) => Some(output.kind.as_str()),
             KeptOutput::Object(members) => text_of(&members.kind),
             KeptOutput::Other(_) => None,
         }
