@@ -1,5 +1,5 @@
 -- Intervals end no sooner than they begin, and the lengths of all stretches together have 64 bits.
-use Rattle.std.proofs.Common.{◌≡◌, ℕ, ◌+◌, ◌^◌, ◌<◌, ◌≤◌, ℤ, pos, negsuc, List, [], ◌∷◌, Bool, true, false, cond, eqb, ltb, length, get_or, suc, zero, ⊎_elim, arith, All}
+use Rattle.std.proofs.Common.{◌≡◌, ℕ, ◌+◌, ◌^◌, ◌<◌, ◌≤◌, ℤ, pos, negsuc, List, [], ◌∷◌, Bool, true, false, cond, eqb, ltb, length, get_or, suc, zero, subst, ⊎_elim, arith, All}
 use Rattle.std.specs.Prelude.{int_lt, unwrap_or}
 use Rattle.std.specs.Int.{int_gap, int_max}
 use Rattle.std.specs.List.{AllByRecursion, sum_by}
@@ -92,8 +92,15 @@ small_end : (is : List Interval) → AllByRecursion IsSmallInterval is → AllBy
 small_end [] s = tt
 small_end (i ∷ is) s = (let end = s.0.end in omega arith, small_end is s.1)
 
-pub lengths_fit : (is : List Interval) → All IsOrdered is → All IsSmallInterval is → sum_by stretch_length (stretches_of is) < 2 ^ 64
+lengths_fit : (is : List Interval) → All IsOrdered is → All IsSmallInterval is → sum_by stretch_length (stretches_of is) < 2 ^ 64
 lengths_fit is o s = let all = lengths_within 18446744073709551615 is o (small_end is (recursion_from_All IsSmallInterval is s)) in omega (arith, all)
+
+-- so they are of the steps of a stream
+pub told_fit : (m : Moments) (steps : List ToldStep) (found : List Interval) (ss : List Stretch) → found ≡ intervals_of m steps → All IsSmallInterval found → ss ≡ stretches_of found
+    → sum_by stretch_length ss < 2 ^ 64
+told_fit m steps found ss is small same =
+    let fit = lengths_fit (intervals_of m steps) (intervals_ordered m steps) (subst (λ (xs : List Interval). All IsSmallInterval xs) is small) in
+    rw (same, is) fit
 
 -- some step is under way in no more than all of them
 pub busy_le_lengths : (ss : List Stretch) → busy_in ss ≤ sum_by stretch_length ss

@@ -26,8 +26,8 @@ front_part text = if nat_le (length text) (front_bytes + back_bytes) then text e
 abbrev pub back_part : List ℕ → List ℕ
 back_part text = if nat_le (length text) (front_bytes + back_bytes) then [] else drop (length text - back_bytes) text
 
--- A text as it is kept. Fitted to 1,000 columns it is the same: its first 400 columns take at most 8,000 bytes and its last
--- 602 at most 12,040, where at most four characters without width stand behind one another.
+-- A text as it is kept. Fitted to 1,000 columns it is the same: its first 400 columns take at most 8,000 bytes and its
+-- last 602 at most 12,040, where at most four characters without width stand behind one another.
 abbrev pub kept : List ℕ → List ℕ
 kept text = front_part text ++ back_part text
 
@@ -83,6 +83,7 @@ diagnostic_of d = record {
   address = option_map kept (text_of (codes "address") d);
   file = option_map kept (file_of d);
   line = line_of d;
-  detail = map (λ line. kept (trimmed_line line)) (take detail_lines (lines_of_detail (text_or_empty (codes "detail") d)));
+  detail = map (λ line. kept (trimmed_line line))
+      (take detail_lines (lines_of_detail (text_or_empty (codes "detail") d)));
   more = length (lines_of_detail (text_or_empty (codes "detail") d)) - detail_lines;
 }

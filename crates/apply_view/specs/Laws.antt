@@ -37,8 +37,8 @@ begin_lines lines = places_from 1 begins_step lines
 abbrev pub says : ℤ → Said → Option Message
 says moment said = Some (record { moment = moment; said = said })
 
--- It begins at the moment of its line, which begins a step of its address and action. Where an end is told, a later line ends
--- one of these and says whether it failed, and it ends at that moment, but no sooner than it begins.
+-- It begins at the moment of its line, which begins a step of its address and action. Where an end is told, a later
+-- line ends one of these and says whether it failed, and it ends at that moment, but no sooner than it begins.
 pub record IsOfItsLines (lines : List (List ℕ)) (step : ToldStep) : Type 0 where
   pub begin : message_at lines step.line ≡ says step.begin (begins step.address step.action)
   pub end : IfSome step.end (λ told. (number : ℕ) × (moment : ℤ) × (step.line < number)

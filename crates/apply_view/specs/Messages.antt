@@ -45,7 +45,8 @@ begin_of d =
 
 abbrev pub end_of : (failed : Bool) → Data → Said
 end_of failed d =
-    option_map_or (λ address. option_map_or (λ action. ends address action failed) (hook_text (codes "action") d) lacking)
+    option_map_or (λ address. option_map_or (λ action. ends address action failed)
+    (hook_text (codes "action") d) lacking)
     (address_of d) lacking
 
 -- a refresh tells no action
@@ -57,7 +58,8 @@ refresh_end_of d = option_map_or (λ address. ends address (codes "refresh") fal
 
 abbrev pub provisioner_begin_of : Data → Said
 provisioner_begin_of d =
-    option_map_or (λ address. begins_provisioner address (unwrap_or (hook_text (codes "provisioner") d) [])) (address_of d) lacking
+    option_map_or (λ address. begins_provisioner address (unwrap_or (hook_text (codes "provisioner") d) []))
+    (address_of d) lacking
 
 abbrev pub provisioner_end_of : (failed : Bool) → Data → Said
 provisioner_end_of failed d = option_map_or (λ address. ends_provisioner address failed) (address_of d) lacking
@@ -88,7 +90,8 @@ no_totals_said = record { added = None; changed = None; removed = None; imported
 
 abbrev pub summary_in : Data → Said
 summary_in changes =
-    if bytes_eq (text_or_empty (codes "operation") changes) (codes "plan") then plan_summary else summary (totals_in changes)
+    if bytes_eq (text_or_empty (codes "operation") changes) (codes "plan") then plan_summary
+    else summary (totals_in changes)
 
 abbrev pub summary_of : Data → Said
 summary_of d = option_map_or summary_in (member_of (codes "changes") d) (summary no_totals_said)
@@ -140,6 +143,7 @@ message_at name d moment = record { moment = moment; said = said_of name d }
 abbrev pub tree_message : Data → Option Message
 tree_message d = text_of (codes "type") d >>= λ name. (moment_of d >>= λ moment. Some (message_at name d moment))
 
--- the message that a line is; none where it is no object (RFC 8259) that nests at most 127 deep, or lacks type or moment
+-- the message that a line is; none where it is no object (RFC 8259) that nests at most 127 deep, or lacks type or
+-- moment
 abbrev pub message_of : List ℕ → Option Message
 message_of line = tree_of line >>= tree_message

@@ -44,7 +44,8 @@ comes_before a b =
 abbrev pub rank_of : List Candidate → Candidate → ℕ
 rank_of all c = count_by (λ (other : Candidate). comes_before other c) all
 
--- one before which so many come gets a row: of the first so many each that is marked, long enough, or among the first ten
+-- one before which so many come gets a row: of the first so many each that is marked, long enough, or among the first
+-- ten
 abbrev pub gets_row_within : (limit : ℕ) → (span : ℕ) → (rank : ℕ) → Candidate → Bool
 gets_row_within limit span rank c =
     nat_lt rank limit && (nat_lt rank sure_rows || (c.marked || nat_le span (c.length * span_parts)))
@@ -76,13 +77,15 @@ AreRanked cs = AllPairs (λ sooner later. comes_before sooner later ≡ true) cs
 
 -- ---- the rows
 
--- a place comes before another where its step begins no later, and of steps that begin at once where its line is earlier
+-- a place comes before another where its step begins no later, and of steps that begin at once where its line is
+-- earlier
 pub record IsPrintedBefore (steps : List ToldStep) (sooner later : ℕ) : Type 0 where
   pub begins : (d : ToldStep) → int_lt (get_or steps later d).begin (get_or steps sooner d).begin ≡ false
   pub at_once : (d : ToldStep) → (get_or steps sooner d).begin ≡ (get_or steps later d).begin → sooner ≤ later
 
--- The rows of these steps, of a stream with these moments. Each place stands among theirs as often as among those that are
--- chosen, which is once or not at all; and what is said of the others is their number, their greatest length and the sum.
+-- The rows of these steps, of a stream with these moments. Each place stands among theirs as often as among those that
+-- are chosen, which is once or not at all; and what is said of the others is their number, their greatest length and
+-- the sum.
 pub record AreRowsOf (moments : Moments) (steps : List ToldStep) (limit : Option ℕ) (rows : Rows) : Type 0 where
   pub shown : (place : ℕ) → count_by (λ shown. shown == place) rows.places.items
       ≡ count_by (λ (c : Candidate). c.place == place) (chosen limit (span_of moments) (candidates_of moments steps))

@@ -20,8 +20,8 @@ abbrev pub marked_at : List ℕ → List ToldStep → List ToldStep
 marked_at [] steps = steps
 marked_at (place ∷ places) steps = marked_at places (at_place place marked steps)
 
--- the viewer has taken lines that tell this: it knows the places of the steps that are open, and no count is greater than that
--- of the lines
+-- the viewer has taken lines that tell this: it knows the places of the steps that are open, and no count is greater
+-- than that of the lines
 pub record HasTold (viewer : Viewer) (told : Telling) : Type 0 where
   pub is : viewer.told ≡ told
   pub places : (address : List ℕ) → places_at viewer.opened address ≡ places (is_open_at address) told.steps
@@ -44,7 +44,8 @@ abbrev pub IsTooMuch : Telling → Type 0
 IsTooMuch told = max_steps < told.begun
 
 -- the answer to one more line, or to what it says
-abbrev pub Goes : (Before : Telling → Type 0) → (new : Viewer) → (Telling → Telling) → Result (Unit {0}) ViewFault → Type 0
+abbrev pub Goes : (Before : Telling → Type 0) → (new : Viewer) → (Telling → Telling) → Result (Unit {0}) ViewFault
+    → Type 0
 Goes Before new more (Ok done) = (told : Telling) → Before told → HasTold new (more told)
 Goes Before new more (Err fault.TooManySteps) = (told : Telling) → Before told → IsTooMuch (more told)
 Goes Before new more (Err fault.Memory) = ⊤

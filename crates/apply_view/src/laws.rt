@@ -34,7 +34,8 @@ pub fn work_is_the_number_under_way_times_the_length()
 
 /// Some step is under way no longer than all of them are, one after another.
 pub fn busy_is_at_most_the_work()
-    ensures { (intervals : List interval) → All IsOrdered intervals → busy_in (stretches_of intervals) ≤ work_of intervals }
+    ensures { (intervals : List interval) → All IsOrdered intervals
+        → busy_in (stretches_of intervals) ≤ work_of intervals }
 {}
 
 /// Some step is under way no longer than the stream spans.
@@ -63,8 +64,10 @@ pub fn shown_and_left_out_are_all()
 
 /// Of two moments the one that is no later stands no further on a line, also in halves of cells.
 pub fn what_comes_no_later_stands_no_further()
-    ensures place { (width span sooner later : ℕ) → sooner ≤ later → place_on width span sooner ≤ place_on width span later }
-    ensures first { (cells span sooner later : ℕ) → sooner ≤ later → first_half cells span sooner ≤ first_half cells span later }
+    ensures place { (width span sooner later : ℕ) → sooner ≤ later
+        → place_on width span sooner ≤ place_on width span later }
+    ensures first { (cells span sooner later : ℕ) → sooner ≤ later
+        → first_half cells span sooner ≤ first_half cells span later }
     ensures end { (cells span first second sooner later : ℕ) → first ≤ second → sooner ≤ later
         → end_half cells span first sooner ≤ end_half cells span second later }
 {}

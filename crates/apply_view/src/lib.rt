@@ -1,5 +1,5 @@
-//! What the stream of an apply tells, and the numbers that a picture of it needs: which steps ran when, what ran beside what,
-//! and which of them get a row.
+//! What the stream of an apply tells, and the numbers that a picture of it needs: which steps ran when, what ran beside
+//! what, and which of them get a row.
 #![tactic(auto)]
 
 mod bars;

@@ -1,4 +1,6 @@
+pub mod Counting
+pub mod Counts
 pub mod Looking
 pub mod Matching
-pub mod Counting
 pub mod Streams
+pub mod Types

@@ -1,7 +1,7 @@
 -- What a check reads of a message, a picture reads too.
-use Rattle.std.proofs.Common.{◌≡◌, ℕ, List, codes, Option, Some, None, Result, Ok, Err, refl, sym, ap, ◌∙◌}
+use Rattle.std.proofs.Common.{◌≡◌, ℕ, List, codes, Option, Some, None, Result, Ok, Err, refl, ap}
 use Rattle.serde_json.specs.Data.{Data, null, boolean, number, string, array, object}
-use Rattle.serde_json.specs.Find.{as_object, as_str, get}
+use Rattle.serde_json.specs.Find.{as_str, get}
 use Rattle.apply_json.specs.Tree as tree
 use Rattle.apply_check.specs.declared.messages.path.Path.{Path}
 use Rattle.apply_check.specs.declared.messages.path.Path.TheVariants as path

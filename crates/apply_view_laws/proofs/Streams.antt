@@ -1,5 +1,5 @@
 -- A whole stream.
-use Rattle.std.proofs.Common.{◌≡◌, ◌≢◌, ℕ, ◌+◌, ◌<◌, ◌≤◌, ℤ, List, [], ◌∷◌, codes, Bool, true, false, cond, ltb, length, get_or, drop, fold, Option, Some, None, Result, Ok, Err, suc, refl, sym, ap, ◌∙◌, subst, ⊎_elim, arith, All, count_by}
+use Rattle.std.proofs.Common.{◌≡◌, ℕ, ◌+◌, ◌≤◌, ℤ, List, [], ◌∷◌, codes, Bool, true, false, cond, ltb, length, get_or, drop, fold, Option, Some, None, Result, Ok, Err, suc, refl, sym, ap, ◌∙◌, subst, ⊎_elim, arith, All, count_by}
 use Rattle.std.specs.Prelude.{◌&&◌, is_none, is_some}
 use Rattle.std.specs.List.{AllByRecursion}
 use Rattle.std.specs.Option.{option_map_or}
@@ -13,7 +13,7 @@ use Rattle.serde_json.specs.Data.{Data}
 use Rattle.apply_json.specs.Tree as json
 use Rattle.apply_lines.specs.Limits.{max_bytes}
 use Rattle.apply_check.specs.declared.messages.action.Action.{Action}
-use Rattle.apply_check.specs.declared.messages.action.Action.TheVariants.{Create, Update, Delete, Read, Refresh}
+use Rattle.apply_check.specs.declared.messages.action.Action.TheVariants.{Create, Update, Delete}
 use Rattle.apply_check.specs.declared.messages.totals.Totals.{Totals}
 use Rattle.apply_check.specs.declared.rules.fault.Fault.{Fault}
 use Rattle.apply_check.specs.declared.rules.fault.Fault.TheVariants.{NotJson, TooLong}
@@ -24,18 +24,17 @@ use Rattle.apply_check.specs.Lines as lines
 use Rattle.apply_check.specs.Message as check
 use Rattle.apply_check.specs.Results as results
 use Rattle.apply_check.specs.Results.{or_refuse}
-use Rattle.apply_check.specs.Tally.{completed_totals, completes}
+use Rattle.apply_check.specs.Tally.{completed_totals}
 use Rattle.apply_check.specs.Words.{action_word}
-use Rattle.apply_view.specs.Laws.{message_in}
-use Rattle.apply_view.specs.Messages.{Message, hook_text, message_of, moment_of, said_of, tree_message}
-use Rattle.apply_view.specs.Numbers.{completed_of}
-use Rattle.apply_view.specs.Steps.{ToldStep, is_open_with}
-use Rattle.apply_view.specs.Telling.{Telling, is_blank_line, nothing_told, told_of, with_line, with_message_or_passed}
+use Rattle.apply_view.specs.Messages.{Message, hook_text, message_of, moment_of, said_of}
+use Rattle.apply_view.specs.Steps.{ToldStep}
+use Rattle.apply_view.specs.Telling.{Telling, is_blank_line, nothing_told, told_of, with_line}
 use Rattle.apply_view_laws.specs.Agreement as words
 use Rattle.apply_view_laws.specs.Agreement.{AllEnded, AreCounted, IsTimed, is_ephemeral, type_of}
-use Rattle.apply_view_laws.proofs.Counting.{Agrees, agrees_more, one_if, open_with}
-use Rattle.apply_view_laws.proofs.Looking.{bind_ok}
-use Rattle.apply_view_laws.proofs.Matching.{is_change, matched}
+use Rattle.apply_view_laws.proofs.Counting.{Agrees, agrees_more, open_with}
+use Rattle.apply_view_laws.proofs.Counts.{one_if}
+use Rattle.apply_view_laws.proofs.Matching.{is_change}
+use Rattle.apply_view_laws.proofs.Types.{matched}
 
 -- ---- a line
 

@@ -1,5 +1,5 @@
 -- What a picture shows of what a check counts.
-use Rattle.std.specs.Prelude.{◌≡◌, All, ℕ, List, codes, Bool, true, false, ◌&&◌, ◌||◌, Option, Some, None, is_none, is_some}
+use Rattle.std.specs.Prelude.{◌≡◌, All, ℕ, List, codes, Bool, true, false, ◌&&◌, ◌||◌, Option, is_none, is_some}
 use Rattle.std.specs.Option.{option_map_or}
 use Rattle.std.specs.Str.{bytes_eq}
 use Rattle.apply_json.specs.Tree.{◌>>=◌, text_of, tree_of}
@@ -29,7 +29,8 @@ is_change word = bytes_eq word (codes "create") || (bytes_eq word (codes "update
 -- the line is a message that tells a moment, and an ephemeral operation is no create, update or delete
 pub record IsTimed (text : List ℕ) : Type 0 where
   pub message : is_some (message_in text) ≡ true
-  pub lasting : option_map_or is_ephemeral (type_of text) false ≡ true → option_map_or is_change (action_of text) false ≡ false
+  pub lasting : option_map_or is_ephemeral (type_of text) false ≡ true
+      → option_map_or is_change (action_of text) false ≡ false
 
 -- no step of that action is without an end
 abbrev pub AllEnded : (action : List ℕ) → List ToldStep → Type 0

@@ -1,5 +1,5 @@
-//! What no clause says: that the definition is the one that was meant, by rows whose values are worked out by hand; the texts of
-//! faults; readers that fail; and that calls succeed with ample memory.
+//! What no clause says: that the definition is the one that was meant, by rows whose values are worked out by hand; the
+//! texts of faults; readers that fail; and that calls succeed with ample memory.
 
 use apply_view::{
     Moments, Step, Told, ViewFault, Viewer, halves_of, levels_of, numbers_of, place_on, read,
@@ -54,8 +54,9 @@ fn rest_of(name: &str) -> &str {
     }
 }
 
-/// What becomes of the steps, row by row: a line for each name, which comes at the second before it; and of each step its action,
-/// address, begin and end in seconds, `!` where it failed, and how many provisioners it has; then how many lines were passed over.
+/// What becomes of the steps, row by row: a line for each name, which comes at the second before it; and of each step
+/// its action, address, begin and end in seconds, `!` where it failed, and how many provisioners it has; then how many
+/// lines were passed over.
 const STEPS: &str = r#"
 0:V 0:Ca 5:ca => create a 0-5 0; 0
 0:Ca 5:xa => create a 0-5! 0; 0

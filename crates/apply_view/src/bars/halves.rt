@@ -12,9 +12,9 @@ pub struct Halves {
     pub end: u128,
 }
 
-/// The halves that the bar of a step covers in a row of so many cells, for a stream as long as `span`: from where it begins on,
-/// before where it ends, at least one, and the last one where it would lie beyond. Moments are microseconds since the first of
-/// the stream.
+/// The halves that the bar of a step covers in a row of so many cells, for a stream as long as `span`: from where it
+/// begins on, before where it ends, at least one, and the last one where it would lie beyond. Moments are microseconds
+/// since the first of the stream.
 pub fn halves_of(cells: u32, span: u64, begin: u64, end: u64) -> Halves
     requires { 1 ≤ cells }
     ensures first { result.first ≡ first_half cells span begin }

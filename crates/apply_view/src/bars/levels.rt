@@ -9,8 +9,9 @@ use crate::bars::scale::place_on;
 use crate::numbers::stretch::Stretch;
 use std::alloc::{AllocError, Global};
 
-/// For each of so many cells, the greatest number of steps that were under way at once in its moments, at least one of which
-/// is its own; the cells share a span. The stretches are in order, as those of `Numbers` are. `Err` where memory is refused.
+/// For each of so many cells, the greatest number of steps that were under way at once in its moments, at least one of
+/// which is its own; the cells share a span. The stretches are in order, as those of `Numbers` are. `Err` where memory
+/// is refused.
 pub fn levels_of(
     alloc: Global,
     stretches: &[Stretch],
@@ -43,7 +44,8 @@ fn cell_begin(cells: u32, span: u64, cell: u64) -> u128
 fn skipped(stretches: &[Stretch], passed: usize, begin: u128) -> usize
     requires { passed ≤ length stretches.now }
     ensures bound { result ≤ length stretches.now }
-    ensures past { (place : ℕ) (d : stretch) → passed ≤ place → place < result → (get_or stretches.now place d).end ≤ begin }
+    ensures past { (place : ℕ) (d : stretch) → passed ≤ place → place < result
+        → (get_or stretches.now place d).end ≤ begin }
 {
     let mut passed = passed;
     'skips: while passed < stretches.len() && stretches[passed].end as u128 <= begin {

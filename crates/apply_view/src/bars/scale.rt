@@ -3,8 +3,9 @@
 ghost use Rattle.std.specs.Prelude.{◌≡◌, ◌≤◌, ◌*◌, ◌<◌, ◌^◌};
 ghost use Rattle.apply_view.specs.Bars.{place_above, place_on};
 
-/// Where a moment stands on a line of that width, which is as long as `span`: so many places behind its begin, a rest cut
-/// off. The moment is given by how long after the first it comes, in microseconds, as the span is; a span of 0 counts as 1.
+/// Where a moment stands on a line of that width, which is as long as `span`: so many places behind its begin, a rest
+/// cut off. The moment is given by how long after the first it comes, in microseconds, as the span is; a span of 0
+/// counts as 1.
 pub fn place_on(width: u64, span: u64, offset: u64) -> u128
     ensures { result ≡ place_on width span offset }
 {

@@ -12,8 +12,8 @@ use crate::told::moments::Moments;
 use crate::told::step::Step;
 use std::alloc::{AllocError, Global};
 
-/// How much was done, and how much of it beside one another. Times are microseconds. Steps that failed and whose end is not
-/// told are left out, since nobody knows when they failed.
+/// How much was done, and how much of it beside one another. Times are microseconds. Steps that failed and whose end is
+/// not told are left out, since nobody knows when they failed.
 #[derive(Drop)]
 pub struct Numbers {
     /// How long some step was under way.
@@ -90,7 +90,8 @@ fn work_of(intervals: &[Interval]) -> u128
 fn alone_in(alloc: Global, count: usize, stretches: &[Stretch]) -> Result<Vec<u64>, AllocError>
     requires { sum_by stretch_length stretches.now < 2 ^ 64 }
     ensures len { IfOk result (λ alone. length alone.items ≡ count) }
-    ensures value { IfOk result (λ alone. (place : ℕ) → place < count → get_or alone.items place 0 ≡ alone_in place stretches.now) }
+    ensures value { IfOk result (λ alone. (place : ℕ) → place < count → get_or alone.items place 0
+        ≡ alone_in place stretches.now) }
 {
     let mut alone = vec![in alloc; 0; count]?;
     for stretch in stretches {
@@ -103,7 +104,8 @@ fn alone_in(alloc: Global, count: usize, stretches: &[Stretch]) -> Result<Vec<u6
 fn add_alone(alone: &mut [u64], stretch: Stretch)
     requires { (place : ℕ) → get_or alone.old place 0 + stretch_length stretch < 2 ^ 64 }
     ensures { (place : ℕ) → place < length alone.old
-        → get_or alone.new place 0 ≡ get_or alone.old place 0 + (if is_alone place stretch then stretch_length stretch else 0) }
+        → get_or alone.new place 0 ≡ get_or alone.old place 0 + (if is_alone place stretch
+        then stretch_length stretch else 0) }
 {
     if let Some(place) = stretch.alone {
         if place < alone.len() {

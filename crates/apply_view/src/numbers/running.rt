@@ -7,8 +7,8 @@ use crate::numbers::edge::Edge;
 use crate::numbers::stretch::Stretch;
 use std::alloc::{AllocError, Global};
 
-/// How many intervals have begun, and how many have ended, with the sums of their places: where one more has begun than ended,
-/// the difference of the sums is its place.
+/// How many intervals have begun, and how many have ended, with the sums of their places: where one more has begun than
+/// ended, the difference of the sums is its place.
 #[derive(Clone, Copy)]
 pub struct Running {
     pub begun: usize,

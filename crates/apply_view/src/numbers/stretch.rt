@@ -3,8 +3,8 @@
 ghost use Rattle.std.specs.Prelude.{◌≡◌};
 ghost use Rattle.apply_view.specs.Numbers.{stretch_length};
 
-/// A stretch between two neighbouring moments at which steps begin or end, in microseconds since the first moment of the
-/// stream; no step begins or ends within.
+/// A stretch between two neighbouring moments at which steps begin or end, in microseconds since the first moment of
+/// the stream; no step begins or ends within.
 #[derive(Clone, Copy, Debug, PartialEq, Eq)]
 pub struct Stretch {
     pub begin: u64,

@@ -1,6 +1,7 @@
 //! What decides whether a step gets a row.
 
-/// What decides whether the step at that place gets a row: whether it failed or has no end, and its length in microseconds.
+/// What decides whether the step at that place gets a row: whether it failed or has no end, and its length in
+/// microseconds.
 #[derive(Clone, Copy, Debug, PartialEq, Eq)]
 pub struct Candidate {
     pub marked: bool,

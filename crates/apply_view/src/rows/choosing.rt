@@ -22,8 +22,8 @@ const SPAN_PARTS: u128 = 200;
 /// Which steps get a row, and what is left out.
 #[derive(Drop)]
 pub struct Rows {
-    /// The places of those that get one, in the order in which they began; of two that began at once, that of the earlier
-    /// line first.
+    /// The places of those that get one, in the order in which they began; of two that began at once, that of the
+    /// earlier line first.
     pub places: Vec<usize>,
     /// How many get none.
     pub left_out: usize,
@@ -33,9 +33,9 @@ pub struct Rows {
     pub together: u128,
 }
 
-/// The rows of steps of a stream with these moments: of those that are marked, then longer, then of an earlier line, the first
-/// `limit`; but behind the tenth only those that are marked, or whose length is at least a 200th of the span. All of them
-/// where there is no limit. `Err` where memory is refused.
+/// The rows of steps of a stream with these moments: of those that are marked, then longer, then of an earlier line,
+/// the first `limit`; but behind the tenth only those that are marked, or whose length is at least a 200th of the span.
+/// All of them where there is no limit. `Err` where memory is refused.
 pub fn rows_of(
     alloc: Global,
     moments: Moments,
@@ -90,8 +90,10 @@ fn order_of(first: Candidate, second: Candidate) -> Ordering
 /// How many of the first get a row.
 fn chosen_count(ranked: &[Candidate], span: u64, limit: Option<usize>) -> usize
     ensures bound { result ≤ length ranked.now }
-    ensures before { (rank : ℕ) (d : candidate) → rank < result → gets_row limit span rank (get_or ranked.now rank d) ≡ true }
-    ensures behind { (d : candidate) → result < length ranked.now → gets_row limit span result (get_or ranked.now result d) ≡ false }
+    ensures before { (rank : ℕ) (d : candidate) → rank < result
+        → gets_row limit span rank (get_or ranked.now rank d) ≡ true }
+    ensures behind { (d : candidate) → result < length ranked.now
+        → gets_row limit span result (get_or ranked.now result d) ≡ false }
 {
     let Some(limit) = limit else {
         return ranked.len();

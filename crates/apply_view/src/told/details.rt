@@ -7,8 +7,8 @@ ghost use Rattle.apply_view.specs.Details.{back_part, front_part, is_blank, is_b
 use crate::told::limits::{BACK_BYTES, FRONT_BYTES};
 use std::alloc::{AllocError, Global};
 
-/// What is kept of a text: all of it, or where it has more than 20,480 bytes the first 8,192 and the last 12,288. Fitted to
-/// 1,000 columns that is the same.
+/// What is kept of a text: all of it, or where it has more than 20,480 bytes the first 8,192 and the last 12,288. Fitted
+/// to 1,000 columns that is the same, where at most four characters without width stand behind one another.
 pub(crate) fn kept(alloc: Global, text: &[u8]) -> Result<Vec<u8>, AllocError>
     ensures { IfOk result (λ bytes. bytes.items ≡ kept text.now) }
 {

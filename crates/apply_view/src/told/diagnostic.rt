@@ -14,7 +14,8 @@ use std::alloc::{AllocError, Global};
 use std::marker::Model;
 
 /// An error or a warning that a stream tells. Of a text of more than 20,480 bytes the first 8,192 and the last 12,288 are
-/// kept, maybe with a cut character where they meet: fitted to 1,000 columns both are the same. Contracts see what is kept.
+/// kept, maybe with a cut character where they meet: fitted to 1,000 columns both are the same, where at most four
+/// characters without width stand behind one another. Contracts see what is kept.
 #[derive(Drop)]
 pub struct Diagnostic {
     summary: Vec<u8>,
@@ -96,8 +97,8 @@ impl Diagnostic {
         self.line
     }
 
-    /// The first ten lines of what it says at length, without blanks, tabs and carriage returns at their ends; lines at the
-    /// end of it that have nothing else are left out.
+    /// The first ten lines of what it says at length, without blanks, tabs and carriage returns at their ends; lines at
+    /// the end of it that have nothing else are left out.
     pub fn detail(&self) -> &[Vec<u8>]
         ensures { map (λ line. line.items) result.now ≡ self.now.detail }
     {
@@ -170,7 +171,8 @@ pub(crate) fn text_or_empty<'a>(value: &'a Value, name: &str) -> &'a str
 
 /// What is kept of a text, where there is one.
 fn kept_text(alloc: Global, text: Option<&str>) -> Result<Option<Vec<u8>>, AllocError>
-    ensures { IfOk result (λ found. option_map (λ bytes. bytes.items) found ≡ option_map kept (option_copied text.entry)) }
+    ensures { IfOk result (λ found. option_map (λ bytes. bytes.items) found
+        ≡ option_map kept (option_copied text.entry)) }
 {
     match text {
         Some(text) => Ok(Some(kept(alloc, text.as_bytes())?)),

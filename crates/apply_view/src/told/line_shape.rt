@@ -5,8 +5,8 @@ ghost use Rattle.apply_view.specs.Selection.{is_scalar_of_changes, is_scalar_of_
 
 use apply_json::Shape;
 
-/// What of a value in a line is looked at (Machine-Readable UI, "Message Types"). A shape is named after the value that it
-/// belongs to; of no array an item is looked at.
+/// What of a value in a line is looked at (Machine-Readable UI, "Message Types"). A shape is named after the value that
+/// it belongs to; of no array an item is looked at.
 #[derive(Clone, Copy)]
 pub enum LineShape {
     /// Neither a member nor an item.

@@ -7,8 +7,8 @@ ghost use Rattle.apply_view.specs.Moments.{instant_of, with_moment};
 
 use jiff::Timestamp;
 
-/// The least and the greatest moment of the messages of a stream, in microseconds since the start of 1970. Moments go back by
-/// some milliseconds where workers write beside one another.
+/// The least and the greatest moment of the messages of a stream, in microseconds since the start of 1970. Moments go
+/// back by some milliseconds where workers write beside one another.
 #[derive(Clone, Copy, Debug, PartialEq, Eq)]
 pub struct Moments {
     pub first: i64,

@@ -37,7 +37,8 @@ impl OpenPlaces {
     /// Adds a place behind the others of its address.
     pub fn add(&mut self, alloc: Global, address: &str, place: usize) -> Result<(), AllocError>
         ensures { OnOk result ((other : List ℕ) → places_at self.new other
-            ≡ (if bytes_eq address.now other then places_at self.old other ++ place ∷ [] else places_at self.old other)) }
+            ≡ (if bytes_eq address.now other then places_at self.old other ++ place ∷ []
+            else places_at self.old other)) }
     {
         let mut places = self.taken(alloc, address);
         places.push(place)?;
@@ -61,7 +62,8 @@ impl OpenPlaces {
     /// Takes a place from those of its address.
     pub fn take(&mut self, address: &str, place: usize)
         ensures { (other : List ℕ) → places_at self.new other
-            ≡ (if bytes_eq address.now other then without place (places_at self.old other) else places_at self.old other) }
+            ≡ (if bytes_eq address.now other then without place (places_at self.old other)
+            else places_at self.old other) }
     {
         if self.cut(address, place) {
             let _ = self.by_address.remove(address);
@@ -71,7 +73,8 @@ impl OpenPlaces {
     /// Takes a place from those of its address, and says whether that leaves none of them.
     fn cut(&mut self, address: &str, place: usize) -> bool
         ensures places { (other : List ℕ) → places_at self.new other
-            ≡ (if bytes_eq address.now other then without place (places_at self.old other) else places_at self.old other) }
+            ≡ (if bytes_eq address.now other then without place (places_at self.old other)
+            else places_at self.old other) }
         ensures none { result ≡ true → places_at self.new address.now ≡ [] }
     {
         match self.by_address.get_mut(address) {

@@ -11,8 +11,8 @@ use crate::told::provisioner::Provisioner;
 use std::alloc::{AllocError, Global};
 use std::marker::Model;
 
-/// A step that a stream tells: an action on an object. Contracts see the line that begins it, the address and the action,
-/// when it began and ended, whether it failed, and its provisioners.
+/// A step that a stream tells: an action on an object. Contracts see the line that begins it, the address and the
+/// action, when it began and ended, whether it failed, and its provisioners.
 #[derive(Drop)]
 pub struct Step {
     line: u64,
@@ -176,8 +176,8 @@ impl Step {
         gap(self.begin, self.until(moments))
     }
 
-    /// Whether it counts where it is told how many are under way: not where it failed and no end was told, since nobody knows
-    /// when it failed.
+    /// Whether it counts where it is told how many are under way: not where it failed and no end was told, since nobody
+    /// knows when it failed.
     pub fn is_counted(&self) -> bool
         ensures { result ≡ is_counted self.now }
     {

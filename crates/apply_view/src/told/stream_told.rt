@@ -19,8 +19,8 @@ use serde_json::Value;
 use std::alloc::{AllocError, Global};
 use std::marker::Model;
 
-/// What a stream tells: the steps, the diagnostics, the totals, and how many lines were passed over. What it holds grows with
-/// the number of steps and provisioners alone.
+/// What a stream tells: the steps, the diagnostics, the totals, and how many lines were passed over. What it holds
+/// grows with the number of steps and provisioners alone.
 #[derive(Drop)]
 pub struct Told {
     pub(crate) lines: u64,
@@ -120,14 +120,16 @@ impl Told {
 
     /// Takes an error, as the object `diagnostic`.
     pub(crate) fn add_error(&mut self, alloc: Global, members: &Value) -> Result<(), AllocError>
-        ensures { OnOk result (self.new ≡ record self.old { errors = added (diagnostic_of (view members.now)) self.old.errors }) }
+        ensures { OnOk result (self.new
+            ≡ record self.old { errors = added (diagnostic_of (view members.now)) self.old.errors }) }
     {
         self.errors.add(alloc, members)
     }
 
     /// Takes a warning.
     pub(crate) fn add_warning(&mut self, alloc: Global, members: &Value) -> Result<(), AllocError>
-        ensures { OnOk result (self.new ≡ record self.old { warnings = added (diagnostic_of (view members.now)) self.old.warnings }) }
+        ensures { OnOk result (self.new
+            ≡ record self.old { warnings = added (diagnostic_of (view members.now)) self.old.warnings }) }
     {
         self.warnings.add(alloc, members)
     }
@@ -234,9 +236,9 @@ impl Told {
         self.lines
     }
 
-    /// How many lines were passed over: those that are no message and not blank, those about a step or a provisioner that
-    /// lack its address or action, end what is not open or begin a provisioner where no step is, and diagnostics of another
-    /// severity.
+    /// How many lines were passed over: those that are no message and not blank, those about a step or a provisioner
+    /// that lack its address or action, end what is not open or begin a provisioner where no step is, and diagnostics
+    /// of another severity.
     pub fn passed(&self) -> u64
         ensures { result ≡ self.now.passed }
     {

@@ -167,7 +167,8 @@ impl Viewer {
 
     /// Ends the step that began first of those that are open with that address and action.
     fn finish(&mut self, address: &str, action: &str, failed: bool, moment: i64)
-        ensures { (told : Telling) → Takes self.old told → HasTold self.new (with_end address.now action.now failed moment told) }
+        ensures { (told : Telling) → Takes self.old told
+            → HasTold self.new (with_end address.now action.now failed moment told) }
     {
         match self.first_open(address, action) {
             Some(place) => {
@@ -180,7 +181,8 @@ impl Viewer {
 
     /// The place of the step that began first of those that are open with that address and action.
     fn first_open(&self, address: &str, action: &str) -> Option<usize>
-        ensures { (told : Telling) → Takes self.now told → result ≡ first_of (places (is_open_with address.now action.now) told.steps) }
+        ensures { (told : Telling) → Takes self.now told → result
+            ≡ first_of (places (is_open_with address.now action.now) told.steps) }
     {
         for place in self.opened.at(address) {
             if self.told.has_action(*place, action) {
@@ -192,7 +194,8 @@ impl Viewer {
 
     /// The place of the step that began last of those that are open at that address.
     fn last_open(&self, address: &str) -> Option<usize>
-        ensures { (told : Telling) → Takes self.now told → result ≡ last_of (places (is_open_at address.now) told.steps) }
+        ensures { (told : Telling) → Takes self.now told → result
+            ≡ last_of (places (is_open_at address.now) told.steps) }
     {
         let places = self.opened.at(address);
         let count = places.len();
@@ -225,7 +228,8 @@ impl Viewer {
 
     /// Ends the provisioner that began last in the step open at that address that began last.
     fn end_provisioner(&mut self, address: &str, failed: bool, moment: i64)
-        ensures { (told : Telling) → Takes self.old told → HasTold self.new (with_provisioner_end address.now failed moment told) }
+        ensures { (told : Telling) → Takes self.old told
+            → HasTold self.new (with_provisioner_end address.now failed moment told) }
     {
         match self.last_open(address) {
             Some(place) => if self.told.provisions(place) {
@@ -239,7 +243,8 @@ impl Viewer {
 
     /// Takes an error: the steps that are open at its address are marked as failed.
     fn error(&mut self, alloc: Global, members: &Value) -> Result<(), ViewFault>
-        ensures { Goes (Takes self.old) self.new (with_error (text_of (codes "address") (view members.now)) (diagnostic_of (view members.now))) result }
+        ensures { Goes (Takes self.old) self.new (with_error (text_of (codes "address") (view members.now)) (diagnostic_of (view members.now)))
+            result }
     {
         self.told.add_error(alloc, members)?;
         if let Some(address) = text_member(members, "address") {
