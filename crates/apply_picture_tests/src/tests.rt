@@ -40,7 +40,7 @@ const HOSTILE_TEXT: &str = r#"1 step in 10s: 0 added, 0 changed, 0 destroyed, 1 
 one at a time
 
                                       0s              2s              4s               6s              8s
-<b> a["\u001b[31m</text>&"] …     ≥10s ░░░"#;
+<b> a["\u001b[31m</text>&"] …    ≥10s ░░░"#;
 
 /// Draws the bytes into a writer that takes so many and then fails so.
 fn drawn(
