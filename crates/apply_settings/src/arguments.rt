@@ -38,7 +38,8 @@ Standard output: the messages, one JSON object a line.
 Standard error: what went wrong, if anything did.
 
 `applystream check` says whether a stream that was written is whole: applystream check --help explains it.
-`applystream play` writes such a stream in its own time: applystream play --help explains it.";
+`applystream play` writes such a stream in its own time: applystream play --help explains it.
+`applystream view` draws such a stream, as a text or an SVG: applystream view --help explains it.";
 
 const AFTER: &str = r#"Example, with two workers, a start, and no deletes:
   terraform show -json tfplan | applystream --workers 2 --at 2024-05-01T12:00:00Z --halt-before delete
