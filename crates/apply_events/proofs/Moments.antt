@@ -18,9 +18,10 @@ use Rattle.apply_events.specs.declared.what.What.TheVariants.{Halted}
 use Rattle.apply_events.specs.ChangeEvents.{begun, change_events, in_turn, span_of}
 use Rattle.apply_events.specs.Fits.{last_moment, max_span}
 use Rattle.apply_events.specs.Laws.{IsWithinLimits, NamesEachOnce}
-use Rattle.apply_events.specs.Step.{Step, Work, kinds_of, step_of, steps_of}
+use Rattle.apply_events.specs.Step.{Step, Work, kinds_applied, kinds_of, step_of, steps_of}
 use Rattle.apply_events.specs.StepEvents.{between, endings, event, goes_on, halts, phase_after, seconds_of, started, step_events, step_time}
 use Rattle.apply_events.specs.WorkerEvents.{worker_events}
+use Rattle.apply_events.proofs.AppliedSteps.{few_applied}
 use Rattle.apply_events.proofs.MidSteps.{ran_short}
 use Rattle.apply_events.proofs.Provisions.{along_rises, time_of}
 use Rattle.apply_events.proofs.Rising.{Rises, Rises-append, Rises-at_most, Rises-higher, Rises-map_same}
@@ -121,8 +122,9 @@ length-planned work c n (kind ∷ kinds) = ap suc (length-planned work c (n + 1)
 pub span_short : (work : Work) (c : ℕ) → IsWithinLimits work → span_of work c ≤ max_span
 span_short work c read =
     let few : length (kinds_of work.plan c) ≤ 2 = read.few_steps c in
-    let same : length (steps_of work c) ≡ length (kinds_of work.plan c) = length-planned work c 0 (kinds_of work.plan c) in
-    let time : span_of work c ≤ 86400 * length (steps_of work c) = begun_time (steps_of work c) (planned_short work c 0 (kinds_of work.plan c) read.short_steps) in
+    let applied = few_applied work.plan work.script c in
+    let same : length (steps_of work c) ≡ length (kinds_applied work.plan work.script c) = length-planned work c 0 (kinds_applied work.plan work.script c) in
+    let time : span_of work c ≤ 86400 * length (steps_of work c) = begun_time (steps_of work c) (planned_short work c 0 (kinds_applied work.plan work.script c) read.short_steps) in
     omega arith
 
 spans_short : (work : Work) (changes : List ℕ) → IsWithinLimits work → sum_by (span_of work) changes ≤ max_span * length changes

@@ -8,7 +8,7 @@ use Rattle.apply_model.specs.declared.plan.step_kind.StepKind.{StepKind}
 use Rattle.apply_model.specs.Script.Outcome.{took}
 use Rattle.apply_model.specs.Script.OutcomeMap.{outcome_of}
 use Rattle.apply_hooks.specs.declared.phase.Phase.TheVariants.{Pre, PostDone}
-use Rattle.apply_events.specs.Step.{Step, Work, kinds_of, step_of, steps_of}
+use Rattle.apply_events.specs.Step.{Step, Work, kinds_applied, step_of, steps_of}
 use Rattle.apply_events.specs.StepEvents.{goes_on, seconds_of, step_time}
 
 unhalted : (found : Option ℕ) → is_none found ≡ true → is_some found ≡ false
@@ -31,6 +31,6 @@ first_time work c (kind ∷ kinds) some on =
     omega arith
 
 -- the first step takes the time that its outcome says
-pub resumed_time : (work : Work) (c : ℕ) → 0 < length (kinds_of work.plan c) → list_all goes_on (take 1 (steps_of work c)) ≡ true
+pub resumed_time : (work : Work) (c : ℕ) → 0 < length (kinds_applied work.plan work.script c) → list_all goes_on (take 1 (steps_of work c)) ≡ true
     → sum_by step_time (take 1 (steps_of work c)) ≡ took (outcome_of work.script c 0)
-resumed_time work c some on = first_time work c (kinds_of work.plan c) some on
+resumed_time work c some on = first_time work c (kinds_applied work.plan work.script c) some on

@@ -14,7 +14,7 @@ use Rattle.apply_events.specs.declared.event.Event.{Event}
 use Rattle.apply_events.specs.declared.what.What.{What}
 use Rattle.apply_events.specs.declared.what.What.TheVariants.{Start, Progress, Complete, Errored, ErrorNote, WarnNote, Halted, ProvisionStart, ProvisionOutput, ProvisionComplete, ProvisionErrored}
 use Rattle.apply_events.specs.ProgressTimes.{progress_times}
-use Rattle.apply_events.specs.Step.{has_warning, kinds_of}
+use Rattle.apply_events.specs.Step.{has_warning, kinds_applied, kinds_of}
 
 -- the greatest moment of an event, in seconds: 10,000 changes of two steps, each of a day
 abbrev pub last_moment : ℕ
@@ -27,6 +27,10 @@ max_span = 172800
 -- the plan has step k of change c
 abbrev pub HasStep : SavedPlan → (c k : ℕ) → Type 0
 HasStep plan c k = k < length (kinds_of plan c)
+
+-- it is applied: no step of the change up to it is skipped
+abbrev pub IsApplied : SavedPlan → OutcomeMap → (c k : ℕ) → Type 0
+IsApplied plan script c k = k < length (kinds_applied plan script c)
 
 -- the event is of the plan, which has its step, and it comes in time
 pub record IsOfPlan (plan : SavedPlan) (event : Event) : Type 0 where
@@ -60,4 +64,5 @@ can_happen outcome (ProvisionErrored i) = runs outcome i has_failed
 -- the event can happen; the worker is not looked at
 pub record Fits (plan : SavedPlan) (script : OutcomeMap) (event : Event) : Type 0 where
   pub of_plan : IsOfPlan plan event
+  pub applied : IsApplied plan script event.change event.step
   pub can_happen : IsTrue (can_happen (outcome_of script event.change event.step) event.what)

@@ -5,9 +5,10 @@ ghost use Rattle.std.specs.List.{list_any};
 ghost use Rattle.std.specs.Option.{option_copied, option_map_or};
 ghost use Rattle.apply_model.specs.Script.Outcome.{has_failed, ran};
 ghost use Rattle.apply_model.specs.Script.OutcomeMap.{outcome_of};
-ghost use Rattle.apply_events.specs.Fits.{Fits, HasStep, IsOfPlan, can_happen, may_be_asked};
+ghost use Rattle.apply_events.specs.Fits.{Fits, HasStep, IsApplied, IsOfPlan, can_happen, may_be_asked};
 ghost use Rattle.apply_events.specs.ProgressTimes.{progress_times};
 
+use crate::applied::applied_steps;
 use crate::event::{Event, LATEST};
 use crate::provisioners_that_run::that_ran;
 use crate::step_facts::StepFacts;
@@ -15,12 +16,12 @@ use crate::what::What;
 use apply_hooks::{MAX_HOOKS, Phase};
 use apply_model::{Plan, Provisioner, Script};
 
-/// Whether the event can happen under some hooks: the plan has its step, `at` is `LATEST` at most, and `what` can happen
-/// to a step with that outcome. The worker is not looked at.
+/// Whether the event can happen under some hooks: the plan has its step, the script skips no step of its change up to it,
+/// `at` is `LATEST` at most, and `what` can happen to a step with that outcome. The worker is not looked at.
 pub fn fits(plan: &Plan, script: &Script, event: &Event) -> bool
     ensures { IsTrue result ↔ Fits plan.now script.now event.now }
 {
-    is_of_plan(plan, event) && can_happen(script, event)
+    is_of_plan(plan, event) && is_applied(plan, script, event) && can_happen(script, event)
 }
 
 /// Whether the event is of the plan: the plan has its step, and `at` is `LATEST` at most.
@@ -35,6 +36,14 @@ fn has_step(plan: &Plan, event: &Event) -> bool
     ensures { IsTrue result ↔ HasStep plan.now event.now.change event.now.step }
 {
     event.change < plan.len() && (event.step as usize) < plan.change(event.change).steps().len()
+}
+
+/// Whether the event's step is applied: no step of its change up to it is skipped.
+fn is_applied(plan: &Plan, script: &Script, event: &Event) -> bool
+    ensures { IsTrue result ↔ IsApplied plan.now script.now event.now.change event.now.step }
+{
+    event.change < plan.len()
+        && (event.step as usize) < applied_steps(plan, script, event.change).len()
 }
 
 /// Whether it can happen to the event's step, which ends as the script says.

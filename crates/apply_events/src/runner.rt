@@ -8,6 +8,7 @@ ghost use Rattle.apply_events.specs.Stages.{is_on_course, time_behind};
 ghost use Rattle.apply_events.specs.Step.{steps_of};
 ghost use Rattle.std.specs.Prelude.{slice_get};
 
+use crate::applied::applied_steps;
 use crate::event::Event;
 use crate::mid_step::MidStep;
 use crate::stage::Stage;
@@ -56,7 +57,7 @@ impl<'a> Runner<'a> {
     ghost use Rattle.apply_model.specs.Script.Outcome.{fails, took};
     ghost use Rattle.apply_model.specs.Script.OutcomeMap.{outcome_of};
     ghost use Rattle.apply_events.specs.ChangeEvents.{change_events, span_of};
-    ghost use Rattle.apply_events.specs.Fits.{HasStep};
+    ghost use Rattle.apply_events.specs.Fits.{HasStep, IsApplied};
     ghost use Rattle.apply_events.specs.Course.{GivesNext, beginning_of, ended_of};
     ghost use Rattle.apply_events.specs.Runner.{course_of, left_of, to_come};
     ghost use Rattle.apply_events.specs.RunnerStep.{left_before, rest_of, step_at_hand};
@@ -106,7 +107,7 @@ impl<'a> Runner<'a> {
         change: u32,
         at: u64,
     ) -> Runner<'a>
-        requires has_step { HasStep plan.now change 0 }
+        requires has_step { IsApplied plan.now script.now change 0 }
         requires change { change < length plan.now.changes }
         requires went_on { list_all goes_on (take 1 (steps_of (record { plan = plan.now; script = script.now; hooks = rules_of registry.now }) change)) ≡ true }
         requires late { took (outcome_of script.now change 0) ≤ at }
@@ -315,14 +316,17 @@ impl<'a> Runner<'a> {
         self.at
     }
 
-    /// What the step at hand does. `None` where all steps were passed.
+    /// What the step at hand does. `None` where all steps were passed, up to the first that is skipped.
     fn kind(&self) -> Option<StepKind>
         ensures step { IfSome result (λ kind. left_of self.now ≡ step_at_hand self.now kind ∷ rest_of self.now) }
         ensures few { IfSome result (λ _. self.now.step < 2) }
         ensures has_step { IfSome result (λ _. HasStep self.now.plan.now self.now.change self.now.step) }
         ensures none { IfNone result (left_of self.now ≡ []) }
     {
-        kind_at(self.plan.change(self.change).steps(), self.step)
+        kind_at(
+            applied_steps(self.plan, self.script, self.change),
+            self.step,
+        )
     }
 
     /// What the events of the step at hand take from its outcome.

@@ -18,8 +18,9 @@ use Rattle.apply_events.specs.declared.event.Event.{Event}
 use Rattle.apply_events.specs.declared.what.What.{What}
 use Rattle.apply_events.specs.declared.what.What.TheVariants.{Halted, Start}
 use Rattle.apply_events.specs.ChangeEvents.{begun, change_events, in_turn}
-use Rattle.apply_events.specs.Step.{Step, Work, kinds_of, step_of}
+use Rattle.apply_events.specs.Step.{Step, Work, kinds_applied, kinds_of, step_of}
 use Rattle.apply_events.specs.StepEvents.{between, endings, event, goes_on, halts, notes, phase_after, seconds_of, started, step_events, step_time}
+use Rattle.apply_events.proofs.AppliedSteps.{few_applied}
 use Rattle.apply_events.proofs.MidSteps.{ran_all, ran_few, ran_short}
 use Rattle.apply_events.proofs.Provisions.{few_along}
 
@@ -99,7 +100,8 @@ bounded (Some outcome) within = within
 
 pub few_events : (work : Work) (w c at : ℕ) → length (kinds_of work.plan c) ≤ 2 → IsBounded (outcome_of work.script c 0) → IsBounded (outcome_of work.script c 1) → length (change_events work w c at) ≤ 18918
 few_events work w c at few first second =
-    let all = few_steps work w c 0 (kinds_of work.plan c) at (omega arith) (λ k lt. short_at k lt) in omega arith
+    let applied = few_applied work.plan work.script c in
+    let all = few_steps work w c 0 (kinds_applied work.plan work.script c) at (omega arith) (λ k lt. short_at k lt) in omega arith
   where
     short_at : (k : ℕ) → k < 2 → IsBounded (outcome_of work.script c k)
     short_at zero lt = first

@@ -10,7 +10,7 @@ use Rattle.apply_model.specs.Script.Outcome.{took}
 use Rattle.apply_model.specs.Script.OutcomeMap.{outcome_of}
 use Rattle.apply_events.specs.declared.lanes.moment.Moment.{Moment}
 use Rattle.apply_events.specs.declared.lanes.taken.Taken.{Taken}
-use Rattle.apply_events.specs.Step.{Step, Work, kinds_of, step_of, steps_of}
+use Rattle.apply_events.specs.Step.{Step, Work, kinds_applied, step_of, steps_of}
 use Rattle.apply_events.specs.StepEvents.{goes_on, seconds_of, step_time}
 use Rattle.apply_events.specs.Waits.Done.{done_among, done_at, done_by, done_in, first_found, later_if_both, ready_at}
 use Rattle.apply_events.specs.Waits.Moment.{IsNoLater, later_by, later_of, next_round}
@@ -97,7 +97,7 @@ behind_first w c before at begin ready low =
     let inside : Contains (steps_of w c) s = subst (λ k. Contains (steps_of w k) s) there.change (begun_of_change w one.turn s done.1) in
     let place : slice_get (steps_of w c) 0 ≡ Some s = ap (slice_get (steps_of w c)) (sym done.2) ∙ step_at_number w c s inside in
     let time = whole_time s done.3 in
-    let seconds = first_seconds w c (kinds_of w.plan c) s place in
+    let seconds = first_seconds w c (kinds_applied w.plan w.script c) s place in
     let soon = both.2.0 in let begun = low.0 in let late = done.4 in
     record {
       one = one;
