@@ -14,6 +14,7 @@ mod fitting;
 mod lanes;
 mod notes;
 mod provisioners;
+mod skipped;
 
 use apply_events::{Counts, Event, LATEST, Lanes, Runner, What, fits, is_of_plan};
 use apply_hooks::{FnHook, HookCall, HookClosure, Phase, Registry, Rules, Verdict};
