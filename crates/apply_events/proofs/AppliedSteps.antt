@@ -1,5 +1,5 @@
 -- The steps of a change that are applied are the first of those that the plan has.
-use Rattle.std.proofs.Common.{ℕ, ◌<◌, ◌≤◌, List, length, take, Option, Some, None, arith}
+use Rattle.std.proofs.Common.{ℕ, ◌≤◌, List, length, take, Option, Some, None, arith}
 use Rattle.std.specs.Option.{option_map_or}
 use Rattle.std.proofs.lemmas.List.{length-take}
 use Rattle.apply_model.specs.declared.plan.step_kind.StepKind.{StepKind}

@@ -1,5 +1,5 @@
 -- All turns, one change after another.
-use Rattle.std.proofs.Common.{◌≡◌, ℕ, zero, suc, ◌+◌, ◌&&◌, List, [], ◌∷◌, ◌++◌, Some, cond, length, refl, sym, ap, ◌∙◌, arith, eqb, Bool}
+use Rattle.std.proofs.Common.{◌≡◌, ℕ, zero, suc, ◌+◌, ◌&&◌, List, [], ◌∷◌, ◌++◌, cond, length, sym, ap, ◌∙◌, arith, eqb, Bool}
 use Rattle.std.specs.List.{flat_map, range_with_len}
 use Rattle.std.proofs.lemmas.List.{append-nil, append_assoc}
 use Rattle.apply_model.specs.Script.OutcomeMap.{outcome_of}
