@@ -2,6 +2,7 @@
 
 ghost use Rattle.std.specs.Prelude.{◌≡◌, ◌≤◌, ℕ, [], IfSome, unwrap_or};
 ghost use Rattle.std.specs.Option.{option_copied};
+ghost use Rattle.apply_model.specs.declared.plan.step_kind.StepKind.{StepKind};
 ghost use Rattle.apply_model.specs.Script.Limits.{max_seconds};
 ghost use Rattle.apply_model.specs.Script.Outcome.{IsBounded, took};
 ghost use Rattle.apply_model.specs.Script.Waits.{has_waits, say_a_wait};
@@ -72,7 +73,7 @@ impl Script {
         ensures given { option_copied result ≡ given_outcome self.now change step }
         ensures in_range { IfSome (given_outcome self.now change step) IsBounded }
         ensures in_time { IfSome (given_outcome self.now change step)
-            (λ outcome. took outcome ≤ max_seconds) }
+            (λ outcome. (kind : StepKind) → took kind outcome ≤ max_seconds) }
     {
         self.said(change)?.get(step as usize)?.outcome()
     }
