@@ -22,7 +22,7 @@ use Rattle.apply_events.specs.Step.{Step, Work, kinds_applied, kinds_of, step_of
 use Rattle.apply_events.specs.StepEvents.{between, endings, event, goes_on, halts, phase_after, seconds_of, started, step_events, step_time}
 use Rattle.apply_events.specs.WorkerEvents.{worker_events}
 use Rattle.apply_events.proofs.AppliedSteps.{few_applied}
-use Rattle.apply_events.proofs.MidSteps.{ran_short}
+use Rattle.apply_events.proofs.MidSteps.{took_short}
 use Rattle.apply_events.proofs.Provisions.{along_rises, time_of}
 use Rattle.apply_events.proofs.Rising.{Rises, Rises-append, Rises-at_most, Rises-higher, Rises-map_same}
 
@@ -45,7 +45,7 @@ started_rise w s at =
       omega arith,
       Rises-append moment_of at (at + (seconds_of s)) (at + (seconds_of s)) (progress ++ ends) (halts w s (phase_after s.fails) (at + (seconds_of s)))
           (Rises-append moment_of at (at + (seconds_of s)) (at + (seconds_of s)) progress ends
-          (let none : at + 0 ≡ at = omega arith in rw none at (moments_rise w s at 0 (seconds_of s) (between s) (along_rises (seconds_of s) s.provider_seconds s.ran)))
+          (let none : at + 0 ≡ at = omega arith in rw none at (moments_rise w s at 0 (seconds_of s) (between s) (along_rises (seconds_of s) 0 0 s.seconds_before s.ran (omega arith) (omega arith))))
           (Rises-map_same moment_of (λ what. event w s (at + (seconds_of s)) what) (at + (seconds_of s)) (endings s) (λ what. refl)))
           (halts_rise w s (phase_after s.fails) (at + (seconds_of s)) (s.halts (phase_after s.fails))),
     )
@@ -90,9 +90,9 @@ change_first work w c at = steps_first w (begun (steps_of work c)) at
 
 -- ---- how late it can be
 
-short : (found : Option Outcome) → IfSome found IsBounded → took (unwrap_or found default_outcome) ≤ 86400
-short None h = omega arith
-short (Some outcome) h = let less = ran_short outcome.provisioners in let all = h.short in omega arith
+short : (kind : StepKind) (found : Option Outcome) → IfSome found IsBounded → took kind (unwrap_or found default_outcome) ≤ 86400
+short kind None h = let less = took_short kind default_outcome in omega arith
+short kind (Some outcome) h = let less = took_short kind outcome in let all = h.short in omega arith
 
 time_short : (s : Step) → (seconds_of s) ≤ 86400 → step_time s ≤ 86400
 time_short s h = elim (is_some (s.halts Pre)) as (λ b. cond b 0 (seconds_of s) ≤ 86400) [ true ↦ omega arith | false ↦ h ]
@@ -103,7 +103,7 @@ AreShort (s ∷ steps) = ((seconds_of s) ≤ 86400) × AreShort steps
 
 planned_short : (work : Work) (c n : ℕ) (kinds : List StepKind) → IsInRange work.script → AreShort (map (λ p. step_of work c p.0 p.1) (enumerate_from n kinds))
 planned_short work c n [] range = tt
-planned_short work c n (kind ∷ kinds) range = (short (given_outcome work.script c n) (range c n), planned_short work c (n + 1) kinds range)
+planned_short work c n (kind ∷ kinds) range = (short kind (given_outcome work.script c n) (range c n), planned_short work c (n + 1) kinds range)
 
 begun_time : (steps : List Step) → AreShort steps → sum_by step_time (begun steps) ≤ 86400 * length steps
 begun_time [] h = omega arith

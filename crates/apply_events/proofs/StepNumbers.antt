@@ -62,7 +62,7 @@ told_rise w s at xs =
     (halts_rise w s (phase_after s.fails) (at + seconds_of s) (s.halts (phase_after s.fails)))
 
 pub running_rise : (w : ℕ) (s : Step) (at : ℕ) (mid : MidStep) → Rises number_of s.number s.number (running w s at mid)
-running_rise w s at mid = told_rise w s at (left_of s.provider_seconds s.ran mid)
+running_rise w s at mid = told_rise w s at (left_of (seconds_of s) s.seconds_before s.ran mid)
 
 pub step_events_rise : (w : ℕ) (s : Step) (at : ℕ) → Rises number_of s.number s.number (step_events w s at)
 step_events_rise w s at = step_events_rise-at w s at (s.halts Pre)

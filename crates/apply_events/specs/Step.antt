@@ -7,7 +7,7 @@ use Rattle.apply_model.specs.declared.script.ending.Ending.{Ending}
 use Rattle.apply_model.specs.declared.script.ending.Ending.TheVariants.{Done, Failed}
 use Rattle.apply_model.specs.declared.script.provisioner.Provisioner.{Provisioner}
 use Rattle.apply_model.specs.Plan.SavedPlan.{SavedPlan}
-use Rattle.apply_model.specs.Script.Outcome.{fails, ran}
+use Rattle.apply_model.specs.Script.Outcome.{fails, ran, seconds_before, seconds_behind}
 use Rattle.apply_model.specs.Script.OutcomeMap.{OutcomeMap, first_skipped, outcome_of}
 use Rattle.apply_hooks.specs.declared.phase.Phase.{Phase}
 use Rattle.apply_hooks.specs.declared.rule.Rule.{Rule}
@@ -23,10 +23,11 @@ pub record Step : Type 0 where
   -- the number of its change, and its own in that change
   pub change : ℕ
   pub number : ℕ
-  -- how long its provider takes, in seconds, and the provisioners that run behind it
-  pub provider_seconds : ℕ
+  -- how long its provider takes, in seconds, before the provisioners that run, these, and how long it takes behind them
+  pub seconds_before : ℕ
   pub ran : List Provisioner
-  -- it fails, by its provider or a provisioner; its provider warns
+  pub seconds_behind : ℕ
+  -- it fails, by its provider or as a provisioner makes it fail; its provider warns
   pub fails : Bool
   pub warns : Bool
   -- the first hook that halts it, in each phase
@@ -54,8 +55,9 @@ abbrev pub step_of : Work → (c k : ℕ) → StepKind → Step
 step_of work c k kind = record {
   change = c;
   number = k;
-  provider_seconds = (outcome_of work.script c k).seconds;
+  seconds_before = seconds_before kind (outcome_of work.script c k);
   ran = ran (outcome_of work.script c k).provisioners;
+  seconds_behind = seconds_behind kind (outcome_of work.script c k);
   fails = fails (outcome_of work.script c k);
   warns = has_warning (outcome_of work.script c k).result;
   halts = λ phase. first_halting work.hooks (record { phase = phase; kind = kind; address = address_of work.plan c });

@@ -1,6 +1,6 @@
 //! The steps of a change that are applied.
 
-ghost use Rattle.std.specs.Prelude.{◌≡◌, ◌<◌, ◌≤◌, length};
+ghost use Rattle.std.specs.Prelude.{◌≡◌, ◌<◌, ◌≤◌, length, slice_get};
 ghost use Rattle.apply_events.specs.Step.{kinds_applied};
 
 use apply_model::{Plan, Script, StepKind};
@@ -16,4 +16,11 @@ pub(crate) fn applied_steps<'a>(plan: &'a Plan, script: &Script, change: u32) ->
         Some(skipped) => &steps[..steps.len().min(skipped as usize)],
         None => steps,
     }
+}
+
+/// What the step of that number does, if there is one.
+pub(crate) fn kind_at(steps: &[StepKind], step: u8) -> Option<StepKind>
+    ensures { result ≡ slice_get steps.now step }
+{
+    steps.get(step as usize).copied()
 }

@@ -4,8 +4,7 @@ ghost use Rattle.std.specs.Prelude.{◌≡◌, ◌+◌, ◌-◌, ◌*◌, ◌<�
 ghost use Rattle.std.specs.List.{Contains, list_all};
 ghost use Rattle.apply_hooks.specs.Registry.{rules_of};
 ghost use Rattle.apply_model.specs.Script.Limits.{max_seconds};
-ghost use Rattle.apply_model.specs.Script.Outcome.{took};
-ghost use Rattle.apply_model.specs.Script.OutcomeMap.{outcome_of};
+ghost use Rattle.apply_events.specs.ChangeEvents.{first_time};
 ghost use Rattle.apply_events.specs.Fits.{IsApplied, last_moment};
 ghost use Rattle.apply_events.specs.Runner as runner;
 ghost use Rattle.apply_events.specs.Stages.{events_from};
@@ -51,7 +50,8 @@ impl<'a> TurnRunner<'a> {
         requires has_step { 0 < taken.turn.first → IsApplied plan.now script.now taken.turn.change 0 }
         requires went_on { 0 < taken.turn.first → list_all goes_on
             (take 1 (steps_of (record { plan = plan.now; script = script.now; hooks = rules_of registry.now }) taken.turn.change)) ≡ true }
-        requires late { 0 < taken.turn.first → took (outcome_of script.now taken.turn.change 0) ≤ taken.begin.second }
+        requires late { 0 < taken.turn.first
+            → first_time (record { plan = plan.now; script = script.now; hooks = rules_of registry.now }) taken.turn.change ≤ taken.begin.second }
         ensures { to_come result ≡ turn_events (record { plan = plan.now; script = script.now; hooks = rules_of registry.now }) taken }
     {
         let of_change = runner_of(plan, script, registry, taken);
@@ -95,7 +95,8 @@ fn runner_of<'a>(
     requires has_step { 0 < taken.turn.first → IsApplied plan.now script.now taken.turn.change 0 }
     requires went_on { 0 < taken.turn.first → list_all goes_on
         (take 1 (steps_of (record { plan = plan.now; script = script.now; hooks = rules_of registry.now }) taken.turn.change)) ≡ true }
-    requires late { 0 < taken.turn.first → took (outcome_of script.now taken.turn.change 0) ≤ taken.begin.second }
+    requires late { 0 < taken.turn.first
+        → first_time (record { plan = plan.now; script = script.now; hooks = rules_of registry.now }) taken.turn.change ≤ taken.begin.second }
     ensures { runner.to_come result ≡ events_from taken.lane
         (drop taken.turn.first (steps_of (record { plan = plan.now; script = script.now; hooks = rules_of registry.now }) taken.turn.change)) taken.begin.second }
 {
