@@ -53,13 +53,6 @@ fn script_with(
     kept(rt, alloc, Script::new(changes))
 }
 
-/// Fails where the change with those actions is told otherwise under the script.
-fn tells_by(rt: &impl Abort, alloc: Global, actions: &str, script: &Script, wanted: &str) {
-    let registry = Registry::new(alloc);
-    let found = told(rt, alloc, plan_of(rt, alloc, actions), script, &registry);
-    text_is(rt, actions, found.trim_end(), wanted);
-}
-
 /// A change ends before the first step that is skipped.
 #[test]
 fn changes_end_before_a_skipped_step(rt: HostRuntime) {
