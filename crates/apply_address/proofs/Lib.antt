@@ -1,0 +1,5 @@
+pub mod Digits
+pub mod Marks
+pub mod Modules
+pub mod Numbers
+pub mod Quotes
