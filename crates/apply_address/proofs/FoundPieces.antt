@@ -15,6 +15,7 @@ use Rattle.std.proofs.lemmas.Str.{IsUtf8-drop, IsUtf8-encode, chars-append, char
 use Rattle.apply_address.specs.Pieces.{AreDigits, IsPiece, Piece, character_of, escape, escaped_character, is_doubled, long, plain, said_text, short, written_piece, written_text}
 use Rattle.apply_address.specs.Reading.{◌>>=◌, behind_pieces, character_at, code_at, escape_at, hexadecimal, piece_at, said_by_pieces}
 use Rattle.apply_address.proofs.Digits.{digits_boundary, hexadecimal-all}
+use Rattle.apply_address.proofs.Quotes.{behind_pieces-end, behind_pieces-step, said_by_pieces-end, said_by_pieces-step}
 use Rattle.apply_address.proofs.Steps.{bind_some, chosen, map_some, not_none, same_Some}
 
 chars-one : (character : ℕ) → IsScalar character → chars (encode_utf8 character) ≡ character ∷ []
@@ -27,7 +28,7 @@ unfolding character_at
 character_at-encode character rest is =
     let cut : drop (length (encode_utf8 character)) (encode_utf8 character ++ rest) ≡ rest = drop_at (encode_utf8 character) rest (length (encode_utf8 character)) refl in
     let first : chars (encode_utf8 character ++ rest) ≡ character ∷ chars rest =
-        chars-append (encode_utf8 character) rest (IsUtf8-encode character is) ∙ ap (λ cs. cs ++ chars rest) (chars-one character is) in
+    chars-append (encode_utf8 character) rest (IsUtf8-encode character is) ∙ ap (λ cs. cs ++ chars rest) (chars-one character is) in
     ap (λ cs. option_map (λ c. (c, drop (length (encode_utf8 c)) (encode_utf8 character ++ rest))) (slice_get cs 0)) first ∙ ap (λ (t : List ℕ). Some (character, t)) cut
 
 character_at-nil : character_at [] ≡ None
@@ -125,7 +126,7 @@ some_escape : (letter x : ℕ) → escaped_character letter ≡ Some x → IsSom
 some_escape letter x is = rw is (refl, refl)
 
 letter_found : (letter : ℕ) (text rest : List ℕ) (character : ℕ) (behind : List ℕ) → IsFirst text letter rest
-    → option_map (λ (c : ℕ). (c, rest)) (escaped_character letter) ≡ Some (character, behind) → PieceStands (92 ∷ text) character behind
+    → option_map {U = ℕ × List ℕ} (λ (c : ℕ). (c, rest)) (escaped_character letter) ≡ Some (character, behind) → PieceStands (92 ∷ text) character behind
 letter_found letter text rest character behind first is =
     let found = map_some _ (escaped_character letter) _ is in
     let one = some_escape letter found.0 found.1 in
@@ -208,22 +209,34 @@ one_stands : (most : ℕ) (text : List ℕ) (character : ℕ) (behind : List ℕ
     → said_by_pieces (suc most) text ≡ cond (is_doubled text) [] (encode_utf8 character) ++ said_by_pieces most behind → PiecesStand (suc most) text
 one_stands most text character behind first others same said =
     let whole : text ≡ written_text (first.piece ∷ others.pieces) ++ behind_pieces most behind =
-        first.stands ∙ ap (λ t. written_piece first.piece ++ t) others.stand ∙ sym (append_assoc (written_piece first.piece) (written_text others.pieces) (behind_pieces most behind)) in
+    first.stands ∙ ap (λ t. written_piece first.piece ++ t) others.stand ∙ sym (append_assoc (written_piece first.piece) (written_text others.pieces) (behind_pieces most behind)) in
     record {
       pieces = first.piece ∷ others.pieces;
       are = (first.is, others.are);
       stand = whole ∙ ap (λ t. written_text (first.piece ∷ others.pieces) ++ t) (sym same);
       utf8 = subst IsUtf8 (sym same) others.utf8;
       say = λ tail ends.
-        let ends_here : behind_pieces most behind ≡ 34 ∷ tail = sym same ∙ ends in
-        let test : is_doubled text ≡ is_doubled (written_text (first.piece ∷ others.pieces)) =
-            ap is_doubled (whole ∙ ap (λ t. written_text (first.piece ∷ others.pieces) ++ t) ends_here) ∙ doubled-quote (written_text (first.piece ∷ others.pieces)) tail in
-        said ∙ ap (λ t. cond (is_doubled text) [] (encode_utf8 character) ++ t) (others.say tail ends_here)
-        ∙ ap (λ k. cond (is_doubled text) [] (encode_utf8 k) ++ said_text others.pieces) (sym first.says)
-        ∙ ap (λ b. cond b [] (encode_utf8 (character_of first.piece)) ++ said_text others.pieces) test
-        ∙ joined (is_doubled (written_text (first.piece ∷ others.pieces))) (encode_utf8 (character_of first.piece)) (said_text others.pieces);
+          let ends_here : behind_pieces most behind ≡ 34 ∷ tail = sym same ∙ ends in
+          let test : is_doubled text ≡ is_doubled (written_text (first.piece ∷ others.pieces)) =
+          ap is_doubled (whole ∙ ap (λ t. written_text (first.piece ∷ others.pieces) ++ t) ends_here) ∙ doubled-quote (written_text (first.piece ∷ others.pieces)) tail in
+          said ∙ ap (λ t. cond (is_doubled text) [] (encode_utf8 character) ++ t) (others.say tail ends_here)
+          ∙ ap (λ k. cond (is_doubled text) [] (encode_utf8 k) ++ said_text others.pieces) (sym first.says)
+          ∙ ap (λ b. cond b [] (encode_utf8 (character_of first.piece)) ++ said_text others.pieces) test
+          ∙ joined (is_doubled (written_text (first.piece ∷ others.pieces))) (encode_utf8 (character_of first.piece)) (said_text others.pieces);
     }
   where
     joined : (b : Bool) (one rest : List ℕ) → cond b [] one ++ rest ≡ cond b rest (one ++ rest)
     joined true one rest = refl
     joined false one rest = refl
+
+by_piece : (most : ℕ) (text : List ℕ) (o : Option (ℕ × List ℕ)) → piece_at text ≡ o → IsUtf8 text → ((behind : List ℕ) → IsUtf8 behind → PiecesStand most behind) → PiecesStand (suc most) text
+by_piece most text None is utf8 others = none_stands (suc most) text (behind_pieces-end (suc most) text is) (said_by_pieces-end (suc most) text is) utf8
+by_piece most text (Some piece) is utf8 others =
+    let first : PieceStands text piece.0 piece.1 = piece_found text piece.0 piece.1 utf8 is in
+    one_stands most text piece.0 piece.1 first (others piece.1 first.utf8)
+    (behind_pieces-step most text piece.1 piece.0 is) (said_by_pieces-step most text piece.1 piece.0 is)
+
+pub pieces_stand : (most : ℕ) (text : List ℕ) → IsUtf8 text → PiecesStand most text
+unfolding behind_pieces said_by_pieces
+pieces_stand zero text utf8 = none_stands zero text refl refl utf8
+pieces_stand (suc most) text utf8 = by_piece most text (piece_at text) refl utf8 (λ behind rest. pieces_stand most behind rest)

@@ -1,5 +1,9 @@
 pub mod Digits
+pub mod FoundAddresses
+pub mod FoundNames
+pub mod FoundPieces
 pub mod Marks
 pub mod Modules
 pub mod Numbers
 pub mod Quotes
+pub mod Steps

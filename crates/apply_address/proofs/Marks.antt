@@ -14,5 +14,5 @@ pub mark_boundary : (text : List ℕ) (size : ℕ) → size ≡ position_or_len 
 mark_boundary text size is = (
   omega (arith, prefix_len-le-length (λ byte. not (is_mark byte)) text),
   λ less high. let low = mark_ascii (get_or text (position_or_len is_mark text) 0) (prefix_len_stops (λ byte. not (is_mark byte)) text 0 (rw (← is) less)) in
-  absurd (let same : get_or text size 0 ≡ get_or text (position_or_len is_mark text) 0 = ap (λ k. get_or text k 0) is in omega arith),
+      absurd (let same : get_or text size 0 ≡ get_or text (position_or_len is_mark text) 0 = ap (λ k. get_or text k 0) is in omega arith),
 )

@@ -108,7 +108,7 @@ sign_cases : (byte : ℕ) (bytes : List ℕ) (b : Bool) → (byte == 45) ≡ b �
 sign_cases byte bytes true minus_is is numeral small =
     let same : byte ≡ 45 = grind (arith, nat_tests) in
     let P : ℕ → Type 0 = λ first. is_canonical (first ∷ bytes) ≡ true → IsNumeral 10 (without_leading_sign (first ∷ bytes)) → FitsSigned w64 (number_of (first ∷ bytes))
-        → signed_decimal (number_of (first ∷ bytes)) ≡ first ∷ bytes in
+    → signed_decimal (number_of (first ∷ bytes)) ≡ first ∷ bytes in
     subst P (sym same) (λ c n s. minus bytes c n s) is numeral small
 sign_cases byte bytes false minus_is is numeral small =
     let head = canonical_head byte bytes is in

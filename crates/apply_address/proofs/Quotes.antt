@@ -14,11 +14,11 @@ pub record IsLeft (rest whole : List ℕ) : Type 0 where
 pub left-all : (whole : List ℕ) → IsLeft whole whole
 left-all whole = record { most = length whole; room = omega arith; same = refl }
 
-behind_pieces-step : (most : ℕ) (rest behind : List ℕ) (character : ℕ) → piece_at rest ≡ Some (character, behind) → behind_pieces (suc most) rest ≡ behind_pieces most behind
+pub behind_pieces-step : (most : ℕ) (rest behind : List ℕ) (character : ℕ) → piece_at rest ≡ Some (character, behind) → behind_pieces (suc most) rest ≡ behind_pieces most behind
 unfolding behind_pieces
 behind_pieces-step most rest behind character piece = ap (λ p. option_map_or (λ (found : ℕ × List ℕ). behind_pieces most found.1) p rest) piece
 
-behind_pieces-end : (most : ℕ) (rest : List ℕ) → piece_at rest ≡ None → behind_pieces most rest ≡ rest
+pub behind_pieces-end : (most : ℕ) (rest : List ℕ) → piece_at rest ≡ None → behind_pieces most rest ≡ rest
 unfolding behind_pieces
 behind_pieces-end zero rest none = refl
 behind_pieces-end (suc most) rest none = ap (λ p. option_map_or (λ (found : ℕ × List ℕ). behind_pieces most found.1) p rest) none
@@ -47,13 +47,13 @@ pub record IsSaid (said rest whole : List ℕ) : Type 0 where
 pub said-none : (whole said : List ℕ) → said ≡ [] → IsSaid said whole whole
 said-none whole said none = record { most = length whole; room = omega arith; same = ap (λ s. s ++ said_by_pieces (length whole) whole) none }
 
-said_by_pieces-step : (most : ℕ) (rest behind : List ℕ) (character : ℕ) → piece_at rest ≡ Some (character, behind)
+pub said_by_pieces-step : (most : ℕ) (rest behind : List ℕ) (character : ℕ) → piece_at rest ≡ Some (character, behind)
     → said_by_pieces (suc most) rest ≡ cond (is_doubled rest) [] (encode_utf8 character) ++ said_by_pieces most behind
 unfolding said_by_pieces
 said_by_pieces-step most rest behind character piece =
     ap (λ p. option_map_or (λ (found : ℕ × List ℕ). cond (is_doubled rest) [] (encode_utf8 found.0) ++ said_by_pieces most found.1) p []) piece
 
-said_by_pieces-end : (most : ℕ) (rest : List ℕ) → piece_at rest ≡ None → said_by_pieces most rest ≡ []
+pub said_by_pieces-end : (most : ℕ) (rest : List ℕ) → piece_at rest ≡ None → said_by_pieces most rest ≡ []
 unfolding said_by_pieces
 said_by_pieces-end zero rest none = refl
 said_by_pieces-end (suc most) rest none =

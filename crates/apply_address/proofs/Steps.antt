@@ -2,6 +2,7 @@
 use Rattle.std.proofs.Common.{◌≡◌, ℕ, ◌+◌, ◌<◌, Bool, true, false, cond, List, [], ◌∷◌, ◌++◌, length, take, drop, nat_eq, Option, Some, None, ◌⊎◌, inl, inr, refl, sym, ap, subst, ◌∙◌, arith, drop_at}
 use Rattle.std.specs.Prelude.{option_map}
 use Rattle.std.specs.List.{AllByRecursion, starts_with}
+use Rattle.std.specs.Option.{option_map_or}
 use Rattle.std.specs.Str.{IsUtf8}
 use Rattle.std.proofs.lemmas.Bool.Decides.{Decides-eqb}
 use Rattle.std.proofs.lemmas.Option.{cond_some}
@@ -30,6 +31,10 @@ chosen false x y z e = inr (refl, e)
 pub not_none : {A : Type 0} (b : Bool) (o : Option A) (y : A) → cond b None o ≡ Some y → (b ≡ false) × (o ≡ Some y)
 not_none true o y e = absurd cc
 not_none false o y e = (refl, e)
+
+pub map_or_some : {A B : Type 0} (f : A → B) (o : Option A) (d z : B) → option_map_or f o d ≡ z → ((x : A) × (o ≡ Some x) × (f x ≡ z)) ⊎ ((o ≡ None) × (d ≡ z))
+map_or_some f None d z e = inr (refl, e)
+map_or_some f (Some x) d z e = inl (x, refl, e)
 
 pub after_prefix-found : (prefix text found : List ℕ) → after_prefix prefix text ≡ Some found → text ≡ prefix ++ found
 after_prefix-found prefix text found e =

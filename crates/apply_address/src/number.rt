@@ -19,5 +19,9 @@ pub fn whole_number(text: &str) -> Option<i64>
     ensures { result ≡ number_of text.now }
 {
     let number = text.parse::<i64>().ok()?;
-    if is_canonical(text) { Some(number) } else { None }
+    if is_canonical(text) {
+        Some(number)
+    } else {
+        None
+    }
 }

@@ -1,4 +1,4 @@
-use Rattle.std.proofs.Common.{◌≡◌, rules, sym, ◌∙◌, None}
+use Rattle.std.proofs.Common.{◌≡◌, rules, sym, None}
 use Rattle.apply_address.specs.Reading.{behind_module, last_behind, last_in}
 use Rattle.std.proofs.Common.{length}
 use Rattle.apply_address.proofs.Modules.{left-last, left-more, left-none}

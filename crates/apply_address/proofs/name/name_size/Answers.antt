@@ -1,4 +1,4 @@
-use Rattle.std.proofs.Common.{rules, arith, sym, ◌∙◌, length, false, get_or, ap}
+use Rattle.std.proofs.Common.{rules, arith, sym, length}
 use Rattle.std.proofs.lemmas.List.Sums.{position_or_len_is}
 use Rattle.apply_address.specs.Names.{is_mark}
 use Rattle.apply_address.proofs.name.name_size.Goals as goal

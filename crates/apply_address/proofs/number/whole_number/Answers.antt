@@ -1,4 +1,4 @@
-use Rattle.std.proofs.Common.{rules, arith, sym, ◌∙◌}
+use Rattle.std.proofs.Common.{rules, ◌∙◌}
 use Rattle.apply_address.proofs.Numbers.{whole_number-err, whole_number-odd, whole_number-ok}
 use Rattle.apply_address.proofs.number.whole_number.Goals as goal
 

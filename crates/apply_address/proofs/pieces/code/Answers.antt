@@ -1,4 +1,4 @@
-use Rattle.std.proofs.Common.{rules, arith, sym}
+use Rattle.std.proofs.Common.{rules, arith}
 use Rattle.apply_address.proofs.Digits.{digits_boundary}
 use Rattle.apply_address.proofs.pieces.code.Goals as goal
 

@@ -1,4 +1,4 @@
-use Rattle.std.proofs.Common.{◌≡◌, ◌<◌, rules, arith, sym, ◌∙◌, ap, None, get_or}
+use Rattle.std.proofs.Common.{◌≡◌, ◌<◌, rules, arith, None, get_or}
 use Rattle.std.specs.Char.{digit_value}
 use Rattle.std.proofs.lemmas.Int.Digits.{digits_more, digits_value_more}
 use Rattle.apply_address.proofs.Digits.{hexadecimal-end, hexadecimal-none, room_for_digit}
@@ -18,7 +18,7 @@ overflow_add-value c =
 pub returns-in_err-value : goal.returns-in_err-value
 returns-in_err-value c =
     let none : hexadecimal c.args.digits.now ≡ None =
-        hexadecimal-none c.args.digits.now c.loop-digit.digit-index c.loop-digit-test.true (λ less. c.in_err-value.ensures.value (search (rules, less))) in
+    hexadecimal-none c.args.digits.now c.loop-digit.digit-index c.loop-digit-test.true (λ less. c.in_err-value.ensures.value (search (rules, less))) in
     cc
 
 pub loop-digit-preserved : goal.loop-digit-preserved

@@ -1,5 +1,5 @@
 use Rattle.std.proofs.Common.{rules, arith, sym}
-use Rattle.apply_address.proofs.Quotes.{left-all, left-end, left-more}
+use Rattle.apply_address.proofs.Quotes.{left-end, left-more}
 use Rattle.apply_address.proofs.quoted.behind_text.Goals as goal
 
 pub loop-behind-preserved : goal.loop-behind-preserved

@@ -1,5 +1,5 @@
-use Rattle.std.proofs.Common.{rules, arith, sym}
-use Rattle.apply_address.proofs.Quotes.{said-end, said-more, said-none}
+use Rattle.std.proofs.Common.{rules, sym}
+use Rattle.apply_address.proofs.Quotes.{said-end, said-more}
 use Rattle.apply_address.proofs.quoted.unescaped.Goals as goal
 
 pub loop-character-preserved-in_ok-push : goal.loop-character-preserved-in_ok-push
