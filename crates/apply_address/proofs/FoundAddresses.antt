@@ -1,8 +1,8 @@
 -- The addresses that are read are written as they stand.
-use Rattle.std.proofs.Common.{◌≡◌, ℕ, zero, suc, ◌+◌, ◌-◌, ◌<◌, ◌≤◌, ◌==◌, Bool, true, false, cond, codes, List, [], ◌∷◌, ◌++◌, length, take, get_or, Option, Some, None, ◌⊎◌, inl, inr, refl, sym, ap, subst, ◌∙◌, arith, ⊎_elim, append_assoc, append-nil, length-append, lit<}
+use Rattle.std.proofs.Common.{◌≡◌, ℕ, zero, suc, ◌+◌, ◌-◌, ◌<◌, ◌≤◌, ◌==◌, Bool, true, false, codes, List, [], ◌∷◌, ◌++◌, length, take, get_or, Option, Some, None, ◌⊎◌, inl, inr, refl, sym, ap, subst, ◌∙◌, arith, ⊎_elim, append_assoc, append-nil, length-append, lit<}
 use Rattle.std.specs.Prelude.{if◌then◌else◌}
 use Rattle.std.specs.List.{AllByRecursion, flat_map}
-use Rattle.std.specs.Option.{option_map_or, option_or}
+use Rattle.std.specs.Option.{option_or}
 use Rattle.std.specs.Str.{IsCharBoundary, IsUtf8}
 use Rattle.std.proofs.lemmas.Bool.Decides.{nat_tests}
 use Rattle.std.proofs.lemmas.List.{nil_from_length, take-append-le}
@@ -10,7 +10,6 @@ use Rattle.std.proofs.lemmas.Option.{cond_some}
 use Rattle.std.proofs.lemmas.Str.{IsCharBoundary-before_ascii, IsCharBoundary-start}
 use Rattle.apply_model.specs.Plan.Address.{after_prefix}
 use Rattle.apply_address.specs.Address.{Address, IsAddress, IsNamed, Named, parts_of, written, written_module, written_modules, written_named, written_resource}
-use Rattle.apply_address.specs.Keys.{said_key}
 use Rattle.apply_address.specs.Names.{IsName}
 use Rattle.apply_address.specs.Parts.{Parts}
 use Rattle.apply_address.specs.Reading.{◌>>=◌, Last, NameAndKey, behind_module, last_behind, last_in, name_at, named_at, parts_in, typed_in}
@@ -23,7 +22,7 @@ get_or-at (first ∷ front) byte behind = get_or-at front byte behind
 
 -- ---- the last part
 
-abbrev told : List ℕ → NameAndKey → Last
+abbrev pub told : List ℕ → NameAndKey → Last
 told kind named = record { kind_name = kind; named = named }
 
 pub record TypedStands (text : List ℕ) (last : Last) : Type 0 where
@@ -182,4 +181,54 @@ module_boundary text last resource utf8 found =
           let at : length modules - 1 ≡ length some.0 = omega arith in
           subst (IsCharBoundary text) (sym at) (IsCharBoundary-before_ascii text (length some.0) (omega arith) (omega arith)))
           (ends_with_dot found.modules)),
+    )
+
+-- ---- addresses
+
+-- the parts that are told where the last part is found
+abbrev pub parts_found : List ℕ → Last × List ℕ → Parts
+parts_found text found = record {
+  module_address = take (length text - length found.1 - 1) text;
+  resource = found.1;
+  kind_name = found.0.kind_name;
+  name = found.0.named.name;
+  key = found.0.named.key;
+}
+
+pub module_is : (modules resource : List ℕ) → take (length (modules ++ resource) - length resource - 1) (modules ++ resource) ≡ take (length modules - 1) modules
+module_is modules resource =
+    let size : length (modules ++ resource) - length resource - 1 ≡ length modules - 1 = omega (arith, length-append modules resource) in
+    let within : length modules - 1 ≤ length modules = omega arith in
+    ap (λ k. take k (modules ++ resource)) size ∙ take-append-le (length modules - 1) modules resource within
+
+abbrev parts_with : (module_address resource kind_name : List ℕ) → NameAndKey → Parts
+parts_with module_address resource kind_name named = record {
+  module_address = module_address;
+  resource = resource;
+  kind_name = kind_name;
+  name = named.name;
+  key = named.key;
+}
+
+same_parts : (module_one module_other resource_one resource_other kind_name : List ℕ) (one other : NameAndKey) → module_one ≡ module_other → resource_one ≡ resource_other → one ≡ other
+    → parts_with module_one resource_one kind_name one ≡ parts_with module_other resource_other kind_name other
+same_parts module_one module_other resource_one resource_other kind_name one other modules resources named =
+    ap (λ m. parts_with m resource_one kind_name one) modules ∙ ap (λ r. parts_with module_other r kind_name one) resources ∙ ap (λ n. parts_with module_other resource_other kind_name n) named
+
+pub address_found : (text : List ℕ) (parts : Parts) → IsUtf8 text → parts_in text ≡ Some parts → (address : Address) × IsAddress address × (text ≡ written address) × (parts ≡ parts_of address)
+unfolding parts_in
+address_found text parts utf8 is =
+    let found = map_some (parts_found text) (last_behind (length text) text) parts is in
+    let last : Last = found.0.0 in
+    let resource : List ℕ = found.0.1 in
+    let behind : BehindModules text last resource = behind_found (length text) text last resource utf8 found.1 in
+    let address : Address = record { modules = behind.modules; is_data = behind.ends.is_data; kind_name = last.kind_name; named = behind.ends.named } in
+    let fits : IsAddress address = record { modules = behind.are; kind_name = behind.ends.kind_name; named = behind.ends.is } in
+    let whole : text ≡ written_modules address ++ resource = behind.stand in
+    let module_same : take (length text - length resource - 1) text ≡ take (length (written_modules address) - 1) (written_modules address) =
+    ap (λ t. take (length t - length resource - 1) t) whole ∙ module_is (written_modules address) resource in (
+      address,
+      fits,
+      whole ∙ ap (λ t. written_modules address ++ t) behind.ends.stands,
+      sym found.2 ∙ same_parts _ _ resource (written_resource address) last.kind_name last.named (said_named behind.ends.named) module_same behind.ends.stands (sym behind.ends.says),
     )

@@ -1,8 +1,7 @@
 -- The names and keys that are read stand in the text as they are written.
-use Rattle.std.proofs.Common.{◌≡◌, ◌≢◌, ℕ, zero, suc, ◌+◌, ◌-◌, ◌<◌, ◌≤◌, ◌==◌, nat_lt, Bool, true, false, not, cond, codes, List, [], ◌∷◌, ◌++◌, length, take, drop, get_or, Option, Some, None, ℤ, refl, sym, ap, subst, ◌∙◌, arith, ⊎_elim, append_assoc, add-one, drop-cons, lit<}
+use Rattle.std.proofs.Common.{◌≡◌, ℕ, suc, ◌+◌, ◌<◌, ◌≤◌, ◌==◌, nat_lt, Bool, true, false, not, cond, codes, List, [], ◌∷◌, ◌++◌, length, take, drop, get_or, Some, refl, sym, ap, subst, ◌∙◌, arith, ⊎_elim, append_assoc, add-one, drop-cons, lit<}
 use Rattle.std.specs.Fmt.{signed_decimal}
 use Rattle.std.specs.List.{AllByRecursion, before_first, after_first, position_or_len, prefix_len}
-use Rattle.std.specs.Option.{option_map_or}
 use Rattle.std.specs.Str.{IsUtf8}
 use Rattle.std.proofs.lemmas.Bool.Decides.{nat_tests}
 use Rattle.std.proofs.lemmas.List.{length-take-le, take-append-drop}
@@ -16,7 +15,7 @@ use Rattle.apply_address.specs.Address.{IsNamed, Named, written_named}
 use Rattle.apply_address.specs.Keys.{IsKey, WrittenKey, no_key, number_key, said_key, text_key, written_key}
 use Rattle.apply_address.specs.Names.{IsName, is_mark}
 use Rattle.apply_address.specs.Pieces.{written_text}
-use Rattle.apply_address.specs.Reading.{◌>>=◌, NameAndKey, behind_pieces, cut_at_bracket, key_at, name_at, named_at, number_key_at, said_in, text_key_at, whole_number}
+use Rattle.apply_address.specs.Reading.{NameAndKey, behind_pieces, cut_at_bracket, key_at, name_at, named_at, number_key_at, said_in, text_key_at, whole_number}
 use Rattle.apply_address.proofs.FoundPieces.{pieces_stand}
 use Rattle.apply_address.proofs.Marks.{mark_boundary}
 use Rattle.apply_address.proofs.Numbers.{whole_number-found}

@@ -1,9 +1,8 @@
 -- The pieces that are read stand in the text as they are written.
-use Rattle.std.proofs.Common.{◌≡◌, ◌≢◌, ℕ, zero, suc, ◌<◌, ◌≤◌, ◌==◌, nat_lt, Bool, true, false, cond, List, [], ◌∷◌, ◌++◌, length, take, drop, Option, Some, None, refl, sym, ap, subst, ◌∙◌, arith, ⊎_elim, append_assoc, append-nil, drop_at}
+use Rattle.std.proofs.Common.{◌≡◌, ℕ, zero, suc, ◌<◌, ◌≤◌, ◌==◌, nat_lt, Bool, true, false, cond, List, [], ◌∷◌, ◌++◌, length, take, drop, Option, Some, None, refl, sym, ap, subst, ◌∙◌, arith, ⊎_elim, append_assoc, append-nil, drop_at}
 use Rattle.std.specs.Prelude.{slice_get, IsSome, option_map}
 use Rattle.std.specs.Char.{IsScalar, encode_utf8}
 use Rattle.std.specs.List.{AllByRecursion}
-use Rattle.std.specs.Option.{option_map_or}
 use Rattle.std.specs.Str.{IsUtf8, chars}
 use Rattle.std.specs.Str.Parse.{digits_value}
 use lib.Utf8.{scalar, scalars, encodes}
@@ -13,7 +12,7 @@ use Rattle.std.proofs.lemmas.List.{length-take-le, take-append-drop}
 use Rattle.std.proofs.lemmas.Option.{cond_some}
 use Rattle.std.proofs.lemmas.Str.{IsUtf8-drop, IsUtf8-encode, chars-append, chars-encodes, chars-nil, encode_ascii}
 use Rattle.apply_address.specs.Pieces.{AreDigits, IsPiece, Piece, character_of, escape, escaped_character, is_doubled, long, plain, said_text, short, written_piece, written_text}
-use Rattle.apply_address.specs.Reading.{◌>>=◌, behind_pieces, character_at, code_at, escape_at, hexadecimal, piece_at, said_by_pieces}
+use Rattle.apply_address.specs.Reading.{behind_pieces, character_at, code_at, escape_at, hexadecimal, piece_at, said_by_pieces}
 use Rattle.apply_address.proofs.Digits.{digits_boundary, hexadecimal-all}
 use Rattle.apply_address.proofs.Quotes.{behind_pieces-end, behind_pieces-step, said_by_pieces-end, said_by_pieces-step}
 use Rattle.apply_address.proofs.Steps.{bind_some, chosen, map_some, not_none, same_Some}
@@ -195,6 +194,10 @@ pub record PiecesStand (most : ℕ) (text : List ℕ) : Type 0 where
   pub utf8 : IsUtf8 (behind_pieces most text)
   pub say : (tail : List ℕ) → behind_pieces most text ≡ 34 ∷ tail → said_by_pieces most text ≡ said_text pieces
 
+pub joined : (b : Bool) (one rest : List ℕ) → cond b [] one ++ rest ≡ cond b rest (one ++ rest)
+joined true one rest = refl
+joined false one rest = refl
+
 none_stands : (most : ℕ) (text : List ℕ) → behind_pieces most text ≡ text → said_by_pieces most text ≡ [] → IsUtf8 text → PiecesStand most text
 none_stands most text same nothing utf8 = record {
   pieces = [];
@@ -224,10 +227,6 @@ one_stands most text character behind first others same said =
           ∙ ap (λ b. cond b [] (encode_utf8 (character_of first.piece)) ++ said_text others.pieces) test
           ∙ joined (is_doubled (written_text (first.piece ∷ others.pieces))) (encode_utf8 (character_of first.piece)) (said_text others.pieces);
     }
-  where
-    joined : (b : Bool) (one rest : List ℕ) → cond b [] one ++ rest ≡ cond b rest (one ++ rest)
-    joined true one rest = refl
-    joined false one rest = refl
 
 by_piece : (most : ℕ) (text : List ℕ) (o : Option (ℕ × List ℕ)) → piece_at text ≡ o → IsUtf8 text → ((behind : List ℕ) → IsUtf8 behind → PiecesStand most behind) → PiecesStand (suc most) text
 by_piece most text None is utf8 others = none_stands (suc most) text (behind_pieces-end (suc most) text is) (said_by_pieces-end (suc most) text is) utf8

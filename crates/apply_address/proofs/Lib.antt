@@ -6,4 +6,8 @@ pub mod Marks
 pub mod Modules
 pub mod Numbers
 pub mod Quotes
+pub mod Readings
 pub mod Steps
+pub mod WrittenAddresses
+pub mod WrittenNames
+pub mod WrittenPieces

@@ -13,10 +13,10 @@ pub record IsLeft (rest whole : List ℕ) : Type 0 where
 pub left-all : (whole : List ℕ) → IsLeft whole whole
 left-all whole = record { most = length whole; room = omega arith; same = refl }
 
-abbrev next : (most : ℕ) (rest : List ℕ) → Option Last → Option (List ℕ) → Option (Last × List ℕ)
+abbrev pub next : (most : ℕ) (rest : List ℕ) → Option Last → Option (List ℕ) → Option (Last × List ℕ)
 next most rest last behind = option_map_or (λ (l : Last). Some (l, rest)) last (behind >>= last_behind most)
 
-step : (most : ℕ) (rest : List ℕ) (last : Option Last) (behind : Option (List ℕ)) → last_in rest ≡ last → behind_module rest ≡ behind → last_behind (suc most) rest ≡ next most rest last behind
+pub step : (most : ℕ) (rest : List ℕ) (last : Option Last) (behind : Option (List ℕ)) → last_in rest ≡ last → behind_module rest ≡ behind → last_behind (suc most) rest ≡ next most rest last behind
 unfolding last_behind
 step most rest last behind last_is behind_is = ap (λ l. next most rest l (behind_module rest)) last_is ∙ ap (λ b. next most rest last b) behind_is
 
@@ -44,7 +44,7 @@ none_behind (suc most) rest no_last none = step most rest None None no_last none
 pub left-none : (rest whole : List ℕ) → last_in rest ≡ None → behind_module rest ≡ None → IsLeft rest whole → None ≡ last_behind (length whole) whole
 left-none rest whole no_last none left = sym (none_behind left.most rest no_last none) ∙ left.same
 
-here : (most : ℕ) (rest : List ℕ) (last : Last) → length rest ≤ most → last_in rest ≡ Some last → last_behind most rest ≡ Some (last, rest)
+pub here : (most : ℕ) (rest : List ℕ) (last : Last) → length rest ≤ most → last_in rest ≡ Some last → last_behind most rest ≡ Some (last, rest)
 here zero rest last room is = absurd (let none : last_in rest ≡ None = rw (nil_from_length rest (omega arith)) last_in-nil in cc)
 here (suc most) rest last room is = step most rest (Some last) (behind_module rest) is refl
 

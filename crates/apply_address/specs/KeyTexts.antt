@@ -1,5 +1,4 @@
 -- Keys as they stand in an address.
-use Rattle.std.specs.Prelude.{List, Option}
 use Rattle.apply_model.specs.declared.plan.key.Key.{Key}
 use Rattle.apply_model.specs.declared.plan.key.Key.TheVariants as key
 use Rattle.apply_address.specs.declared.key_text.KeyText.{KeyText}

@@ -1,7 +1,7 @@
 -- Texts between quotes: lists of pieces, each of which stands for one character.
 use Rattle.std.specs.Prelude.{◌≡◌, ◌≢◌, ℕ, ◌==◌, Bool, ◌||◌, if◌then◌else◌, nat_eq, List, [], ◌∷◌, ◌++◌, codes, length, Option, Some, None, IsSome, unwrap_or}
 use Rattle.std.specs.Char.{encode_utf8, IsScalar}
-use Rattle.std.specs.List.{AllByRecursion, flat_map, starts_with}
+use Rattle.std.specs.List.{flat_map, starts_with}
 use Rattle.std.specs.Str.Parse.{AllDigits, digits_value}
 
 pub data Piece : Type 0 where

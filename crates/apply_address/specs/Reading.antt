@@ -1,6 +1,6 @@
 -- The parts of a text that is an address, read from its first byte on. Each reader gives what stands at the front of a text,
 -- and what stands behind that; none where there is no such thing.
-use Rattle.std.specs.Prelude.{ℕ, zero, suc, ◌-◌, ◌^◌, ◌==◌, nat_lt, nat_eq, Bool, ◌||◌, ◌&&◌, not, slice_index, if◌then◌else◌, List, [], ◌∷◌, ◌++◌, codes, length, take, drop, slice_get, Option, Some, None, option_map, is_some, ℤ, pos, negsuc}
+use Rattle.std.specs.Prelude.{ℕ, zero, suc, ◌-◌, ◌^◌, ◌==◌, nat_lt, Bool, ◌||◌, ◌&&◌, not, slice_index, if◌then◌else◌, List, [], ◌++◌, codes, length, take, drop, slice_get, Option, Some, None, option_map, ℤ, pos, negsuc}
 use Rattle.std.specs.Char.{encode_utf8}
 use Rattle.std.specs.Fmt.{signed_decimal}
 use Rattle.std.specs.List.{before_first, after_first, position_or_len, list_all}

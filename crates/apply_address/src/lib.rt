@@ -4,6 +4,7 @@
 mod address_parts;
 mod key_text;
 mod last_part;
+mod laws;
 mod name;
 mod named;
 mod number;
@@ -11,3 +12,4 @@ mod pieces;
 mod quoted;
 
 pub use address_parts::{AddressParts, parts_of};
+pub use laws::an_address_has_one_reading;

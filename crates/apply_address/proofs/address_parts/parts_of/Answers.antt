@@ -1,11 +1,8 @@
-use Rattle.std.proofs.Common.{rules, sym, arith, subst, ap, ◌∙◌}
-use Rattle.apply_address.proofs.FoundAddresses.{behind_found, module_boundary}
+use Rattle.apply_address.proofs.Readings.{all_found, only_found}
 use Rattle.apply_address.proofs.address_parts.parts_of.Goals as goal
 
-pub overflow_sub-before : goal.overflow_sub-before
-overflow_sub-before c = (module_boundary _ _ _ c.utf8.text (behind_found _ _ _ _ c.utf8.text (sym c.in-Some.ensures))).0
+pub returns-clause-found : goal.returns-clause-found
+returns-clause-found c = all_found c.args.text.now c.read.result c.utf8.text c.read.ensures
 
-pub range-module_address-requires-clause-end_boundary : goal.range-module_address-requires-clause-end_boundary
-range-module_address-requires-clause-end_boundary c =
-    let boundary = (module_boundary _ _ _ c.utf8.text (behind_found _ _ _ _ c.utf8.text (sym c.in-Some.ensures))).1 in
-    search (rules, boundary)
+pub returns-clause-only : goal.returns-clause-only
+returns-clause-only c = only_found c.args.text.now c.read.result c.read.ensures
