@@ -1,13 +1,12 @@
 -- The parts of a text that is an address, read from its first byte on. Each reader gives what stands at the front of a text,
 -- and what stands behind that; none where there is no such thing.
 use Rattle.std.specs.Prelude.{ℕ, zero, suc, ◌-◌, ◌^◌, ◌==◌, nat_lt, Bool, ◌||◌, ◌&&◌, not, slice_index, if◌then◌else◌, List, [], ◌++◌, codes, length, take, drop, slice_get, Option, Some, None, option_map, ℤ, pos, negsuc}
-use Rattle.std.specs.Char.{encode_utf8}
+use Rattle.std.specs.Char.{digit_value, encode_utf8}
 use Rattle.std.specs.Fmt.{signed_decimal}
 use Rattle.std.specs.List.{before_first, after_first, position_or_len, list_all}
 use Rattle.std.specs.Option.{option_map_or, option_or}
 use Rattle.std.specs.Str.{chars, bytes_eq}
 use Rattle.std.specs.Str.Parse.{digits_value, signed_digits_value}
-use Rattle.std.specs.Char.{digit_value}
 use lib.Utf8.{scalar}
 use Rattle.apply_model.specs.declared.plan.key.Key.{Key}
 use Rattle.apply_model.specs.declared.plan.key.Key.TheVariants as key

@@ -90,20 +90,20 @@ fn read(alloc: Global, text: &str) -> Result<Option<AddressParts<'_>>, AllocErro
 /// - any number of modules, each `module.`, a name, a key where there is one, and a dot;
 /// - the last part: `data.` of a data source, a type, a dot, a name, and a key where there is one.
 ///
-/// A name, and a type, has one byte or more, none of them a blank (a byte up to 20 hexadecimal), a dot, a bracket (`[`, `]`) or
-/// a quote (`"`). A key is `[`, a whole number of 64 bits as JSON writes it (RFC 8259, section 6: no leading zero, no `-0`) and
-/// `]`; or `["`, a text and `"]`. In that text no quote stands bare, and a backslash stands in front of a quote, a backslash,
-/// `n`, `r`, `t`, `u` and four or `U` and eight hexadecimal digits of a character, and of nothing else. It says its characters, with
-/// these escapes resolved, and `$${` and `%%{` read as `${` and `%{`, from left to right, once: what an escape stands for is no part
-/// of either.
+/// A name, and a type, has one byte or more, none of them a blank (a byte up to 20 hexadecimal), a dot, a square
+/// bracket or a double quote. A key is `[`, a whole number of 64 bits as JSON writes it (RFC 8259, section 6: no
+/// leading zero, no `-0`) and `]`; or `["`, a text and `"]`. In that text no quote stands bare, and a backslash stands
+/// in front of a quote, a backslash, `n`, `r`, `t`, `u` and four or `U` and eight hexadecimal digits of a character,
+/// and of nothing else. It says its characters, with these escapes resolved, and `$${` and `%%{` read as `${` and
+/// `%{`, from left to right, once: what an escape stands for is no part of either.
 ///
 /// `None` where the text is no such address. `Err` where memory is refused, which is wanted for a key's text alone.
 pub fn parts_of(alloc: Global, text: &str) -> Result<Option<AddressParts<'_>>, AllocError>
     ensures defined { IfOk result (λ found. option_map parts_view found ≡ parts_in text.now) }
 
     // What is read is an address, written so, with these parts.
-    ensures found { IfOk result (λ found. IfSome found (λ parts.
-        (address : Address) × IsAddress address × (text.now ≡ written address) × (parts_view parts ≡ parts_of address))) }
+    ensures found { IfOk result (λ found. IfSome found (λ parts. (address : Address) × IsAddress address
+        × (text.now ≡ written address) × (parts_view parts ≡ parts_of address))) }
 
     // Of each address that is written so these parts are read.
     ensures only { IfOk result (λ found. (address : Address) → IsAddress address → text.now ≡ written address

@@ -16,7 +16,7 @@ pub enum KeyText<'a> {
     None,
     /// A whole number.
     Number(i64),
-    /// A text, from the character behind its first quote on. What stands from its last quote on is no part of it.
+    /// A text, which begins here, behind its first quote, and ends before the next quote that stands bare.
     Quoted(&'a str),
 }
 
@@ -30,8 +30,8 @@ fn cut_at_bracket(text: &str) -> Option<(&str, &str)>
 }
 
 impl<'a> KeyText<'a> {
-    /// The key in front of a text, none where no bracket stands there, and what stands behind it. `None` where what a bracket
-    /// begins is no key.
+    /// The key in front of a text, none where no bracket stands there, and what stands behind it. `None` where what a
+    /// bracket begins is no key.
     #[tactic(auto, unfolding(crate::specs::Reading::key_at))]
     pub fn first(text: &'a str) -> Option<(KeyText<'a>, &'a str)>
         ensures value { option_map (λ first. (key_of first.0, first.1.now)) result ≡ key_at text.now }

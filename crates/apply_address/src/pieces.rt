@@ -1,7 +1,8 @@
 //! The pieces of a text between quotes, each of which stands for one character.
 
 ghost use Rattle.std.specs.Prelude.{◌≡◌, ◌≤◌, ◌<◌, option_map, length, IfSome};
-ghost use Rattle.apply_address.specs.Reading.{character_at, code_at, escape_at, hexadecimal as number_of_digits, piece_at};
+ghost use Rattle.apply_address.specs.Reading.{character_at, code_at, escape_at, piece_at};
+ghost use Rattle.apply_address.specs.Reading.{hexadecimal as number_of_digits};
 
 /// The first character, and what stands behind it. `None` where the text is empty.
 #[tactic(auto, unfolding(crate::specs::Reading::character_at))]
@@ -60,8 +61,8 @@ fn escape(text: &str) -> Option<(char, &str)>
     }
 }
 
-/// The character that the first piece stands for, and what stands behind the piece. `None` where the text is empty, and where
-/// it begins with a quote, or with a backslash that is no escape.
+/// The character that the first piece stands for, and what stands behind the piece. `None` where the text is empty, and
+/// where it begins with a quote, or with a backslash that is no escape.
 #[tactic(auto, unfolding(crate::specs::Reading::piece_at))]
 pub fn first_piece(text: &str) -> Option<(char, &str)>
     ensures value { option_map (λ first. (first.0, first.1.now)) result ≡ piece_at text.now }

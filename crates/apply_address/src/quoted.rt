@@ -19,8 +19,8 @@ pub fn behind_text(text: &str) -> &str
     rest
 }
 
-/// Whether a `$` or a `%` begins the text that the two characters behind it make literal: `$${` is read as `${`, and `%%{`
-/// as `%{`.
+/// Whether a `$` or a `%` begins the text that the two characters behind it make literal: `$${` is read as `${`, and
+/// `%%{` as `%{`.
 fn is_doubled_sign(text: &str) -> bool
     ensures { result ≡ is_doubled text.now }
 {
