@@ -65,7 +65,7 @@ module _ (depth : ℕ) (ts rest : List Token) (t : token.Token) (first : ts ≡ 
   unfolding value
   object_too_deep none is = ap (converted of_json) (ap₂ value none (begins variant.BeginObject is))
 
-  read_array : 0 < depth → t ≡ variant.BeginArray → converted of_json (value depth ts) ≡ parse_map array (converted of_items (items (value (depth - 1)) (length rest) rest))
+  pub read_array : 0 < depth → t ≡ variant.BeginArray → converted of_json (value depth ts) ≡ parse_map array (converted of_items (items (value (depth - 1)) (length rest) rest))
   read_array some is =
       ap (converted of_json) (ap (value depth) (begins variant.BeginArray is) ∙ value-begin_array depth rest some)
       ∙ converted-array (items (value (depth - 1)) (length rest) rest)
@@ -77,7 +77,7 @@ module _ (depth : ℕ) (ts rest : List Token) (t : token.Token) (first : ts ≡ 
       → converted of_json (value depth ts) ≡ Some (array ds, r)
   array_made ds r some is made = read_array some is ∙ ap (parse_map array) made
 
-  read_object : 0 < depth → t ≡ variant.BeginObject → converted of_json (value depth ts) ≡ parse_map object (converted (λ ms. of_members ms no_members) (members (value (depth - 1)) (length rest) rest))
+  pub read_object : 0 < depth → t ≡ variant.BeginObject → converted of_json (value depth ts) ≡ parse_map object (converted (λ ms. of_members ms no_members) (members (value (depth - 1)) (length rest) rest))
   read_object some is =
       ap (converted of_json) (ap (value depth) (begins variant.BeginObject is) ∙ value-begin_object depth rest some)
       ∙ converted-object (members (value (depth - 1)) (length rest) rest)

@@ -1,3 +1,5 @@
 pub mod Parsed
+pub mod Seen
+pub mod Tokens
 pub mod Tree
 pub mod Trimmed

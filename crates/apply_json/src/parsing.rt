@@ -1,15 +1,19 @@
 //! From bytes to a tree.
 
-ghost use Rattle.std.specs.Prelude.{◌≡◌, ◌≤◌, length, IfOk, IfErr, IsUtf8, Some};
+ghost use Rattle.std.specs.Prelude.{◌≡◌, ◌≤◌, length, Err, None, IfOk, IfErr, IsUtf8, OnOk, Some};
+ghost use Rattle.serde_json.specs.Data.{Data, no_members};
+ghost use Rattle.serde_json.specs.Read.{read as read_text};
 ghost use Rattle.serde_json.specs.View.{view};
+ghost use Rattle.apply_json.specs.Seen.{members_in};
 ghost use Rattle.apply_json.specs.Tree.{tree_of};
 ghost use Rattle.apply_json.specs.Parsed.{IsNoTree, IsTrimmedTree};
 
 use crate::json_fault::JsonFault;
 use crate::read_fault::ReadFault;
 use crate::shape::Shape;
-use crate::trimming::read_trimmed;
-use json::Scratch;
+use crate::slots::{Slots, read_object};
+use crate::trimming::{MAX_DEPTH, read_trimmed};
+use json::{Reader, Scratch};
 use serde_json::Value;
 use simdutf8::basic::from_utf8;
 use std::alloc::Global;
@@ -70,4 +74,45 @@ pub fn parse_trimmed<S: Shape>(
         Err(ReadFault::NotJson) => Err(JsonFault::NotJson),
         Err(ReadFault::Memory) => Err(JsonFault::Memory),
     }
+}
+
+/// Reads the members of the object that the bytes are, of which there may be `most`, into slots. Bytes that are another value
+/// have none. `scratch` grows to the length of the bytes. `Err` as `parse`.
+pub fn read_slots<'a, S: Slots<'a>>(
+    alloc: Global,
+    scratch: &'a mut Scratch,
+    bytes: &'a [u8],
+    most: usize,
+    slots: &mut S,
+) -> Result<(), JsonFault>
+    requires { S.holds slots.old slots.old no_members }
+    ensures ok { OnOk result ((length bytes.now ≤ most)
+        × ((tree : Data) × (tree_of bytes.now ≡ Some tree) × S.holds slots.old slots.new (members_in tree))) }
+    ensures err { IfErr result (λ fault. IsNoTree most fault bytes.now) }
+{
+    let text = text_of(bytes, most)?;
+    match read_whole(alloc, scratch, text, slots) {
+        Ok(()) => Ok(()),
+        Err(ReadFault::NotJson) => Err(JsonFault::NotJson),
+        Err(ReadFault::Memory) => Err(JsonFault::Memory),
+    }
+}
+
+/// Reads the members of the object that the text is.
+fn read_whole<'a, S: Slots<'a>>(
+    alloc: Global,
+    scratch: &'a mut Scratch,
+    text: &'a str,
+    slots: &mut S,
+) -> Result<(), ReadFault>
+    requires { S.holds slots.old slots.old no_members }
+    ensures ok { OnOk result ((tree : Data) × (read_text text.now ≡ Some tree) × S.holds slots.old slots.new (members_in tree)) }
+    ensures err { result ≡ Err ReadFault.NotJson → read_text text.now ≡ None }
+{
+    let mut reader = Reader::new(text, scratch)?;
+    read_object(alloc, &mut reader, MAX_DEPTH, slots)?;
+    if reader.next().is_some() {
+        return Err(ReadFault::NotJson);
+    }
+    Ok(())
 }

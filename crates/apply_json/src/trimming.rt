@@ -16,7 +16,7 @@ use serde_json::{Map, Value};
 use std::alloc::Global;
 
 /// How deep arrays and objects may nest.
-const MAX_DEPTH: usize = 127;
+pub const MAX_DEPTH: usize = 127;
 
 /// The tree that the text is, without what nobody looks at.
 pub fn read_trimmed<S: Shape>(

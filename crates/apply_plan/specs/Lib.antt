@@ -1,4 +1,5 @@
 pub mod Bytes
+pub mod Found
 pub mod ListReading
 pub mod Plan
 pub mod Results

@@ -9,3 +9,8 @@ made_after answer earlier no_items = Ok earlier
 made_after answer earlier (item d ds) = do
   made ← answer earlier d
   made_after answer (earlier ++ made ∷ []) ds
+
+-- a list as items
+abbrev pub items_of : List Data → Items
+items_of [] = no_items
+items_of (d ∷ ds) = item d (items_of ds)

@@ -4,14 +4,15 @@ pub use Rattle.apply_model.specs.Script.Outcome
 pub use Rattle.apply_model.specs.Script.Waits
 pub mod Beginning
 pub mod ChangeNumbers
+pub mod EntriesView
 pub mod Entry
 pub mod HashedId
 pub mod Marks
+pub mod Members
 pub mod NextEntry
 pub mod OutcomeMap
 pub mod Placed
 pub mod Refusals
-pub mod Selection
 pub mod TreeView
 pub mod WaitedStep
 pub mod WaitedView

@@ -3,6 +3,7 @@
 #![tactic(auto)]
 
 mod bytes;
+mod found;
 mod plan;
 mod script;
 

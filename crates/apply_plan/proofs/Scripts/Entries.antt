@@ -19,6 +19,7 @@ use Rattle.apply_model.specs.Script.Outcome.{IsBounded, default_outcome}
 use Rattle.apply_model.specs.Script.OutcomeMap.{IsInRange, OutcomeMap, outcome_of, said_at}
 use Rattle.apply_model.specs.Script.Waits.{waits_of}
 use Rattle.apply_plan.specs.Script.Beginning.{AreAllPlaced}
+use Rattle.apply_plan.specs.Script.EntriesView.{Says}
 use Rattle.apply_plan.specs.Script.OutcomeMap.{Said, by_number, change_of_entry, is_about, said_of}
 use Rattle.apply_plan.specs.Script.Placed.{ArePlaced, IsPlaced}
 
@@ -207,10 +208,6 @@ counted_more said number outcomes below none =
     omega (arith, grown, none_before)
 
 -- ---- each step is within the limits
-
--- what the entries say of a change holds
-abbrev pub Says : (List Outcome → Type 0) → List Said → Type 0
-Says P made = (number : ℕ) → IfSome (said_of made number) P
 
 pub says_more : (P : List Outcome → Type 0) (made : List Said) (one : Said) → Says P made → P one.outcomes → Says P (made ++ one ∷ [])
 says_more P made one before holds number = subst (λ o. IfSome o P) (sym (said_of-append made one number)) (either (said_of made number) (one.change == number) (before number))

@@ -17,6 +17,7 @@ use Rattle.apply_plan.specs.ListReading.{made_after}
 use Rattle.apply_model.specs.Plan.ResourceChange.{ResourceChange}
 use Rattle.apply_model.specs.Plan.SavedPlan.{SavedPlan}
 use Rattle.apply_plan.specs.Results.{◌>>=◌, all_or_first, each_with_earlier, or_refuse, unless_refused}
+use Rattle.apply_plan.specs.Script.EntriesView.{HasKept, HasSaid, kept_of}
 use Rattle.apply_plan.specs.Script.Entry.{Entry, entry_of}
 use Rattle.apply_plan.specs.Script.NextEntry.{count_waits, entry_after, entry_beside}
 use Rattle.apply_model.specs.Script.Outcome.{IsBounded}
@@ -27,7 +28,7 @@ use Rattle.apply_plan.specs.Script.Placed.{ArePlaced}
 use Rattle.apply_plan.specs.Script.Refusals.{count_of_waits, fault_of_entry}
 use Rattle.apply_plan.proofs.Results.{bind_ok, bind_same, guard_ok, or_refuse_ok, unless_refused_ok}
 use Rattle.apply_plan.proofs.WholeList.{AnswersAlike, read_one_by_one}
-use Rattle.apply_plan.proofs.Scripts.Entries.{IsChangeOf, Says, about_same, are_all_placed, at_number, by_number-append, change_is, counted_more, is_in_range, is_said-append, length-by_number, none_counted, says_more}
+use Rattle.apply_plan.proofs.Scripts.Entries.{IsChangeOf, about_same, are_all_placed, at_number, by_number-append, change_is, counted_more, is_in_range, is_said-append, length-by_number, none_counted, says_more}
 use Rattle.apply_plan.proofs.Scripts.Limits.{said_is_bounded}
 
 -- ---- what an accepted entry says
@@ -116,15 +117,6 @@ entries_one_by_one changes elements = read_one_by_one (entry_after changes) (ent
 
 -- ---- the steps of a reader
 
--- what has been said after n entries is what was made of them
-pub record HasSaid (changes : List ResourceChange) (said : OutcomeMap) (waits n : ℕ) (made : List Said) : Type 0 where
-  pub count : length made ≡ n
-  pub waits_are : count_waits made ≡ waits
-  pub said_is : said ≡ by_number (length changes) made
-  pub counted : count_by is_some said ≡ n
-  pub in_range : Says (All IsBounded) made
-  pub placed : Says (ArePlaced (length changes)) made
-
 pub nothing_said : (changes : List ResourceChange) (said : OutcomeMap) → said ≡ by_number (length changes) [] → HasSaid changes said 0 0 []
 nothing_said changes said is =
     record { count = refl; waits_are = refl; said_is = is; counted = ap (λ (s : OutcomeMap). count_by is_some s) is ∙ none_counted (length changes); in_range = λ number. tt; placed = λ number. tt }
@@ -165,15 +157,6 @@ pub said_placed : (changes : List ResourceChange) (said : OutcomeMap) (waits n :
 said_placed changes said waits n made has = subst AreAllPlaced (sym has.said_is) (are_all_placed (length changes) made has.placed)
 
 -- ---- the entries that a reader keeps, for the question which of them could begin
-
--- what is kept of an entry: its change, and how many steps it has
-abbrev pub kept_of : Said → ℕ × ℕ
-kept_of entry = (entry.change, length entry.outcomes)
-
--- what is kept of the entries that were read
-pub record HasKept (n : ℕ) (kept : List (ℕ × ℕ)) (made : List Said) : Type 0 where
-  pub kept_is : kept ≡ map kept_of made
-  pub within : All (λ entry. (entry.0 < n) × (entry.1 ≤ 2)) kept
 
 pub nothing_kept : (n : ℕ) (kept : List (ℕ × ℕ)) → kept ≡ [] → HasKept n kept []
 nothing_kept n kept none = let P = λ (entry : ℕ × ℕ). (entry.0 < n) × (entry.1 ≤ 2) in record { kept_is = none; within = subst (All P) (sym none) (All-nil P) }

@@ -1,16 +1,17 @@
-//! A diagnostic of a script, as it stands in the tree.
+//! A diagnostic of a script, whose texts are borrowed.
 
-ghost use Rattle.std.specs.Prelude.{◌≡◌, IfOk, option_map};
-ghost use Rattle.serde_json.specs.View.{view};
-ghost use Rattle.apply_plan.specs.Script.Entry.{diag_from, diag_or_none};
+ghost use Rattle.std.specs.Prelude.{◌≡◌, ◌<◌, Err, IfOk, OnOk, Some, length, option_map};
+ghost use Rattle.serde_json.specs.Data.{Data};
+ghost use Rattle.apply_json.specs.Tokens.{IsNoValue, IsRead};
+ghost use Rattle.apply_plan.specs.Script.Members.{diag_held, diag_member};
 ghost use Rattle.apply_plan.specs.Script.TreeView.{diag_view};
 
-use apply_json::members::{text_member, text_member_or};
+use crate::script::diag_slots::DiagSlots;
+use apply_json::{ReadFault, Reader, Scalar, read_object};
 use apply_model::{Diag, Text};
-use serde_json::Value;
 use std::alloc::{AllocError, Global};
 
-/// A diagnostic that the tree holds.
+/// A diagnostic.
 #[derive(Clone, Copy)]
 pub struct TreeDiag<'a> {
     pub summary: &'a str,
@@ -18,25 +19,33 @@ pub struct TreeDiag<'a> {
 }
 
 impl<'a> TreeDiag<'a> {
-    /// The diagnostic that the value is. `None` where one of its members breaks its rule.
-    pub fn of(value: &'a Value) -> Option<TreeDiag<'a>>
-        ensures { option_map diag_view result ≡ diag_from (view value.now) }
+    /// Reads a member that is a diagnostic or `null`, in which arrays and objects nest at most `depth` deep. `None` where it is
+    /// neither.
+    pub fn read(
+        alloc: Global,
+        reader: &mut Reader<'a>,
+        depth: usize,
+    ) -> Result<Option<Option<TreeDiag<'a>>>, ReadFault>
+        ensures ok { IfOk result (λ found. (d : Data) × IsRead depth reader.old d reader.new
+            × (option_map (λ diag. option_map diag_view diag) found ≡ diag_member (Some d))) }
+        ensures shorter { OnOk result (length reader.new < length reader.old) }
+        ensures err { result ≡ Err ReadFault.NotJson → IsNoValue depth reader.old }
     {
-        Some(TreeDiag {
-            summary: text_member(value, "summary")?,
-            detail: text_member_or(value, "detail", "")?,
-        })
+        let mut slots = DiagSlots::new();
+        match read_object(alloc, reader, depth, &mut slots)? {
+            Scalar::Absent => Ok(Some(None)),
+            _ => Ok(TreeDiag::of(&slots).map(Some)),
+        }
     }
 
-    /// The diagnostic that a member is, or none where the member is absent. `None` where it is there and is none.
-    pub fn of_member(found: Option<&'a Value>) -> Option<Option<TreeDiag<'a>>>
-        ensures { option_map (λ diag. option_map diag_view diag) result
-            ≡ diag_or_none (option_map (λ value. view value.now) found.entry) }
+    /// The diagnostic that the members are. `None` where one of them breaks its rule.
+    fn of(slots: &DiagSlots<'a>) -> Option<TreeDiag<'a>>
+        ensures { option_map diag_view result ≡ diag_held slots.now }
     {
-        match found {
-            Some(value) => Some(Some(TreeDiag::of(value)?)),
-            None => Some(None),
-        }
+        Some(TreeDiag {
+            summary: slots.summary.text()?,
+            detail: slots.detail.text_or("")?,
+        })
     }
 
     /// The diagnostic, with copies of its texts.

@@ -1,19 +1,20 @@
-//! How a step ends, as it stands in the tree.
+//! How a step ends, its texts borrowed.
 
 ghost use Rattle.std.specs.Prelude.{◌≡◌, IfOk, option_map};
 ghost use Rattle.std.specs.Option.{option_copied};
-ghost use Rattle.serde_json.specs.View.{view};
-ghost use Rattle.apply_plan.specs.Script.Entry.{ending_from, ending_of};
+ghost use Rattle.apply_json.specs.Seen.{scalar_view};
+ghost use Rattle.apply_plan.specs.Script.Entry.{ending_from};
+ghost use Rattle.apply_plan.specs.Script.Members.{ending_held};
 ghost use Rattle.apply_model.specs.Script.Outcome.{is_failed};
 ghost use Rattle.apply_plan.specs.Script.TreeView.{diag_view, ending_view};
 
 use crate::script::tree_diag::TreeDiag;
-use apply_json::members::{member, non_empty, text_member_or};
+use apply_json::Scalar;
+use apply_json::members::non_empty;
 use apply_model::{Ending, Text};
-use serde_json::Value;
 use std::alloc::{AllocError, Global};
 
-/// An ending that the tree holds.
+/// An ending.
 #[derive(Clone, Copy)]
 pub enum TreeEnding<'a> {
     Done {
@@ -26,15 +27,16 @@ pub enum TreeEnding<'a> {
 }
 
 impl<'a> TreeEnding<'a> {
-    /// The ending of the step that the value is. `None` where one of the members that tell it breaks its rule.
-    #[tactic(auto, unfolding(crate::specs::Script::Entry::ending_of))]
-    pub fn of_step(value: &'a Value) -> Option<TreeEnding<'a>>
-        ensures { option_map ending_view result ≡ ending_of (view value.now) }
+    /// The ending that the members of a step tell. `None` where one of them breaks its rule.
+    pub fn of_members(
+        id: Scalar<'a>,
+        warning: Option<Option<TreeDiag<'a>>>,
+        failed: Option<Option<TreeDiag<'a>>>,
+    ) -> Option<TreeEnding<'a>>
+        ensures { option_map ending_view result ≡ ending_held (scalar_view id.entry) warning.entry failed.entry }
     {
-        let id = text_member_or(value, "id", "")?;
-        let warning = TreeDiag::of_member(member(value, "warning"))?;
-        let failed = TreeDiag::of_member(member(value, "failed"))?;
-        TreeEnding::of(non_empty(id), warning, failed)
+        let id = id.text_or("")?;
+        TreeEnding::of(non_empty(id), warning?, failed?)
     }
 
     /// The ending that the members give. `None` where a step that failed has an id or a warning.

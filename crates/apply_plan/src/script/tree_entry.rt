@@ -1,22 +1,24 @@
-//! An entry of a script, as it stands in the tree.
+//! An entry of a script, whose texts are borrowed.
 
-ghost use Rattle.std.specs.Prelude.{◌≡◌, ◌≤◌, length, IfOk, map, option_map};
+ghost use Rattle.std.specs.Prelude.{◌≡◌, ◌<◌, ◌≤◌, Err, IfOk, OnOk, Some, length, map, option_map};
 ghost use Rattle.std.specs.List.{list_any, zip};
-ghost use Rattle.serde_json.specs.View.{view, items_view};
-ghost use Rattle.apply_json.specs.Tree.{list_of};
-ghost use Rattle.apply_plan.specs.Script.Entry.{all_some, entry_of, step_from};
+ghost use Rattle.serde_json.specs.Data.{Data};
+ghost use Rattle.apply_json.specs.Tokens.{IsNoValue, IsRead};
+ghost use Rattle.apply_plan.specs.Script.Entry.{entry_of};
+ghost use Rattle.apply_plan.specs.Script.Members.{entry_held};
 ghost use Rattle.apply_model.specs.Script.Outcome.{has_too_many_provisioners, has_too_much_output, is_too_long};
 ghost use Rattle.apply_plan.specs.Script.Refusals.{fault_of_steps, misplaces_provisioners};
-ghost use Rattle.apply_plan.specs.Script.TreeView.{entry_step_view, entry_view, members_of, members_view, step_view, waits_within};
+ghost use Rattle.apply_plan.specs.Script.TreeView.{entry_view, step_view, waits_within};
 
+use crate::script::entry_slots::EntrySlots;
 use crate::script::script_error::ScriptError;
 use crate::script::tree_step::TreeStep;
-use apply_json::members::{member, non_empty, text_member, text_member_or};
+use apply_json::members::non_empty;
+use apply_json::{ReadFault, Reader, read_object};
 use apply_model::StepKind;
-use serde_json::Value;
-use std::alloc::{AllocError, Global};
+use std::alloc::Global;
 
-/// An entry that the tree holds, each of whose members obeys its rule.
+/// An entry, each of whose members obeys its rule.
 #[derive(Drop)]
 pub struct TreeEntry<'a> {
     pub address: &'a str,
@@ -25,22 +27,35 @@ pub struct TreeEntry<'a> {
 }
 
 impl<'a> TreeEntry<'a> {
-    /// The entry that the value is. `None` where one of its members breaks its rule.
-    #[tactic(auto, unfolding(crate::specs::Script::Entry::entry_of))]
-    pub fn of(alloc: Global, value: &'a Value) -> Result<Option<TreeEntry<'a>>, AllocError>
-        ensures { IfOk result (λ found. option_map entry_view found ≡ entry_of (view value.now)) }
+    /// Reads an entry, in which arrays and objects nest at most `depth` deep. `None` where it is none, or one of its members
+    /// breaks its rule.
+    pub fn read(
+        alloc: Global,
+        reader: &mut Reader<'a>,
+        depth: usize,
+    ) -> Result<Option<TreeEntry<'a>>, ReadFault>
+        ensures ok { IfOk result (λ found. (d : Data) × IsRead depth reader.old d reader.new
+            × (option_map entry_view found ≡ entry_of d)) }
+        ensures shorter { OnOk result (length reader.new < length reader.old) }
+        ensures err { result ≡ Err ReadFault.NotJson → IsNoValue depth reader.old }
     {
-        let Some((address, deposed, values)) = members(value) else {
-            return Ok(None);
-        };
-        let Some(steps) = steps(alloc, values)? else {
-            return Ok(None);
-        };
-        Ok(Some(TreeEntry {
+        let mut slots = EntrySlots::new();
+        read_object(alloc, reader, depth, &mut slots)?;
+        Ok(TreeEntry::of(slots))
+    }
+
+    /// The entry that the members are. `None` where one of them breaks its rule.
+    fn of(slots: EntrySlots<'a>) -> Option<TreeEntry<'a>>
+        ensures { option_map entry_view result ≡ entry_held slots.entry }
+    {
+        let address = slots.address.text()?;
+        let deposed = slots.deposed.text_or("")?;
+        let steps = slots.steps?;
+        Some(TreeEntry {
             address,
-            deposed,
+            deposed: non_empty(deposed),
             steps,
-        }))
+        })
     }
 
     /// The first fault of the steps of the entry, which has that number, where they belong to steps of these kinds.
@@ -110,29 +125,4 @@ fn misplaces_any_provisioners(kinds: &[StepKind], steps: &[TreeStep<'_>]) -> boo
         }
     }
     false
-}
-
-/// The members of an entry, with its steps still as values.
-fn members(value: &Value) -> Option<(&str, Option<&str>, &[Value])>
-    ensures { option_map members_view result ≡ members_of (view value.now) }
-{
-    let address = text_member(value, "address")?;
-    let deposed = text_member_or(value, "deposed", "")?;
-    let steps = member(value, "steps")?.as_array()?;
-    Some((address, non_empty(deposed), steps))
-}
-
-/// The steps that the values are. `None` where one is none.
-fn steps(alloc: Global, values: &[Value]) -> Result<Option<Vec<TreeStep<'_>>>, AllocError>
-    ensures { IfOk result (λ found. option_map (λ steps. map entry_step_view steps.items) found
-        ≡ all_some (map step_from (list_of (items_view values.now)))) }
-{
-    let mut steps = Vec::with_capacity(alloc, values.len())?;
-    for value in values {
-        let Some(step) = TreeStep::of(alloc, value)? else {
-            return Ok(None);
-        };
-        steps.push(step)?;
-    }
-    Ok(Some(steps))
 }

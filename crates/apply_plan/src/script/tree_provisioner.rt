@@ -1,21 +1,22 @@
-//! A provisioner of a script, as it stands in the tree.
+//! A provisioner of a script, whose texts are borrowed.
 
-ghost use Rattle.std.specs.Prelude.{◌≡◌, ◌≤◌, All, IfOk, length, map, option_map};
-ghost use Rattle.serde_json.specs.Find.{as_str};
-ghost use Rattle.serde_json.specs.View.{view};
-ghost use Rattle.apply_plan.specs.Script.Entry.{each_of, provisioner_from};
+ghost use Rattle.std.specs.Prelude.{◌≡◌, ◌<◌, ◌≤◌, All, Err, IfOk, OnOk, Some, length, map, option_map};
+ghost use Rattle.serde_json.specs.Data.{Data};
+ghost use Rattle.apply_json.specs.Tokens.{IsNoValue, IsRead};
+ghost use Rattle.apply_plan.specs.Script.Entry.{provisioner_from};
+ghost use Rattle.apply_plan.specs.Script.Members.{provisioner_held};
 ghost use Rattle.apply_model.specs.Script.Outcome.{IsSmall, puts_out_too_much};
 ghost use Rattle.apply_model.specs.Script.Limits.{max_outputs, max_provisioners};
 ghost use Rattle.apply_plan.specs.Script.TreeView.{provisioner_view, texts_view};
 
+use crate::script::provisioner_slots::ProvisionerSlots;
 use crate::script::tree_diag::TreeDiag;
-use crate::script::tree_step::seconds;
-use apply_json::members::{array_or_empty, member, non_empty_text_member};
+use apply_json::members::non_empty;
+use apply_json::{ReadFault, Reader, read_object};
 use apply_model::{MAX_OUTPUTS, Provisioner, Provisioners, Text, Texts};
-use serde_json::Value;
 use std::alloc::{AllocError, Global};
 
-/// A provisioner that the tree holds, each of whose members obeys its rule.
+/// A provisioner, each of whose members obeys its rule.
 #[derive(Drop)]
 pub struct TreeProvisioner<'a> {
     pub name: &'a str,
@@ -27,29 +28,37 @@ pub struct TreeProvisioner<'a> {
 }
 
 impl<'a> TreeProvisioner<'a> {
-    /// The provisioner that the value is. `None` where one of its members breaks its rule.
-    #[tactic(auto, unfolding(crate::specs::Script::Entry::provisioner_from))]
-    pub fn of(alloc: Global, value: &'a Value) -> Result<Option<TreeProvisioner<'a>>, AllocError>
-        ensures { IfOk result (λ found. option_map provisioner_view found ≡ provisioner_from (view value.now)) }
+    /// Reads a provisioner, in which arrays and objects nest at most `depth` deep. `None` where it is none, or one of its
+    /// members breaks its rule.
+    pub fn read(
+        alloc: Global,
+        reader: &mut Reader<'a>,
+        depth: usize,
+    ) -> Result<Option<TreeProvisioner<'a>>, ReadFault>
+        ensures ok { IfOk result (λ found. (d : Data) × IsRead depth reader.old d reader.new
+            × (option_map provisioner_view found ≡ provisioner_from d)) }
+        ensures shorter { OnOk result (length reader.new < length reader.old) }
+        ensures err { result ≡ Err ReadFault.NotJson → IsNoValue depth reader.old }
     {
-        let Some(name) = non_empty_text_member(value, "provisioner") else {
-            return Ok(None);
-        };
-        let Some(seconds) = seconds(value) else {
-            return Ok(None);
-        };
-        let Some(failed) = TreeDiag::of_member(member(value, "failed")) else {
-            return Ok(None);
-        };
-        let Some(output) = texts(alloc, member(value, "output"))? else {
-            return Ok(None);
-        };
-        Ok(Some(TreeProvisioner {
+        let mut slots = ProvisionerSlots::new(alloc);
+        read_object(alloc, reader, depth, &mut slots)?;
+        Ok(TreeProvisioner::of(slots))
+    }
+
+    /// The provisioner that the members are. `None` where one of them breaks its rule.
+    fn of(slots: ProvisionerSlots<'a>) -> Option<TreeProvisioner<'a>>
+        ensures { option_map provisioner_view result ≡ provisioner_held slots.entry }
+    {
+        let name = non_empty(slots.name.text()?)?;
+        let seconds = slots.seconds.whole()?;
+        let failed = slots.failed?;
+        let output = slots.output?;
+        Some(TreeProvisioner {
             name,
             seconds,
             output,
             failed,
-        }))
+        })
     }
 
     /// Whether the provisioner puts out more than it may.
@@ -71,24 +80,6 @@ impl<'a> TreeProvisioner<'a> {
             failed: TreeDiag::copied_option(alloc, self.failed)?,
         })
     }
-}
-
-/// The texts of an array, none where it is absent. `None` where it is no array, or holds something else.
-fn texts(alloc: Global, found: Option<&Value>) -> Result<Option<Vec<&str>>, AllocError>
-    ensures { IfOk result (λ made. option_map (λ texts. texts_view texts.items) made
-        ≡ each_of as_str (option_map (λ value. view value.now) found.entry)) }
-{
-    let Some(values) = array_or_empty(found) else {
-        return Ok(None);
-    };
-    let mut texts = Vec::with_capacity(alloc, values.len())?;
-    for value in values {
-        let Some(text) = value.as_str() else {
-            return Ok(None);
-        };
-        texts.push(text)?;
-    }
-    Ok(Some(texts))
 }
 
 /// Copies of the texts.

@@ -1,22 +1,24 @@
-//! A step of a script, as it stands in the tree.
+//! A step of a script, whose texts are borrowed.
 
-ghost use Rattle.std.specs.Prelude.{◌≡◌, IfOk, map, option_map};
+ghost use Rattle.std.specs.Prelude.{◌≡◌, ◌<◌, Err, IfOk, OnOk, Some, length, map, option_map};
 ghost use Rattle.std.specs.List.{list_any};
-ghost use Rattle.serde_json.specs.View.{view};
-ghost use Rattle.apply_plan.specs.Script.Entry.{each_of, entry_step, provisioner_from, seconds_of, step_from, with_provisioners};
+ghost use Rattle.serde_json.specs.Data.{Data};
+ghost use Rattle.apply_json.specs.Tokens.{IsNoValue, IsRead};
+ghost use Rattle.apply_plan.specs.Script.Entry.{entry_step, step_from, with_provisioners};
+ghost use Rattle.apply_plan.specs.Script.Members.{step_held};
 ghost use Rattle.apply_model.specs.Script.Outcome.{IsBounded, has_too_many_provisioners, has_too_much_output, is_too_long, puts_out_too_much};
 ghost use Rattle.apply_plan.specs.Script.Refusals.{misplaces_provisioners};
 ghost use Rattle.apply_plan.specs.Script.TreeView.{ending_view, entry_step_view, provisioner_view, step_view, waits_view};
 
+use crate::script::step_slots::StepSlots;
 use crate::script::tree_ending::TreeEnding;
 use crate::script::tree_provisioner::{TreeProvisioner, copied_provisioners};
-use crate::script::tree_wait::{TreeWait, waits};
-use apply_json::members::{array_or_empty, member};
+use crate::script::tree_wait::TreeWait;
+use apply_json::{ReadFault, Reader, read_object};
 use apply_model::{MAX_PROVISIONERS, MAX_SECONDS, Outcome, StepKind, Waits};
-use serde_json::Value;
 use std::alloc::{AllocError, Global};
 
-/// A step that the tree holds, each of whose members obeys its rule.
+/// A step, each of whose members obeys its rule.
 #[derive(Drop)]
 pub struct TreeStep<'a> {
     /// Any number of 64 bits: whether it is small enough is asked later.
@@ -29,24 +31,32 @@ pub struct TreeStep<'a> {
 }
 
 impl<'a> TreeStep<'a> {
-    /// The step that the value is. `None` where one of its members breaks its rule.
-    #[tactic(auto, unfolding(crate::specs::Script::Entry::step_from))]
-    pub fn of(alloc: Global, value: &'a Value) -> Result<Option<TreeStep<'a>>, AllocError>
-        ensures { IfOk result (λ found. option_map entry_step_view found ≡ step_from (view value.now)) }
+    /// Reads a step, in which arrays and objects nest at most `depth` deep. `None` where it is none, or one of its members breaks
+    /// its rule.
+    pub fn read(
+        alloc: Global,
+        reader: &mut Reader<'a>,
+        depth: usize,
+    ) -> Result<Option<TreeStep<'a>>, ReadFault>
+        ensures ok { IfOk result (λ found. (d : Data) × IsRead depth reader.old d reader.new
+            × (option_map entry_step_view found ≡ step_from d)) }
+        ensures shorter { OnOk result (length reader.new < length reader.old) }
+        ensures err { result ≡ Err ReadFault.NotJson → IsNoValue depth reader.old }
     {
-        let Some(seconds) = seconds(value) else {
-            return Ok(None);
-        };
-        let Some(ending) = TreeEnding::of_step(value) else {
-            return Ok(None);
-        };
-        let Some(provisioners) = provisioners(alloc, member(value, "provisioners"))? else {
-            return Ok(None);
-        };
-        let Some(after) = waits(alloc, member(value, "after"))? else {
-            return Ok(None);
-        };
-        Ok(TreeStep::with_provisioners(seconds, ending, provisioners, after))
+        let mut slots = StepSlots::new(alloc);
+        read_object(alloc, reader, depth, &mut slots)?;
+        Ok(TreeStep::of(slots))
+    }
+
+    /// The step that the members are. `None` where one of them breaks its rule.
+    fn of(slots: StepSlots<'a>) -> Option<TreeStep<'a>>
+        ensures { option_map entry_step_view result ≡ step_held slots.entry }
+    {
+        let seconds = slots.seconds.whole()?;
+        let ending = TreeEnding::of_members(slots.id, slots.warning, slots.failed)?;
+        let provisioners = slots.provisioners?;
+        let after = slots.after?;
+        TreeStep::with_provisioners(seconds, ending, provisioners, after)
     }
 
     /// A step with its provisioners. `None` where its provider fails and it has some.
@@ -128,32 +138,4 @@ fn puts_any_out_too_much(provisioners: &[TreeProvisioner<'_>]) -> bool
         ≡ list_any (λ provisioner. puts_out_too_much (provisioner_view provisioner)) provisioners.now }
 {
     provisioners.iter().any(TreeProvisioner::puts_out_too_much)
-}
-
-/// The whole number that the member `seconds` is.
-pub fn seconds(value: &Value) -> Option<u64>
-    ensures { result ≡ seconds_of (view value.now) }
-{
-    member(value, "seconds")?.as_u64()
-}
-
-/// The provisioners of an array, none where it is absent. `None` where it is no array, or holds something else.
-fn provisioners(
-    alloc: Global,
-    found: Option<&Value>,
-) -> Result<Option<Vec<TreeProvisioner<'_>>>, AllocError>
-    ensures { IfOk result (λ made. option_map (λ provisioners. map provisioner_view provisioners.items) made
-        ≡ each_of provisioner_from (option_map (λ value. view value.now) found.entry)) }
-{
-    let Some(values) = array_or_empty(found) else {
-        return Ok(None);
-    };
-    let mut provisioners = Vec::with_capacity(alloc, values.len())?;
-    for value in values {
-        let Some(provisioner) = TreeProvisioner::of(alloc, value)? else {
-            return Ok(None);
-        };
-        provisioners.push(provisioner)?;
-    }
-    Ok(Some(provisioners))
 }

@@ -1,16 +1,20 @@
-//! An item of `after` of a script, as it stands in the tree.
+//! An item of `after` of a script, whose texts are borrowed.
 
-ghost use Rattle.std.specs.Prelude.{◌≡◌, ◌<◌, ◌≤◌, IfOk, IfSome, length, map, nat_lt, option_map, if◌then◌else◌};
-ghost use Rattle.serde_json.specs.View.{view};
-ghost use Rattle.apply_plan.specs.Script.Entry.{each_of, number_or_none, wait_from, wait_of_members};
-ghost use Rattle.apply_plan.specs.Script.TreeView.{wait_view, waits_view};
+ghost use Rattle.std.specs.Prelude.{◌≡◌, ◌<◌, ◌≤◌, Err, IfOk, IfSome, None, OnOk, Some, length, nat_lt, option_map, if◌then◌else◌};
+ghost use Rattle.serde_json.specs.Data.{Data};
+ghost use Rattle.apply_json.specs.Seen.{scalar_view};
+ghost use Rattle.apply_json.specs.Tokens.{IsNoValue, IsRead};
+ghost use Rattle.apply_plan.specs.Script.Entry.{wait_from};
+ghost use Rattle.apply_plan.specs.Script.Members.{number_held, wait_held};
+ghost use Rattle.apply_plan.specs.Script.TreeView.{wait_view};
 ghost use Rattle.apply_plan.specs.Script.WaitedStep.{number_waited};
 
-use apply_json::members::{array_or_empty, member, non_empty, text_member, text_member_or};
-use serde_json::Value;
-use std::alloc::{AllocError, Global};
+use crate::script::wait_slots::WaitSlots;
+use apply_json::members::non_empty;
+use apply_json::{ReadFault, Reader, Scalar, read_object};
+use std::alloc::Global;
 
-/// An item of `after` that the tree holds, each of whose members obeys its rule.
+/// An item of `after`, each of whose members obeys its rule.
 #[derive(Clone, Copy)]
 pub struct TreeWait<'a> {
     pub address: &'a str,
@@ -20,28 +24,36 @@ pub struct TreeWait<'a> {
 }
 
 impl<'a> TreeWait<'a> {
-    /// The item that the value is. `None` where it is none, or one of its members breaks its rule.
-    pub fn of(value: &'a Value) -> Option<TreeWait<'a>>
-        ensures { option_map wait_view result ≡ wait_from (view value.now) }
+    /// Reads an item, in which arrays and objects nest at most `depth` deep. `None` where it is none, or one of its members
+    /// breaks its rule.
+    pub fn read(
+        alloc: Global,
+        reader: &mut Reader<'a>,
+        depth: usize,
+    ) -> Result<Option<TreeWait<'a>>, ReadFault>
+        ensures ok { IfOk result (λ found. (d : Data) × IsRead depth reader.old d reader.new
+            × (option_map wait_view found ≡ wait_from d)) }
+        ensures shorter { OnOk result (length reader.new < length reader.old) }
+        ensures err { result ≡ Err ReadFault.NotJson → IsNoValue depth reader.old }
     {
-        match value.as_str() {
-            Some(address) => Some(TreeWait {
+        let mut slots = WaitSlots::new();
+        match read_object(alloc, reader, depth, &mut slots)? {
+            Scalar::Text(address) => Ok(Some(TreeWait {
                 address,
                 deposed: None,
                 step: None,
-            }),
-            None => TreeWait::of_members(value),
+            })),
+            _ => Ok(TreeWait::of(&slots)),
         }
     }
 
-    /// The item that an object is.
-    #[tactic(auto, unfolding(crate::specs::Script::Entry::wait_of_members))]
-    fn of_members(value: &'a Value) -> Option<TreeWait<'a>>
-        ensures { option_map wait_view result ≡ wait_of_members (view value.now) }
+    /// The item that the members are. `None` where one of them breaks its rule.
+    fn of(slots: &WaitSlots<'a>) -> Option<TreeWait<'a>>
+        ensures { option_map wait_view result ≡ wait_held slots.now }
     {
-        let address = text_member(value, "address")?;
-        let deposed = text_member_or(value, "deposed", "")?;
-        let step = number_or_none(member(value, "step"))?;
+        let address = slots.address.text()?;
+        let deposed = slots.deposed.text_or("")?;
+        let step = number_or_none(slots.step)?;
         Some(TreeWait {
             address,
             deposed: non_empty(deposed),
@@ -65,29 +77,11 @@ impl<'a> TreeWait<'a> {
 }
 
 /// The whole number that a member is, or none where the member is absent. `None` where it is there and is none.
-fn number_or_none(found: Option<&Value>) -> Option<Option<u64>>
-    ensures { result ≡ number_or_none (option_map (λ value. view value.now) found.entry) }
+fn number_or_none(found: Scalar<'_>) -> Option<Option<u64>>
+    ensures { result ≡ number_held (scalar_view found.entry) }
 {
     match found {
-        Some(value) => Some(Some(value.as_u64()?)),
-        None => Some(None),
+        Scalar::Absent => Some(None),
+        _ => Some(Some(found.whole()?)),
     }
-}
-
-/// The items of an array, none where it is absent. `None` where it is no array, or holds something else.
-pub fn waits(alloc: Global, found: Option<&Value>) -> Result<Option<Vec<TreeWait<'_>>>, AllocError>
-    ensures { IfOk result (λ made. option_map (λ waits. waits_view waits.items) made
-        ≡ each_of wait_from (option_map (λ value. view value.now) found.entry)) }
-{
-    let Some(values) = array_or_empty(found) else {
-        return Ok(None);
-    };
-    let mut waits = Vec::with_capacity(alloc, values.len())?;
-    for value in values {
-        let Some(wait) = TreeWait::of(value) else {
-            return Ok(None);
-        };
-        waits.push(wait)?;
-    }
-    Ok(Some(waits))
 }

@@ -19,6 +19,14 @@ true => the script is malformed
 {"changes":[]} => accepted
 {"changes":5,"changes":[]} => accepted
 {"changes":[5],"changes":[]} => accepted
+{"changes":[],"changes":[5]} => script entry 0 is malformed
+{"changes":[{"address":"null_resource.a","steps":[]}],"changes":[{"address":"null_resource.a","steps":[]}]} => accepted
+{"changes":[{"address":"null_resource.a","steps":[]},5],"changes":[{"address":"null_resource.a","steps":[]}]} => accepted
+{"changes":[{"address":"null_resource.a","steps":[]}],"changes":null,"changes":[{"address":"null_resource.a","steps":[5]}]} => script entry 0 is malformed
+{"changes":[5,{"address":"null_resource.b","steps":[]}]} => script entry 0 is malformed
+{"changes":[5,1e400]} => the script is not JSON
+{"changes":[5],"other":[} => the script is not JSON
+{"changes":[5]}} => the script is not JSON
 {"version":2,"changes":[],"other":{"changes":5}} => accepted
 "#;
 

@@ -1,0 +1,148 @@
+-- The values of a script, by what slots hold of their members.
+use Rattle.std.proofs.Common.{◌≡◌, ℕ, List, [], codes, map, Option, Some, None, option_map, refl, ap, ◌∙◌}
+use Rattle.std.specs.Borrow.{Bor}
+use Rattle.serde_json.specs.Data.{Data, null, boolean, number, string, array, object, Items}
+use Rattle.serde_json.specs.Find.{as_array, as_str, get_member}
+use Rattle.apply_json.specs.declared.scalar.Scalar.{Scalar}
+use Rattle.apply_json.specs.declared.scalar.Scalar.TheVariants as scalar
+use Rattle.apply_json.specs.Seen as s
+use Rattle.apply_json.specs.Seen.{Seen, members_in, scalar_view, seen, text_seen, text_seen_or}
+use Rattle.apply_json.specs.Tree.{◌>>=◌, list_of, member_of, unless_empty, unless_null}
+use Rattle.apply_json.proofs.Held.{member_in, text_in, text_or_in, whole_in}
+use Rattle.apply_plan.specs.declared.script.diag_slots.DiagSlots.{DiagSlots}
+use Rattle.apply_plan.specs.declared.script.entry_slots.EntrySlots.{EntrySlots}
+use Rattle.apply_plan.specs.declared.script.provisioner_slots.ProvisionerSlots.{ProvisionerSlots}
+use Rattle.apply_plan.specs.declared.script.step_slots.StepSlots.{StepSlots}
+use Rattle.apply_plan.specs.declared.script.wait_slots.WaitSlots.{WaitSlots}
+use Rattle.apply_plan.specs.Script.Entry.{Entry, EntryStep, WaitName, all_some, diag_from, diag_or_none, each_of, ending_of, entry_of, number_or_none, provisioner_from, step_from, wait_from, wait_of_members}
+use Rattle.apply_plan.specs.Script.Members.{HoldsDiag, HoldsEntry, HoldsProvisioner, HoldsStep, HoldsWait, diag_held, diag_member, each_member, ending_held, entry_held, number_held, provisioner_held, step_held, steps_member, wait_held}
+
+-- ---- diagnostics
+
+pub diag_is : (slots : DiagSlots) (d : Data) → HoldsDiag slots (members_in d) → diag_held slots ≡ diag_from d
+diag_is slots d holds = rw (text_in (codes "summary") d, text_or_in [] (codes "detail") d, ← holds.summary, ← holds.detail) refl
+
+pub diag_absent : (d : Data) → s.absent ≡ seen (Some d) → Some None ≡ diag_member (Some d)
+diag_absent null is = refl
+diag_absent (boolean b) is = absurd cc
+diag_absent (number n) is = absurd cc
+diag_absent (string t) is = absurd cc
+diag_absent (array ds) is = absurd cc
+diag_absent (object ms) is = absurd cc
+
+pub diag_there : (d : Data) → (s.absent ≡ seen (Some d) → ⊥) → option_map Some (diag_from d) ≡ diag_member (Some d)
+diag_there null is = absurd (is refl)
+diag_there (boolean b) is = refl
+diag_there (number n) is = refl
+diag_there (string t) is = refl
+diag_there (array ds) is = refl
+diag_there (object ms) is = refl
+
+-- ---- items of `after`
+
+number_is : (o : Option Data) → number_or_none (o >>= unless_null) ≡ number_held (seen o)
+number_is None = refl
+number_is (Some null) = refl
+number_is (Some (boolean b)) = refl
+number_is (Some (number n)) = refl
+number_is (Some (string t)) = refl
+number_is (Some (array ds)) = refl
+number_is (Some (object ms)) = refl
+
+number_in : (d : Data) → number_or_none (member_of (codes "step") d) ≡ number_held (seen (get_member (codes "step") (members_in d)))
+number_in d = ap number_or_none (member_in (codes "step") d) ∙ number_is (get_member (codes "step") (members_in d))
+
+wait_of_members_is : (slots : WaitSlots) (d : Data) → HoldsWait slots (members_in d) → wait_held slots ≡ wait_of_members d
+unfolding wait_of_members
+wait_of_members_is slots d holds =
+    rw (text_in (codes "address") d, text_or_in [] (codes "deposed") d, number_in d, ← holds.address, ← holds.deposed, ← holds.step) refl
+
+pub wait_is : (slots : WaitSlots) (d : Data) → ((t : List ℕ) → s.text t ≡ seen (Some d) → ⊥) → HoldsWait slots (members_in d) → wait_held slots ≡ wait_from d
+wait_is slots null none holds = wait_of_members_is slots null holds
+wait_is slots (boolean b) none holds = wait_of_members_is slots (boolean b) holds
+wait_is slots (number n) none holds = wait_of_members_is slots (number n) holds
+wait_is slots (string t) none holds = absurd (none t refl)
+wait_is slots (array ds) none holds = wait_of_members_is slots (array ds) holds
+wait_is slots (object ms) none holds = wait_of_members_is slots (object ms) holds
+
+abbrev named : List ℕ → WaitName
+named address = record { address = address; deposed = None; step = None }
+
+pub wait_is_text : (d : Data) (t : List ℕ) → s.text t ≡ seen (Some d) → Some (named t) ≡ wait_from d
+wait_is_text null t is = absurd cc
+wait_is_text (boolean b) t is = absurd cc
+wait_is_text (number n) t is = absurd cc
+wait_is_text (string u) t is = ap (option_map named) (ap text_seen is)
+wait_is_text (array ds) t is = absurd cc
+wait_is_text (object ms) t is = absurd cc
+
+-- ---- members that are no scalars
+
+diag_at : (name : List ℕ) (d : Data) → diag_or_none (member_of name d) ≡ diag_member (get_member name (members_in d))
+diag_at name d = ap diag_or_none (member_in name d)
+
+each_at : {A : Type 0} (part : Data → Option A) (name : List ℕ) (d : Data) → each_of part (member_of name d) ≡ each_member part (get_member name (members_in d))
+each_at part name d = ap (each_of part) (member_in name d)
+
+-- ---- provisioners, steps and entries
+
+pub provisioner_is : (slots : ProvisionerSlots) (d : Data) → HoldsProvisioner slots (members_in d) → provisioner_held slots ≡ provisioner_from d
+unfolding provisioner_from
+provisioner_is slots d holds =
+    rw (text_in (codes "provisioner") d, whole_in (codes "seconds") d, diag_at (codes "failed") d, each_at as_str (codes "output") d, ← holds.name, ← holds.seconds, ← holds.failed, ← holds.output) refl
+
+ending_is : (slots : StepSlots) (d : Data) → HoldsStep slots (members_in d) → ending_held (scalar_view slots.id) slots.warning slots.failed ≡ ending_of d
+unfolding ending_of
+ending_is slots d holds =
+    rw (text_or_in [] (codes "id") d, diag_at (codes "warning") d, diag_at (codes "failed") d, ← holds.id, ← holds.warning, ← holds.failed) refl
+
+pub step_is : (slots : StepSlots) (d : Data) → HoldsStep slots (members_in d) → step_held slots ≡ step_from d
+unfolding step_from
+step_is slots d holds =
+    rw (whole_in (codes "seconds") d, each_at provisioner_from (codes "provisioners") d, each_at wait_from (codes "after") d, ← ending_is slots d holds, ← holds.seconds, ← holds.provisioners, ← holds.after) refl
+
+abbrev entry_with : List ℕ → List ℕ → List EntryStep → Entry
+entry_with address deposed steps = record { address = address; deposed = unless_empty deposed; steps = steps }
+
+pub entry_is : (slots : EntrySlots) (d : Data) → HoldsEntry slots (members_in d) → entry_held slots ≡ entry_of d
+unfolding entry_of
+entry_is slots d holds =
+    rw (text_in (codes "address") d, text_or_in [] (codes "deposed") d, member_in (codes "steps") d, ← holds.address, ← holds.deposed)
+    (behind (text_seen (scalar_view slots.address)) _ _ (λ address. behind (text_seen_or [] (scalar_view slots.deposed)) _ _ (λ deposed.
+    ap (λ (o : Option (List EntryStep)). o >>= λ steps. Some (entry_with address deposed steps)) holds.steps ∙ along (get_member (codes "steps") (members_in d)) address deposed)))
+  where
+    behind : {A B : Type 0} (o : Option A) (f g : A → Option B) → ((x : A) → f x ≡ g x) → (o >>= f) ≡ (o >>= g)
+    behind None f g same = refl
+    behind (Some x) f g same = same x
+
+    along : (o : Option Data) (address deposed : List ℕ)
+        → (steps_member o >>= λ steps. Some (entry_with address deposed steps))
+        ≡ ((o >>= unless_null) >>= λ list. as_array list >>= λ items. all_some (map step_from (list_of items)) >>= λ steps. Some (entry_with address deposed steps))
+    along o address deposed = through (o >>= unless_null)
+      where
+        inner : (p : Option Items) → ((p >>= λ items. all_some (map step_from (list_of items))) >>= λ steps. Some (entry_with address deposed steps))
+            ≡ (p >>= λ items. all_some (map step_from (list_of items)) >>= λ steps. Some (entry_with address deposed steps))
+        inner None = refl
+        inner (Some items) = refl
+
+        through : (q : Option Data) → ((q >>= λ list. as_array list >>= λ items. all_some (map step_from (list_of items))) >>= λ steps. Some (entry_with address deposed steps))
+            ≡ (q >>= λ list. as_array list >>= λ items. all_some (map step_from (list_of items)) >>= λ steps. Some (entry_with address deposed steps))
+        through None = refl
+        through (Some list) = inner (as_array list)
+
+-- ---- scalars
+
+pub text_of_seen : (d : Data) → text_seen (seen (Some d)) ≡ as_str d
+text_of_seen null = refl
+text_of_seen (boolean b) = refl
+text_of_seen (number n) = refl
+text_of_seen (string t) = refl
+text_of_seen (array ds) = refl
+text_of_seen (object ms) = refl
+
+pub not_text : (found : Scalar) → ((x : Bor (List ℕ)) → found ≡ scalar.Text x → ⊥) → (t : List ℕ) → s.text t ≡ scalar_view found → ⊥
+not_text scalar.Absent never t is = absurd cc
+not_text (scalar.Bool b) never t is = absurd cc
+not_text (scalar.Number n) never t is = absurd cc
+not_text (scalar.Text x) never t is = never x refl
+not_text scalar.Other never t is = absurd cc

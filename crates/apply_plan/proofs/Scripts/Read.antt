@@ -1,0 +1,199 @@
+-- Entries as they are read, one behind the other, and forgotten.
+use Rattle.std.proofs.Common.{◌≡◌, ◌≢◌, ℕ, ◌+◌, ◌<◌, ◌≤◌, true, false, List, [], ◌∷◌, ◌++◌, codes, length, Option, Some, None, option_map, Result, Ok, Err, refl, sym, ap, ◌∙◌, arith}
+use Rattle.std.specs.Prelude.{is_some}
+use Rattle.std.specs.List.{position_from}
+use Rattle.std.proofs.lemmas.List.{length-append}
+use Rattle.serde_json.specs.Data.{Data, null, boolean, number, string, array, object}
+use Rattle.serde_json.specs.Find.{as_array, get_member}
+use Rattle.apply_json.specs.declared.listed.Listed.TheVariants as kind
+use Rattle.apply_json.specs.Seen.{members_in}
+use Rattle.apply_json.specs.Tree.{list_of, unless_null}
+use Rattle.apply_json.specs.Tree as json
+use Rattle.apply_json.proofs.Held.{member_in}
+use Rattle.apply_model.specs.declared.script.outcome.Outcome.{Outcome}
+use Rattle.apply_model.specs.Plan.SavedPlan.{SavedPlan, max_changes}
+use Rattle.apply_model.specs.Script.Limits.{max_waits}
+use Rattle.apply_model.specs.Script.OutcomeMap.{OutcomeMap}
+use Rattle.apply_plan.specs.declared.script.entries.Entries.{Entries}
+use Rattle.apply_plan.specs.declared.script.script_error.ScriptError.{ScriptError}
+use Rattle.apply_plan.specs.declared.script.script_error.ScriptError.TheVariants.{BadShape, Memory, NeverBegins}
+use Rattle.apply_plan.specs.ListReading.{items_of, made_after}
+use Rattle.apply_plan.specs.Results.{◌>>=◌, or_refuse, unless_refused}
+use Rattle.apply_plan.specs.Script.Beginning.{is_stuck_at}
+use Rattle.apply_plan.specs.Script.EntriesView.{AreNumbersOf, HoldsEntries, KeepsOneMore, entries_in, kind_of}
+use Rattle.apply_plan.specs.Script.NextEntry.{entry_after, entry_beside}
+use Rattle.apply_plan.specs.Script.OutcomeMap.{Said, by_number, script_of_entries, script_of_tree}
+use Rattle.apply_plan.specs.Script.Placed.{ArePlaced}
+use Rattle.apply_plan.proofs.Scripts.Entries.{length-by_number}
+use Rattle.apply_plan.proofs.Scripts.WholeList.{entries_one_by_one, made_script, nothing_kept, nothing_said, one_kept, refused_script, said_more, same_entry}
+
+-- ---- one element more
+
+abbrev one_more : {A E : Type 0} → (List A → Data → Result A E) → Data → List A → Result (List A) E
+one_more answer d all = answer all d >>= λ one. Ok (all ++ one ∷ [])
+
+made_more : {A E : Type 0} (answer : List A → Data → Result A E) (made : List A) (ds : List Data) (d : Data)
+    → made_after answer made (items_of (ds ++ d ∷ [])) ≡ (made_after answer made (items_of ds) >>= one_more answer d)
+unfolding made_after
+made_more answer made [] d = refl
+made_more {A} {E} answer made (first ∷ ds) d = through (answer made first) (λ one. made_more answer (made ++ one ∷ []) ds d)
+  where
+    through : (r : Result A E) → ((one : A) → made_after answer (made ++ one ∷ []) (items_of (ds ++ d ∷ [])) ≡ (made_after answer (made ++ one ∷ []) (items_of ds) >>= one_more answer d)) → (r >>= λ one. made_after answer (made ++ one ∷ []) (items_of (ds ++ d ∷ []))) ≡ ((r >>= λ one. made_after answer (made ++ one ∷ []) (items_of ds)) >>= one_more answer d)
+    through (Ok one) more = more one
+    through (Err e) more = refl
+
+list_of-items_of : (ds : List Data) → list_of (items_of ds) ≡ ds
+list_of-items_of [] = refl
+list_of-items_of (d ∷ ds) = ap (λ (rest : List Data). d ∷ rest) (list_of-items_of ds)
+
+-- ---- the entries
+
+pub long : (entries : Entries) (ds : List Data) (holds : HoldsEntries entries ds) → length entries.said.items ≡ length entries.plan.now.changes
+long entries ds holds = ap length holds.said.said_is ∙ length-by_number (length entries.plan.now.changes) holds.made
+
+pub holds_none : (entries : Entries) → length entries.plan.now.changes ≤ max_changes → AreNumbersOf entries.numbers entries.plan.now.changes → entries.said.items ≡ by_number (length entries.plan.now.changes) [] → entries.kept.items ≡ [] → entries.waits ≡ 0 → entries.fault ≡ None
+    → HoldsEntries entries []
+unfolding made_after
+holds_none entries few numbered said kept waits fault =
+    let changes = entries.plan.now.changes in
+    record {
+      made = [];
+      few_changes = few;
+      numbered = numbered;
+      said = rw (waits, kept) (nothing_said changes entries.said.items said);
+      kept = nothing_kept (length changes) entries.kept.items kept;
+      few = omega (arith, waits);
+      so_far = λ not. rw fault refl;
+    }
+
+-- behind a fault
+pub holds_past : (entries : Entries) (ds : List Data) (d : Data) → is_some entries.fault ≡ true → HoldsEntries entries ds → HoldsEntries entries (ds ++ d ∷ [])
+holds_past entries ds d some holds =
+    let changes = entries.plan.now.changes in
+    record {
+      made = holds.made;
+      few_changes = holds.few_changes;
+      numbered = holds.numbered;
+      said = holds.said;
+      kept = holds.kept;
+      few = holds.few;
+      so_far = λ not. made_more (entry_after changes) [] ds d ∙ ap (λ r. r >>= one_more (entry_after changes) d) (holds.so_far not) ∙ stays entries.fault some;
+    }
+  where
+    stays : (fault : Option ScriptError) → is_some fault ≡ true → (unless_refused fault holds.made >>= one_more (entry_after entries.plan.now.changes) d) ≡ unless_refused fault holds.made
+    stays None none = absurd cc
+    stays (Some e) some = refl
+
+none_there : (fault : Option ScriptError) → is_some fault ≡ false → fault ≡ None
+none_there None h = refl
+none_there (Some x) h = absurd cc
+
+no_want : (fault : Option ScriptError) → is_some fault ≡ false → fault ≢ Some Memory
+no_want None h = λ is. absurd cc
+no_want (Some x) h = absurd cc
+
+-- the next entry, where there was no fault
+next_entry : (entries : Entries) (ds : List Data) (d : Data) (holds : HoldsEntries entries ds) → is_some entries.fault ≡ false → (answer : Result Said ScriptError)
+    → entry_beside entries.plan.now.changes entries.said.items entries.waits (length entries.kept.items) d ≡ answer
+    → made_after (entry_after entries.plan.now.changes) [] (items_of (ds ++ d ∷ [])) ≡ (answer >>= λ one. Ok (holds.made ++ one ∷ []))
+next_entry entries ds d holds none answer is =
+    let changes = entries.plan.now.changes in
+    made_more (entry_after changes) [] ds d ∙ ap (λ r. r >>= one_more (entry_after changes) d) (holds.so_far (no_want entries.fault none) ∙ ap (λ (o : Option ScriptError). unless_refused o holds.made) (none_there entries.fault none))
+    ∙ ap (λ (r : Result Said ScriptError). r >>= λ one. Ok (holds.made ++ one ∷ [])) (same_entry changes entries.said.items entries.waits (length entries.kept.items) holds.made d answer holds.said is)
+
+pub holds_more : (old new : Entries) (ds : List Data) (d : Data) (change : ℕ) (outcomes : List Outcome) (waits : ℕ) → HoldsEntries old ds → is_some old.fault ≡ false
+    → entry_beside old.plan.now.changes old.said.items old.waits (length old.kept.items) d ≡ Ok (record { change = change; outcomes = outcomes; waits = waits })
+    → change < length old.said.items → ArePlaced (length old.said.items) outcomes → old.waits + waits ≤ max_waits
+    → KeepsOneMore old change outcomes waits new → HoldsEntries new (ds ++ d ∷ [])
+holds_more old new ds d change outcomes waits holds none is below placed few keeps =
+    let changes = old.plan.now.changes in
+    let one : Said = record { change = change; outcomes = outcomes; waits = waits } in
+    let more = said_more changes old.said.items old.waits (length old.kept.items) holds.made d one holds.said is placed in
+    let longer : length (old.kept.items ++ (change, length outcomes) ∷ []) ≡ length old.kept.items + 1 = omega (arith, length-append old.kept.items ((change, length outcomes) ∷ [])) in
+    record {
+      made = holds.made ++ one ∷ [];
+      few_changes = rw keeps.plan holds.few_changes;
+      numbered = rw (keeps.numbers, keeps.plan) holds.numbered;
+      said = rw (keeps.plan, keeps.said, keeps.waits, keeps.kept, longer) more;
+      kept = rw (keeps.plan, keeps.kept) (one_kept (length changes) old.kept.items holds.made one holds.kept (omega (arith, below, long old ds holds)) placed.few);
+      few = rw keeps.waits few;
+      so_far = λ not. rw (keeps.plan, keeps.fault) (next_entry old ds d holds none (Ok one) is ∙ ap (λ (o : Option ScriptError). unless_refused o (holds.made ++ one ∷ [])) (sym (none_there old.fault none)));
+    }
+
+pub holds_refused : (old new : Entries) (ds : List Data) (d : Data) (fault : ScriptError) → HoldsEntries old ds → is_some old.fault ≡ false
+    → (fault ≢ Memory → entry_beside old.plan.now.changes old.said.items old.waits (length old.kept.items) d ≡ Err fault)
+    → new ≡ record old { fault = Some fault } → HoldsEntries new (ds ++ d ∷ [])
+holds_refused old new ds d fault holds none is same = rw same
+    (record {
+      made = holds.made;
+      few_changes = holds.few_changes;
+      numbered = holds.numbered;
+      said = holds.said;
+      kept = holds.kept;
+      few = holds.few;
+      so_far = λ not. next_entry old ds d holds none (Err fault) (is (λ want. not (ap (λ (e : ScriptError). Some e) want)));
+    })
+
+-- ---- the script that they make
+
+pub refused_entries : (entries : Entries) (ds : List Data) (fault : ScriptError) → HoldsEntries entries ds → entries.fault ≡ Some fault → fault ≢ Memory → script_of_entries entries.plan.now ds ≡ Err fault
+refused_entries entries ds fault holds is known =
+    let plan = entries.plan.now in
+    ap (script_of_entries plan) (sym (list_of-items_of ds))
+    ∙ refused_script plan (items_of ds) fault (sym (entries_one_by_one plan.changes (items_of ds)) ∙ holds.so_far (λ want. known (same (sym is ∙ want))) ∙ rw is refl)
+  where
+    same : {x y : ScriptError} → Some x ≡ Some y → x ≡ y
+    same e = cc
+
+pub made_entries : (entries : Entries) (ds : List Data) (stuck : Option ℕ) → HoldsEntries entries ds → entries.fault ≡ None → stuck ≡ position_from (is_stuck_at entries.said.items) 0 entries.kept.items
+    → script_of_entries entries.plan.now ds ≡ unless_refused (option_map NeverBegins stuck) entries.said.items
+made_entries entries ds stuck holds none is =
+    let plan = entries.plan.now in
+    ap (script_of_entries plan) (sym (list_of-items_of ds))
+    ∙ made_script plan (items_of ds) entries.said.items entries.waits (length entries.kept.items) holds.made entries.kept.items stuck holds.said holds.kept.kept_is is
+    (sym (entries_one_by_one plan.changes (items_of ds)) ∙ holds.so_far (λ want. absurd (let never : None ≡ Some Memory = sym none ∙ want in cc)) ∙ rw none refl)
+
+-- ---- the top level
+
+abbrev from_found : SavedPlan → Option Data → Result OutcomeMap ScriptError
+from_found plan found = or_refuse (BadShape None) (json.◌>>=◌ (json.◌>>=◌ found unless_null) as_array) >>= λ elements. script_of_entries plan (list_of elements)
+
+found_at : (plan : SavedPlan) (d : Data) → script_of_tree plan d ≡ from_found plan (get_member (codes "changes") (members_in d))
+unfolding script_of_tree
+found_at plan d = ap (λ (o : Option Data). or_refuse (BadShape None) (json.◌>>=◌ o as_array) >>= λ elements. script_of_entries plan (list_of elements)) (member_in (codes "changes") d)
+
+from_list : (plan : SavedPlan) (o : Option Data) → kind.List ≡ kind_of o → from_found plan o ≡ script_of_entries plan (entries_in o)
+from_list plan None is = absurd cc
+from_list plan (Some null) is = absurd cc
+from_list plan (Some (boolean b)) is = absurd cc
+from_list plan (Some (number n)) is = absurd cc
+from_list plan (Some (string s)) is = absurd cc
+from_list plan (Some (array ds)) is = refl
+from_list plan (Some (object ms)) is = absurd cc
+
+from_absent : (plan : SavedPlan) (o : Option Data) → kind.Absent ≡ kind_of o → from_found plan o ≡ Err (BadShape None)
+from_absent plan None is = refl
+from_absent plan (Some null) is = refl
+from_absent plan (Some (boolean b)) is = refl
+from_absent plan (Some (number n)) is = refl
+from_absent plan (Some (string s)) is = refl
+from_absent plan (Some (array ds)) is = absurd cc
+from_absent plan (Some (object ms)) is = refl
+
+from_other : (plan : SavedPlan) (o : Option Data) → kind.Other ≡ kind_of o → from_found plan o ≡ Err (BadShape None)
+from_other plan None is = refl
+from_other plan (Some null) is = refl
+from_other plan (Some (boolean b)) is = refl
+from_other plan (Some (number n)) is = refl
+from_other plan (Some (string s)) is = refl
+from_other plan (Some (array ds)) is = absurd cc
+from_other plan (Some (object ms)) is = refl
+
+pub script_of_list : (plan : SavedPlan) (d : Data) → kind.List ≡ kind_of (get_member (codes "changes") (members_in d)) → script_of_tree plan d ≡ script_of_entries plan (entries_in (get_member (codes "changes") (members_in d)))
+script_of_list plan d is = found_at plan d ∙ from_list plan _ is
+
+pub script_of_absent : (plan : SavedPlan) (d : Data) → kind.Absent ≡ kind_of (get_member (codes "changes") (members_in d)) → script_of_tree plan d ≡ Err (BadShape None)
+script_of_absent plan d is = found_at plan d ∙ from_absent plan _ is
+
+pub script_of_other : (plan : SavedPlan) (d : Data) → kind.Other ≡ kind_of (get_member (codes "changes") (members_in d)) → script_of_tree plan d ≡ Err (BadShape None)
+script_of_other plan d is = found_at plan d ∙ from_other plan _ is

@@ -1,0 +1,8 @@
+-- A list of what was found, for private clauses.
+use Rattle.std.specs.Prelude.{List, [], ◌∷◌, ◌++◌, Option, Some, None}
+
+-- with one item more, where none is missing
+abbrev pub added : {A : Type 0} → Option (List A) → Option A → Option (List A)
+added None item = None
+added (Some items) None = None
+added (Some items) (Some x) = Some (items ++ x ∷ [])

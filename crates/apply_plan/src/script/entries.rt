@@ -1,0 +1,149 @@
+//! What the entries of a script say.
+
+ghost use Rattle.std.specs.Prelude.{◌≡◌, ◌+◌, ◌<◌, ◌≤◌, [], IfOk, List, OnOk, length};
+ghost use Rattle.serde_json.specs.Data.{Data};
+ghost use Rattle.apply_model.specs.Script.Limits.{max_waits};
+ghost use Rattle.apply_plan.specs.Results.{Gives};
+ghost use Rattle.apply_plan.specs.Script.EntriesView.{AreCovered, HoldsEntries, KeepsOneMore};
+ghost use Rattle.apply_plan.specs.Script.OutcomeMap.{by_number, script_of_entries};
+
+use crate::script::beginning::first_stuck;
+use crate::script::change_numbers::ChangeNumbers;
+use crate::script::said::said_by_entry;
+use crate::script::script_error::ScriptError;
+use crate::script::tree_entry::TreeEntry;
+use apply_json::{Collector, ReadFault, Reader, pass};
+use apply_model::{Plan, Script, StepOutcomes};
+use std::alloc::{AllocError, Global};
+
+/// What the entries say that were read, up to the first that has a fault.
+#[derive(Drop)]
+pub struct Entries<'a> {
+    plan: &'a Plan,
+    numbers: ChangeNumbers<'a>,
+    /// What is said of each change.
+    said: Vec<Option<StepOutcomes>>,
+    /// The change of each entry, and of how many of its steps it tells.
+    kept: Vec<(u32, u8)>,
+    /// How many items of `after` there were.
+    waits: usize,
+    fault: Option<ScriptError>,
+}
+
+impl<'a> Entries<'a> {
+    /// No entry.
+    pub fn new(alloc: Global, plan: &'a Plan) -> Result<Entries<'a>, AllocError>
+        ensures { IfOk result (λ entries. (entries.plan ≡ plan.entry) × HoldsEntries entries []) }
+    {
+        let numbers = ChangeNumbers::of(alloc, plan)?;
+        let said = nothing(alloc, plan.len())?;
+        let kept = Vec::new(alloc);
+        Ok(Entries {
+            plan,
+            numbers,
+            said,
+            kept,
+            waits: 0,
+            fault: None,
+        })
+    }
+
+    /// Forgets all entries. It takes no longer than to read them took.
+    pub fn forget(&mut self)
+        requires { (ds : List Data) × HoldsEntries self.old ds }
+        ensures plan { self.new.plan ≡ self.old.plan }
+        ensures none { HoldsEntries self.new [] }
+    {
+        unsay(&mut self.said, &mut self.kept);
+        self.waits = 0;
+        self.fault = None;
+    }
+
+    /// Keeps what an entry says.
+    fn keep(&mut self, change: u32, outcomes: StepOutcomes, waits: usize) -> Result<(), AllocError>
+        requires change { change < length self.old.said.items }
+        requires steps { length outcomes ≤ 2 }
+        requires waits { self.old.waits + waits ≤ max_waits }
+        ensures { OnOk result (KeepsOneMore self.old change outcomes waits self.new) }
+    {
+        self.kept.push((change, outcomes.len() as u8))?;
+        self.waits += waits;
+        self.said[change as usize] = Some(outcomes);
+        Ok(())
+    }
+
+    /// The script that the entries make.
+    pub fn script(self, alloc: Global) -> Result<Script, ScriptError>
+        requires { (ds : List Data) × HoldsEntries self ds }
+        ensures { (ds : List Data) → HoldsEntries self.entry ds → Gives ScriptError.Memory (λ script. script) result
+            (script_of_entries self.entry.plan.now ds) }
+    {
+        if let Some(fault) = self.fault {
+            return Err(fault);
+        }
+        let script = Script::new(self.said);
+        match first_stuck(alloc, &script, self.plan.len(), &self.kept)? {
+            Some(number) => Err(ScriptError::NeverBegins(number)),
+            None => Ok(script),
+        }
+    }
+}
+
+impl<'a> Collector<'a> for Entries<'a> {
+    ghost holds = { λ start entries ds. (entries.plan ≡ start.plan) × HoldsEntries entries ds };
+
+    fn take(
+        &mut self,
+        alloc: Global,
+        reader: &mut Reader<'a>,
+        depth: usize,
+    ) -> Result<(), ReadFault> {
+        if self.fault.is_some() {
+            pass(reader, depth)?;
+            return Ok(());
+        }
+        let entry = TreeEntry::read(alloc, reader, depth)?;
+        let number = self.kept.len() as u32;
+        match said_by_entry(
+            alloc,
+            number,
+            self.waits,
+            entry,
+            self.plan,
+            &self.numbers,
+            &self.said,
+        ) {
+            Ok((change, outcomes, waits)) => {
+                self.keep(change, outcomes, waits)?;
+                Ok(())
+            }
+            Err(ScriptError::Memory) => Err(ReadFault::Memory),
+            Err(fault) => {
+                self.fault = Some(fault);
+                Ok(())
+            }
+        }
+    }
+}
+
+/// Nothing said of so many changes.
+fn nothing(alloc: Global, count: u32) -> Result<Vec<Option<StepOutcomes>>, AllocError>
+    ensures { IfOk result (λ said. said.items ≡ by_number count []) }
+{
+    let mut said = Vec::with_capacity(alloc, count as usize)?;
+    for _ in 0..count {
+        said.push(None)?;
+    }
+    Ok(said)
+}
+
+/// Takes back what was said of the changes that are kept, which are all of which something was said.
+fn unsay(said: &mut [Option<StepOutcomes>], kept: &mut Vec<(u32, u8)>)
+    requires { AreCovered said.old kept.old.items }
+    ensures said { said.new ≡ by_number (length said.old) [] }
+    ensures kept { kept.new.items ≡ [] }
+{
+    while let Some((change, _steps)) = kept.pop() {
+        said[change as usize] = None;
+    }
+}

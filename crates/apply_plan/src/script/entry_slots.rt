@@ -1,0 +1,57 @@
+//! What is kept of the members of an entry.
+
+ghost use Rattle.apply_plan.specs.Script.Members.{HoldsEntry};
+
+use crate::script::found_steps::read_steps;
+use crate::script::tree_step::TreeStep;
+use apply_json::{ReadFault, Reader, Scalar, Slots, pass, read_scalar};
+use std::alloc::Global;
+
+/// The members of an entry.
+#[derive(Drop)]
+pub struct EntrySlots<'a> {
+    pub address: Scalar<'a>,
+    pub deposed: Scalar<'a>,
+    pub steps: Option<Vec<TreeStep<'a>>>,
+}
+
+impl<'a> EntrySlots<'a> {
+    ghost use Rattle.serde_json.specs.Data.{no_members};
+
+    /// No member.
+    pub fn new() -> EntrySlots<'a>
+        ensures { HoldsEntry result no_members }
+    {
+        EntrySlots {
+            address: Scalar::Absent,
+            deposed: Scalar::Absent,
+            steps: None,
+        }
+    }
+}
+
+impl<'a> Slots<'a> for EntrySlots<'a> {
+    ghost holds = { λ _ slots ms. HoldsEntry slots ms };
+
+    fn take(
+        &mut self,
+        alloc: Global,
+        name: &str,
+        reader: &mut Reader<'a>,
+        depth: usize,
+    ) -> Result<(), ReadFault> {
+        if name == "address" {
+            self.address = read_scalar(reader, depth)?;
+            Ok(())
+        } else if name == "deposed" {
+            self.deposed = read_scalar(reader, depth)?;
+            Ok(())
+        } else if name == "steps" {
+            self.steps = read_steps(alloc, reader, depth)?;
+            Ok(())
+        } else {
+            pass(reader, depth)?;
+            Ok(())
+        }
+    }
+}

@@ -1,0 +1,55 @@
+//! What is kept of the members of an item of `after`.
+
+ghost use Rattle.apply_plan.specs.Script.Members.{HoldsWait};
+
+use apply_json::{ReadFault, Reader, Scalar, Slots, pass, read_scalar};
+use std::alloc::Global;
+
+/// The members of an item of `after`.
+#[derive(Clone, Copy, Drop)]
+pub struct WaitSlots<'a> {
+    pub address: Scalar<'a>,
+    pub deposed: Scalar<'a>,
+    pub step: Scalar<'a>,
+}
+
+impl<'a> WaitSlots<'a> {
+    ghost use Rattle.serde_json.specs.Data.{no_members};
+
+    /// No member.
+    pub fn new() -> WaitSlots<'a>
+        ensures { HoldsWait result no_members }
+    {
+        WaitSlots {
+            address: Scalar::Absent,
+            deposed: Scalar::Absent,
+            step: Scalar::Absent,
+        }
+    }
+}
+
+impl<'a> Slots<'a> for WaitSlots<'a> {
+    ghost holds = { λ _ slots ms. HoldsWait slots ms };
+
+    fn take(
+        &mut self,
+        _alloc: Global,
+        name: &str,
+        reader: &mut Reader<'a>,
+        depth: usize,
+    ) -> Result<(), ReadFault> {
+        if name == "address" {
+            self.address = read_scalar(reader, depth)?;
+            Ok(())
+        } else if name == "deposed" {
+            self.deposed = read_scalar(reader, depth)?;
+            Ok(())
+        } else if name == "step" {
+            self.step = read_scalar(reader, depth)?;
+            Ok(())
+        } else {
+            pass(reader, depth)?;
+            Ok(())
+        }
+    }
+}
