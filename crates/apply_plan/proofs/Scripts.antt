@@ -1,5 +1,7 @@
 -- Lemmas on scripts.
 pub mod Beginning
+pub mod BorrowedSteps
+pub mod Copies
 pub mod Entries
 pub mod Forgotten
 pub mod Found
@@ -7,11 +9,9 @@ pub mod Held
 pub mod Limits
 pub mod Numbers
 pub mod OneEntry
-pub mod Parts
 pub mod Read
 pub mod Refusals
 pub mod Rounds
 pub mod Stuck
-pub mod TreeSteps
 pub mod Waited
 pub mod WholeList

@@ -3,6 +3,7 @@ pub use Rattle.apply_model.specs.Script.Limits
 pub use Rattle.apply_model.specs.Script.Outcome
 pub use Rattle.apply_model.specs.Script.Waits
 pub mod Beginning
+pub mod BorrowedView
 pub mod ChangeNumbers
 pub mod EntriesView
 pub mod Entry
@@ -13,6 +14,5 @@ pub mod NextEntry
 pub mod OutcomeMap
 pub mod Placed
 pub mod Refusals
-pub mod TreeView
 pub mod WaitedStep
 pub mod WaitedView

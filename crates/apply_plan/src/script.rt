@@ -1,6 +1,12 @@
 //! How a script of outcomes is read.
 
 pub mod beginning;
+pub mod borrowed_diag;
+pub mod borrowed_ending;
+pub mod borrowed_entry;
+pub mod borrowed_provisioner;
+pub mod borrowed_step;
+pub mod borrowed_wait;
 pub mod change_numbers;
 pub mod diag_slots;
 pub mod entries;
@@ -18,11 +24,5 @@ pub mod said;
 pub mod script_error;
 pub mod script_slots;
 pub mod step_slots;
-pub mod tree_diag;
-pub mod tree_ending;
-pub mod tree_entry;
-pub mod tree_provisioner;
-pub mod tree_step;
-pub mod tree_wait;
 pub mod wait_slots;
 pub mod waited;

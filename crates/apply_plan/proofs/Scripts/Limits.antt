@@ -13,13 +13,13 @@ use Rattle.apply_model.specs.declared.script.outcome.Outcome.{Outcome}
 use Rattle.apply_model.specs.declared.script.provisioner.Provisioner.{Provisioner}
 use Rattle.apply_plan.specs.declared.script.script_error.ScriptError.{ScriptError}
 use Rattle.apply_plan.specs.declared.script.script_error.ScriptError.TheVariants.{TooManySteps, SecondsRange, TooManyProvisioners, TooMuchOutput, TooManyWaits}
-use Rattle.apply_plan.specs.declared.script.tree_step.TreeStep.{TreeStep}
+use Rattle.apply_plan.specs.declared.script.borrowed_step.BorrowedStep.{BorrowedStep}
 use Rattle.apply_model.specs.Plan.ResourceChange.{ResourceChange}
 use Rattle.apply_model.specs.Script.Limits.{max_outputs, max_provisioners, max_seconds, max_waits}
 use Rattle.apply_model.specs.Script.Outcome.{IsBounded, IsSmall, has_too_many_provisioners, has_too_much_output, is_too_long, puts_out_too_much, seconds_in_all}
 use Rattle.apply_plan.specs.Script.Entry.{EntryStep}
 use Rattle.apply_plan.specs.Script.Refusals.{count_of_waits, fault_of_entry, fault_of_steps, fault_of_waits}
-use Rattle.apply_plan.specs.Script.TreeView.{step_view}
+use Rattle.apply_plan.specs.Script.BorrowedView.{step_view}
 use Rattle.apply_plan.specs.Script.WaitedStep.{outcome_said, step_waited}
 use Rattle.apply_plan.proofs.Scripts.Refusals.{list_any-map}
 
@@ -53,8 +53,8 @@ none_is_bounded n kinds steps waits e =
     λ k d below. bounded (get_or steps k d) (none_passes is_too_long steps long.0 k d below) (none_passes has_too_many_provisioners steps wide.0 k d below) (none_passes has_too_much_output steps loud.0 k d below) (waits k d below)
 
 -- steps as a reader keeps them, apart from what they wait for
-pub none_in_tree : (n : ℕ) (kinds : List StepKind) (steps : List TreeStep) → fault_of_steps n kinds (map step_view steps) ≡ None → All IsBounded (map step_view steps)
-none_in_tree n kinds steps e =
+pub none_of_entry : (n : ℕ) (kinds : List StepKind) (steps : List BorrowedStep) → fault_of_steps n kinds (map step_view steps) ≡ None → All IsBounded (map step_view steps)
+none_of_entry n kinds steps e =
     none_is_bounded n kinds (map step_view steps) (All-map (λ (outcome : Outcome). length outcome.after ≤ max_waits) step_view steps (λ k d below. omega arith)) e
 
 longer : {X Y : Type 0} (o : Option Y) (ys : List Y) (x : X) (xs : List X) → length ys ≤ length xs → length (cons_option o ys) ≤ length (x ∷ xs)

@@ -11,15 +11,15 @@ use Rattle.apply_model.specs.declared.script.outcome.Outcome.{Outcome}
 use Rattle.apply_model.specs.declared.script.wait.Wait.{Wait}
 use Rattle.apply_model.specs.Plan.ResourceChange.{ResourceChange}
 use Rattle.apply_plan.specs.declared.script.script_error.ScriptError.TheVariants.{UnknownWait, NoSuchStep}
-use Rattle.apply_plan.specs.declared.script.tree_step.TreeStep.{TreeStep}
-use Rattle.apply_plan.specs.declared.script.tree_wait.TreeWait.{TreeWait}
+use Rattle.apply_plan.specs.declared.script.borrowed_step.BorrowedStep.{BorrowedStep}
+use Rattle.apply_plan.specs.declared.script.borrowed_wait.BorrowedWait.{BorrowedWait}
 use Rattle.apply_plan.specs.declared.script.waited.Waited.{Waited}
 use Rattle.apply_plan.specs.Results.{unless_refused}
 use Rattle.apply_plan.specs.Script.Entry.{Entry, EntryStep, WaitName}
 use Rattle.apply_plan.specs.Script.NextEntry.{outcomes_or_fault}
 use Rattle.apply_plan.specs.Script.Placed.{IsPlaced}
 use Rattle.apply_plan.specs.Script.Refusals.{is_any_wait, is_unknown, lacks_step}
-use Rattle.apply_plan.specs.Script.TreeView.{entry_step_view, step_view, wait_view, waits_view}
+use Rattle.apply_plan.specs.Script.BorrowedView.{entry_step_view, step_view, wait_view, waits_view}
 use Rattle.apply_plan.specs.Script.WaitedStep.{change_waited, number_waited, outcome_said, step_of_change, step_waited}
 use Rattle.apply_plan.specs.Script.WaitedView.{waited_by}
 use Rattle.apply_plan.proofs.Scripts.Entries.{change_numbered, is_numbered, not_numbered}
@@ -30,26 +30,26 @@ abbrev as_entry : WaitName → Entry
 as_entry name = record { address = name.address; deposed = name.deposed; steps = [] }
 
 -- what a reader keeps of the first i items
-pub record HasWaited (changes : List ResourceChange) (items : List TreeWait) (i : ℕ) (waits : List Wait) (lacks : Bool) : Type 0 where
+pub record HasWaited (changes : List ResourceChange) (items : List BorrowedWait) (i : ℕ) (waits : List Wait) (lacks : Bool) : Type 0 where
   pub known : list_any (is_unknown changes) (waits_view (take i items)) ≡ false
   pub waits_are : waits ≡ filter_map (step_waited changes) (waits_view (take i items))
   pub lacks_is : lacks ≡ list_any (lacks_step changes) (waits_view (take i items))
   pub placed : All (IsPlaced (length changes)) waits
   pub few : length waits ≤ i
 
-pub none_waited : (changes : List ResourceChange) (items : List TreeWait) (waits : List Wait) → waits ≡ [] → HasWaited changes items 0 waits false
+pub none_waited : (changes : List ResourceChange) (items : List BorrowedWait) (waits : List Wait) → waits ≡ [] → HasWaited changes items 0 waits false
 none_waited changes items waits none =
     record { known = refl; waits_are = none; lacks_is = refl; placed = subst (All (IsPlaced (length changes))) (sym none) (All-nil (IsPlaced (length changes))); few = omega (arith, ap length none) }
 
-one_more : (items : List TreeWait) (i : ℕ) (item : TreeWait) → i < length items → item ≡ get_or items i item → waits_view (take (i + 1) items) ≡ waits_view (take i items) ++ wait_view item ∷ []
+one_more : (items : List BorrowedWait) (i : ℕ) (item : BorrowedWait) → i < length items → item ≡ get_or items i item → waits_view (take (i + 1) items) ≡ waits_view (take i items) ++ wait_view item ∷ []
 one_more items i item below is = rw (take_more items i item below, ← is) (map-append wait_view (take i items) (item ∷ []))
 
 -- a change that is found has a number in the plan
-pub number_below : (changes : List ResourceChange) (item : TreeWait) (number : ℕ) → Some number ≡ option_map (λ p. p.0) (change_waited changes (wait_view item)) → number < length changes
+pub number_below : (changes : List ResourceChange) (item : BorrowedWait) (number : ℕ) → Some number ≡ option_map (λ p. p.0) (change_waited changes (wait_view item)) → number < length changes
 number_below changes item number known = is_numbered changes (as_entry (wait_view item)) number known
 
 -- an item of which no change has the name
-pub is_of_none : (changes : List ResourceChange) (items : List TreeWait) (i : ℕ) (item : TreeWait) → i < length items → item ≡ get_or items i item
+pub is_of_none : (changes : List ResourceChange) (items : List BorrowedWait) (i : ℕ) (item : BorrowedWait) → i < length items → item ≡ get_or items i item
     → None ≡ option_map (λ p. p.0) (change_waited changes (wait_view item)) → None ≡ waited_by changes (waits_view items)
 is_of_none changes items i item below is none =
     let unknown : is_unknown changes (wait_view item) ≡ true = ap (λ (o : Option (ℕ × ResourceChange)). is_none o) (not_numbered (change_waited changes (wait_view item)) none) in
@@ -61,7 +61,7 @@ is_of_none changes items i item below is none =
 record Names (changes : List ResourceChange) (name : WaitName) (number : ℕ) (change : ResourceChange) : Type 0 where
   found : change_waited changes name ≡ Some (number, change)
 
-names : (changes : List ResourceChange) (item : TreeWait) (number : ℕ) (change : ResourceChange) → Some number ≡ option_map (λ p. p.0) (change_waited changes (wait_view item)) → Some change ≡ slice_get changes number
+names : (changes : List ResourceChange) (item : BorrowedWait) (number : ℕ) (change : ResourceChange) → Some number ≡ option_map (λ p. p.0) (change_waited changes (wait_view item)) → Some change ≡ slice_get changes number
     → Names changes (wait_view item) number change
 names changes item number change known stands = record { found = (change_numbered changes (as_entry (wait_view item)) number change known stands).found }
 
@@ -89,7 +89,7 @@ or_false : (b : Bool) → (b || false) ≡ b
 or_false true = refl
 or_false false = refl
 
-module _ (changes : List ResourceChange) (items : List TreeWait) (i : ℕ) (item : TreeWait) (number count : ℕ) (change : ResourceChange) (waits : List Wait) (lacks : Bool)
+module _ (changes : List ResourceChange) (items : List BorrowedWait) (i : ℕ) (item : BorrowedWait) (number count : ℕ) (change : ResourceChange) (waits : List Wait) (lacks : Bool)
     (before : HasWaited changes items i waits lacks) (below : i < length items) (is : item ≡ get_or items i item)
     (known : Some number ≡ option_map (λ p. p.0) (change_waited changes (wait_view item))) (stands : Some change ≡ slice_get changes number)
     (count_is : count ≡ length change.steps) (few : count ≤ 2) where
@@ -139,7 +139,7 @@ module _ (changes : List ResourceChange) (items : List TreeWait) (i : ℕ) (item
       (cases_Bool (nat_lt (number_waited count (wait_view item)) count))
 
 -- no item is left
-pub all_waited : (changes : List ResourceChange) (items : List TreeWait) (i : ℕ) (waits : List Wait) (lacks : Bool) → HasWaited changes items i waits lacks → length items ≤ i
+pub all_waited : (changes : List ResourceChange) (items : List BorrowedWait) (i : ℕ) (waits : List Wait) (lacks : Bool) → HasWaited changes items i waits lacks → length items ≤ i
     → Some (record { waits = waits; lacks_step = lacks }) ≡ waited_by changes (waits_view items)
 all_waited changes items i waits lacks has past =
     let whole : take i items ≡ items = take_all i items past in
@@ -170,21 +170,21 @@ unknown_among changes names is = ⊎_elim
     (cases_Bool (list_any (is_unknown changes) names))
 
 -- what a reader has made of the first i steps
-pub record HasOutcomes (changes : List ResourceChange) (steps : List TreeStep) (i : ℕ) (outcomes : List Outcome) (lacks : Bool) : Type 0 where
+pub record HasOutcomes (changes : List ResourceChange) (steps : List BorrowedStep) (i : ℕ) (outcomes : List Outcome) (lacks : Bool) : Type 0 where
   pub known : is_any_wait (is_unknown changes) (map entry_step_view (take i steps)) ≡ false
   pub outcomes_are : outcomes ≡ map (outcome_said changes) (map entry_step_view (take i steps))
   pub lacks_is : lacks ≡ is_any_wait (lacks_step changes) (map entry_step_view (take i steps))
   pub placed : All (λ outcome. All (IsPlaced (length changes)) outcome.after) outcomes
 
-pub no_outcomes : (changes : List ResourceChange) (steps : List TreeStep) (outcomes : List Outcome) → outcomes ≡ [] → HasOutcomes changes steps 0 outcomes false
+pub no_outcomes : (changes : List ResourceChange) (steps : List BorrowedStep) (outcomes : List Outcome) → outcomes ≡ [] → HasOutcomes changes steps 0 outcomes false
 no_outcomes changes steps outcomes none =
     let P = λ (outcome : Outcome). All (IsPlaced (length changes)) outcome.after in
     record { known = refl; outcomes_are = none; lacks_is = refl; placed = subst (All P) (sym none) (All-nil P) }
 
-next_step : (steps : List TreeStep) (i : ℕ) (step : TreeStep) → i < length steps → step ≡ get_or steps i step → map entry_step_view (take (i + 1) steps) ≡ map entry_step_view (take i steps) ++ entry_step_view step ∷ []
+next_step : (steps : List BorrowedStep) (i : ℕ) (step : BorrowedStep) → i < length steps → step ≡ get_or steps i step → map entry_step_view (take (i + 1) steps) ≡ map entry_step_view (take i steps) ++ entry_step_view step ∷ []
 next_step steps i step below is = rw (take_more steps i step below, ← is) (map-append entry_step_view (take i steps) (step ∷ []))
 
-pub one_outcome : (changes : List ResourceChange) (steps : List TreeStep) (i : ℕ) (step : TreeStep) (outcomes : List Outcome) (lacks : Bool) (waited : Waited) (outcome : Outcome) → HasOutcomes changes steps i outcomes lacks
+pub one_outcome : (changes : List ResourceChange) (steps : List BorrowedStep) (i : ℕ) (step : BorrowedStep) (outcomes : List Outcome) (lacks : Bool) (waited : Waited) (outcome : Outcome) → HasOutcomes changes steps i outcomes lacks
     → i < length steps → step ≡ get_or steps i step → Some waited ≡ waited_by changes (waits_view step.after.items) → All (IsPlaced (length changes)) waited.waits
     → outcome ≡ record (step_view step) { after = waited.waits } → HasOutcomes changes steps (i + 1) (outcomes ++ outcome ∷ []) (lacks || waited.lacks_step)
 one_outcome changes steps i step outcomes lacks waited outcome before below is found placed made =
@@ -199,16 +199,16 @@ one_outcome changes steps i step outcomes lacks waited outcome before below is f
     }
 
 -- the step at hand has an item of which no change has the name
-pub names_unknown : (n : ℕ) (changes : List ResourceChange) (steps : List TreeStep) (i : ℕ) (step : TreeStep) → i < length steps → step ≡ get_or steps i step → None ≡ waited_by changes (waits_view step.after.items)
+pub names_unknown : (n : ℕ) (changes : List ResourceChange) (steps : List BorrowedStep) (i : ℕ) (step : BorrowedStep) → i < length steps → step ≡ get_or steps i step → None ≡ waited_by changes (waits_view step.after.items)
     → outcomes_or_fault n changes (map entry_step_view steps) ≡ Err (UnknownWait n)
 names_unknown n changes steps i step below is none =
     let p = λ (s : EntryStep). list_any (is_unknown changes) s.after in
-    let here : p (entry_step_view (get_or steps i step)) ≡ true = ap (λ (s : TreeStep). p (entry_step_view s)) (sym is) ∙ unknown_among changes (waits_view step.after.items) none in
+    let here : p (entry_step_view (get_or steps i step)) ≡ true = ap (λ (s : BorrowedStep). p (entry_step_view s)) (sym is) ∙ unknown_among changes (waits_view step.after.items) none in
     let among : is_any_wait (is_unknown changes) (map entry_step_view steps) ≡ true = list_any-map p entry_step_view steps ∙ list_any_at (λ s. p (entry_step_view s)) steps i step below here in
     rw among refl
 
 -- all steps were looked at
-pub all_outcomes : (n : ℕ) (changes : List ResourceChange) (steps : List TreeStep) (i : ℕ) (outcomes : List Outcome) (lacks : Bool) → HasOutcomes changes steps i outcomes lacks → length steps ≤ i
+pub all_outcomes : (n : ℕ) (changes : List ResourceChange) (steps : List BorrowedStep) (i : ℕ) (outcomes : List Outcome) (lacks : Bool) → HasOutcomes changes steps i outcomes lacks → length steps ≤ i
     → outcomes_or_fault n changes (map entry_step_view steps) ≡ cond lacks (Err (NoSuchStep n)) (Ok outcomes)
 all_outcomes n changes steps i outcomes lacks has past =
     let whole : take i steps ≡ steps = take_all i steps past in

@@ -11,10 +11,10 @@ use Rattle.apply_plan.specs.declared.script.diag_slots.DiagSlots.{DiagSlots}
 use Rattle.apply_plan.specs.declared.script.entry_slots.EntrySlots.{EntrySlots}
 use Rattle.apply_plan.specs.declared.script.provisioner_slots.ProvisionerSlots.{ProvisionerSlots}
 use Rattle.apply_plan.specs.declared.script.step_slots.StepSlots.{StepSlots}
-use Rattle.apply_plan.specs.declared.script.tree_diag.TreeDiag.{TreeDiag}
+use Rattle.apply_plan.specs.declared.script.borrowed_diag.BorrowedDiag.{BorrowedDiag}
 use Rattle.apply_plan.specs.declared.script.wait_slots.WaitSlots.{WaitSlots}
 use Rattle.apply_plan.specs.Script.Entry.{Entry, EntryStep, WaitName, all_some, diag_or_none, each_of, ending_from, entry_step, provisioner_from, step_from, wait_from, with_provisioners}
-use Rattle.apply_plan.specs.Script.TreeView.{diag_view, entry_step_view, provisioner_view, texts_view, waits_view}
+use Rattle.apply_plan.specs.Script.BorrowedView.{diag_view, entry_step_view, provisioner_view, texts_view, waits_view}
 
 -- ---- members that are no scalars; `null` counts as absent
 
@@ -41,7 +41,7 @@ pub record HoldsWait (slots : WaitSlots) (ms : Members) : Type 0 where
   pub deposed : scalar_view slots.deposed ≡ seen (get_member (codes "deposed") ms)
   pub step : scalar_view slots.step ≡ seen (get_member (codes "step") ms)
 
-abbrev pub diag_found : Option (Option TreeDiag) → Option (Option Diag)
+abbrev pub diag_found : Option (Option BorrowedDiag) → Option (Option Diag)
 diag_found found = option_map (λ diag. option_map diag_view diag) found
 
 pub record HoldsProvisioner (slots : ProvisionerSlots) (ms : Members) : Type 0 where
@@ -94,7 +94,7 @@ provisioner_held slots = do
   output ← option_map (λ texts. texts_view texts.items) slots.output
   Some (record { name = name; seconds = seconds; output = output; failed = failed })
 
-abbrev pub ending_held : Seen → (warning failed : Option (Option TreeDiag)) → Option Ending
+abbrev pub ending_held : Seen → (warning failed : Option (Option BorrowedDiag)) → Option Ending
 ending_held id warning failed = do
   id ← text_seen_or [] id
   warning ← diag_found warning

@@ -8,10 +8,10 @@ ghost use Rattle.apply_plan.specs.Script.EntriesView.{AreCovered, HoldsEntries, 
 ghost use Rattle.apply_plan.specs.Script.OutcomeMap.{by_number, script_of_entries};
 
 use crate::script::beginning::first_stuck;
+use crate::script::borrowed_entry::BorrowedEntry;
 use crate::script::change_numbers::ChangeNumbers;
 use crate::script::said::said_by_entry;
 use crate::script::script_error::ScriptError;
-use crate::script::tree_entry::TreeEntry;
 use apply_json::{Collector, ReadFault, Reader, pass};
 use apply_model::{Plan, Script, StepOutcomes};
 use std::alloc::{AllocError, Global};
@@ -102,7 +102,7 @@ impl<'a> Collector<'a> for Entries<'a> {
             pass(reader, depth)?;
             return Ok(());
         }
-        let entry = TreeEntry::read(alloc, reader, depth)?;
+        let entry = BorrowedEntry::read(alloc, reader, depth)?;
         let number = self.kept.len() as u32;
         match said_by_entry(
             alloc,

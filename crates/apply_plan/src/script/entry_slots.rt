@@ -2,8 +2,8 @@
 
 ghost use Rattle.apply_plan.specs.Script.Members.{HoldsEntry};
 
+use crate::script::borrowed_step::BorrowedStep;
 use crate::script::found_steps::read_steps;
-use crate::script::tree_step::TreeStep;
 use apply_json::{ReadFault, Reader, Scalar, Slots, pass, read_scalar};
 use std::alloc::Global;
 
@@ -12,7 +12,7 @@ use std::alloc::Global;
 pub struct EntrySlots<'a> {
     pub address: Scalar<'a>,
     pub deposed: Scalar<'a>,
-    pub steps: Option<Vec<TreeStep<'a>>>,
+    pub steps: Option<Vec<BorrowedStep<'a>>>,
 }
 
 impl<'a> EntrySlots<'a> {

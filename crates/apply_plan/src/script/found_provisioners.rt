@@ -5,17 +5,17 @@ ghost use Rattle.serde_json.specs.Data.{Data};
 ghost use Rattle.apply_json.specs.Tokens.{IsNoValue, IsRead};
 ghost use Rattle.apply_plan.specs.Script.Entry.{all_some, provisioner_from};
 ghost use Rattle.apply_plan.specs.Script.Members.{each_member};
-ghost use Rattle.apply_plan.specs.Script.TreeView.{provisioner_view};
+ghost use Rattle.apply_plan.specs.Script.BorrowedView.{provisioner_view};
 
 use crate::found::add;
-use crate::script::tree_provisioner::TreeProvisioner;
+use crate::script::borrowed_provisioner::BorrowedProvisioner;
 use apply_json::{Collector, Listed, ReadFault, Reader, read_list};
 use std::alloc::Global;
 
 /// The provisioners of a step, where each is one.
 #[derive(Drop)]
 struct FoundProvisioners<'a> {
-    items: Option<Vec<TreeProvisioner<'a>>>,
+    items: Option<Vec<BorrowedProvisioner<'a>>>,
 }
 
 impl<'a> Collector<'a> for FoundProvisioners<'a> {
@@ -27,7 +27,7 @@ impl<'a> Collector<'a> for FoundProvisioners<'a> {
         reader: &mut Reader<'a>,
         depth: usize,
     ) -> Result<(), ReadFault> {
-        let item = TreeProvisioner::read(alloc, reader, depth)?;
+        let item = BorrowedProvisioner::read(alloc, reader, depth)?;
         add(&mut self.items, item)?;
         Ok(())
     }
@@ -39,7 +39,7 @@ pub fn read_provisioners<'a>(
     alloc: Global,
     reader: &mut Reader<'a>,
     depth: usize,
-) -> Result<Option<Vec<TreeProvisioner<'a>>>, ReadFault>
+) -> Result<Option<Vec<BorrowedProvisioner<'a>>>, ReadFault>
     ensures ok { IfOk result (λ found. (d : Data) × IsRead depth reader.old d reader.new
         × (option_map (λ made. map provisioner_view made.items) found ≡ each_member provisioner_from (Some d))) }
     ensures shorter { OnOk result (length reader.new < length reader.old) }

@@ -5,17 +5,17 @@ ghost use Rattle.serde_json.specs.Data.{Data};
 ghost use Rattle.apply_json.specs.Tokens.{IsNoValue, IsRead};
 ghost use Rattle.apply_plan.specs.Script.Entry.{all_some, step_from};
 ghost use Rattle.apply_plan.specs.Script.Members.{steps_member};
-ghost use Rattle.apply_plan.specs.Script.TreeView.{entry_step_view};
+ghost use Rattle.apply_plan.specs.Script.BorrowedView.{entry_step_view};
 
 use crate::found::add;
-use crate::script::tree_step::TreeStep;
+use crate::script::borrowed_step::BorrowedStep;
 use apply_json::{Collector, Listed, ReadFault, Reader, read_list};
 use std::alloc::Global;
 
 /// The steps of an entry, where each is one.
 #[derive(Drop)]
 struct FoundSteps<'a> {
-    items: Option<Vec<TreeStep<'a>>>,
+    items: Option<Vec<BorrowedStep<'a>>>,
 }
 
 impl<'a> Collector<'a> for FoundSteps<'a> {
@@ -27,7 +27,7 @@ impl<'a> Collector<'a> for FoundSteps<'a> {
         reader: &mut Reader<'a>,
         depth: usize,
     ) -> Result<(), ReadFault> {
-        let item = TreeStep::read(alloc, reader, depth)?;
+        let item = BorrowedStep::read(alloc, reader, depth)?;
         add(&mut self.items, item)?;
         Ok(())
     }
@@ -39,7 +39,7 @@ pub fn read_steps<'a>(
     alloc: Global,
     reader: &mut Reader<'a>,
     depth: usize,
-) -> Result<Option<Vec<TreeStep<'a>>>, ReadFault>
+) -> Result<Option<Vec<BorrowedStep<'a>>>, ReadFault>
     ensures ok { IfOk result (λ found. (d : Data) × IsRead depth reader.old d reader.new
         × (option_map (λ made. map entry_step_view made.items) found ≡ steps_member (Some d))) }
     ensures shorter { OnOk result (length reader.new < length reader.old) }

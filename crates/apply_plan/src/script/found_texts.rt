@@ -6,7 +6,7 @@ ghost use Rattle.serde_json.specs.Find.{as_str};
 ghost use Rattle.apply_json.specs.Tokens.{IsNoValue, IsRead};
 ghost use Rattle.apply_plan.specs.Script.Entry.{all_some};
 ghost use Rattle.apply_plan.specs.Script.Members.{each_member};
-ghost use Rattle.apply_plan.specs.Script.TreeView.{texts_view};
+ghost use Rattle.apply_plan.specs.Script.BorrowedView.{texts_view};
 
 use crate::found::add;
 use apply_json::{Collector, Listed, ReadFault, Reader, read_list, read_scalar};

@@ -5,17 +5,17 @@ ghost use Rattle.serde_json.specs.Data.{Data};
 ghost use Rattle.apply_json.specs.Tokens.{IsNoValue, IsRead};
 ghost use Rattle.apply_plan.specs.Script.Entry.{all_some, wait_from};
 ghost use Rattle.apply_plan.specs.Script.Members.{each_member};
-ghost use Rattle.apply_plan.specs.Script.TreeView.{waits_view};
+ghost use Rattle.apply_plan.specs.Script.BorrowedView.{waits_view};
 
 use crate::found::add;
-use crate::script::tree_wait::TreeWait;
+use crate::script::borrowed_wait::BorrowedWait;
 use apply_json::{Collector, Listed, ReadFault, Reader, read_list};
 use std::alloc::Global;
 
 /// The items of an `after`, where each is one.
 #[derive(Drop)]
 struct FoundWaits<'a> {
-    items: Option<Vec<TreeWait<'a>>>,
+    items: Option<Vec<BorrowedWait<'a>>>,
 }
 
 impl<'a> Collector<'a> for FoundWaits<'a> {
@@ -27,7 +27,7 @@ impl<'a> Collector<'a> for FoundWaits<'a> {
         reader: &mut Reader<'a>,
         depth: usize,
     ) -> Result<(), ReadFault> {
-        let item = TreeWait::read(alloc, reader, depth)?;
+        let item = BorrowedWait::read(alloc, reader, depth)?;
         add(&mut self.items, item)?;
         Ok(())
     }
@@ -39,7 +39,7 @@ pub fn read_waits<'a>(
     alloc: Global,
     reader: &mut Reader<'a>,
     depth: usize,
-) -> Result<Option<Vec<TreeWait<'a>>>, ReadFault>
+) -> Result<Option<Vec<BorrowedWait<'a>>>, ReadFault>
     ensures ok { IfOk result (λ found. (d : Data) × IsRead depth reader.old d reader.new
         × (option_map (λ made. waits_view made.items) found ≡ each_member wait_from (Some d))) }
     ensures shorter { OnOk result (length reader.new < length reader.old) }

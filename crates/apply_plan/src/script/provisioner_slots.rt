@@ -2,8 +2,8 @@
 
 ghost use Rattle.apply_plan.specs.Script.Members.{HoldsProvisioner};
 
+use crate::script::borrowed_diag::BorrowedDiag;
 use crate::script::found_texts::read_texts;
-use crate::script::tree_diag::TreeDiag;
 use apply_json::{ReadFault, Reader, Scalar, Slots, pass, read_scalar};
 use std::alloc::Global;
 
@@ -12,7 +12,7 @@ use std::alloc::Global;
 pub struct ProvisionerSlots<'a> {
     pub name: Scalar<'a>,
     pub seconds: Scalar<'a>,
-    pub failed: Option<Option<TreeDiag<'a>>>,
+    pub failed: Option<Option<BorrowedDiag<'a>>>,
     pub output: Option<Vec<&'a str>>,
 }
 
@@ -49,7 +49,7 @@ impl<'a> Slots<'a> for ProvisionerSlots<'a> {
             self.seconds = read_scalar(reader, depth)?;
             Ok(())
         } else if name == "failed" {
-            self.failed = TreeDiag::read(alloc, reader, depth)?;
+            self.failed = BorrowedDiag::read(alloc, reader, depth)?;
             Ok(())
         } else if name == "output" {
             self.output = read_texts(alloc, reader, depth)?;

@@ -11,13 +11,13 @@ ghost use Rattle.apply_plan.specs.Script.ChangeNumbers.{number_of};
 ghost use Rattle.apply_plan.specs.Script.Entry.{entry_of};
 ghost use Rattle.apply_plan.specs.Script.NextEntry.{entry_beside, outcomes_or_fault, said_view};
 ghost use Rattle.apply_plan.specs.Script.Placed.{ArePlaced, IsPlaced};
-ghost use Rattle.apply_plan.specs.Script.TreeView.{entry_step_view, entry_view, step_view, tree_waits};
+ghost use Rattle.apply_plan.specs.Script.BorrowedView.{entry_step_view, entry_view, step_view, borrowed_waits};
 
 use crate::plan::object_id::ObjectId;
+use crate::script::borrowed_entry::BorrowedEntry;
+use crate::script::borrowed_step::BorrowedStep;
 use crate::script::change_numbers::ChangeNumbers;
 use crate::script::script_error::ScriptError;
-use crate::script::tree_entry::TreeEntry;
-use crate::script::tree_step::TreeStep;
 use crate::script::waited::Waited;
 use apply_model::{MAX_WAITS, Plan, StepOutcomes};
 use std::alloc::Global;
@@ -28,7 +28,7 @@ pub fn said_by_entry<'a>(
     alloc: Global,
     number: u32,
     earlier: usize,
-    entry: Option<TreeEntry<'a>>,
+    entry: Option<BorrowedEntry<'a>>,
     plan: &Plan,
     numbers: &ChangeNumbers<'a>,
     said: &[Option<StepOutcomes>],
@@ -70,12 +70,12 @@ pub fn said_by_entry<'a>(
 fn said_outcomes<'a>(
     alloc: Global,
     number: u32,
-    steps: &[TreeStep<'a>],
+    steps: &[BorrowedStep<'a>],
     plan: &Plan,
     numbers: &ChangeNumbers<'a>,
 ) -> Result<StepOutcomes, ScriptError>
     requires bounded { All IsBounded (map step_view steps.now) }
-    requires few { tree_waits steps.now ≤ max_waits }
+    requires few { borrowed_waits steps.now ≤ max_waits }
     requires numbers { (id : _) → number_of numbers.now id
         ≡ option_map (λ p. p.0) (find (λ p. is_of id p.1) (enumerate_from 0 plan.now.changes)) }
     ensures defined { Gives ScriptError.Memory (λ outcomes. outcomes) result

@@ -2,11 +2,11 @@
 
 ghost use Rattle.apply_plan.specs.Script.Members.{HoldsStep};
 
+use crate::script::borrowed_diag::BorrowedDiag;
+use crate::script::borrowed_provisioner::BorrowedProvisioner;
+use crate::script::borrowed_wait::BorrowedWait;
 use crate::script::found_provisioners::read_provisioners;
 use crate::script::found_waits::read_waits;
-use crate::script::tree_diag::TreeDiag;
-use crate::script::tree_provisioner::TreeProvisioner;
-use crate::script::tree_wait::TreeWait;
 use apply_json::{ReadFault, Reader, Scalar, Slots, pass, read_scalar};
 use std::alloc::Global;
 
@@ -14,11 +14,11 @@ use std::alloc::Global;
 #[derive(Drop)]
 pub struct StepSlots<'a> {
     pub seconds: Scalar<'a>,
-    pub after: Option<Vec<TreeWait<'a>>>,
+    pub after: Option<Vec<BorrowedWait<'a>>>,
     pub id: Scalar<'a>,
-    pub warning: Option<Option<TreeDiag<'a>>>,
-    pub failed: Option<Option<TreeDiag<'a>>>,
-    pub provisioners: Option<Vec<TreeProvisioner<'a>>>,
+    pub warning: Option<Option<BorrowedDiag<'a>>>,
+    pub failed: Option<Option<BorrowedDiag<'a>>>,
+    pub provisioners: Option<Vec<BorrowedProvisioner<'a>>>,
 }
 
 impl<'a> StepSlots<'a> {
@@ -59,10 +59,10 @@ impl<'a> Slots<'a> for StepSlots<'a> {
             self.id = read_scalar(reader, depth)?;
             Ok(())
         } else if name == "warning" {
-            self.warning = TreeDiag::read(alloc, reader, depth)?;
+            self.warning = BorrowedDiag::read(alloc, reader, depth)?;
             Ok(())
         } else if name == "failed" {
-            self.failed = TreeDiag::read(alloc, reader, depth)?;
+            self.failed = BorrowedDiag::read(alloc, reader, depth)?;
             Ok(())
         } else if name == "provisioners" {
             self.provisioners = read_provisioners(alloc, reader, depth)?;

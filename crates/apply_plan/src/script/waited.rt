@@ -6,11 +6,11 @@ ghost use Rattle.apply_model.specs.Script.Limits.{max_waits};
 ghost use Rattle.apply_plan.specs.Plan.SeenObjects.{is_of};
 ghost use Rattle.apply_plan.specs.Script.ChangeNumbers.{number_of};
 ghost use Rattle.apply_plan.specs.Script.Placed.{IsPlaced};
-ghost use Rattle.apply_plan.specs.Script.TreeView.{waits_view};
+ghost use Rattle.apply_plan.specs.Script.BorrowedView.{waits_view};
 
 use crate::plan::object_id::ObjectId;
+use crate::script::borrowed_wait::BorrowedWait;
 use crate::script::change_numbers::ChangeNumbers;
-use crate::script::tree_wait::TreeWait;
 use apply_model::{Plan, Wait, Waits};
 use std::alloc::{AllocError, Global};
 
@@ -29,7 +29,7 @@ impl Waited {
     /// What the items name. `None` where one names no change of the plan.
     pub fn of<'a>(
         alloc: Global,
-        items: &[TreeWait<'a>],
+        items: &[BorrowedWait<'a>],
         plan: &Plan,
         numbers: &ChangeNumbers<'a>,
     ) -> Result<Option<Waited>, AllocError>

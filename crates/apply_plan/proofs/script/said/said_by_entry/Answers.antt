@@ -10,11 +10,11 @@ use Rattle.apply_plan.specs.Script.Entry.{entry_of}
 use Rattle.apply_plan.specs.Script.NextEntry.{entry_beside}
 use Rattle.apply_plan.specs.Script.OutcomeMap.{said_by}
 use Rattle.apply_plan.specs.Script.Refusals.{fault_of_entry, fault_of_names, fault_of_steps}
-use Rattle.apply_plan.specs.Script.TreeView.{entry_step_view, entry_view, step_view, waits_within}
+use Rattle.apply_plan.specs.Script.BorrowedView.{entry_step_view, entry_view, step_view, waits_within}
 use Rattle.apply_plan.specs.Script.WaitedStep.{outcome_said}
 use Rattle.apply_plan.proofs.Scripts.Entries.{change_numbered, is_numbered, not_numbered, some_change}
 use Rattle.apply_plan.proofs.Scripts.OneEntry.{IsFound, accepted, also_refused, answered, count_within, entry_found, fault_of_count, fault_of_items, fault_of_outcomes, few_outcomes, malformed, repeats, unknown}
-use Rattle.apply_plan.proofs.Scripts.Limits.{none_in_tree}
+use Rattle.apply_plan.proofs.Scripts.Limits.{none_of_entry}
 use Rattle.apply_plan.proofs.script.said.said_by_entry.Goals as goal
 use Rattle.apply_plan.proofs.script.said.said_by_entry.Goals.{After-change, In-Some-get}
 
@@ -92,7 +92,7 @@ returns-in_default-count_of_waits-clause-defined c = λ d is memory.
 
 pub said_outcomes-requires-clause-bounded : goal.said_outcomes-requires-clause-bounded
 said_outcomes-requires-clause-bounded c =
-    rw c.deref.ensures.value (none_in_tree c.args.number c.steps.result.now c.in-Some.entry.steps.items (sym c.in_default-fault.ensures))
+    rw c.deref.ensures.value (none_of_entry c.args.number c.steps.result.now c.in-Some.entry.steps.items (sym c.in_default-fault.ensures))
 
 pub said_outcomes-requires-clause-few : goal.said_outcomes-requires-clause-few
 said_outcomes-requires-clause-few c =

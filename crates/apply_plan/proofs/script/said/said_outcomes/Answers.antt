@@ -1,7 +1,7 @@
 use Rattle.std.proofs.Common.{◌≡◌, Bool, ap, refl, sym, ◌∙◌}
 use Rattle.std.specs.Prelude.{◌||◌}
 use Rattle.apply_model.specs.Script.Outcome.{IsBounded}
-use Rattle.apply_plan.specs.Script.TreeView.{step_view}
+use Rattle.apply_plan.specs.Script.BorrowedView.{step_view}
 use Rattle.apply_plan.proofs.Scripts.Limits.{all_seen}
 use Rattle.apply_plan.proofs.Scripts.Waited.{all_outcomes, names_unknown, no_outcomes, one_outcome}
 use Rattle.apply_plan.proofs.script.said.said_outcomes.Goals as goal

@@ -1,5 +1,5 @@
 use Rattle.apply_plan.specs.Script.Entry.{provisioner_from}
-use Rattle.apply_plan.specs.Script.TreeView.{provisioner_view}
+use Rattle.apply_plan.specs.Script.BorrowedView.{provisioner_view}
 use Rattle.apply_plan.proofs.Scripts.Found.{found_more}
 use Rattle.apply_plan.proofs.script.found_provisioners.FoundProvisionersCollector.take.Goals as goal
 

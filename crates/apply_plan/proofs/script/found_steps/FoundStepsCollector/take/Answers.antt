@@ -1,5 +1,5 @@
 use Rattle.apply_plan.specs.Script.Entry.{step_from}
-use Rattle.apply_plan.specs.Script.TreeView.{entry_step_view}
+use Rattle.apply_plan.specs.Script.BorrowedView.{entry_step_view}
 use Rattle.apply_plan.proofs.Scripts.Found.{found_more}
 use Rattle.apply_plan.proofs.script.found_steps.FoundStepsCollector.take.Goals as goal
 

@@ -1,5 +1,5 @@
 use Rattle.apply_plan.specs.Script.Entry.{wait_from}
-use Rattle.apply_plan.specs.Script.TreeView.{wait_view}
+use Rattle.apply_plan.specs.Script.BorrowedView.{wait_view}
 use Rattle.apply_plan.proofs.Scripts.Found.{found_more}
 use Rattle.apply_plan.proofs.script.found_waits.FoundWaitsCollector.take.Goals as goal
 

@@ -1,0 +1,8 @@
+use Rattle.std.proofs.Common.{◌∙◌}
+use Rattle.apply_plan.proofs.Scripts.Held.{provisioner_is}
+use Rattle.apply_plan.proofs.script.borrowed_provisioner.BorrowedProvisioner.read.Goals as goal
+
+pub returns-clause-ok : goal.returns-clause-ok
+returns-clause-ok c =
+    let done = c.in_ok-read_object.ensures.ok in
+    (done.0, done.1, c.of.ensures ∙ provisioner_is c.read_object.new.slots done.0 done.3)

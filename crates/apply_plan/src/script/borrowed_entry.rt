@@ -1,0 +1,128 @@
+//! An entry of a script, whose texts are borrowed.
+
+ghost use Rattle.std.specs.Prelude.{◌≡◌, ◌<◌, ◌≤◌, Err, IfOk, OnOk, Some, length, map, option_map};
+ghost use Rattle.std.specs.List.{list_any, zip};
+ghost use Rattle.serde_json.specs.Data.{Data};
+ghost use Rattle.apply_json.specs.Tokens.{IsNoValue, IsRead};
+ghost use Rattle.apply_plan.specs.Script.Entry.{entry_of};
+ghost use Rattle.apply_plan.specs.Script.Members.{entry_held};
+ghost use Rattle.apply_model.specs.Script.Outcome.{has_too_many_provisioners, has_too_much_output, is_too_long};
+ghost use Rattle.apply_plan.specs.Script.Refusals.{fault_of_steps, misplaces_provisioners};
+ghost use Rattle.apply_plan.specs.Script.BorrowedView.{entry_view, step_view, waits_within};
+
+use crate::script::borrowed_step::BorrowedStep;
+use crate::script::entry_slots::EntrySlots;
+use crate::script::script_error::ScriptError;
+use apply_json::members::non_empty;
+use apply_json::{ReadFault, Reader, read_object};
+use apply_model::StepKind;
+use std::alloc::Global;
+
+/// An entry, each of whose members obeys its rule.
+#[derive(Drop)]
+pub struct BorrowedEntry<'a> {
+    pub address: &'a str,
+    pub deposed: Option<&'a str>,
+    pub steps: Vec<BorrowedStep<'a>>,
+}
+
+impl<'a> BorrowedEntry<'a> {
+    /// Reads an entry, in which arrays and objects nest at most `depth` deep. `None` where it is none, or one of its members
+    /// breaks its rule.
+    pub fn read(
+        alloc: Global,
+        reader: &mut Reader<'a>,
+        depth: usize,
+    ) -> Result<Option<BorrowedEntry<'a>>, ReadFault>
+        ensures ok { IfOk result (λ found. (d : Data) × IsRead depth reader.old d reader.new
+            × (option_map entry_view found ≡ entry_of d)) }
+        ensures shorter { OnOk result (length reader.new < length reader.old) }
+        ensures err { result ≡ Err ReadFault.NotJson → IsNoValue depth reader.old }
+    {
+        let mut slots = EntrySlots::new();
+        read_object(alloc, reader, depth, &mut slots)?;
+        Ok(BorrowedEntry::of(slots))
+    }
+
+    /// The entry that the members are. `None` where one of them breaks its rule.
+    fn of(slots: EntrySlots<'a>) -> Option<BorrowedEntry<'a>>
+        ensures { option_map entry_view result ≡ entry_held slots.entry }
+    {
+        let address = slots.address.text()?;
+        let deposed = slots.deposed.text_or("")?;
+        let steps = slots.steps?;
+        Some(BorrowedEntry {
+            address,
+            deposed: non_empty(deposed),
+            steps,
+        })
+    }
+
+    /// The first fault of the steps of the entry, which has that number, where they belong to steps of these kinds.
+    #[tactic(auto, unfolding(crate::specs::Script::Refusals::fault_of_steps))]
+    pub fn fault(&self, number: u32, kinds: &[StepKind]) -> Option<ScriptError>
+        ensures { result ≡ fault_of_steps number kinds.now (map step_view self.now.steps.items) }
+    {
+        if self.steps.len() > kinds.len() {
+            Some(ScriptError::TooManySteps(number))
+        } else if is_any_too_long(&self.steps) {
+            Some(ScriptError::SecondsRange(number))
+        } else if has_any_too_many_provisioners(&self.steps) {
+            Some(ScriptError::TooManyProvisioners(number))
+        } else if has_any_too_much_output(&self.steps) {
+            Some(ScriptError::TooMuchOutput(number))
+        } else if misplaces_any_provisioners(kinds, &self.steps) {
+            Some(ScriptError::NotACreate(number))
+        } else {
+            None
+        }
+    }
+
+    /// How many items the `after` of its steps have, where they are so many at most. `None` where they are more.
+    pub fn count_of_waits(&self, limit: usize) -> Option<usize>
+        ensures { result ≡ waits_within limit self.now.steps.items }
+    {
+        let mut left = limit;
+        for step in &self.steps {
+            if step.after.len() > left {
+                return None;
+            }
+            left -= step.after.len();
+        }
+        Some(limit - left)
+    }
+}
+
+/// Whether a step takes longer than it may.
+fn is_any_too_long(steps: &[BorrowedStep<'_>]) -> bool
+    ensures { result ≡ list_any (λ step. is_too_long (step_view step)) steps.now }
+{
+    steps.iter().any(BorrowedStep::is_too_long)
+}
+
+/// Whether a step has more provisioners than it may.
+fn has_any_too_many_provisioners(steps: &[BorrowedStep<'_>]) -> bool
+    ensures { result ≡ list_any (λ step. has_too_many_provisioners (step_view step)) steps.now }
+{
+    steps.iter().any(BorrowedStep::has_too_many_provisioners)
+}
+
+/// Whether a provisioner of a step puts out more than it may.
+fn has_any_too_much_output(steps: &[BorrowedStep<'_>]) -> bool
+    ensures { result ≡ list_any (λ step. has_too_much_output (step_view step)) steps.now }
+{
+    steps.iter().any(BorrowedStep::has_too_much_output)
+}
+
+/// Whether a step that is no create has provisioners.
+fn misplaces_any_provisioners(kinds: &[StepKind], steps: &[BorrowedStep<'_>]) -> bool
+    requires { length steps.now ≤ length kinds.now }
+    ensures { result ≡ list_any misplaces_provisioners (zip kinds.now (map step_view steps.now)) }
+{
+    for (number, step) in steps.iter().enumerate() {
+        if step.misplaces_provisioners(kinds[number]) {
+            return true;
+        }
+    }
+    false
+}

@@ -1,0 +1,87 @@
+//! An item of `after` of a script, whose texts are borrowed.
+
+ghost use Rattle.std.specs.Prelude.{◌≡◌, ◌<◌, ◌≤◌, Err, IfOk, IfSome, None, OnOk, Some, length, nat_lt, option_map, if◌then◌else◌};
+ghost use Rattle.serde_json.specs.Data.{Data};
+ghost use Rattle.apply_json.specs.Seen.{scalar_view};
+ghost use Rattle.apply_json.specs.Tokens.{IsNoValue, IsRead};
+ghost use Rattle.apply_plan.specs.Script.Entry.{wait_from};
+ghost use Rattle.apply_plan.specs.Script.Members.{number_held, wait_held};
+ghost use Rattle.apply_plan.specs.Script.BorrowedView.{wait_view};
+ghost use Rattle.apply_plan.specs.Script.WaitedStep.{number_waited};
+
+use crate::script::wait_slots::WaitSlots;
+use apply_json::members::non_empty;
+use apply_json::{ReadFault, Reader, Scalar, read_object};
+use std::alloc::Global;
+
+/// An item of `after`, each of whose members obeys its rule.
+#[derive(Clone, Copy)]
+pub struct BorrowedWait<'a> {
+    pub address: &'a str,
+    pub deposed: Option<&'a str>,
+    /// Any number of 64 bits: whether the change has such a step is asked later. `None` names its last one.
+    pub step: Option<u64>,
+}
+
+impl<'a> BorrowedWait<'a> {
+    /// Reads an item, in which arrays and objects nest at most `depth` deep. `None` where it is none, or one of its members
+    /// breaks its rule.
+    pub fn read(
+        alloc: Global,
+        reader: &mut Reader<'a>,
+        depth: usize,
+    ) -> Result<Option<BorrowedWait<'a>>, ReadFault>
+        ensures ok { IfOk result (λ found. (d : Data) × IsRead depth reader.old d reader.new
+            × (option_map wait_view found ≡ wait_from d)) }
+        ensures shorter { OnOk result (length reader.new < length reader.old) }
+        ensures err { result ≡ Err ReadFault.NotJson → IsNoValue depth reader.old }
+    {
+        let mut slots = WaitSlots::new();
+        match read_object(alloc, reader, depth, &mut slots)? {
+            Scalar::Text(address) => Ok(Some(BorrowedWait {
+                address,
+                deposed: None,
+                step: None,
+            })),
+            _ => Ok(BorrowedWait::of(&slots)),
+        }
+    }
+
+    /// The item that the members are. `None` where one of them breaks its rule.
+    fn of(slots: &WaitSlots<'a>) -> Option<BorrowedWait<'a>>
+        ensures { option_map wait_view result ≡ wait_held slots.now }
+    {
+        let address = slots.address.text()?;
+        let deposed = slots.deposed.text_or("")?;
+        let step = number_or_none(slots.step)?;
+        Some(BorrowedWait {
+            address,
+            deposed: non_empty(deposed),
+            step,
+        })
+    }
+
+    /// The number of the step that it names, where the change has so many. `None` where it has no such step.
+    pub fn step_of(&self, count: u8) -> Option<u8>
+        ensures { result ≡ (if nat_lt (number_waited count (wait_view self.now)) count
+            then Some (number_waited count (wait_view self.now)) else None) }
+    {
+        let last = u64::from(count.saturating_sub(1));
+        let number = self.step.unwrap_or(last);
+        if number < u64::from(count) {
+            Some(number as u8)
+        } else {
+            None
+        }
+    }
+}
+
+/// The whole number that a member is, or none where the member is absent. `None` where it is there and is none.
+fn number_or_none(found: Scalar<'_>) -> Option<Option<u64>>
+    ensures { result ≡ number_held (scalar_view found.entry) }
+{
+    match found {
+        Scalar::Absent => Some(None),
+        _ => Some(Some(found.whole()?)),
+    }
+}
