@@ -18,7 +18,8 @@ const TEXT: Form = Form::Text {
 };
 
 /// The stream of one create, in short.
-const ONE_CREATE: &str = r#"{"@timestamp":"1970-01-01T00:00:00Z","terraform":"1.9.0","type":"version"}
+const ONE_CREATE: &str =
+    r#"{"@timestamp":"1970-01-01T00:00:00Z","terraform":"1.9.0","type":"version"}
 {"@timestamp":"1970-01-01T00:00:00Z","hook":{"action":"create","resource":{"addr":"random_pet.animal"}},"type":"apply_start"}
 {"@timestamp":"1970-01-01T00:00:00Z","hook":{"action":"create","resource":{"addr":"random_pet.animal"}},"type":"apply_complete"}
 {"@timestamp":"1970-01-01T00:00:00Z","changes":{"add":1,"change":0,"operation":"apply","remove":0},"type":"change_summary"}
@@ -32,11 +33,13 @@ create random_pet.animal        0s ▖
 ";
 
 /// A step that has no end, whose address and action are markup, and would steer a terminal.
-const HOSTILE: &str = r#"{"@timestamp":"1970-01-01T00:00:00Z","hook":{"action":"<b>","resource":{"addr":"a[\"\u001b[31m</text>&\"]"}},"type":"apply_start"}
+const HOSTILE: &str =
+    r#"{"@timestamp":"1970-01-01T00:00:00Z","hook":{"action":"<b>","resource":{"addr":"a[\"\u001b[31m</text>&\"]"}},"type":"apply_start"}
 {"@timestamp":"1970-01-01T00:00:10Z","type":"outputs"}
 "#;
 
-const HOSTILE_TEXT: &str = r#"1 step in 10s: 0 added, 0 changed, 0 destroyed, 1 not ended, no summary
+const HOSTILE_TEXT: &str =
+    r#"1 step in 10s: 0 added, 0 changed, 0 destroyed, 1 not ended, no summary
 one at a time
 
                                       0s              2s              4s               6s              8s
@@ -77,7 +80,14 @@ fn refuses(
 ) {
     let mut out = Taken::new(alloc, usize::MAX, ErrorKind::StorageFull);
     let mut faults = Vec::new(alloc);
-    let outcome = drawn(alloc, TEXT, bytes.as_bytes(), is_broken, &mut out, &mut faults);
+    let outcome = drawn(
+        alloc,
+        TEXT,
+        bytes.as_bytes(),
+        is_broken,
+        &mut out,
+        &mut faults,
+    );
     assert_eq!(rt; outcome.status, 2);
     assert!(rt; outcome.answer == Err(PictureFault::Untold(fault)));
     assert_eq!(rt; faults.as_slice(), said.as_bytes());
@@ -96,8 +106,22 @@ fn writer_that_fails(rt: HostRuntime) {
     let text = ONE_CREATE_TEXT.as_bytes();
     let said = "applystream: the output could not be written\n";
     for room in 0..=text.len() {
-        fails(&rt, rt.alloc(), room, ErrorKind::StorageFull, DrawFault::Unwritten, said);
-        fails(&rt, rt.alloc(), room, ErrorKind::BrokenPipe, DrawFault::Gone, "");
+        fails(
+            &rt,
+            rt.alloc(),
+            room,
+            ErrorKind::StorageFull,
+            DrawFault::Unwritten,
+            said,
+        );
+        fails(
+            &rt,
+            rt.alloc(),
+            room,
+            ErrorKind::BrokenPipe,
+            DrawFault::Gone,
+            "",
+        );
     }
 }
 
@@ -112,7 +136,14 @@ fn fails(
 ) {
     let mut out = Taken::new(alloc, room, kind);
     let mut faults = Vec::new(alloc);
-    let outcome = drawn(alloc, TEXT, ONE_CREATE.as_bytes(), false, &mut out, &mut faults);
+    let outcome = drawn(
+        alloc,
+        TEXT,
+        ONE_CREATE.as_bytes(),
+        false,
+        &mut out,
+        &mut faults,
+    );
     assert_eq!(rt; outcome.status, 3);
     assert!(rt; outcome.answer == Err(PictureFault::Undrawn(fault)));
     assert_eq!(rt; faults.as_slice(), said.as_bytes());
@@ -124,14 +155,28 @@ fn fails(
 fn streams_without_a_message(rt: HostRuntime) {
     let said = "applystream: there is no message in the stream\n";
     refuses(&rt, rt.alloc(), "", false, ViewFault::NoMessage, said);
-    refuses(&rt, rt.alloc(), "{}\n{}\n", false, ViewFault::NoMessage, said);
+    refuses(
+        &rt,
+        rt.alloc(),
+        "{}\n{}\n",
+        false,
+        ViewFault::NoMessage,
+        said,
+    );
 }
 
 #[test]
 fn reader_that_fails(rt: HostRuntime) {
     let mut out = Taken::new(rt.alloc(), usize::MAX, ErrorKind::StorageFull);
     let mut faults = Vec::new(rt.alloc());
-    let outcome = drawn(rt.alloc(), TEXT, ONE_CREATE.as_bytes(), true, &mut out, &mut faults);
+    let outcome = drawn(
+        rt.alloc(),
+        TEXT,
+        ONE_CREATE.as_bytes(),
+        true,
+        &mut out,
+        &mut faults,
+    );
     let said = "applystream: the stream could not be read\n";
     assert_eq!(rt; outcome.status, 2);
     assert_eq!(rt; faults.as_slice(), said.as_bytes());
@@ -143,11 +188,25 @@ fn reader_that_fails(rt: HostRuntime) {
 fn hostile_texts(rt: HostRuntime) {
     let mut out = Taken::new(rt.alloc(), usize::MAX, ErrorKind::StorageFull);
     let mut faults = Vec::new(rt.alloc());
-    let outcome = drawn(rt.alloc(), TEXT, HOSTILE.as_bytes(), false, &mut out, &mut faults);
+    let outcome = drawn(
+        rt.alloc(),
+        TEXT,
+        HOSTILE.as_bytes(),
+        false,
+        &mut out,
+        &mut faults,
+    );
     assert_eq!(rt; outcome.status, 0);
     assert!(rt; out.bytes.as_slice().starts_with(HOSTILE_TEXT.as_bytes()));
     let mut svg = Taken::new(rt.alloc(), usize::MAX, ErrorKind::StorageFull);
-    let outcome = drawn(rt.alloc(), Form::Svg, HOSTILE.as_bytes(), false, &mut svg, &mut faults);
+    let outcome = drawn(
+        rt.alloc(),
+        Form::Svg,
+        HOSTILE.as_bytes(),
+        false,
+        &mut svg,
+        &mut faults,
+    );
     assert_eq!(rt; outcome.status, 0);
     let label = r#"* a[&quot;\u001b[31m&lt;/text&gt;&amp;&quot;]</text>"#;
     assert!(rt; has(svg.bytes.as_slice(), label.as_bytes()));
@@ -156,5 +215,7 @@ fn hostile_texts(rt: HostRuntime) {
 
 /// Whether the bytes have those somewhere.
 fn has(bytes: &[u8], wanted: &[u8]) -> bool {
-    bytes.windows(wanted.len().max(1)).any(|part| part == wanted)
+    bytes
+        .windows(wanted.len().max(1))
+        .any(|part| part == wanted)
 }
