@@ -30,7 +30,7 @@ use Rattle.apply_view.specs.Messages.{Message, hook_text, message_of, moment_of,
 use Rattle.apply_view.specs.Steps.{ToldStep}
 use Rattle.apply_view.specs.Telling.{Telling, is_blank_line, nothing_told, told_of, with_line}
 use Rattle.apply_view_laws.specs.Agreement as words
-use Rattle.apply_view_laws.specs.Agreement.{AllEnded, AreCounted, IsTimed, is_ephemeral, type_of}
+use Rattle.apply_view_laws.specs.Agreement.{AllEnded, AreCounted, IsTimed, is_ephemeral}
 use Rattle.apply_view_laws.proofs.Counting.{Agrees, agrees_more, open_with}
 use Rattle.apply_view_laws.proofs.Counts.{one_if}
 use Rattle.apply_view_laws.proofs.Matching.{is_change}

@@ -1,4 +1,4 @@
-use Rattle.std.proofs.Common.{◌≡◌, Result, Ok, Err, List, [], ap, option_map, rules}
+use Rattle.std.proofs.Common.{◌≡◌, Result, Ok, Err, [], ap, option_map, rules}
 use Rattle.std.specs.Result.{IfOk}
 use Rattle.serde_json.specs.View.{view}
 use Rattle.apply_form_plan.specs.InOrder.{IsAscending, told_each}

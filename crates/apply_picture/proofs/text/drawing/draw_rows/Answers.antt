@@ -1,5 +1,3 @@
-use Rattle.std.proofs.Common.{◌≡◌, ℕ, length, subst, arith}
-use Rattle.apply_picture.specs.Lines.{RowsWritten}
 use Rattle.apply_picture.proofs.Pieces.{line_fine}
 use Rattle.apply_picture.proofs.Sent.{no_rows, row_more}
 use Rattle.apply_picture.proofs.text.drawing.draw_rows.Goals as goal
