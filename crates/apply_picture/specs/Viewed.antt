@@ -1,10 +1,15 @@
 -- What came of the words behind `view`.
-use Rattle.std.specs.Prelude.{◌≡◌, ◌⊎◌, ⊤, ℕ, List, Bool, true, false, Option, Result, Ok, Err}
+use Rattle.std.specs.Prelude.{◌≡◌, ◌⊎◌, ⊤, ℕ, List, Bool, true, false, Option, Result, Ok, Err, length, pos, unwrap_or}
 use Rattle.std.specs.Io.KnownBytes.{Keeps}
 use Rattle.apply_view.specs.declared.told.view_fault.ViewFault.{ViewFault}
 use Rattle.apply_view.specs.declared.told.view_fault.ViewFault.TheVariants as told
-use Rattle.apply_picture.specs.Lines.{LinesWritten}
-use Rattle.apply_picture.specs.Markup.{SomeSvgWritten}
+use Rattle.apply_view.specs.declared.told.moments.Moments.{Moments}
+use Rattle.apply_view.specs.declared.rows.choosing.Rows.{Rows}
+use Rattle.apply_view.specs.Lines.{IsToldOf}
+use Rattle.apply_view.specs.Rows.{AreRowsOf}
+use Rattle.apply_view.specs.Telling.{Telling}
+use Rattle.apply_picture.specs.Lines.{LinesWritten, TextWritten}
+use Rattle.apply_picture.specs.Markup.{SomeSvgWritten, SvgWritten}
 use Rattle.apply_picture.specs.declared.command.colour.Colour.{Colour}
 use Rattle.apply_picture.specs.declared.command.colour.Colour.TheVariants as colour
 use Rattle.apply_picture.specs.declared.command.form.Form.{Form}
@@ -29,6 +34,28 @@ abbrev pub WasDrawn : Form → (is_wanted : Bool) → (before after : Option (Li
 WasDrawn form is_wanted before after (Ok done) = PictureWritten form is_wanted before after
 WasDrawn form is_wanted before after (Err (fault.Untold why)) = Keeps before after
 WasDrawn form is_wanted before after (Err (fault.Undrawn why)) = ⊤
+
+-- the first and the last moment, which are 0 where no line tells one
+abbrev pub moments_of : Telling → Moments
+moments_of told = unwrap_or told.moments (record { first = pos 0; last = pos 0 })
+
+-- a picture with so many rows was written
+abbrev pub RowsDrawn : Form → (is_wanted : Bool) → (count : ℕ) → (before after : Option (List ℕ)) → Type 0
+RowsDrawn (form.Text width colour) is_wanted count before after = TextWritten width (is_on is_wanted colour) count before after
+RowsDrawn form.Svg is_wanted count before after = SvgWritten count before after
+
+-- it has a row for each step that gets one of what was told
+pub record IsDrawnOf (told : Telling) (limit : Option ℕ) (form : Form) (is_wanted : Bool) (before after : Option (List ℕ)) : Type 0 where
+  pub rows : Rows
+  pub chosen : AreRowsOf (moments_of told) told.steps limit rows
+  pub drawn : RowsDrawn form is_wanted (length rows.places.items) before after
+
+-- what was written, or why nothing was, is of what the stream tells
+abbrev pub IsOfStream : Telling → List ℕ → (limit : Option ℕ) → Form → (is_wanted : Bool) → (before after : Option (List ℕ))
+    → Result (Unit {0}) PictureFault → Type 0
+IsOfStream told bytes limit form is_wanted before after (Ok done) = IsDrawnOf told limit form is_wanted before after
+IsOfStream told bytes limit form is_wanted before after (Err (fault.Untold why)) = IsToldOf bytes (Err why)
+IsOfStream told bytes limit form is_wanted before after (Err (fault.Undrawn why)) = ⊤
 
 abbrev pub told_status_of : ViewFault → ℕ
 told_status_of (told.TooLong number) = 2
