@@ -1,3 +1,6 @@
 pub mod Pieces
 pub mod Sent
 pub mod Escapes
+pub mod Growing
+pub mod Drawn
+pub mod Saying

@@ -1,9 +1,13 @@
 -- What a text of lines is: how wide they are, and what steers the terminal that shows it.
-use Rattle.std.specs.Prelude.{◌≡◌, ◌≤◌, ◌++◌, ◌∷◌, [], ℕ, List, Bool, true, false, All, Option, codes, encode_utf8, if◌then◌else◌, is_some, length}
-use Rattle.std.specs.List.{flat_map, list_all, sum_by}
+use Rattle.std.specs.Prelude.{◌≡◌, ◌≤◌, ◌+◌, ◌++◌, ◌∷◌, ◌&&◌, ◌⊎◌, [], ℕ, List, Bool, true, false, All, Option, IfSome, codes, drop, encode_utf8, if◌then◌else◌, is_some, nat_le, nat_lt, replicate, take}
+use Rattle.std.specs.List.{AllZip, flat_map, fold, list_all, slice_get, sum_by}
 use Rattle.std.specs.Io.KnownBytes.{Appends}
 use Rattle.unicode_width.specs.Width.{char_width}
+use Rattle.apply_view.specs.Steps.{ToldStep}
 use Rattle.apply_picture.specs.Columns.{column_count}
+use Rattle.apply_picture.specs.Kinds.{kind_of, kind_paint}
+use Rattle.apply_picture.specs.Shown.{shown_characters}
+use Rattle.apply_picture.specs.declared.picture.Picture.{Picture}
 use Rattle.apply_picture.specs.declared.text.paint.Paint.{Paint}
 use Rattle.apply_picture.specs.declared.text.paint.Paint.TheVariants as paint
 use Rattle.apply_picture.specs.declared.text.piece.Piece.{Piece}
@@ -65,18 +69,67 @@ pub record LinesWritten (width : ℕ) (has_colour : Bool) (before after : Option
   pub fine : All (IsLine width) lines
   pub written : Appends before after (text_bytes has_colour lines)
 
--- the same, of so many lines
-pub record RowsWritten (width : ℕ) (has_colour : Bool) (count : ℕ) (before after : Option (List ℕ)) : Type 0 where
+-- ---- what has no room
+
+-- a character more, where it is no control and has room; else it is left out
+abbrev pub with_character : (width : ℕ) → List Piece → ℕ → List Piece
+with_character width pieces character =
+    if is_some (char_width false character) && nat_le (sum_by piece_columns pieces + column_count character) width
+    then pieces ++ piece.Character character ∷ [] else pieces
+
+abbrev pub with_characters : (width : ℕ) → List Piece → List ℕ → List Piece
+with_characters width pieces characters = fold (with_character width) pieces characters
+
+-- the pieces, and more behind them
+abbrev pub HasMore : (before after : List Piece) → Type 0
+HasMore before after = (more : List Piece) × (after ≡ before ++ more)
+
+-- of characters without a column no more than four behind one another, of which so many stand in front
+abbrev pub few_marks : ℕ → List ℕ → List ℕ
+few_marks marks [] = []
+few_marks marks (character ∷ characters) =
+    if nat_lt 0 (column_count character) then character ∷ few_marks 0 characters
+    else if nat_le 4 marks then few_marks marks characters
+    else character ∷ few_marks (marks + 1) characters
+
+-- a text with few marks, or what of it stands before a place, `…`, and what stands behind another
+abbrev pub IsFitted : (text fitted : List ℕ) → Type 0
+IsFitted text fitted = (fitted ≡ few_marks 0 text)
+    ⊎ ((front behind : ℕ) × (fitted ≡ take front (few_marks 0 text) ++ 8230 ∷ drop behind (few_marks 0 text)))
+
+-- ---- rows
+
+-- red where it failed, else by what it does
+abbrev pub paint_of : ToldStep → Paint
+paint_of step = if step.failed then paint.Red else kind_paint (kind_of step.action)
+
+-- a line that begins with the action of the step and its address, as they have room, in the colour of the step
+pub record IsRowOf (width : ℕ) (row : List Piece) (step : ToldStep) : Type 0 where
+  pub action : List ℕ
+  pub blanks : ℕ
+  pub address : List ℕ
+  pub rest : List Piece
+  pub is_action : IsFitted (shown_characters step.action) action
+  pub is_address : IsFitted (shown_characters step.address) address
+  pub is : row ≡ with_characters width
+      (with_characters width (piece.Begin (paint_of step) ∷ []) (action ++ replicate blanks 32) ++ piece.End ∷ []) (32 ∷ address) ++ rest
+
+-- it is that of the step at the place
+abbrev pub IsRowAt : (width : ℕ) → List ToldStep → (place : ℕ) → (row : List Piece) → Type 0
+IsRowAt width steps place row = IfSome (slice_get steps place) (IsRowOf width row)
+
+-- the row of each of the steps at the places was written, and nothing else
+pub record RowsWritten (width : ℕ) (has_colour : Bool) (steps : List ToldStep) (places : List ℕ) (before after : Option (List ℕ)) : Type 0 where
   pub rows : List (List Piece)
-  pub each : length rows ≡ count
+  pub each : AllZip (IsRowAt width steps) places rows
   pub fine : All (IsLine width) rows
   pub written : Appends before after (text_bytes has_colour rows)
 
--- the same, of lines among which there are so many rows, behind those of the head and before those of the tail
-pub record TextWritten (width : ℕ) (has_colour : Bool) (count : ℕ) (before after : Option (List ℕ)) : Type 0 where
+-- lines, among which those rows stand, behind those of the head and before those of the tail
+pub record TextWritten (width : ℕ) (has_colour : Bool) (picture : Picture) (before after : Option (List ℕ)) : Type 0 where
   pub head : List (List Piece)
   pub rows : List (List Piece)
   pub tail : List (List Piece)
-  pub each : length rows ≡ count
+  pub each : AllZip (IsRowAt width picture.told.now.steps) picture.rows.places.items rows
   pub fine : All (IsLine width) (head ++ rows ++ tail)
   pub written : Appends before after (text_bytes has_colour (head ++ rows ++ tail))

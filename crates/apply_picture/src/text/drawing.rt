@@ -1,7 +1,7 @@
 //! The whole text.
 
-ghost use Rattle.std.specs.Prelude.{◌≡◌, IfOk, OnOk, length};
-ghost use Rattle.apply_picture.specs.Lines.{LinesWritten, RowsWritten, TextWritten};
+ghost use Rattle.std.specs.Prelude.{◌≡◌, IfOk, OnOk};
+ghost use Rattle.apply_picture.specs.Lines.{IsRowAt, LinesWritten, RowsWritten, TextWritten};
 
 use crate::draw_fault::DrawFault;
 use crate::picture::Picture;
@@ -38,7 +38,7 @@ pub fn draw_text<W: Write>(
     out: &mut W,
 ) -> Result<(), DrawFault>
     ensures lines { OnOk result (LinesWritten width has_colour (W.contents out.old) (W.contents out.new)) }
-    ensures rows { OnOk result (TextWritten width has_colour (length picture.now.rows.places.items) (W.contents out.old) (W.contents out.new)) }
+    ensures rows { OnOk result (TextWritten width has_colour picture.now (W.contents out.old) (W.contents out.new)) }
 {
     let style = Style {
         width: width as usize,
@@ -80,7 +80,8 @@ fn draw_rows<W: Write>(
     style: Style,
     out: &mut W,
 ) -> Result<(), DrawFault>
-    ensures { OnOk result (RowsWritten style.width style.has_colour (length picture.now.rows.places.items) (W.contents out.old) (W.contents out.new)) }
+    ensures { OnOk result (RowsWritten style.width style.has_colour picture.now.told.now.steps picture.now.rows.places.items
+        (W.contents out.old) (W.contents out.new)) }
 {
     let ticks = tick_cells(alloc, chart)?;
     for place in &picture.rows.places {
@@ -99,7 +100,8 @@ fn line_of(
     place: usize,
     width: usize,
 ) -> Result<Line, AllocError>
-    ensures { IfOk result (λ line. line.width ≡ width) }
+    ensures width { IfOk result (λ line. line.width ≡ width) }
+    ensures row { IfOk result (λ line. IsRowAt width picture.now.told.now.steps place line.pieces.items) }
 {
     match picture.told.steps().get(place) {
         Some(step) => row_of(alloc, picture, chart, ticks, step, width),

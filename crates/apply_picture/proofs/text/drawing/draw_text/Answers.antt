@@ -8,7 +8,7 @@ returns-clause-rows g c =
     let head = c.in_ok-push_axis.ensures ∙ c.in_ok-push_head.ensures ∙ c.new-head.ensures in
     let tail = c.in_ok-push_passed.ensures ∙ c.in_ok-push_notes.ensures ∙ c.in_ok-push_alone.ensures ∙ c.in_ok-push_at_once.ensures
     ∙ c.in_ok-push_left_out.ensures ∙ c.new-tail.ensures in
-    text_written _ _ _ _ _ _ _ _ _ _ head tail c.in_ok-send.ensures.fine c.in_ok-send.ensures.sent c.in_ok-draw_rows.ensures
+    text_written _ c.args.picture.now _ _ _ _ _ _ _ _ head tail c.in_ok-send.ensures.fine c.in_ok-send.ensures.sent c.in_ok-draw_rows.ensures
     c.in_ok-send-2.ensures.fine (Appends-kept _ _ _ _ c.in_ok-send-2.ensures.sent c.flush.ensures)
 
 pub returns-clause-lines : goal.returns-clause-lines
