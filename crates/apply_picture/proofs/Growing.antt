@@ -1,13 +1,13 @@
 -- Lines that grow, and texts with few marks.
-use Rattle.std.proofs.Common.{◌≡◌, ◌∙◌, ℕ, ◌+◌, ◌<◌, ◌∷◌, [], ◌++◌, List, Bool, true, false, Result, Ok, Err, ap, ap₂, refl, sym, get_or, length, take, drop, append-nil, append_assoc, replicate}
+use Rattle.std.proofs.Common.{◌≡◌, ◌∙◌, ℕ, ◌+◌, ◌-◌, ◌<◌, ◌≤◌, ◌∷◌, [], ◌++◌, List, Bool, true, false, Option, Result, Ok, Err, ap, ap₂, refl, subst, sym, get_or, length, take, drop, append-nil, append_assoc, replicate, arith}
 use Rattle.std.specs.Prelude.{if◌then◌else◌, is_some, nat_le, nat_lt, ◌&&◌, OnOk}
-use Rattle.std.specs.List.{sum_by}
+use Rattle.std.specs.List.{AllZip, sum_by}
 use Rattle.std.proofs.lemmas.Grind.{fold-append}
-use Rattle.std.proofs.lemmas.List.{at_drop_more, take_more}
+use Rattle.std.proofs.lemmas.List.{at_drop_more, replicate-append-replicate, take_more}
 use Rattle.unicode_width.specs.Width.{char_width}
 use Rattle.apply_view.specs.Steps.{ToldStep}
 use Rattle.apply_picture.specs.Columns.{column_count}
-use Rattle.apply_picture.specs.Lines.{HasMore, IsFitted, IsRowOf, few_marks, paint_of, piece_columns, with_character, with_characters}
+use Rattle.apply_picture.specs.Lines.{HasMore, IsFitted, IsHeadedBy, IsRowOf, IsTextLine, IsTrimmed, few_marks, paint_of, piece_columns, text_line, with_character, with_characters, with_styled}
 use Rattle.apply_picture.specs.Shown.{shown_characters}
 use Rattle.apply_picture.specs.declared.text.paint.Paint.{Paint}
 use Rattle.apply_picture.specs.declared.text.piece.Piece.{Piece}
@@ -15,18 +15,18 @@ use Rattle.apply_picture.specs.declared.text.piece.Piece.TheVariants as piece
 
 -- ---- pieces, and more behind them
 
-pub more_none : (ps : List Piece) → HasMore ps ps
+pub more_none : {A : Type 0} (ps : List A) → HasMore ps ps
 more_none ps = ([], sym (append-nil ps))
 
-pub more_same : (ps qs : List Piece) → qs ≡ ps → HasMore ps qs
+pub more_same : {A : Type 0} (ps qs : List A) → qs ≡ ps → HasMore ps qs
 more_same ps qs is = ([], is ∙ sym (append-nil ps))
 
-pub more_then : (a b c : List Piece) → HasMore a b → HasMore b c → HasMore a c
+pub more_then : {A : Type 0} (a b c : List A) → HasMore a b → HasMore b c → HasMore a c
 more_then a b c first second =
     (first.0 ++ second.0, second.1 ∙ ap (λ ps. ps ++ second.0) first.1 ∙ append_assoc a first.0 second.0)
 
 -- what was appended is more
-pub more_is : (ps qs more : List Piece) → qs ≡ ps ++ more → HasMore ps qs
+pub more_is : {A : Type 0} (ps qs more : List A) → qs ≡ ps ++ more → HasMore ps qs
 more_is ps qs more is = (more, is)
 
 -- what a call answers well says another thing
@@ -119,3 +119,58 @@ row_begun width step paint w0 w1 w2 w3 w4 p0 p1 p2 p3 p4 p5 action address is_pa
     let ended = is3 ∙ ap (λ ps. ps ++ piece.End ∷ []) told in
     let blank = is4 ∙ ap₂ (λ w ps. with_character w ps 32) width3 ended in
     is5 ∙ ap₂ (λ w ps. with_characters w ps address) width4 blank
+
+-- ---- blanks at an end
+
+pub trimmed_then : (text line front : List ℕ) → IsTrimmed text line → IsTrimmed line front → IsTrimmed text front
+trimmed_then text line front first second = (
+  second.0 + first.0,
+  first.1 ∙ ap (λ cs. cs ++ replicate first.0 32) second.1 ∙ append_assoc front (replicate second.0 32) (replicate first.0 32)
+      ∙ ap (λ cs. front ++ cs) (replicate-append-replicate second.0 first.0 32),
+)
+
+pub text_line_then : (width indent : ℕ) (paint : Option Paint) (text line : List ℕ) (pieces : List Piece) → IsTrimmed text line
+    → IsTextLine width indent paint line pieces → IsTextLine width indent paint text pieces
+text_line_then width indent paint text line pieces trimmed is = (is.0, trimmed_then text line is.0 trimmed is.1, is.2)
+
+-- ---- heads
+
+pub headed_more : (width : ℕ) (heading : List ℕ) (lines more : List (List Piece)) → IsHeadedBy width heading lines → HasMore lines more
+    → IsHeadedBy width heading more
+headed_more width heading lines more headed grown fits =
+    let h = headed fits in
+    (h.0, h.1 ++ grown.0, h.2, grown.1 ∙ ap (λ ls. ls ++ grown.0) h.3)
+
+-- one blank less in front of blanks
+pub blank_more : (cs : List ℕ) (len : ℕ) → 1 ≤ len → len ≤ length cs → get_or cs (len - 1) 32 ≡ 32
+    → cs ≡ take len cs ++ replicate (length cs - len) 32 → cs ≡ take (len - 1) cs ++ replicate (length cs - (len - 1)) 32
+blank_more cs len some within is told =
+    let k = len - 1 in
+    let m = length cs - len in
+    let next : len ≡ k + 1 = omega arith in
+    let below : k < length cs = omega arith in
+    let more : 1 + m ≡ length cs - k = omega arith in
+    told ∙ ap (λ n. take n cs ++ replicate m 32) next
+    ∙ ap (λ xs. xs ++ replicate m 32) (take_more cs k 32 below ∙ ap (λ c. take k cs ++ c ∷ []) is)
+    ∙ append_assoc (take k cs) (32 ∷ []) (replicate m 32)
+    ∙ ap (λ xs. take k cs ++ xs) (replicate-append-replicate 1 m 32 ∙ ap (λ n. replicate n 32) more)
+
+pub empty_line : (width indent : ℕ) (paint : Option Paint) (text front : List ℕ) (pieces : List Piece) → IsTrimmed text front → front ≡ []
+    → pieces ≡ [] → IsTextLine width indent paint text pieces
+empty_line width indent paint text front pieces trimmed none is =
+    (front, trimmed, is ∙ sym (ap (text_line width indent paint) none))
+
+pub styled_line : (width indent : ℕ) (paint : Option Paint) (text front : List ℕ) (pieces : List Piece) → IsTrimmed text front → (front ≡ [] → ⊥)
+    → pieces ≡ with_styled width (with_characters width [] (replicate indent 32)) paint front → IsTextLine width indent paint text pieces
+styled_line width indent paint text [] pieces trimmed some is = absurd (some refl)
+styled_line width indent paint text (c ∷ cs) pieces trimmed some is = (c ∷ cs, trimmed, is)
+
+only : {A B : Type 0} (R : A → B → Type 0) (x : A) (ys : List B) → AllZip R (x ∷ []) ys → (y : B) × (ys ≡ y ∷ []) × R x y
+only R x [] all = absurd all
+only R x (y ∷ []) all = (y, refl, all.0)
+only R x (y ∷ (z ∷ ys)) all = absurd all.1
+
+-- the only line
+pub one_line : {A B : Type 0} (R : A → B → Type 0) (xs : List A) (x : A) (ys : List B) → xs ≡ x ∷ [] → AllZip R xs ys
+    → (y : B) × (ys ≡ y ∷ []) × R x y
+one_line R xs x ys is all = only R x ys (subst (λ zs. AllZip R zs ys) is all)

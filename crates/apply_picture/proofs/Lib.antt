@@ -4,3 +4,4 @@ pub mod Escapes
 pub mod Growing
 pub mod Drawn
 pub mod Saying
+pub mod Heads

@@ -9,7 +9,7 @@ use Rattle.std.proofs.lemmas.List.{map-append, take_more}
 use Rattle.std.proofs.lemmas.List.Elements.{All-append}
 use Rattle.apply_view.specs.Steps.{ToldStep}
 use Rattle.apply_picture.specs.Heading.{heading_words}
-use Rattle.apply_picture.specs.Lines.{IsLine, IsRowAt, LinesWritten, RowsWritten, TextWritten, line_bytes, text_bytes}
+use Rattle.apply_picture.specs.Lines.{IsHeadedBy, IsLine, IsRowAt, LinesWritten, RowsWritten, TextWritten, heading_characters, line_bytes, text_bytes}
 use Rattle.apply_picture.specs.Markup.{GroupWritten, GroupsWritten, HeadWritten, IsGroupAt, IsGroupOf, MarkupWritten, SvgWritten, escaped, group_bytes, heading_bytes, part_bytes, title_bytes}
 use Rattle.apply_picture.specs.Shown.{shown_characters}
 use Rattle.apply_picture.specs.declared.picture.Picture.{Picture}
@@ -83,10 +83,11 @@ row_more width colour steps places i a b c row below before of_step fine more =
 -- a head, the rows, and a tail, all of one style
 pub text_written : (style : Style) (picture : Picture) (a b c d : Option (List ℕ)) (head tail : List (List Piece)) (first last : Style)
     → first ≡ style → last ≡ style → All (IsLine first.width) head → Appends a b (text_bytes first.has_colour head)
+    → IsHeadedBy style.width (heading_characters picture) head
     → RowsWritten style.width style.has_colour picture.told.now.steps picture.rows.places.items b c
     → All (IsLine last.width) tail → Appends c d (text_bytes last.has_colour tail)
     → TextWritten style.width style.has_colour picture a d
-text_written style picture a b c d head tail first last is_first is_last head_fine head_sent rows tail_fine tail_sent =
+text_written style picture a b c d head tail first last is_first is_last head_fine head_sent headed rows tail_fine tail_sent =
     let colour = style.has_colour in
     let fine_head = subst (λ (s : Style). All (IsLine s.width) head) is_first head_fine in
     let fine_tail = subst (λ (s : Style). All (IsLine s.width) tail) is_last tail_fine in
@@ -96,6 +97,7 @@ text_written style picture a b c d head tail first last is_first is_last head_fi
       head = head;
       rows = rows.rows;
       tail = tail;
+      headed = headed;
       each = rows.each;
       fine = All-append (IsLine style.width) (head ++ rows.rows) tail (All-append (IsLine style.width) head rows.rows fine_head rows.fine) fine_tail;
       written = subst (Appends a d)

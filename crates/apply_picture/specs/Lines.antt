@@ -1,10 +1,11 @@
 -- What a text of lines is: how wide they are, and what steers the terminal that shows it.
-use Rattle.std.specs.Prelude.{◌≡◌, ◌≤◌, ◌+◌, ◌++◌, ◌∷◌, ◌&&◌, ◌⊎◌, [], ℕ, List, Bool, true, false, All, Option, IfSome, codes, drop, encode_utf8, if◌then◌else◌, is_some, nat_le, nat_lt, replicate, take}
+use Rattle.std.specs.Prelude.{◌≡◌, ◌≤◌, ◌+◌, ◌++◌, ◌∷◌, ◌&&◌, ◌⊎◌, [], ℕ, List, Bool, true, false, All, Option, None, Some, IfSome, codes, drop, encode_utf8, if◌then◌else◌, is_some, nat_le, nat_lt, replicate, take}
 use Rattle.std.specs.List.{AllZip, flat_map, fold, list_all, slice_get, sum_by}
 use Rattle.std.specs.Io.KnownBytes.{Appends}
 use Rattle.unicode_width.specs.Width.{char_width}
 use Rattle.apply_view.specs.Steps.{ToldStep}
-use Rattle.apply_picture.specs.Columns.{column_count}
+use Rattle.apply_picture.specs.Columns.{column_count, columns_of}
+use Rattle.apply_picture.specs.Heading.{heading_words}
 use Rattle.apply_picture.specs.Kinds.{kind_of, kind_paint}
 use Rattle.apply_picture.specs.Shown.{shown_characters}
 use Rattle.apply_picture.specs.declared.picture.Picture.{Picture}
@@ -80,9 +81,9 @@ with_character width pieces character =
 abbrev pub with_characters : (width : ℕ) → List Piece → List ℕ → List Piece
 with_characters width pieces characters = fold (with_character width) pieces characters
 
--- the pieces, and more behind them
-abbrev pub HasMore : (before after : List Piece) → Type 0
-HasMore before after = (more : List Piece) × (after ≡ before ++ more)
+-- the same, and more behind it
+abbrev pub HasMore : {A : Type 0} → (before after : List A) → Type 0
+HasMore {A} before after = (more : List A) × (after ≡ before ++ more)
 
 -- of characters without a column no more than four behind one another, of which so many stand in front
 abbrev pub few_marks : ℕ → List ℕ → List ℕ
@@ -96,6 +97,35 @@ few_marks marks (character ∷ characters) =
 abbrev pub IsFitted : (text fitted : List ℕ) → Type 0
 IsFitted text fitted = (fitted ≡ few_marks 0 text)
     ⊎ ((front behind : ℕ) × (fitted ≡ take front (few_marks 0 text) ++ 8230 ∷ drop behind (few_marks 0 text)))
+
+-- ---- the head
+
+-- the text, but for blanks at its end
+abbrev pub IsTrimmed : (text front : List ℕ) → Type 0
+IsTrimmed text front = (blanks : ℕ) × (text ≡ front ++ replicate blanks 32)
+
+-- characters behind others, in a colour or in none
+abbrev pub with_styled : (width : ℕ) → List Piece → Option Paint → List ℕ → List Piece
+with_styled width pieces None characters = with_characters width pieces characters
+with_styled width pieces (Some paint) characters = with_characters width (pieces ++ piece.Begin paint ∷ []) characters ++ piece.End ∷ []
+
+-- a line with so many blanks and the text, as they have room; none of them where the text is empty
+abbrev pub text_line : (width indent : ℕ) → Option Paint → List ℕ → List Piece
+text_line width indent paint [] = []
+text_line width indent paint (character ∷ characters) =
+    with_styled width (with_characters width [] (replicate indent 32)) paint (character ∷ characters)
+
+abbrev pub IsTextLine : (width indent : ℕ) → Option Paint → (text : List ℕ) → (line : List Piece) → Type 0
+IsTextLine width indent paint text line = (front : List ℕ) × IsTrimmed text front × (line ≡ text_line width indent paint front)
+
+-- what was done, as it is shown
+abbrev pub heading_characters : Picture → List ℕ
+heading_characters picture = shown_characters (heading_words picture.moments picture.told.now picture.numbers)
+
+-- what was done stands first, bold, where it has room on one line
+abbrev pub IsHeadedBy : (width : ℕ) → (heading : List ℕ) → (lines : List (List Piece)) → Type 0
+IsHeadedBy width heading lines = columns_of heading ≤ width
+    → (first : List Piece) × (rest : List (List Piece)) × IsTextLine width 0 (Some paint.Bold) heading first × (lines ≡ first ∷ rest)
 
 -- ---- rows
 
@@ -130,6 +160,7 @@ pub record TextWritten (width : ℕ) (has_colour : Bool) (picture : Picture) (be
   pub head : List (List Piece)
   pub rows : List (List Piece)
   pub tail : List (List Piece)
+  pub headed : IsHeadedBy width (heading_characters picture) head
   pub each : AllZip (IsRowAt width picture.told.now.steps) picture.rows.places.items rows
   pub fine : All (IsLine width) (head ++ rows ++ tail)
   pub written : Appends before after (text_bytes has_colour (head ++ rows ++ tail))

@@ -1,7 +1,7 @@
 //! The whole text.
 
-ghost use Rattle.std.specs.Prelude.{◌≡◌, IfOk, OnOk};
-ghost use Rattle.apply_picture.specs.Lines.{IsRowAt, LinesWritten, RowsWritten, TextWritten};
+ghost use Rattle.std.specs.Prelude.{◌≡◌, [], IfOk, OnOk, map};
+ghost use Rattle.apply_picture.specs.Lines.{IsHeadedBy, IsRowAt, LinesWritten, RowsWritten, TextWritten, heading_characters};
 
 use crate::draw_fault::DrawFault;
 use crate::picture::Picture;
@@ -63,7 +63,9 @@ pub fn draw_text<W: Write>(
 
 /// Adds what was done, and what ran beside what.
 fn push_head(alloc: Global, page: &mut Page, picture: &Picture<'_>) -> Result<(), AllocError>
-    ensures { OnOk result (page.new.style ≡ page.old.style) }
+    ensures style { OnOk result (page.new.style ≡ page.old.style) }
+    ensures headed { page.old.lines.items ≡ [] → OnOk result (IsHeadedBy page.old.style.width (heading_characters picture.now)
+        (map (λ line. line.pieces.items) page.new.lines.items)) }
 {
     page.push_wrapped(alloc, 0, &heading(alloc, picture)?, Some(Paint::Bold))?;
     match overlap(alloc, picture)? {

@@ -2,7 +2,7 @@
 
 ghost use Rattle.std.specs.Prelude.{◌≡◌, ◌≤◌, ◌++◌, ◌∷◌, [], ℕ, IsTrue, OnOk, replicate};
 ghost use Rattle.std.specs.List.{list_all, sum_by};
-ghost use Rattle.apply_picture.specs.Lines.{HasMore, is_no_control, piece_columns, with_character, with_characters};
+ghost use Rattle.apply_picture.specs.Lines.{HasMore, is_no_control, piece_columns, with_character, with_characters, with_styled};
 ghost use Rattle.apply_picture.specs.declared.text.piece.Piece.TheVariants.{Begin, End};
 
 use crate::text::paint::Paint;
@@ -91,10 +91,27 @@ impl Line {
     pub fn push_painted(&mut self, characters: &[char], paint: Paint) -> Result<(), AllocError>
         ensures width { OnOk result (self.new.width ≡ self.old.width) }
         ensures more { OnOk result (HasMore self.old.pieces.items self.new.pieces.items) }
+        ensures pieces { OnOk result (self.new.pieces.items
+            ≡ with_characters self.old.width (self.old.pieces.items ++ Begin paint ∷ []) characters.now ++ End ∷ []) }
     {
         self.begin(paint)?;
         self.push_all(characters)?;
         self.end()
+    }
+
+    /// Adds characters, as a stretch where they have a colour.
+    pub fn push_styled(
+        &mut self,
+        characters: &[char],
+        paint: Option<Paint>,
+    ) -> Result<(), AllocError>
+        ensures width { OnOk result (self.new.width ≡ self.old.width) }
+        ensures pieces { OnOk result (self.new.pieces.items ≡ with_styled self.old.width self.old.pieces.items paint characters.now) }
+    {
+        match paint {
+            Some(paint) => self.push_painted(characters, paint),
+            None => self.push_all(characters),
+        }
     }
 
     /// Adds so many blanks.

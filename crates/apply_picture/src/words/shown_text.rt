@@ -2,6 +2,7 @@
 
 ghost use Rattle.std.specs.Prelude.{◌≡◌, IfOk};
 ghost use Rattle.std.specs.Str.{chars};
+ghost use Rattle.apply_picture.specs.Lines.{IsTrimmed};
 ghost use Rattle.apply_picture.specs.Shown.{shown_characters};
 
 use crate::words::columns::columns;
@@ -22,6 +23,15 @@ impl ShownText {
         let text = shown(alloc, bytes)?;
         let characters = characters_of(alloc, text.as_str())?;
         Ok(ShownText { characters })
+    }
+
+    /// One of these characters.
+    pub fn copied(alloc: Global, characters: &[char]) -> Result<ShownText, AllocError>
+        ensures { IfOk result (λ text. text.characters.items ≡ characters.now) }
+    {
+        Ok(ShownText {
+            characters: Vec::from_slice(alloc, characters)?,
+        })
     }
 
     /// Its characters.
@@ -45,7 +55,9 @@ fn characters_of(alloc: Global, text: &str) -> Result<Vec<char>, AllocError>
 }
 
 /// Characters without the blanks at their end.
-pub fn without_blanks(characters: &[char]) -> &[char] {
+pub fn without_blanks(characters: &[char]) -> &[char]
+    ensures { IsTrimmed characters.now result.now }
+{
     let mut len = characters.len();
     'back: while len > 0 && characters[len - 1] == ' ' {
         len -= 1;
