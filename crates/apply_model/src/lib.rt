@@ -19,6 +19,7 @@ pub use script::ending::Ending;
 pub use script::outcome::{MAX_SECONDS, Outcome};
 pub use script::provisioner::Provisioner;
 pub use script::provisioners::{MAX_PROVISIONERS, Provisioners};
+pub use script::script_step::ScriptStep;
 pub use script::step_outcomes::StepOutcomes;
 pub use script::texts::{MAX_OUTPUTS, Texts};
 pub use script::wait::Wait;
