@@ -67,8 +67,8 @@ in_turn_has w (s ∷ steps) at = (
 
 running_has : (w : ℕ) (s : Step) (at : ℕ) (mid : MidStep) → has_event_in (running w s at mid) s ≡ true
 running_has w s at mid =
-    has-append_first (map (λ (p : ℕ × What). event w s (at + p.0) p.1) (left_of s.provider_seconds s.ran mid) ++ map (λ what. event w s (at + (seconds_of s)) what) (endings s)) (halts w s (phase_after s.fails) (at + (seconds_of s))) s
-    (has-append_second (map (λ (p : ℕ × What). event w s (at + p.0) p.1) (left_of s.provider_seconds s.ran mid)) (map (λ what. event w s (at + (seconds_of s)) what) (endings s)) s (rw (itself s.number) refl))
+    has-append_first (map (λ (p : ℕ × What). event w s (at + p.0) p.1) (left_of (seconds_of s) s.seconds_before s.ran mid) ++ map (λ what. event w s (at + (seconds_of s)) what) (endings s)) (halts w s (phase_after s.fails) (at + (seconds_of s))) s
+    (has-append_second (map (λ (p : ℕ × What). event w s (at + p.0) p.1) (left_of (seconds_of s) s.seconds_before s.ran mid)) (map (λ what. event w s (at + (seconds_of s)) what) (endings s)) s (rw (itself s.number) refl))
 
 none_of : {X : Type 0} (found : Option X) → is_none found ≡ true → found ≡ None
 none_of None h = refl

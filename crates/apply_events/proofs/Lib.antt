@@ -1,3 +1,4 @@
+pub mod AppliedSteps
 pub mod Begun
 pub mod Dealing
 pub mod Ended

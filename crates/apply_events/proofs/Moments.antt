@@ -18,10 +18,11 @@ use Rattle.apply_events.specs.declared.what.What.TheVariants.{Halted}
 use Rattle.apply_events.specs.ChangeEvents.{begun, change_events, in_turn, span_of}
 use Rattle.apply_events.specs.Fits.{last_moment, max_span}
 use Rattle.apply_events.specs.Laws.{IsWithinLimits, NamesEachOnce}
-use Rattle.apply_events.specs.Step.{Step, Work, kinds_of, step_of, steps_of}
+use Rattle.apply_events.specs.Step.{Step, Work, kinds_applied, kinds_of, step_of, steps_of}
 use Rattle.apply_events.specs.StepEvents.{between, endings, event, goes_on, halts, phase_after, seconds_of, started, step_events, step_time}
 use Rattle.apply_events.specs.WorkerEvents.{worker_events}
-use Rattle.apply_events.proofs.MidSteps.{ran_short}
+use Rattle.apply_events.proofs.AppliedSteps.{few_applied}
+use Rattle.apply_events.proofs.MidSteps.{took_short}
 use Rattle.apply_events.proofs.Provisions.{along_rises, time_of}
 use Rattle.apply_events.proofs.Rising.{Rises, Rises-append, Rises-at_most, Rises-higher, Rises-map_same}
 
@@ -44,7 +45,7 @@ started_rise w s at =
       omega arith,
       Rises-append moment_of at (at + (seconds_of s)) (at + (seconds_of s)) (progress ++ ends) (halts w s (phase_after s.fails) (at + (seconds_of s)))
           (Rises-append moment_of at (at + (seconds_of s)) (at + (seconds_of s)) progress ends
-          (let none : at + 0 ≡ at = omega arith in rw none at (moments_rise w s at 0 (seconds_of s) (between s) (along_rises (seconds_of s) s.provider_seconds s.ran)))
+          (let none : at + 0 ≡ at = omega arith in rw none at (moments_rise w s at 0 (seconds_of s) (between s) (along_rises (seconds_of s) 0 0 s.seconds_before s.ran (omega arith) (omega arith))))
           (Rises-map_same moment_of (λ what. event w s (at + (seconds_of s)) what) (at + (seconds_of s)) (endings s) (λ what. refl)))
           (halts_rise w s (phase_after s.fails) (at + (seconds_of s)) (s.halts (phase_after s.fails))),
     )
@@ -89,9 +90,9 @@ change_first work w c at = steps_first w (begun (steps_of work c)) at
 
 -- ---- how late it can be
 
-short : (found : Option Outcome) → IfSome found IsBounded → took (unwrap_or found default_outcome) ≤ 86400
-short None h = omega arith
-short (Some outcome) h = let less = ran_short outcome.provisioners in let all = h.short in omega arith
+short : (kind : StepKind) (found : Option Outcome) → IfSome found IsBounded → took kind (unwrap_or found default_outcome) ≤ 86400
+short kind None h = let less = took_short kind default_outcome in omega arith
+short kind (Some outcome) h = let less = took_short kind outcome in let all = h.short in omega arith
 
 time_short : (s : Step) → (seconds_of s) ≤ 86400 → step_time s ≤ 86400
 time_short s h = elim (is_some (s.halts Pre)) as (λ b. cond b 0 (seconds_of s) ≤ 86400) [ true ↦ omega arith | false ↦ h ]
@@ -102,7 +103,7 @@ AreShort (s ∷ steps) = ((seconds_of s) ≤ 86400) × AreShort steps
 
 planned_short : (work : Work) (c n : ℕ) (kinds : List StepKind) → IsInRange work.script → AreShort (map (λ p. step_of work c p.0 p.1) (enumerate_from n kinds))
 planned_short work c n [] range = tt
-planned_short work c n (kind ∷ kinds) range = (short (given_outcome work.script c n) (range c n), planned_short work c (n + 1) kinds range)
+planned_short work c n (kind ∷ kinds) range = (short kind (given_outcome work.script c n) (range c n), planned_short work c (n + 1) kinds range)
 
 begun_time : (steps : List Step) → AreShort steps → sum_by step_time (begun steps) ≤ 86400 * length steps
 begun_time [] h = omega arith
@@ -121,8 +122,9 @@ length-planned work c n (kind ∷ kinds) = ap suc (length-planned work c (n + 1)
 pub span_short : (work : Work) (c : ℕ) → IsWithinLimits work → span_of work c ≤ max_span
 span_short work c read =
     let few : length (kinds_of work.plan c) ≤ 2 = read.few_steps c in
-    let same : length (steps_of work c) ≡ length (kinds_of work.plan c) = length-planned work c 0 (kinds_of work.plan c) in
-    let time : span_of work c ≤ 86400 * length (steps_of work c) = begun_time (steps_of work c) (planned_short work c 0 (kinds_of work.plan c) read.short_steps) in
+    let applied = few_applied work.plan work.script c in
+    let same : length (steps_of work c) ≡ length (kinds_applied work.plan work.script c) = length-planned work c 0 (kinds_applied work.plan work.script c) in
+    let time : span_of work c ≤ 86400 * length (steps_of work c) = begun_time (steps_of work c) (planned_short work c 0 (kinds_applied work.plan work.script c) read.short_steps) in
     omega arith
 
 spans_short : (work : Work) (changes : List ℕ) → IsWithinLimits work → sum_by (span_of work) changes ≤ max_span * length changes

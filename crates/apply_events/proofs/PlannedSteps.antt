@@ -1,13 +1,13 @@
 -- The steps of a change, by number.
-use Rattle.std.proofs.Common.{◌≡◌, ℕ, zero, suc, ◌+◌, ◌<◌, ◌≤◌, List, [], ◌∷◌, length, map, drop, Option, Some, None, IfSome, IfNone, refl, sym, subst₂, arith, add-zero, add-one}
+use Rattle.std.proofs.Common.{◌≡◌, ℕ, zero, suc, ◌+◌, ◌<◌, ◌≤◌, List, [], ◌∷◌, length, map, drop, Option, Some, None, IfSome, IfNone, refl, sym, ap, subst₂, arith, add-zero, add-one}
 use Rattle.std.specs.Prelude.{slice_get}
 use Rattle.std.specs.List.{enumerate_from}
 use Rattle.apply_model.specs.declared.plan.step_kind.StepKind.{StepKind}
-use Rattle.apply_model.specs.Plan.ResourceChange.{ResourceChange}
 use Rattle.apply_model.specs.Plan.SavedPlan.{SavedPlan}
 use Rattle.apply_events.specs.declared.event.Event.{Event}
 use Rattle.apply_events.specs.Fits.{HasStep}
-use Rattle.apply_events.specs.Step.{Work, kinds_of, step_of, steps_of}
+use Rattle.apply_events.specs.Step.{Work, kinds_applied, step_of, steps_of}
+use Rattle.apply_events.proofs.AppliedSteps.{applied_planned}
 
 -- what stands at a number, and behind it
 drop-found : {X Y : Type 0} (f : ℕ × X → Y) (xs : List X) (n k : ℕ) (x : X)
@@ -31,35 +31,34 @@ below [] k x h = cc
 below (y ∷ xs) zero x h = omega arith
 below (y ∷ xs) (suc k) x h = let less : k < length xs = below xs k x h in omega arith
 
-pub kinds_here : (work : Work) (c : ℕ) (change : ResourceChange) (kinds : List StepKind)
-    → Some change ≡ slice_get work.plan.changes c → kinds ≡ change.steps → kinds_of work.plan c ≡ kinds
-kinds_here work c change kinds is steps = rw (← is) (sym steps)
-
 -- the step at hand, and those behind it
-pub at_hand : (work : Work) (c k : ℕ) (change : ResourceChange) (kinds : List StepKind) (found : Option StepKind)
-    → Some change ≡ slice_get work.plan.changes c → kinds ≡ change.steps → found ≡ slice_get kinds k
+pub at_hand : (work : Work) (c k : ℕ) (kinds : List StepKind) (found : Option StepKind)
+    → kinds ≡ kinds_applied work.plan work.script c → found ≡ slice_get kinds k
     → IfSome found (λ kind. drop k (steps_of work c) ≡ step_of work c k kind ∷ drop (k + 1) (steps_of work c))
-at_hand work c k change kinds None is steps lookup = tt
-at_hand work c k change kinds (Some kind) is steps lookup =
-    rw (add-one, kinds_here work c change kinds is steps)
+at_hand work c k kinds None is lookup = tt
+at_hand work c k kinds (Some kind) is lookup =
+    rw (add-one, ← is)
     (let e : 0 + k ≡ k = omega arith in rw e at (drop-found (λ p. step_of work c p.0 p.1) kinds 0 k kind (sym lookup)))
 
 -- no step is at hand
-pub none_at_hand : (work : Work) (c k : ℕ) (change : ResourceChange) (kinds : List StepKind) (found : Option StepKind)
-    → Some change ≡ slice_get work.plan.changes c → kinds ≡ change.steps → found ≡ slice_get kinds k
+pub none_at_hand : (work : Work) (c k : ℕ) (kinds : List StepKind) (found : Option StepKind)
+    → kinds ≡ kinds_applied work.plan work.script c → found ≡ slice_get kinds k
     → IfNone found (drop k (steps_of work c) ≡ [])
-none_at_hand work c k change kinds None is steps lookup =
-    rw (kinds_here work c change kinds is steps) (drop-missed (λ p. step_of work c p.0 p.1) kinds 0 k (sym lookup))
-none_at_hand work c k change kinds (Some kind) is steps lookup = tt
+none_at_hand work c k kinds None is lookup =
+    rw (← is) (drop-missed (λ p. step_of work c p.0 p.1) kinds 0 k (sym lookup))
+none_at_hand work c k kinds (Some kind) is lookup = tt
 
 pub at_hand_few : (kinds : List StepKind) (k : ℕ) (found : Option StepKind) → length kinds ≤ 2 → found ≡ slice_get kinds k → IfSome found (λ kind. k < 2)
 at_hand_few kinds k None few lookup = tt
 at_hand_few kinds k (Some kind) few lookup = let less : k < length kinds = below kinds k kind (sym lookup) in omega arith
 
-pub at_hand_is : (work : Work) (c k : ℕ) (change : ResourceChange) (kinds : List StepKind) (found : Option StepKind)
-    → Some change ≡ slice_get work.plan.changes c → kinds ≡ change.steps → found ≡ slice_get kinds k → IfSome found (λ kind. HasStep work.plan c k)
-at_hand_is work c k change kinds None is steps lookup = tt
-at_hand_is work c k change kinds (Some kind) is steps lookup = rw (kinds_here work c change kinds is steps) (below kinds k kind (sym lookup))
+pub at_hand_is : (work : Work) (c k : ℕ) (kinds : List StepKind) (found : Option StepKind)
+    → kinds ≡ kinds_applied work.plan work.script c → found ≡ slice_get kinds k → IfSome found (λ kind. HasStep work.plan c k)
+at_hand_is work c k kinds None is lookup = tt
+at_hand_is work c k kinds (Some kind) is lookup =
+    let less : k < length kinds = below kinds k kind (sym lookup) in
+    let size = ap length is in
+    applied_planned work.plan work.script c k (omega arith)
 
 -- an event of the step at hand
 pub has_same_step : (plan : SavedPlan) (c k : ℕ) (e : Event) → HasStep plan c k → e.change ≡ c → e.step ≡ k → HasStep plan e.change e.step

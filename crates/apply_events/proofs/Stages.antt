@@ -3,7 +3,7 @@ use Rattle.std.proofs.Common.{◌≡◌, ℕ, ◌+◌, ◌-◌, Bool, true, fals
 use Rattle.std.specs.Prelude.{is_none}
 use Rattle.std.specs.List.{range_with_len}
 use Rattle.apply_model.specs.declared.script.provisioner.Provisioner.{Provisioner}
-use Rattle.apply_model.specs.Script.Outcome.{has_failed, seconds_of_all}
+use Rattle.apply_model.specs.Script.Outcome.{has_failed}
 use Rattle.apply_hooks.specs.declared.phase.Phase.{Phase}
 use Rattle.apply_hooks.specs.declared.phase.Phase.TheVariants.{Pre, PostDone}
 use Rattle.apply_events.specs.declared.event.Event.{Event}
@@ -11,12 +11,12 @@ use Rattle.apply_events.specs.declared.mid_step.MidStep.{MidStep}
 use Rattle.apply_events.specs.declared.stage.Stage.{Stage}
 use Rattle.apply_events.specs.declared.stage.Stage.TheVariants.{Before, Running, Noting, Halting, Over}
 use Rattle.apply_events.specs.declared.what.What.{What}
-use Rattle.apply_events.specs.declared.what.What.TheVariants.{Start, Progress, Halted, ProvisionOutput, ProvisionComplete, ProvisionErrored}
+use Rattle.apply_events.specs.declared.what.What.TheVariants.{Start, Progress, Halted, ProvisionOutput, ProvisionStart, ProvisionComplete, ProvisionErrored}
 use Rattle.apply_events.specs.ChangeEvents.{begun, in_turn}
 use Rattle.apply_events.specs.Course.{beginning_of, is_beginning}
 use Rattle.apply_events.specs.Notes.{note_of}
 use Rattle.apply_events.specs.MidStep.{amid, left_at, left_of, since}
-use Rattle.apply_events.specs.Provisions.{provision_end, provisions, results, times_within}
+use Rattle.apply_events.specs.Provisions.{along, progress, provision_end, results, times_within}
 use Rattle.apply_events.specs.Stages.{behind, events_from, from_stage, halt_after}
 use Rattle.apply_events.specs.Step.{Step}
 use Rattle.apply_events.specs.StepEvents.{between, end_of, event, notes, phase_after, seconds_of, step_events, step_time}
@@ -34,14 +34,14 @@ in_turn-if w steps at false = refl
 
 -- the step starts
 pub begin_starts : (w : ℕ) (s : Step) (rest left : List Step) (at : ℕ) (mid : MidStep) (stage : Stage)
-    → left ≡ s ∷ rest → stage ≡ Before → s.halts Pre ≡ None → left_of s.provider_seconds s.ran mid ≡ between s
+    → left ≡ s ∷ rest → stage ≡ Before → s.halts Pre ≡ None → left_of (seconds_of s) s.seconds_before s.ran mid ≡ between s
     → from_stage w left at stage ≡ event w s at Start ∷ from_stage w left at (Running mid)
 begin_starts w s rest left at mid stage first before halts whole =
     rw (first, before, halts, whole, in_turn-if w rest (at + (seconds_of s)) (not s.fails && is_none (s.halts PostDone))) refl
 
 -- what happens before the end is told
 pub running_on : (w : ℕ) (s : Step) (rest left : List Step) (at after : ℕ) (what : What) (mid next : MidStep) (stage : Stage)
-    → left ≡ s ∷ rest → stage ≡ Running mid → left_of s.provider_seconds s.ran mid ≡ (after, what) ∷ left_of s.provider_seconds s.ran next
+    → left ≡ s ∷ rest → stage ≡ Running mid → left_of (seconds_of s) s.seconds_before s.ran mid ≡ (after, what) ∷ left_of (seconds_of s) s.seconds_before s.ran next
     → from_stage w left at stage ≡ event w s (at + after) what ∷ from_stage w left at (Running next)
 running_on w s rest left at after what mid next stage first on more = rw (first, on, more) refl
 
@@ -57,14 +57,14 @@ no_note false false h = refl
 
 -- the end is told, and a note follows
 pub running_notes : (w : ℕ) (s : Step) (rest left : List Step) (at : ℕ) (mid : MidStep) (stage : Stage)
-    → left ≡ s ∷ rest → stage ≡ Running mid → left_of s.provider_seconds s.ran mid ≡ [] → (s.fails || s.warns) ≡ true
+    → left ≡ s ∷ rest → stage ≡ Running mid → left_of (seconds_of s) s.seconds_before s.ran mid ≡ [] → (s.fails || s.warns) ≡ true
     → from_stage w left at stage ≡ event w s (at + (seconds_of s)) (end_of s.fails (seconds_of s)) ∷ from_stage w left at Noting
 running_notes w s rest left at mid stage first on none is =
     rw (first, on, none, one_note s.fails s.warns is) refl
 
 -- the end is told, and no note follows
 pub running_ends : (w : ℕ) (s : Step) (rest left : List Step) (at : ℕ) (mid : MidStep) (stage : Stage)
-    → left ≡ s ∷ rest → stage ≡ Running mid → left_of s.provider_seconds s.ran mid ≡ [] → (s.fails || s.warns) ≡ false
+    → left ≡ s ∷ rest → stage ≡ Running mid → left_of (seconds_of s) s.seconds_before s.ran mid ≡ [] → (s.fails || s.warns) ≡ false
     → from_stage w left at stage ≡ event w s (at + (seconds_of s)) (end_of s.fails (seconds_of s)) ∷ (halt_after w s at ++ behind w s rest at)
 running_ends w s rest left at mid stage first on none is =
     rw (first, on, none, no_note s.fails s.warns is) refl
@@ -129,22 +129,27 @@ results_go_on : (i since : ℕ) (js : List ℕ) (p : Provisioner) (xs : List (�
 results_go_on i since [] p xs = end_goes_on (has_failed p) i since xs
 results_go_on i since (j ∷ js) p xs = refl
 
-provisions_go_on : (d i since : ℕ) (ps : List Provisioner) → GoesOn (provisions d i since ps)
-provisions_go_on d i since [] = tt
-provisions_go_on d i since (p ∷ ps) = refl
+along_goes_on : (d after i since : ℕ) (ps : List Provisioner) → GoesOn (along d after i since ps)
+along_goes_on d after i since [] = only (times_within d after d)
+  where
+    only : (ts : List ℕ) → GoesOn (map (λ p. (p, Progress p)) ts)
+    only [] = tt
+    only (t ∷ ts) = refl
+along_goes_on d after i since (p ∷ ps) =
+    let until = since + p.seconds in
+    GoesOn-progress (times_within d after since)
+    ((since, ProvisionStart i) ∷ (progress d since until ++ map (λ (what : What). (until, what)) (results i 0 p) ++ along d until (i + 1) until ps)) refl
 
 amid_goes_on : (d told i line since : ℕ) (ps : List Provisioner) → GoesOn (amid d told i line since ps)
 amid_goes_on d told i line since [] = tt
 amid_goes_on d told i line since (p ∷ ps) =
     let end = since + p.seconds in
-    let rest = map (λ (what : What). (end, what)) (results i line p) ++ provisions d (i + 1) end ps in
-    rw append_assoc (GoesOn-progress (times_within d told end) rest (results_go_on i end (range_with_len line (length p.output - line)) p (provisions d (i + 1) end ps)))
+    let rest = map (λ (what : What). (end, what)) (results i line p) ++ along d end (i + 1) end ps in
+    rw append_assoc (GoesOn-progress (times_within d told end) rest (results_go_on i end (range_with_len line (length p.output - line)) p (along d end (i + 1) end ps)))
 
-left_goes_on : (own : ℕ) (ps : List Provisioner) (told i : ℕ) (outputs : Option ℕ) → GoesOn (left_at own ps told i outputs)
-left_goes_on own ps told i None =
-    let d = own + seconds_of_all ps in
-    GoesOn-progress (times_within d told (since own ps i)) (provisions d i (since own ps i) (drop i ps)) (provisions_go_on d i (since own ps i) (drop i ps))
-left_goes_on own ps told i (Some line) = amid_goes_on (own + seconds_of_all ps) told i line (since own ps i) (drop i ps)
+left_goes_on : (d own : ℕ) (ps : List Provisioner) (told i : ℕ) (outputs : Option ℕ) → GoesOn (left_at d own ps told i outputs)
+left_goes_on d own ps told i None = along_goes_on d told i (since own ps i) (drop i ps)
+left_goes_on d own ps told i (Some line) = amid_goes_on d told i line (since own ps i) (drop i ps)
 
 running_begins : (w : ℕ) (s : Step) (at : ℕ) (xs : List (ℕ × What)) (more halts behind : List Event) → GoesOn xs
     → beginning_of (map (λ (p : ℕ × What). event w s (at + p.0) p.1) xs ++ event w s (at + (seconds_of s)) (end_of s.fails (seconds_of s)) ∷ more ++ halts ++ behind) ≡ None
@@ -164,8 +169,8 @@ halt_begins false hook = refl
 pub running_begins_none : (w : ℕ) (left : List Step) (at : ℕ) (mid : MidStep) (stage : Stage) → stage ≡ Running mid → beginning_of (from_stage w left at stage) ≡ None
 running_begins_none w [] at mid stage is = rw is refl
 running_begins_none w (s ∷ rest) at mid stage is =
-    rw is (running_begins w s at (left_of s.provider_seconds s.ran mid) (map (λ what. event w s (at + (seconds_of s)) what) (notes s.fails s.warns)) (halt_after w s at) (behind w s rest at)
-    (left_goes_on s.provider_seconds s.ran mid.told mid.provisioner mid.outputs))
+    rw is (running_begins w s at (left_of (seconds_of s) s.seconds_before s.ran mid) (map (λ what. event w s (at + (seconds_of s)) what) (notes s.fails s.warns)) (halt_after w s at) (behind w s rest at)
+    (left_goes_on (seconds_of s) s.seconds_before s.ran mid.told mid.provisioner mid.outputs))
 
 pub noting_begins_none : (w : ℕ) (left : List Step) (at : ℕ) (stage : Stage) → stage ≡ Noting → beginning_of (from_stage w left at stage) ≡ None
 noting_begins_none w [] at stage is = rw is refl

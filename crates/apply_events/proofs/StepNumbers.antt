@@ -15,7 +15,7 @@ use Rattle.apply_events.specs.ChangeEvents.{begun, in_turn}
 use Rattle.apply_events.specs.MidStep.{left_of}
 use Rattle.apply_events.specs.Notes.{note_of}
 use Rattle.apply_events.specs.Stages.{behind, events_from, from_stage, halt_after, running}
-use Rattle.apply_events.specs.Step.{Step, Work, kinds_of, step_of, steps_of}
+use Rattle.apply_events.specs.Step.{Step, Work, kinds_applied, step_of, steps_of}
 use Rattle.apply_events.specs.StepEvents.{between, endings, event, goes_on, halts, phase_after, seconds_of, started, step_events, step_time}
 use Rattle.apply_events.proofs.Rising.{Rises, Rises-append, Rises-higher, Rises-lower, Rises-map_same}
 
@@ -29,7 +29,7 @@ enumerated work c n [] = tt
 enumerated work c n (kind ∷ kinds) = (refl, enumerated work c (n + 1) kinds)
 
 pub steps_of-numbered : (work : Work) (c : ℕ) → AreNumbered 0 (steps_of work c)
-steps_of-numbered work c = enumerated work c 0 (kinds_of work.plan c)
+steps_of-numbered work c = enumerated work c 0 (kinds_applied work.plan work.script c)
 
 pub AreNumbered-drop : (n k : ℕ) (steps : List Step) → AreNumbered n steps → AreNumbered (n + k) (drop k steps)
 AreNumbered-drop n zero steps h = let e : n + 0 ≡ n = omega arith in rw e h
@@ -62,7 +62,7 @@ told_rise w s at xs =
     (halts_rise w s (phase_after s.fails) (at + seconds_of s) (s.halts (phase_after s.fails)))
 
 pub running_rise : (w : ℕ) (s : Step) (at : ℕ) (mid : MidStep) → Rises number_of s.number s.number (running w s at mid)
-running_rise w s at mid = told_rise w s at (left_of s.provider_seconds s.ran mid)
+running_rise w s at mid = told_rise w s at (left_of (seconds_of s) s.seconds_before s.ran mid)
 
 pub step_events_rise : (w : ℕ) (s : Step) (at : ℕ) → Rises number_of s.number s.number (step_events w s at)
 step_events_rise w s at = step_events_rise-at w s at (s.halts Pre)

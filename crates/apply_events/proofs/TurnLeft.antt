@@ -14,7 +14,7 @@ use Rattle.apply_events.specs.declared.what.What.TheVariants.{Halted, Start}
 use Rattle.apply_events.specs.ChangeEvents.{begun, in_turn}
 use Rattle.apply_events.specs.Course.{GivesNext, is_beginning}
 use Rattle.apply_events.specs.Stages.{events_from}
-use Rattle.apply_events.specs.Step.{Step, Work, kinds_of, step_of, steps_of}
+use Rattle.apply_events.specs.Step.{Step, Work, kinds_applied, step_of, steps_of}
 use Rattle.apply_events.specs.StepEvents.{event, goes_on, started, step_events, step_time}
 use Rattle.apply_events.specs.BeforeStep.{before_step, begins_with, stops_at}
 use Rattle.apply_events.specs.Waits.Turn.{single, turns, whole}
@@ -77,13 +77,13 @@ whole_begins : (w : Work) (lane at c : ℕ) → Begins w lane at (whole w c)
 whole_begins w lane at c =
     let size = length-steps_of w c in
     let es = in_turn (step_events lane) step_time (begun (steps_of w c)) at in
-    let end = 0 + length (kinds_of w.plan c) in
+    let end = 0 + length (kinds_applied w.plan w.script c) in
     let low : (e : Event) → Contains es e → e.step < end = λ e there. (let high = (all_low w lane at c 0 e there).1 in omega arith) in (
       ap (stops_at end) (sym (append-nil es)) ∙ stops_all end es [] low,
-      before_all end es low ∙ ap (λ steps. in_turn (step_events lane) step_time (begun steps) at) (sym (take_all (length (kinds_of w.plan c)) (steps_of w c) (omega arith))),
+      before_all end es low ∙ ap (λ steps. in_turn (step_events lane) step_time (begun steps) at) (sym (take_all (length (kinds_applied w.plan w.script c)) (steps_of w c) (omega arith))),
     )
 
-second_begins_turn : (w : Work) (lane at c : ℕ) → length (kinds_of w.plan c) ≡ 2 → Begins w lane at (single c 1)
+second_begins_turn : (w : Work) (lane at c : ℕ) → length (kinds_applied w.plan w.script c) ≡ 2 → Begins w lane at (single c 1)
 second_begins_turn w lane at c two =
     let size = length-steps_of w c in
     let left = length-drop 1 (steps_of w c) in
@@ -135,8 +135,8 @@ same_number a b same = ⊎_elim
     (λ (c : _ × (a ≢ b)). absurd (true≢false (sym same ∙ ne_eqb a b c.1)))
     (eqb_tells a b)
 
-two_steps : (w : Work) (c : ℕ) → is_split w c ≡ true → length (kinds_of w.plan c) ≡ 2
-two_steps w c split = same_number (length (kinds_of w.plan c)) 2 (and_parts (eqb (length (kinds_of w.plan c)) 2) _ split).0
+two_steps : (w : Work) (c : ℕ) → is_split w c ≡ true → length (kinds_applied w.plan w.script c) ≡ 2
+two_steps w c split = same_number (length (kinds_applied w.plan w.script c)) 2 (and_parts (eqb (length (kinds_applied w.plan w.script c)) 2) _ split).0
 
 turn_begins_of : (w : Work) (lane at c : ℕ) (turn : Turn) → IsTurnOf w c turn → Begins w lane at turn
 turn_begins_of w lane at c turn (inl all) = subst (Begins w lane at) (sym all.1) (whole_begins w lane at c)

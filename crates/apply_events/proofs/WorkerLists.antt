@@ -3,7 +3,7 @@ use Rattle.std.proofs.Common.{◌≡◌, ℕ, ◌+◌, All, true, false, List, [
 use Rattle.std.specs.Prelude.{is_some, option_map, option_to_list, sum_by}
 use Rattle.std.specs.List.{enumerate_from}
 use Rattle.std.proofs.lemmas.List.{append-nil}
-use Rattle.std.proofs.lemmas.List.Elements.{All-append, All-cons, All-nil}
+use Rattle.std.proofs.lemmas.List.Elements.{All-append, All-cons, All-nil, All-weaker}
 use Rattle.std.proofs.lemmas.List.Sums.{sum_by-cons}
 use Rattle.apply_model.specs.declared.plan.step_kind.StepKind.{StepKind}
 use Rattle.apply_hooks.specs.declared.phase.Phase.{Phase}
@@ -12,10 +12,11 @@ use Rattle.apply_events.specs.declared.event.Event.{Event}
 use Rattle.apply_events.specs.declared.what.What.{What}
 use Rattle.apply_events.specs.declared.what.What.TheVariants.{Halted, Start}
 use Rattle.apply_events.specs.ChangeEvents.{begun, change_events, in_turn, span_of}
-use Rattle.apply_events.specs.Fits.{HasStep}
-use Rattle.apply_events.specs.Step.{Step, Work, kinds_of, step_of, steps_of}
+use Rattle.apply_events.specs.Fits.{HasStep, IsApplied}
+use Rattle.apply_events.specs.Step.{Step, Work, kinds_applied, step_of, steps_of}
 use Rattle.apply_events.specs.StepEvents.{between, endings, event, goes_on, halts, phase_after, seconds_of, started, step_events, step_time}
 use Rattle.apply_events.specs.WorkerEvents.{worker_events}
+use Rattle.apply_events.proofs.AppliedSteps.{applied_planned}
 
 -- ---- what holds of whatever happens to a step holds of its events
 
@@ -50,7 +51,7 @@ all-step P w s at h = all-step-at P w s at (s.halts Pre) h
     all-step-at P w s at None h = all-started P w s at h
     all-step-at P w s at (Some hook) h = all-halts P w s Pre at (Some hook) h
 
--- ---- the steps of a change are the plan's
+-- ---- the steps of a change are those that are applied
 
 abbrev AllSuit : (Event → Type 0) → (worker : ℕ) → List Step → Type 0
 AllSuit P w [] = Unit {0}
@@ -66,26 +67,39 @@ all-steps P w [] at h = All-nil P
 all-steps P w (s ∷ steps) at h =
     All-append P (step_events w s at) (in_turn (step_events w) step_time steps (at + step_time s)) (all-step P w s at h.0) (all-steps P w steps (at + step_time s) h.1)
 
+abbrev pub IsOfApplied : Work → Event → Type 0
+IsOfApplied work e = IsApplied work.plan work.script e.change e.step
+
+applied : (work : Work) (w c n : ℕ) (kinds : List StepKind) → n + length kinds ≡ length (kinds_applied work.plan work.script c)
+    → AllSuit (IsOfApplied work) w (map (λ p. step_of work c p.0 p.1) (enumerate_from n kinds))
+applied work w c n [] whole = tt
+applied work w c n (kind ∷ kinds) whole = (λ at what. omega arith, applied work w c (n + 1) kinds (omega arith))
+
+pub change_applied : (work : Work) (w c at : ℕ) → All (IsOfApplied work) (change_events work w c at)
+change_applied work w c at =
+    all-steps (IsOfApplied work) w (begun (steps_of work c)) at
+    (AllSuit-begun (IsOfApplied work) w (steps_of work c) (applied work w c 0 (kinds_applied work.plan work.script c) (omega arith)))
+
+all-changes : (work : Work) (w : ℕ) (changes : List ℕ) (at : ℕ) → All (IsOfApplied work) (in_turn (change_events work w) (span_of work) changes at)
+all-changes work w [] at = All-nil (IsOfApplied work)
+all-changes work w (c ∷ changes) at =
+    All-append (IsOfApplied work) (change_events work w c at) (in_turn (change_events work w) (span_of work) changes (at + span_of work c)) (change_applied work w c at) (all-changes work w changes (at + span_of work c))
+
+pub worker_applied : (work : Work) (w : ℕ) (changes : List ℕ) → All (IsOfApplied work) (worker_events work w changes)
+worker_applied work w changes = all-changes work w changes 0
+
+-- and so the plan has them
 abbrev pub IsPlanned : Work → Event → Type 0
 IsPlanned work e = HasStep work.plan e.change e.step
 
-planned : (work : Work) (w c n : ℕ) (kinds : List StepKind) → n + length kinds ≡ length (kinds_of work.plan c)
-    → AllSuit (IsPlanned work) w (map (λ p. step_of work c p.0 p.1) (enumerate_from n kinds))
-planned work w c n [] whole = tt
-planned work w c n (kind ∷ kinds) whole = (λ at what. omega arith, planned work w c (n + 1) kinds (omega arith))
+all-planned : (work : Work) (events : List Event) → All (IsOfApplied work) events → All (IsPlanned work) events
+all-planned work events all = All-weaker (IsOfApplied work) (IsPlanned work) (λ e. applied_planned work.plan work.script e.change e.step) events all
 
 pub change_planned : (work : Work) (w c at : ℕ) → All (IsPlanned work) (change_events work w c at)
-change_planned work w c at =
-    all-steps (IsPlanned work) w (begun (steps_of work c)) at
-    (AllSuit-begun (IsPlanned work) w (steps_of work c) (planned work w c 0 (kinds_of work.plan c) (omega arith)))
-
-all-changes : (work : Work) (w : ℕ) (changes : List ℕ) (at : ℕ) → All (IsPlanned work) (in_turn (change_events work w) (span_of work) changes at)
-all-changes work w [] at = All-nil (IsPlanned work)
-all-changes work w (c ∷ changes) at =
-    All-append (IsPlanned work) (change_events work w c at) (in_turn (change_events work w) (span_of work) changes (at + span_of work c)) (change_planned work w c at) (all-changes work w changes (at + span_of work c))
+change_planned work w c at = all-planned work (change_events work w c at) (change_applied work w c at)
 
 pub worker_planned : (work : Work) (w : ℕ) (changes : List ℕ) → All (IsPlanned work) (worker_events work w changes)
-worker_planned work w changes = all-changes work w changes 0
+worker_planned work w changes = all-planned work (worker_events work w changes) (worker_applied work w changes)
 
 -- ---- one change more
 

@@ -1,5 +1,5 @@
 -- The events of a change, and how long it takes.
-use Rattle.std.specs.Prelude.{ℕ, ◌+◌, List, [], ◌∷◌, ◌++◌, sum_by, if◌then◌else◌}
+use Rattle.std.specs.Prelude.{ℕ, ◌+◌, List, [], ◌∷◌, ◌++◌, sum_by, take, if◌then◌else◌}
 use Rattle.apply_events.specs.declared.event.Event.{Event}
 use Rattle.apply_events.specs.Step.{Step, Work, steps_of}
 use Rattle.apply_events.specs.StepEvents.{goes_on, step_events, step_time}
@@ -17,6 +17,10 @@ begun (step ∷ steps) = step ∷ (if goes_on step then begun steps else [])
 -- the events of change c, which begins at a moment
 abbrev pub change_events : Work → (worker c at : ℕ) → List Event
 change_events work worker c at = in_turn (step_events worker) step_time (begun (steps_of work c)) at
+
+-- how long its first step takes, in seconds
+abbrev pub first_time : Work → ℕ → ℕ
+first_time work c = sum_by step_time (take 1 (steps_of work c))
 
 -- how long change c takes, in seconds
 abbrev pub span_of : Work → ℕ → ℕ

@@ -2,6 +2,7 @@
 use Rattle.std.specs.Prelude.{ℕ, ◌<◌, ◌≤◌, ◌==◌, length, slice_get, Bool, true, false, ◌&&◌, not, nat_lt, IsTrue}
 use Rattle.std.specs.List.{list_any}
 use Rattle.std.specs.Option.{option_map_or}
+use Rattle.apply_model.specs.declared.plan.step_kind.StepKind.{StepKind}
 use Rattle.apply_model.specs.declared.script.outcome.Outcome.{Outcome}
 use Rattle.apply_model.specs.declared.script.provisioner.Provisioner.{Provisioner}
 use Rattle.apply_model.specs.Plan.SavedPlan.{SavedPlan}
@@ -14,7 +15,7 @@ use Rattle.apply_events.specs.declared.event.Event.{Event}
 use Rattle.apply_events.specs.declared.what.What.{What}
 use Rattle.apply_events.specs.declared.what.What.TheVariants.{Start, Progress, Complete, Errored, ErrorNote, WarnNote, Halted, ProvisionStart, ProvisionOutput, ProvisionComplete, ProvisionErrored}
 use Rattle.apply_events.specs.ProgressTimes.{progress_times}
-use Rattle.apply_events.specs.Step.{has_warning, kinds_of}
+use Rattle.apply_events.specs.Step.{has_warning, kinds_applied, kinds_of}
 
 -- the greatest moment of an event, in seconds: 10,000 changes of two steps, each of a day
 abbrev pub last_moment : ℕ
@@ -27,6 +28,10 @@ max_span = 172800
 -- the plan has step k of change c
 abbrev pub HasStep : SavedPlan → (c k : ℕ) → Type 0
 HasStep plan c k = k < length (kinds_of plan c)
+
+-- it is applied: no step of the change up to it is skipped
+abbrev pub IsApplied : SavedPlan → OutcomeMap → (c k : ℕ) → Type 0
+IsApplied plan script c k = k < length (kinds_applied plan script c)
 
 -- the event is of the plan, which has its step, and it comes in time
 pub record IsOfPlan (plan : SavedPlan) (event : Event) : Type 0 where
@@ -43,21 +48,27 @@ may_be_asked fails PostFailed = fails
 abbrev pub runs : Outcome → (i : ℕ) → (Provisioner → Bool) → Bool
 runs outcome i test = option_map_or test (slice_get (ran outcome.provisioners) i) false
 
--- it can happen to a step with that outcome
-abbrev pub can_happen : Outcome → What → Bool
-can_happen outcome Start = true
-can_happen outcome (Progress seconds) = list_any (λ time. time == seconds) (progress_times (took outcome))
-can_happen outcome (Complete seconds) = not (fails outcome) && seconds == took outcome
-can_happen outcome (Errored seconds) = fails outcome && seconds == took outcome
-can_happen outcome ErrorNote = fails outcome
-can_happen outcome WarnNote = not (fails outcome) && has_warning outcome.result
-can_happen outcome (Halted phase hook) = may_be_asked (fails outcome) phase && nat_lt hook max_hooks
-can_happen outcome (ProvisionStart i) = runs outcome i (λ provisioner. true)
-can_happen outcome (ProvisionOutput i line) = runs outcome i (λ provisioner. nat_lt line (length provisioner.output))
-can_happen outcome (ProvisionComplete i) = runs outcome i (λ provisioner. not (has_failed provisioner))
-can_happen outcome (ProvisionErrored i) = runs outcome i has_failed
+-- it can happen to a step of that kind with that outcome
+abbrev pub can_happen : StepKind → Outcome → What → Bool
+can_happen kind outcome Start = true
+can_happen kind outcome (Progress seconds) = list_any (λ time. time == seconds) (progress_times (took kind outcome))
+can_happen kind outcome (Complete seconds) = not (fails outcome) && seconds == took kind outcome
+can_happen kind outcome (Errored seconds) = fails outcome && seconds == took kind outcome
+can_happen kind outcome ErrorNote = fails outcome
+can_happen kind outcome WarnNote = not (fails outcome) && has_warning outcome.result
+can_happen kind outcome (Halted phase hook) = may_be_asked (fails outcome) phase && nat_lt hook max_hooks
+can_happen kind outcome (ProvisionStart i) = runs outcome i (λ provisioner. true)
+can_happen kind outcome (ProvisionOutput i line) = runs outcome i (λ provisioner. nat_lt line (length provisioner.output))
+can_happen kind outcome (ProvisionComplete i) = runs outcome i (λ provisioner. not (has_failed provisioner))
+can_happen kind outcome (ProvisionErrored i) = runs outcome i has_failed
+
+-- the event can happen to its step, which is applied
+abbrev pub happens : SavedPlan → OutcomeMap → Event → Bool
+happens plan script event =
+    option_map_or (λ kind. can_happen kind (outcome_of script event.change event.step) event.what)
+    (slice_get (kinds_applied plan script event.change) event.step) false
 
 -- the event can happen; the worker is not looked at
 pub record Fits (plan : SavedPlan) (script : OutcomeMap) (event : Event) : Type 0 where
   pub of_plan : IsOfPlan plan event
-  pub can_happen : IsTrue (can_happen (outcome_of script event.change event.step) event.what)
+  pub happens : IsTrue (happens plan script event)

@@ -4,26 +4,25 @@ use Rattle.apply_model.specs.declared.script.provisioner.Provisioner.{Provisione
 use Rattle.apply_model.specs.Script.Outcome.{seconds_of_all}
 use Rattle.apply_events.specs.declared.mid_step.MidStep.{MidStep}
 use Rattle.apply_events.specs.declared.what.What.{What}
-use Rattle.apply_events.specs.Provisions.{along, progress, provisions, results}
+use Rattle.apply_events.specs.Provisions.{along, progress, results}
 
--- after how many seconds provisioner i begins, behind a provider that takes so many
-abbrev pub since : (provider : ℕ) → List Provisioner → (i : ℕ) → ℕ
-since provider ran i = provider + seconds_of_all (take i ran)
+-- after how many seconds provisioner i begins, behind a provider that takes so many before them
+abbrev pub since : (before : ℕ) → List Provisioner → (i : ℕ) → ℕ
+since before ran i = before + seconds_of_all (take i ran)
 
--- what is left where the first of the provisioners has begun, and has told some of its outputs
+-- what is left of a step of d seconds where the first of the provisioners has begun, and has told some of its outputs
 abbrev pub amid : (d told i line since : ℕ) → List Provisioner → List (ℕ × What)
 amid d told i line since [] = []
 amid d told i line since (provisioner ∷ others) =
     progress d told (since + provisioner.seconds)
     ++ map (λ what. (since + provisioner.seconds, what)) (results i line provisioner)
-    ++ provisions d (i + 1) (since + provisioner.seconds) others
+    ++ along d (since + provisioner.seconds) (i + 1) (since + provisioner.seconds) others
 
 -- what is left before provisioner i begins, or after
-abbrev pub left_at : (provider : ℕ) → List Provisioner → (told i : ℕ) → (outputs : Option ℕ) → List (ℕ × What)
-left_at provider ran told i None = along (provider + seconds_of_all ran) told i (since provider ran i) (drop i ran)
-left_at provider ran told i (Some line) =
-    amid (provider + seconds_of_all ran) told i line (since provider ran i) (drop i ran)
+abbrev pub left_at : (d before : ℕ) → List Provisioner → (told i : ℕ) → (outputs : Option ℕ) → List (ℕ × What)
+left_at d before ran told i None = along d told i (since before ran i) (drop i ran)
+left_at d before ran told i (Some line) = amid d told i line (since before ran i) (drop i ran)
 
--- what is left of a step whose provider takes so many seconds, and whose provisioners ran so
-abbrev pub left_of : (provider : ℕ) → List Provisioner → MidStep → List (ℕ × What)
-left_of provider ran mid = left_at provider ran mid.told mid.provisioner mid.outputs
+-- what is left of a step that takes d seconds, whose provider takes so many before the provisioners, which ran so
+abbrev pub left_of : (d before : ℕ) → List Provisioner → MidStep → List (ℕ × What)
+left_of d before ran mid = left_at d before ran mid.told mid.provisioner mid.outputs

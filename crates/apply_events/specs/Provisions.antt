@@ -26,15 +26,14 @@ results i line provisioner =
     map (λ j. ProvisionOutput i j) (range_with_len line (length provisioner.output - line))
     ++ provision_end i provisioner ∷ []
 
--- provisioners one after another, of which the first is number i, and begins after so many seconds
-abbrev pub provisions : (d i since : ℕ) → List Provisioner → List (ℕ × What)
-provisions d i since [] = []
-provisions d i since (provisioner ∷ others) =
-    (since, ProvisionStart i) ∷ []
-    ++ progress d since (since + provisioner.seconds)
-    ++ map (λ what. (since + provisioner.seconds, what)) (results i 0 provisioner)
-    ++ provisions d (i + 1) (since + provisioner.seconds) others
-
--- the progress up to some seconds, and then the provisioners
+-- Provisioners one after another, of which the first is number i and begins after so many seconds, in a step of d seconds:
+-- the progress before each that is later than one number of seconds, its start, the progress within it, and what it tells
+-- when it ends. Behind the last one comes the progress up to the end of the step.
 abbrev pub along : (d after i since : ℕ) → List Provisioner → List (ℕ × What)
-along d after i since provisioners = progress d after since ++ provisions d i since provisioners
+along d after i since [] = progress d after d
+along d after i since (provisioner ∷ others) =
+    progress d after since
+    ++ (since, ProvisionStart i)
+    ∷ (progress d since (since + provisioner.seconds)
+    ++ map (λ what. (since + provisioner.seconds, what)) (results i 0 provisioner)
+    ++ along d (since + provisioner.seconds) (i + 1) (since + provisioner.seconds) others)

@@ -16,7 +16,7 @@ use Rattle.apply_events.specs.StepEvents.{endings, event, halts, goes_on, phase_
 -- a step that has started at a moment
 abbrev pub running : (worker : ℕ) → Step → (at : ℕ) → MidStep → List Event
 running worker step at mid =
-    map (λ p. event worker step (at + p.0) p.1) (left_of step.provider_seconds step.ran mid)
+    map (λ p. event worker step (at + p.0) p.1) (left_of (seconds_of step) step.seconds_before step.ran mid)
     ++ map (λ what. event worker step (at + seconds_of step) what) (endings step)
     ++ halts worker step (phase_after step.fails) (at + seconds_of step)
 

@@ -11,7 +11,7 @@ use Rattle.apply_events.specs.Step.{Step}
 
 -- how long a step takes that no hook halts before it, in seconds: its provider, and the provisioners that run
 abbrev pub seconds_of : Step → ℕ
-seconds_of step = step.provider_seconds + seconds_of_all step.ran
+seconds_of step = step.seconds_before + seconds_of_all step.ran + step.seconds_behind
 
 -- something happens to a step at a moment
 abbrev pub event : (worker : ℕ) → Step → (at : ℕ) → What → Event
@@ -38,10 +38,10 @@ notes fails warns = if fails then ErrorNote ∷ [] else if warns then WarnNote �
 abbrev pub endings : Step → List What
 endings step = end_of step.fails (seconds_of step) ∷ notes step.fails step.warns
 
--- what happens to a step between its start and its end, and after how many seconds: progress up to the provider's end,
--- and then the provisioners, with the progress that falls within each
+-- what happens to a step between its start and its end, and after how many seconds: the provisioners, the first of them
+-- behind what the provider does before them, with the progress before, within and behind them
 abbrev pub between : Step → List (ℕ × What)
-between step = along (seconds_of step) 0 0 step.provider_seconds step.ran
+between step = along (seconds_of step) 0 0 step.seconds_before step.ran
 
 -- the step starts at a moment, and ends
 abbrev pub started : (worker : ℕ) → Step → (at : ℕ) → List Event

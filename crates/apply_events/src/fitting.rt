@@ -5,22 +5,23 @@ ghost use Rattle.std.specs.List.{list_any};
 ghost use Rattle.std.specs.Option.{option_copied, option_map_or};
 ghost use Rattle.apply_model.specs.Script.Outcome.{has_failed, ran};
 ghost use Rattle.apply_model.specs.Script.OutcomeMap.{outcome_of};
-ghost use Rattle.apply_events.specs.Fits.{Fits, HasStep, IsOfPlan, can_happen, may_be_asked};
+ghost use Rattle.apply_events.specs.Fits.{Fits, HasStep, IsOfPlan, can_happen, happens, may_be_asked};
 ghost use Rattle.apply_events.specs.ProgressTimes.{progress_times};
 
+use crate::applied::{applied_steps, kind_at};
 use crate::event::{Event, LATEST};
 use crate::provisioners_that_run::that_ran;
 use crate::step_facts::StepFacts;
 use crate::what::What;
 use apply_hooks::{MAX_HOOKS, Phase};
-use apply_model::{Plan, Provisioner, Script};
+use apply_model::{Plan, Provisioner, Script, StepKind};
 
-/// Whether the event can happen under some hooks: the plan has its step, `at` is `LATEST` at most, and `what` can happen
-/// to a step with that outcome. The worker is not looked at.
+/// Whether the event can happen under some hooks: the plan has its step, the script skips no step of its change up to it,
+/// `at` is `LATEST` at most, and `what` can happen to a step with that outcome. The worker is not looked at.
 pub fn fits(plan: &Plan, script: &Script, event: &Event) -> bool
     ensures { IsTrue result ↔ Fits plan.now script.now event.now }
 {
-    is_of_plan(plan, event) && can_happen(script, event)
+    is_of_plan(plan, event) && happens(plan, script, event)
 }
 
 /// Whether the event is of the plan: the plan has its step, and `at` is `LATEST` at most.
@@ -37,15 +38,28 @@ fn has_step(plan: &Plan, event: &Event) -> bool
     event.change < plan.len() && (event.step as usize) < plan.change(event.change).steps().len()
 }
 
-/// Whether it can happen to the event's step, which ends as the script says.
-fn can_happen(script: &Script, event: &Event) -> bool
-    ensures { result ≡ can_happen (outcome_of script.now event.now.change event.now.step) event.now.what }
+/// Whether it can happen to the event's step, which is applied, and ends as the script says.
+fn happens(plan: &Plan, script: &Script, event: &Event) -> bool
+    ensures { result ≡ happens plan.now script.now event.now }
+{
+    if event.change >= plan.len() {
+        return false;
+    }
+    match kind_at(applied_steps(plan, script, event.change), event.step) {
+        Some(kind) => can_happen(script, kind, event),
+        None => false,
+    }
+}
+
+/// Whether it can happen to the event's step, which is of that kind, and ends as the script says.
+fn can_happen(script: &Script, kind: StepKind, event: &Event) -> bool
+    ensures { result ≡ can_happen kind (outcome_of script.now event.now.change event.now.step) event.now.what }
 {
     let StepFacts {
         seconds,
         fails,
         warns,
-    } = StepFacts::new(script, event.change, event.step);
+    } = StepFacts::new(script, event.change, event.step, kind);
     match event.what {
         What::Start => true,
         What::Progress(after) => is_progress_time(after, seconds),

@@ -2,6 +2,7 @@
 //! changes that are dealt out to workers, and of events that several workers report.
 #![tactic(auto)]
 
+mod applied;
 mod counts;
 mod event;
 mod fitting;
@@ -25,7 +26,11 @@ pub use lanes::moment::Moment;
 pub use lanes::taken::Taken;
 pub use lanes::turn::Turn;
 pub use lanes::{Lanes, MAX_LANES};
-pub use laws::{a_further_change_comes_behind, totals_of_joined_lists_add_up};
+pub use laws::{
+    a_change_whose_first_step_is_skipped_has_no_event, a_further_change_comes_behind,
+    no_event_is_of_a_skipped_step, totals_of_joined_lists_add_up,
+    where_no_step_is_skipped_all_are_applied,
+};
 pub use partition::{
     a_partition_for_one_worker_is_all_numbers_in_order, a_rising_list_fits_below_its_limit,
     a_rising_list_rises_on, workers_in_order_stand_once,

@@ -1,14 +1,14 @@
 //! How far a step is between its start and its end.
 
-ghost use Rattle.std.specs.Prelude.{◌≡◌, ◌+◌, ◌≤◌, ◌∷◌, [], ℕ, List, None, Some, IfNone, IfSome};
+ghost use Rattle.std.specs.Prelude.{◌≡◌, ◌≤◌, ◌∷◌, [], ℕ, List, None, Some, IfNone, IfSome};
 ghost use Rattle.apply_model.specs.declared.script.provisioner.Provisioner.{Provisioner};
 ghost use Rattle.apply_model.specs.Script.Limits.{max_seconds};
-ghost use Rattle.apply_model.specs.Script.Outcome.{ran, seconds_of_all, took};
+ghost use Rattle.apply_model.specs.Script.Outcome.{ran, seconds_before, took};
 ghost use Rattle.apply_events.specs.Provisions.{provision_end};
 
 use crate::provisioners_that_run::{begin_of, that_ran};
 use crate::what::What;
-use apply_model::{Outcome, Provisioner};
+use apply_model::{Outcome, Provisioner, StepKind};
 
 /// How far a step is that has started and has not ended.
 #[derive(Clone, Copy)]
@@ -24,12 +24,12 @@ pub struct MidStep {
 impl MidStep {
     ghost use Rattle.apply_events.specs.Course.{GivesNext};
     ghost use Rattle.apply_events.specs.MidStep.{left_of};
-    ghost use Rattle.apply_events.specs.Provisions.{along, times_within};
+    ghost use Rattle.apply_events.specs.Provisions.{along, progress, times_within};
 
     /// A step that has just started.
     pub fn new() -> MidStep
-        ensures { (provider : ℕ) (provisioners : List Provisioner) → left_of provider provisioners result
-            ≡ along (provider + seconds_of_all provisioners) 0 0 provider provisioners }
+        ensures { (d before : ℕ) (provisioners : List Provisioner)
+            → left_of d before provisioners result ≡ along d 0 0 before provisioners }
     {
         MidStep {
             told: 0,
@@ -38,34 +38,38 @@ impl MidStep {
         }
     }
 
-    /// What happens next, and after how many seconds. `None` where nothing more does before the step ends.
-    pub fn next(&mut self, outcome: &Outcome) -> Option<(u32, What)>
-        requires short { took outcome.now ≤ max_seconds }
-        ensures next { GivesNext (left_of outcome.now.seconds (ran outcome.now.provisioners) self.old) result
-            (left_of outcome.now.seconds (ran outcome.now.provisioners) self.new) }
-        ensures in_time { IfSome result (λ told. told.0 ≤ took outcome.now) }
+    /// What happens next to a step of that kind, and after how many seconds. `None` where nothing more does before the step
+    /// ends.
+    pub fn next(&mut self, outcome: &Outcome, kind: StepKind) -> Option<(u32, What)>
+        requires short { took kind outcome.now ≤ max_seconds }
+        ensures next { GivesNext
+            (left_of (took kind outcome.now) (seconds_before kind outcome.now) (ran outcome.now.provisioners) self.old) result
+            (left_of (took kind outcome.now) (seconds_before kind outcome.now) (ran outcome.now.provisioners) self.new) }
+        ensures in_time { IfSome result (λ told. told.0 ≤ took kind outcome.now) }
     {
         match self.outputs {
-            None => self.begin(outcome),
-            Some(line) => self.run(outcome, line),
+            None => self.begin(outcome, kind),
+            Some(line) => self.run(outcome, kind, line),
         }
     }
 
-    /// What happens next, where the provisioner at hand has not begun: progress, or that it begins.
-    fn begin(&mut self, outcome: &Outcome) -> Option<(u32, What)>
-        requires short { took outcome.now ≤ max_seconds }
+    /// What happens next, where the provisioner at hand has not begun: progress, or that it begins. Behind the last one
+    /// there is progress up to the end of the step.
+    fn begin(&mut self, outcome: &Outcome, kind: StepKind) -> Option<(u32, What)>
+        requires short { took kind outcome.now ≤ max_seconds }
         requires outputs { self.old.outputs ≡ None }
-        ensures next { GivesNext (left_of outcome.now.seconds (ran outcome.now.provisioners) self.old) result
-            (left_of outcome.now.seconds (ran outcome.now.provisioners) self.new) }
-        ensures in_time { IfSome result (λ told. told.0 ≤ took outcome.now) }
+        ensures next { GivesNext
+            (left_of (took kind outcome.now) (seconds_before kind outcome.now) (ran outcome.now.provisioners) self.old) result
+            (left_of (took kind outcome.now) (seconds_before kind outcome.now) (ran outcome.now.provisioners) self.new) }
+        ensures in_time { IfSome result (λ told. told.0 ≤ took kind outcome.now) }
     {
-        let begin = begin_of(outcome, self.provisioner);
-        if let Some(time) = self.next_time(outcome.took(), begin) {
-            self.told = time;
-            return Some((time, What::Progress(time)));
-        }
+        let whole = outcome.took(kind);
         if that_ran(outcome, self.provisioner).is_none() {
-            return None;
+            return self.tell_until(whole, whole);
+        }
+        let begin = begin_of(outcome, kind, self.provisioner);
+        if let Some(told) = self.tell_until(whole, begin) {
+            return Some(told);
         }
         self.told = begin;
         self.outputs = Some(0);
@@ -74,20 +78,20 @@ impl MidStep {
 
     /// What happens next, where the provisioner at hand has begun and told so many outputs: progress, an output, or that
     /// it ends.
-    fn run(&mut self, outcome: &Outcome, line: u8) -> Option<(u32, What)>
-        requires short { took outcome.now ≤ max_seconds }
+    fn run(&mut self, outcome: &Outcome, kind: StepKind, line: u8) -> Option<(u32, What)>
+        requires short { took kind outcome.now ≤ max_seconds }
         requires outputs { self.old.outputs ≡ Some line }
-        ensures next { GivesNext (left_of outcome.now.seconds (ran outcome.now.provisioners) self.old) result
-            (left_of outcome.now.seconds (ran outcome.now.provisioners) self.new) }
-        ensures in_time { IfSome result (λ told. told.0 ≤ took outcome.now) }
+        ensures next { GivesNext
+            (left_of (took kind outcome.now) (seconds_before kind outcome.now) (ran outcome.now.provisioners) self.old) result
+            (left_of (took kind outcome.now) (seconds_before kind outcome.now) (ran outcome.now.provisioners) self.new) }
+        ensures in_time { IfSome result (λ told. told.0 ≤ took kind outcome.now) }
     {
         let Some(provisioner) = that_ran(outcome, self.provisioner) else {
             return None;
         };
-        let end = begin_of(outcome, self.provisioner) + provisioner.seconds;
-        if let Some(time) = self.next_time(outcome.took(), end) {
-            self.told = time;
-            return Some((time, What::Progress(time)));
+        let end = begin_of(outcome, kind, self.provisioner) + provisioner.seconds;
+        if let Some(told) = self.tell_until(outcome.took(kind), end) {
+            return Some(told);
         }
         if line < provisioner.output.len() {
             self.outputs = Some(line + 1);
@@ -95,9 +99,23 @@ impl MidStep {
             return Some((end, What::ProvisionOutput { prov, line }));
         }
         let what = end_of(self.provisioner, provisioner);
+        self.told = end;
         self.provisioner += 1;
         self.outputs = None;
         Some((end, what))
+    }
+
+    /// Tells the next progress of a step that takes `whole` seconds, if there is one no later than `until`.
+    fn tell_until(&mut self, whole: u32, until: u32) -> Option<(u32, What)>
+        requires short { whole ≤ max_seconds }
+        ensures none { IfNone result ((progress whole self.old.told until ≡ []) × (self.new ≡ self.old)) }
+        ensures some { IfSome result (λ told. progress whole self.old.told until ≡ told ∷ progress whole self.new.told until) }
+        ensures same { (self.new.provisioner ≡ self.old.provisioner) × (self.new.outputs ≡ self.old.outputs) }
+        ensures in_time { IfSome result (λ told. told.0 ≤ until) }
+    {
+        let time = self.next_time(whole, until)?;
+        self.told = time;
+        Some((time, What::Progress(time)))
     }
 
     /// The next progress of a step that takes `whole` seconds, if there is one no later than `until`.

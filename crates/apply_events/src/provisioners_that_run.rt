@@ -3,10 +3,10 @@
 ghost use Rattle.std.specs.Prelude.{◌≡◌, ◌<◌, ◌≤◌, slice_get, IfSome};
 ghost use Rattle.std.specs.Option.{option_copied};
 ghost use Rattle.apply_model.specs.Script.Limits.{max_provisioners, max_seconds};
-ghost use Rattle.apply_model.specs.Script.Outcome.{ran, took};
+ghost use Rattle.apply_model.specs.Script.Outcome.{ran, seconds_before, took};
 ghost use Rattle.apply_events.specs.MidStep.{since};
 
-use apply_model::{Outcome, Provisioner};
+use apply_model::{Outcome, Provisioner, StepKind};
 
 /// The provisioner of that number, where it runs.
 pub fn that_ran(outcome: &Outcome, number: u8) -> Option<&Provisioner>
@@ -21,12 +21,13 @@ pub fn that_ran(outcome: &Outcome, number: u8) -> Option<&Provisioner>
     }
 }
 
-/// After how many seconds it begins: after those of the provider, and of the provisioners before it that run.
-pub fn begin_of(outcome: &Outcome, number: u8) -> u32
-    requires { took outcome.now ≤ max_seconds }
-    ensures { result ≡ since outcome.now.seconds (ran outcome.now.provisioners) number }
+/// After how many seconds it begins, in a step of that kind: after those of the provider before the provisioners, and of
+/// the provisioners before it that run.
+pub fn begin_of(outcome: &Outcome, kind: StepKind, number: u8) -> u32
+    requires { took kind outcome.now ≤ max_seconds }
+    ensures { result ≡ since (seconds_before kind outcome.now) (ran outcome.now.provisioners) number }
 {
-    let mut seconds = outcome.seconds;
+    let mut seconds = outcome.seconds_before(kind);
     for earlier in 0..number.min(outcome.provisioners.count_that_run()) {
         seconds += outcome.provisioners.get(earlier).seconds;
     }

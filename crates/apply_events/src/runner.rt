@@ -5,9 +5,13 @@ ghost use Rattle.apply_hooks.specs.Registry.{rules_of};
 ghost use Rattle.apply_model.specs.Script.Limits.{max_seconds};
 ghost use Rattle.apply_events.specs.Fits.{last_moment, max_span};
 ghost use Rattle.apply_events.specs.Stages.{is_on_course, time_behind};
-ghost use Rattle.apply_events.specs.Step.{steps_of};
 ghost use Rattle.std.specs.Prelude.{slice_get};
+ghost use Rattle.std.specs.Option.{option_map_or};
+ghost use Rattle.apply_model.specs.Script.Outcome.{took};
+ghost use Rattle.apply_model.specs.Script.OutcomeMap.{outcome_of};
+ghost use Rattle.apply_events.specs.Step.{kinds_applied, steps_of};
 
+use crate::applied::{applied_steps, kind_at};
 use crate::event::Event;
 use crate::mid_step::MidStep;
 use crate::stage::Stage;
@@ -53,10 +57,9 @@ pub struct Runner<'a> {
 impl<'a> Runner<'a> {
     ghost use Rattle.std.specs.Prelude.{[], ◌∷◌, ◌++◌, ◌↔◌, Some, IfSome, IfNone, drop, take};
     ghost use Rattle.std.specs.List.{list_all};
-    ghost use Rattle.apply_model.specs.Script.Outcome.{fails, took};
-    ghost use Rattle.apply_model.specs.Script.OutcomeMap.{outcome_of};
-    ghost use Rattle.apply_events.specs.ChangeEvents.{change_events, span_of};
-    ghost use Rattle.apply_events.specs.Fits.{HasStep};
+    ghost use Rattle.apply_model.specs.Script.Outcome.{fails};
+    ghost use Rattle.apply_events.specs.ChangeEvents.{change_events, first_time, span_of};
+    ghost use Rattle.apply_events.specs.Fits.{HasStep, IsApplied};
     ghost use Rattle.apply_events.specs.Course.{GivesNext, beginning_of, ended_of};
     ghost use Rattle.apply_events.specs.Runner.{course_of, left_of, to_come};
     ghost use Rattle.apply_events.specs.RunnerStep.{left_before, rest_of, step_at_hand};
@@ -106,20 +109,20 @@ impl<'a> Runner<'a> {
         change: u32,
         at: u64,
     ) -> Runner<'a>
-        requires has_step { HasStep plan.now change 0 }
+        requires has_step { IsApplied plan.now script.now change 0 }
         requires change { change < length plan.now.changes }
         requires went_on { list_all goes_on (take 1 (steps_of (record { plan = plan.now; script = script.now; hooks = rules_of registry.now }) change)) ≡ true }
-        requires late { took (outcome_of script.now change 0) ≤ at }
+        requires late { first_time (record { plan = plan.now; script = script.now; hooks = rules_of registry.now }) change ≤ at }
         requires in_time { at + max_seconds ≤ last_moment }
         ensures course { course_of result ≡ record {
           work = record { plan = plan.now; script = script.now; hooks = rules_of registry.now };
           worker = worker;
           change = change;
-          begin = at - took (outcome_of script.now change 0);
+          begin = at - first_time (record { plan = plan.now; script = script.now; hooks = rules_of registry.now }) change;
         } }
         ensures events { to_come result ≡ events_from worker (drop 1 (steps_of (course_of result).work change)) at }
     {
-        let before = StepFacts::new(script, change, 0).seconds;
+        let before = first_seconds(plan, script, change);
         Runner {
             plan,
             script,
@@ -200,11 +203,11 @@ impl<'a> Runner<'a> {
         ensures course { course_of self.new ≡ course_of self.old }
     {
         let mut mid = mid;
-        if let Some((after, what)) = self.happens(&mut mid) {
+        if let Some((after, what)) = self.happens(kind, &mut mid) {
             self.stage = Stage::Running(mid);
             return self.event(self.at + after as u64, what);
         }
-        let facts = self.facts();
+        let facts = self.facts(kind);
         let event = self.event(self.at + facts.seconds as u64, facts.end());
         if facts.has_note() {
             self.stage = Stage::Noting;
@@ -215,12 +218,12 @@ impl<'a> Runner<'a> {
     }
 
     /// What happens next to the step at hand before its end, and after how many seconds.
-    fn happens(&self, mid: &mut MidStep) -> Option<(u32, What)>
-        ensures next { GivesNext (left_before self.now mid.old) result (left_before self.now mid.new) }
+    fn happens(&self, kind: StepKind, mid: &mut MidStep) -> Option<(u32, What)>
+        ensures next { GivesNext (left_before self.now kind mid.old) result (left_before self.now kind mid.new) }
         ensures in_time { IfSome result (λ told. told.0 ≤ max_seconds) }
     {
         match self.script.outcome(self.change, self.step) {
-            Some(outcome) => mid.next(outcome),
+            Some(outcome) => mid.next(outcome, kind),
             None => None,
         }
     }
@@ -236,7 +239,7 @@ impl<'a> Runner<'a> {
         ensures in_time { result.at ≤ last_moment }
         ensures course { course_of self.new ≡ course_of self.old }
     {
-        let facts = self.facts();
+        let facts = self.facts(kind);
         let event = self.event(self.at + facts.seconds as u64, facts.note());
         self.finish(kind);
         event
@@ -253,7 +256,7 @@ impl<'a> Runner<'a> {
         ensures in_time { result.at ≤ last_moment }
         ensures course { course_of self.new ≡ course_of self.old }
     {
-        let facts = self.facts();
+        let facts = self.facts(kind);
         let phase = facts.phase_after();
         let event = self.event(self.at + facts.seconds as u64, What::Halted { phase, hook });
         self.pass(kind, Stage::Over);
@@ -269,7 +272,7 @@ impl<'a> Runner<'a> {
             ++ behind self.old.worker (step_at_hand self.old kind) (rest_of self.old) self.old.at }
         ensures course { course_of self.new ≡ course_of self.old }
     {
-        let facts = self.facts();
+        let facts = self.facts(kind);
         match self.halting(facts.phase_after(), kind) {
             Some(hook) => self.stage = Stage::Halting(hook),
             None if facts.fails => self.pass(kind, Stage::Over),
@@ -287,7 +290,7 @@ impl<'a> Runner<'a> {
             (self.old.at + seconds_of (step_at_hand self.old kind)) stage }
         ensures course { course_of self.new ≡ course_of self.old }
     {
-        let seconds = self.facts().seconds;
+        let seconds = self.facts(kind).seconds;
         self.at += seconds as u64;
         self.step += 1;
         self.stage = stage;
@@ -315,24 +318,27 @@ impl<'a> Runner<'a> {
         self.at
     }
 
-    /// What the step at hand does. `None` where all steps were passed.
+    /// What the step at hand does. `None` where all steps were passed, up to the first that is skipped.
     fn kind(&self) -> Option<StepKind>
         ensures step { IfSome result (λ kind. left_of self.now ≡ step_at_hand self.now kind ∷ rest_of self.now) }
         ensures few { IfSome result (λ _. self.now.step < 2) }
         ensures has_step { IfSome result (λ _. HasStep self.now.plan.now self.now.change self.now.step) }
         ensures none { IfNone result (left_of self.now ≡ []) }
     {
-        kind_at(self.plan.change(self.change).steps(), self.step)
+        kind_at(
+            applied_steps(self.plan, self.script, self.change),
+            self.step,
+        )
     }
 
     /// What the events of the step at hand take from its outcome.
-    fn facts(&self) -> StepFacts
-        ensures seconds { result.seconds ≡ took (outcome_of self.now.script.now self.now.change self.now.step) }
+    fn facts(&self, kind: StepKind) -> StepFacts
+        ensures seconds { result.seconds ≡ took kind (outcome_of self.now.script.now self.now.change self.now.step) }
         ensures fails { result.fails ≡ fails (outcome_of self.now.script.now self.now.change self.now.step) }
         ensures warns { result.warns ≡ has_warning (outcome_of self.now.script.now self.now.change self.now.step).result }
         ensures few { result.seconds ≤ max_seconds }
     {
-        StepFacts::new(self.script, self.change, self.step)
+        StepFacts::new(self.script, self.change, self.step, kind)
     }
 
     /// Something that happens to the step at hand.
@@ -370,9 +376,15 @@ impl<'a> Runner<'a> {
     }
 }
 
-/// What the step of that number does, if there is one.
-fn kind_at(steps: &[StepKind], step: u8) -> Option<StepKind>
-    ensures { result ≡ slice_get steps.now step }
+/// How long the first step of a change takes, in seconds, that no hook halts before it; 0 where no step is applied.
+fn first_seconds(plan: &Plan, script: &Script, change: u32) -> u32
+    requires { change < length plan.now.changes }
+    ensures seconds { result ≡ option_map_or (λ kind. took kind (outcome_of script.now change 0))
+        (slice_get (kinds_applied plan.now script.now change) 0) 0 }
+    ensures few { result ≤ max_seconds }
 {
-    steps.get(step as usize).copied()
+    match kind_at(applied_steps(plan, script, change), 0) {
+        Some(kind) => StepFacts::new(script, change, 0, kind).seconds,
+        None => 0,
+    }
 }

@@ -10,30 +10,30 @@ ghost use Rattle.apply_events.specs.StepEvents.{end_of, phase_after};
 
 use crate::what::What;
 use apply_hooks::Phase;
-use apply_model::{Ending, Script};
+use apply_model::{Ending, Script, StepKind};
 
 /// What the events of a step take from its outcome, without its texts.
 #[derive(Clone, Copy)]
 pub struct StepFacts {
     /// How long the step takes, in seconds, with the provisioners that run.
     pub seconds: u32,
-    /// Whether it fails: its provider does, or a provisioner.
+    /// Whether it fails: its provider does, or a provisioner makes it fail.
     pub fails: bool,
     /// Whether the provider warns.
     pub warns: bool,
 }
 
 impl StepFacts {
-    /// What the script says of a step of a change; done after 0 seconds where it says nothing.
-    pub fn new(script: &Script, change: u32, step: u8) -> StepFacts
-        ensures seconds { result.seconds ≡ took (outcome_of script.now change step) }
+    /// What the script says of a step of a change, which is of that kind; done after 0 seconds where it says nothing.
+    pub fn new(script: &Script, change: u32, step: u8, kind: StepKind) -> StepFacts
+        ensures seconds { result.seconds ≡ took kind (outcome_of script.now change step) }
         ensures fails { result.fails ≡ fails (outcome_of script.now change step) }
         ensures warns { result.warns ≡ has_warning (outcome_of script.now change step).result }
         ensures few { result.seconds ≤ max_seconds }
     {
         match script.outcome(change, step) {
             Some(outcome) => StepFacts {
-                seconds: outcome.took(),
+                seconds: outcome.took(kind),
                 fails: outcome.fails(),
                 warns: warns(&outcome.result),
             },

@@ -10,10 +10,12 @@ ghost use Rattle.apply_events_tests.specs.Halting.{halting};
 mod asking;
 mod changes;
 mod counting;
+mod deletes;
 mod fitting;
 mod lanes;
 mod notes;
 mod provisioners;
+mod skipped;
 
 use apply_events::{Counts, Event, LATEST, Lanes, Runner, What, fits, is_of_plan};
 use apply_hooks::{FnHook, HookCall, HookClosure, Phase, Registry, Rules, Verdict};
@@ -177,7 +179,14 @@ fn tells(
     text_is(rt, steps, found.trim_end(), wanted);
 }
 
-/// The same of each row of a table: the actions, the steps, and the events.
+/// Fails where the change with those actions is told otherwise under the script.
+fn tells_by(rt: &impl Abort, alloc: Global, actions: &str, script: &Script, wanted: &str) {
+    let registry = Registry::new(alloc);
+    let found = told(rt, alloc, plan_of(rt, alloc, actions), script, &registry);
+    text_is(rt, actions, found.trim_end(), wanted);
+}
+
+/// Fails where a row of a table has other events: the actions, the steps, and the events.
 fn rows_are_told(rt: &impl Abort, alloc: Global, registry: &Registry, table: &str) {
     for row in table.lines() {
         let (actions, rest) = parted(rt, row);

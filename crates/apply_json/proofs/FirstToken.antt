@@ -6,6 +6,7 @@ use Rattle.std.specs.Option.{ok_or}
 use Rattle.json.specs.declared.token.Token as token
 use Rattle.json.specs.declared.token.Token.TheVariants as variant
 use Rattle.json.specs.Token.{Token}
+use Rattle.json.specs.Json as json
 use Rattle.json.specs.Json.{parse_map, items, members, value}
 use Rattle.json.specs.Reads.{token_of}
 use Rattle.json.proofs.Grammar.{value_is, value-begin_array, value-begin_object}
@@ -64,6 +65,13 @@ module _ (depth : ℕ) (ts rest : List Token) (t : token.Token) (first : ts ≡ 
   pub object_too_deep : depth ≡ 0 → t ≡ variant.BeginObject → converted of_json (value depth ts) ≡ None
   unfolding value
   object_too_deep none is = ap (converted of_json) (ap₂ value none (begins variant.BeginObject is))
+
+  -- the same, before it is a tree
+  pub opened_array : 0 < depth → t ≡ variant.BeginArray → value depth ts ≡ parse_map json.array (items (value (depth - 1)) (length rest) rest)
+  opened_array some is = ap (value depth) (begins variant.BeginArray is) ∙ value-begin_array depth rest some
+
+  pub opened_object : 0 < depth → t ≡ variant.BeginObject → value depth ts ≡ parse_map json.object (members (value (depth - 1)) (length rest) rest)
+  opened_object some is = ap (value depth) (begins variant.BeginObject is) ∙ value-begin_object depth rest some
 
   pub read_array : 0 < depth → t ≡ variant.BeginArray → converted of_json (value depth ts) ≡ parse_map array (converted of_items (items (value (depth - 1)) (length rest) rest))
   read_array some is =

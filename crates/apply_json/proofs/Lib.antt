@@ -1,6 +1,9 @@
+pub mod Copied
 pub mod FirstToken
 pub mod Gathered
 pub mod Held
+pub mod Keeping
+pub mod KeepingTurns
 pub mod Trees
 pub mod Trimmed
 pub mod Turns

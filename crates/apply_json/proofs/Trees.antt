@@ -1,5 +1,5 @@
 -- What a parsed text says of its bytes.
-use Rattle.std.proofs.Common.{◌≡◌, ℕ, suc, true, false, List, [], ◌∷◌, length, Some, None, refl, ap, ⊎_elim}
+use Rattle.std.proofs.Common.{◌≡◌, ℕ, suc, Bool, true, false, List, [], ◌∷◌, length, Some, None, refl, ap, ⊎_elim}
 use Rattle.std.specs.Str.{IsUtf8, is_utf8}
 use Rattle.std.proofs.lemmas.Bool.{cases_Bool}
 use Rattle.std.proofs.lemmas.Str.{IsUtf8-from_is_utf8, is_utf8-from_IsUtf8}
@@ -8,10 +8,14 @@ use Rattle.serde_json.specs.Events.{items_len}
 use Rattle.serde_json.specs.Read.{read}
 use Rattle.serde_json.specs.View.{items_view}
 use Rattle.serde_json.specs.declared.value.Value.{Value}
+use Rattle.apply_json.specs.Keeping.{keeping_tree_of, keeping_tree_of_text}
 use Rattle.apply_json.specs.Tree.{tree_of}
 
 pub tree_is : (bytes : List ℕ) (tree : Data) → IsUtf8 bytes → read bytes ≡ Some tree → tree_of bytes ≡ Some tree
 tree_is bytes tree utf8 found = rw (is_utf8-from_IsUtf8 bytes utf8) found
+
+pub kept_tree_is : (kept : List ℕ → Bool) (bytes : List ℕ) (tree : Data) → IsUtf8 bytes → keeping_tree_of_text kept bytes ≡ Some tree → keeping_tree_of kept bytes ≡ Some tree
+kept_tree_is kept bytes tree utf8 found = rw (is_utf8-from_IsUtf8 bytes utf8) found
 
 pub no_tree : (bytes : List ℕ) → (IsUtf8 bytes → read bytes ≡ None) → tree_of bytes ≡ None
 no_tree bytes refused =

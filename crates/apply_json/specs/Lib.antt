@@ -1,3 +1,4 @@
+pub mod Keeping
 pub mod Parsed
 pub mod Seen
 pub mod Tokens

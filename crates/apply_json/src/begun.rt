@@ -1,6 +1,7 @@
 //! How a value begins.
 
 ghost use Rattle.std.specs.Prelude.{◌≡◌, ◌<◌, length, IfOk, OnErr, OnOk};
+ghost use Rattle.apply_json.specs.Keeping.{HasOpened};
 ghost use Rattle.apply_json.specs.Tokens.{HasBegun, IsNoValue};
 
 use crate::number::number;
@@ -22,6 +23,7 @@ pub enum Begun<'a> {
 #[inline(always)]
 pub fn begin<'a>(reader: &mut Reader<'a>, depth: usize) -> Result<Begun<'a>, Invalid>
     ensures ok { IfOk result (λ begun. HasBegun begun depth reader.old reader.new) }
+    ensures opened { IfOk result (λ begun. HasOpened begun depth reader.old reader.new) }
     ensures err { OnErr result (IsNoValue depth reader.old) }
     ensures shorter { OnOk result (length reader.new < length reader.old) }
 {

@@ -4,11 +4,13 @@ ghost use Rattle.std.specs.Prelude.{◌≡◌, ◌≤◌, length, Err, None, IfO
 ghost use Rattle.serde_json.specs.Data.{Data, no_members};
 ghost use Rattle.serde_json.specs.Read.{read as read_text};
 ghost use Rattle.serde_json.specs.View.{view};
+ghost use Rattle.apply_json.specs.Keeping.{IsNoKeptTree, keeping_tree_of, keeping_tree_of_text};
 ghost use Rattle.apply_json.specs.Seen.{members_in};
 ghost use Rattle.apply_json.specs.Tree.{tree_of};
 ghost use Rattle.apply_json.specs.Parsed.{IsNoTree, IsTrimmedTree};
 
 use crate::json_fault::JsonFault;
+use crate::keeping_slots::{KeepingSlots, read_kept_object};
 use crate::read_fault::ReadFault;
 use crate::shape::Shape;
 use crate::slots::{Slots, read_object};
@@ -111,6 +113,67 @@ fn read_whole<'a, S: Slots<'a>>(
 {
     let mut reader = Reader::new(text, scratch)?;
     read_object(alloc, &mut reader, MAX_DEPTH, slots)?;
+    if reader.next().is_some() {
+        return Err(ReadFault::NotJson);
+    }
+    Ok(())
+}
+
+/// Reads the members of the object that the bytes are, of which there may be `most`, into slots, where the values of some
+/// members are kept as their own texts. Bytes that are another value have none. `scratch` grows to the length of the bytes.
+/// `Err` as `parse`.
+pub fn read_kept_slots<'a, S: KeepingSlots<'a>>(
+    alloc: Global,
+    scratch: &'a mut Scratch,
+    bytes: &'a [u8],
+    most: usize,
+    slots: &mut S,
+) -> Result<(), JsonFault>
+    requires { S.holds slots.old slots.old no_members }
+    ensures ok { OnOk result ((length bytes.now ≤ most)
+        × ((tree : Data) × (keeping_tree_of S.kept bytes.now ≡ Some tree) × S.holds slots.old slots.new (members_in tree))) }
+    ensures err { IfErr result (λ fault. IsNoKeptTree S.kept most fault bytes.now) }
+{
+    match read_kept_bytes(alloc, scratch, bytes, most, slots) {
+        Ok(()) => Ok(()),
+        Err(fault) => Err(fault),
+    }
+}
+
+/// The same, refused as no tree at all.
+fn read_kept_bytes<'a, S: KeepingSlots<'a>>(
+    alloc: Global,
+    scratch: &'a mut Scratch,
+    bytes: &'a [u8],
+    most: usize,
+    slots: &mut S,
+) -> Result<(), JsonFault>
+    requires { S.holds slots.old slots.old no_members }
+    ensures ok { OnOk result ((length bytes.now ≤ most)
+        × ((tree : Data) × (keeping_tree_of S.kept bytes.now ≡ Some tree) × S.holds slots.old slots.new (members_in tree))) }
+    ensures err { IfErr result (λ fault. IsNoTree most fault bytes.now) }
+{
+    let text = text_of(bytes, most)?;
+    match read_whole_kept(alloc, scratch, text, slots) {
+        Ok(()) => Ok(()),
+        Err(ReadFault::NotJson) => Err(JsonFault::NotJson),
+        Err(ReadFault::Memory) => Err(JsonFault::Memory),
+    }
+}
+
+/// Reads the members of the object that the text is.
+fn read_whole_kept<'a, S: KeepingSlots<'a>>(
+    alloc: Global,
+    scratch: &'a mut Scratch,
+    text: &'a str,
+    slots: &mut S,
+) -> Result<(), ReadFault>
+    requires { S.holds slots.old slots.old no_members }
+    ensures ok { OnOk result ((tree : Data) × (keeping_tree_of_text S.kept text.now ≡ Some tree) × S.holds slots.old slots.new (members_in tree)) }
+    ensures err { result ≡ Err ReadFault.NotJson → read_text text.now ≡ None }
+{
+    let mut reader = Reader::new(text, scratch)?;
+    read_kept_object(alloc, &mut reader, MAX_DEPTH, slots)?;
     if reader.next().is_some() {
         return Err(ReadFault::NotJson);
     }

@@ -1,10 +1,18 @@
 //! What saved Terraform plans (JSON Output Format 1.x) and scripts of outcomes are, apart from how they are read.
 #![tactic(auto)]
 
+mod details;
 mod plan;
 mod script;
 mod text;
 
+pub use details::change_details::ChangeDetails;
+pub use details::importing::Importing;
+pub use details::note::Note;
+pub use details::output::Output;
+pub use details::previous_resource::PreviousResource;
+pub use details::reason::Reason;
+pub use details::severity::Severity;
 pub use plan::action::Action;
 pub use plan::address::relative_address;
 pub use plan::change::Change;
@@ -19,6 +27,7 @@ pub use script::ending::Ending;
 pub use script::outcome::{MAX_SECONDS, Outcome};
 pub use script::provisioner::Provisioner;
 pub use script::provisioners::{MAX_PROVISIONERS, Provisioners};
+pub use script::script_step::ScriptStep;
 pub use script::step_outcomes::StepOutcomes;
 pub use script::texts::{MAX_OUTPUTS, Texts};
 pub use script::wait::Wait;

@@ -4,6 +4,7 @@ pub mod Entries
 pub mod Forgotten
 pub mod Found
 pub mod Held
+pub mod Kept
 pub mod Limits
 pub mod Numbers
 pub mod OneEntry

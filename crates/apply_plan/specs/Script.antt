@@ -1,6 +1,7 @@
 -- Scripts: how they are read, and what is seen of the types that read one. What they are is passed on.
 pub use Rattle.apply_model.specs.Script.Limits
 pub use Rattle.apply_model.specs.Script.Outcome
+pub use Rattle.apply_model.specs.Script.Step
 pub use Rattle.apply_model.specs.Script.Waits
 pub mod Beginning
 pub mod ChangeNumbers

@@ -6,6 +6,7 @@ mod accepted;
 mod elements;
 mod limits;
 mod outcomes;
+mod own_texts;
 mod passing;
 mod plain;
 mod plans;
@@ -13,6 +14,7 @@ mod provisioners;
 mod provisioning;
 mod script_members;
 mod scripts;
+mod skipped;
 mod table;
 mod waits;
 

@@ -6,7 +6,7 @@ use Rattle.std.proofs.lemmas.Bool.Decides.{eqb_tells}
 use Rattle.std.proofs.lemmas.List.Elements.{All-contains_itself, All-weaker, Contains-append_right, filter-append}
 use Rattle.apply_events.specs.declared.event.Event.{Event}
 use Rattle.apply_events.specs.Interleaving.{IsInterleaving}
-use Rattle.apply_events.specs.Step.{Work, kinds_of}
+use Rattle.apply_events.specs.Step.{Work, kinds_applied}
 use Rattle.apply_events.specs.declared.lanes.taken.Taken.{Taken}
 use Rattle.apply_events.specs.Waits.Done.{done_among, done_at, done_in, first_found}
 use Rattle.apply_events.specs.declared.lanes.moment.Moment.{Moment}
@@ -18,6 +18,7 @@ use Rattle.apply_events.specs.Waits.TakenUp.{WereTakenUp}
 use Rattle.apply_events.specs.Waits.TimeLine.{InOrder, Precedes, lane_turns, moment_from, moment_of, turn_events}
 use Rattle.apply_events.specs.declared.lanes.turn.Turn.{Turn}
 use Rattle.apply_events.specs.Waits.Turn.{begun_steps, single, waits_of_turn, whole}
+use Rattle.apply_events.proofs.AppliedSteps.{few_applied}
 use Rattle.apply_events.proofs.Rising as rising
 use Rattle.apply_events.proofs.StepNumbers.{in_turn_rise, number_of}
 use Rattle.apply_wait_laws.specs.Laws.{HasFewSteps, StandBehindWhatTheyWaitFor, has_events, is_of_step}
@@ -103,8 +104,8 @@ eq_from a b same = ⊎_elim
 
 -- ---- the second step of a change of one turn
 
-pub no_names : (w : Work) (c : ℕ) → length (kinds_of w.plan c) ≡ 2 → is_split w c ≡ false → names_some (named w c 1) ≡ false
-no_names w c two whole_one = sym (ap (λ t. t && names_some (named w c 1)) (eq-eqb (length (kinds_of w.plan c)) 2 two)) ∙ whole_one
+pub no_names : (w : Work) (c : ℕ) → length (kinds_applied w.plan w.script c) ≡ 2 → is_split w c ≡ false → names_some (named w c 1) ≡ false
+no_names w c two whole_one = sym (ap (λ t. t && names_some (named w c 1)) (eq-eqb (length (kinds_applied w.plan w.script c)) 2 two)) ∙ whole_one
 
 pub none_named : (names : List Wait) (name : Wait) → names_some names ≡ false → Contains names name → ⊥
 none_named [] name none h = not_in_none name h
@@ -181,8 +182,8 @@ module _ (w : Work) (n : ℕ) (taken : List Taken) (events : List Event) (up : W
     behind_is before behind e f (suc k) name is there its (inl all) number waits change step =
         let c = its.one.turn.change in
         let high = its.of.high in let count = ap (λ (t : Turn). t.count) all.1 in let first = ap (λ (t : Turn). t.first) all.1 in
-        let most = few c in
-        let two : length (kinds_of w.plan c) ≡ 2 = omega arith in ⊎_elim
+        let most = few c in let applied = few_applied w.plan w.script c in
+        let two : length (kinds_applied w.plan w.script c) ≡ 2 = omega arith in ⊎_elim
         (λ (here : record { change = e.change; step = k } ≡ name).
         let low = never_back before behind e f is there its all.0 (change ∙ sym (ap (λ (x : Wait). x.change) here)) in
         let is_k = ap (λ (x : Wait). x.step) here in omega arith)

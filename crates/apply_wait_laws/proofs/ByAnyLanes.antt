@@ -10,13 +10,14 @@ use Rattle.apply_events.specs.declared.event.Event.{Event}
 use Rattle.apply_events.specs.declared.lanes.moment.Moment.{Moment}
 use Rattle.apply_events.specs.declared.lanes.taken.Taken.{Taken}
 use Rattle.apply_events.specs.declared.lanes.turn.Turn.{Turn}
-use Rattle.apply_events.specs.Fits.{HasStep}
+use Rattle.apply_events.specs.Fits.{IsApplied}
 use Rattle.apply_events.specs.Interleaving.{IsInterleaving}
-use Rattle.apply_events.specs.Step.{Step, Work, kinds_of, step_of, steps_of}
+use Rattle.apply_events.specs.Step.{Step, Work, kinds_applied, step_of, steps_of}
 use Rattle.apply_events.specs.Waits.Done.{done_at}
 use Rattle.apply_events.specs.Waits.TakenUp.{WereTakenUp}
 use Rattle.apply_events.specs.Waits.TimeLine.{lane_turns}
 use Rattle.apply_events.specs.Waits.Turn.{begun_steps, waits_of_turn}
+use Rattle.apply_events.proofs.AppliedSteps.{few_applied}
 use Rattle.apply_events.proofs.StepNumbers.{steps_of-numbered}
 use Rattle.apply_events.proofs.Waits.Found.{found}
 use Rattle.apply_events.proofs.Waits.Members.{all_in, in_cases, in_head, not_in_none}
@@ -38,7 +39,7 @@ module _ (w : Work) (n : ℕ) (taken : List Taken) (events : List Event) (up : W
   abbrev HaveAll : List Taken → Type 0
   HaveAll ones = (one : Taken) → Contains ones one → HasAll one
 
-  has_step : (turn : Turn) (s : Step) → Contains (begun_steps w turn) s → HasStep w.plan turn.change s.number
+  has_step : (turn : Turn) (s : Step) → Contains (begun_steps w turn) s → IsApplied w.plan w.script turn.change s.number
   has_step turn s there =
       let high = (numbered_in 0 (steps_of w turn.change) s (steps_of-numbered w turn.change) (begun_of_change w turn s there)).1 in
       let size = length-steps_of w turn.change in omega arith
@@ -80,9 +81,9 @@ module _ (w : Work) (n : ℕ) (taken : List Taken) (events : List Event) (up : W
       by_number (suc k) number =
           let c = one.turn.change in
           let has = has_step one.turn s there in
-          let most = few c in
-          let size : length (kinds_of w.plan c) ≡ 2 = omega arith in
-          let two = has_two w c (omega arith) most in
+          let most = few c in let applied = few_applied w.plan w.script c in
+          let size : length (kinds_applied w.plan w.script c) ≡ 2 = omega arith in
+          let two = has_two w c (omega arith) (omega arith) in
           let is_one : s.number ≡ 1 = omega arith in
           let earlier = second_behind_first w c two s (subst (λ t. Contains (begun_steps w t) s) alone.1 there) is_one in
           let s0 = step_of w c 0 two.first in
@@ -92,7 +93,7 @@ module _ (w : Work) (n : ℕ) (taken : List Taken) (events : List Event) (up : W
           and_from (has_events others (record { change = c; step = 0 })) (goes_on_if_begun w (record { change = c; step = 0 })) first
           (goes_at w n taken events up line one.turn s0 (record { change = c; step = 0 }) mine refl refl ∙ earlier.1) in
           ap (λ j. has_events others (record { change = c; step = j })) is_one
-          ∙ exact c 1 (let lt : 1 < length (kinds_of w.plan c) = omega arith in lt)
+          ∙ exact c 1 (let lt : 1 < length (kinds_applied w.plan w.script c) = omega arith in lt)
           ∙ all_in (is_done_along w others) (waits_of w.script c 1) (λ name waited. ⊎_elim
           (λ (here : record { change = c; step = 0 } ≡ name). ap (is_done_along w others) (sym here) ∙ done)
           (λ (named_there : Contains (named w c 1) name). absurd (none_named (named w c 1) name (no_names w c size alone.0) named_there))

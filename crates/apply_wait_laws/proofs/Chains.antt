@@ -9,12 +9,13 @@ use Rattle.apply_events.specs.declared.lanes.moment.Moment.{Moment}
 use Rattle.apply_events.specs.declared.lanes.taken.Taken.{Taken}
 use Rattle.apply_events.specs.declared.lanes.turn.Turn.{Turn}
 use Rattle.apply_events.specs.ChangeEvents.{begun}
-use Rattle.apply_events.specs.Step.{Step, Work, kinds_of, step_of, steps_of}
+use Rattle.apply_events.specs.Step.{Step, Work, kinds_applied, step_of, steps_of}
 use Rattle.apply_events.specs.StepEvents.{goes_on, step_time}
 use Rattle.apply_events.specs.Waits.Done.{done_among, done_at, done_in}
 use Rattle.apply_events.specs.Waits.Moment.{later_by}
 use Rattle.apply_events.specs.Waits.TakenUp.{WereTakenUp}
 use Rattle.apply_events.specs.Waits.Turn.{begun_steps}
+use Rattle.apply_events.proofs.AppliedSteps.{few_applied}
 use Rattle.apply_events.proofs.StepNumbers.{AreNumbered}
 use Rattle.apply_events.proofs.Waits.Members.{in_cases, not_in_none}
 use Rattle.apply_events.proofs.Waits.Moments.{later_by_second}
@@ -78,11 +79,11 @@ module _ (w : Work) (n : ℕ) (taken : List Taken) (up : WereTakenUp w n taken) 
           let low = within.0 in
           let high = within.1 in
           let first : one.turn.first ≡ 0 = ap (λ (t : Turn). t.first) all.1 in
-          let count : one.turn.count ≡ length (kinds_of w.plan one.turn.change) = ap (λ (t : Turn). t.count) all.1 in
-          let most = few one.turn.change in
+          let count : one.turn.count ≡ length (kinds_applied w.plan w.script one.turn.change) = ap (λ (t : Turn). t.count) all.1 in
+          let most = few one.turn.change in let applied = few_applied w.plan w.script one.turn.change in
           let second : name.step ≡ 1 = one_left name.step (λ (e : name.step ≡ 0). apart (first ∙ sym e)) (omega arith) in
-          let size : length (kinds_of w.plan one.turn.change) ≡ 2 = omega arith in
-          let two = has_two w one.turn.change (omega arith) most in
+          let size : length (kinds_applied w.plan w.script one.turn.change) ≡ 2 = omega arith in
+          let two = has_two w one.turn.change (omega arith) (omega arith) in
           let a = step_of w one.turn.change 0 two.first in
           let b = step_of w one.turn.change 1 two.second in
           let rest = cond (goes_on b) [] [] in

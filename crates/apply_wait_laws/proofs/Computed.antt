@@ -46,3 +46,12 @@ nothing_to_do = refl
 
 pub ready_first_goes_first : example.ReadyFirstGoesFirst
 ready_first_goes_first = refl
+
+pub first_is_skipped : example.FirstIsSkipped
+first_is_skipped = refl
+
+pub second_is_skipped : example.SecondIsSkipped
+second_is_skipped = refl
+
+pub skipped_is_not_halted : example.SkippedIsNotHalted
+skipped_is_not_halted = refl

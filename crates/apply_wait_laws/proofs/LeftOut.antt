@@ -6,9 +6,9 @@ use Rattle.std.specs.Option.{option_map_or}
 use Rattle.std.proofs.lemmas.Bool.{and_from, and_parts, cases_Bool, cases_eq, true≢false}
 use Rattle.apply_model.specs.Plan.ResourceChange.{ResourceChange}
 use Rattle.apply_events.specs.declared.event.Event.{Event}
-use Rattle.apply_events.specs.Fits.{HasStep}
+use Rattle.apply_events.specs.Fits.{IsApplied}
 use Rattle.apply_events.specs.Interleaving.{IsInterleaving}
-use Rattle.apply_events.specs.Step.{Step, Work, kinds_of, step_of, steps_of}
+use Rattle.apply_events.specs.Step.{Step, Work, kinds_applied, step_of, steps_of}
 use Rattle.apply_events.specs.StepEvents.{goes_on}
 use Rattle.apply_events.specs.declared.lanes.taken.Taken.{Taken}
 use Rattle.apply_events.specs.Waits.Done.{done_at, done_by, done_in, first_found, later_if_both, ready_at}
@@ -24,11 +24,13 @@ use Rattle.apply_events.specs.declared.lanes.turn.Turn.{Turn}
 use Rattle.apply_events.specs.Waits.Turn.{begun_steps, single, turns, turns_of, waits_of_turn, whole}
 use Rattle.apply_wait_laws.specs.Laws.{BeginWhereAllIsDone, HasFewSteps, goes_on_if_begun, has_events, is_done_along, is_of_step}
 use Rattle.apply_wait_laws.proofs.Behind.{are_turns, eq_from, is_waited_for, no_names, none_named, single_count, waits_are}
+use Rattle.apply_events.proofs.AppliedSteps.{applied_planned, few_applied}
+use Rattle.apply_events.proofs.StepNumbers.{steps_of-numbered}
 use Rattle.apply_events.proofs.Waits.Found.{IsFound, found, told}
 use Rattle.apply_events.proofs.Waits.Members.{all_in, any_in, in_all, in_any, in_cases, in_flat_map, in_head, in_tail, not_in_none}
 use Rattle.apply_events.proofs.Waits.Once.{AreTurns, IsTurnOf, in_list, is_split, known_turn}
 use Rattle.apply_events.proofs.Waits.TurnEvents.{done_then, done_there, turn_has}
-use Rattle.apply_events.proofs.Waits.TurnSteps.{all_at, begun_of_change, first_begins, has_two, second_begins, second_behind_first, step_at_number}
+use Rattle.apply_events.proofs.Waits.TurnSteps.{all_at, begun_of_change, first_begins, has_two, length-steps_of, numbered_in, second_begins, second_behind_first, step_at_number}
 
 -- ---- the turn of a step
 
@@ -54,18 +56,18 @@ pub record HasTurn (w : Work) (c k : ℕ) : Type 0 where
   pub high : k < turn.first + turn.count
   pub which : IsTurnOf w c turn
 
-turn_among : (w : Work) (c k : ℕ) → HasStep w.plan c k → (t : Bool) → is_split w c ≡ t
+turn_among : (w : Work) (c k : ℕ) → IsApplied w.plan w.script c k → (t : Bool) → is_split w c ≡ t
     → (turn : Turn) × Contains (cond t (single c 0 ∷ single c 1 ∷ []) (whole w c ∷ [])) turn × (turn.change ≡ c) × (turn.first ≤ k) × (k < turn.first + turn.count) × IsTurnOf w c turn
 turn_among w c k has false is = (whole w c, in_head (whole w c) [], refl, omega arith, omega arith, inl (is, refl))
 turn_among w c zero has true is = (single c 0, in_head (single c 0) (single c 1 ∷ []), refl, omega arith, omega arith, inr (is, inl refl))
 turn_among w c (suc k) has true is =
-    let two = eq_from (length (kinds_of w.plan c)) 2 (and_parts (eqb (length (kinds_of w.plan c)) 2) _ is).0 in
+    let two = eq_from (length (kinds_applied w.plan w.script c)) 2 (and_parts (eqb (length (kinds_applied w.plan w.script c)) 2) _ is).0 in
     (single c 1, in_tail (single c 0) (single c 1 ∷ []) (single c 1) (in_head (single c 1) []), refl, omega arith, omega arith, inr (is, inr refl))
 
-has_turn : (w : Work) (c k : ℕ) → HasStep w.plan c k → HasTurn w c k
+has_turn : (w : Work) (c k : ℕ) → IsApplied w.plan w.script c k → HasTurn w c k
 has_turn w c k has =
     let found = turn_among w c k has (is_split w c) refl in
-    let lt = known_change w.plan.changes c k has in
+    let lt = known_change w.plan.changes c k (applied_planned w.plan w.script c k has) in
     record {
       turn = found.0;
       known = in_flat_map (turns_of w) (range_with_len 0 (length w.plan.changes)) c found.0 (in_range 0 (length w.plan.changes) c (omega arith) (omega arith)) found.1;
@@ -121,6 +123,18 @@ module _ (w : Work) (n : ℕ) (taken : List Taken) (events : List Event) (up : W
       let both = and_parts (eqb one.0.change name.change) (eqb one.0.step name.step) one.2 in
       (one.0, one.1, eq_from one.0.change name.change both.0, eq_from one.0.step name.step both.1)
 
+  -- only steps that are applied have events
+  pub only_applied : (name : Wait) → has_events events name ≡ true → IsApplied w.plan w.script name.change name.step
+  only_applied name some =
+      let e = has_is name some in
+      let its = found w n taken events line e.0 e.1 in
+      let turn = its.one.turn in
+      let s = its.of.step.0 in
+      let high = (numbered_in 0 (steps_of w turn.change) s (steps_of-numbered w turn.change) (begun_of_change w turn s its.of.step.1)).1 in
+      let size = length-steps_of w turn.change in
+      let number : name.step ≡ s.number = sym e.3 ∙ its.of.step.2 in
+      subst (λ c. IsApplied w.plan w.script c name.step) (sym its.of.change ∙ e.2) (let lt : IsApplied w.plan w.script turn.change name.step = omega arith in lt)
+
   -- whether a step of a turn goes on
   pub goes_at : (turn : Turn) (s : Step) (name : Wait) → Contains (begun_steps w turn) s → name.change ≡ turn.change → name.step ≡ s.number → goes_on_if_begun w name ≡ goes_on s
   goes_at turn s name there change step =
@@ -170,10 +184,10 @@ module _ (w : Work) (n : ℕ) (taken : List Taken) (events : List Event) (up : W
     all_done e (suc k) name its (inl all) number waits =
         let c = its.one.turn.change in
         let high = its.of.high in let count = ap (λ (t : Turn). t.count) all.1 in let first = ap (λ (t : Turn). t.first) all.1 in
-        let most = few c in
-        let size : length (kinds_of w.plan c) ≡ 2 = omega arith in ⊎_elim
+        let most = few c in let applied = few_applied w.plan w.script c in
+        let size : length (kinds_applied w.plan w.script c) ≡ 2 = omega arith in ⊎_elim
         (λ (here : record { change = e.change; step = k } ≡ name).
-        let two = has_two w c (omega arith) most in
+        let two = has_two w c (omega arith) (omega arith) in
         let s = its.of.step.0 in
         let second : s.number ≡ 1 = sym its.of.step.2 ∙ number ∙ omega arith in
         let earlier = second_behind_first w c two s (subst (λ t. Contains (begun_steps w t) s) all.1 its.of.step.1) second in
@@ -194,7 +208,7 @@ module _ (w : Work) (n : ℕ) (taken : List Taken) (events : List Event) (up : W
 
     -- ---- what waits for what is done has events
 
-    turn_begins : (c k : ℕ) (its : HasTurn w c k) → its.turn.first ≡ k → HasStep w.plan c k → list_all (is_done_along w events) (waits_of w.script c k) ≡ true → has_events events (record { change = c; step = k }) ≡ true
+    turn_begins : (c k : ℕ) (its : HasTurn w c k) → its.turn.first ≡ k → IsApplied w.plan w.script c k → list_all (is_done_along w events) (waits_of w.script c k) ≡ true → has_events events (record { change = c; step = k }) ≡ true
     turn_begins c k its first has done =
         let turn = its.turn in
         let high = its.high in
@@ -210,20 +224,20 @@ module _ (w : Work) (n : ℕ) (taken : List Taken) (events : List Event) (up : W
         let both : None ≡ Some ready.0 = sym never ∙ ready.1 in absurd cc)
         (cases_Bool (is_taken taken turn)) in
         let one = in_list w taken turn turns_ok its.known is in
-        let s = first_begins w turn some (subst (λ x. turn.first < length (kinds_of w.plan x)) (sym its.of_change) (let lt : k < length (kinds_of w.plan c) = has in omega arith)) in
+        let s = first_begins w turn some (subst (λ x. turn.first < length (kinds_applied w.plan w.script x)) (sym its.of_change) (let lt : k < length (kinds_applied w.plan w.script c) = has in omega arith)) in
         let e = turn_has w one.0 s.0 (subst (λ t. Contains (begun_steps w t) s.0) (sym one.2) s.1) in
         has_yes e.0 (record { change = c; step = k }) (told w n taken events line one.0 e.0 up.in_lanes one.1 e.1)
         (e.3 ∙ ap (λ (t : Turn). t.change) one.2 ∙ its.of_change) (e.2 ∙ s.2 ∙ first)
 
-    where_done : (c k : ℕ) (its : HasTurn w c k) → IsTurnOf w c its.turn → HasStep w.plan c k → list_all (is_done_along w events) (waits_of w.script c k) ≡ true
+    where_done : (c k : ℕ) (its : HasTurn w c k) → IsTurnOf w c its.turn → IsApplied w.plan w.script c k → list_all (is_done_along w events) (waits_of w.script c k) ≡ true
         → has_events events (record { change = c; step = k }) ≡ true
     where_done c k its (inr split) has done =
         let count = single_count split.1 in let low = its.low in let high = its.high in
         turn_begins c k its (omega arith) has done
     where_done c zero its (inl all) has done = turn_begins c 0 its (ap (λ (t : Turn). t.first) all.1) has done
     where_done c (suc k) its (inl all) has done =
-        let most = few c in
-        let two = has_two w c (omega arith) most in
+        let most = few c in let applied = few_applied w.plan w.script c in
+        let two = has_two w c (omega arith) (omega arith) in
         let before : Wait = record { change = c; step = k } in
         let is : is_done_along w events before ≡ true = in_all (is_done_along w events) (waits_of w.script c (suc k)) before done (in_head before (named w c (suc k))) in
         let both = and_parts (has_events events before) (goes_on_if_begun w before) is in

@@ -9,6 +9,7 @@ pub mod LastEvents
 mod LeftOut
 pub mod Named
 pub mod Queued
+pub mod Skipped
 pub mod UnderWay
 pub mod Waited
 pub mod WholeSteps

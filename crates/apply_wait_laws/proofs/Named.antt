@@ -4,11 +4,13 @@ use Rattle.std.specs.Prelude.{option_and_then, slice_get, unwrap_or}
 use Rattle.std.specs.List.{list_any}
 use Rattle.std.specs.Option.{option_map_or}
 use Rattle.std.proofs.lemmas.Bool.{true≢false}
-use Rattle.apply_model.specs.declared.script.outcome.Outcome.{Outcome}
+use Rattle.apply_model.specs.declared.script.script_step.ScriptStep.{ScriptStep}
+use Rattle.apply_model.specs.declared.script.script_step.ScriptStep.TheVariants.{Answered, Skipped}
 use Rattle.apply_model.specs.declared.script.wait.Wait.{Wait}
 use Rattle.apply_model.specs.Script.Outcome.{default_outcome}
 use Rattle.apply_model.specs.Script.OutcomeMap.{outcome_of}
-use Rattle.apply_model.specs.Script.Waits.{has_waits, names_a_wait, say_a_wait}
+use Rattle.apply_model.specs.Script.Step.{answer_to}
+use Rattle.apply_model.specs.Script.Waits.{has_a_wait, has_waits, say_a_wait}
 use Rattle.apply_events.specs.Step.{Work}
 
 -- those that it names for step k of change c
@@ -34,16 +36,18 @@ no_list : (names : List Wait) → names_some names ≡ false → names ≡ []
 no_list [] none = refl
 no_list (name ∷ names) none = absurd (true≢false (sym (lt-ltb 0 (length (name ∷ names)) (omega arith)) ∙ none))
 
-outcome_names_none : (found : Option Outcome) → option_map_or names_a_wait found false ≡ false → (unwrap_or found default_outcome).after ≡ []
-outcome_names_none None none = refl
-outcome_names_none (Some outcome) none = no_list outcome.after none
+step_names_none : (found : Option ScriptStep) → option_map_or has_a_wait found false ≡ false → (unwrap_or (option_and_then answer_to found) default_outcome).after ≡ []
+step_names_none None none = refl
+step_names_none (Some (Answered outcome)) none = no_list outcome.after none
+step_names_none (Some (Skipped after)) none = refl
 
-said_names_none : (said : Option (List Outcome)) (k : ℕ) → say_a_wait said ≡ false → (unwrap_or (option_and_then (λ (outcomes : List Outcome). slice_get outcomes k) said) default_outcome).after ≡ []
+said_names_none : (said : Option (List ScriptStep)) (k : ℕ) → say_a_wait said ≡ false
+    → (unwrap_or (option_and_then answer_to (option_and_then (λ (steps : List ScriptStep). slice_get steps k) said)) default_outcome).after ≡ []
 said_names_none None k none = refl
-said_names_none (Some outcomes) k none = outcome_names_none (slice_get outcomes k) (get_none names_a_wait outcomes k none)
+said_names_none (Some steps) k none = step_names_none (slice_get steps k) (get_none has_a_wait steps k none)
 
-script_names_none : (found : Option (Option (List Outcome))) (k : ℕ) → option_map_or say_a_wait found false ≡ false
-    → (unwrap_or (option_and_then (λ (outcomes : List Outcome). slice_get outcomes k) (option_and_then (λ (said : Option (List Outcome)). said) found)) default_outcome).after ≡ []
+script_names_none : (found : Option (Option (List ScriptStep))) (k : ℕ) → option_map_or say_a_wait found false ≡ false
+    → (unwrap_or (option_and_then answer_to (option_and_then (λ (steps : List ScriptStep). slice_get steps k) (option_and_then (λ (said : Option (List ScriptStep)). said) found))) default_outcome).after ≡ []
 script_names_none None k none = refl
 script_names_none (Some said) k none = said_names_none said k none
 

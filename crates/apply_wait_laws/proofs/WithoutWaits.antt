@@ -14,7 +14,7 @@ use Rattle.apply_events.specs.declared.event.Event.{Event}
 use Rattle.apply_events.specs.ChangeEvents.{begun, change_events, in_turn, span_of}
 use Rattle.apply_events.specs.Lanes.Dealing.{before, dealt, first_least, kept, lanes}
 use Rattle.apply_events.specs.Lanes.TimeLine as plain
-use Rattle.apply_events.specs.Step.{Step, Work, kinds_of, step_of, steps_of}
+use Rattle.apply_events.specs.Step.{Step, Work, kinds_applied, step_of, steps_of}
 use Rattle.apply_events.specs.StepEvents.{step_events, step_time}
 use Rattle.apply_events.specs.declared.lanes.taken.Taken.{Taken}
 use Rattle.apply_events.specs.Waits.Done.{done_by, end_behind, end_of_turn, ready_at}
@@ -145,7 +145,7 @@ NamesNone w = (c k : ℕ) → named w c k ≡ []
 -- a change begins in a lane, and all its steps are its turn's
 whole_steps : (w : Work) (c : ℕ) → begun_steps w (whole w c) ≡ begun (steps_of w c)
 whole_steps w c =
-    let kinds = kinds_of w.plan c in
+    let kinds = kinds_applied w.plan w.script c in
     let size : length (steps_of w c) ≡ length kinds =
     length-map (enumerate_from 0 kinds) (λ p. step_of w c p.0 p.1) ∙ length-enumerate_from 0 kinds in
     ap begun (take_all (length kinds) (steps_of w c) (omega arith))
@@ -153,7 +153,7 @@ whole_steps w c =
 module _ (w : Work) (none : NamesNone w) where
   one_turn : (c : ℕ) → turns_of w c ≡ whole w c ∷ []
   one_turn c =
-      let two = eqb (length (kinds_of w.plan c)) 2 in
+      let two = eqb (length (kinds_applied w.plan w.script c)) 2 in
       ap (λ names. cond (two && names_some names) (single c 0 ∷ single c 1 ∷ []) (whole w c ∷ [])) (none c 1) ∙ and_no two _ _
 
   turns_from : (a n : ℕ) → flat_map (turns_of w) (range_with_len a n) ≡ map (whole w) (range_with_len a n)
@@ -162,7 +162,7 @@ module _ (w : Work) (none : NamesNone w) where
 
   ready_now : (taken : List Taken) (c : ℕ) → ready_at w taken (whole w c) ≡ Some first_moment
   ready_now taken c =
-      let empty = eqb (length (kinds_of w.plan c)) 0 in
+      let empty = eqb (length (kinds_applied w.plan w.script c)) 0 in
       ap (λ names. done_by w taken (cond empty [] names)) (none c 0) ∙ ap (done_by w taken) (cond_same empty [])
 
   -- the first of some changes that was not taken up

@@ -6,6 +6,8 @@ use Rattle.apply_model.specs.declared.plan.step_kind.StepKind.{StepKind}
 use Rattle.apply_model.specs.declared.plan.step_kind.StepKind.TheVariants.{Create, Delete, Update}
 use Rattle.apply_model.specs.declared.script.ending.Ending.TheVariants.{Done, Failed}
 use Rattle.apply_model.specs.declared.script.outcome.Outcome.{Outcome}
+use Rattle.apply_model.specs.declared.script.script_step.ScriptStep.{ScriptStep}
+use Rattle.apply_model.specs.declared.script.script_step.ScriptStep.TheVariants.{Answered, Skipped}
 use Rattle.apply_model.specs.Plan.ResourceChange.{ResourceChange}
 use Rattle.apply_hooks.specs.declared.phase.Phase.TheVariants.{Pre}
 use Rattle.apply_hooks.specs.declared.rule.Rule.{Rule}
@@ -19,18 +21,22 @@ use Rattle.apply_model.specs.declared.script.wait.Wait.{Wait}
 
 -- ---- what is applied
 
--- a step, how long it takes, whether it fails, and what it waits for
+-- a step, how long it takes, whether it fails, whether it is skipped, and what it waits for
 pub record Planned : Type 0 where
   pub kind : StepKind
   pub seconds : ℕ
   pub fails : Bool
+  pub skipped : Bool
   pub waits : List Wait
 
 abbrev pub goes : StepKind → (seconds : ℕ) → List Wait → Planned
-goes kind seconds waits = record { kind = kind; seconds = seconds; fails = false; waits = waits }
+goes kind seconds waits = record { kind = kind; seconds = seconds; fails = false; skipped = false; waits = waits }
 
 abbrev pub failing : StepKind → (seconds : ℕ) → List Wait → Planned
-failing kind seconds waits = record { kind = kind; seconds = seconds; fails = true; waits = waits }
+failing kind seconds waits = record { kind = kind; seconds = seconds; fails = true; skipped = false; waits = waits }
+
+abbrev pub skipped : StepKind → List Wait → Planned
+skipped kind waits = record { kind = kind; seconds = 0; fails = false; skipped = true; waits = waits }
 
 abbrev pub step : (c k : ℕ) → Wait
 step c k = record { change = c; step = k }
@@ -56,11 +62,14 @@ outcome_of_planned planned = record {
   after = planned.waits;
 }
 
+abbrev pub step_of_planned : Planned → ScriptStep
+step_of_planned planned = if planned.skipped then Skipped planned.waits else Answered (outcome_of_planned planned)
+
 -- changes of these steps, under hooks with these rules
 abbrev pub work : List (List Rule) → List (List Planned) → Work
 work hooks changes = record {
   plan = record { version = []; changes = map change_of changes };
-  script = map (λ steps. Some (map outcome_of_planned steps)) changes;
+  script = map (λ steps. Some (map step_of_planned steps)) changes;
   hooks = hooks;
 }
 
@@ -187,3 +196,22 @@ ReadyFirstGoesFirst = Happens 1
     ((goes Create 1 [] ∷ []) ∷ (goes Create 1 (d ∷ []) ∷ []) ∷ (goes Create 1 (a ∷ []) ∷ []) ∷ (goes Create 1 [] ∷ []) ∷ (goes Create 5 [] ∷ []) ∷ [])
     (tell 0 a Start ∷ tell 1 a (Complete 1) ∷ tell 1 d Start ∷ tell 2 d (Complete 1) ∷ tell 2 e Start ∷ tell 7 e (Complete 5)
     ∷ tell 7 c Start ∷ tell 8 c (Complete 1) ∷ tell 8 b Start ∷ tell 9 b (Complete 1) ∷ [])
+
+-- ---- steps that are skipped
+
+-- a change whose first step is skipped has no event, and what waits for a step of it is left out
+abbrev pub FirstIsSkipped : Type 0
+FirstIsSkipped = Happens 2
+    ((skipped Delete [] ∷ goes Create 1 [] ∷ []) ∷ (goes Create 2 [] ∷ []) ∷ (goes Create 1 (a ∷ []) ∷ []) ∷ (goes Create 1 (step 0 1 ∷ []) ∷ []) ∷ [])
+    (tell 0 b Start ∷ tell 2 b (Complete 2) ∷ [])
+
+-- a change ends before its second step, where that one is skipped
+abbrev pub SecondIsSkipped : Type 0
+SecondIsSkipped = Happens 1
+    ((goes Create 1 [] ∷ skipped Delete (b ∷ []) ∷ []) ∷ (goes Update 3 (a ∷ []) ∷ []) ∷ (goes Create 1 (step 0 1 ∷ []) ∷ []) ∷ [])
+    (tell 0 a Start ∷ tell 1 a (Complete 1) ∷ tell 1 b Start ∷ tell 4 b (Complete 3) ∷ [])
+
+-- hooks are not asked of a step that is skipped
+abbrev pub SkippedIsNotHalted : Type 0
+SkippedIsNotHalted = map told (time_line (work no_updates ((skipped Update [] ∷ []) ∷ (goes Create 1 [] ∷ []) ∷ [])) 2)
+    ≡ tell 0 b Start ∷ tell 1 b (Complete 1) ∷ []

@@ -1,10 +1,10 @@
 -- Words of the laws of waits.
-use Rattle.std.specs.Prelude.{◌≡◌, ◌<◌, ◌≤◌, ◌↔◌, ℕ, ◌+◌, ◌++◌, ◌==◌, ◌&&◌, ◌∷◌, All, Bool, true, false, List, Some, get_or, length, not, slice_get, sum_by}
+use Rattle.std.specs.Prelude.{◌≡◌, ◌<◌, ◌≤◌, ◌↔◌, ◌⊎◌, ℕ, ◌+◌, ◌++◌, ◌==◌, ◌&&◌, ◌∷◌, All, Bool, true, false, List, Some, get_or, length, not, slice_get, sum_by}
 use Rattle.std.specs.List.{Contains, filter, list_all, list_any}
 use Rattle.std.specs.Option.{option_map_or}
 use Rattle.apply_events.specs.declared.event.Event.{Event}
 use Rattle.apply_events.specs.declared.lanes.taken.Taken.{Taken}
-use Rattle.apply_events.specs.Fits.{HasStep}
+use Rattle.apply_events.specs.Fits.{HasStep, IsApplied}
 use Rattle.apply_events.specs.Step.{Step, Work, kinds_of, steps_of}
 use Rattle.apply_events.specs.declared.lanes.moment.Moment.{Moment}
 use Rattle.apply_events.specs.Waits.Done.{end_of_turn, ready_at}
@@ -13,7 +13,8 @@ use Rattle.apply_events.specs.Waits.Schedule.{free_behind, is_taken}
 use Rattle.apply_events.specs.Waits.Turn.{begun_steps, turns}
 use Rattle.apply_events.specs.StepEvents.{goes_on, step_events, step_time}
 use Rattle.apply_model.specs.declared.script.wait.Wait.{Wait}
-use Rattle.apply_model.specs.Script.OutcomeMap.{outcome_of}
+use Rattle.apply_model.specs.Script.OutcomeMap.{OutcomeMap, given_step, outcome_of}
+use Rattle.apply_model.specs.Script.Step.{is_skipped}
 use Rattle.apply_model.specs.Script.Waits.{could_begin, waits_of}
 
 -- each change has two steps at most, as in every plan that was read
@@ -61,9 +62,9 @@ is_done_along work events name = has_events events name && goes_on_if_begun work
 abbrev pub has_stopped : Work → List Event → Wait → Bool
 has_stopped work events name = has_events events name && not (goes_on_if_begun work name)
 
--- a step of the plan has events exactly where each step that it waits for is done
+-- a step that is applied has events exactly where each step that it waits for is done
 abbrev pub BeginWhereAllIsDone : Work → List Event → Type 0
-BeginWhereAllIsDone work events = (c k : ℕ) → HasStep work.plan c k
+BeginWhereAllIsDone work events = (c k : ℕ) → IsApplied work.plan work.script c k
     → has_events events (record { change = c; step = k }) ≡ list_all (is_done_along work events) (waits_of work.script c k)
 
 -- ---- scripts that were read
@@ -72,21 +73,28 @@ BeginWhereAllIsDone work events = (c k : ℕ) → HasStep work.plan c k
 abbrev pub NamesSteps : Work → Type 0
 NamesSteps work = (c k : ℕ) → HasStep work.plan c k → All (λ name. HasStep work.plan name.change name.step) (outcome_of work.script c k).after
 
--- a step waits in vain: for one that has stopped, or for one that waits in vain
+-- the script skips the step
+abbrev pub skips : OutcomeMap → Wait → Bool
+skips script name = option_map_or is_skipped (given_step script name.change name.step) false
+
+-- a step waits in vain: for one that has stopped, or is skipped, or for one that waits in vain
 pub data WaitsInVain (work : Work) (events : List Event) : Wait → Type 0 where
   for_stopped : (name waited : Wait) → Contains (waits_of work.script name.change name.step) waited → has_stopped work events waited ≡ true
+      → WaitsInVain work events name
+  for_skipped : (name waited : Wait) → Contains (waits_of work.script name.change name.step) waited → skips work.script waited ≡ true
       → WaitsInVain work events name
   for_waiting : (name waited : Wait) → Contains (waits_of work.script name.change name.step) waited → WaitsInVain work events waited
       → WaitsInVain work events name
 
--- a step that could begin has no event exactly where it waits in vain
+-- a step that could begin has no event exactly where it is skipped or waits in vain
 abbrev pub LeaveOutWhatWaitsInVain : Work → List Event → Type 0
 LeaveOutWhatWaitsInVain work events = (c k : ℕ) → HasStep work.plan c k → could_begin work.script c k ≡ true
-    → (has_events events (record { change = c; step = k }) ≡ false ↔ WaitsInVain work events (record { change = c; step = k }))
+    → (has_events events (record { change = c; step = k }) ≡ false
+    ↔ ((skips work.script (record { change = c; step = k }) ≡ true) ⊎ WaitsInVain work events (record { change = c; step = k })))
 
--- where no step has stopped each that could begin has events
+-- where no step has stopped or is skipped each that could begin has events
 abbrev pub LeaveOutNoneWithoutNeed : Work → List Event → Type 0
-LeaveOutNoneWithoutNeed work events = ((name : Wait) → has_stopped work events name ≡ false)
+LeaveOutNoneWithoutNeed work events = ((name : Wait) → has_stopped work events name ≡ false) → ((name : Wait) → skips work.script name ≡ false)
     → (c k : ℕ) → HasStep work.plan c k → could_begin work.script c k ≡ true → has_events events (record { change = c; step = k }) ≡ true
 
 -- ---- how long it takes

@@ -19,4 +19,7 @@ pub fn worked_examples()
     ensures one_is_halted { example.OneIsHalted }
     ensures nothing_to_do { example.NothingToDo }
     ensures ready_first_goes_first { example.ReadyFirstGoesFirst }
+    ensures first_is_skipped { example.FirstIsSkipped }
+    ensures second_is_skipped { example.SecondIsSkipped }
+    ensures skipped_is_not_halted { example.SkippedIsNotHalted }
 {}

@@ -13,7 +13,7 @@ ghost use Rattle.apply_model.specs.Script.Waits.{has_waits};
 ghost use Rattle.apply_events.specs.declared.event.Event.{Event};
 ghost use Rattle.apply_events.specs.declared.lanes.moment.Moment.{Moment};
 ghost use Rattle.apply_events.specs.declared.lanes.taken.Taken.{Taken};
-ghost use Rattle.apply_events.specs.Fits.{IsOfPlan};
+ghost use Rattle.apply_events.specs.Fits.{IsApplied, IsOfPlan};
 ghost use Rattle.apply_events.specs.Lanes.TimeLine as plain;
 ghost use Rattle.apply_events.specs.Lanes.ToCome.{max_events};
 ghost use Rattle.apply_events.specs.Laws.{IsWithinLimits};
@@ -65,14 +65,18 @@ pub fn a_step_stands_behind_what_it_waits_for()
         → StandBehindWhatTheyWaitFor work events }
 {}
 
-/// A step has events exactly where each step that it waits for is done.
+/// A step that is not skipped, and has no skipped step before it in its change, has events exactly where each step that it
+/// waits for is done. No other step has any.
 pub fn a_step_begins_where_all_that_it_waits_for_is_done()
-    ensures { (work : Work) (n : ℕ) (events : List Event) → 0 < n → HasFewSteps work → IsTimeLine work n events
+    ensures begins { (work : Work) (n : ℕ) (events : List Event) → 0 < n → HasFewSteps work → IsTimeLine work n events
         → BeginWhereAllIsDone work events }
+    ensures applied { (work : Work) (n : ℕ) (events : List Event) → 0 < n → IsTimeLine work n events
+        → All (λ event. IsApplied work.plan work.script event.change event.step) events }
 {}
 
-/// Of a script that was read, a step has no events exactly where it waits, directly or through others, for a step that has
-/// failed or was halted; so that no step is left out where none has failed or was halted.
+/// Of a script that was read, a step has no events exactly where it is skipped, or waits, directly or through others, for a
+/// step that has failed, was halted or is skipped; so that no step is left out where none has failed, was halted or is
+/// skipped.
 pub fn what_waits_in_vain_is_left_out()
     ensures in_vain { (work : Work) (n : ℕ) (events : List Event) → 0 < n → HasFewSteps work → NamesSteps work
         → IsTimeLine work n events → LeaveOutWhatWaitsInVain work events }

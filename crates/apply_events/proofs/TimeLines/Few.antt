@@ -1,5 +1,5 @@
 -- How many events a change has at most.
-use Rattle.std.proofs.Common.{◌≡◌, ℕ, zero, suc, ◌+◌, ◌*◌, ◌<◌, ◌≤◌, All, true, false, List, [], ◌∷◌, ◌++◌, cond, length, length-append, map, Option, Some, None, refl, subst, arith}
+use Rattle.std.proofs.Common.{◌≡◌, ℕ, zero, suc, ◌+◌, ◌*◌, ◌<◌, ◌≤◌, All, true, false, List, [], ◌∷◌, ◌++◌, cond, length, length-append, map, Option, Some, None, subst, arith}
 use Rattle.std.specs.Prelude.{is_some, option_map, option_to_list, slice_get, unwrap_or, IfSome}
 use Rattle.std.specs.List.{enumerate_from}
 use Rattle.std.specs.Option.{option_map_or}
@@ -18,9 +18,10 @@ use Rattle.apply_events.specs.declared.event.Event.{Event}
 use Rattle.apply_events.specs.declared.what.What.{What}
 use Rattle.apply_events.specs.declared.what.What.TheVariants.{Halted, Start}
 use Rattle.apply_events.specs.ChangeEvents.{begun, change_events, in_turn}
-use Rattle.apply_events.specs.Step.{Step, Work, kinds_of, step_of}
+use Rattle.apply_events.specs.Step.{Step, Work, kinds_applied, kinds_of, step_of}
 use Rattle.apply_events.specs.StepEvents.{between, endings, event, goes_on, halts, notes, phase_after, seconds_of, started, step_events, step_time}
-use Rattle.apply_events.proofs.MidSteps.{ran_all, ran_few, ran_short}
+use Rattle.apply_events.proofs.AppliedSteps.{few_applied}
+use Rattle.apply_events.proofs.MidSteps.{ran_all, ran_few, took_short}
 use Rattle.apply_events.proofs.Provisions.{few_along}
 
 -- ---- a step
@@ -51,7 +52,7 @@ few_started : (w : ℕ) (s : Step) (at : ℕ) → IsSmall s → length (started 
 few_started w s at small =
     let beat : ℕ × What → Event = (λ p. event w s (at + p.0) p.1) in
     let tell : What → Event = (λ what. event w s (at + seconds_of s) what) in
-    let inside : length (between s) ≤ 9455 = few_along (seconds_of s) s.provider_seconds s.ran small.little small.few refl small.short in
+    let inside : length (between s) ≤ 9455 = few_along (seconds_of s) s.seconds_before s.ran small.little small.few (omega arith) small.short in
     let same : length (map beat (between s)) ≡ length (between s) = length-map (between s) beat in
     let last : length (map tell (endings s)) ≡ length (endings s) = length-map (endings s) tell in
     let note : length (notes s.fails s.warns) ≤ 1 = few_notes s.fails s.warns in
@@ -67,7 +68,7 @@ few_step w s at (Some hook) short = let one = few_found w s Pre at (Some hook) i
 pub small_step : (work : Work) (c n : ℕ) (kind : StepKind) → IsBounded (outcome_of work.script c n) → IsSmall (step_of work c n kind)
 small_step work c n kind bounded =
     let outcome = outcome_of work.script c n in
-    let less = ran_short outcome.provisioners in let most = ran_few outcome.provisioners in
+    let less = took_short kind outcome in let most = ran_few outcome.provisioners in
     let day = bounded.short in let eight = bounded.few_provisioners in
     record {
       short = omega arith;
@@ -99,7 +100,8 @@ bounded (Some outcome) within = within
 
 pub few_events : (work : Work) (w c at : ℕ) → length (kinds_of work.plan c) ≤ 2 → IsBounded (outcome_of work.script c 0) → IsBounded (outcome_of work.script c 1) → length (change_events work w c at) ≤ 18918
 few_events work w c at few first second =
-    let all = few_steps work w c 0 (kinds_of work.plan c) at (omega arith) (λ k lt. short_at k lt) in omega arith
+    let applied = few_applied work.plan work.script c in
+    let all = few_steps work w c 0 (kinds_applied work.plan work.script c) at (omega arith) (λ k lt. short_at k lt) in omega arith
   where
     short_at : (k : ℕ) → k < 2 → IsBounded (outcome_of work.script c k)
     short_at zero lt = first

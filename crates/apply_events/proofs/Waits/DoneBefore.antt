@@ -1,17 +1,16 @@
 -- A turn that begins with the second step of its change is taken up behind the first step, which has gone on.
-use Rattle.std.proofs.Common.{◌≡◌, ℕ, ◌≤◌, true, ◌&&◌, List, [], ◌∷◌, Option, Some, None, cond, map, take, refl, sym, ap, ◌∙◌, subst, ⊎_elim, ◌⊎◌, inl, inr, arith}
-use Rattle.std.specs.Prelude.{is_none, is_some, not, option_map, slice_get}
-use Rattle.std.specs.List.{Contains, enumerate_from, list_all}
-use Rattle.std.proofs.lemmas.Bool.{and_parts, cases_eq, true≢false}
-use Rattle.apply_hooks.specs.declared.phase.Phase.TheVariants.{Pre, PostDone}
-use Rattle.apply_model.specs.declared.plan.step_kind.StepKind.{StepKind}
+use Rattle.std.proofs.Common.{◌≡◌, ℕ, ◌+◌, ◌≤◌, true, ◌&&◌, List, [], ◌∷◌, Option, Some, None, sum_by, take, refl, sym, ap, ◌∙◌, subst, ⊎_elim, ◌⊎◌, inl, inr, arith}
+use Rattle.std.specs.Prelude.{option_map, slice_get}
+use Rattle.std.specs.List.{Contains, list_all}
+use Rattle.std.proofs.lemmas.Bool.{cases_eq}
+use Rattle.std.proofs.lemmas.List.Sums.{sum_by-cons}
 use Rattle.apply_model.specs.declared.script.wait.Wait.{Wait}
-use Rattle.apply_model.specs.Script.Outcome.{took}
 use Rattle.apply_model.specs.Script.OutcomeMap.{outcome_of}
 use Rattle.apply_events.specs.declared.lanes.moment.Moment.{Moment}
 use Rattle.apply_events.specs.declared.lanes.taken.Taken.{Taken}
-use Rattle.apply_events.specs.Step.{Step, Work, kinds_of, step_of, steps_of}
-use Rattle.apply_events.specs.StepEvents.{goes_on, seconds_of, step_time}
+use Rattle.apply_events.specs.ChangeEvents.{first_time}
+use Rattle.apply_events.specs.Step.{Step, Work, steps_of}
+use Rattle.apply_events.specs.StepEvents.{goes_on, step_time}
 use Rattle.apply_events.specs.Waits.Done.{done_among, done_at, done_by, done_in, first_found, later_if_both, ready_at}
 use Rattle.apply_events.specs.Waits.Moment.{IsNoLater, later_by, later_of, next_round}
 use Rattle.apply_events.specs.Waits.Turn.{begun_steps, single}
@@ -55,20 +54,15 @@ done_time k at (s ∷ steps) m is = ⊎_elim
     (rest.0, in_tail s steps rest.0 rest.1, rest.2, rest.3, rest.4))
     (cases_eq s.number k)
 
--- a step that goes on takes its time
-none_halts : (found : Option ℕ) (k : ℕ) → is_none found ≡ true → cond (is_some found) 0 k ≡ k
-none_halts None k none = refl
-none_halts (Some hook) k none = absurd (true≢false (sym none))
-
-whole_time : (s : Step) → goes_on s ≡ true → step_time s ≡ seconds_of s
-whole_time s on =
-    let all = and_parts (is_none (s.halts Pre) && not s.fails) (is_none (s.halts PostDone)) on in
-    let both = and_parts (is_none (s.halts Pre)) (not s.fails) all.0 in
-    none_halts (s.halts Pre) (seconds_of s) both.0
-
-first_seconds : (w : Work) (c : ℕ) (kinds : List StepKind) (s : Step) → slice_get (map (λ p. step_of w c p.0 p.1) (enumerate_from 0 kinds)) 0 ≡ Some s → seconds_of s ≡ took (outcome_of w.script c 0)
-first_seconds w c [] s is = absurd cc
-first_seconds w c (kind ∷ kinds) s is = let same : step_of w c 0 kind ≡ s = cc in ap seconds_of (sym same)
+-- the first of some steps takes their first time
+first_takes : (steps : List Step) (s : Step) → slice_get steps 0 ≡ Some s → sum_by step_time (take 1 steps) ≡ step_time s
+first_takes [] s is = absurd cc
+first_takes (x ∷ steps) s is =
+    let same : x ≡ s = cc in
+    let one : sum_by step_time (x ∷ []) ≡ step_time x + 0 = sum_by-cons step_time x [] in
+    let time : step_time x ≡ step_time s = ap step_time same in
+    let whole : step_time x + 0 ≡ step_time x = omega arith in
+    one ∙ whole ∙ time
 
 first_on : (steps : List Step) (s : Step) → slice_get steps 0 ≡ Some s → goes_on s ≡ true → list_all goes_on (take 1 steps) ≡ true
 first_on [] s is on = absurd cc
@@ -82,7 +76,7 @@ pub record IsBehindFirst (w : Work) (c : ℕ) (before : List Taken) (begin : Mom
   pub change : one.turn.change ≡ c
   pub step : (s : Step) × Contains (begun_steps w one.turn) s × (s.number ≡ 0)
   pub went_on : list_all goes_on (take 1 (steps_of w c)) ≡ true
-  pub late : took (outcome_of w.script c 0) ≤ begin.second
+  pub late : first_time w c ≤ begin.second
 
 pub behind_first : (w : Work) (c : ℕ) (before : List Taken) (at begin : Moment) → ready_at w before (single c 1) ≡ Some at → IsNoLater at begin → IsBehindFirst w c before begin
 behind_first w c before at begin ready low =
@@ -96,8 +90,7 @@ behind_first w c before at begin ready low =
     let s = done.0 in
     let inside : Contains (steps_of w c) s = subst (λ k. Contains (steps_of w k) s) there.change (begun_of_change w one.turn s done.1) in
     let place : slice_get (steps_of w c) 0 ≡ Some s = ap (slice_get (steps_of w c)) (sym done.2) ∙ step_at_number w c s inside in
-    let time = whole_time s done.3 in
-    let seconds = first_seconds w c (kinds_of w.plan c) s place in
+    let seconds = first_takes (steps_of w c) s place in
     let soon = both.2.0 in let begun = low.0 in let late = done.4 in
     record {
       one = one;

@@ -7,13 +7,14 @@ use Rattle.std.proofs.lemmas.List.Sums.{sum_by-cons}
 use Rattle.apply_events.specs.declared.event.Event.{Event}
 use Rattle.apply_events.specs.declared.lanes.taken.Taken.{Taken}
 use Rattle.apply_events.specs.ChangeEvents.{in_turn}
-use Rattle.apply_events.specs.Fits.{IsOfPlan}
+use Rattle.apply_events.specs.Fits.{HasStep, IsApplied, IsOfPlan}
 use Rattle.apply_events.specs.Lanes.LaneState.{LaneState, count_left, told_by, unused}
 use Rattle.apply_events.specs.Lanes.Startable.{IsStartable}
-use Rattle.apply_events.specs.Step.{Step, Work, kinds_of, steps_of}
+use Rattle.apply_events.specs.Step.{Step, Work, steps_of}
 use Rattle.apply_events.specs.StepEvents.{step_events, step_time}
 use Rattle.apply_events.specs.Waits.TimeLine.{turn_events}
 use Rattle.apply_events.specs.Waits.Turn.{begun_steps}
+use Rattle.apply_events.proofs.AppliedSteps.{applied_planned}
 use Rattle.apply_events.proofs.StepNumbers.{steps_of-numbered}
 use Rattle.apply_events.proofs.TimeLines.Few.{IsSmall, few_step}
 use Rattle.apply_events.proofs.Waits.Ends.{turn_end}
@@ -35,13 +36,13 @@ event_of_plan w one e within can there =
     let number = (numbered_in 0 (steps_of w c) s (steps_of-numbered w c) (begun_of_change w one.turn s of.step.1)).1 in
     let size = length-steps_of w c in
     let step = of.step.2 in
-    let has : e.step < length (kinds_of w.plan c) = omega arith in
+    let applied : IsApplied w.plan w.script c e.step = omega arith in
     let last = of.last.0 in
     let ends = turn_end w one in
     let time = time_within w one (within c can.change) in
     let in_time = can.in_time in
     let few = can.last in
-    record { has_step = subst (λ k. e.step < length (kinds_of w.plan k)) (sym of.change) has; in_time = omega arith }
+    record { has_step = subst (λ k. HasStep w.plan k e.step) (sym of.change) (applied_planned w.plan w.script c e.step applied); in_time = omega arith }
 
 turn_of_plan : (w : Work) (one : Taken) → AllWithin w → IsStartable w one → All (IsOfPlan w.plan) (turn_events w one)
 turn_of_plan w one within can =

@@ -5,7 +5,7 @@ use Rattle.std.proofs.lemmas.Bool.{and_parts, cases_Bool, le-leb, leb-true, ltb-
 use Rattle.std.proofs.lemmas.Bool.Decides.{eqb_tells}
 use Rattle.std.proofs.lemmas.List.Elements.{All-tail}
 use Rattle.apply_events.specs.declared.event.Event.{Event}
-use Rattle.apply_events.specs.Step.{Work, kinds_of}
+use Rattle.apply_events.specs.Step.{Work, kinds_applied}
 use Rattle.apply_events.specs.declared.lanes.taken.Taken.{Taken}
 use Rattle.apply_model.specs.Script.OutcomeMap.{outcome_of}
 use Rattle.apply_model.specs.Script.Waits.{names_a_wait}
@@ -21,7 +21,7 @@ use Rattle.apply_events.proofs.Waits.TurnSteps.{all_at}
 -- ---- the turns of a change
 
 abbrev pub is_split : Work → ℕ → Bool
-is_split w c = eqb (length (kinds_of w.plan c)) 2 && names_a_wait (outcome_of w.script c 1)
+is_split w c = eqb (length (kinds_applied w.plan w.script c)) 2 && names_a_wait (outcome_of w.script c 1)
 
 -- it is the whole change, or one of two single steps
 abbrev pub IsTurnOf : Work → ℕ → Turn → Type 0

@@ -2,12 +2,11 @@
 use Rattle.std.proofs.Common.{◌≡◌, ◌≢◌, ℕ, zero, suc, ◌+◌, ◌-◌, ◌<◌, ◌≤◌, Bool, true, false, List, [], ◌∷◌, Option, Some, None, cond, drop, get_or, length, not, take, refl, sym, ap, ◌∙◌, subst, ⊎_elim, arith, eqb, eq-eqb, ne_eqb}
 use Rattle.std.specs.Prelude.{slice_get}
 use Rattle.std.proofs.lemmas.Bool.{cases_Bool, cases_eq, true≢false}
-use Rattle.apply_model.specs.Plan.ResourceChange.{ResourceChange}
 use Rattle.apply_model.specs.declared.plan.step_kind.StepKind.{StepKind}
 use Rattle.apply_model.specs.declared.plan.step_kind.StepKind.TheVariants.{Create}
 use Rattle.apply_model.specs.declared.script.wait.Wait.{Wait}
 use Rattle.apply_events.specs.ChangeEvents.{begun}
-use Rattle.apply_events.specs.Step.{Step, Work, kinds_of, step_of, steps_of}
+use Rattle.apply_events.specs.Step.{Step, Work, kinds_applied, step_of, steps_of}
 use Rattle.apply_events.specs.StepEvents.{goes_on, step_time}
 use Rattle.apply_events.specs.declared.lanes.moment.Moment.{Moment}
 use Rattle.apply_events.specs.declared.lanes.queue.Queue.{Queue}
@@ -16,7 +15,7 @@ use Rattle.apply_events.specs.Waits.Done.{done_among, done_in, end_behind, end_o
 use Rattle.apply_events.specs.Waits.Moment.{later_by}
 use Rattle.apply_events.specs.Waits.Queue.{IsQueue, is_same_wait, late_if, late_of, names_at, open_if, open_of, put}
 use Rattle.apply_events.specs.Waits.Turn.{begun_steps}
-use Rattle.apply_events.proofs.PlannedSteps.{at_hand, kinds_here}
+use Rattle.apply_events.proofs.PlannedSteps.{at_hand}
 use Rattle.apply_events.proofs.StepNumbers.{AreNumbered, AreNumbered-begun, AreNumbered-drop, steps_of-numbered}
 use Rattle.apply_events.proofs.Waits.Followers.{is_same, same_wait}
 use Rattle.apply_events.proofs.Waits.Moments.{later_by_none, later_by_some}
@@ -72,12 +71,9 @@ read_at [] k d lt = absurd (omega arith)
 read_at (x ∷ xs) zero d lt = refl
 read_at (x ∷ xs) (suc k) d lt = read_at xs k d (omega arith)
 
-pub step_here : (w : Work) (c k : ℕ) (change : ResourceChange) (kinds : List StepKind) → Some change ≡ slice_get w.plan.changes c → kinds ≡ change.steps → k < length kinds
+pub step_here : (w : Work) (c k : ℕ) (kinds : List StepKind) → kinds ≡ kinds_applied w.plan w.script c → k < length kinds
     → drop k (steps_of w c) ≡ step_of w c k (get_or kinds k Create) ∷ drop (k + 1) (steps_of w c)
-step_here w c k change kinds is steps lt = at_hand w c k change kinds (Some (get_or kinds k Create)) is steps (read_at kinds k Create lt)
-
-pub count_here : (w : Work) (c : ℕ) (change : ResourceChange) (kinds : List StepKind) → Some change ≡ slice_get w.plan.changes c → kinds ≡ change.steps → length (kinds_of w.plan c) ≡ length kinds
-count_here w c change kinds is steps = ap length (kinds_here w c change kinds is steps)
+step_here w c k kinds is lt = at_hand w c k kinds (Some (get_or kinds k Create)) is (read_at kinds k Create lt)
 
 -- ---- the steps that are left
 

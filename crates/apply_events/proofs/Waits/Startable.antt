@@ -15,12 +15,13 @@ use Rattle.apply_model.specs.Script.OutcomeMap.{outcome_of}
 use Rattle.apply_events.specs.declared.lanes.taken.Taken.{Taken}
 use Rattle.apply_events.specs.declared.lanes.turn.Turn.{Turn}
 use Rattle.apply_events.specs.Lanes.Startable.{AreWithinLimits, IsStartable, has_turn, is_that_turn}
-use Rattle.apply_events.specs.Step.{Step, Work, kinds_of, step_of, steps_of}
+use Rattle.apply_events.specs.Step.{Step, Work, kinds_applied, kinds_of, step_of, steps_of}
 use Rattle.apply_events.specs.StepEvents.{seconds_of, step_time}
 use Rattle.apply_events.specs.Waits.Done.{ready_at}
 use Rattle.apply_events.specs.Waits.Schedule.{is_same_turn, is_taken, schedule}
 use Rattle.apply_events.specs.Waits.TakenUp.{WereTakenUp}
 use Rattle.apply_events.specs.Waits.Turn.{begun_steps, single, turns, turns_of, whole}
+use Rattle.apply_events.proofs.AppliedSteps.{few_applied}
 use Rattle.apply_events.proofs.TimeLines.Few.{IsSmall, small_step}
 use Rattle.apply_events.proofs.Waits.DoneBefore.{IsBehindFirst, behind_first}
 use Rattle.apply_events.proofs.Waits.Ends.{each_begins, time_of, total}
@@ -49,7 +50,7 @@ small_in w c n (kind ∷ kinds) s few first second there = ⊎_elim
     bounded (suc (suc k)) lt = absurd (omega arith)
 
 pub small_of : (w : Work) (c : ℕ) (s : Step) → AreWithinLimits w.plan w.script c → Contains (steps_of w c) s → IsSmall s
-small_of w c s limits there = small_in w c 0 (kinds_of w.plan c) s (let few = limits.few in omega arith) limits.first limits.second there
+small_of w c s limits there = small_in w c 0 (kinds_applied w.plan w.script c) s (let few = limits.few in let applied = few_applied w.plan w.script c in omega arith) limits.first limits.second there
 
 pub begun_small : (w : Work) (turn : Turn) → AreWithinLimits w.plan w.script turn.change → All IsSmall (begun_steps w turn)
 begun_small w turn limits =
@@ -103,7 +104,7 @@ pub record TurnFacts (w : Work) (turn : Turn) : Type 0 where
   pub first : turn.first ≤ 1
   pub last : turn.first + turn.count ≤ 2
   pub share : turn.count ≤ share w turn
-  pub two : 0 < turn.first → (0 < length (kinds_of w.plan turn.change)) × (turn ≡ single turn.change 1) × (is_split w turn.change ≡ true)
+  pub two : 0 < turn.first → (0 < length (kinds_applied w.plan w.script turn.change)) × (turn ≡ single turn.change 1) × (is_split w turn.change ≡ true)
 
 same_number : (a b : ℕ) → eqb a b ≡ true → a ≡ b
 same_number a b same = ⊎_elim
@@ -113,6 +114,7 @@ same_number a b same = ⊎_elim
 
 pub turn_facts : (w : Work) (turn : Turn) → length (kinds_of w.plan turn.change) ≤ 2 → IsTurnOf w turn.change turn → TurnFacts w turn
 turn_facts w turn few (inl all) =
+    let applied = few_applied w.plan w.script turn.change in
     let first = ap (λ (t : Turn). t.first) all.1 in let count = ap (λ (t : Turn). t.count) all.1 in
     let two : share w turn ≡ 2 = ap (λ (t : Bool). cond t 1 2) all.0 in
     record { first = omega arith; last = omega arith; share = omega arith; two = λ some. absurd (omega arith) }
@@ -123,8 +125,8 @@ turn_facts w turn few (inr (split, inl one)) =
 turn_facts w turn few (inr (split, inr one)) =
     let first = ap (λ (t : Turn). t.first) one in let count = ap (λ (t : Turn). t.count) one in
     let mine : share w turn ≡ 1 = ap (λ (t : Bool). cond t 1 2) split in
-    let steps = same_number (length (kinds_of w.plan turn.change)) 2 (and_parts (eqb (length (kinds_of w.plan turn.change)) 2) _ split).0 in
-    record { first = omega arith; last = omega arith; share = omega arith; two = λ some. ((let more : 0 < length (kinds_of w.plan turn.change) = omega arith in more), one, split) }
+    let steps = same_number (length (kinds_applied w.plan w.script turn.change)) 2 (and_parts (eqb (length (kinds_applied w.plan w.script turn.change)) 2) _ split).0 in
+    record { first = omega arith; last = omega arith; share = omega arith; two = λ some. ((let more : 0 < length (kinds_applied w.plan w.script turn.change) = omega arith in more), one, split) }
 
 -- ---- how long turns take
 

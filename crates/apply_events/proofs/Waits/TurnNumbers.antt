@@ -5,7 +5,7 @@ use Rattle.std.proofs.lemmas.Bool.{and_parts, cases_Bool, cases_eq, cases_lt, tr
 use Rattle.apply_model.specs.declared.script.wait.Wait.{Wait}
 use Rattle.apply_model.specs.Script.OutcomeMap.{outcome_of}
 use Rattle.apply_model.specs.Script.Waits.{names_a_wait}
-use Rattle.apply_events.specs.Step.{Work, kinds_of}
+use Rattle.apply_events.specs.Step.{Work, kinds_applied}
 use Rattle.apply_events.specs.declared.lanes.moment.Moment.{Moment}
 use Rattle.apply_events.specs.declared.lanes.taken.Taken.{Taken}
 use Rattle.apply_events.specs.declared.lanes.turn.Turn.{Turn}
@@ -29,14 +29,14 @@ key turn = 2 * turn.change + turn.first
 abbrev Ascend : Work → (low limit : ℕ) → List Turn → Type 0
 Ascend w low limit [] = Unit {0}
 Ascend w low limit (turn ∷ ts) =
-    (low ≤ key turn) × (turn.change < limit) × (turn.first + turn.count ≤ length (kinds_of w.plan turn.change)) × Ascend w (key turn + 1) limit ts
+    (low ≤ key turn) × (turn.change < limit) × (turn.first + turn.count ≤ length (kinds_applied w.plan w.script turn.change)) × Ascend w (key turn + 1) limit ts
 
 ascend_from : (w : Work) (low high limit : ℕ) (ts : List Turn) → low ≤ high → Ascend w high limit ts → Ascend w low limit ts
 ascend_from w low high limit [] le h = tt
 ascend_from w low high limit (turn ∷ ts) le h = let first = h.0 in (omega arith, h.1, h.2, h.3)
 
-has_two_steps : (w : Work) (c : ℕ) → is_split w c ≡ true → length (kinds_of w.plan c) ≡ 2
-has_two_steps w c is = from_test (length (kinds_of w.plan c)) 2 (and_parts (eqb (length (kinds_of w.plan c)) 2) (names_a_wait (outcome_of w.script c 1)) is).0
+has_two_steps : (w : Work) (c : ℕ) → is_split w c ≡ true → length (kinds_applied w.plan w.script c) ≡ 2
+has_two_steps w c is = from_test (length (kinds_applied w.plan w.script c)) 2 (and_parts (eqb (length (kinds_applied w.plan w.script c)) 2) (names_a_wait (outcome_of w.script c 1)) is).0
 
 ascend_change : (w : Work) (c limit : ℕ) (rest : List Turn) (t : Bool) → is_split w c ≡ t → c < limit → Ascend w (2 * (c + 1)) limit rest
     → Ascend w (2 * c) limit (cond t (single c 0 ∷ single c 1 ∷ []) (whole w c ∷ []) ++ rest)
@@ -72,14 +72,14 @@ abbrev pub turn_at : List Turn → ℕ → Turn
 turn_at ts number = get_or ts number (record { change = 0; first = 0; count = 0 })
 
 at_number : (w : Work) (low limit : ℕ) (ts : List Turn) (k : ℕ) → Ascend w low limit ts → k < length ts
-    → (low ≤ key (turn_at ts k)) × ((turn_at ts k).change < limit) × ((turn_at ts k).first + (turn_at ts k).count ≤ length (kinds_of w.plan (turn_at ts k).change))
+    → (low ≤ key (turn_at ts k)) × ((turn_at ts k).change < limit) × ((turn_at ts k).first + (turn_at ts k).count ≤ length (kinds_applied w.plan w.script (turn_at ts k).change))
 at_number w low limit [] k h lt = absurd (omega arith)
 at_number w low limit (turn ∷ ts) zero h lt = (h.0, h.1, h.2)
 at_number w low limit (turn ∷ ts) (suc k) h lt =
     let rest = at_number w (key turn + 1) limit ts k h.3 (omega arith) in let first = h.0 in let next = rest.0 in (omega arith, rest.1, rest.2)
 
 pub turn_fits : (w : Work) (k : ℕ) → k < length (turns w)
-    → ((turn_at (turns w) k).change < length w.plan.changes) × ((turn_at (turns w) k).first + (turn_at (turns w) k).count ≤ length (kinds_of w.plan (turn_at (turns w) k).change))
+    → ((turn_at (turns w) k).change < length w.plan.changes) × ((turn_at (turns w) k).first + (turn_at (turns w) k).count ≤ length (kinds_applied w.plan w.script (turn_at (turns w) k).change))
 turn_fits w k lt = let all = at_number w 0 (length w.plan.changes) (turns w) k (turns_ascend w) lt in (all.1, all.2)
 
 apart : (w : Work) (low limit : ℕ) (ts : List Turn) (k j : ℕ) → Ascend w low limit ts → k < j → j < length ts → key (turn_at ts k) < key (turn_at ts j)

@@ -8,7 +8,7 @@ use Rattle.std.proofs.lemmas.List.Elements.{All-cons, All-head, All-nil, All-tai
 use Rattle.std.proofs.lemmas.List.FromFn.{length-enumerate_from}
 use Rattle.apply_model.specs.declared.plan.step_kind.StepKind.{StepKind}
 use Rattle.apply_events.specs.ChangeEvents.{begun}
-use Rattle.apply_events.specs.Step.{Step, Work, kinds_of, step_of, steps_of}
+use Rattle.apply_events.specs.Step.{Step, Work, kinds_applied, step_of, steps_of}
 use Rattle.apply_events.specs.StepEvents.{goes_on}
 use Rattle.apply_events.specs.declared.lanes.turn.Turn.{Turn}
 use Rattle.apply_events.specs.Waits.Turn.{begun_steps, whole}
@@ -98,7 +98,7 @@ all_at P (y ∷ xs) x h there = ⊎_elim
     (in_cases y xs x there)
 
 pub step_names_change : (w : Work) (c : ℕ) (s : Step) → Contains (steps_of w c) s → s.change ≡ c
-step_names_change w c s h = all_at (λ (x : Step). x.change ≡ c) (steps_of w c) s (changes_of w c 0 (kinds_of w.plan c)) h
+step_names_change w c s h = all_at (λ (x : Step). x.change ≡ c) (steps_of w c) s (changes_of w c 0 (kinds_applied w.plan w.script c)) h
 
 -- a step stands at its number
 at_number : (n : ℕ) (steps : List Step) (s : Step) (k : ℕ) → AreNumbered n steps → Contains steps s → s.number ≡ n + k → slice_get steps k ≡ Some s
@@ -115,9 +115,9 @@ at_number n (x ∷ steps) s (suc k) h there is = ⊎_elim
 pub step_at_number : (w : Work) (c : ℕ) (s : Step) → Contains (steps_of w c) s → slice_get (steps_of w c) s.number ≡ Some s
 step_at_number w c s h = at_number 0 (steps_of w c) s s.number (steps_of-numbered w c) h (omega arith)
 
-pub length-steps_of : (w : Work) (c : ℕ) → length (steps_of w c) ≡ length (kinds_of w.plan c)
+pub length-steps_of : (w : Work) (c : ℕ) → length (steps_of w c) ≡ length (kinds_applied w.plan w.script c)
 length-steps_of w c =
-    length-map (enumerate_from 0 (kinds_of w.plan c)) (λ p. step_of w c p.0 p.1) ∙ length-enumerate_from 0 (kinds_of w.plan c)
+    length-map (enumerate_from 0 (kinds_applied w.plan w.script c)) (λ p. step_of w c p.0 p.1) ∙ length-enumerate_from 0 (kinds_applied w.plan w.script c)
 
 -- ---- which steps begin
 
@@ -126,7 +126,7 @@ first_of n [] h some = absurd (omega arith)
 first_of n (s ∷ steps) h some = (s, in_head s (cond (goes_on s) (begun steps) []), h.0)
 
 -- the first step of a turn begins
-pub first_begins : (w : Work) (turn : Turn) → 0 < turn.count → turn.first < length (kinds_of w.plan turn.change)
+pub first_begins : (w : Work) (turn : Turn) → 0 < turn.count → turn.first < length (kinds_applied w.plan w.script turn.change)
     → (s : Step) × Contains (begun_steps w turn) s × (s.number ≡ turn.first)
 first_begins w turn some known =
     let all = length-steps_of w turn.change in
@@ -138,7 +138,7 @@ first_begins w turn some known =
 pub record HasTwo (w : Work) (c : ℕ) : Type 0 where
   pub first : StepKind
   pub second : StepKind
-  pub are : kinds_of w.plan c ≡ first ∷ second ∷ []
+  pub are : kinds_applied w.plan w.script c ≡ first ∷ second ∷ []
 
 two_of : (kinds : List StepKind) → 1 < length kinds → length kinds ≤ 2 → (first : StepKind) × (second : StepKind) × (kinds ≡ first ∷ second ∷ [])
 two_of [] more few = absurd (omega arith)
@@ -146,8 +146,8 @@ two_of (first ∷ []) more few = absurd (omega arith)
 two_of (first ∷ second ∷ []) more few = (first, second, refl)
 two_of (first ∷ second ∷ third ∷ kinds) more few = absurd (omega arith)
 
-pub has_two : (w : Work) (c : ℕ) → 1 < length (kinds_of w.plan c) → length (kinds_of w.plan c) ≤ 2 → HasTwo w c
-has_two w c more few = let two = two_of (kinds_of w.plan c) more few in record { first = two.0; second = two.1; are = two.2 }
+pub has_two : (w : Work) (c : ℕ) → 1 < length (kinds_applied w.plan w.script c) → length (kinds_applied w.plan w.script c) ≤ 2 → HasTwo w c
+has_two w c more few = let two = two_of (kinds_applied w.plan w.script c) more few in record { first = two.0; second = two.1; are = two.2 }
 
 -- its second step begins where its first goes on
 pub two_begin : (w : Work) (c : ℕ) (two : HasTwo w c) → begun_steps w (whole w c)

@@ -3,11 +3,12 @@ use Rattle.std.specs.Prelude.{◌≡◌, ℕ, ◌+◌, ◌-◌, ◌*◌, ◌<◌
 use Rattle.std.specs.List.{list_all, list_any}
 use Rattle.apply_model.specs.Plan.SavedPlan.{SavedPlan}
 use Rattle.apply_model.specs.Script.Limits.{max_seconds}
-use Rattle.apply_model.specs.Script.Outcome.{IsBounded, took}
+use Rattle.apply_model.specs.Script.Outcome.{IsBounded}
 use Rattle.apply_model.specs.Script.OutcomeMap.{OutcomeMap, outcome_of}
 use Rattle.apply_events.specs.declared.lanes.taken.Taken.{Taken}
 use Rattle.apply_events.specs.declared.lanes.turn.Turn.{Turn}
-use Rattle.apply_events.specs.Fits.{HasStep, last_moment}
+use Rattle.apply_events.specs.ChangeEvents.{first_time}
+use Rattle.apply_events.specs.Fits.{IsApplied, last_moment}
 use Rattle.apply_events.specs.Step.{Work, kinds_of, steps_of}
 use Rattle.apply_events.specs.StepEvents.{goes_on}
 use Rattle.apply_events.specs.Waits.Turn.{turns}
@@ -28,9 +29,9 @@ pub record IsStartable (work : Work) (one : Taken) : Type 0 where
   pub first : one.turn.first ≤ 1
   pub last : one.turn.first + one.turn.count ≤ 2
   pub in_time : one.begin.second + max_seconds * (2 - one.turn.first) ≤ last_moment
-  pub has_step : 0 < one.turn.first → HasStep work.plan one.turn.change 0
+  pub has_step : 0 < one.turn.first → IsApplied work.plan work.script one.turn.change 0
   pub went_on : 0 < one.turn.first → list_all goes_on (take 1 (steps_of work one.turn.change)) ≡ true
-  pub late : 0 < one.turn.first → took (outcome_of work.script one.turn.change 0) ≤ one.begin.second
+  pub late : 0 < one.turn.first → first_time work one.turn.change ≤ one.begin.second
 
 -- a change has two steps at most, each of which is within the limits of a script
 pub record AreWithinLimits (plan : SavedPlan) (script : OutcomeMap) (c : ℕ) : Type 0 where

@@ -3,7 +3,7 @@ use Rattle.apply_events.specs.declared.lanes.turn.Turn.{Turn}
 use Rattle.std.specs.Prelude.{ℕ, ◌==◌, ◌&&◌, List, [], ◌∷◌, drop, length, take, if◌then◌else◌}
 use Rattle.std.specs.List.{flat_map, range_with_len}
 use Rattle.apply_events.specs.ChangeEvents.{begun}
-use Rattle.apply_events.specs.Step.{Step, Work, kinds_of, steps_of}
+use Rattle.apply_events.specs.Step.{Step, Work, kinds_applied, steps_of}
 use Rattle.apply_model.specs.declared.script.wait.Wait.{Wait}
 use Rattle.apply_model.specs.Script.OutcomeMap.{outcome_of}
 use Rattle.apply_model.specs.Script.Waits.{names_a_wait, waits_of}
@@ -12,14 +12,14 @@ use Rattle.apply_model.specs.Script.Waits.{names_a_wait, waits_of}
 abbrev pub single : (c k : ℕ) → Turn
 single c k = record { change = c; first = k; count = 1 }
 
--- all steps of change c
+-- all steps of change c, but for those from the first on that is skipped
 abbrev pub whole : Work → (c : ℕ) → Turn
-whole work c = record { change = c; first = 0; count = length (kinds_of work.plan c) }
+whole work c = record { change = c; first = 0; count = length (kinds_applied work.plan work.script c) }
 
 -- a change is a turn; one of two steps, of which the second names one that it waits for, is two
 abbrev pub turns_of : Work → (c : ℕ) → List Turn
 turns_of work c =
-    if length (kinds_of work.plan c) == 2 && names_a_wait (outcome_of work.script c 1)
+    if length (kinds_applied work.plan work.script c) == 2 && names_a_wait (outcome_of work.script c 1)
     then single c 0 ∷ single c 1 ∷ []
     else whole work c ∷ []
 

@@ -3,13 +3,14 @@
 ghost use Rattle.std.specs.Prelude.{◌≡◌, ◌+◌, ◌*◌, ◌<◌, ◌≤◌, ◌^◌, ℕ, IfOk, List, None, OnOk, Option, length, reverse};
 ghost use Rattle.apply_hooks.specs.Registry.{rules_of};
 ghost use Rattle.apply_model.specs.Script.Limits.{max_seconds};
-ghost use Rattle.apply_events.specs.Step.{kinds_of};
+ghost use Rattle.apply_events.specs.Step.{kinds_applied};
 ghost use Rattle.apply_events.specs.Waits.Done.{done_in, end_of_turn, first_found};
 ghost use Rattle.apply_events.specs.Waits.Queue.{IsQueue};
 ghost use Rattle.apply_events.specs.Waits.Schedule.{schedule};
 ghost use Rattle.apply_model.specs.declared.script.wait.Wait.{Wait};
 ghost use Rattle.apply_events.specs.declared.lanes.moment.Moment.{Moment};
 
+use crate::applied::applied_steps;
 use crate::lanes::free::first_earliest;
 use crate::lanes::moment::Moment;
 use crate::lanes::queue::Queue;
@@ -60,7 +61,7 @@ fn pass_steps(
     queue: &mut Queue,
 ) -> Result<Moment, AllocError>
     requires change { taken.turn.change < length plan.now.changes }
-    requires steps { taken.turn.first + taken.turn.count ≤ length (kinds_of plan.now taken.turn.change) }
+    requires steps { taken.turn.first + taken.turn.count ≤ length (kinds_applied plan.now script.now taken.turn.change) }
     requires second { taken.begin.second + 2 * max_seconds < 2 ^ 64 }
     requires round { taken.begin.round + 1 < 2 ^ 32 }
     requires known { (names : List (List Wait)) × (done : Wait → Option Moment) × (numbers : List ℕ)
@@ -76,7 +77,7 @@ fn pass_steps(
         numbers queue.new) }
 {
     let turn = taken.turn;
-    let kinds = plan.change(turn.change).steps();
+    let kinds = applied_steps(plan, script, turn.change);
     let mut at = taken.begin;
     for step in turn.first..turn.first + turn.count {
         let course = StepCourse::of(

@@ -41,7 +41,7 @@ impl StepCourse {
                 goes_on: false,
             };
         }
-        let facts = StepFacts::new(script, change, step);
+        let facts = StepFacts::new(script, change, step, kind);
         StepCourse {
             seconds: facts.seconds,
             goes_on: !facts.fails && !is_halted(registry, Phase::PostDone, kind, address),

@@ -6,6 +6,7 @@ ghost use Rattle.apply_model.specs.Script.OutcomeMap.{outcome_of};
 ghost use Rattle.apply_model.specs.Script.Waits.{names_a_wait};
 ghost use Rattle.apply_events.specs.Waits.Turn.{single, turns};
 
+use crate::applied::applied_steps;
 use apply_model::{Outcome, Plan, Script};
 use std::alloc::{AllocError, Global};
 
@@ -26,7 +27,7 @@ impl Turn {
     {
         let mut all = Vec::with_capacity(alloc, plan.len() as usize)?;
         for change in 0..plan.len() {
-            let count = plan.change(change).steps().len() as u8;
+            let count = applied_steps(plan, script, change).len() as u8;
             let split = count == 2 && second_names_some(script, change);
             push_turns(&mut all, change, count, split)?;
         }
@@ -34,7 +35,7 @@ impl Turn {
     }
 }
 
-/// Adds the turns of a change of so many steps, which is one or, where it is split, two.
+/// Adds the turns of a change of which so many steps are applied, which is one or, where it is split, two.
 fn push_turns(all: &mut Vec<Turn>, change: u32, count: u8, split: bool) -> Result<(), AllocError>
     ensures { OnOk result (all.new.items ≡ all.old.items ++ (if split
         then single change 0 ∷ single change 1 ∷ []

@@ -4,9 +4,8 @@ ghost use Rattle.std.specs.Prelude.{◌≡◌, ◌+◌, ◌-◌, ◌*◌, ◌<�
 ghost use Rattle.std.specs.List.{Contains, list_all};
 ghost use Rattle.apply_hooks.specs.Registry.{rules_of};
 ghost use Rattle.apply_model.specs.Script.Limits.{max_seconds};
-ghost use Rattle.apply_model.specs.Script.Outcome.{took};
-ghost use Rattle.apply_model.specs.Script.OutcomeMap.{outcome_of};
-ghost use Rattle.apply_events.specs.Fits.{HasStep, last_moment};
+ghost use Rattle.apply_events.specs.ChangeEvents.{first_time};
+ghost use Rattle.apply_events.specs.Fits.{IsApplied, last_moment};
 ghost use Rattle.apply_events.specs.Runner as runner;
 ghost use Rattle.apply_events.specs.Stages.{events_from};
 ghost use Rattle.apply_events.specs.Step.{kinds_of, steps_of};
@@ -48,10 +47,11 @@ impl<'a> TurnRunner<'a> {
         requires few { length (kinds_of plan.now taken.turn.change) ≤ 2 }
         requires place { (taken.turn.first ≤ 1) × (taken.turn.first + taken.turn.count ≤ 2) }
         requires in_time { taken.begin.second + max_seconds * (2 - taken.turn.first) ≤ last_moment }
-        requires has_step { 0 < taken.turn.first → HasStep plan.now taken.turn.change 0 }
+        requires has_step { 0 < taken.turn.first → IsApplied plan.now script.now taken.turn.change 0 }
         requires went_on { 0 < taken.turn.first → list_all goes_on
             (take 1 (steps_of (record { plan = plan.now; script = script.now; hooks = rules_of registry.now }) taken.turn.change)) ≡ true }
-        requires late { 0 < taken.turn.first → took (outcome_of script.now taken.turn.change 0) ≤ taken.begin.second }
+        requires late { 0 < taken.turn.first
+            → first_time (record { plan = plan.now; script = script.now; hooks = rules_of registry.now }) taken.turn.change ≤ taken.begin.second }
         ensures { to_come result ≡ turn_events (record { plan = plan.now; script = script.now; hooks = rules_of registry.now }) taken }
     {
         let of_change = runner_of(plan, script, registry, taken);
@@ -92,10 +92,11 @@ fn runner_of<'a>(
     requires change { taken.turn.change < length plan.now.changes }
     requires place { taken.turn.first ≤ 1 }
     requires in_time { taken.begin.second + max_seconds * (2 - taken.turn.first) ≤ last_moment }
-    requires has_step { 0 < taken.turn.first → HasStep plan.now taken.turn.change 0 }
+    requires has_step { 0 < taken.turn.first → IsApplied plan.now script.now taken.turn.change 0 }
     requires went_on { 0 < taken.turn.first → list_all goes_on
         (take 1 (steps_of (record { plan = plan.now; script = script.now; hooks = rules_of registry.now }) taken.turn.change)) ≡ true }
-    requires late { 0 < taken.turn.first → took (outcome_of script.now taken.turn.change 0) ≤ taken.begin.second }
+    requires late { 0 < taken.turn.first
+        → first_time (record { plan = plan.now; script = script.now; hooks = rules_of registry.now }) taken.turn.change ≤ taken.begin.second }
     ensures { runner.to_come result ≡ events_from taken.lane
         (drop taken.turn.first (steps_of (record { plan = plan.now; script = script.now; hooks = rules_of registry.now }) taken.turn.change)) taken.begin.second }
 {

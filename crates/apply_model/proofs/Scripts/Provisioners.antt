@@ -12,15 +12,15 @@ use Rattle.apply_model.specs.declared.script.ending.Ending.{Ending}
 use Rattle.apply_model.specs.declared.script.ending.Ending.TheVariants.{Done, Failed}
 use Rattle.apply_model.specs.declared.script.outcome.Outcome.{Outcome}
 use Rattle.apply_model.specs.declared.script.provisioner.Provisioner.{Provisioner}
-use Rattle.apply_model.specs.Script.Outcome.{diag_of_ending, failure_of, fails, first_diag, has_failed, is_failed, ran, seconds_of_all}
+use Rattle.apply_model.specs.Script.Outcome.{diag_of_ending, failure_by, failure_of, fails, first_diag, is_failed, makes_fail, ran, seconds_of_all}
 use Rattle.apply_model.proofs.Lists.{left_at}
 
 -- why the first fails of those that are left
-pub diag_here : (provisioners : List Provisioner) (i : ℕ) (p : Provisioner) (diag : Diag) → i < length provisioners → p ≡ get_or provisioners i p → p.failed ≡ Some diag
+pub diag_here : (provisioners : List Provisioner) (i : ℕ) (p : Provisioner) (diag : Diag) → i < length provisioners → p ≡ get_or provisioners i p → failure_by p ≡ Some diag
     → first_diag (drop i provisioners) ≡ Some diag
 diag_here provisioners i p diag below is failed = rw (left_at provisioners i p below is, failed) refl
 
-pub diag_later : (provisioners : List Provisioner) (i : ℕ) (p : Provisioner) → i < length provisioners → p ≡ get_or provisioners i p → p.failed ≡ None
+pub diag_later : (provisioners : List Provisioner) (i : ℕ) (p : Provisioner) → i < length provisioners → p ≡ get_or provisioners i p → failure_by p ≡ None
     → first_diag (drop i provisioners) ≡ first_diag (drop (i + 1) provisioners)
 diag_later provisioners i p below is failed = rw (left_at provisioners i p below is, failed) refl
 
@@ -28,11 +28,11 @@ pub no_diag_left : (provisioners : List Provisioner) (i : ℕ) → length provis
 no_diag_left provisioners i past = rw (drop_all i provisioners past) refl
 
 -- which run of those that are left
-pub last_runs : (provisioners : List Provisioner) (i : ℕ) (p : Provisioner) → i < length provisioners → p ≡ get_or provisioners i p → is_some p.failed ≡ true
+pub last_runs : (provisioners : List Provisioner) (i : ℕ) (p : Provisioner) → i < length provisioners → p ≡ get_or provisioners i p → makes_fail p ≡ true
     → ran (drop i provisioners) ≡ p ∷ []
 last_runs provisioners i p below is failed = rw (left_at provisioners i p below is, failed) refl
 
-pub more_run : (provisioners : List Provisioner) (i : ℕ) (p : Provisioner) → i < length provisioners → p ≡ get_or provisioners i p → is_some p.failed ≡ false
+pub more_run : (provisioners : List Provisioner) (i : ℕ) (p : Provisioner) → i < length provisioners → p ≡ get_or provisioners i p → makes_fail p ≡ false
     → ran (drop i provisioners) ≡ p ∷ ran (drop (i + 1) provisioners)
 more_run provisioners i p below is failed = rw (left_at provisioners i p below is, failed) refl
 
@@ -45,15 +45,15 @@ pub within_all : (provisioners : List Provisioner) (i : ℕ) (p : Provisioner) �
 within_all provisioners i p below is =
     let f = λ (q : Provisioner). q.seconds in
     ⊎_elim
-    (λ (yes : is_some p.failed ≡ true). omega (arith, ap seconds_of_all (last_runs provisioners i p below is yes), sum_by-cons f p []))
-    (λ (no : is_some p.failed ≡ false). omega (arith, ap seconds_of_all (more_run provisioners i p below is no), sum_by-cons f p (ran (drop (i + 1) provisioners))))
-    (cases_Bool (is_some p.failed))
+    (λ (yes : makes_fail p ≡ true). omega (arith, ap seconds_of_all (last_runs provisioners i p below is yes), sum_by-cons f p []))
+    (λ (no : makes_fail p ≡ false). omega (arith, ap seconds_of_all (more_run provisioners i p below is no), sum_by-cons f p (ran (drop (i + 1) provisioners))))
+    (cases_Bool (makes_fail p))
 
-pub last_seconds : (provisioners : List Provisioner) (i : ℕ) (p : Provisioner) → i < length provisioners → p ≡ get_or provisioners i p → is_some p.failed ≡ true
+pub last_seconds : (provisioners : List Provisioner) (i : ℕ) (p : Provisioner) → i < length provisioners → p ≡ get_or provisioners i p → makes_fail p ≡ true
     → seconds_of_all (ran (drop i provisioners)) ≡ p.seconds + 0
 last_seconds provisioners i p below is failed = ap seconds_of_all (last_runs provisioners i p below is failed) ∙ sum_by-cons (λ (q : Provisioner). q.seconds) p []
 
-pub more_seconds : (provisioners : List Provisioner) (i : ℕ) (p : Provisioner) → i < length provisioners → p ≡ get_or provisioners i p → is_some p.failed ≡ false
+pub more_seconds : (provisioners : List Provisioner) (i : ℕ) (p : Provisioner) → i < length provisioners → p ≡ get_or provisioners i p → makes_fail p ≡ false
     → seconds_of_all (ran (drop i provisioners)) ≡ p.seconds + seconds_of_all (ran (drop (i + 1) provisioners))
 more_seconds provisioners i p below is failed =
     ap seconds_of_all (more_run provisioners i p below is failed) ∙ sum_by-cons (λ (q : Provisioner). q.seconds) p (ran (drop (i + 1) provisioners))
@@ -67,11 +67,11 @@ one_or : (o other : Option Diag) → is_some (option_or o other) ≡ (is_some o 
 one_or None other = refl
 one_or (Some diag) other = refl
 
-first_for_cause : (provisioners : List Provisioner) → is_some (first_diag provisioners) ≡ list_any has_failed provisioners
+first_for_cause : (provisioners : List Provisioner) → is_some (first_diag provisioners) ≡ list_any makes_fail provisioners
 first_for_cause [] = refl
-first_for_cause (p ∷ ps) = one_or p.failed (first_diag ps) ∙ ap (λ b. has_failed p || b) (first_for_cause ps)
+first_for_cause (p ∷ ps) = one_or (failure_by p) (first_diag ps) ∙ ap (λ b. makes_fail p || b) (first_for_cause ps)
 
-provider_or : (result : Ending) (provisioners : List Provisioner) → is_some (option_or (diag_of_ending result) (first_diag provisioners)) ≡ (is_failed result || list_any has_failed provisioners)
+provider_or : (result : Ending) (provisioners : List Provisioner) → is_some (option_or (diag_of_ending result) (first_diag provisioners)) ≡ (is_failed result || list_any makes_fail provisioners)
 provider_or (Done id warning) provisioners = first_for_cause provisioners
 provider_or (Failed diag) provisioners = refl
 

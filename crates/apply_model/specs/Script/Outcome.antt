@@ -1,12 +1,15 @@
--- What a provider answers to a step, and the provisioners that run after it (the script's own format).
-use Rattle.std.specs.Prelude.{ℕ, ◌+◌, ◌≤◌, List, [], ◌∷◌, All, length, sum_by, Bool, true, false, ◌||◌, is_some, nat_lt, if◌then◌else◌, Option, Some, None}
+-- What a provider answers to a step, and the provisioners that run with it (the script's own format).
+use Rattle.std.specs.Prelude.{ℕ, ◌+◌, ◌≤◌, List, [], ◌∷◌, All, length, sum_by, Bool, true, false, ◌&&◌, ◌||◌, not, is_some, nat_lt, if◌then◌else◌, Option, Some, None}
 use Rattle.std.specs.List.{list_any}
 use Rattle.std.specs.Option.{option_or}
+use Rattle.apply_model.specs.declared.plan.step_kind.StepKind.{StepKind}
+use Rattle.apply_model.specs.declared.plan.step_kind.StepKind.TheVariants.{Delete}
 use Rattle.apply_model.specs.declared.script.diag.Diag.{Diag}
 use Rattle.apply_model.specs.declared.script.ending.Ending.{Ending}
 use Rattle.apply_model.specs.declared.script.ending.Ending.TheVariants.{Done, Failed}
 use Rattle.apply_model.specs.declared.script.outcome.Outcome.{Outcome}
 use Rattle.apply_model.specs.declared.script.provisioner.Provisioner.{Provisioner}
+use Rattle.apply_model.specs.Plan.StepKind.{is_kind}
 use Rattle.apply_model.specs.Script.Limits.{max_seconds, max_provisioners, max_outputs, max_waits}
 
 -- ---- which provisioners run
@@ -14,10 +17,17 @@ use Rattle.apply_model.specs.Script.Limits.{max_seconds, max_provisioners, max_o
 abbrev pub has_failed : Provisioner → Bool
 has_failed provisioner = is_some provisioner.failed
 
--- the provisioners that run: those up to and with the first that fails
+-- why a provisioner makes the step fail: it has failed, and may not
+abbrev pub failure_by : Provisioner → Option Diag
+failure_by provisioner = if provisioner.may_fail then None else provisioner.failed
+
+abbrev pub makes_fail : Provisioner → Bool
+makes_fail provisioner = is_some (failure_by provisioner)
+
+-- the provisioners that run: those up to and with the first that makes the step fail
 abbrev pub ran : List Provisioner → List Provisioner
 ran [] = []
-ran (provisioner ∷ others) = provisioner ∷ (if has_failed provisioner then [] else ran others)
+ran (provisioner ∷ others) = provisioner ∷ (if makes_fail provisioner then [] else ran others)
 
 -- the seconds of some provisioners together
 abbrev pub seconds_of_all : List Provisioner → ℕ
@@ -30,31 +40,41 @@ abbrev pub is_failed : Ending → Bool
 is_failed (Done id warning) = false
 is_failed (Failed diag) = true
 
--- the step fails: its provider does, or a provisioner
+-- the step fails: its provider does, or a provisioner makes it fail
 abbrev pub fails : Outcome → Bool
-fails outcome = is_failed outcome.result || list_any has_failed outcome.provisioners
+fails outcome = is_failed outcome.result || list_any makes_fail outcome.provisioners
 
--- how long the step takes, with the provisioners that run
-abbrev pub took : Outcome → ℕ
-took outcome = outcome.seconds + seconds_of_all (ran outcome.provisioners)
+-- how long the provider takes before the provisioners: those of a delete run first
+abbrev pub seconds_before : StepKind → Outcome → ℕ
+seconds_before kind outcome = if is_kind Delete kind then 0 else outcome.seconds
+
+-- and behind them, where none has made the step fail
+abbrev pub seconds_behind : StepKind → Outcome → ℕ
+seconds_behind kind outcome =
+    if is_kind Delete kind && not (list_any makes_fail outcome.provisioners) then outcome.seconds else 0
+
+-- how long a step of that kind takes, with the provisioners that run
+abbrev pub took : StepKind → Outcome → ℕ
+took kind outcome =
+    seconds_before kind outcome + seconds_of_all (ran outcome.provisioners) + seconds_behind kind outcome
 
 -- what the provider says of its failure
 abbrev pub diag_of_ending : Ending → Option Diag
 diag_of_ending (Done id warning) = None
 diag_of_ending (Failed diag) = Some diag
 
--- what the first provisioner that fails says
+-- what the first provisioner says that makes the step fail
 abbrev pub first_diag : List Provisioner → Option Diag
 first_diag [] = None
-first_diag (provisioner ∷ others) = option_or provisioner.failed (first_diag others)
+first_diag (provisioner ∷ others) = option_or (failure_by provisioner) (first_diag others)
 
--- why the step fails: what the provider says, or else the first provisioner that fails
+-- why the step fails: what the provider says, or else the first provisioner that makes it fail
 abbrev pub failure_of : Outcome → Option Diag
 failure_of outcome = option_or (diag_of_ending outcome.result) (first_diag outcome.provisioners)
 
 -- ---- limits
 
--- the seconds of a step with those of all its provisioners, also of those behind one that fails
+-- the seconds of a step with those of all its provisioners, also of those behind one that makes it fail
 abbrev pub seconds_in_all : Outcome → ℕ
 seconds_in_all outcome = outcome.seconds + seconds_of_all outcome.provisioners
 

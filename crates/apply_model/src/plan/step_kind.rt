@@ -17,6 +17,16 @@ pub enum StepKind {
 }
 
 impl StepKind {
+    /// Whether it is a delete.
+    pub fn is_delete(self) -> bool
+        ensures { result ≡ is_kind StepKind.Delete self }
+    {
+        match self {
+            StepKind::Delete => true,
+            StepKind::Create | StepKind::Update | StepKind::Read => false,
+        }
+    }
+
     /// Whether it is a create.
     pub fn is_create(self) -> bool
         ensures { result ≡ is_kind StepKind.Create self }

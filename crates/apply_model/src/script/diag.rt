@@ -9,4 +9,9 @@ pub struct Diag {
     pub summary: Text,
     /// More about it. It may be empty.
     pub detail: Text,
+    /// Where in the configuration it is: an object of JSON (RFC 8259), as its text without blanks, whose numbers and members
+    /// stand as they were read.
+    pub range: Option<Text>,
+    /// What stands there, likewise.
+    pub snippet: Option<Text>,
 }

@@ -1,6 +1,7 @@
 //! The provisioners of a step.
 
 ghost use Rattle.std.specs.Prelude.{◌≡◌, ◌<◌, ◌≤◌, ◌^◌, length, Some, slice_get, vec_len};
+ghost use Rattle.std.specs.List.{list_any};
 ghost use Rattle.std.specs.Option.{option_copied};
 ghost use Rattle.apply_model.specs.Script.Limits.{max_provisioners};
 
@@ -30,7 +31,7 @@ impl Model for Provisioners {
 }
 
 impl Provisioners {
-    ghost use Rattle.apply_model.specs.Script.Outcome.{first_diag, ran, seconds_of_all};
+    ghost use Rattle.apply_model.specs.Script.Outcome.{first_diag, makes_fail, ran, seconds_of_all};
 
     /// These provisioners, in the order in which they run.
     pub fn new(provisioners: Vec<Provisioner>) -> Provisioners
@@ -56,24 +57,31 @@ impl Provisioners {
         &self.provisioners[number as usize]
     }
 
-    /// Why the first fails of those that do.
+    /// Why the first makes the step fail of those that do.
     pub fn first_failure(&self) -> Option<&Diag>
         ensures { option_copied result ≡ first_diag self.now }
     {
         for provisioner in &self.provisioners {
-            if let Some(diag) = &provisioner.failed {
+            if let Some(diag) = provisioner.failure() {
                 return Some(diag);
             }
         }
         None
     }
 
-    /// How many of them run: those up to and with the first that fails.
+    /// Whether one makes the step fail.
+    pub fn make_fail(&self) -> bool
+        ensures { result ≡ list_any makes_fail self.now }
+    {
+        self.provisioners.iter().any(Provisioner::makes_fail)
+    }
+
+    /// How many of them run: those up to and with the first that makes the step fail.
     pub fn count_that_run(&self) -> u8
         ensures { result ≡ length (ran self.now) }
     {
         for (number, provisioner) in self.provisioners.iter().enumerate() {
-            if provisioner.failed.is_some() {
+            if provisioner.makes_fail() {
                 return number as u8 + 1;
             }
         }
@@ -88,7 +96,7 @@ impl Provisioners {
         let mut seconds = 0;
         for provisioner in &self.provisioners {
             seconds += provisioner.seconds;
-            if provisioner.failed.is_some() {
+            if provisioner.makes_fail() {
                 return seconds;
             }
         }

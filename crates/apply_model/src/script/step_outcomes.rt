@@ -1,54 +1,70 @@
-//! The outcomes of the steps of one change.
+//! What a script says of the steps of one change.
 
 ghost use Rattle.std.specs.Prelude.{◌≡◌, length, slice_get};
-ghost use Rattle.std.specs.List.{list_any};
+ghost use Rattle.std.specs.List.{list_any, position_from};
 ghost use Rattle.std.specs.Option.{option_copied};
-ghost use Rattle.apply_model.specs.Script.Waits.{names_a_wait};
+ghost use Rattle.apply_model.specs.Script.Step.{if_byte, is_skipped};
+ghost use Rattle.apply_model.specs.Script.Waits.{has_a_wait};
 
-use crate::script::outcome::Outcome;
+use crate::script::script_step::ScriptStep;
 use std::marker::Model;
 
-/// The outcomes of the first steps of a change, which contracts see as a list.
+/// What a script says of the first steps of a change, which contracts see as a list.
 #[derive(Debug, Drop)]
 pub struct StepOutcomes {
-    outcomes: Vec<Outcome>,
+    steps: Vec<ScriptStep>,
 }
 
 impl Model for StepOutcomes {
     ghost use Rattle.std.specs.Prelude.{List};
-    ghost use Rattle.apply_model.specs.declared.script.outcome.Outcome.{Outcome};
+    ghost use Rattle.apply_model.specs.declared.script.script_step.ScriptStep.{ScriptStep};
 
-    ghost Value = { List Outcome };
+    ghost Value = { List ScriptStep };
 
-    ghost view = { λ o. o.outcomes.items };
+    ghost view = { λ o. o.steps.items };
 }
 
 impl StepOutcomes {
-    /// These outcomes, that of the first step first.
-    pub fn new(outcomes: Vec<Outcome>) -> StepOutcomes
-        ensures { result ≡ outcomes.items }
+    /// These steps, the first one first.
+    pub fn new(steps: Vec<ScriptStep>) -> StepOutcomes
+        ensures { result ≡ steps.items }
     {
-        StepOutcomes { outcomes }
+        StepOutcomes { steps }
     }
 
     /// How many they are.
     pub fn len(&self) -> usize
         ensures { result ≡ length self.now }
     {
-        self.outcomes.len()
+        self.steps.len()
     }
 
-    /// The outcome of the step of that number, counted from 0. `None` where it is not given.
-    pub fn get(&self, step: usize) -> Option<&Outcome>
+    /// The step of that number, counted from 0. `None` where nothing is said of it.
+    pub fn get(&self, step: usize) -> Option<&ScriptStep>
         ensures { option_copied result ≡ slice_get self.now step }
     {
-        self.outcomes.get(step)
+        self.steps.get(step)
     }
 
-    /// Whether one of them names a step that it waits for.
-    pub fn name_a_wait(&self) -> bool
-        ensures { result ≡ list_any names_a_wait self.now }
+    /// The number of the first that is skipped, counted from 0, where it fits 8 bits.
+    pub fn first_skipped(&self) -> Option<u8>
+        ensures { result ≡ if_byte (position_from is_skipped 0 self.now) }
     {
-        self.outcomes.iter().any(Outcome::names_a_wait)
+        let first = self.position_of_skipped()?;
+        if first < 256 { Some(first as u8) } else { None }
+    }
+
+    /// The number of the first that is skipped, counted from 0.
+    fn position_of_skipped(&self) -> Option<usize>
+        ensures { result ≡ position_from is_skipped 0 self.now }
+    {
+        self.steps.iter().position(ScriptStep::is_skipped)
+    }
+
+    /// Whether one that is not skipped names a step that it waits for.
+    pub fn name_a_wait(&self) -> bool
+        ensures { result ≡ list_any has_a_wait self.now }
+    {
+        self.steps.iter().any(ScriptStep::has_a_wait)
     }
 }

@@ -9,7 +9,7 @@ use Rattle.std.proofs.lemmas.List.Sums.{count_by-le-length, sum_by-set, sum_by_p
 use Rattle.std.proofs.lemmas.Option.{get_or_from_slice_get, slice_get_cases, slice_get_within}
 use Rattle.apply_model.specs.declared.script.wait.Wait.{Wait}
 use Rattle.apply_model.specs.Script.OutcomeMap.{OutcomeMap}
-use Rattle.apply_model.specs.Script.Waits.{could_begin, waits_of}
+use Rattle.apply_model.specs.Script.Waits.{could_begin, waits_told}
 use Rattle.apply_plan.specs.declared.script.beginning.Visit.{Visit}
 use Rattle.apply_plan.specs.declared.script.mark.Mark.{Mark}
 use Rattle.apply_plan.specs.declared.script.mark.Mark.TheVariants.{Unseen, OnPath, Begins}
@@ -83,7 +83,7 @@ steps_on path = map (λ visit. visit.step) path
 
 -- those that were passed have begun within so many rounds
 abbrev HasPassed : OutcomeMap → ℕ → Visit → Type 0
-HasPassed script rounds visit = list_all (begins_at script rounds) (take visit.passed (waits_of script visit.step.change visit.step.step)) ≡ true
+HasPassed script rounds visit = list_all (begins_at script rounds) (take visit.passed (waits_told script visit.step.change visit.step.step)) ≡ true
 
 pub record IsSearching (script : OutcomeMap) (root : Wait) (marks : List Mark) (path : List Visit) : Type 0 where
   pub long : length marks ≡ 2 * length script
@@ -98,7 +98,7 @@ pub record IsSearching (script : OutcomeMap) (root : Wait) (marks : List Mark) (
 passed_also : (script : OutcomeMap) (rounds more : ℕ) → rounds ≤ more → (path : List Visit) → AllByRecursion (HasPassed script rounds) path → AllByRecursion (HasPassed script more) path
 passed_also script rounds more few path all =
     all_also (HasPassed script rounds) (HasPassed script more)
-    (λ visit passed. all_begin (take visit.passed (waits_of script visit.step.change visit.step.step)) passed) path all
+    (λ visit passed. all_begin (take visit.passed (waits_told script visit.step.change visit.step.step)) passed) path all
   where
     split : (a b : Bool) → (a && b) ≡ true → (a ≡ true) × (b ≡ true)
     split true b e = (refl, e)
@@ -208,7 +208,7 @@ module _ (script : OutcomeMap) (root : Wait) (marks : List Mark) (path front : L
   below = in_marks (length script) marks visit.step has.long here
 
   abbrev waits : List Wait
-  waits = waits_of script visit.step.change visit.step.step
+  waits = waits_told script visit.step.change visit.step.step
 
   chain_here : IsChain script (steps_on front ++ visit.step ∷ [])
   chain_here = subst (IsChain script) (steps-push front visit) has.chain
@@ -218,7 +218,7 @@ module _ (script : OutcomeMap) (root : Wait) (marks : List Mark) (path front : L
 
   -- ---- all that it waits for was passed
 
-  pub all_passed : slice_get (waits_of script visit.step.change visit.step.step) visit.passed ≡ None → begins_at script (suc (count_by has_begun marks)) visit.step ≡ true
+  pub all_passed : slice_get (waits_told script visit.step.change visit.step.step) visit.passed ≡ None → begins_at script (suc (count_by has_begun marks)) visit.step ≡ true
   all_passed none =
       let past : length waits ≤ visit.passed = ⊎_elim
       (λ (some : (x : Wait) × (visit.passed < length waits) × (slice_get waits visit.passed ≡ Some x) × (get_or waits visit.passed x ≡ x)). let both : None ≡ Some some.0 = sym none ∙ some.2 in absurd cc)
@@ -248,7 +248,7 @@ module _ (script : OutcomeMap) (root : Wait) (marks : List Mark) (path front : L
           let more : count_by has_begun (set marks (index_of visit.step) Begins) ≡ suc rounds = omega (arith, counted, none) in
           (omega (arith, more), rw more next)
 
-  pub begins_now : slice_get (waits_of script visit.step.change visit.step.step) visit.passed ≡ None → IsSearching script root (set marks (index_of visit.step) Begins) front
+  pub begins_now : slice_get (waits_told script visit.step.change visit.step.step) visit.passed ≡ None → IsSearching script root (set marks (index_of visit.step) Begins) front
   begins_now none =
       let now = begun_now (all_passed none) in
       let more = count_by has_begun (set marks (index_of visit.step) Begins) in
@@ -286,7 +286,7 @@ module _ (script : OutcomeMap) (root : Wait) (marks : List Mark) (path front : L
 
   -- ---- one more was passed
 
-  module _ (next : Wait) (at : slice_get (waits_of script visit.step.change visit.step.step) visit.passed ≡ Some next) (all_placed : AreAllPlaced script) where
+  module _ (next : Wait) (at : slice_get (waits_told script visit.step.change visit.step.step) visit.passed ≡ Some next) (all_placed : AreAllPlaced script) where
     pub next_placed : IsPlaced (length script) next
     next_placed = subst (IsPlaced (length script)) (get_or_from_slice_get waits visit.passed next next at) (all_placed visit.step here visit.passed next (slice_get_within waits visit.passed next at))
 

@@ -1,8 +1,8 @@
 -- What entries say: the change that one is about, and what several say of each change.
 use Rattle.std.proofs.Common.{◌≡◌, ℕ, zero, suc, ◌+◌, ◌<◌, ◌≤◌, Bool, true, false, cond, List, [], ◌∷◌, ◌++◌, length, map, get_or, set, Option, Some, None, option_map, IfSome, refl, sym, ap, subst, ◌∙◌, add-one, arith, ⊎_elim}
-use Rattle.std.specs.Prelude.{◌&&◌, ◌||◌, find, is_some, option_and_then, slice_get, unwrap_or, ◌==◌}
+use Rattle.std.specs.Prelude.{◌&&◌, ◌||◌, find, is_some, option_and_then, slice_get, ◌==◌}
 use Rattle.std.specs.List.{All, count_by, enumerate_from, range_with_len}
-use Rattle.std.specs.Option.{option_eq, option_or}
+use Rattle.std.specs.Option.{option_eq, option_map_or, option_or}
 use Rattle.std.specs.Str.{bytes_eq}
 use Rattle.std.proofs.lemmas.Bool.{cases_Bool, cases_lt}
 use Rattle.std.proofs.lemmas.Bool.Decides.{eqb_tells}
@@ -12,14 +12,15 @@ use Rattle.std.proofs.lemmas.List.FromFn.{get_or-map-range_with_len, length-map-
 use Rattle.std.proofs.lemmas.List.Sums.{sum_by-cons, sum_by-set}
 use Rattle.std.proofs.lemmas.Option.{get_or_from_slice_get, slice_get-get_or, slice_get_past, slice_get_within, some_pair_parts}
 use Rattle.std.proofs.lemmas.Slice.Eq.{bytes_eq-Decides}
-use Rattle.apply_model.specs.declared.script.outcome.Outcome.{Outcome}
+use Rattle.apply_model.specs.declared.script.script_step.ScriptStep.{ScriptStep}
 use Rattle.apply_model.specs.Plan.ResourceChange.{ResourceChange}
 use Rattle.apply_plan.specs.Script.Entry.{Entry}
-use Rattle.apply_model.specs.Script.Outcome.{IsBounded, default_outcome}
-use Rattle.apply_model.specs.Script.OutcomeMap.{IsInRange, OutcomeMap, outcome_of, said_at}
-use Rattle.apply_model.specs.Script.Waits.{waits_of}
+use Rattle.apply_model.specs.Script.Outcome.{IsBounded}
+use Rattle.apply_model.specs.Script.OutcomeMap.{IsInRange, OutcomeMap, said_at}
+use Rattle.apply_model.specs.Script.Step.{after_of, answer_to}
+use Rattle.apply_model.specs.Script.Waits.{named_for, waits_told}
 use Rattle.apply_plan.specs.Script.Beginning.{AreAllPlaced}
-use Rattle.apply_plan.specs.Script.EntriesView.{Says}
+use Rattle.apply_plan.specs.Script.EntriesView.{IsWithin, Says}
 use Rattle.apply_plan.specs.Script.OutcomeMap.{Said, by_number, change_of_entry, is_about, said_of}
 use Rattle.apply_plan.specs.Script.Placed.{ArePlaced, IsPlaced}
 
@@ -126,19 +127,19 @@ about_same changes entry other number at change theirs is are =
 
 -- ---- what several entries say
 
-said_of-append : (made : List Said) (one : Said) (number : ℕ) → said_of (made ++ one ∷ []) number ≡ option_or (said_of made number) (cond (one.change == number) (Some one.outcomes) None)
-said_of-append [] one number = elim (one.change == number) as (λ b. option_map (λ (e : Said). e.outcomes) (cond b (Some one) None) ≡ cond b (Some one.outcomes) None) [ true ↦ refl | false ↦ refl ]
+said_of-append : (made : List Said) (one : Said) (number : ℕ) → said_of (made ++ one ∷ []) number ≡ option_or (said_of made number) (cond (one.change == number) (Some one.steps) None)
+said_of-append [] one number = elim (one.change == number) as (λ b. option_map (λ (e : Said). e.steps) (cond b (Some one) None) ≡ cond b (Some one.steps) None) [ true ↦ refl | false ↦ refl ]
 said_of-append (first ∷ others) one number =
-    elim (first.change == number) as (λ b. option_map (λ (e : Said). e.outcomes) (cond b (Some first) (find (λ e. e.change == number) (others ++ one ∷ []))) ≡ option_or (option_map (λ e. e.outcomes) (cond b (Some first) (find (λ e. e.change == number) others))) (cond (one.change == number) (Some one.outcomes) None))
+    elim (first.change == number) as (λ b. option_map (λ (e : Said). e.steps) (cond b (Some first) (find (λ e. e.change == number) (others ++ one ∷ []))) ≡ option_or (option_map (λ e. e.steps) (cond b (Some first) (find (λ e. e.change == number) others))) (cond (one.change == number) (Some one.steps) None))
     [ true ↦ refl | false ↦ said_of-append others one number ]
 
-is_some_or : (o : Option (List Outcome)) (b : Bool) (x : List Outcome) → is_some (option_or o (cond b (Some x) None)) ≡ (is_some o || b)
+is_some_or : (o : Option (List ScriptStep)) (b : Bool) (x : List ScriptStep) → is_some (option_or o (cond b (Some x) None)) ≡ (is_some o || b)
 is_some_or None true x = refl
 is_some_or None false x = refl
 is_some_or (Some y) b x = refl
 
 pub is_said-append : (made : List Said) (one : Said) (number : ℕ) → is_some (said_of (made ++ one ∷ []) number) ≡ (is_some (said_of made number) || (one.change == number))
-is_said-append made one number = rw (said_of-append made one number) (is_some_or (said_of made number) (one.change == number) one.outcomes)
+is_said-append made one number = rw (said_of-append made one number) (is_some_or (said_of made number) (one.change == number) one.steps)
 
 -- what they say of a change stands at its number
 pub at_number : (count : ℕ) (made : List Said) (number : ℕ) → number < count → said_at (by_number count made) number ≡ said_of made number
@@ -157,26 +158,26 @@ length-by_number count made = length-map-range_with_len (said_of made) 0 count
 
 -- one entry more changes one place
 pub by_number-append : (count : ℕ) (made : List Said) (one : Said) → one.change < count → said_of made one.change ≡ None
-    → by_number count (made ++ one ∷ []) ≡ set (by_number count made) one.change (Some one.outcomes)
+    → by_number count (made ++ one ∷ []) ≡ set (by_number count made) one.change (Some one.steps)
 by_number-append count made one below none =
     let before = by_number count made in
     let after = by_number count (made ++ one ∷ []) in
     let within : one.change < length before = rw (length-by_number count made) below in
-    let lengths : length after ≡ length (set before one.change (Some one.outcomes)) = length-by_number count (made ++ one ∷ []) ∙ sym (length-by_number count made) ∙ sym (length-set before one.change (Some one.outcomes)) in
-    same_lists after (set before one.change (Some one.outcomes)) lengths (λ k d h.
+    let lengths : length after ≡ length (set before one.change (Some one.steps)) = length-by_number count (made ++ one ∷ []) ∙ sym (length-by_number count made) ∙ sym (length-set before one.change (Some one.steps)) in
+    same_lists after (set before one.change (Some one.steps)) lengths (λ k d h.
     let low : k < count = rw (length-by_number count (made ++ one ∷ [])) at h in
     let place : 0 + k ≡ k = omega arith in
-    let mine : get_or after k d ≡ option_or (said_of made k) (cond (one.change == k) (Some one.outcomes) None) =
+    let mine : get_or after k d ≡ option_or (said_of made k) (cond (one.change == k) (Some one.steps) None) =
     get_or-map-range_with_len (said_of (made ++ one ∷ [])) 0 count k k d low place ∙ said_of-append made one k in
     let theirs : get_or before k d ≡ said_of made k = get_or-map-range_with_len (said_of made) 0 count k k d low place in
     ⊎_elim
     (λ same.
-    mine ∙ rw (same.0, ← same.1, none) refl ∙ sym (get_or-set_same before one.change (Some one.outcomes) d within) ∙ ap (λ (i : ℕ). get_or (set before one.change (Some one.outcomes)) i d) same.1)
+    mine ∙ rw (same.0, ← same.1, none) refl ∙ sym (get_or-set_same before one.change (Some one.steps) d within) ∙ ap (λ (i : ℕ). get_or (set before one.change (Some one.steps)) i d) same.1)
     (λ apart.
-    mine ∙ rw apart.0 (or_none (said_of made k)) ∙ sym theirs ∙ sym (get_or-set_other before one.change k (Some one.outcomes) d (λ e. apart.1 (sym e))))
+    mine ∙ rw apart.0 (or_none (said_of made k)) ∙ sym theirs ∙ sym (get_or-set_other before one.change k (Some one.steps) d (λ e. apart.1 (sym e))))
     (eqb_tells one.change k))
   where
-    or_none : (o : Option (List Outcome)) → option_or o None ≡ o
+    or_none : (o : Option (List ScriptStep)) → option_or o None ≡ o
     or_none None = refl
     or_none (Some x) = refl
 
@@ -189,7 +190,7 @@ nothing_said count = ap (λ (n : ℕ). by_number n []) (add-one count) ∙ from 
 
 -- ---- how much has been said
 
-abbrev counted : Option (List Outcome) → ℕ
+abbrev counted : Option (List ScriptStep) → ℕ
 counted said = cond (is_some said) 1 0
 
 pub none_counted : (count : ℕ) → count_by is_some (by_number count []) ≡ 0
@@ -199,63 +200,63 @@ none_counted count = from 0 count
     from a zero = refl
     from a (suc n) = sum_by-cons counted None (map (said_of []) (range_with_len (a + 1) n)) ∙ ap (λ (n : ℕ). 0 + n) (from (a + 1) n)
 
-pub counted_more : (said : OutcomeMap) (number : ℕ) (outcomes : List Outcome) → number < length said → said_at said number ≡ None → count_by is_some (set said number (Some outcomes)) ≡ count_by is_some said + 1
-counted_more said number outcomes below none =
+pub counted_more : (said : OutcomeMap) (number : ℕ) (steps : List ScriptStep) → number < length said → said_at said number ≡ None → count_by is_some (set said number (Some steps)) ≡ count_by is_some said + 1
+counted_more said number steps below none =
     let at = slice_get-get_or said number None below in
-    let nothing : get_or said number None ≡ None = sym (ap (λ (o : Option (Option (List Outcome))). option_and_then (λ said. said) o) at) ∙ none in
-    let grown = sum_by-set counted said number (Some outcomes) None below in
+    let nothing : get_or said number None ≡ None = sym (ap (λ (o : Option (Option (List ScriptStep))). option_and_then (λ said. said) o) at) ∙ none in
+    let grown = sum_by-set counted said number (Some steps) None below in
     let none_before : counted (get_or said number None) ≡ 0 = ap counted nothing in
     omega (arith, grown, none_before)
 
 -- ---- each step is within the limits
 
-pub says_more : (P : List Outcome → Type 0) (made : List Said) (one : Said) → Says P made → P one.outcomes → Says P (made ++ one ∷ [])
+pub says_more : (P : List ScriptStep → Type 0) (made : List Said) (one : Said) → Says P made → P one.steps → Says P (made ++ one ∷ [])
 says_more P made one before holds number = subst (λ o. IfSome o P) (sym (said_of-append made one number)) (either (said_of made number) (one.change == number) (before number))
   where
-    either : (o : Option (List Outcome)) (b : Bool) → IfSome o P → IfSome (option_or o (cond b (Some one.outcomes) None)) P
+    either : (o : Option (List ScriptStep)) (b : Bool) → IfSome o P → IfSome (option_or o (cond b (Some one.steps) None)) P
     either None true h = holds
     either None false h = tt
-    either (Some outcomes) b h = h
+    either (Some steps) b h = h
 
-bounded_at : (outcomes : List Outcome) (k : ℕ) (o : Option Outcome) → All IsBounded outcomes → slice_get outcomes k ≡ o → IfSome o IsBounded
-bounded_at outcomes k None bounded at = tt
-bounded_at outcomes k (Some outcome) bounded at =
-    subst IsBounded (get_or_from_slice_get outcomes k outcome outcome at) (bounded k outcome (slice_get_within outcomes k outcome at))
+within_at : (steps : List ScriptStep) (k : ℕ) (o : Option ScriptStep) → All IsWithin steps → slice_get steps k ≡ o → IfSome (option_and_then answer_to o) IsBounded
+within_at steps k None within at = tt
+within_at steps k (Some step) within at = subst IsWithin (get_or_from_slice_get steps k step step at) (within k step (slice_get_within steps k step at))
 
-given_in_range : (said : Option (List Outcome)) (k : ℕ) → IfSome said (All IsBounded) → IfSome (option_and_then (λ outcomes. slice_get outcomes k) said) IsBounded
+given_in_range : (said : Option (List ScriptStep)) (k : ℕ) → IfSome said (All IsWithin) → IfSome (option_and_then answer_to (option_and_then (λ steps. slice_get steps k) said)) IsBounded
 given_in_range None k h = tt
-given_in_range (Some outcomes) k h = bounded_at outcomes k (slice_get outcomes k) h refl
+given_in_range (Some steps) k h = within_at steps k (slice_get steps k) h refl
 
-pub is_in_range : (count : ℕ) (made : List Said) → Says (All IsBounded) made → IsInRange (by_number count made)
+pub is_in_range : (count : ℕ) (made : List Said) → Says (All IsWithin) made → IsInRange (by_number count made)
 is_in_range count made says c k =
+    let P = λ (said : Option (List ScriptStep)). IfSome (option_and_then answer_to (option_and_then (λ steps. slice_get steps k) said)) IsBounded in
     ⊎_elim
-    (λ (below : c < count). subst (λ (said : Option (List Outcome)). IfSome (option_and_then (λ outcomes. slice_get outcomes k) said) IsBounded) (sym (at_number count made c below)) (given_in_range (said_of made c) k (says c)))
-    (λ (past : count ≤ c). subst (λ (said : Option (List Outcome)). IfSome (option_and_then (λ outcomes. slice_get outcomes k) said) IsBounded) (sym (none_past count made c past)) tt)
+    (λ (below : c < count). subst P (sym (at_number count made c below)) (given_in_range (said_of made c) k (says c)))
+    (λ (past : count ≤ c). subst P (sym (none_past count made c past)) tt)
     (cases_lt c count)
 
 -- ---- each step waits for steps of the plan
 
-waits_at : (n : ℕ) (outcomes : List Outcome) (k : ℕ) (o : Option Outcome) → ArePlaced n outcomes → slice_get outcomes k ≡ o → All (IsPlaced n) (unwrap_or o default_outcome).after
-waits_at n outcomes k None are at = All-nil (IsPlaced n)
-waits_at n outcomes k (Some outcome) are at =
-    subst (λ (x : Outcome). All (IsPlaced n) x.after) (get_or_from_slice_get outcomes k outcome outcome at) (are.placed k outcome (slice_get_within outcomes k outcome at))
+waits_at : (n : ℕ) (steps : List ScriptStep) (k : ℕ) (o : Option ScriptStep) → ArePlaced n steps → slice_get steps k ≡ o → All (IsPlaced n) (option_map_or after_of o [])
+waits_at n steps k None are at = All-nil (IsPlaced n)
+waits_at n steps k (Some step) are at =
+    subst (λ (x : ScriptStep). All (IsPlaced n) (after_of x)) (get_or_from_slice_get steps k step step at) (are.placed k step (slice_get_within steps k step at))
 
-said_placed : (n : ℕ) (said : Option (List Outcome)) (k : ℕ) → IfSome said (ArePlaced n) → All (IsPlaced n) (unwrap_or (option_and_then (λ outcomes. slice_get outcomes k) said) default_outcome).after
+said_placed : (n : ℕ) (said : Option (List ScriptStep)) (k : ℕ) → IfSome said (ArePlaced n) → All (IsPlaced n) (option_map_or after_of (option_and_then (λ steps. slice_get steps k) said) [])
 said_placed n None k h = All-nil (IsPlaced n)
-said_placed n (Some outcomes) k h = waits_at n outcomes k (slice_get outcomes k) h refl
+said_placed n (Some steps) k h = waits_at n steps k (slice_get steps k) h refl
 
-named_placed : (count : ℕ) (made : List Said) → Says (ArePlaced count) made → (c k : ℕ) → c < count → All (IsPlaced count) (outcome_of (by_number count made) c k).after
+named_placed : (count : ℕ) (made : List Said) → Says (ArePlaced count) made → (c k : ℕ) → c < count → All (IsPlaced count) (named_for (by_number count made) c k)
 named_placed count made says c k below =
-    subst (λ (said : Option (List Outcome)). All (IsPlaced count) (unwrap_or (option_and_then (λ outcomes. slice_get outcomes k) said) default_outcome).after)
+    subst (λ (said : Option (List ScriptStep)). All (IsPlaced count) (option_map_or after_of (option_and_then (λ steps. slice_get steps k) said) []))
     (sym (at_number count made c below)) (said_placed count (said_of made c) k (says c))
 
-waits_placed : (count : ℕ) (made : List Said) → Says (ArePlaced count) made → (c k : ℕ) → c < count → k < 2 → All (IsPlaced count) (waits_of (by_number count made) c k)
+waits_placed : (count : ℕ) (made : List Said) → Says (ArePlaced count) made → (c k : ℕ) → c < count → k < 2 → All (IsPlaced count) (waits_told (by_number count made) c k)
 waits_placed count made says c zero below low = named_placed count made says c zero below
 waits_placed count made says c (suc k) below low =
-    All-cons (IsPlaced count) (record { change = c; step = k }) (outcome_of (by_number count made) c (suc k)).after (record { change_below = below; step_below = omega arith }) (named_placed count made says c (suc k) below)
+    All-cons (IsPlaced count) (record { change = c; step = k }) (named_for (by_number count made) c (suc k)) (record { change_below = below; step_below = omega arith }) (named_placed count made says c (suc k) below)
 
 pub are_all_placed : (count : ℕ) (made : List Said) → Says (ArePlaced count) made → AreAllPlaced (by_number count made)
 are_all_placed count made says wait placed =
     let long = length-by_number count made in
-    subst (λ (n : ℕ). All (IsPlaced n) (waits_of (by_number count made) wait.change wait.step)) (sym long)
+    subst (λ (n : ℕ). All (IsPlaced n) (waits_told (by_number count made) wait.change wait.step)) (sym long)
     (let below : wait.change < count = omega (arith, placed.change_below, long) in waits_placed count made says wait.change wait.step below placed.step_below)

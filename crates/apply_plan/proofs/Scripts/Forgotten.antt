@@ -8,7 +8,7 @@ use Rattle.std.proofs.lemmas.List.{get_or_append_left, get_or_default, get_or_pu
 use Rattle.std.proofs.lemmas.List.Folds.{list_any-append}
 use Rattle.std.proofs.lemmas.List.FromFn.{get_or-map-range_with_len}
 use Rattle.serde_json.specs.Data.{Data}
-use Rattle.apply_model.specs.declared.script.outcome.Outcome.{Outcome}
+use Rattle.apply_model.specs.declared.script.script_step.ScriptStep.{ScriptStep}
 use Rattle.apply_model.specs.Script.OutcomeMap.{OutcomeMap}
 use Rattle.apply_plan.specs.declared.script.entries.Entries.{Entries}
 use Rattle.apply_plan.specs.Script.EntriesView.{AreCovered, HoldsEntries, kept_of}
@@ -44,7 +44,7 @@ last_within said kept rest last are is =
     let there = whole (length rest) last (omega (arith, length-append rest (last ∷ []))) in
     (subst (λ (entry : ℕ × ℕ). (entry.0 < length said) × (entry.1 ≤ 2)) (get_or_push rest last last (length rest) refl) there).0
 
-never : (o : Option (List Outcome)) → o ≡ None → is_some o ≡ true → ⊥
+never : (o : Option (List ScriptStep)) → o ≡ None → is_some o ≡ true → ⊥
 never None none some = absurd cc
 never (Some x) none some = absurd cc
 
@@ -85,6 +85,6 @@ none_left said are = same_lists said (by_number (length said) []) (sym (length-b
     let place : 0 + k ≡ k = omega arith in
     get_or_default said k d None below ∙ nothing (get_or said k None) (are.covered k below) ∙ sym (get_or-map-range_with_len (said_of []) 0 (length said) k k d below place))
   where
-    nothing : (o : Option (List Outcome)) → (is_some o ≡ true → false ≡ true) → o ≡ None
+    nothing : (o : Option (List ScriptStep)) → (is_some o ≡ true → false ≡ true) → o ≡ None
     nothing None never = refl
     nothing (Some x) never = absurd (let yes = never refl in cc)

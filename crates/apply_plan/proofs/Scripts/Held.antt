@@ -1,5 +1,5 @@
 -- The values of a script, by what slots hold of their members.
-use Rattle.std.proofs.Common.{◌≡◌, ℕ, List, [], codes, map, Option, Some, None, option_map, refl, ap, ◌∙◌}
+use Rattle.std.proofs.Common.{◌≡◌, ℕ, List, [], codes, map, Option, Some, None, is_some, option_map, refl, ap, ◌∙◌}
 use Rattle.std.specs.Borrow.{Bor}
 use Rattle.serde_json.specs.Data.{Data, null, boolean, number, string, array, object, Items}
 use Rattle.serde_json.specs.Find.{as_array, as_str, get_member}
@@ -14,13 +14,17 @@ use Rattle.apply_plan.specs.declared.script.entry_slots.EntrySlots.{EntrySlots}
 use Rattle.apply_plan.specs.declared.script.provisioner_slots.ProvisionerSlots.{ProvisionerSlots}
 use Rattle.apply_plan.specs.declared.script.step_slots.StepSlots.{StepSlots}
 use Rattle.apply_plan.specs.declared.script.wait_slots.WaitSlots.{WaitSlots}
-use Rattle.apply_plan.specs.Script.Entry.{Entry, EntryStep, WaitName, all_some, diag_from, diag_or_none, each_of, ending_of, entry_of, number_or_none, provisioner_from, step_from, wait_from, wait_of_members}
-use Rattle.apply_plan.specs.Script.Members.{HoldsDiag, HoldsEntry, HoldsProvisioner, HoldsStep, HoldsWait, diag_held, diag_member, each_member, ending_held, entry_held, number_held, provisioner_held, step_held, steps_member, wait_held}
+use Rattle.apply_plan.specs.Script.Entry.{Entry, EntryStep, WaitName, all_some, diag_from, diag_or_none, each_of, ending_of, entry_of, flag_or_false, may_fail_or_not, number_or_none, object_or_none, provisioner_from, step_from, wait_from, wait_of_members}
+use Rattle.apply_plan.specs.Script.Members.{HoldsDiag, HoldsEntry, HoldsProvisioner, HoldsStep, HoldsWait, diag_held, diag_member, each_member, ending_held, entry_held, flag_held, is_told, may_fail_held, number_held, object_member, provisioner_held, step_held, steps_member, wait_held}
 
 -- ---- diagnostics
 
+object_at : (name : List ℕ) (d : Data) → object_or_none (member_of name d) ≡ object_member (get_member name (members_in d))
+object_at name d = ap object_or_none (member_in name d)
+
 pub diag_is : (slots : DiagSlots) (d : Data) → HoldsDiag slots (members_in d) → diag_held slots ≡ diag_from d
-diag_is slots d holds = rw (text_in (codes "summary") d, text_or_in [] (codes "detail") d, ← holds.summary, ← holds.detail) refl
+diag_is slots d holds =
+    rw (text_in (codes "summary") d, text_or_in [] (codes "detail") d, object_at (codes "range") d, object_at (codes "snippet") d, ← holds.summary, ← holds.detail, ← holds.range, ← holds.snippet) refl
 
 pub diag_absent : (d : Data) → s.absent ≡ seen (Some d) → Some None ≡ diag_member (Some d)
 diag_absent null is = refl
@@ -84,12 +88,48 @@ diag_at name d = ap diag_or_none (member_in name d)
 each_at : {A : Type 0} (part : Data → Option A) (name : List ℕ) (d : Data) → each_of part (member_of name d) ≡ each_member part (get_member name (members_in d))
 each_at part name d = ap (each_of part) (member_in name d)
 
+may_fail_is : (o : Option Data) → may_fail_or_not (o >>= unless_null) ≡ may_fail_held (seen o)
+may_fail_is None = refl
+may_fail_is (Some null) = refl
+may_fail_is (Some (boolean b)) = refl
+may_fail_is (Some (number n)) = refl
+may_fail_is (Some (string t)) = refl
+may_fail_is (Some (array ds)) = refl
+may_fail_is (Some (object ms)) = refl
+
+may_fail_at : (d : Data) → may_fail_or_not (member_of (codes "on_failure") d) ≡ may_fail_held (seen (get_member (codes "on_failure") (members_in d)))
+may_fail_at d = ap may_fail_or_not (member_in (codes "on_failure") d) ∙ may_fail_is (get_member (codes "on_failure") (members_in d))
+
+flag_is : (o : Option Data) → flag_or_false (o >>= unless_null) ≡ flag_held (seen o)
+flag_is None = refl
+flag_is (Some null) = refl
+flag_is (Some (boolean b)) = refl
+flag_is (Some (number n)) = refl
+flag_is (Some (string t)) = refl
+flag_is (Some (array ds)) = refl
+flag_is (Some (object ms)) = refl
+
+flag_at : (d : Data) → flag_or_false (member_of (codes "skipped") d) ≡ flag_held (seen (get_member (codes "skipped") (members_in d)))
+flag_at d = ap flag_or_false (member_in (codes "skipped") d) ∙ flag_is (get_member (codes "skipped") (members_in d))
+
+told_is : (o : Option Data) → is_some (o >>= unless_null) ≡ is_told (seen o)
+told_is None = refl
+told_is (Some null) = refl
+told_is (Some (boolean b)) = refl
+told_is (Some (number n)) = refl
+told_is (Some (string t)) = refl
+told_is (Some (array ds)) = refl
+told_is (Some (object ms)) = refl
+
+told_at : (d : Data) → is_some (member_of (codes "seconds") d) ≡ is_told (seen (get_member (codes "seconds") (members_in d)))
+told_at d = ap (λ (o : Option Data). is_some o) (member_in (codes "seconds") d) ∙ told_is (get_member (codes "seconds") (members_in d))
+
 -- ---- provisioners, steps and entries
 
 pub provisioner_is : (slots : ProvisionerSlots) (d : Data) → HoldsProvisioner slots (members_in d) → provisioner_held slots ≡ provisioner_from d
 unfolding provisioner_from
 provisioner_is slots d holds =
-    rw (text_in (codes "provisioner") d, whole_in (codes "seconds") d, diag_at (codes "failed") d, each_at as_str (codes "output") d, ← holds.name, ← holds.seconds, ← holds.failed, ← holds.output) refl
+    rw (text_in (codes "provisioner") d, whole_in (codes "seconds") d, diag_at (codes "failed") d, each_at as_str (codes "output") d, may_fail_at d, ← holds.name, ← holds.seconds, ← holds.failed, ← holds.output, ← holds.on_failure) refl
 
 ending_is : (slots : StepSlots) (d : Data) → HoldsStep slots (members_in d) → ending_held (scalar_view slots.id) slots.warning slots.failed ≡ ending_of d
 unfolding ending_of
@@ -99,7 +139,7 @@ ending_is slots d holds =
 pub step_is : (slots : StepSlots) (d : Data) → HoldsStep slots (members_in d) → step_held slots ≡ step_from d
 unfolding step_from
 step_is slots d holds =
-    rw (whole_in (codes "seconds") d, each_at provisioner_from (codes "provisioners") d, each_at wait_from (codes "after") d, ← ending_is slots d holds, ← holds.seconds, ← holds.provisioners, ← holds.after) refl
+    rw (flag_at d, whole_in (codes "seconds") d, told_at d, each_at provisioner_from (codes "provisioners") d, each_at wait_from (codes "after") d, ← ending_is slots d holds, ← holds.skipped, ← holds.seconds, ← holds.provisioners, ← holds.after) refl
 
 abbrev entry_with : List ℕ → List ℕ → List EntryStep → Entry
 entry_with address deposed steps = record { address = address; deposed = unless_empty deposed; steps = steps }
@@ -146,3 +186,10 @@ not_text (scalar.Bool b) never t is = absurd cc
 not_text (scalar.Number n) never t is = absurd cc
 not_text (scalar.Text x) never t is = never x refl
 not_text scalar.Other never t is = absurd cc
+
+pub not_absent : (found : Scalar) → (found ≡ scalar.Absent → ⊥) → s.absent ≡ scalar_view found → ⊥
+not_absent scalar.Absent never is = never refl
+not_absent (scalar.Bool b) never is = absurd cc
+not_absent (scalar.Number n) never is = absurd cc
+not_absent (scalar.Text x) never is = absurd cc
+not_absent scalar.Other never is = absurd cc

@@ -10,7 +10,7 @@ use Rattle.apply_json.specs.Seen.{members_in}
 use Rattle.apply_json.specs.Tree.{list_of, unless_null}
 use Rattle.apply_json.specs.Tree as json
 use Rattle.apply_json.proofs.Held.{member_in}
-use Rattle.apply_model.specs.declared.script.outcome.Outcome.{Outcome}
+use Rattle.apply_model.specs.declared.script.script_step.ScriptStep.{ScriptStep}
 use Rattle.apply_model.specs.Plan.SavedPlan.{SavedPlan, max_changes}
 use Rattle.apply_model.specs.Script.Limits.{max_waits}
 use Rattle.apply_model.specs.Script.OutcomeMap.{OutcomeMap}
@@ -101,15 +101,15 @@ next_entry entries ds d holds none answer is =
     made_more (entry_after changes) [] ds d ∙ ap (λ r. r >>= one_more (entry_after changes) d) (holds.so_far (no_want entries.fault none) ∙ ap (λ (o : Option ScriptError). unless_refused o holds.made) (none_there entries.fault none))
     ∙ ap (λ (r : Result Said ScriptError). r >>= λ one. Ok (holds.made ++ one ∷ [])) (same_entry changes entries.said.items entries.waits (length entries.kept.items) holds.made d answer holds.said is)
 
-pub holds_more : (old new : Entries) (ds : List Data) (d : Data) (change : ℕ) (outcomes : List Outcome) (waits : ℕ) → HoldsEntries old ds → is_some old.fault ≡ false
-    → entry_beside old.plan.now.changes old.said.items old.waits (length old.kept.items) d ≡ Ok (record { change = change; outcomes = outcomes; waits = waits })
-    → change < length old.said.items → ArePlaced (length old.said.items) outcomes → old.waits + waits ≤ max_waits
-    → KeepsOneMore old change outcomes waits new → HoldsEntries new (ds ++ d ∷ [])
-holds_more old new ds d change outcomes waits holds none is below placed few keeps =
+pub holds_more : (old new : Entries) (ds : List Data) (d : Data) (change : ℕ) (steps : List ScriptStep) (waits : ℕ) → HoldsEntries old ds → is_some old.fault ≡ false
+    → entry_beside old.plan.now.changes old.said.items old.waits (length old.kept.items) d ≡ Ok (record { change = change; steps = steps; waits = waits })
+    → change < length old.said.items → ArePlaced (length old.said.items) steps → old.waits + waits ≤ max_waits
+    → KeepsOneMore old change steps waits new → HoldsEntries new (ds ++ d ∷ [])
+holds_more old new ds d change steps waits holds none is below placed few keeps =
     let changes = old.plan.now.changes in
-    let one : Said = record { change = change; outcomes = outcomes; waits = waits } in
+    let one : Said = record { change = change; steps = steps; waits = waits } in
     let more = said_more changes old.said.items old.waits (length old.kept.items) holds.made d one holds.said is placed in
-    let longer : length (old.kept.items ++ (change, length outcomes) ∷ []) ≡ length old.kept.items + 1 = omega (arith, length-append old.kept.items ((change, length outcomes) ∷ [])) in
+    let longer : length (old.kept.items ++ (change, length steps) ∷ []) ≡ length old.kept.items + 1 = omega (arith, length-append old.kept.items ((change, length steps) ∷ [])) in
     record {
       made = holds.made ++ one ∷ [];
       few_changes = rw keeps.plan holds.few_changes;

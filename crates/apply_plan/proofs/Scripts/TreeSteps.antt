@@ -5,11 +5,11 @@ use Rattle.std.proofs.lemmas.Bool.{le-ltb, lt-ltb}
 use Rattle.std.proofs.lemmas.List.{take_all}
 use Rattle.std.proofs.lemmas.List.Sums.{sum_by-cons, sum_by_more, sum_by_more_le}
 use Rattle.apply_model.specs.declared.script.provisioner.Provisioner.{Provisioner}
+use Rattle.apply_plan.specs.declared.script.tree_outcome.TreeOutcome.{TreeOutcome}
 use Rattle.apply_plan.specs.declared.script.tree_provisioner.TreeProvisioner.{TreeProvisioner}
-use Rattle.apply_plan.specs.declared.script.tree_step.TreeStep.{TreeStep}
 use Rattle.apply_model.specs.Script.Limits.{max_seconds}
 use Rattle.apply_model.specs.Script.Outcome.{is_too_long, seconds_of_all}
-use Rattle.apply_plan.specs.Script.TreeView.{provisioner_view, step_view}
+use Rattle.apply_plan.specs.Script.TreeView.{outcome_view, provisioner_view}
 
 abbrev pub tree_seconds : List TreeProvisioner → ℕ
 tree_seconds provisioners = sum_by (λ provisioner. provisioner.seconds) provisioners
@@ -35,8 +35,8 @@ more_tree_seconds provisioners i p below is =
 pub all_tree_seconds : (provisioners : List TreeProvisioner) (i : ℕ) → length provisioners ≤ i → tree_seconds (take i provisioners) ≡ tree_seconds provisioners
 all_tree_seconds provisioners i past = ap tree_seconds (take_all i provisioners past)
 
-pub too_long : (step : TreeStep) → max_seconds < step.seconds + tree_seconds step.provisioners.items → is_too_long (step_view step) ≡ true
+pub too_long : (step : TreeOutcome) → max_seconds < step.seconds + tree_seconds step.provisioners.items → is_too_long (outcome_view step) ≡ true
 too_long step over = rw (seen_seconds step.provisioners.items) (lt-ltb _ _ over)
 
-pub not_too_long : (step : TreeStep) → step.seconds + tree_seconds step.provisioners.items ≤ max_seconds → is_too_long (step_view step) ≡ false
+pub not_too_long : (step : TreeOutcome) → step.seconds + tree_seconds step.provisioners.items ≤ max_seconds → is_too_long (outcome_view step) ≡ false
 not_too_long step under = rw (seen_seconds step.provisioners.items) (le-ltb _ _ under)

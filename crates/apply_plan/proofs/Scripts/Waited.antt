@@ -8,19 +8,21 @@ use Rattle.std.proofs.lemmas.List.{append-nil, length-append, map-append, take_a
 use Rattle.std.proofs.lemmas.List.Elements.{All-append, All-cons, All-nil, filter_map-append}
 use Rattle.std.proofs.lemmas.List.Folds.{list_any-append, list_any_at}
 use Rattle.apply_model.specs.declared.script.outcome.Outcome.{Outcome}
+use Rattle.apply_model.specs.declared.script.script_step.ScriptStep.{ScriptStep}
 use Rattle.apply_model.specs.declared.script.wait.Wait.{Wait}
 use Rattle.apply_model.specs.Plan.ResourceChange.{ResourceChange}
+use Rattle.apply_model.specs.Script.Step.{after_of}
 use Rattle.apply_plan.specs.declared.script.script_error.ScriptError.TheVariants.{UnknownWait, NoSuchStep}
 use Rattle.apply_plan.specs.declared.script.tree_step.TreeStep.{TreeStep}
 use Rattle.apply_plan.specs.declared.script.tree_wait.TreeWait.{TreeWait}
 use Rattle.apply_plan.specs.declared.script.waited.Waited.{Waited}
 use Rattle.apply_plan.specs.Results.{unless_refused}
 use Rattle.apply_plan.specs.Script.Entry.{Entry, EntryStep, WaitName}
-use Rattle.apply_plan.specs.Script.NextEntry.{outcomes_or_fault}
+use Rattle.apply_plan.specs.Script.NextEntry.{steps_or_fault}
 use Rattle.apply_plan.specs.Script.Placed.{IsPlaced}
 use Rattle.apply_plan.specs.Script.Refusals.{is_any_wait, is_unknown, lacks_step}
 use Rattle.apply_plan.specs.Script.TreeView.{entry_step_view, step_view, wait_view, waits_view}
-use Rattle.apply_plan.specs.Script.WaitedStep.{change_waited, number_waited, outcome_said, step_of_change, step_waited}
+use Rattle.apply_plan.specs.Script.WaitedStep.{change_waited, number_waited, step_of_change, step_said, step_waited, with_waits}
 use Rattle.apply_plan.specs.Script.WaitedView.{waited_by}
 use Rattle.apply_plan.proofs.Scripts.Entries.{change_numbered, is_numbered, not_numbered}
 use Rattle.apply_plan.proofs.Scripts.Refusals.{list_any-map}
@@ -170,37 +172,41 @@ unknown_among changes names is = ⊎_elim
     (cases_Bool (list_any (is_unknown changes) names))
 
 -- what a reader has made of the first i steps
-pub record HasOutcomes (changes : List ResourceChange) (steps : List TreeStep) (i : ℕ) (outcomes : List Outcome) (lacks : Bool) : Type 0 where
+pub record HasSteps (changes : List ResourceChange) (steps : List TreeStep) (i : ℕ) (said : List ScriptStep) (lacks : Bool) : Type 0 where
   pub known : is_any_wait (is_unknown changes) (map entry_step_view (take i steps)) ≡ false
-  pub outcomes_are : outcomes ≡ map (outcome_said changes) (map entry_step_view (take i steps))
+  pub said_is : said ≡ map (step_said changes) (map entry_step_view (take i steps))
   pub lacks_is : lacks ≡ is_any_wait (lacks_step changes) (map entry_step_view (take i steps))
-  pub placed : All (λ outcome. All (IsPlaced (length changes)) outcome.after) outcomes
+  pub placed : All (λ step. All (IsPlaced (length changes)) (after_of step)) said
 
-pub no_outcomes : (changes : List ResourceChange) (steps : List TreeStep) (outcomes : List Outcome) → outcomes ≡ [] → HasOutcomes changes steps 0 outcomes false
-no_outcomes changes steps outcomes none =
-    let P = λ (outcome : Outcome). All (IsPlaced (length changes)) outcome.after in
-    record { known = refl; outcomes_are = none; lacks_is = refl; placed = subst (All P) (sym none) (All-nil P) }
+pub no_steps : (changes : List ResourceChange) (steps : List TreeStep) (said : List ScriptStep) → said ≡ [] → HasSteps changes steps 0 said false
+no_steps changes steps said none =
+    let P = λ (step : ScriptStep). All (IsPlaced (length changes)) (after_of step) in
+    record { known = refl; said_is = none; lacks_is = refl; placed = subst (All P) (sym none) (All-nil P) }
+
+waits_of_step : (outcome : Option Outcome) (waits : List Wait) → after_of (with_waits outcome waits) ≡ waits
+waits_of_step None waits = refl
+waits_of_step (Some outcome) waits = refl
 
 next_step : (steps : List TreeStep) (i : ℕ) (step : TreeStep) → i < length steps → step ≡ get_or steps i step → map entry_step_view (take (i + 1) steps) ≡ map entry_step_view (take i steps) ++ entry_step_view step ∷ []
 next_step steps i step below is = rw (take_more steps i step below, ← is) (map-append entry_step_view (take i steps) (step ∷ []))
 
-pub one_outcome : (changes : List ResourceChange) (steps : List TreeStep) (i : ℕ) (step : TreeStep) (outcomes : List Outcome) (lacks : Bool) (waited : Waited) (outcome : Outcome) → HasOutcomes changes steps i outcomes lacks
+pub one_step : (changes : List ResourceChange) (steps : List TreeStep) (i : ℕ) (step : TreeStep) (said : List ScriptStep) (lacks : Bool) (waited : Waited) (one : ScriptStep) → HasSteps changes steps i said lacks
     → i < length steps → step ≡ get_or steps i step → Some waited ≡ waited_by changes (waits_view step.after.items) → All (IsPlaced (length changes)) waited.waits
-    → outcome ≡ record (step_view step) { after = waited.waits } → HasOutcomes changes steps (i + 1) (outcomes ++ outcome ∷ []) (lacks || waited.lacks_step)
-one_outcome changes steps i step outcomes lacks waited outcome before below is found placed made =
+    → one ≡ with_waits (step_view step) waited.waits → HasSteps changes steps (i + 1) (said ++ one ∷ []) (lacks || waited.lacks_step)
+one_step changes steps i step said lacks waited one before below is found placed made =
     let parts = waited_parts changes (waits_view step.after.items) waited found in
-    let P = λ (outcome : Outcome). All (IsPlaced (length changes)) outcome.after in
-    let said : outcome ≡ outcome_said changes (entry_step_view step) = made ∙ ap (λ (waits : List Wait). record (step_view step) { after = waits }) parts.1 in
+    let P = λ (step : ScriptStep). All (IsPlaced (length changes)) (after_of step) in
+    let told : one ≡ step_said changes (entry_step_view step) = made ∙ ap (with_waits (step_view step)) parts.1 in
     record {
       known = rw (next_step steps i step below is, list_any-append (λ (s : EntryStep). list_any (is_unknown changes) s.after) (map entry_step_view (take i steps)) (entry_step_view step ∷ []), before.known, parts.0) refl;
-      outcomes_are = rw (next_step steps i step below is, map-append (outcome_said changes) (map entry_step_view (take i steps)) (entry_step_view step ∷ []), ← before.outcomes_are, ← said) refl;
+      said_is = rw (next_step steps i step below is, map-append (step_said changes) (map entry_step_view (take i steps)) (entry_step_view step ∷ []), ← before.said_is, ← told) refl;
       lacks_is = rw (next_step steps i step below is, list_any-append (λ (s : EntryStep). list_any (lacks_step changes) s.after) (map entry_step_view (take i steps)) (entry_step_view step ∷ []), ← before.lacks_is, ← parts.2) (ap (λ (b : Bool). lacks || b) (sym (or_false waited.lacks_step)));
-      placed = All-append P outcomes (outcome ∷ []) before.placed (All-cons P outcome [] (subst (All (IsPlaced (length changes))) (sym (ap (λ (o : Outcome). o.after) made)) placed) (All-nil P));
+      placed = All-append P said (one ∷ []) before.placed (All-cons P one [] (subst (All (IsPlaced (length changes))) (sym (ap after_of made ∙ waits_of_step (step_view step) waited.waits)) placed) (All-nil P));
     }
 
 -- the step at hand has an item of which no change has the name
 pub names_unknown : (n : ℕ) (changes : List ResourceChange) (steps : List TreeStep) (i : ℕ) (step : TreeStep) → i < length steps → step ≡ get_or steps i step → None ≡ waited_by changes (waits_view step.after.items)
-    → outcomes_or_fault n changes (map entry_step_view steps) ≡ Err (UnknownWait n)
+    → steps_or_fault n changes (map entry_step_view steps) ≡ Err (UnknownWait n)
 names_unknown n changes steps i step below is none =
     let p = λ (s : EntryStep). list_any (is_unknown changes) s.after in
     let here : p (entry_step_view (get_or steps i step)) ≡ true = ap (λ (s : TreeStep). p (entry_step_view s)) (sym is) ∙ unknown_among changes (waits_view step.after.items) none in
@@ -208,15 +214,15 @@ names_unknown n changes steps i step below is none =
     rw among refl
 
 -- all steps were looked at
-pub all_outcomes : (n : ℕ) (changes : List ResourceChange) (steps : List TreeStep) (i : ℕ) (outcomes : List Outcome) (lacks : Bool) → HasOutcomes changes steps i outcomes lacks → length steps ≤ i
-    → outcomes_or_fault n changes (map entry_step_view steps) ≡ cond lacks (Err (NoSuchStep n)) (Ok outcomes)
-all_outcomes n changes steps i outcomes lacks has past =
+pub all_steps : (n : ℕ) (changes : List ResourceChange) (steps : List TreeStep) (i : ℕ) (said : List ScriptStep) (lacks : Bool) → HasSteps changes steps i said lacks → length steps ≤ i
+    → steps_or_fault n changes (map entry_step_view steps) ≡ cond lacks (Err (NoSuchStep n)) (Ok said)
+all_steps n changes steps i said lacks has past =
     let whole : take i steps ≡ steps = take_all i steps past in
     let known : is_any_wait (is_unknown changes) (map entry_step_view steps) ≡ false = rw whole at has.known in
-    let outcomes_are : outcomes ≡ map (outcome_said changes) (map entry_step_view steps) = rw whole at has.outcomes_are in
+    let said_is : said ≡ map (step_said changes) (map entry_step_view steps) = rw whole at has.said_is in
     let lacks_is : lacks ≡ is_any_wait (lacks_step changes) (map entry_step_view steps) = rw whole at has.lacks_is in
-    rw (known, ← lacks_is, ← outcomes_are) (either lacks)
+    rw (known, ← lacks_is, ← said_is) (either lacks)
   where
-    either : (b : Bool) → unless_refused (cond b (Some (NoSuchStep n)) None) outcomes ≡ cond b (Err (NoSuchStep n)) (Ok outcomes)
+    either : (b : Bool) → unless_refused (cond b (Some (NoSuchStep n)) None) said ≡ cond b (Err (NoSuchStep n)) (Ok said)
     either true = refl
     either false = refl

@@ -9,7 +9,7 @@ use Rattle.std.proofs.lemmas.List.Folds.{list_any-append}
 use Rattle.std.proofs.lemmas.List.Sums.{count_by-le-length, sum_by_push}
 use Rattle.std.proofs.lemmas.Option.{slice_get_within}
 use Rattle.serde_json.specs.Data.{Data, Items}
-use Rattle.apply_model.specs.declared.script.outcome.Outcome.{Outcome}
+use Rattle.apply_model.specs.declared.script.script_step.ScriptStep.{ScriptStep}
 use Rattle.apply_plan.specs.declared.script.script_error.ScriptError.{ScriptError}
 use Rattle.apply_plan.specs.declared.script.script_error.ScriptError.TheVariants.{BadShape, UnknownChange, Duplicate, NeverBegins}
 use Rattle.apply_json.specs.Tree.{list_of}
@@ -17,10 +17,9 @@ use Rattle.apply_plan.specs.ListReading.{made_after}
 use Rattle.apply_model.specs.Plan.ResourceChange.{ResourceChange}
 use Rattle.apply_model.specs.Plan.SavedPlan.{SavedPlan}
 use Rattle.apply_plan.specs.Results.{◌>>=◌, all_or_first, each_with_earlier, or_refuse, unless_refused}
-use Rattle.apply_plan.specs.Script.EntriesView.{HasKept, HasSaid, kept_of}
+use Rattle.apply_plan.specs.Script.EntriesView.{HasKept, HasSaid, IsWithin, kept_of}
 use Rattle.apply_plan.specs.Script.Entry.{Entry, entry_of}
 use Rattle.apply_plan.specs.Script.NextEntry.{count_waits, entry_after, entry_beside}
-use Rattle.apply_model.specs.Script.Outcome.{IsBounded}
 use Rattle.apply_model.specs.Script.OutcomeMap.{IsInRange, OutcomeMap, said_at}
 use Rattle.apply_plan.specs.Script.Beginning.{AreAllPlaced, is_stuck_at}
 use Rattle.apply_plan.specs.Script.OutcomeMap.{Said, by_number, change_of_entry, count_in, entry_at, is_about, is_stuck, names_change, said_by, said_of, script_of_entries}
@@ -29,7 +28,7 @@ use Rattle.apply_plan.specs.Script.Refusals.{count_of_waits, fault_of_entry}
 use Rattle.apply_plan.proofs.Results.{bind_ok, bind_same, guard_ok, or_refuse_ok, unless_refused_ok}
 use Rattle.apply_plan.proofs.WholeList.{AnswersAlike, read_one_by_one}
 use Rattle.apply_plan.proofs.Scripts.Entries.{IsChangeOf, about_same, are_all_placed, at_number, by_number-append, change_is, counted_more, is_in_range, is_said-append, length-by_number, none_counted, says_more}
-use Rattle.apply_plan.proofs.Scripts.Limits.{said_is_bounded}
+use Rattle.apply_plan.proofs.Scripts.Limits.{said_is_within}
 
 -- ---- what an accepted entry says
 
@@ -40,7 +39,7 @@ record IsAccepted (changes : List ResourceChange) (said : OutcomeMap) (d : Data)
   entry_is : entry_of d ≡ Some entry
   change_of : IsChangeOf changes entry one.change change
   new : is_some (said_at said one.change) ≡ false
-  bounded : All IsBounded one.outcomes
+  within : All IsWithin one.steps
   counted : one.waits ≡ count_of_waits entry.steps
 
 accepted : (changes : List ResourceChange) (said : OutcomeMap) (earlier n : ℕ) (d : Data) (one : Said) → entry_beside changes said earlier n d ≡ Ok one → IsAccepted changes said d one
@@ -51,7 +50,7 @@ accepted changes said earlier n d one e =
     let known = bind_ok (or_refuse (UnknownChange n) (change_of_entry changes formed.0)) _ one formed.2 in
     let found = or_refuse_ok (UnknownChange n) (change_of_entry changes formed.0) known.0 known.1 in
     let new = guard_ok (is_some (said_at said known.0.0)) (Duplicate n) _ one known.2 in
-    let fault = fault_of_entry n changes earlier known.0.1.steps formed.0.steps in
+    let fault = fault_of_entry n changes earlier known.0.1 formed.0.steps in
     let clear = unless_refused_ok fault (said_by changes known.0.0 formed.0.steps) one new.1 in
     subst (λ (o : Said). IsAccepted changes said d o) clear.1
     (record {
@@ -60,7 +59,7 @@ accepted changes said earlier n d one e =
       entry_is = entry_is;
       change_of = change_is changes formed.0 known.0.0 known.0.1 found;
       new = new.0;
-      bounded = said_is_bounded n changes earlier known.0.1.steps formed.0.steps clear.0;
+      within = said_is_within n changes earlier known.0.1 formed.0.steps clear.0;
       counted = refl;
     })
 
@@ -129,7 +128,7 @@ pub same_entry : (changes : List ResourceChange) (said : OutcomeMap) (waits n : 
 same_entry changes said waits n made d answer has e = rw (has.count, has.waits_are, ← has.said_is) e
 
 pub said_more : (changes : List ResourceChange) (said : OutcomeMap) (waits n : ℕ) (made : List Said) (d : Data) (one : Said) → HasSaid changes said waits n made
-    → entry_beside changes said waits n d ≡ Ok one → ArePlaced (length said) one.outcomes → HasSaid changes (set said one.change (Some one.outcomes)) (waits + one.waits) (n + 1) (made ++ one ∷ [])
+    → entry_beside changes said waits n d ≡ Ok one → ArePlaced (length said) one.steps → HasSaid changes (set said one.change (Some one.steps)) (waits + one.waits) (n + 1) (made ++ one ∷ [])
 said_more changes said waits n made d one has e placed =
     let is = accepted changes said waits n d one e in
     let below = slice_get_within changes one.change is.change is.change_of.stands in
@@ -140,13 +139,13 @@ said_more changes said waits n made d one has e placed =
     record {
       count = omega (arith, length-append made (one ∷ []), has.count);
       waits_are = sum_by_push (λ (x : Said). x.waits) made one ∙ ap (λ (n : ℕ). n + one.waits) has.waits_are;
-      said_is = ap (λ (s : OutcomeMap). set s one.change (Some one.outcomes)) has.said_is ∙ sym (by_number-append (length changes) made one below unsaid);
-      counted = omega (arith, counted_more said one.change one.outcomes within new, has.counted);
-      in_range = says_more (All IsBounded) made one has.in_range is.bounded;
-      placed = says_more (ArePlaced (length changes)) made one has.placed (subst (λ (n : ℕ). ArePlaced n one.outcomes) long placed);
+      said_is = ap (λ (s : OutcomeMap). set s one.change (Some one.steps)) has.said_is ∙ sym (by_number-append (length changes) made one below unsaid);
+      counted = omega (arith, counted_more said one.change one.steps within new, has.counted);
+      in_range = says_more (All IsWithin) made one has.in_range is.within;
+      placed = says_more (ArePlaced (length changes)) made one has.placed (subst (λ (n : ℕ). ArePlaced n one.steps) long placed);
     }
   where
-    none_there : (o : Option (List Outcome)) → is_some o ≡ false → o ≡ None
+    none_there : (o : Option (List ScriptStep)) → is_some o ≡ false → o ≡ None
     none_there None h = refl
     none_there (Some x) h = absurd cc
 
@@ -161,7 +160,7 @@ said_placed changes said waits n made has = subst AreAllPlaced (sym has.said_is)
 pub nothing_kept : (n : ℕ) (kept : List (ℕ × ℕ)) → kept ≡ [] → HasKept n kept []
 nothing_kept n kept none = let P = λ (entry : ℕ × ℕ). (entry.0 < n) × (entry.1 ≤ 2) in record { kept_is = none; within = subst (All P) (sym none) (All-nil P) }
 
-pub one_kept : (n : ℕ) (kept : List (ℕ × ℕ)) (made : List Said) (one : Said) → HasKept n kept made → one.change < n → length one.outcomes ≤ 2 → HasKept n (kept ++ kept_of one ∷ []) (made ++ one ∷ [])
+pub one_kept : (n : ℕ) (kept : List (ℕ × ℕ)) (made : List Said) (one : Said) → HasKept n kept made → one.change < n → length one.steps ≤ 2 → HasKept n (kept ++ kept_of one ∷ []) (made ++ one ∷ [])
 one_kept n kept made one has below few =
     let P = λ (entry : ℕ × ℕ). (entry.0 < n) × (entry.1 ≤ 2) in
     record {

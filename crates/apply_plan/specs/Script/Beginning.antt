@@ -3,7 +3,7 @@ use Rattle.std.specs.Prelude.{◌≡◌, ℕ, ◌*◌, List, All, count_by, leng
 use Rattle.std.specs.List.{list_any, range_with_len}
 use Rattle.apply_model.specs.declared.script.wait.Wait.{Wait}
 use Rattle.apply_model.specs.Script.OutcomeMap.{OutcomeMap}
-use Rattle.apply_model.specs.Script.Waits.{begins_within, could_begin, waits_of}
+use Rattle.apply_model.specs.Script.Waits.{begins_within, could_begin, waits_told}
 use Rattle.apply_plan.specs.declared.script.mark.Mark.{Mark}
 use Rattle.apply_plan.specs.declared.script.mark.Mark.TheVariants.{Unseen, OnPath, Begins}
 use Rattle.apply_plan.specs.Script.Marks.{mark_of}
@@ -15,7 +15,7 @@ is_stuck_at script entry = list_any (λ step. not (could_begin script entry.0 st
 
 -- each step waits for steps of the plan alone
 abbrev pub AreAllPlaced : OutcomeMap → Type 0
-AreAllPlaced script = (wait : Wait) → IsPlaced (length script) wait → All (IsPlaced (length script)) (waits_of script wait.change wait.step)
+AreAllPlaced script = (wait : Wait) → IsPlaced (length script) wait → All (IsPlaced (length script)) (waits_told script wait.change wait.step)
 
 abbrev pub has_begun : Mark → Bool
 has_begun Begins = true

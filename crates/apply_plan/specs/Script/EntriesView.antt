@@ -7,12 +7,13 @@ use Rattle.apply_json.specs.declared.listed.Listed.{Listed}
 use Rattle.apply_json.specs.declared.listed.Listed.TheVariants.{Absent}
 use Rattle.apply_json.specs.Seen.{items_in, listed}
 use Rattle.apply_json.specs.Tree.{list_of}
-use Rattle.apply_model.specs.declared.script.outcome.Outcome.{Outcome}
+use Rattle.apply_model.specs.declared.script.script_step.ScriptStep.{ScriptStep}
 use Rattle.apply_model.specs.Plan.ResourceChange.{ResourceChange}
 use Rattle.apply_model.specs.Plan.SavedPlan.{max_changes}
 use Rattle.apply_model.specs.Script.Limits.{max_waits}
 use Rattle.apply_model.specs.Script.Outcome.{IsBounded}
 use Rattle.apply_model.specs.Script.OutcomeMap.{OutcomeMap}
+use Rattle.apply_model.specs.Script.Step.{answer_to}
 use Rattle.apply_plan.specs.declared.plan.object_id.ObjectId.{ObjectId}
 use Rattle.apply_plan.specs.declared.script.change_numbers.ChangeNumbers.{ChangeNumbers}
 use Rattle.apply_plan.specs.declared.script.entries.Entries.{Entries}
@@ -27,8 +28,12 @@ use Rattle.apply_plan.specs.Script.OutcomeMap.{Said, by_number, said_of}
 use Rattle.apply_plan.specs.Script.Placed.{ArePlaced}
 
 -- what is said of each change has a property
-abbrev pub Says : (List Outcome → Type 0) → List Said → Type 0
+abbrev pub Says : (List ScriptStep → Type 0) → List Said → Type 0
 Says P made = (number : ℕ) → IfSome (said_of made number) P
+
+-- what comes of a step is within the limits
+abbrev pub IsWithin : ScriptStep → Type 0
+IsWithin step = IfSome (answer_to step) IsBounded
 
 -- what has been said after n entries is what was made of them
 pub record HasSaid (changes : List ResourceChange) (said : OutcomeMap) (waits n : ℕ) (made : List Said) : Type 0 where
@@ -36,12 +41,12 @@ pub record HasSaid (changes : List ResourceChange) (said : OutcomeMap) (waits n 
   pub waits_are : count_waits made ≡ waits
   pub said_is : said ≡ by_number (length changes) made
   pub counted : count_by is_some said ≡ n
-  pub in_range : Says (All IsBounded) made
+  pub in_range : Says (All IsWithin) made
   pub placed : Says (ArePlaced (length changes)) made
 
 -- what is kept of an entry: its change, and how many steps it has
 abbrev pub kept_of : Said → ℕ × ℕ
-kept_of entry = (entry.change, length entry.outcomes)
+kept_of entry = (entry.change, length entry.steps)
 
 -- what is kept of the entries that were read
 pub record HasKept (n : ℕ) (kept : List (ℕ × ℕ)) (made : List Said) : Type 0 where
@@ -64,11 +69,11 @@ pub record HoldsEntries (entries : Entries) (ds : List Data) : Type 0 where
   pub so_far : entries.fault ≢ Some Memory → made_after (entry_after entries.plan.now.changes) [] (items_of ds) ≡ unless_refused entries.fault made
 
 -- one entry more is kept
-pub record KeepsOneMore (old : Entries) (change : ℕ) (outcomes : List Outcome) (more : ℕ) (new : Entries) : Type 0 where
+pub record KeepsOneMore (old : Entries) (change : ℕ) (steps : List ScriptStep) (more : ℕ) (new : Entries) : Type 0 where
   pub plan : new.plan ≡ old.plan
   pub numbers : new.numbers ≡ old.numbers
-  pub said : new.said.items ≡ set old.said.items change (Some outcomes)
-  pub kept : new.kept.items ≡ old.kept.items ++ (change, length outcomes) ∷ []
+  pub said : new.said.items ≡ set old.said.items change (Some steps)
+  pub kept : new.kept.items ≡ old.kept.items ++ (change, length steps) ∷ []
   pub waits : new.waits ≡ old.waits + more
   pub fault : new.fault ≡ old.fault
 

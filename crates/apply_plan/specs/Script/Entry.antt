@@ -1,8 +1,9 @@
 -- An entry of a script: its members, each under its rule (the script's own format).
-use Rattle.std.specs.Prelude.{ℕ, List, [], ◌∷◌, codes, length, map, ◌&&◌, nat_lt, if◌then◌else◌, Option, Some, None, option_map}
+use Rattle.std.specs.Prelude.{ℕ, List, [], ◌∷◌, codes, length, map, Bool, true, false, not, ◌&&◌, ◌||◌, ◌==◌, nat_lt, slice_index, if◌then◌else◌, Option, Some, None, is_some, option_map}
 use Rattle.std.specs.Option.{option_map_or}
+use Rattle.std.specs.Str.{bytes_eq}
 use Rattle.serde_json.specs.Data.{Data}
-use Rattle.serde_json.specs.Find.{as_array, as_number, as_str, as_u64}
+use Rattle.serde_json.specs.Find.{as_array, as_bool, as_number, as_str, as_u64}
 use Rattle.apply_model.specs.declared.script.diag.Diag.{Diag}
 use Rattle.apply_model.specs.declared.script.ending.Ending.{Ending}
 use Rattle.apply_model.specs.declared.script.ending.Ending.TheVariants.{Done, Failed}
@@ -18,9 +19,10 @@ pub record WaitName : Type 0 where
   pub deposed : Option (List ℕ)
   pub step : Option ℕ
 
--- a step: what comes of it, but for the steps that it waits for, and the items that name these
+-- a step: what comes of it, but for the steps that it waits for, and the items that name these; one that is skipped has no
+-- outcome
 pub record EntryStep : Type 0 where
-  pub outcome : Outcome
+  pub outcome : Option Outcome
   pub after : List WaitName
 
 pub record Entry : Type 0 where
@@ -28,12 +30,35 @@ pub record Entry : Type 0 where
   pub deposed : Option (List ℕ)
   pub steps : List EntryStep
 
--- a diagnostic: a summary, and a detail that may be absent, which is then empty
+-- ---- values that are kept as their own texts
+
+-- the members of that name are kept so, wherever they stand
+abbrev pub is_kept : List ℕ → Bool
+is_kept name = bytes_eq name (codes "range") || bytes_eq name (codes "snippet")
+
+-- the text of an object begins with its bracket
+abbrev pub is_object_text : List ℕ → Bool
+is_object_text text = slice_index text 0 == 123
+
+-- the text of an object; `null` counts as absent
+abbrev pub object_text : List ℕ → Option (Option (List ℕ))
+object_text text = if bytes_eq text (codes "null") then Some None else if is_object_text text then Some (Some text) else None
+
+-- an object that may be absent, where it is kept as its own text
+abbrev pub object_or_none : Option Data → Option (Option (List ℕ))
+object_or_none None = Some None
+object_or_none (Some d) = as_str d >>= object_text
+
+-- ---- the members
+
+-- a diagnostic: a summary, a detail that may be absent, which is then empty, and two objects that may be absent
 abbrev pub diag_from : Data → Option Diag
 diag_from d = do
   summary ← text_of (codes "summary") d
   detail ← text_or [] (member_of (codes "detail") d)
-  Some (record { summary = summary; detail = detail })
+  range ← object_or_none (member_of (codes "range") d)
+  snippet ← object_or_none (member_of (codes "snippet") d)
+  Some (record { summary = summary; detail = detail; range = range; snippet = snippet })
 
 -- a diagnostic that may be absent
 abbrev pub diag_or_none : Option Data → Option (Option Diag)
@@ -72,14 +97,25 @@ each_of part found = do
   items ← items_or_empty found
   all_some (map part (list_of items))
 
--- a provisioner: its name, its seconds, why it fails, where it does, and what it puts out
+-- whether a provisioner may fail, by the word that says what comes of its failure
+abbrev pub may_fail_by : List ℕ → Option Bool
+may_fail_by word =
+    if bytes_eq word (codes "continue") then Some true else if bytes_eq word (codes "fail") then Some false else None
+
+-- where the word is absent, it may not
+abbrev pub may_fail_or_not : Option Data → Option Bool
+may_fail_or_not None = Some false
+may_fail_or_not (Some d) = as_str d >>= may_fail_by
+
+-- a provisioner: its name, its seconds, why it fails, where it does, what it puts out, and whether it may fail
 unfoldable pub provisioner_from : Data → Option Provisioner
 provisioner_from d = do
   name ← non_empty_text_of (codes "provisioner") d
   seconds ← seconds_of d
   failed ← diag_or_none (member_of (codes "failed") d)
   output ← each_of as_str (member_of (codes "output") d)
-  Some (record { name = name; seconds = seconds; output = output; failed = failed })
+  may_fail ← may_fail_or_not (member_of (codes "on_failure") d)
+  Some (record { name = name; seconds = seconds; output = output; failed = failed; may_fail = may_fail })
 
 -- a step with its provisioners; one whose provider fails has none
 abbrev pub with_provisioners : (seconds : ℕ) → Ending → List Provisioner → Option Outcome
@@ -107,18 +143,39 @@ wait_from d =
     option_map_or (λ address. Some (record { address = address; deposed = None; step = None })) (as_str d)
     (wait_of_members d)
 
--- a step with the items of its `after`
-abbrev pub entry_step : List WaitName → Outcome → EntryStep
-entry_step after outcome = record { outcome = outcome; after = after }
+-- the ending is that of a step of which nothing else is told
+abbrev pub says_nothing : Ending → Bool
+says_nothing (Done None None) = true
+says_nothing (Done None (Some warning)) = false
+says_nothing (Done (Some id) warning) = false
+says_nothing (Failed diag) = false
+
+-- a step that is skipped: its seconds are not told, nor is anything else of it
+abbrev pub skipped_with : (told : Bool) → Ending → List Provisioner → Option (Option Outcome)
+skipped_with told result provisioners =
+    if told || (not (says_nothing result) || nat_lt 0 (length provisioners)) then None else Some None
+
+-- what comes of a step that is not skipped
+abbrev pub answered_with : Option ℕ → Ending → List Provisioner → Option (Option Outcome)
+answered_with None result provisioners = None
+answered_with (Some seconds) result provisioners = option_map Some (with_provisioners seconds result provisioners)
+
+-- a flag that may be absent, which is then false
+abbrev pub flag_or_false : Option Data → Option Bool
+flag_or_false None = Some false
+flag_or_false (Some d) = as_bool d
 
 -- a step
 unfoldable pub step_from : Data → Option EntryStep
 step_from d = do
-  seconds ← seconds_of d
+  skipped ← flag_or_false (member_of (codes "skipped") d)
   result ← ending_of d
   provisioners ← each_of provisioner_from (member_of (codes "provisioners") d)
   after ← each_of wait_from (member_of (codes "after") d)
-  option_map (entry_step after) (with_provisioners seconds result provisioners)
+  outcome ← if skipped
+      then skipped_with (is_some (member_of (codes "seconds") d)) result provisioners
+      else answered_with (seconds_of d) result provisioners
+  Some (record { outcome = outcome; after = after })
 
 -- the entry's members; none where one of them breaks its rule
 unfoldable pub entry_of : Data → Option Entry

@@ -1,9 +1,11 @@
 -- What is kept of the members of a script's values, for the private types that keep it.
-use Rattle.std.specs.Prelude.{◌≡◌, ℕ, List, [], codes, map, Option, Some, None, option_map}
+use Rattle.std.specs.Prelude.{◌≡◌, ℕ, List, [], codes, map, Bool, true, false, if◌then◌else◌, Option, Some, None, option_map, String, string_bytes}
+use Rattle.std.specs.declared.alloc.Global.{Global}
 use Rattle.serde_json.specs.Data.{Data, Members}
 use Rattle.serde_json.specs.Find.{as_array, as_str, get_member}
 use Rattle.apply_model.specs.declared.script.diag.Diag.{Diag}
 use Rattle.apply_model.specs.declared.script.ending.Ending.{Ending}
+use Rattle.apply_model.specs.declared.script.outcome.Outcome.{Outcome}
 use Rattle.apply_model.specs.declared.script.provisioner.Provisioner.{Provisioner}
 use Rattle.apply_json.specs.Seen.{Seen, absent, truth, number, text, other, scalar_view, seen, text_seen, text_seen_or, whole_seen}
 use Rattle.apply_json.specs.Tree.{◌>>=◌, list_of, unless_empty, unless_null}
@@ -13,13 +15,17 @@ use Rattle.apply_plan.specs.declared.script.provisioner_slots.ProvisionerSlots.{
 use Rattle.apply_plan.specs.declared.script.step_slots.StepSlots.{StepSlots}
 use Rattle.apply_plan.specs.declared.script.tree_diag.TreeDiag.{TreeDiag}
 use Rattle.apply_plan.specs.declared.script.wait_slots.WaitSlots.{WaitSlots}
-use Rattle.apply_plan.specs.Script.Entry.{Entry, EntryStep, WaitName, all_some, diag_or_none, each_of, ending_from, entry_step, provisioner_from, step_from, wait_from, with_provisioners}
+use Rattle.apply_plan.specs.Script.Entry.{Entry, EntryStep, WaitName, all_some, answered_with, diag_or_none, each_of, ending_from, may_fail_by, object_or_none, provisioner_from, skipped_with, step_from, wait_from}
 use Rattle.apply_plan.specs.Script.TreeView.{diag_view, entry_step_view, provisioner_view, texts_view, waits_view}
 
 -- ---- members that are no scalars; `null` counts as absent
 
 abbrev pub diag_member : Option Data → Option (Option Diag)
 diag_member found = diag_or_none (found >>= unless_null)
+
+-- an object that is kept as its own text
+abbrev pub object_member : Option Data → Option (Option (List ℕ))
+object_member found = object_or_none (found >>= unless_null)
 
 abbrev pub each_member : {A : Type 0} → (Data → Option A) → Option Data → Option (List A)
 each_member part found = each_of part (found >>= unless_null)
@@ -32,9 +38,14 @@ steps_member found = do
 
 -- ---- what slots hold of some members
 
+abbrev pub text_found : Option (Option (String Global)) → Option (Option (List ℕ))
+text_found found = option_map (λ text. option_map string_bytes text) found
+
 pub record HoldsDiag (slots : DiagSlots) (ms : Members) : Type 0 where
   pub summary : scalar_view slots.summary ≡ seen (get_member (codes "summary") ms)
   pub detail : scalar_view slots.detail ≡ seen (get_member (codes "detail") ms)
+  pub range : text_found slots.range ≡ object_member (get_member (codes "range") ms)
+  pub snippet : text_found slots.snippet ≡ object_member (get_member (codes "snippet") ms)
 
 pub record HoldsWait (slots : WaitSlots) (ms : Members) : Type 0 where
   pub address : scalar_view slots.address ≡ seen (get_member (codes "address") ms)
@@ -49,8 +60,10 @@ pub record HoldsProvisioner (slots : ProvisionerSlots) (ms : Members) : Type 0 w
   pub seconds : scalar_view slots.seconds ≡ seen (get_member (codes "seconds") ms)
   pub failed : diag_found slots.failed ≡ diag_member (get_member (codes "failed") ms)
   pub output : option_map (λ texts. texts_view texts.items) slots.output ≡ each_member as_str (get_member (codes "output") ms)
+  pub on_failure : scalar_view slots.on_failure ≡ seen (get_member (codes "on_failure") ms)
 
 pub record HoldsStep (slots : StepSlots) (ms : Members) : Type 0 where
+  pub skipped : scalar_view slots.skipped ≡ seen (get_member (codes "skipped") ms)
   pub seconds : scalar_view slots.seconds ≡ seen (get_member (codes "seconds") ms)
   pub id : scalar_view slots.id ≡ seen (get_member (codes "id") ms)
   pub warning : diag_found slots.warning ≡ diag_member (get_member (codes "warning") ms)
@@ -70,7 +83,9 @@ abbrev pub diag_held : DiagSlots → Option Diag
 diag_held slots = do
   summary ← text_seen (scalar_view slots.summary)
   detail ← text_seen_or [] (scalar_view slots.detail)
-  Some (record { summary = summary; detail = detail })
+  range ← text_found slots.range
+  snippet ← text_found slots.snippet
+  Some (record { summary = summary; detail = detail; range = range; snippet = snippet })
 
 abbrev pub number_held : Seen → Option (Option ℕ)
 number_held absent = Some None
@@ -86,13 +101,22 @@ wait_held slots = do
   step ← number_held (scalar_view slots.step)
   Some (record { address = address; deposed = unless_empty deposed; step = step })
 
+-- whether a provisioner may fail, by its word
+abbrev pub may_fail_held : Seen → Option Bool
+may_fail_held absent = Some false
+may_fail_held (truth b) = None
+may_fail_held (number n) = None
+may_fail_held (text s) = may_fail_by s
+may_fail_held other = None
+
 abbrev pub provisioner_held : ProvisionerSlots → Option Provisioner
 provisioner_held slots = do
   name ← text_seen (scalar_view slots.name) >>= unless_empty
   seconds ← whole_seen (scalar_view slots.seconds)
   failed ← diag_found slots.failed
   output ← option_map (λ texts. texts_view texts.items) slots.output
-  Some (record { name = name; seconds = seconds; output = output; failed = failed })
+  may_fail ← may_fail_held (scalar_view slots.on_failure)
+  Some (record { name = name; seconds = seconds; output = output; failed = failed; may_fail = may_fail })
 
 abbrev pub ending_held : Seen → (warning failed : Option (Option TreeDiag)) → Option Ending
 ending_held id warning failed = do
@@ -101,13 +125,35 @@ ending_held id warning failed = do
   failed ← diag_found failed
   ending_from (unless_empty id) warning failed
 
+-- a flag that may be absent, which is then false
+abbrev pub flag_held : Seen → Option Bool
+flag_held absent = Some false
+flag_held (truth b) = Some b
+flag_held (number n) = None
+flag_held (text s) = None
+flag_held other = None
+
+-- something stands there
+abbrev pub is_told : Seen → Bool
+is_told absent = false
+is_told (truth b) = true
+is_told (number n) = true
+is_told (text s) = true
+is_told other = true
+
+-- what comes of a step, by its parts
+abbrev pub outcome_held : (skipped : Bool) → (seconds : Seen) → Ending → List Provisioner → Option (Option Outcome)
+outcome_held skipped seconds result provisioners =
+    if skipped then skipped_with (is_told seconds) result provisioners else answered_with (whole_seen seconds) result provisioners
+
 abbrev pub step_held : StepSlots → Option EntryStep
 step_held slots = do
-  seconds ← whole_seen (scalar_view slots.seconds)
+  skipped ← flag_held (scalar_view slots.skipped)
   result ← ending_held (scalar_view slots.id) slots.warning slots.failed
   provisioners ← option_map (λ found. map provisioner_view found.items) slots.provisioners
   after ← option_map (λ waits. waits_view waits.items) slots.after
-  option_map (entry_step after) (with_provisioners seconds result provisioners)
+  outcome ← outcome_held skipped (scalar_view slots.seconds) result provisioners
+  Some (record { outcome = outcome; after = after })
 
 abbrev pub entry_held : EntrySlots → Option Entry
 entry_held slots = do

@@ -1,9 +1,9 @@
 -- What is wrong with the steps of an entry, beside their members, and with what they wait for (the script's own format).
-use Rattle.std.specs.Prelude.{ℕ, ◌+◌, List, length, map, sum_by, Bool, false, not, ◌&&◌, is_none, nat_le, nat_lt, if◌then◌else◌, Option, Some, None}
-use Rattle.std.specs.List.{list_any, zip}
+use Rattle.std.specs.Prelude.{ℕ, ◌+◌, ◌==◌, List, length, map, sum_by, Bool, false, not, ◌&&◌, ◌||◌, is_none, is_some, nat_le, nat_lt, if◌then◌else◌, Option, Some, None}
+use Rattle.std.specs.List.{enumerate_from, list_any, zip}
 use Rattle.std.specs.Option.{option_map_or, option_or}
 use Rattle.apply_model.specs.declared.plan.step_kind.StepKind.{StepKind}
-use Rattle.apply_model.specs.declared.plan.step_kind.StepKind.TheVariants.{Create}
+use Rattle.apply_model.specs.declared.plan.step_kind.StepKind.TheVariants.{Create, Delete}
 use Rattle.apply_model.specs.declared.script.outcome.Outcome.{Outcome}
 use Rattle.apply_plan.specs.declared.script.script_error.ScriptError.{ScriptError}
 use Rattle.apply_plan.specs.declared.script.script_error.ScriptError.TheVariants.{TooManySteps, SecondsRange, TooManyProvisioners, TooMuchOutput, NotACreate, TooManyWaits, UnknownWait, NoSuchStep}
@@ -14,18 +14,29 @@ use Rattle.apply_model.specs.Script.Outcome.{has_too_many_provisioners, has_too_
 use Rattle.apply_plan.specs.Script.Entry.{EntryStep, WaitName}
 use Rattle.apply_plan.specs.Script.WaitedStep.{change_waited}
 
--- a step has provisioners, and is no create
-abbrev pub misplaces_provisioners : StepKind × Outcome → Bool
-misplaces_provisioners step = nat_lt 0 (length step.1.provisioners) && not (is_kind Create step.0)
+-- what comes of a step passes a test; a step that is skipped passes none
+abbrev pub passes : (Outcome → Bool) → Option Outcome → Bool
+passes test outcome = option_map_or test outcome false
 
--- the first fault of the steps of entry n, which belong to the first steps of a change
-unfoldable pub fault_of_steps : (n : ℕ) → List StepKind → List Outcome → Option ScriptError
-fault_of_steps n kinds steps =
+-- a step takes provisioners: a create does, and a delete that is the first step of a change of an object that is not deposed
+abbrev pub takes_provisioners : (deposed : Bool) → ℕ × StepKind → Bool
+takes_provisioners deposed step = is_kind Create step.1 || (is_kind Delete step.1 && (step.0 == 0 && not deposed))
+
+abbrev pub has_provisioners : Outcome → Bool
+has_provisioners outcome = nat_lt 0 (length outcome.provisioners)
+
+-- a step has provisioners, and takes none
+abbrev pub misplaces_provisioners : (deposed : Bool) → (ℕ × StepKind) × Option Outcome → Bool
+misplaces_provisioners deposed step = passes has_provisioners step.1 && not (takes_provisioners deposed step.0)
+
+-- the first fault of the steps of entry n, which belong to the first steps of a change, which may be of a deposed object
+unfoldable pub fault_of_steps : (n : ℕ) → (deposed : Bool) → List StepKind → List (Option Outcome) → Option ScriptError
+fault_of_steps n deposed kinds steps =
     if nat_lt (length kinds) (length steps) then Some (TooManySteps n)
-    else if list_any is_too_long steps then Some (SecondsRange n)
-    else if list_any has_too_many_provisioners steps then Some (TooManyProvisioners n)
-    else if list_any has_too_much_output steps then Some (TooMuchOutput n)
-    else if list_any misplaces_provisioners (zip kinds steps) then Some (NotACreate n)
+    else if list_any (passes is_too_long) steps then Some (SecondsRange n)
+    else if list_any (passes has_too_many_provisioners) steps then Some (TooManyProvisioners n)
+    else if list_any (passes has_too_much_output) steps then Some (TooMuchOutput n)
+    else if list_any (misplaces_provisioners deposed) (zip (enumerate_from 0 kinds) steps) then Some (NotACreate n)
     else None
 
 -- how many items the `after` of some steps have
@@ -59,7 +70,8 @@ unfoldable pub fault_of_waits : (n : ℕ) → List ResourceChange → (earlier :
 fault_of_waits n changes earlier steps =
     if nat_lt max_waits (earlier + count_of_waits steps) then Some (TooManyWaits n) else fault_of_names n changes steps
 
--- the first fault of the steps of entry n, which belong to the first of these steps of a change
-abbrev pub fault_of_entry : (n : ℕ) → List ResourceChange → (earlier : ℕ) → List StepKind → List EntryStep → Option ScriptError
-fault_of_entry n changes earlier kinds steps =
-    option_or (fault_of_steps n kinds (map (λ step. step.outcome) steps)) (fault_of_waits n changes earlier steps)
+-- the first fault of the steps of entry n, which belong to the first steps of that change
+abbrev pub fault_of_entry : (n : ℕ) → List ResourceChange → (earlier : ℕ) → ResourceChange → List EntryStep → Option ScriptError
+fault_of_entry n changes earlier change steps =
+    option_or (fault_of_steps n (is_some change.deposed) change.steps (map (λ step. step.outcome) steps))
+    (fault_of_waits n changes earlier steps)

@@ -1,5 +1,5 @@
 -- What contracts see of a script's entry that stands in the tree, for the private types that read one.
-use Rattle.std.specs.Prelude.{ℕ, List, [], codes, length, map, nat_lt, sum_by, if◌then◌else◌, Option, Some, None, option_map}
+use Rattle.std.specs.Prelude.{ℕ, List, [], codes, length, map, nat_lt, sum_by, if◌then◌else◌, Option, Some, None, option_map, string_bytes}
 use Rattle.std.specs.Option.{option_copied}
 use denote.Ref.{Bor}
 use Rattle.serde_json.specs.Data.{Data, Items}
@@ -15,6 +15,7 @@ use Rattle.apply_plan.specs.declared.script.tree_diag.TreeDiag.{TreeDiag}
 use Rattle.apply_plan.specs.declared.script.tree_ending.TreeEnding.{TreeEnding}
 use Rattle.apply_plan.specs.declared.script.tree_ending.TreeEnding.TheVariants as tree
 use Rattle.apply_plan.specs.declared.script.tree_entry.TreeEntry.{TreeEntry}
+use Rattle.apply_plan.specs.declared.script.tree_outcome.TreeOutcome.{TreeOutcome}
 use Rattle.apply_plan.specs.declared.script.tree_provisioner.TreeProvisioner.{TreeProvisioner}
 use Rattle.apply_plan.specs.declared.script.tree_step.TreeStep.{TreeStep}
 use Rattle.apply_plan.specs.declared.script.tree_wait.TreeWait.{TreeWait}
@@ -22,7 +23,12 @@ use Rattle.apply_json.specs.Tree.{◌>>=◌, member_of, text_of, text_or, unless
 use Rattle.apply_plan.specs.Script.Entry.{Entry, EntryStep, WaitName}
 
 abbrev pub diag_view : TreeDiag → Diag
-diag_view diag = record { summary = diag.summary.now; detail = diag.detail.now }
+diag_view diag = record {
+  summary = diag.summary.now;
+  detail = diag.detail.now;
+  range = option_map string_bytes diag.range;
+  snippet = option_map string_bytes diag.snippet;
+}
 
 abbrev pub ending_view : TreeEnding → Ending
 ending_view (tree.Done id warning) = ending.Done (option_copied id) (option_map diag_view warning)
@@ -37,16 +43,21 @@ provisioner_view provisioner = record {
   seconds = provisioner.seconds;
   output = texts_view provisioner.output.items;
   failed = option_map diag_view provisioner.failed;
+  may_fail = provisioner.may_fail;
 }
 
 -- what comes of a step, but for the steps that it waits for
-abbrev pub step_view : TreeStep → Outcome
-step_view step = record {
-  seconds = step.seconds;
-  provisioners = map provisioner_view step.provisioners.items;
-  result = ending_view step.result;
+abbrev pub outcome_view : TreeOutcome → Outcome
+outcome_view outcome = record {
+  seconds = outcome.seconds;
+  provisioners = map provisioner_view outcome.provisioners.items;
+  result = ending_view outcome.result;
   after = [];
 }
+
+-- the same of a step that may be skipped
+abbrev pub step_view : TreeStep → Option Outcome
+step_view step = option_map outcome_view step.outcome
 
 abbrev pub wait_view : TreeWait → WaitName
 wait_view wait = record { address = wait.address.now; deposed = option_copied wait.deposed; step = wait.step }

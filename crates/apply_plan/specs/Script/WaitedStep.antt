@@ -2,6 +2,8 @@
 use Rattle.std.specs.Prelude.{ℕ, ◌-◌, List, length, find, nat_lt, if◌then◌else◌, Option, Some, None, option_and_then, unwrap_or}
 use Rattle.std.specs.List.{enumerate_from, filter_map}
 use Rattle.apply_model.specs.declared.script.outcome.Outcome.{Outcome}
+use Rattle.apply_model.specs.declared.script.script_step.ScriptStep.{ScriptStep}
+use Rattle.apply_model.specs.declared.script.script_step.ScriptStep.TheVariants.{Answered, Skipped}
 use Rattle.apply_model.specs.declared.script.wait.Wait.{Wait}
 use Rattle.apply_model.specs.Plan.ResourceChange.{ResourceChange}
 use Rattle.apply_plan.specs.Plan.ObjectName.{name_one_object}
@@ -27,6 +29,11 @@ step_of_change name found =
 abbrev pub step_waited : List ResourceChange → WaitName → Option Wait
 step_waited changes name = option_and_then (step_of_change name) (change_waited changes name)
 
--- what comes of a step, with the steps that it waits for
-abbrev pub outcome_said : List ResourceChange → EntryStep → Outcome
-outcome_said changes step = record step.outcome { after = filter_map (step_waited changes) step.after }
+-- a step, with the steps that it waits for; one that is skipped names them too
+abbrev pub with_waits : Option Outcome → List Wait → ScriptStep
+with_waits None after = Skipped after
+with_waits (Some outcome) after = Answered (record outcome { after = after })
+
+-- what an entry says of a step
+abbrev pub step_said : List ResourceChange → EntryStep → ScriptStep
+step_said changes step = with_waits step.outcome (filter_map (step_waited changes) step.after)

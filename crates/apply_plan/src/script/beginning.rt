@@ -3,8 +3,7 @@
 ghost use Rattle.std.specs.Prelude.{◌≡◌, ◌<◌, ◌≤◌, All, IfOk, OnSome, length, slice_get, true, false};
 ghost use Rattle.std.specs.List.{position_from};
 ghost use Rattle.apply_model.specs.Script.Limits.{max_waits};
-ghost use Rattle.apply_model.specs.Script.OutcomeMap.{outcome_of};
-ghost use Rattle.apply_model.specs.Script.Waits.{could_begin, waits_of};
+ghost use Rattle.apply_model.specs.Script.Waits.{could_begin, named_for, waits_told};
 ghost use Rattle.apply_plan.specs.Script.Beginning.{AreAllPlaced, AreSettled, is_stuck_at};
 ghost use Rattle.apply_plan.specs.Script.Placed.{IsPlaced};
 
@@ -111,10 +110,10 @@ fn could_begin(
     Ok(true)
 }
 
-/// The step of that number among those that a step waits for: first the one before it in its change, then those that its
-/// outcome names.
+/// The step of that number among those that a step waits for by what the script says of it, skipped or not: first the one
+/// before it in its change, then those that are named.
 fn waited(script: &Script, step: Wait, number: u32) -> Option<Wait>
-    ensures found { result ≡ slice_get (waits_of script.now step.change step.step) number }
+    ensures found { result ≡ slice_get (waits_told script.now step.change step.step) number }
     ensures few { OnSome result (number ≤ max_waits) }
 {
     if step.step == 0 {
@@ -129,12 +128,12 @@ fn waited(script: &Script, step: Wait, number: u32) -> Option<Wait>
     })
 }
 
-/// The step of that number among those that the outcome of a step names.
+/// The step of that number among those that the script names for a step.
 fn named(script: &Script, step: Wait, number: u32) -> Option<Wait>
-    ensures found { result ≡ slice_get (outcome_of script.now step.change step.step).after number }
+    ensures found { result ≡ slice_get (named_for script.now step.change step.step) number }
     ensures few { OnSome result (number < max_waits) }
 {
-    let after = &script.outcome(step.change, step.step)?.after;
+    let after = script.after(step.change, step.step)?;
     if number < after.len() {
         Some(after.get(number))
     } else {

@@ -1,15 +1,19 @@
 //! What is kept of the members of a diagnostic.
 
+ghost use Rattle.apply_plan.specs.Script.Entry.{is_kept};
 ghost use Rattle.apply_plan.specs.Script.Members.{HoldsDiag};
 
-use apply_json::{ReadFault, Reader, Scalar, Slots, pass, read_scalar};
+use crate::script::object_text::read_object_text;
+use apply_json::{KeepingSlots, ReadFault, Reader, Scalar, pass, read_scalar};
 use std::alloc::Global;
 
 /// The members of a diagnostic.
-#[derive(Clone, Copy, Drop)]
+#[derive(Drop)]
 pub struct DiagSlots<'a> {
     pub summary: Scalar<'a>,
     pub detail: Scalar<'a>,
+    pub range: Option<Option<String>>,
+    pub snippet: Option<Option<String>>,
 }
 
 impl<'a> DiagSlots<'a> {
@@ -22,16 +26,20 @@ impl<'a> DiagSlots<'a> {
         DiagSlots {
             summary: Scalar::Absent,
             detail: Scalar::Absent,
+            range: Some(None),
+            snippet: Some(None),
         }
     }
 }
 
-impl<'a> Slots<'a> for DiagSlots<'a> {
+impl<'a> KeepingSlots<'a> for DiagSlots<'a> {
+    ghost kept = { is_kept };
+
     ghost holds = { λ _ slots ms. HoldsDiag slots ms };
 
     fn take(
         &mut self,
-        _alloc: Global,
+        alloc: Global,
         name: &str,
         reader: &mut Reader<'a>,
         depth: usize,
@@ -41,6 +49,12 @@ impl<'a> Slots<'a> for DiagSlots<'a> {
             Ok(())
         } else if name == "detail" {
             self.detail = read_scalar(reader, depth)?;
+            Ok(())
+        } else if name == "range" {
+            self.range = read_object_text(alloc, reader, depth)?;
+            Ok(())
+        } else if name == "snippet" {
+            self.snippet = read_object_text(alloc, reader, depth)?;
             Ok(())
         } else {
             pass(reader, depth)?;

@@ -4,6 +4,7 @@ ghost use Rattle.std.specs.Prelude.{◌≡◌, ◌+◌, ◌<◌, ◌≤◌, [], 
 ghost use Rattle.serde_json.specs.Data.{Data};
 ghost use Rattle.apply_model.specs.Script.Limits.{max_waits};
 ghost use Rattle.apply_plan.specs.Results.{Gives};
+ghost use Rattle.apply_plan.specs.Script.Entry.{is_kept};
 ghost use Rattle.apply_plan.specs.Script.EntriesView.{AreCovered, HoldsEntries, KeepsOneMore};
 ghost use Rattle.apply_plan.specs.Script.OutcomeMap.{by_number, script_of_entries};
 
@@ -12,7 +13,7 @@ use crate::script::change_numbers::ChangeNumbers;
 use crate::script::said::said_by_entry;
 use crate::script::script_error::ScriptError;
 use crate::script::tree_entry::TreeEntry;
-use apply_json::{Collector, ReadFault, Reader, pass};
+use apply_json::{KeepingCollector, ReadFault, Reader, pass};
 use apply_model::{Plan, Script, StepOutcomes};
 use std::alloc::{AllocError, Global};
 
@@ -60,15 +61,15 @@ impl<'a> Entries<'a> {
     }
 
     /// Keeps what an entry says.
-    fn keep(&mut self, change: u32, outcomes: StepOutcomes, waits: usize) -> Result<(), AllocError>
+    fn keep(&mut self, change: u32, steps: StepOutcomes, waits: usize) -> Result<(), AllocError>
         requires change { change < length self.old.said.items }
-        requires steps { length outcomes ≤ 2 }
+        requires steps { length steps ≤ 2 }
         requires waits { self.old.waits + waits ≤ max_waits }
-        ensures { OnOk result (KeepsOneMore self.old change outcomes waits self.new) }
+        ensures { OnOk result (KeepsOneMore self.old change steps waits self.new) }
     {
-        self.kept.push((change, outcomes.len() as u8))?;
+        self.kept.push((change, steps.len() as u8))?;
         self.waits += waits;
-        self.said[change as usize] = Some(outcomes);
+        self.said[change as usize] = Some(steps);
         Ok(())
     }
 
@@ -89,7 +90,9 @@ impl<'a> Entries<'a> {
     }
 }
 
-impl<'a> Collector<'a> for Entries<'a> {
+impl<'a> KeepingCollector<'a> for Entries<'a> {
+    ghost kept = { is_kept };
+
     ghost holds = { λ start entries ds. (entries.plan ≡ start.plan) × HoldsEntries entries ds };
 
     fn take(
@@ -113,8 +116,8 @@ impl<'a> Collector<'a> for Entries<'a> {
             &self.numbers,
             &self.said,
         ) {
-            Ok((change, outcomes, waits)) => {
-                self.keep(change, outcomes, waits)?;
+            Ok((change, steps, waits)) => {
+                self.keep(change, steps, waits)?;
                 Ok(())
             }
             Err(ScriptError::Memory) => Err(ReadFault::Memory),

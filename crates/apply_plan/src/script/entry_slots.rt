@@ -1,10 +1,11 @@
 //! What is kept of the members of an entry.
 
+ghost use Rattle.apply_plan.specs.Script.Entry.{is_kept};
 ghost use Rattle.apply_plan.specs.Script.Members.{HoldsEntry};
 
 use crate::script::found_steps::read_steps;
 use crate::script::tree_step::TreeStep;
-use apply_json::{ReadFault, Reader, Scalar, Slots, pass, read_scalar};
+use apply_json::{KeepingSlots, ReadFault, Reader, Scalar, pass, read_scalar};
 use std::alloc::Global;
 
 /// The members of an entry.
@@ -30,7 +31,9 @@ impl<'a> EntrySlots<'a> {
     }
 }
 
-impl<'a> Slots<'a> for EntrySlots<'a> {
+impl<'a> KeepingSlots<'a> for EntrySlots<'a> {
+    ghost kept = { is_kept };
+
     ghost holds = { λ _ slots ms. HoldsEntry slots ms };
 
     fn take(

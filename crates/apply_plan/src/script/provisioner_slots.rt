@@ -1,10 +1,11 @@
 //! What is kept of the members of a provisioner.
 
+ghost use Rattle.apply_plan.specs.Script.Entry.{is_kept};
 ghost use Rattle.apply_plan.specs.Script.Members.{HoldsProvisioner};
 
 use crate::script::found_texts::read_texts;
 use crate::script::tree_diag::TreeDiag;
-use apply_json::{ReadFault, Reader, Scalar, Slots, pass, read_scalar};
+use apply_json::{KeepingSlots, ReadFault, Reader, Scalar, pass, read_scalar};
 use std::alloc::Global;
 
 /// The members of a provisioner.
@@ -14,6 +15,7 @@ pub struct ProvisionerSlots<'a> {
     pub seconds: Scalar<'a>,
     pub failed: Option<Option<TreeDiag<'a>>>,
     pub output: Option<Vec<&'a str>>,
+    pub on_failure: Scalar<'a>,
 }
 
 impl<'a> ProvisionerSlots<'a> {
@@ -28,11 +30,14 @@ impl<'a> ProvisionerSlots<'a> {
             seconds: Scalar::Absent,
             failed: Some(None),
             output: Some(Vec::new(alloc)),
+            on_failure: Scalar::Absent,
         }
     }
 }
 
-impl<'a> Slots<'a> for ProvisionerSlots<'a> {
+impl<'a> KeepingSlots<'a> for ProvisionerSlots<'a> {
+    ghost kept = { is_kept };
+
     ghost holds = { λ _ slots ms. HoldsProvisioner slots ms };
 
     fn take(
@@ -53,6 +58,9 @@ impl<'a> Slots<'a> for ProvisionerSlots<'a> {
             Ok(())
         } else if name == "output" {
             self.output = read_texts(alloc, reader, depth)?;
+            Ok(())
+        } else if name == "on_failure" {
+            self.on_failure = read_scalar(reader, depth)?;
             Ok(())
         } else {
             pass(reader, depth)?;

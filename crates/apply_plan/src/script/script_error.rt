@@ -20,7 +20,8 @@ pub enum ScriptError {
     #[error("the script is not JSON")]
     NotJson,
     /// A member is missing or is not what it has to be, or a step that failed has an id, a warning or a provisioner
-    /// beside it: at the top level, or in the entry of that number.
+    /// beside it, or a step that is skipped has anything but the steps that it waits for: at the top level, or in the entry
+    /// of that number.
     #[error("{place} is malformed", place = Place(*.0))]
     BadShape(Option<u32>),
     /// The plan has no change with the entry's `address` and `deposed` key.
@@ -41,8 +42,9 @@ pub enum ScriptError {
     /// A provisioner of the entry has more than 100 outputs.
     #[error("script entry {0} has a provisioner with more than 100 outputs")]
     TooMuchOutput(u32),
-    /// A step of the entry that is no create has a provisioner.
-    #[error("script entry {0} has a provisioner on a step that is not a create")]
+    /// A step of the entry has a provisioner that is neither a create nor a delete which is the first step of a change of
+    /// an object that is not deposed.
+    #[error("script entry {0} has a provisioner on a step that takes none")]
     NotACreate(u32),
     /// The `after` of the entry and of those before it have more than 1,000,000 items together.
     #[error("script entry {0} goes beyond 1000000 waits")]
@@ -64,6 +66,11 @@ pub enum ScriptError {
     /// In Terraform's form alone, where no variant above holds: the plan has no output of that name, or deletes it.
     #[error("script output {0} is not an output of the plan")]
     UnknownOutput(usize),
+    /// In Terraform's form alone, where no variant above holds: a diagnostic of the script that is of no step, counted from
+    /// 0, is no object, has no `severity` or another one than `error` or `warning`, or has a member that is not what it has
+    /// to be.
+    #[error("script diagnostic {0} is malformed")]
+    BadDiagnostic(usize),
     /// Memory was refused. It comes where the growth stands, before the refusals that would be found later.
     #[error("out of memory")]
     Memory,

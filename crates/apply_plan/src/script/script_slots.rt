@@ -4,12 +4,13 @@ ghost use Rattle.std.specs.Prelude.{◌≡◌, IfOk};
 ghost use Rattle.serde_json.specs.Data.{Data, Members, no_members};
 ghost use Rattle.apply_json.specs.Seen.{members_in};
 ghost use Rattle.apply_plan.specs.Results.{Gives};
+ghost use Rattle.apply_plan.specs.Script.Entry.{is_kept};
 ghost use Rattle.apply_plan.specs.Script.EntriesView.{HoldsScript};
 ghost use Rattle.apply_plan.specs.Script.OutcomeMap.{script_of_tree};
 
 use crate::script::entries::Entries;
 use crate::script::script_error::ScriptError;
-use apply_json::{Listed, ReadFault, Reader, Slots, pass, read_list};
+use apply_json::{KeepingSlots, Listed, ReadFault, Reader, pass, read_kept_list};
 use apply_model::{Plan, Script};
 use std::alloc::{AllocError, Global};
 
@@ -45,7 +46,9 @@ impl<'a> ScriptSlots<'a> {
     }
 }
 
-impl<'a> Slots<'a> for ScriptSlots<'a> {
+impl<'a> KeepingSlots<'a> for ScriptSlots<'a> {
+    ghost kept = { is_kept };
+
     ghost holds = { λ start slots ms. (slots.entries.plan ≡ start.entries.plan) × HoldsScript slots ms };
 
     fn take(
@@ -57,7 +60,7 @@ impl<'a> Slots<'a> for ScriptSlots<'a> {
     ) -> Result<(), ReadFault> {
         if name == "changes" {
             self.entries.forget();
-            self.changes = read_list(alloc, reader, depth, &mut self.entries)?;
+            self.changes = read_kept_list(alloc, reader, depth, &mut self.entries)?;
             Ok(())
         } else {
             pass(reader, depth)?;

@@ -1,5 +1,6 @@
 //! What is kept of the members of a step.
 
+ghost use Rattle.apply_plan.specs.Script.Entry.{is_kept};
 ghost use Rattle.apply_plan.specs.Script.Members.{HoldsStep};
 
 use crate::script::found_provisioners::read_provisioners;
@@ -7,7 +8,7 @@ use crate::script::found_waits::read_waits;
 use crate::script::tree_diag::TreeDiag;
 use crate::script::tree_provisioner::TreeProvisioner;
 use crate::script::tree_wait::TreeWait;
-use apply_json::{ReadFault, Reader, Scalar, Slots, pass, read_scalar};
+use apply_json::{KeepingSlots, ReadFault, Reader, Scalar, pass, read_scalar};
 use std::alloc::Global;
 
 /// The members of a step.
@@ -19,6 +20,7 @@ pub struct StepSlots<'a> {
     pub warning: Option<Option<TreeDiag<'a>>>,
     pub failed: Option<Option<TreeDiag<'a>>>,
     pub provisioners: Option<Vec<TreeProvisioner<'a>>>,
+    pub skipped: Scalar<'a>,
 }
 
 impl<'a> StepSlots<'a> {
@@ -35,11 +37,14 @@ impl<'a> StepSlots<'a> {
             warning: Some(None),
             failed: Some(None),
             provisioners: Some(Vec::new(alloc)),
+            skipped: Scalar::Absent,
         }
     }
 }
 
-impl<'a> Slots<'a> for StepSlots<'a> {
+impl<'a> KeepingSlots<'a> for StepSlots<'a> {
+    ghost kept = { is_kept };
+
     ghost holds = { λ _ slots ms. HoldsStep slots ms };
 
     fn take(
@@ -66,6 +71,9 @@ impl<'a> Slots<'a> for StepSlots<'a> {
             Ok(())
         } else if name == "provisioners" {
             self.provisioners = read_provisioners(alloc, reader, depth)?;
+            Ok(())
+        } else if name == "skipped" {
+            self.skipped = read_scalar(reader, depth)?;
             Ok(())
         } else {
             pass(reader, depth)?;

@@ -1,21 +1,27 @@
 //! A diagnostic of a script, whose texts are borrowed.
 
-ghost use Rattle.std.specs.Prelude.{◌≡◌, ◌<◌, Err, IfOk, OnOk, Some, length, option_map};
+ghost use Rattle.std.specs.Prelude.{◌≡◌, ◌<◌, Err, IfOk, OnOk, Some, length, option_map, string_bytes};
 ghost use Rattle.serde_json.specs.Data.{Data};
-ghost use Rattle.apply_json.specs.Tokens.{IsNoValue, IsRead};
+ghost use Rattle.apply_json.specs.Keeping.{IsKeptRead};
+ghost use Rattle.apply_json.specs.Tokens.{IsNoValue};
+ghost use Rattle.apply_plan.specs.Script.Entry.{is_kept};
 ghost use Rattle.apply_plan.specs.Script.Members.{diag_held, diag_member};
 ghost use Rattle.apply_plan.specs.Script.TreeView.{diag_view};
 
 use crate::script::diag_slots::DiagSlots;
-use apply_json::{ReadFault, Reader, Scalar, read_object};
+use apply_json::{ReadFault, Reader, Scalar, read_kept_object};
 use apply_model::{Diag, Text};
 use std::alloc::{AllocError, Global};
 
 /// A diagnostic.
-#[derive(Clone, Copy)]
+#[derive(Drop)]
 pub struct TreeDiag<'a> {
     pub summary: &'a str,
     pub detail: &'a str,
+    /// An object, as its own text.
+    pub range: Option<String>,
+    /// Likewise.
+    pub snippet: Option<String>,
 }
 
 impl<'a> TreeDiag<'a> {
@@ -26,48 +32,69 @@ impl<'a> TreeDiag<'a> {
         reader: &mut Reader<'a>,
         depth: usize,
     ) -> Result<Option<Option<TreeDiag<'a>>>, ReadFault>
-        ensures ok { IfOk result (λ found. (d : Data) × IsRead depth reader.old d reader.new
+        ensures ok { IfOk result (λ found. (d : Data) × IsKeptRead is_kept depth reader.old d reader.new
             × (option_map (λ diag. option_map diag_view diag) found ≡ diag_member (Some d))) }
         ensures shorter { OnOk result (length reader.new < length reader.old) }
         ensures err { result ≡ Err ReadFault.NotJson → IsNoValue depth reader.old }
     {
         let mut slots = DiagSlots::new();
-        match read_object(alloc, reader, depth, &mut slots)? {
+        match read_kept_object(alloc, reader, depth, &mut slots)? {
             Scalar::Absent => Ok(Some(None)),
-            _ => Ok(TreeDiag::of(&slots).map(Some)),
+            _ => match TreeDiag::of(slots) {
+                Some(diag) => Ok(Some(Some(diag))),
+                None => Ok(None),
+            },
         }
     }
 
     /// The diagnostic that the members are. `None` where one of them breaks its rule.
-    fn of(slots: &DiagSlots<'a>) -> Option<TreeDiag<'a>>
-        ensures { option_map diag_view result ≡ diag_held slots.now }
+    fn of(slots: DiagSlots<'a>) -> Option<TreeDiag<'a>>
+        ensures { option_map diag_view result ≡ diag_held slots.entry }
     {
+        let summary = slots.summary.text()?;
+        let detail = slots.detail.text_or("")?;
+        let range = slots.range?;
+        let snippet = slots.snippet?;
         Some(TreeDiag {
-            summary: slots.summary.text()?,
-            detail: slots.detail.text_or("")?,
+            summary,
+            detail,
+            range,
+            snippet,
         })
     }
 
     /// The diagnostic, with copies of its texts.
-    pub fn copied(self, alloc: Global) -> Result<Diag, AllocError>
-        ensures { IfOk result (λ copy. copy ≡ diag_view self.entry) }
+    pub fn copied(&self, alloc: Global) -> Result<Diag, AllocError>
+        ensures { IfOk result (λ copy. copy ≡ diag_view self.now) }
     {
         Ok(Diag {
             summary: Text::new(alloc, self.summary)?,
             detail: Text::new(alloc, self.detail)?,
+            range: copied_text(alloc, &self.range)?,
+            snippet: copied_text(alloc, &self.snippet)?,
         })
     }
 
     /// The same of a diagnostic that there may be.
     pub fn copied_option(
         alloc: Global,
-        diag: Option<TreeDiag<'_>>,
+        diag: &Option<TreeDiag<'_>>,
     ) -> Result<Option<Diag>, AllocError>
-        ensures { IfOk result (λ copy. copy ≡ option_map diag_view diag.entry) }
+        ensures { IfOk result (λ copy. copy ≡ option_map diag_view diag.now) }
     {
         match diag {
             Some(diag) => Ok(Some(diag.copied(alloc)?)),
             None => Ok(None),
         }
+    }
+}
+
+/// A copy of the text that there may be.
+fn copied_text(alloc: Global, text: &Option<String>) -> Result<Option<Text>, AllocError>
+    ensures { IfOk result (λ copy. copy ≡ option_map string_bytes text.now) }
+{
+    match text {
+        Some(text) => Ok(Some(Text::new(alloc, text.as_str())?)),
+        None => Ok(None),
     }
 }

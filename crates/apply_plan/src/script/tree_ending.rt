@@ -3,7 +3,7 @@
 ghost use Rattle.std.specs.Prelude.{◌≡◌, IfOk, option_map};
 ghost use Rattle.std.specs.Option.{option_copied};
 ghost use Rattle.apply_json.specs.Seen.{scalar_view};
-ghost use Rattle.apply_plan.specs.Script.Entry.{ending_from};
+ghost use Rattle.apply_plan.specs.Script.Entry.{ending_from, says_nothing};
 ghost use Rattle.apply_plan.specs.Script.Members.{ending_held};
 ghost use Rattle.apply_model.specs.Script.Outcome.{is_failed};
 ghost use Rattle.apply_plan.specs.Script.TreeView.{diag_view, ending_view};
@@ -15,7 +15,7 @@ use apply_model::{Ending, Text};
 use std::alloc::{AllocError, Global};
 
 /// An ending.
-#[derive(Clone, Copy)]
+#[derive(Drop)]
 pub enum TreeEnding<'a> {
     Done {
         id: Option<&'a str>,
@@ -60,8 +60,8 @@ impl<'a> TreeEnding<'a> {
     }
 
     /// Whether the provider fails.
-    pub fn is_failed(self) -> bool
-        ensures { result ≡ is_failed (ending_view self.entry) }
+    pub fn is_failed(&self) -> bool
+        ensures { result ≡ is_failed (ending_view self.now) }
     {
         match self {
             TreeEnding::Done { .. } => false,
@@ -69,13 +69,23 @@ impl<'a> TreeEnding<'a> {
         }
     }
 
+    /// Whether it is that of a step of which nothing else is told.
+    pub fn says_nothing(&self) -> bool
+        ensures { result ≡ says_nothing (ending_view self.now) }
+    {
+        match self {
+            TreeEnding::Done { id, warning } => id.is_none() && warning.is_none(),
+            TreeEnding::Failed { .. } => false,
+        }
+    }
+
     /// The ending, with copies of its texts.
-    pub fn copied(self, alloc: Global) -> Result<Ending, AllocError>
-        ensures { IfOk result (λ copy. copy ≡ ending_view self.entry) }
+    pub fn copied(&self, alloc: Global) -> Result<Ending, AllocError>
+        ensures { IfOk result (λ copy. copy ≡ ending_view self.now) }
     {
         match self {
             TreeEnding::Done { id, warning } => Ok(Ending::Done {
-                id: Text::of_option(alloc, id)?,
+                id: Text::of_option(alloc, *id)?,
                 warning: TreeDiag::copied_option(alloc, warning)?,
             }),
             TreeEnding::Failed { diag } => Ok(Ending::Failed {

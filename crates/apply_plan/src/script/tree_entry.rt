@@ -1,20 +1,21 @@
 //! An entry of a script, whose texts are borrowed.
 
 ghost use Rattle.std.specs.Prelude.{◌≡◌, ◌<◌, ◌≤◌, Err, IfOk, OnOk, Some, length, map, option_map};
-ghost use Rattle.std.specs.List.{list_any, zip};
+ghost use Rattle.std.specs.List.{enumerate_from, list_any, zip};
 ghost use Rattle.serde_json.specs.Data.{Data};
-ghost use Rattle.apply_json.specs.Tokens.{IsNoValue, IsRead};
-ghost use Rattle.apply_plan.specs.Script.Entry.{entry_of};
+ghost use Rattle.apply_json.specs.Keeping.{IsKeptRead};
+ghost use Rattle.apply_json.specs.Tokens.{IsNoValue};
+ghost use Rattle.apply_plan.specs.Script.Entry.{entry_of, is_kept};
 ghost use Rattle.apply_plan.specs.Script.Members.{entry_held};
 ghost use Rattle.apply_model.specs.Script.Outcome.{has_too_many_provisioners, has_too_much_output, is_too_long};
-ghost use Rattle.apply_plan.specs.Script.Refusals.{fault_of_steps, misplaces_provisioners};
+ghost use Rattle.apply_plan.specs.Script.Refusals.{fault_of_steps, misplaces_provisioners, passes};
 ghost use Rattle.apply_plan.specs.Script.TreeView.{entry_view, step_view, waits_within};
 
 use crate::script::entry_slots::EntrySlots;
 use crate::script::script_error::ScriptError;
 use crate::script::tree_step::TreeStep;
 use apply_json::members::non_empty;
-use apply_json::{ReadFault, Reader, read_object};
+use apply_json::{ReadFault, Reader, read_kept_object};
 use apply_model::StepKind;
 use std::alloc::Global;
 
@@ -34,13 +35,13 @@ impl<'a> TreeEntry<'a> {
         reader: &mut Reader<'a>,
         depth: usize,
     ) -> Result<Option<TreeEntry<'a>>, ReadFault>
-        ensures ok { IfOk result (λ found. (d : Data) × IsRead depth reader.old d reader.new
+        ensures ok { IfOk result (λ found. (d : Data) × IsKeptRead is_kept depth reader.old d reader.new
             × (option_map entry_view found ≡ entry_of d)) }
         ensures shorter { OnOk result (length reader.new < length reader.old) }
         ensures err { result ≡ Err ReadFault.NotJson → IsNoValue depth reader.old }
     {
         let mut slots = EntrySlots::new();
-        read_object(alloc, reader, depth, &mut slots)?;
+        read_kept_object(alloc, reader, depth, &mut slots)?;
         Ok(TreeEntry::of(slots))
     }
 
@@ -58,10 +59,11 @@ impl<'a> TreeEntry<'a> {
         })
     }
 
-    /// The first fault of the steps of the entry, which has that number, where they belong to steps of these kinds.
+    /// The first fault of the steps of the entry, which has that number, where they belong to steps of these kinds, of a change
+    /// that may be of a deposed object.
     #[tactic(auto, unfolding(crate::specs::Script::Refusals::fault_of_steps))]
-    pub fn fault(&self, number: u32, kinds: &[StepKind]) -> Option<ScriptError>
-        ensures { result ≡ fault_of_steps number kinds.now (map step_view self.now.steps.items) }
+    pub fn fault(&self, number: u32, is_deposed: bool, kinds: &[StepKind]) -> Option<ScriptError>
+        ensures { result ≡ fault_of_steps number is_deposed kinds.now (map step_view self.now.steps.items) }
     {
         if self.steps.len() > kinds.len() {
             Some(ScriptError::TooManySteps(number))
@@ -71,7 +73,7 @@ impl<'a> TreeEntry<'a> {
             Some(ScriptError::TooManyProvisioners(number))
         } else if has_any_too_much_output(&self.steps) {
             Some(ScriptError::TooMuchOutput(number))
-        } else if misplaces_any_provisioners(kinds, &self.steps) {
+        } else if misplaces_any_provisioners(is_deposed, kinds, &self.steps) {
             Some(ScriptError::NotACreate(number))
         } else {
             None
@@ -95,32 +97,33 @@ impl<'a> TreeEntry<'a> {
 
 /// Whether a step takes longer than it may.
 fn is_any_too_long(steps: &[TreeStep<'_>]) -> bool
-    ensures { result ≡ list_any (λ step. is_too_long (step_view step)) steps.now }
+    ensures { result ≡ list_any (λ step. passes is_too_long (step_view step)) steps.now }
 {
     steps.iter().any(TreeStep::is_too_long)
 }
 
 /// Whether a step has more provisioners than it may.
 fn has_any_too_many_provisioners(steps: &[TreeStep<'_>]) -> bool
-    ensures { result ≡ list_any (λ step. has_too_many_provisioners (step_view step)) steps.now }
+    ensures { result ≡ list_any (λ step. passes has_too_many_provisioners (step_view step)) steps.now }
 {
     steps.iter().any(TreeStep::has_too_many_provisioners)
 }
 
 /// Whether a provisioner of a step puts out more than it may.
 fn has_any_too_much_output(steps: &[TreeStep<'_>]) -> bool
-    ensures { result ≡ list_any (λ step. has_too_much_output (step_view step)) steps.now }
+    ensures { result ≡ list_any (λ step. passes has_too_much_output (step_view step)) steps.now }
 {
     steps.iter().any(TreeStep::has_too_much_output)
 }
 
-/// Whether a step that is no create has provisioners.
-fn misplaces_any_provisioners(kinds: &[StepKind], steps: &[TreeStep<'_>]) -> bool
+/// Whether a step that takes no provisioners has some. The change may be of a deposed object.
+fn misplaces_any_provisioners(is_deposed: bool, kinds: &[StepKind], steps: &[TreeStep<'_>]) -> bool
     requires { length steps.now ≤ length kinds.now }
-    ensures { result ≡ list_any misplaces_provisioners (zip kinds.now (map step_view steps.now)) }
+    ensures { result
+        ≡ list_any (misplaces_provisioners is_deposed) (zip (enumerate_from 0 kinds.now) (map step_view steps.now)) }
 {
     for (number, step) in steps.iter().enumerate() {
-        if step.misplaces_provisioners(kinds[number]) {
+        if step.misplaces_provisioners(is_deposed, number, kinds[number]) {
             return true;
         }
     }

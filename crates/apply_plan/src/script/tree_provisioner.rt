@@ -2,9 +2,11 @@
 
 ghost use Rattle.std.specs.Prelude.{◌≡◌, ◌<◌, ◌≤◌, All, Err, IfOk, OnOk, Some, length, map, option_map};
 ghost use Rattle.serde_json.specs.Data.{Data};
-ghost use Rattle.apply_json.specs.Tokens.{IsNoValue, IsRead};
-ghost use Rattle.apply_plan.specs.Script.Entry.{provisioner_from};
-ghost use Rattle.apply_plan.specs.Script.Members.{provisioner_held};
+ghost use Rattle.apply_json.specs.Keeping.{IsKeptRead};
+ghost use Rattle.apply_json.specs.Seen.{scalar_view};
+ghost use Rattle.apply_json.specs.Tokens.{IsNoValue};
+ghost use Rattle.apply_plan.specs.Script.Entry.{is_kept, may_fail_by, provisioner_from};
+ghost use Rattle.apply_plan.specs.Script.Members.{may_fail_held, provisioner_held};
 ghost use Rattle.apply_model.specs.Script.Outcome.{IsSmall, puts_out_too_much};
 ghost use Rattle.apply_model.specs.Script.Limits.{max_outputs, max_provisioners};
 ghost use Rattle.apply_plan.specs.Script.TreeView.{provisioner_view, texts_view};
@@ -12,7 +14,7 @@ ghost use Rattle.apply_plan.specs.Script.TreeView.{provisioner_view, texts_view}
 use crate::script::provisioner_slots::ProvisionerSlots;
 use crate::script::tree_diag::TreeDiag;
 use apply_json::members::non_empty;
-use apply_json::{ReadFault, Reader, read_object};
+use apply_json::{ReadFault, Reader, Scalar, read_kept_object};
 use apply_model::{MAX_OUTPUTS, Provisioner, Provisioners, Text, Texts};
 use std::alloc::{AllocError, Global};
 
@@ -25,6 +27,7 @@ pub struct TreeProvisioner<'a> {
     /// Any number of texts, likewise.
     pub output: Vec<&'a str>,
     pub failed: Option<TreeDiag<'a>>,
+    pub may_fail: bool,
 }
 
 impl<'a> TreeProvisioner<'a> {
@@ -35,13 +38,13 @@ impl<'a> TreeProvisioner<'a> {
         reader: &mut Reader<'a>,
         depth: usize,
     ) -> Result<Option<TreeProvisioner<'a>>, ReadFault>
-        ensures ok { IfOk result (λ found. (d : Data) × IsRead depth reader.old d reader.new
+        ensures ok { IfOk result (λ found. (d : Data) × IsKeptRead is_kept depth reader.old d reader.new
             × (option_map provisioner_view found ≡ provisioner_from d)) }
         ensures shorter { OnOk result (length reader.new < length reader.old) }
         ensures err { result ≡ Err ReadFault.NotJson → IsNoValue depth reader.old }
     {
         let mut slots = ProvisionerSlots::new(alloc);
-        read_object(alloc, reader, depth, &mut slots)?;
+        read_kept_object(alloc, reader, depth, &mut slots)?;
         Ok(TreeProvisioner::of(slots))
     }
 
@@ -53,11 +56,13 @@ impl<'a> TreeProvisioner<'a> {
         let seconds = slots.seconds.whole()?;
         let failed = slots.failed?;
         let output = slots.output?;
+        let may_fail = may_fail(slots.on_failure)?;
         Some(TreeProvisioner {
             name,
             seconds,
             output,
             failed,
+            may_fail,
         })
     }
 
@@ -77,8 +82,34 @@ impl<'a> TreeProvisioner<'a> {
             name: Text::new(alloc, self.name)?,
             seconds: self.seconds as u32,
             output: copied_texts(alloc, &self.output)?,
-            failed: TreeDiag::copied_option(alloc, self.failed)?,
+            failed: TreeDiag::copied_option(alloc, &self.failed)?,
+            may_fail: self.may_fail,
         })
+    }
+}
+
+/// Whether a provisioner may fail, by the word that says what comes of its failure: where it is absent, it may not. `None` where
+/// it is no such word.
+fn may_fail(on_failure: Scalar<'_>) -> Option<bool>
+    ensures { result ≡ may_fail_held (scalar_view on_failure.entry) }
+{
+    match on_failure {
+        Scalar::Absent => Some(false),
+        Scalar::Text(word) => may_fail_by(word),
+        _ => None,
+    }
+}
+
+/// The same of the word that is there.
+fn may_fail_by(word: &str) -> Option<bool>
+    ensures { result ≡ may_fail_by word.now }
+{
+    if word == "continue" {
+        Some(true)
+    } else if word == "fail" {
+        Some(false)
+    } else {
+        None
     }
 }
 

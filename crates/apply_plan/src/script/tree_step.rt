@@ -1,32 +1,32 @@
 //! A step of a script, whose texts are borrowed.
 
-ghost use Rattle.std.specs.Prelude.{◌≡◌, ◌<◌, Err, IfOk, OnOk, Some, length, map, option_map};
-ghost use Rattle.std.specs.List.{list_any};
+ghost use Rattle.std.specs.Prelude.{◌≡◌, ◌<◌, Err, IfOk, IfSome, OnOk, Some, length, map, option_map};
 ghost use Rattle.serde_json.specs.Data.{Data};
-ghost use Rattle.apply_json.specs.Tokens.{IsNoValue, IsRead};
-ghost use Rattle.apply_plan.specs.Script.Entry.{entry_step, step_from, with_provisioners};
-ghost use Rattle.apply_plan.specs.Script.Members.{step_held};
-ghost use Rattle.apply_model.specs.Script.Outcome.{IsBounded, has_too_many_provisioners, has_too_much_output, is_too_long, puts_out_too_much};
-ghost use Rattle.apply_plan.specs.Script.Refusals.{misplaces_provisioners};
-ghost use Rattle.apply_plan.specs.Script.TreeView.{ending_view, entry_step_view, provisioner_view, step_view, waits_view};
+ghost use Rattle.apply_json.specs.Keeping.{IsKeptRead};
+ghost use Rattle.apply_json.specs.Seen.{scalar_view};
+ghost use Rattle.apply_json.specs.Tokens.{IsNoValue};
+ghost use Rattle.apply_plan.specs.Script.Entry.{is_kept, step_from};
+ghost use Rattle.apply_plan.specs.Script.Members.{flag_held, is_told, outcome_held, step_held};
+ghost use Rattle.apply_model.specs.Script.Outcome.{IsBounded, has_too_many_provisioners, has_too_much_output, is_too_long};
+ghost use Rattle.apply_plan.specs.Script.Refusals.{misplaces_provisioners, passes, takes_provisioners};
+ghost use Rattle.apply_plan.specs.Script.TreeView.{ending_view, entry_step_view, outcome_view, provisioner_view, step_view};
+ghost use Rattle.apply_plan.specs.Script.WaitedStep.{with_waits};
 
 use crate::script::step_slots::StepSlots;
 use crate::script::tree_ending::TreeEnding;
-use crate::script::tree_provisioner::{TreeProvisioner, copied_provisioners};
+use crate::script::tree_outcome::TreeOutcome;
+use crate::script::tree_provisioner::TreeProvisioner;
 use crate::script::tree_wait::TreeWait;
-use apply_json::{ReadFault, Reader, read_object};
-use apply_model::{MAX_PROVISIONERS, MAX_SECONDS, Outcome, StepKind, Waits};
+use apply_json::{ReadFault, Reader, Scalar, read_kept_object};
+use apply_model::{ScriptStep, StepKind, Waits};
 use std::alloc::{AllocError, Global};
 
 /// A step, each of whose members obeys its rule.
 #[derive(Drop)]
 pub struct TreeStep<'a> {
-    /// Any number of 64 bits: whether it is small enough is asked later.
-    pub seconds: u64,
-    /// Any number of provisioners, likewise.
-    pub provisioners: Vec<TreeProvisioner<'a>>,
-    pub result: TreeEnding<'a>,
-    /// Any number of items, likewise.
+    /// What comes of it. `None` where it is skipped.
+    pub outcome: Option<TreeOutcome<'a>>,
+    /// Any number of items: whether they are few enough is asked later.
     pub after: Vec<TreeWait<'a>>,
 }
 
@@ -38,13 +38,13 @@ impl<'a> TreeStep<'a> {
         reader: &mut Reader<'a>,
         depth: usize,
     ) -> Result<Option<TreeStep<'a>>, ReadFault>
-        ensures ok { IfOk result (λ found. (d : Data) × IsRead depth reader.old d reader.new
+        ensures ok { IfOk result (λ found. (d : Data) × IsKeptRead is_kept depth reader.old d reader.new
             × (option_map entry_step_view found ≡ step_from d)) }
         ensures shorter { OnOk result (length reader.new < length reader.old) }
         ensures err { result ≡ Err ReadFault.NotJson → IsNoValue depth reader.old }
     {
         let mut slots = StepSlots::new(alloc);
-        read_object(alloc, reader, depth, &mut slots)?;
+        read_kept_object(alloc, reader, depth, &mut slots)?;
         Ok(TreeStep::of(slots))
     }
 
@@ -52,90 +52,114 @@ impl<'a> TreeStep<'a> {
     fn of(slots: StepSlots<'a>) -> Option<TreeStep<'a>>
         ensures { option_map entry_step_view result ≡ step_held slots.entry }
     {
-        let seconds = slots.seconds.whole()?;
+        let skipped = flag_or_false(slots.skipped)?;
         let ending = TreeEnding::of_members(slots.id, slots.warning, slots.failed)?;
         let provisioners = slots.provisioners?;
         let after = slots.after?;
-        TreeStep::with_provisioners(seconds, ending, provisioners, after)
-    }
-
-    /// A step with its provisioners. `None` where its provider fails and it has some.
-    fn with_provisioners(
-        seconds: u64,
-        ending: TreeEnding<'a>,
-        provisioners: Vec<TreeProvisioner<'a>>,
-        after: Vec<TreeWait<'a>>,
-    ) -> Option<TreeStep<'a>>
-        ensures { option_map entry_step_view result ≡ option_map (entry_step (waits_view after.entry.items))
-            (with_provisioners seconds (ending_view ending.entry)
-            (map provisioner_view provisioners.entry.items)) }
-    {
-        if ending.is_failed() && !provisioners.is_empty() {
-            return None;
-        }
-        Some(TreeStep {
-            seconds,
-            provisioners,
-            result: ending,
-            after,
-        })
+        let outcome = outcome_of(skipped, slots.seconds, ending, provisioners)?;
+        Some(TreeStep { outcome, after })
     }
 
     /// Whether the step takes longer than it may, with all its provisioners.
     pub fn is_too_long(&self) -> bool
-        ensures { result ≡ is_too_long (step_view self.now) }
+        ensures { result ≡ passes is_too_long (step_view self.now) }
     {
-        let Some(mut left) = u64::from(MAX_SECONDS).checked_sub(self.seconds) else {
-            return true;
-        };
-        for provisioner in &self.provisioners {
-            if provisioner.seconds > left {
-                return true;
-            }
-            left -= provisioner.seconds;
+        match &self.outcome {
+            Some(outcome) => outcome.is_too_long(),
+            None => false,
         }
-        false
     }
 
     /// Whether the step has more provisioners than it may.
     pub fn has_too_many_provisioners(&self) -> bool
-        ensures { result ≡ has_too_many_provisioners (step_view self.now) }
+        ensures { result ≡ passes has_too_many_provisioners (step_view self.now) }
     {
-        self.provisioners.len() > MAX_PROVISIONERS
+        match &self.outcome {
+            Some(outcome) => outcome.has_too_many_provisioners(),
+            None => false,
+        }
     }
 
     /// Whether a provisioner of the step puts out more than it may.
     pub fn has_too_much_output(&self) -> bool
-        ensures { result ≡ has_too_much_output (step_view self.now) }
+        ensures { result ≡ passes has_too_much_output (step_view self.now) }
     {
-        puts_any_out_too_much(&self.provisioners)
+        match &self.outcome {
+            Some(outcome) => outcome.has_too_much_output(),
+            None => false,
+        }
     }
 
-    /// Whether the step has provisioners, where it is of that kind and no create.
-    pub fn misplaces_provisioners(&self, kind: StepKind) -> bool
-        ensures { result ≡ misplaces_provisioners (kind, step_view self.now) }
+    /// Whether the step has provisioners, where it is the step of that number of its change and of that kind, which takes none.
+    /// The change may be of a deposed object.
+    pub fn misplaces_provisioners(&self, is_deposed: bool, number: usize, kind: StepKind) -> bool
+        ensures { result ≡ misplaces_provisioners is_deposed ((number, kind), step_view self.now) }
     {
-        !self.provisioners.is_empty() && !kind.is_create()
+        match &self.outcome {
+            Some(outcome) => outcome.has_provisioners()
+                && !takes_provisioners(is_deposed, number, kind),
+            None => false,
+        }
     }
 
-    /// The outcome that the step is, which waits for those steps, with copies of its texts.
-    pub fn copied(&self, alloc: Global, after: Waits) -> Result<Outcome, AllocError>
-        requires { IsBounded (step_view self.now) }
-        ensures { IfOk result (λ copy. copy ≡ record (step_view self.now) { after = after }) }
+    /// The step, which waits for those steps, with copies of its texts.
+    pub fn copied(&self, alloc: Global, after: Waits) -> Result<ScriptStep, AllocError>
+        requires { IfSome (step_view self.now) IsBounded }
+        ensures { IfOk result (λ copy. copy ≡ with_waits (step_view self.now) after) }
     {
-        Ok(Outcome {
-            seconds: self.seconds as u32,
-            provisioners: copied_provisioners(alloc, &self.provisioners)?,
-            result: self.result.copied(alloc)?,
-            after,
-        })
+        match &self.outcome {
+            Some(outcome) => Ok(ScriptStep::Answered(outcome.copied(alloc, after)?)),
+            None => Ok(ScriptStep::Skipped { after }),
+        }
     }
 }
 
-/// Whether one of the provisioners puts out more than it may.
-fn puts_any_out_too_much(provisioners: &[TreeProvisioner<'_>]) -> bool
-    ensures { result
-        ≡ list_any (λ provisioner. puts_out_too_much (provisioner_view provisioner)) provisioners.now }
+/// What comes of a step, by its parts: nothing, where it is skipped. `None` where something is told of one that is skipped, or
+/// where one whose provider fails has provisioners.
+fn outcome_of<'a>(
+    skipped: bool,
+    seconds: Scalar<'a>,
+    ending: TreeEnding<'a>,
+    provisioners: Vec<TreeProvisioner<'a>>,
+) -> Option<Option<TreeOutcome<'a>>>
+    ensures { option_map (λ outcome. option_map outcome_view outcome) result
+        ≡ outcome_held skipped (scalar_view seconds.entry) (ending_view ending.entry) (map provisioner_view provisioners.entry.items) }
 {
-    provisioners.iter().any(TreeProvisioner::puts_out_too_much)
+    if skipped {
+        if is_told(seconds) || !ending.says_nothing() || !provisioners.is_empty() {
+            return None;
+        }
+        return Some(None);
+    }
+    let seconds = seconds.whole()?;
+    Some(Some(TreeOutcome::new(seconds, ending, provisioners)?))
+}
+
+/// The flag, or `false` where it is absent. `None` where it is there and is none.
+fn flag_or_false(found: Scalar<'_>) -> Option<bool>
+    ensures { result ≡ flag_held (scalar_view found.entry) }
+{
+    match found {
+        Scalar::Absent => Some(false),
+        Scalar::Bool(flag) => Some(flag),
+        _ => None,
+    }
+}
+
+/// Whether something stands there.
+fn is_told(found: Scalar<'_>) -> bool
+    ensures { result ≡ is_told (scalar_view found.entry) }
+{
+    match found {
+        Scalar::Absent => false,
+        _ => true,
+    }
+}
+
+/// Whether the step of that number of a change, which is of that kind, takes provisioners. The change may be of a deposed
+/// object.
+fn takes_provisioners(is_deposed: bool, number: usize, kind: StepKind) -> bool
+    ensures { result ≡ takes_provisioners is_deposed (number, kind) }
+{
+    kind.is_create() || kind.is_delete() && number == 0 && !is_deposed
 }

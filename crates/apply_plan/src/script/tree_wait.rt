@@ -3,15 +3,16 @@
 ghost use Rattle.std.specs.Prelude.{◌≡◌, ◌<◌, ◌≤◌, Err, IfOk, IfSome, None, OnOk, Some, length, nat_lt, option_map, if◌then◌else◌};
 ghost use Rattle.serde_json.specs.Data.{Data};
 ghost use Rattle.apply_json.specs.Seen.{scalar_view};
-ghost use Rattle.apply_json.specs.Tokens.{IsNoValue, IsRead};
-ghost use Rattle.apply_plan.specs.Script.Entry.{wait_from};
+ghost use Rattle.apply_json.specs.Keeping.{IsKeptRead};
+ghost use Rattle.apply_json.specs.Tokens.{IsNoValue};
+ghost use Rattle.apply_plan.specs.Script.Entry.{is_kept, wait_from};
 ghost use Rattle.apply_plan.specs.Script.Members.{number_held, wait_held};
 ghost use Rattle.apply_plan.specs.Script.TreeView.{wait_view};
 ghost use Rattle.apply_plan.specs.Script.WaitedStep.{number_waited};
 
 use crate::script::wait_slots::WaitSlots;
 use apply_json::members::non_empty;
-use apply_json::{ReadFault, Reader, Scalar, read_object};
+use apply_json::{ReadFault, Reader, Scalar, read_kept_object};
 use std::alloc::Global;
 
 /// An item of `after`, each of whose members obeys its rule.
@@ -31,13 +32,13 @@ impl<'a> TreeWait<'a> {
         reader: &mut Reader<'a>,
         depth: usize,
     ) -> Result<Option<TreeWait<'a>>, ReadFault>
-        ensures ok { IfOk result (λ found. (d : Data) × IsRead depth reader.old d reader.new
+        ensures ok { IfOk result (λ found. (d : Data) × IsKeptRead is_kept depth reader.old d reader.new
             × (option_map wait_view found ≡ wait_from d)) }
         ensures shorter { OnOk result (length reader.new < length reader.old) }
         ensures err { result ≡ Err ReadFault.NotJson → IsNoValue depth reader.old }
     {
         let mut slots = WaitSlots::new();
-        match read_object(alloc, reader, depth, &mut slots)? {
+        match read_kept_object(alloc, reader, depth, &mut slots)? {
             Scalar::Text(address) => Ok(Some(TreeWait {
                 address,
                 deposed: None,

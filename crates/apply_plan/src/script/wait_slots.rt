@@ -1,8 +1,9 @@
 //! What is kept of the members of an item of `after`.
 
+ghost use Rattle.apply_plan.specs.Script.Entry.{is_kept};
 ghost use Rattle.apply_plan.specs.Script.Members.{HoldsWait};
 
-use apply_json::{ReadFault, Reader, Scalar, Slots, pass, read_scalar};
+use apply_json::{KeepingSlots, ReadFault, Reader, Scalar, pass, read_scalar};
 use std::alloc::Global;
 
 /// The members of an item of `after`.
@@ -28,7 +29,9 @@ impl<'a> WaitSlots<'a> {
     }
 }
 
-impl<'a> Slots<'a> for WaitSlots<'a> {
+impl<'a> KeepingSlots<'a> for WaitSlots<'a> {
+    ghost kept = { is_kept };
+
     ghost holds = { λ _ slots ms. HoldsWait slots ms };
 
     fn take(

@@ -1,8 +1,11 @@
-//! Provisioners of a create in a script: their members, how many there may be, and where they may stand.
+//! Provisioners in a script: their members, how many there may be, and where they may stand.
 
-use super::scripts::ONE_DELETE;
 use super::table::{put, scripts_are_answered, spelled_rows, times};
 use super::*;
+
+/// A plan of one change, which updates `null_resource.a`.
+const ONE_UPDATE: &str =
+    r#"{"format_version":"1.2","resource_changes":[{"address":"null_resource.a","mode":"managed","type":"null_resource","name":"a","change":{"actions":["update"]}}]}"#;
 
 /// A script with these provisioners in the step of the only change.
 const PROVISIONERS: &str =
@@ -98,6 +101,21 @@ true => script entry 0 is malformed
 {"summary":"boom"},"on_failure":"continue" => accepted
 "#;
 
+const ON_FAILURE: &str = r#"
+null => accepted
+"continue" => accepted
+"fail" => accepted
+5,"on_failure":"continue" => accepted
+true => script entry 0 is malformed
+5 => script entry 0 is malformed
+["continue"] => script entry 0 is malformed
+{} => script entry 0 is malformed
+"" => script entry 0 is malformed
+"x" => script entry 0 is malformed
+"Continue" => script entry 0 is malformed
+"continue" ,"on_failure":"x" => script entry 0 is malformed
+"#;
+
 #[test]
 fn each_member_of_a_provisioner_has_its_rule(rt: HostRuntime) {
     let alloc = rt.alloc();
@@ -109,6 +127,9 @@ fn each_member_of_a_provisioner_has_its_rule(rt: HostRuntime) {
     let members = r#""provisioner":"a","seconds":0,"failed":CELL"#;
     let failed = put(&rt, alloc, PROVISIONER, "CELL", members);
     scripts_are_answered(&rt, alloc, ONE_CREATE, failed, FAILURES);
+    let members = r#""provisioner":"a","seconds":0,"on_failure":CELL"#;
+    let on_failure = put(&rt, alloc, PROVISIONER, "CELL", members);
+    scripts_are_answered(&rt, alloc, ONE_CREATE, on_failure, ON_FAILURE);
 }
 
 /// A script with this step of the only change.
@@ -177,7 +198,7 @@ const TOO_MANY: &str = "script entry 0 has a step with more than 8 provisioners"
 
 const TOO_MUCH: &str = "script entry 0 has a provisioner with more than 100 outputs";
 
-const MISPLACED: &str = "script entry 0 has a provisioner on a step that is not a create";
+const MISPLACED: &str = "script entry 0 has a provisioner on a step that takes none";
 
 const TOO_LONG: &str = "script entry 0 has a step over 86400 seconds";
 
@@ -207,13 +228,13 @@ fn faults_of_provisioners_have_an_order(rt: HostRuntime) {
     let alloc = rt.alloc();
     let loud = times(&rt, alloc, 101, r#""hi""#);
     let all = step_with(&rt, alloc, "86401", 9, loud);
-    step_is_answered(&rt, alloc, ONE_DELETE, all, TOO_LONG);
+    step_is_answered(&rt, alloc, ONE_UPDATE, all, TOO_LONG);
     let short = step_with(&rt, alloc, "86400", 9, loud);
-    step_is_answered(&rt, alloc, ONE_DELETE, short, TOO_MANY);
+    step_is_answered(&rt, alloc, ONE_UPDATE, short, TOO_MANY);
     let few = step_with(&rt, alloc, "86400", 8, loud);
-    step_is_answered(&rt, alloc, ONE_DELETE, few, TOO_MUCH);
+    step_is_answered(&rt, alloc, ONE_UPDATE, few, TOO_MUCH);
     let little = step_with(&rt, alloc, "86400", 8, "");
-    step_is_answered(&rt, alloc, ONE_DELETE, little, MISPLACED);
+    step_is_answered(&rt, alloc, ONE_UPDATE, little, MISPLACED);
     step_is_answered(&rt, alloc, ONE_CREATE, little, "accepted");
 }
 
@@ -235,22 +256,22 @@ with with => script entry 0 has too many steps
 
 const TO_ANOTHER: &str = r#"
 plain => accepted
-with => script entry 0 has a provisioner on a step that is not a create
+with => script entry 0 has a provisioner on a step that takes none
 with plain => script entry 0 has too many steps
 "#;
 
 const TO_DELETE_FIRST: &str = r#"
 plain with => accepted
 plain plain => accepted
-with => script entry 0 has a provisioner on a step that is not a create
-with with => script entry 0 has a provisioner on a step that is not a create
+with => accepted
+with with => accepted
 "#;
 
 const TO_CREATE_FIRST: &str = r#"
 with => accepted
 with plain => accepted
-plain with => script entry 0 has a provisioner on a step that is not a create
-with with => script entry 0 has a provisioner on a step that is not a create
+plain with => script entry 0 has a provisioner on a step that takes none
+with with => script entry 0 has a provisioner on a step that takes none
 "#;
 
 const TO_NOTHING: &str = r#"
@@ -266,16 +287,30 @@ fn steps_are_answered(rt: &impl Abort, alloc: Global, actions: &str, table: &str
 }
 
 #[test]
-fn only_a_create_has_provisioners(rt: HostRuntime) {
+fn only_a_create_and_a_first_delete_have_provisioners(rt: HostRuntime) {
     let alloc = rt.alloc();
     steps_are_answered(&rt, alloc, r#""create""#, TO_A_CREATE);
-    steps_are_answered(&rt, alloc, r#""delete""#, TO_ANOTHER);
+    steps_are_answered(&rt, alloc, r#""delete""#, TO_A_CREATE);
     steps_are_answered(&rt, alloc, r#""update""#, TO_ANOTHER);
     steps_are_answered(&rt, alloc, r#""read""#, TO_ANOTHER);
     steps_are_answered(&rt, alloc, r#""delete","create""#, TO_DELETE_FIRST);
     steps_are_answered(&rt, alloc, r#""create","delete""#, TO_CREATE_FIRST);
     steps_are_answered(&rt, alloc, r#""no-op""#, TO_NOTHING);
     steps_are_answered(&rt, alloc, r#""forget""#, TO_NOTHING);
+}
+
+/// A plan of one change of a deposed object, with these actions.
+const DEPOSED: &str =
+    r#"{"format_version":"1.2","resource_changes":[{"address":"null_resource.a","deposed":"00000001","mode":"managed","type":"null_resource","name":"a","change":{"actions":["delete"]}}]}"#;
+
+const OF_DEPOSED: &str =
+    r#"{"changes":[{"address":"null_resource.a","deposed":"00000001","steps":[CELL]}]}"#;
+
+#[test]
+fn a_delete_of_a_deposed_object_has_none(rt: HostRuntime) {
+    let alloc = rt.alloc();
+    let rows = spelled_rows(&rt, alloc, STEPS, TO_ANOTHER);
+    scripts_are_answered(&rt, alloc, DEPOSED, OF_DEPOSED, rows);
 }
 
 /// Steps of a replacement by their faults, where the faults of a later step may come first.

@@ -3,7 +3,7 @@
 use super::outcomes::{line_of, push_diag, push_printed};
 use super::table::{cells, compare, push, put, rows, times, with_end};
 use super::*;
-use apply_plan::{Outcome, Provisioner};
+use apply_plan::{Outcome, Provisioner, StepKind};
 
 /// Adds what the provisioner is and puts out: `; "NAME" SECONDS "OUTPUT" ..`, and why it fails, where it does.
 fn push_provisioner(rt: &impl Abort, alloc: Global, line: &mut String, provisioner: &Provisioner) {
@@ -16,6 +16,9 @@ fn push_provisioner(rt: &impl Abort, alloc: Global, line: &mut String, provision
     }
     if let Some(diag) = &provisioner.failed {
         push_diag(rt, alloc, line, " failed", diag);
+    }
+    if provisioner.may_fail {
+        push(rt, line, " may fail");
     }
 }
 
@@ -37,7 +40,7 @@ fn only_outcome<'a>(rt: &impl Abort, script: &'a Script) -> &'a Outcome {
 /// How long the only step takes, with its provisioners.
 fn seconds_taken(rt: &impl Abort, script: &Script) -> u32 {
     let outcome = script.outcome(0, 0).expect(rt, "nothing is said");
-    outcome.took()
+    outcome.took(StepKind::Create)
 }
 
 /// What comes of the outcome: `, COUNT run`, and why it fails, where it does.
@@ -65,6 +68,8 @@ const SAID: &str = r#"
 "seconds":0,"provisioners":[{"provisioner":"a","seconds":86400,"output":[],"failed":{"summary":"","detail":"why"}}] => 0 done; "a" 86400 failed "" "why"
 "seconds":0,"provisioners":[{"provisioner":"a","provisioner":"b","seconds":1,"seconds":2,"output":["x"],"output":["y"]}] => 0 done; "b" 2 "y"
 "seconds":0,"provisioners":[{"provisioner":"a","seconds":1,"output":["x"],"output":null,"failed":{"summary":"boom"},"failed":null}] => 0 done; "a" 1
+"seconds":0,"provisioners":[{"provisioner":"a","seconds":1,"on_failure":"continue","failed":{"summary":"boom"}},{"provisioner":"b","seconds":2,"on_failure":"fail"}] => 0 done; "a" 1 failed "boom" "" may fail; "b" 2
+"seconds":0,"provisioners":[{"provisioner":"a","seconds":1,"on_failure":"continue","on_failure":null}] => 0 done; "a" 1
 "#;
 
 /// Steps, and what comes of them.
@@ -78,6 +83,8 @@ const COMES: &str = r#"
 "seconds":1,"provisioners":[{"provisioner":"a","seconds":2,"failed":{"summary":"first"}},{"provisioner":"b","seconds":3,"failed":{"summary":"second"}}] => 3, 1 run, failed "first" ""
 "seconds":1,"warning":{"summary":"slow"},"provisioners":[{"provisioner":"a","seconds":2},{"provisioner":"b","seconds":4,"failed":{"summary":"boom"}},{"provisioner":"c","seconds":8}] => 7, 2 run, failed "boom" ""
 "seconds":86400,"provisioners":[{"provisioner":"a","seconds":0}] => 86400, 1 run
+"seconds":1,"provisioners":[{"provisioner":"a","seconds":2,"on_failure":"continue","failed":{"summary":"boom"}},{"provisioner":"b","seconds":3}] => 6, 2 run
+"seconds":1,"provisioners":[{"provisioner":"a","seconds":2,"on_failure":"continue","failed":{"summary":"first"}},{"provisioner":"b","seconds":3,"on_failure":"fail","failed":{"summary":"second"}},{"provisioner":"c","seconds":4}] => 6, 2 run, failed "second" ""
 "#;
 
 /// The script whose only step has these members.

@@ -183,13 +183,14 @@ TooManySteps(6) => script entry 6 has too many steps
 SecondsRange(7) => script entry 7 has a step over 86400 seconds
 TooManyProvisioners(8) => script entry 8 has a step with more than 8 provisioners
 TooMuchOutput(9) => script entry 9 has a provisioner with more than 100 outputs
-NotACreate(10) => script entry 10 has a provisioner on a step that is not a create
+NotACreate(10) => script entry 10 has a provisioner on a step that takes none
 TooManyWaits(13) => script entry 13 goes beyond 1000000 waits
 UnknownWait(14) => script entry 14 waits for an unknown change
 NoSuchStep(15) => script entry 15 waits for a step that its change does not have
 NeverBegins(16) => script entry 16 has a step that could never begin
 BadOutput(11) => script output 11 is malformed
 UnknownOutput(12) => script output 12 is not an output of the plan
+BadDiagnostic(17) => script diagnostic 17 is malformed
 Memory => out of memory
 "#;
 
@@ -213,6 +214,7 @@ fn script_refusals_have_their_texts(rt: HostRuntime) {
         ScriptError::NeverBegins(16),
         ScriptError::BadOutput(11),
         ScriptError::UnknownOutput(12),
+        ScriptError::BadDiagnostic(17),
         ScriptError::Memory,
     ];
     for refusal in refusals {

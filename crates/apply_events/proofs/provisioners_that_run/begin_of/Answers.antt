@@ -1,6 +1,6 @@
 use Rattle.std.proofs.Common.{arith}
-use Rattle.apply_model.specs.Script.Outcome.{ran}
-use Rattle.apply_events.proofs.MidSteps.{ends_in_time, ran_at, ran_few, since_more}
+use Rattle.apply_model.specs.Script.Outcome.{ran, seconds_before}
+use Rattle.apply_events.proofs.MidSteps.{before_whole, ends_in_time, ran_at, ran_few, since_more}
 use Rattle.apply_events.proofs.provisioners_that_run.begin_of.Goals as goal
 
 pub get-requires : goal.get-requires
@@ -11,15 +11,16 @@ pub overflow_add-seconds : goal.overflow_add-seconds
 overflow_add-seconds c =
     let ps = c.args.outcome.now.provisioners in
     let here = ran_at ps c.loop-earlier.earlier c.get.result.now (let count = c.count_that_run.ensures in let least = c.min-earlier-end.ensures in let less = c.loop-earlier-test.true in omega arith) c.get.ensures in
-    let ends = ends_in_time c.args.outcome.now.seconds (ran ps) c.loop-earlier.earlier c.get.result.now here in
+    let ends = ends_in_time (seconds_before c.args.kind c.args.outcome.now) (ran ps) c.loop-earlier.earlier c.get.result.now here in
     let so_far = c.loop-earlier.invariant in
     let short = c.requires in
+    let whole = before_whole c.args.kind c.args.outcome.now in
     (omega arith)
 
 pub loop-earlier-preserved : goal.loop-earlier-preserved
 loop-earlier-preserved c =
     let ps = c.args.outcome.now.provisioners in
     let here = ran_at ps c.loop-earlier.earlier c.get.result.now (let count = c.count_that_run.ensures in let least = c.min-earlier-end.ensures in let less = c.loop-earlier-test.true in omega arith) c.get.ensures in
-    let more = since_more c.args.outcome.now.seconds (ran ps) c.loop-earlier.earlier c.get.result.now here in
+    let more = since_more (seconds_before c.args.kind c.args.outcome.now) (ran ps) c.loop-earlier.earlier c.get.result.now here in
     let so_far = c.loop-earlier.invariant in
     (omega arith)

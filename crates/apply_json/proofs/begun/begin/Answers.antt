@@ -5,7 +5,7 @@ use Rattle.json.proofs.Grammar.{value_is}
 use Rattle.serde_json.specs.Data.{null, boolean, number, string}
 use Rattle.serde_json.specs.Read.{of_json, converted}
 use Rattle.serde_json.specs.View.{number_view}
-use Rattle.apply_json.proofs.FirstToken.{first_token, shorter, read_text, read_boolean, read_null, read_number, no_number, no_value, array_too_deep, object_too_deep, read_array, read_object}
+use Rattle.apply_json.proofs.FirstToken.{first_token, shorter, read_text, read_boolean, read_null, read_number, no_number, no_value, array_too_deep, object_too_deep, read_array, read_object, opened_array, opened_object}
 use Rattle.apply_json.proofs.begun.begin.Goals as goal
 
 abbrev held : {T E Q : Type 0} (r : Result T E) → Q → OnErr r Q
@@ -87,3 +87,13 @@ pub returns-else-depth-eq0-2-clause-ok : goal.returns-else-depth-eq0-2-clause-ok
 returns-else-depth-eq0-2-clause-ok c =
     let first = first_token c.next.result c.in_ok-token.token record {} c.args.reader.now c.next.new.self c.in_ok-token.ensures.value c.next.ensures.value in
     (omega arith, read_object c.args.depth c.args.reader.now c.next.new.self c.in_ok-token.token first (omega arith) c.in-BeginObject.is)
+
+pub returns-else-depth-eq0-clause-opened : goal.returns-else-depth-eq0-clause-opened
+returns-else-depth-eq0-clause-opened c =
+    let first = first_token c.next.result c.in_ok-token.token record {} c.args.reader.now c.next.new.self c.in_ok-token.ensures.value c.next.ensures.value in
+    opened_array c.args.depth c.args.reader.now c.next.new.self c.in_ok-token.token first (omega arith) c.in-BeginArray.is
+
+pub returns-else-depth-eq0-2-clause-opened : goal.returns-else-depth-eq0-2-clause-opened
+returns-else-depth-eq0-2-clause-opened c =
+    let first = first_token c.next.result c.in_ok-token.token record {} c.args.reader.now c.next.new.self c.in_ok-token.ensures.value c.next.ensures.value in
+    opened_object c.args.depth c.args.reader.now c.next.new.self c.in_ok-token.token first (omega arith) c.in-BeginObject.is

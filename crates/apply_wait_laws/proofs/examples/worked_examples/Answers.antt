@@ -18,4 +18,7 @@ returns c = record {
   one_is_halted = computed.one_is_halted;
   nothing_to_do = computed.nothing_to_do;
   ready_first_goes_first = computed.ready_first_goes_first;
+  first_is_skipped = computed.first_is_skipped;
+  second_is_skipped = computed.second_is_skipped;
+  skipped_is_not_halted = computed.skipped_is_not_halted;
 }

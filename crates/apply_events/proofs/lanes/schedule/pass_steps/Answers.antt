@@ -9,7 +9,7 @@ use Rattle.apply_events.specs.Waits.Done.{done_in, end_behind, end_of_turn, firs
 use Rattle.apply_events.specs.Waits.Moment.{later_by}
 use Rattle.apply_events.specs.Waits.Queue.{put}
 use Rattle.apply_events.proofs.Waits.Moments.{later_by_second}
-use Rattle.apply_events.proofs.Waits.Passing.{IsPassing, count_here, ends_first, ends_last, ends_on, ends_over, later_by_round, left_at, not_off, not_on, passed_last, passed_on, passed_over, passing_first, queue_same, step_here}
+use Rattle.apply_events.proofs.Waits.Passing.{IsPassing, ends_first, ends_last, ends_on, ends_over, later_by_round, left_at, not_off, not_on, passed_last, passed_on, passed_over, passing_first, queue_same, step_here}
 use Rattle.apply_events.proofs.lanes.schedule.pass_steps.Goals as goal
 
 pub loop-step-init : goal.loop-step-init
@@ -26,9 +26,8 @@ loop-step-init g c =
 pub later_by-at-requires : goal.later_by-at-requires
 later_by-at-requires g c =
     let w : Work = record { plan = c.args.plan.now; script = c.args.script.now; hooks = rules_of c.args.registry.now } in
-    let count = count_here w c.args.taken.turn.change c.change.result.now c.steps-kinds.result.now c.change.ensures c.steps-kinds.ensures.steps in
-    let all = ap length c.steps-kinds.ensures.steps in
-    let few = c.steps-kinds.ensures.few in
+    let count = ap length c.applied_steps-kinds.ensures.steps in
+    let few = c.applied_steps-kinds.ensures.few in
     let low = c.of-course.ensures.few in
     let second = c.loop-step.invariant.second in
     let fits = c.requires.second in
@@ -41,13 +40,13 @@ returns-then-not-course-clause-end g c =
     let w : Work = record { plan = c.args.plan.now; script = c.args.script.now; hooks = rules_of c.args.registry.now } in
     let taken = c.args.taken in
     let k = c.loop-step.step in
-    let kinds = c.steps-kinds.result.now in
+    let kinds = c.applied_steps-kinds.result.now in
     let s = step_of w taken.turn.change k (get_or kinds k Create) in
-    let count = count_here w taken.turn.change c.change.result.now kinds c.change.ensures c.steps-kinds.ensures.steps in
+    let count = ap length c.applied_steps-kinds.ensures.steps in
     let within = c.requires.steps in
     let to = c.loop-step-test.true in
     let from = c.loop-step.auto.step in
-    let here = step_here w taken.turn.change k c.change.result.now kinds c.change.ensures c.steps-kinds.ensures.steps (omega arith) in
+    let here = step_here w taken.turn.change k kinds c.applied_steps-kinds.ensures.steps (omega arith) in
     let off : goes_on s ≡ false = sym c.of-course.ensures.goes_on ∙ not_on c.of-course.result.goes_on c.if-not-course.true in
     c.later_by-at.ensures ∙ ap (λ n. later_by n c.loop-step.at) c.of-course.ensures.seconds
     ∙ ends_last w taken k s to refl here c.loop-step.at (end_of_turn w taken) off c.loop-step.invariant.end
@@ -57,13 +56,13 @@ returns-then-not-course-clause-queue g c = λ names done numbers q fresh.
     let w : Work = record { plan = c.args.plan.now; script = c.args.script.now; hooks = rules_of c.args.registry.now } in
     let taken = c.args.taken in
     let k = c.loop-step.step in
-    let kinds = c.steps-kinds.result.now in
+    let kinds = c.applied_steps-kinds.result.now in
     let s = step_of w taken.turn.change k (get_or kinds k Create) in
-    let count = count_here w taken.turn.change c.change.result.now kinds c.change.ensures c.steps-kinds.ensures.steps in
+    let count = ap length c.applied_steps-kinds.ensures.steps in
     let within = c.requires.steps in
     let to = c.loop-step-test.true in
     let from = c.loop-step.auto.step in
-    let here = step_here w taken.turn.change k c.change.result.now kinds c.change.ensures c.steps-kinds.ensures.steps (omega arith) in
+    let here = step_here w taken.turn.change k kinds c.applied_steps-kinds.ensures.steps (omega arith) in
     let off : goes_on s ≡ false = sym c.of-course.ensures.goes_on ∙ not_on c.of-course.result.goes_on c.if-not-course.true in
     let now = c.loop-step.invariant.queue names done numbers q fresh in
     queue_same (2 * length c.args.plan.now.changes) names now.0 (λ name. first_found (done_in w taken name) (done name)) numbers c.loop-step.queue
@@ -91,9 +90,8 @@ pass-requires-clause-round g c =
 pub pass-requires-clause-known : goal.pass-requires-clause-known
 pass-requires-clause-known g c =
     let w : Work = record { plan = c.args.plan.now; script = c.args.script.now; hooks = rules_of c.args.registry.now } in
-    let count = count_here w c.args.taken.turn.change c.change.result.now c.steps-kinds.result.now c.change.ensures c.steps-kinds.ensures.steps in
-    let all = ap length c.steps-kinds.ensures.steps in
-    let few = c.steps-kinds.ensures.few in
+    let count = ap length c.applied_steps-kinds.ensures.steps in
+    let few = c.applied_steps-kinds.ensures.few in
     let within = c.requires.steps in
     let to = c.loop-step-test.true in
     let change = c.requires.change in
@@ -106,18 +104,17 @@ loop-step-preserved g c =
     let w : Work = record { plan = c.args.plan.now; script = c.args.script.now; hooks = rules_of c.args.registry.now } in
     let taken = c.args.taken in
     let k = c.loop-step.step in
-    let kinds = c.steps-kinds.result.now in
+    let kinds = c.applied_steps-kinds.result.now in
     let s = step_of w taken.turn.change k (get_or kinds k Create) in
-    let count = count_here w taken.turn.change c.change.result.now kinds c.change.ensures c.steps-kinds.ensures.steps in
+    let count = ap length c.applied_steps-kinds.ensures.steps in
     let within = c.requires.steps in
     let to = c.loop-step-test.true in
     let from = c.loop-step.auto.step in
-    let here = step_here w taken.turn.change k c.change.result.now kinds c.change.ensures c.steps-kinds.ensures.steps (omega arith) in
+    let here = step_here w taken.turn.change k kinds c.applied_steps-kinds.ensures.steps (omega arith) in
     let on : goes_on s ≡ true = sym c.of-course.ensures.goes_on ∙ not_off c.of-course.result.goes_on c.if-not-course.false in
     let next = later_by (step_time s) c.loop-step.at in
     let at : next ≡ c.later_by-at.result = sym (c.later_by-at.ensures ∙ ap (λ n. later_by n c.loop-step.at) c.of-course.ensures.seconds) in
-    let few = c.steps-kinds.ensures.few in
-    let all = ap length c.steps-kinds.ensures.steps in
+    let few = c.applied_steps-kinds.ensures.few in
     let change = c.requires.change in
     record {
       end = subst (λ m. end_behind m (left_at w taken (k + 1)) ≡ end_of_turn w taken) at (ends_on w taken k s to refl here c.loop-step.at (end_of_turn w taken) on c.loop-step.invariant.end);

@@ -2,7 +2,7 @@ use Rattle.std.proofs.Common.{◌≡◌, ◌+◌, ◌*◌, ◌<◌, ◌≤◌, �
 use Rattle.apply_hooks.specs.Registry.{rules_of}
 use Rattle.apply_model.specs.Script.Limits.{max_seconds}
 use Rattle.apply_events.specs.declared.lanes.taken.Taken.{Taken}
-use Rattle.apply_events.specs.Step.{Work, kinds_of}
+use Rattle.apply_events.specs.Step.{Work, kinds_applied}
 use Rattle.apply_events.specs.Waits.Done.{done_at, done_in, end_of_turn, first_found}
 use Rattle.apply_events.specs.Waits.Queue.{IsQueue, none_done, turn_waits}
 use Rattle.apply_events.specs.Waits.Schedule.{first_earliest}
@@ -137,7 +137,7 @@ pass_steps-requires-clause-steps g c =
     ∙ any_default c.in_ok-turns.turns.items c.in-Some.ready.number c.index.result.now (record { change = 0; first = 0; count = 0 }) (omega arith) ∙ ap (λ l. turn_at l c.in-Some.ready.number) turns_are in
     let same = is_one w c.args.lanes c.requires c.loop-queue.queue free all h c.len.ensures.few c.in-Some.ready first.0
     c.index.result.now c.first_earliest-lane.result c.index-in-loop-queue.result.now c.later_of.result its lane c.index-in-loop-queue.ensures c.later_of.ensures in
-    subst (λ (t : Taken). t.turn.first + t.turn.count ≤ length (kinds_of w.plan t.turn.change)) (sym same) (turn_fits w c.in-Some.ready.number fits).1
+    subst (λ (t : Taken). t.turn.first + t.turn.count ≤ length (kinds_applied w.plan w.script t.turn.change)) (sym same) (turn_fits w c.in-Some.ready.number fits).1
 
 pub pass_steps-requires-clause-second : goal.pass_steps-requires-clause-second
 pass_steps-requires-clause-second g c =

@@ -3,7 +3,7 @@ use Rattle.apply_events.specs.Runner.{course_of, left_of}
 use Rattle.apply_events.specs.RunnerStep.{rest_of, step_at_hand}
 use Rattle.apply_events.specs.Step.{steps_of}
 use Rattle.apply_events.proofs.Stages.{finish_goes_on, finish_halts}
-use Rattle.apply_events.proofs.UnderWay.{next_time}
+use Rattle.apply_events.proofs.UnderWay.{failed_over, next_course, next_time}
 use Rattle.apply_events.proofs.runner.Runner.finish.Goals as goal
 
 pub returns-in-Some-clause-next : goal.returns-in-Some-clause-next
@@ -18,3 +18,11 @@ returns-in-None-2-clause-next g c =
 pub pass-requires-in-None-2-clause-time : goal.pass-requires-in-None-2-clause-time
 pass-requires-in-None-2-clause-time g c =
     next_time (steps_of (course_of c.args.self.now).work c.args.self.now.change) c.args.self.now.step (step_at_hand c.args.self.now c.args.kind) c.args.self.now.begin c.args.self.now.at c.requires.step
+
+pub pass-requires-clause-time : goal.pass-requires-clause-time
+pass-requires-clause-time g c =
+    failed_over (steps_of (course_of c.args.self.now).work c.args.self.now.change) c.args.self.now.step (step_at_hand c.args.self.now c.args.kind) c.args.self.now.begin c.args.self.now.at c.requires.step (cc)
+
+pub pass-requires-in-None-2-clause-course : goal.pass-requires-in-None-2-clause-course
+pass-requires-in-None-2-clause-course g c =
+    next_course (steps_of (course_of c.args.self.now).work c.args.self.now.change) c.args.self.now.step (step_at_hand c.args.self.now c.args.kind) c.args.self.now.begin c.args.self.now.at c.requires.step (cc) (cc)

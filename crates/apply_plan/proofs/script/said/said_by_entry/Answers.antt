@@ -11,12 +11,12 @@ use Rattle.apply_plan.specs.Script.NextEntry.{entry_beside}
 use Rattle.apply_plan.specs.Script.OutcomeMap.{said_by}
 use Rattle.apply_plan.specs.Script.Refusals.{fault_of_entry, fault_of_names, fault_of_steps}
 use Rattle.apply_plan.specs.Script.TreeView.{entry_step_view, entry_view, step_view, waits_within}
-use Rattle.apply_plan.specs.Script.WaitedStep.{outcome_said}
+use Rattle.apply_plan.specs.Script.WaitedStep.{step_said}
 use Rattle.apply_plan.proofs.Scripts.Entries.{change_numbered, is_numbered, not_numbered, some_change}
-use Rattle.apply_plan.proofs.Scripts.OneEntry.{IsFound, accepted, also_refused, answered, count_within, entry_found, fault_of_count, fault_of_items, fault_of_outcomes, few_outcomes, malformed, repeats, unknown}
+use Rattle.apply_plan.proofs.Scripts.OneEntry.{IsFound, accepted, also_refused, answered, count_within, entry_found, fault_of_count, fault_of_items, fault_of_outcomes, few_steps, malformed, repeats, unknown}
 use Rattle.apply_plan.proofs.Scripts.Limits.{none_in_tree}
 use Rattle.apply_plan.proofs.script.said.said_by_entry.Goals as goal
-use Rattle.apply_plan.proofs.script.said.said_by_entry.Goals.{After-change, In-Some-get}
+use Rattle.apply_plan.proofs.script.said.said_by_entry.Goals.{After-change-known, In-Some-get}
 
 -- the change that the entry is about has a number in the plan
 within : (c : In-Some-get) → c.in-Some-get.change < length c.args.plan.now.changes
@@ -25,13 +25,13 @@ within c =
     (c.in-Some-get.ensures ∙ c.requires.numbers (record { address = c.in-Some.entry.address; deposed = c.in-Some.entry.deposed }))
 
 -- the reader has found the entry and its change
-found : (c : After-change) (d : Data) → option_map entry_view c.args.entry ≡ entry_of d → IsFound c.args.plan.now.changes c.args.said.now d c.in-Some.entry c.in-Some-get.change c.change.result.now c.index-said-change.result
+found : (c : After-change-known) (d : Data) → option_map entry_view c.args.entry ≡ entry_of d → IsFound c.args.plan.now.changes c.args.said.now d c.in-Some.entry c.in-Some-get.change c.change-known.result.now c.index-said-change.result
 found c d is =
     let known = c.in-Some-get.ensures ∙ c.requires.numbers (record { address = c.in-Some.entry.address; deposed = c.in-Some.entry.deposed }) in
     let below = is_numbered c.args.plan.now.changes (entry_view c.in-Some.entry) c.in-Some-get.change known in
     record {
       entry_is = entry_found d c.args.entry c.in-Some.entry is c.in-Some.is;
-      change_is = change_numbered c.args.plan.now.changes (entry_view c.in-Some.entry) c.in-Some-get.change c.change.result.now known c.change.ensures;
+      change_is = change_numbered c.args.plan.now.changes (entry_view c.in-Some.entry) c.in-Some-get.change c.change-known.result.now known c.change-known.ensures;
       below = omega (arith, below, c.requires.said);
       there_is = c.index-said-change.is;
     }
@@ -47,8 +47,8 @@ returns-in_default-get-clause-defined c = λ d is memory.
 pub bounds-said-change : goal.bounds-said-change
 bounds-said-change c = let below = within (goal.at.bounds-said-change c).In-Some-get in omega (arith, below, c.requires.said)
 
-pub change-requires : goal.change-requires
-change-requires c = within (goal.at.change-requires c).In-Some-get
+pub change-known-requires : goal.change-known-requires
+change-known-requires c = within (goal.at.change-known-requires c).In-Some-get
 
 pub returns-then-is_some-clause-defined : goal.returns-then-is_some-clause-defined
 returns-then-is_some-clause-defined c = λ d is memory.
@@ -65,65 +65,65 @@ returns-then-is_some-clause-defined c = λ d is memory.
     (sym c.if-is_some.ensures)
 
 -- what is answered, by the fault of the entry
-answered_by : (c : After-change) (d : Data) → option_map entry_view c.args.entry ≡ entry_of d → (fault : Option ScriptError) → is_some c.index-said-change.result ≡ false → fault_of_entry c.args.number c.args.plan.now.changes c.args.earlier c.change.result.now.steps (entry_view c.in-Some.entry).steps ≡ fault
+answered_by : (c : After-change-known) (d : Data) → option_map entry_view c.args.entry ≡ entry_of d → (fault : Option ScriptError) → is_some c.index-said-change.result ≡ false → fault_of_entry c.args.number c.args.plan.now.changes c.args.earlier c.change-known.result.now (entry_view c.in-Some.entry).steps ≡ fault
     → entry_beside c.args.plan.now.changes c.args.said.now c.args.earlier c.args.number d ≡ unless_refused fault (said_by c.args.plan.now.changes c.in-Some-get.change (entry_view c.in-Some.entry).steps)
 answered_by c d read fault none is =
-    answered c.args.plan.now.changes c.args.said.now c.args.earlier c.args.number d c.in-Some.entry c.in-Some-get.change c.change.result.now c.index-said-change.result fault (found c d read) none is
+    answered c.args.plan.now.changes c.args.said.now c.args.earlier c.args.number d c.in-Some.entry c.in-Some-get.change c.change-known.result.now c.index-said-change.result fault (found c d read) none is
 
 -- the same, where the items are not too many
-by_items : (c : After-change) (d : Data) → option_map entry_view c.args.entry ≡ entry_of d → is_some c.index-said-change.result ≡ false → None ≡ fault_of_steps c.args.number c.change.result.now.steps (map step_view c.in-Some.entry.steps.items)
+by_items : (c : After-change-known) (d : Data) → option_map entry_view c.args.entry ≡ entry_of d → is_some c.index-said-change.result ≡ false → None ≡ fault_of_steps c.args.number (is_some c.change-known.result.now.deposed) c.change-known.result.now.steps (map step_view c.in-Some.entry.steps.items)
     → (count : ℕ) → Some count ≡ waits_within (max_waits - c.args.earlier) c.in-Some.entry.steps.items
     → entry_beside c.args.plan.now.changes c.args.said.now c.args.earlier c.args.number d
     ≡ unless_refused (fault_of_names c.args.number c.args.plan.now.changes (map entry_step_view c.in-Some.entry.steps.items)) (said_by c.args.plan.now.changes c.in-Some-get.change (map entry_step_view c.in-Some.entry.steps.items))
 by_items c d read none clear count is =
     let within = count_within (max_waits - c.args.earlier) c.in-Some.entry.steps.items count is in
     answered_by c d read (fault_of_names c.args.number c.args.plan.now.changes (map entry_step_view c.in-Some.entry.steps.items)) none
-    (fault_of_items c.args.number c.args.plan.now.changes c.args.earlier c.change.result.now.steps c.in-Some.entry.steps.items clear (omega (arith, within.1, c.requires.earlier)))
+    (fault_of_items c.args.number c.args.plan.now.changes c.args.earlier c.change-known.result.now c.in-Some.entry.steps.items clear (omega (arith, within.1, c.requires.earlier)))
 
 pub returns-in-Some-fault-clause-defined : goal.returns-in-Some-fault-clause-defined
 returns-in-Some-fault-clause-defined c = λ d is memory.
-    answered_by (goal.at.returns-in-Some-fault-clause-defined c).After-change d is (Some c.in-Some-fault.fault) (sym c.if-is_some.ensures)
-    (fault_of_outcomes c.args.number c.args.plan.now.changes c.args.earlier c.change.result.now.steps c.in-Some.entry.steps.items c.in-Some-fault.fault (rw c.steps.ensures.steps at c.in-Some-fault.ensures))
+    answered_by (goal.at.returns-in-Some-fault-clause-defined c).After-change-known d is (Some c.in-Some-fault.fault) (sym c.if-is_some.ensures)
+    (fault_of_outcomes c.args.number c.args.plan.now.changes c.args.earlier c.change-known.result.now c.in-Some.entry.steps.items c.in-Some-fault.fault (rw (c.is_deposed.ensures, c.steps.ensures.steps) at c.in-Some-fault.ensures))
 
 pub returns-in_default-count_of_waits-clause-defined : goal.returns-in_default-count_of_waits-clause-defined
 returns-in_default-count_of_waits-clause-defined c = λ d is memory.
-    answered_by (goal.at.returns-in_default-count_of_waits-clause-defined c).After-change d is (Some (TooManyWaits c.args.number)) (sym c.if-is_some.ensures)
-    (fault_of_count c.args.number c.args.plan.now.changes c.args.earlier c.change.result.now.steps c.in-Some.entry.steps.items (rw c.steps.ensures.steps at c.in_default-fault.ensures) c.requires.earlier c.in_default-count_of_waits.ensures)
+    answered_by (goal.at.returns-in_default-count_of_waits-clause-defined c).After-change-known d is (Some (TooManyWaits c.args.number)) (sym c.if-is_some.ensures)
+    (fault_of_count c.args.number c.args.plan.now.changes c.args.earlier c.change-known.result.now c.in-Some.entry.steps.items (rw (c.is_deposed.ensures, c.steps.ensures.steps) at c.in_default-fault.ensures) c.requires.earlier c.in_default-count_of_waits.ensures)
 
-pub said_outcomes-requires-clause-bounded : goal.said_outcomes-requires-clause-bounded
-said_outcomes-requires-clause-bounded c =
-    rw c.deref.ensures.value (none_in_tree c.args.number c.steps.result.now c.in-Some.entry.steps.items (sym c.in_default-fault.ensures))
+pub said_steps-requires-clause-bounded : goal.said_steps-requires-clause-bounded
+said_steps-requires-clause-bounded c =
+    rw c.deref.ensures.value (none_in_tree c.args.number c.is_deposed.result c.steps.result.now c.in-Some.entry.steps.items (sym c.in_default-fault.ensures))
 
-pub said_outcomes-requires-clause-few : goal.said_outcomes-requires-clause-few
-said_outcomes-requires-clause-few c =
+pub said_steps-requires-clause-few : goal.said_steps-requires-clause-few
+said_steps-requires-clause-few c =
     let count = count_within (max_waits - c.args.earlier) c.in-Some.entry.steps.items c.in-Some-count_of_waits.waits c.in-Some-count_of_waits.ensures in
     rw c.deref.ensures.value (omega (arith, count.1))
 
-pub returns-in_err-outcomes-clause-defined : goal.returns-in_err-outcomes-clause-defined
-returns-in_err-outcomes-clause-defined c =
+pub returns-in_err-steps-clause-defined : goal.returns-in_err-steps-clause-defined
+returns-in_err-steps-clause-defined c =
     let p = err_from_is_err_and c.from_residual.result c.from_residual.ensures.1 in
-    let at = (goal.at.returns-in_err-outcomes-clause-defined c).After-change in
+    let at = (goal.at.returns-in_err-steps-clause-defined c).After-change-known in
     let steps = c.in-Some.entry.steps.items in
     rw (p.1, p.2)
     (λ d is memory.
-    by_items at d is (sym c.if-is_some.ensures) (rw c.steps.ensures.steps at c.in_default-fault.ensures) c.in-Some-count_of_waits.waits c.in-Some-count_of_waits.ensures
-    ∙ also_refused (fault_of_names c.args.number c.args.plan.now.changes (map entry_step_view steps)) (map (outcome_said c.args.plan.now.changes) (map entry_step_view steps)) _ _ (rw c.deref.ensures.value at (c.in_err-outcomes.ensures.defined memory)))
+    by_items at d is (sym c.if-is_some.ensures) (rw (c.is_deposed.ensures, c.steps.ensures.steps) at c.in_default-fault.ensures) c.in-Some-count_of_waits.waits c.in-Some-count_of_waits.ensures
+    ∙ also_refused (fault_of_names c.args.number c.args.plan.now.changes (map entry_step_view steps)) (map (step_said c.args.plan.now.changes) (map entry_step_view steps)) _ _ (rw c.deref.ensures.value at (c.in_err-steps.ensures.defined memory)))
 
 pub returns-clause-defined : goal.returns-clause-defined
 returns-clause-defined c = λ d is.
     let count = count_within (max_waits - c.args.earlier) c.in-Some.entry.steps.items c.in-Some-count_of_waits.waits c.in-Some-count_of_waits.ensures in
-    accepted c.args.number c.args.plan.now.changes c.in-Some-get.change c.in-Some.entry.steps.items c.in_ok-outcomes.outcomes c.in-Some-count_of_waits.waits _
-    (by_items (goal.at.returns-clause-defined c).After-change d is (sym c.if-is_some.ensures) (rw c.steps.ensures.steps at c.in_default-fault.ensures) c.in-Some-count_of_waits.waits c.in-Some-count_of_waits.ensures)
-    (rw c.deref.ensures.value at c.in_ok-outcomes.ensures.defined) count.0
+    accepted c.args.number c.args.plan.now.changes c.in-Some-get.change c.in-Some.entry.steps.items c.in_ok-steps.steps c.in-Some-count_of_waits.waits _
+    (by_items (goal.at.returns-clause-defined c).After-change-known d is (sym c.if-is_some.ensures) (rw (c.is_deposed.ensures, c.steps.ensures.steps) at c.in_default-fault.ensures) c.in-Some-count_of_waits.waits c.in-Some-count_of_waits.ensures)
+    (rw c.deref.ensures.value at c.in_ok-steps.ensures.defined) count.0
 
 pub returns-clause-within : goal.returns-clause-within
 returns-clause-within c = let below = within (goal.at.returns-clause-within c).In-Some-get in omega (arith, below, c.requires.said)
 
 pub returns-clause-placed : goal.returns-clause-placed
 returns-clause-placed c =
-    let made = rw c.deref.ensures.value at c.in_ok-outcomes.ensures.defined in
-    let few = few_outcomes c.args.number c.args.plan.now.changes c.change.result.now.steps c.in-Some.entry.steps.items c.in_ok-outcomes.outcomes (rw c.steps.ensures.steps at c.in_default-fault.ensures) made in
-    rw c.requires.said (record { few = omega (arith, few, c.steps.ensures.few); placed = c.in_ok-outcomes.ensures.placed })
+    let made = rw c.deref.ensures.value at c.in_ok-steps.ensures.defined in
+    let few = few_steps c.args.number c.args.plan.now.changes (is_some c.change-known.result.now.deposed) c.change-known.result.now.steps c.in-Some.entry.steps.items c.in_ok-steps.steps (rw (c.is_deposed.ensures, c.steps.ensures.steps) at c.in_default-fault.ensures) made in
+    rw c.requires.said (record { few = omega (arith, few, c.steps.ensures.few); placed = c.in_ok-steps.ensures.placed })
 
 pub returns-clause-few : goal.returns-clause-few
 returns-clause-few c =

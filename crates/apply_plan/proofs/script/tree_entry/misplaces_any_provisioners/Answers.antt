@@ -3,12 +3,12 @@ use Rattle.apply_plan.proofs.script.tree_entry.misplaces_any_provisioners.Goals 
 
 pub returns-then-misplaces_provisioners : goal.returns-then-misplaces_provisioners
 returns-then-misplaces_provisioners c =
-    one_misplaced c.args.kinds.now c.args.steps.now c.loop-number.number _ c.index-steps-number.result c.requires c.loop-number-test.true c.index-steps-number.is c.if-misplaces_provisioners.ensures
+    one_misplaced c.args.is_deposed c.args.kinds.now c.args.steps.now c.loop-number.number _ c.index-steps-number.result c.requires c.loop-number-test.true c.index-steps-number.is c.if-misplaces_provisioners.ensures
 
 pub loop-number-preserved : goal.loop-number-preserved
 loop-number-preserved c =
-    still_none_misplaced c.args.kinds.now c.args.steps.now c.loop-number.number _ c.index-steps-number.result c.requires c.loop-number-test.true c.index-steps-number.is c.if-misplaces_provisioners.ensures
+    still_none_misplaced c.args.is_deposed c.args.kinds.now c.args.steps.now c.loop-number.number _ c.index-steps-number.result c.requires c.loop-number-test.true c.index-steps-number.is c.if-misplaces_provisioners.ensures
     c.loop-number.invariant
 
 pub returns : goal.returns
-returns c = none_misplaced c.args.kinds.now c.args.steps.now c.loop-number.number c.requires c.loop-number-test.false c.loop-number.invariant
+returns c = none_misplaced c.args.is_deposed c.args.kinds.now c.args.steps.now c.loop-number.number c.requires c.loop-number-test.false c.loop-number.invariant

@@ -6,12 +6,12 @@ use Rattle.apply_model.proofs.script.provisioners.Provisioners.first_failure.Goa
 pub returns-in-Some : goal.returns-in-Some
 returns-in-Some c =
     let same : c.deref-provisioner-items.result.now ≡ c.args.self.now = cc (c.deref-provisioner-items.ensures.value) in
-    sym (diag_here c.deref-provisioner-items.result.now c.loop-provisioner.provisioner-index c.provisioner-item.result c.in-Some.diag c.loop-provisioner-test.true c.provisioner-item.is c.in-Some.is)
+    sym (diag_here c.deref-provisioner-items.result.now c.loop-provisioner.provisioner-index c.provisioner-item.result c.in-Some.diag.now c.loop-provisioner-test.true c.provisioner-item.is (sym c.in-Some.ensures))
     ∙ c.loop-provisioner.invariant ∙ ap first_diag same
 
 pub loop-provisioner-preserved : goal.loop-provisioner-preserved
 loop-provisioner-preserved c =
-    sym (diag_later c.deref-provisioner-items.result.now c.loop-provisioner.provisioner-index c.provisioner-item.result c.loop-provisioner-test.true c.provisioner-item.is c.in_default.is)
+    sym (diag_later c.deref-provisioner-items.result.now c.loop-provisioner.provisioner-index c.provisioner-item.result c.loop-provisioner-test.true c.provisioner-item.is (sym c.in_default.ensures))
     ∙ c.loop-provisioner.invariant
 
 pub returns : goal.returns

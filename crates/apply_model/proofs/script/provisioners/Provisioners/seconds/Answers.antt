@@ -9,15 +9,15 @@ overflow_add-seconds c =
     let within = within_all c.deref-provisioner-items.result.now c.loop-provisioner.provisioner-index c.provisioner-item.result c.loop-provisioner-test.true c.provisioner-item.is in
     omega (arith, within, c.loop-provisioner.invariant, ap (λ ps. seconds_of_all (ran ps)) same, c.requires)
 
-pub returns-then-is_some : goal.returns-then-is_some
-returns-then-is_some c =
+pub returns-then-makes_fail : goal.returns-then-makes_fail
+returns-then-makes_fail c =
     let same : c.deref-provisioner-items.result.now ≡ c.args.self.now = cc (c.deref-provisioner-items.ensures.value) in
-    let last = last_seconds c.deref-provisioner-items.result.now c.loop-provisioner.provisioner-index c.provisioner-item.result c.loop-provisioner-test.true c.provisioner-item.is (sym c.if-is_some.ensures) in
+    let last = last_seconds c.deref-provisioner-items.result.now c.loop-provisioner.provisioner-index c.provisioner-item.result c.loop-provisioner-test.true c.provisioner-item.is (sym c.if-makes_fail.ensures) in
     omega (arith, last, c.loop-provisioner.invariant, ap (λ ps. seconds_of_all (ran ps)) same)
 
 pub loop-provisioner-preserved : goal.loop-provisioner-preserved
 loop-provisioner-preserved c =
-    let more = more_seconds c.deref-provisioner-items.result.now c.loop-provisioner.provisioner-index c.provisioner-item.result c.loop-provisioner-test.true c.provisioner-item.is (sym c.if-is_some.ensures) in
+    let more = more_seconds c.deref-provisioner-items.result.now c.loop-provisioner.provisioner-index c.provisioner-item.result c.loop-provisioner-test.true c.provisioner-item.is (sym c.if-makes_fail.ensures) in
     omega (arith, more, c.loop-provisioner.invariant)
 
 pub returns : goal.returns

@@ -6,7 +6,7 @@ use Rattle.apply_plan.proofs.script.tree_entry.TreeEntry.fault.Goals as goal
 pub returns-then-is_any_too_long : goal.returns-then-is_any_too_long
 returns-then-is_any_too_long c =
     let few : length c.args.self.now.steps.items ≤ length c.args.kinds.now = omega (arith, c.args.self.now.steps.ok.0, c.len.ensures, c.if-len-kinds.false) in
-    sym (fault_is c.args.number c.args.kinds.now c.args.self.now.steps.items true _ _ _ few
+    sym (fault_is c.args.number c.args.is_deposed c.args.kinds.now c.args.self.now.steps.items true _ _ _ few
     (rw c.deref.ensures.value at c.if-is_any_too_long.ensures)
     refl
     refl
@@ -15,7 +15,7 @@ returns-then-is_any_too_long c =
 pub returns-then-has_any_too_many_provisioners : goal.returns-then-has_any_too_many_provisioners
 returns-then-has_any_too_many_provisioners c =
     let few : length c.args.self.now.steps.items ≤ length c.args.kinds.now = omega (arith, c.args.self.now.steps.ok.0, c.len.ensures, c.if-len-kinds.false) in
-    sym (fault_is c.args.number c.args.kinds.now c.args.self.now.steps.items false true _ _ few
+    sym (fault_is c.args.number c.args.is_deposed c.args.kinds.now c.args.self.now.steps.items false true _ _ few
     (rw c.deref.ensures.value at c.if-is_any_too_long.ensures)
     (rw c.deref-else-is_any_too_long.ensures.value at c.if-has_any_too_many_provisioners.ensures)
     refl
@@ -24,7 +24,7 @@ returns-then-has_any_too_many_provisioners c =
 pub returns-then-has_any_too_much_output : goal.returns-then-has_any_too_much_output
 returns-then-has_any_too_much_output c =
     let few : length c.args.self.now.steps.items ≤ length c.args.kinds.now = omega (arith, c.args.self.now.steps.ok.0, c.len.ensures, c.if-len-kinds.false) in
-    sym (fault_is c.args.number c.args.kinds.now c.args.self.now.steps.items false false true _ few
+    sym (fault_is c.args.number c.args.is_deposed c.args.kinds.now c.args.self.now.steps.items false false true _ few
     (rw c.deref.ensures.value at c.if-is_any_too_long.ensures)
     (rw c.deref-else-is_any_too_long.ensures.value at c.if-has_any_too_many_provisioners.ensures)
     (rw c.deref-else-has_any_too_many_provisioners.ensures.value at c.if-has_any_too_much_output.ensures)
@@ -33,7 +33,7 @@ returns-then-has_any_too_much_output c =
 pub returns-then-misplaces_any_provisioners : goal.returns-then-misplaces_any_provisioners
 returns-then-misplaces_any_provisioners c =
     let few : length c.args.self.now.steps.items ≤ length c.args.kinds.now = omega (arith, c.args.self.now.steps.ok.0, c.len.ensures, c.if-len-kinds.false) in
-    sym (fault_is c.args.number c.args.kinds.now c.args.self.now.steps.items false false false true few
+    sym (fault_is c.args.number c.args.is_deposed c.args.kinds.now c.args.self.now.steps.items false false false true few
     (rw c.deref.ensures.value at c.if-is_any_too_long.ensures)
     (rw c.deref-else-is_any_too_long.ensures.value at c.if-has_any_too_many_provisioners.ensures)
     (rw c.deref-else-has_any_too_many_provisioners.ensures.value at c.if-has_any_too_much_output.ensures)
@@ -42,7 +42,7 @@ returns-then-misplaces_any_provisioners c =
 pub returns-else-misplaces_any_provisioners : goal.returns-else-misplaces_any_provisioners
 returns-else-misplaces_any_provisioners c =
     let few : length c.args.self.now.steps.items ≤ length c.args.kinds.now = omega (arith, c.args.self.now.steps.ok.0, c.len.ensures, c.if-len-kinds.false) in
-    sym (fault_is c.args.number c.args.kinds.now c.args.self.now.steps.items false false false false few
+    sym (fault_is c.args.number c.args.is_deposed c.args.kinds.now c.args.self.now.steps.items false false false false few
     (rw c.deref.ensures.value at c.if-is_any_too_long.ensures)
     (rw c.deref-else-is_any_too_long.ensures.value at c.if-has_any_too_many_provisioners.ensures)
     (rw c.deref-else-has_any_too_many_provisioners.ensures.value at c.if-has_any_too_much_output.ensures)

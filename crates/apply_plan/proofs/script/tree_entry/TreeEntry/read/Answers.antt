@@ -4,5 +4,5 @@ use Rattle.apply_plan.proofs.script.tree_entry.TreeEntry.read.Goals as goal
 
 pub returns-clause-ok : goal.returns-clause-ok
 returns-clause-ok c =
-    let done = c.in_ok-read_object.ensures.ok in
-    (done.0, done.1, c.of.ensures ∙ entry_is c.read_object.new.slots done.0 done.3)
+    let done = c.in_ok-read_kept_object.ensures.ok in
+    (done.0, done.1, c.of.ensures ∙ entry_is c.read_kept_object.new.slots done.0 done.3)

@@ -1,0 +1,13 @@
+pub mod Digits
+pub mod FoundAddresses
+pub mod FoundNames
+pub mod FoundPieces
+pub mod Marks
+pub mod Modules
+pub mod Numbers
+pub mod Quotes
+pub mod Readings
+pub mod Steps
+pub mod WrittenAddresses
+pub mod WrittenNames
+pub mod WrittenPieces

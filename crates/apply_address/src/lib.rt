@@ -1,0 +1,18 @@
+//! The parts of a resource's address: what stands in a plan as one text is taken apart into module, type, name and key.
+#![tactic(auto)]
+
+mod address_parts;
+mod key_text;
+mod last_part;
+mod laws;
+mod name;
+mod named;
+mod number;
+mod pieces;
+mod quoted;
+
+pub use address_parts::{AddressParts, parts_of};
+pub use laws::an_address_has_one_reading;
+
+#[cfg(test)]
+mod tests;

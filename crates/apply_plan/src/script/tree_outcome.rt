@@ -1,0 +1,102 @@
+//! What comes of a step of a script that is not skipped, its texts borrowed.
+
+ghost use Rattle.std.specs.Prelude.{◌≡◌, IfOk, map, option_map};
+ghost use Rattle.std.specs.List.{list_any};
+ghost use Rattle.apply_plan.specs.Script.Entry.{with_provisioners};
+ghost use Rattle.apply_model.specs.Script.Outcome.{IsBounded, has_too_many_provisioners, has_too_much_output, is_too_long, puts_out_too_much};
+ghost use Rattle.apply_plan.specs.Script.Refusals.{has_provisioners};
+ghost use Rattle.apply_plan.specs.Script.TreeView.{ending_view, outcome_view, provisioner_view};
+
+use crate::script::tree_ending::TreeEnding;
+use crate::script::tree_provisioner::{TreeProvisioner, copied_provisioners};
+use apply_model::{MAX_PROVISIONERS, MAX_SECONDS, Outcome, Waits};
+use std::alloc::{AllocError, Global};
+
+/// What comes of a step, each of whose members obeys its rule.
+#[derive(Drop)]
+pub struct TreeOutcome<'a> {
+    /// Any number of 64 bits: whether it is small enough is asked later.
+    pub seconds: u64,
+    /// Any number of provisioners, likewise.
+    pub provisioners: Vec<TreeProvisioner<'a>>,
+    pub result: TreeEnding<'a>,
+}
+
+impl<'a> TreeOutcome<'a> {
+    /// What comes of a step with its provisioners. `None` where its provider fails and it has some.
+    pub fn new(
+        seconds: u64,
+        ending: TreeEnding<'a>,
+        provisioners: Vec<TreeProvisioner<'a>>,
+    ) -> Option<TreeOutcome<'a>>
+        ensures { option_map outcome_view result ≡ with_provisioners seconds (ending_view ending.entry)
+            (map provisioner_view provisioners.entry.items) }
+    {
+        if ending.is_failed() && !provisioners.is_empty() {
+            return None;
+        }
+        Some(TreeOutcome {
+            seconds,
+            provisioners,
+            result: ending,
+        })
+    }
+
+    /// Whether the step takes longer than it may, with all its provisioners.
+    pub fn is_too_long(&self) -> bool
+        ensures { result ≡ is_too_long (outcome_view self.now) }
+    {
+        let Some(mut left) = u64::from(MAX_SECONDS).checked_sub(self.seconds) else {
+            return true;
+        };
+        for provisioner in &self.provisioners {
+            if provisioner.seconds > left {
+                return true;
+            }
+            left -= provisioner.seconds;
+        }
+        false
+    }
+
+    /// Whether the step has more provisioners than it may.
+    pub fn has_too_many_provisioners(&self) -> bool
+        ensures { result ≡ has_too_many_provisioners (outcome_view self.now) }
+    {
+        self.provisioners.len() > MAX_PROVISIONERS
+    }
+
+    /// Whether a provisioner of the step puts out more than it may.
+    pub fn has_too_much_output(&self) -> bool
+        ensures { result ≡ has_too_much_output (outcome_view self.now) }
+    {
+        puts_any_out_too_much(&self.provisioners)
+    }
+
+    /// Whether the step has provisioners.
+    pub fn has_provisioners(&self) -> bool
+        ensures { result ≡ has_provisioners (outcome_view self.now) }
+    {
+        !self.provisioners.is_empty()
+    }
+
+    /// The outcome, which waits for those steps, with copies of its texts.
+    pub fn copied(&self, alloc: Global, after: Waits) -> Result<Outcome, AllocError>
+        requires { IsBounded (outcome_view self.now) }
+        ensures { IfOk result (λ copy. copy ≡ record (outcome_view self.now) { after = after }) }
+    {
+        Ok(Outcome {
+            seconds: self.seconds as u32,
+            provisioners: copied_provisioners(alloc, &self.provisioners)?,
+            result: self.result.copied(alloc)?,
+            after,
+        })
+    }
+}
+
+/// Whether one of the provisioners puts out more than it may.
+fn puts_any_out_too_much(provisioners: &[TreeProvisioner<'_>]) -> bool
+    ensures { result
+        ≡ list_any (λ provisioner. puts_out_too_much (provisioner_view provisioner)) provisioners.now }
+{
+    provisioners.iter().any(TreeProvisioner::puts_out_too_much)
+}
