@@ -40,7 +40,10 @@ impl<'a> TreeDiag<'a> {
         let mut slots = DiagSlots::new();
         match read_kept_object(alloc, reader, depth, &mut slots)? {
             Scalar::Absent => Ok(Some(None)),
-            _ => Ok(TreeDiag::of(slots).map(Some)),
+            _ => match TreeDiag::of(slots) {
+                Some(diag) => Ok(Some(Some(diag))),
+                None => Ok(None),
+            },
         }
     }
 
