@@ -17,8 +17,8 @@ returns-in-Some c =
       err = λ never. absurd cc;
     }
 
-pub returns-in-None : goal.returns-in-None
-returns-in-None c =
+pub returns : goal.returns
+returns c =
     let done = c.in_ok-read_kept_object.ensures in
     let made = c.in-None.ensures ∙ diag_is c.read_kept_object.new.slots done.ok.0 done.ok.3 in
     record {
