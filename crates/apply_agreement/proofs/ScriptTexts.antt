@@ -1,7 +1,7 @@
 -- The texts of a script that was read are UTF-8, and its steps are within the limits.
 use Rattle.std.proofs.Common.{◌≡◌, ℕ, zero, suc, ◌+◌, ◌==◌, List, [], ◌∷◌, IsUtf8, codes, cond, find, length, map, nat_lt, slice_get, Bool, true, false, Option, Some, None, Ok, Err, refl}
-use Rattle.std.specs.Prelude.{◌&&◌, IfOk, IfSome, option_map, sum_by}
-use Rattle.std.specs.List.{AllByRecursion, list_any, position_from, range_with_len}
+use Rattle.std.specs.Prelude.{◌&&◌, ◌||◌, IfOk, IfSome, is_some, not, option_map, sum_by}
+use Rattle.std.specs.List.{AllByRecursion, filter_map, list_any, position_from, range_with_len}
 use Rattle.std.proofs.lemmas.Str.{IsUtf8-nil}
 use Rattle.serde_json.specs.Data.{Data}
 use Rattle.serde_json.specs.Find.{as_array, as_str}
@@ -11,23 +11,27 @@ use Rattle.apply_model.specs.declared.script.ending.Ending.{Ending}
 use Rattle.apply_model.specs.declared.script.ending.Ending.TheVariants.{Done, Failed}
 use Rattle.apply_model.specs.declared.script.outcome.Outcome.{Outcome}
 use Rattle.apply_model.specs.declared.script.provisioner.Provisioner.{Provisioner}
+use Rattle.apply_model.specs.declared.script.script_step.ScriptStep.{ScriptStep}
+use Rattle.apply_model.specs.declared.script.wait.Wait.{Wait}
+use Rattle.apply_model.specs.Script.OutcomeMap.{given_step}
+use Rattle.apply_model.specs.Script.Step.{answer_to}
 use Rattle.apply_plan.specs.declared.script.script_error.ScriptError.{ScriptError}
 use Rattle.apply_plan.specs.declared.script.script_error.ScriptError.TheVariants.{TooLarge, NotJson, BadShape, UnknownChange, Duplicate, NeverBegins}
-use Rattle.apply_plan.specs.Bytes.{of_bytes}
 use Rattle.apply_plan.specs.Plan.ResourceChange.{ResourceChange}
 use Rattle.apply_plan.specs.Plan.SavedPlan.{SavedPlan}
 use Rattle.apply_plan.specs.Results.{all_or_first, each_with_earlier, or_refuse, unless_refused}
-use Rattle.apply_plan.specs.Script.Entry.{Entry, EntryStep, WaitName, all_some, diag_from, diag_or_none, each_of, ending_from, ending_of, entry_of, entry_step, provisioner_from, seconds_of, step_from, wait_from}
+use Rattle.apply_plan.specs.Script.EntriesView.{IsWithin}
+use Rattle.apply_plan.specs.Script.Entry.{Entry, EntryStep, all_some, diag_from, answered_with, diag_or_none, each_of, ending_from, ending_of, entry_of, flag_or_false, is_kept, may_fail_or_not, object_or_none, provisioner_from, says_nothing, seconds_of, skipped_with, step_from, wait_from}
 use Rattle.apply_plan.specs.Script.Outcome.{IsBounded, is_failed}
 use Rattle.apply_plan.specs.Script.OutcomeMap.{OutcomeMap, Said, by_number, change_of_entry, count_in, elements_of, entry_at, given_outcome, is_stuck, names_change, said_at, said_by, said_of, script_of, script_of_entries, script_of_tree}
 use Rattle.apply_plan.specs.Script.Refusals.{fault_of_entry}
-use Rattle.apply_plan.specs.Script.WaitedStep.{outcome_said}
-use Rattle.apply_plan.proofs.Scripts.Limits.{said_is_bounded}
+use Rattle.apply_plan.specs.Script.WaitedStep.{step_said, step_waited, with_waits}
+use Rattle.apply_plan.proofs.Scripts.Limits.{said_is_within}
 use Rattle.apply_agreement.specs.Texts.{HasDiagTexts}
 use Rattle.apply_agreement.proofs.Given.{AreAnswers, all_given, any_given, each_answered, each_held, gone_on, held_at, is_answered, mapped, next_of, refused_or, then_of}
 use Rattle.apply_agreement.proofs.Legible.{AreLegible, IsLegible}
 use Rattle.apply_agreement.proofs.LookUps.{array_legible, filled_utf8, items_legible, list_legible, member_legible, non_empty_utf8, str_utf8, text_or_utf8, text_utf8}
-use Rattle.apply_agreement.proofs.ReadBytes.{made_of_bytes}
+use Rattle.apply_agreement.proofs.ReadBytes.{made_of_kept}
 
 -- ---- how a step ends
 
@@ -35,7 +39,9 @@ diag_texts : (d : Data) → IsLegible d → IfSome (diag_from d) HasDiagTexts
 diag_texts d h =
     next_of IsUtf8 HasDiagTexts (text_of (codes "summary") d) _ (text_utf8 (codes "summary") d h)
     (λ summary summary_is. next_of IsUtf8 HasDiagTexts (text_or [] (member_of (codes "detail") d)) _ (text_or_utf8 [] (member_of (codes "detail") d) IsUtf8-nil (member_legible (codes "detail") d h))
-    (λ detail detail_is. record { summary = summary_is; detail = detail_is }))
+    (λ detail detail_is. next_of (λ _. Unit {0}) HasDiagTexts (object_or_none (member_of (codes "range") d)) _ (any_given (object_or_none (member_of (codes "range") d)))
+    (λ range u. next_of (λ _. Unit {0}) HasDiagTexts (object_or_none (member_of (codes "snippet") d)) _ (any_given (object_or_none (member_of (codes "snippet") d)))
+    (λ snippet u'. record { summary = summary_is; detail = detail_is }))))
 
 -- where there is a diagnostic
 abbrev pub MayHaveDiag : Option Diag → Type 0
@@ -81,7 +87,8 @@ provisioner_texts d h =
     (λ name name_is. next_of (λ _. Unit {0}) HasProvisionerTexts (seconds_of d) _ (any_given (seconds_of d))
     (λ seconds u. next_of MayHaveDiag HasProvisionerTexts (diag_or_none (member_of (codes "failed") d)) _ (some_diag (member_of (codes "failed") d) (member_legible (codes "failed") d h))
     (λ failed why. next_of (AllByRecursion IsUtf8) HasProvisionerTexts (each_of as_str (member_of (codes "output") d)) _ (each_legible IsUtf8 as_str (member_of (codes "output") d) str_utf8 (member_legible (codes "output") d h))
-    (λ output output_is. record { name = name_is; output = output_is; failed = why }))))
+    (λ output output_is. next_of (λ _. Unit {0}) HasProvisionerTexts (may_fail_or_not (member_of (codes "on_failure") d)) _ (any_given (may_fail_or_not (member_of (codes "on_failure") d)))
+    (λ may_fail u'. record { name = name_is; output = output_is; failed = why })))))
 
 -- ---- a step
 
@@ -89,23 +96,34 @@ pub record HasStepTexts (outcome : Outcome) : Type 0 where
   pub result : HasEndingTexts outcome.result
   pub provisioners : AllByRecursion HasProvisionerTexts outcome.provisioners
 
--- the same of a step with the items of its `after`
+-- the same of a step with the items of its `after`, which may be skipped
 abbrev pub HasEntryStepTexts : EntryStep → Type 0
-HasEntryStepTexts step = HasStepTexts step.outcome
+HasEntryStepTexts step = IfSome step.outcome HasStepTexts
 
 step_texts : (d : Data) → IsLegible d → IfSome (step_from d) HasEntryStepTexts
 unfolding step_from
 step_texts d h =
-    next_of (λ _. Unit {0}) HasEntryStepTexts (seconds_of d) _ (any_given (seconds_of d))
-    (λ seconds u. next_of HasEndingTexts HasEntryStepTexts (ending_of d) _ (ending_texts d h)
+    next_of (λ _. Unit {0}) HasEntryStepTexts (flag_or_false (member_of (codes "skipped") d)) _ (any_given (flag_or_false (member_of (codes "skipped") d)))
+    (λ skipped u. next_of HasEndingTexts HasEntryStepTexts (ending_of d) _ (ending_texts d h)
     (λ result ends. next_of (AllByRecursion HasProvisionerTexts) HasEntryStepTexts (each_of provisioner_from (member_of (codes "provisioners") d)) _
     (each_legible HasProvisionerTexts provisioner_from (member_of (codes "provisioners") d) provisioner_texts (member_legible (codes "provisioners") d h))
     (λ provisioners all. next_of (λ _. Unit {0}) HasEntryStepTexts (each_of wait_from (member_of (codes "after") d)) _ (any_given (each_of wait_from (member_of (codes "after") d)))
-    (λ after u'. of_test after (record { seconds = seconds; provisioners = provisioners; result = result; after = [] }) (record { result = ends; provisioners = all }) (is_failed result && nat_lt 0 (length provisioners))))))
+    (λ after u'. next_of (λ outcome. IfSome outcome HasStepTexts) HasEntryStepTexts _ _ (of_kind skipped (is_some (member_of (codes "seconds") d)) (seconds_of d) result provisioners ends all) (λ outcome has. has)))))
   where
-    of_test : (after : List WaitName) (outcome : Outcome) → HasStepTexts outcome → (b : Bool) → IfSome (option_map (entry_step after) (cond b None (Some outcome))) HasEntryStepTexts
-    of_test after outcome has true = tt
-    of_test after outcome has false = has
+    of_none : (b : Bool) → IfSome (cond b None (Some None)) (λ (outcome : Option Outcome). IfSome outcome HasStepTexts)
+    of_none true = tt
+    of_none false = tt
+
+    of_one : (b : Bool) (outcome : Outcome) → HasStepTexts outcome → IfSome (option_map Some (cond b None (Some outcome))) (λ (outcome : Option Outcome). IfSome outcome HasStepTexts)
+    of_one true outcome has = tt
+    of_one false outcome has = has
+
+    of_kind : (skipped told : Bool) (seconds : Option ℕ) (result : Ending) (provisioners : List Provisioner) → HasEndingTexts result → AllByRecursion HasProvisionerTexts provisioners
+        → IfSome (cond skipped (skipped_with told result provisioners) (answered_with seconds result provisioners)) (λ (outcome : Option Outcome). IfSome outcome HasStepTexts)
+    of_kind true told seconds result provisioners ends all = of_none (told || (not (says_nothing result) || nat_lt 0 (length provisioners)))
+    of_kind false told None result provisioners ends all = tt
+    of_kind false told (Some seconds) result provisioners ends all =
+        of_one (is_failed result && nat_lt 0 (length provisioners)) (record { seconds = seconds; provisioners = provisioners; result = result; after = [] }) (record { result = ends; provisioners = all })
 
 entry_texts : (d : Data) → IsLegible d → IfSome (entry_of d) (λ entry. AllByRecursion HasEntryStepTexts entry.steps)
 unfolding entry_of
@@ -124,18 +142,22 @@ pub record IsSaid (outcome : Outcome) : Type 0 where
   pub texts : HasStepTexts outcome
   pub bounded : IsBounded outcome
 
+-- what is said of a step that may be skipped
+abbrev pub IsToldSo : ScriptStep → Type 0
+IsToldSo step = IfSome (answer_to step) IsSaid
+
 -- what an entry says
 abbrev pub AreSaid : Said → Type 0
-AreSaid one = AllByRecursion IsSaid one.outcomes
+AreSaid one = AllByRecursion IsToldSo one.steps
 
-both_held : (steps : List Outcome) → AllByRecursion HasStepTexts steps → AllByRecursion IsBounded steps → AllByRecursion IsSaid steps
-both_held [] has bounded = tt
-both_held (x ∷ steps) has bounded = (record { texts = has.0; bounded = bounded.0 }, both_held steps has.1 bounded.1)
+-- a step with what it waits for
+told_so : (outcome : Option Outcome) (waits : List Wait) → IfSome outcome HasStepTexts → IsWithin (with_waits outcome waits) → IsToldSo (with_waits outcome waits)
+told_so None waits has within = tt
+told_so (Some outcome) waits has within = record { texts = record { result = has.result; provisioners = has.provisioners }; bounded = within }
 
--- the outcomes of the steps, with what they wait for
-texts_said : (changes : List ResourceChange) (steps : List EntryStep) → AllByRecursion HasEntryStepTexts steps → AllByRecursion HasStepTexts (map (outcome_said changes) steps)
-texts_said changes [] has = tt
-texts_said changes (step ∷ steps) has = (record { result = has.0.result; provisioners = has.0.provisioners }, texts_said changes steps has.1)
+both_held : (changes : List ResourceChange) (steps : List EntryStep) → AllByRecursion HasEntryStepTexts steps → AllByRecursion IsWithin (map (step_said changes) steps) → AllByRecursion IsToldSo (map (step_said changes) steps)
+both_held changes [] has within = tt
+both_held changes (step ∷ steps) has within = (told_so step.outcome (filter_map (step_waited changes) step.after) has.0 within.0, both_held changes steps has.1 within.1)
 
 entry_said : (changes : List ResourceChange) (before : List Data) (d : Data) → IsLegible d → IfOk (entry_at changes before d) AreSaid
 unfolding entry_at
@@ -143,26 +165,26 @@ entry_said changes before d h =
     then_of (λ entry. AllByRecursion HasEntryStepTexts entry.steps) AreSaid (or_refuse (BadShape (Some n)) (entry_of d)) _
     (refused_or (λ entry. AllByRecursion HasEntryStepTexts entry.steps) (BadShape (Some n)) (entry_of d) (entry_texts d h))
     (λ entry has. then_of (λ _. Unit {0}) AreSaid (or_refuse (UnknownChange n) (change_of_entry changes entry)) _ (refused_or (λ _. Unit {0}) (UnknownChange n) (change_of_entry changes entry) (any_given (change_of_entry changes entry)))
-    (λ found u. of_tests found.0 found.1.steps entry.steps has (list_any (names_change found.1) before) (fault_of_entry n changes (sum_by count_in before) found.1.steps entry.steps) refl))
+    (λ found u. of_tests found.0 found.1 entry.steps has (list_any (names_change found.1) before) (fault_of_entry n changes (sum_by count_in before) found.1 entry.steps) refl))
   where
     n : ℕ
     n = length before
 
-    of_tests : (number : ℕ) (kinds : List _) (steps : List EntryStep) → AllByRecursion HasEntryStepTexts steps → (b : Bool) (fault : Option ScriptError) → fault_of_entry n changes (sum_by count_in before) kinds steps ≡ fault
+    of_tests : (number : ℕ) (change : ResourceChange) (steps : List EntryStep) → AllByRecursion HasEntryStepTexts steps → (b : Bool) (fault : Option ScriptError) → fault_of_entry n changes (sum_by count_in before) change steps ≡ fault
         → IfOk (cond b (Err (Duplicate n)) (unless_refused fault (said_by changes number steps))) AreSaid
-    of_tests number kinds steps has true fault is = tt
-    of_tests number kinds steps has false (Some fault) is = tt
-    of_tests number kinds steps has false None is =
-        both_held (map (outcome_said changes) steps) (texts_said changes steps has) (each_held IsBounded (map (outcome_said changes) steps) (said_is_bounded n changes (sum_by count_in before) kinds steps is))
+    of_tests number change steps has true fault is = tt
+    of_tests number change steps has false (Some fault) is = tt
+    of_tests number change steps has false None is =
+        both_held changes steps has (each_held IsWithin (map (step_said changes) steps) (said_is_within n changes (sum_by count_in before) change steps is))
 
 -- ---- the script
 
-said_all : (entries : List Said) (c : ℕ) → AllByRecursion AreSaid entries → IfSome (said_of entries c) (AllByRecursion IsSaid)
+said_all : (entries : List Said) (c : ℕ) → AllByRecursion AreSaid entries → IfSome (said_of entries c) (AllByRecursion IsToldSo)
 said_all [] c h = tt
 said_all (x ∷ entries) c h = of_test (x.change == c) (said_all entries c h.1)
   where
-    of_test : (b : Bool) → IfSome (said_of entries c) (AllByRecursion IsSaid)
-        → IfSome (option_map (λ (entry : Said). entry.outcomes) (cond b (Some x) (find (λ (entry : Said). entry.change == c) entries))) (AllByRecursion IsSaid)
+    of_test : (b : Bool) → IfSome (said_of entries c) (AllByRecursion IsToldSo)
+        → IfSome (option_map (λ (entry : Said). entry.steps) (cond b (Some x) (find (λ (entry : Said). entry.change == c) entries))) (AllByRecursion IsToldSo)
     of_test true rest = h.0
     of_test false rest = rest
 
@@ -170,16 +192,17 @@ said_all (x ∷ entries) c h = of_test (x.change == c) (said_all entries c h.1)
 abbrev pub IsReadableScript : OutcomeMap → Type 0
 IsReadableScript script = (c k : ℕ) → IfSome (given_outcome script c k) IsSaid
 
-by_number_said : (low n c : ℕ) (entries : List Said) → AllByRecursion AreSaid entries → AllByRecursion (λ said. IfSome said (AllByRecursion IsSaid)) (map (said_of entries) (range_with_len low n))
+by_number_said : (low n c : ℕ) (entries : List Said) → AllByRecursion AreSaid entries → AllByRecursion (λ said. IfSome said (AllByRecursion IsToldSo)) (map (said_of entries) (range_with_len low n))
 by_number_said low zero c entries h = tt
 by_number_said low (suc n) c entries h = (said_all entries low h, by_number_said (low + 1) n c entries h)
 
 entries_readable : (count : ℕ) (entries : List Said) → AllByRecursion AreSaid entries → IsReadableScript (by_number count entries)
 entries_readable count entries h c k =
     let script = by_number count entries in
-    gone_on (AllByRecursion IsSaid) IsSaid _ (said_at script c) (λ outcomes all. held_at IsSaid outcomes k all)
-    (gone_on (λ said. IfSome said (AllByRecursion IsSaid)) (AllByRecursion IsSaid) (λ said. said) (slice_get script c) (λ said all. all)
-    (held_at (λ said. IfSome said (AllByRecursion IsSaid)) script c (by_number_said 0 count c entries h)))
+    gone_on IsToldSo IsSaid answer_to (given_step script c k) (λ step told. told)
+    (gone_on (AllByRecursion IsToldSo) IsToldSo _ (said_at script c) (λ steps all. held_at IsToldSo steps k all)
+    (gone_on (λ said. IfSome said (AllByRecursion IsToldSo)) (AllByRecursion IsToldSo) (λ said. said) (slice_get script c) (λ said all. all)
+    (held_at (λ said. IfSome said (AllByRecursion IsToldSo)) script c (by_number_said 0 count c entries h))))
 
 unless_held : (P : OutcomeMap → Type 0) (o : Option ScriptError) (script : OutcomeMap) → P script → IfOk (unless_refused o script) P
 unless_held P None script h = h
@@ -202,7 +225,7 @@ tree_readable plan d h =
 pub script_readable : (plan : SavedPlan) (bytes : List ℕ) (script : OutcomeMap) → script_of plan bytes ≡ Ok script → IsReadableScript script
 unfolding script_of
 script_readable plan bytes script e =
-    is_answered IsReadableScript (of_bytes TooLarge NotJson (script_of_tree plan) bytes) script (made_of_bytes IsReadableScript TooLarge NotJson (script_of_tree plan) bytes (tree_readable plan)) e
+    is_answered IsReadableScript _ script (made_of_kept IsReadableScript is_kept TooLarge NotJson (script_of_tree plan) bytes (tree_readable plan)) e
 
 -- a script that says nothing
 pub nothing_readable : IsReadableScript []
