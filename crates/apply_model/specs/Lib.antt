@@ -1,2 +1,3 @@
+pub mod Details
 pub mod Plan
 pub mod Script

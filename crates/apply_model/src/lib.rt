@@ -1,10 +1,18 @@
 //! What saved Terraform plans (JSON Output Format 1.x) and scripts of outcomes are, apart from how they are read.
 #![tactic(auto)]
 
+mod details;
 mod plan;
 mod script;
 mod text;
 
+pub use details::change_details::ChangeDetails;
+pub use details::importing::Importing;
+pub use details::note::Note;
+pub use details::output::Output;
+pub use details::previous_resource::PreviousResource;
+pub use details::reason::Reason;
+pub use details::severity::Severity;
 pub use plan::action::Action;
 pub use plan::address::relative_address;
 pub use plan::change::Change;

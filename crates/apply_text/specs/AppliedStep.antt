@@ -19,7 +19,12 @@ abbrev pub ending_view : AppliedStep → Ending
 ending_view step = (outcome_view step).result
 
 abbrev pub diag_view : DiagTexts → Diag
-diag_view texts = record { summary = texts.summary.now; detail = texts.detail.now }
+diag_view texts = record {
+  summary = texts.summary.now;
+  detail = texts.detail.now;
+  range = option_copied texts.range;
+  snippet = option_copied texts.snippet;
+}
 
 -- the message of an event of it
 abbrev pub message_of : AppliedStep → What → Message

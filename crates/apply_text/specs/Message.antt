@@ -156,7 +156,7 @@ warning_message change diag =
 
 -- what is said where nothing was told
 abbrev pub no_diag : Diag
-no_diag = record { summary = []; detail = [] }
+no_diag = record { summary = []; detail = []; range = None; snippet = None }
 
 -- why the step failed: what the provider said, or the provisioner that failed
 abbrev pub told_failure : Outcome → Diag
@@ -167,14 +167,15 @@ abbrev pub warning_of : Ending → Diag
 warning_of (Done id warning) = unwrap_or warning no_diag
 warning_of (Failed diag) = no_diag
 
--- that a hook halted the change
+-- that a hook halted the change, with that detail
+abbrev pub halted_with : (detail : List ℕ) → Diag
+halted_with detail = record { summary = codes "execution halted"; detail = detail; range = None; snippet = None }
+
 abbrev pub halt_of : StepKind → Phase → (hook : ℕ) → Diag
-halt_of step phase hook = record {
-  summary = codes "execution halted";
-  detail =
-      codes "Hook " ++ decimal hook ++ codes " answered Halt "
-      ++ phase_words phase ++ codes " " ++ action_word step ++ codes ".";
-}
+halt_of step phase hook =
+    halted_with
+    (codes "Hook " ++ decimal hook ++ codes " answered Halt "
+    ++ phase_words phase ++ codes " " ++ action_word step ++ codes ".")
 
 -- ---- events, and the end
 

@@ -4,9 +4,9 @@ ghost use Rattle.std.specs.Prelude.{◌≡◌, slice_get, unwrap_or};
 ghost use Rattle.std.specs.Option.{option_copied};
 ghost use Rattle.apply_text.specs.AppliedStep.{diag_view, ending_view, outcome_view};
 ghost use Rattle.apply_text.specs.Message as messages;
-ghost use Rattle.apply_text.specs.Message.{no_diag};
+ghost use Rattle.apply_text.specs.Message.{halted_with, no_diag};
 
-use apply_model::{Change, Diag, Ending, Outcome, Provisioner, StepKind};
+use apply_model::{Change, Diag, Ending, Outcome, Provisioner, StepKind, Text};
 
 /// A step of a change, with what the script says of it. Where it says nothing, the step is done and nothing is told.
 #[derive(Clone, Copy, Drop)]
@@ -16,28 +16,65 @@ pub struct AppliedStep<'a> {
     pub outcome: Option<&'a Outcome>,
 }
 
-/// The two texts of a diagnostic.
+/// The texts of a diagnostic.
 #[derive(Clone, Copy, Drop)]
 pub struct DiagTexts<'a> {
     pub summary: &'a str,
     pub detail: &'a str,
+    /// Where in the configuration it is, as JSON.
+    pub range: Option<&'a str>,
+    /// What stands there, as JSON.
+    pub snippet: Option<&'a str>,
 }
 
 impl<'a> DiagTexts<'a> {
+    /// What is said where a hook halts the run, with that detail.
+    pub fn of_halt(detail: &'a str) -> DiagTexts<'a>
+        ensures { diag_view result ≡ halted_with detail.now }
+    {
+        DiagTexts {
+            summary: "execution halted",
+            detail,
+            range: None,
+            snippet: None,
+        }
+    }
+
+    /// The texts of a diagnostic.
+    pub fn new(diag: &'a Diag) -> DiagTexts<'a>
+        ensures { diag_view result ≡ diag.now }
+    {
+        DiagTexts {
+            summary: diag.summary.as_str(),
+            detail: diag.detail.as_str(),
+            range: borrowed(&diag.range),
+            snippet: borrowed(&diag.snippet),
+        }
+    }
+
     /// The texts of a diagnostic, or empty ones where there is none.
-    fn new(diag: Option<&'a Diag>) -> DiagTexts<'a>
+    fn of_option(diag: Option<&'a Diag>) -> DiagTexts<'a>
         ensures { diag_view result ≡ unwrap_or (option_copied diag.entry) no_diag }
     {
         match diag {
-            Some(diag) => DiagTexts {
-                summary: diag.summary.as_str(),
-                detail: diag.detail.as_str(),
-            },
+            Some(diag) => DiagTexts::new(diag),
             None => DiagTexts {
                 summary: "",
                 detail: "",
+                range: None,
+                snippet: None,
             },
         }
+    }
+}
+
+/// The text that there may be, borrowed.
+fn borrowed(text: &Option<Text>) -> Option<&str>
+    ensures { option_copied result ≡ text.now }
+{
+    match text {
+        Some(text) => Some(text.as_str()),
+        None => None,
     }
 }
 
@@ -77,8 +114,8 @@ impl<'a> AppliedStep<'a> {
         ensures { diag_view result ≡ messages.told_failure (outcome_view self.now) }
     {
         match self.outcome {
-            Some(outcome) => DiagTexts::new(outcome.failure()),
-            None => DiagTexts::new(None),
+            Some(outcome) => DiagTexts::of_option(outcome.failure()),
+            None => DiagTexts::of_option(None),
         }
     }
 
@@ -92,8 +129,8 @@ impl<'a> AppliedStep<'a> {
                     result: Ending::Done { warning, .. },
                     ..
                 },
-            ) => DiagTexts::new(warning.as_ref()),
-            _ => DiagTexts::new(None),
+            ) => DiagTexts::of_option(warning.as_ref()),
+            _ => DiagTexts::of_option(None),
         }
     }
 

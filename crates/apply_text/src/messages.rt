@@ -197,21 +197,15 @@ fn put_body(
         What::Progress(seconds) => put_hook(out, change, kind, Some(seconds), None),
         What::Complete(seconds) => put_hook(out, change, kind, Some(seconds), step.end_id()),
         What::Errored(seconds) => put_hook(out, change, kind, Some(seconds), None),
-        What::ErrorNote => {
-            let DiagTexts { summary, detail } = step.failure();
-            put_diagnostic(out, change.address(), "error", summary, detail)
-        }
-        What::WarnNote => {
-            let DiagTexts { summary, detail } = step.warning();
-            put_diagnostic(out, change.address(), "warning", summary, detail)
-        }
+        What::ErrorNote => put_diagnostic(out, change.address(), "error", step.failure()),
+        What::WarnNote => put_diagnostic(out, change.address(), "warning", step.warning()),
         What::Halted { phase, hook } => {
             let words = phase_words(phase);
             let action = StepWords::new(kind).action;
             scratch.clear();
             write!(scratch, "Hook {hook} answered Halt {words} {action}.")?;
-            let detail = scratch.as_str();
-            put_diagnostic(out, change.address(), "error", "execution halted", detail)
+            let halt = DiagTexts::of_halt(scratch.as_str());
+            put_diagnostic(out, change.address(), "error", halt)
         }
         What::ProvisionStart(number)
         | What::ProvisionComplete(number)

@@ -1,0 +1,53 @@
+//! What Terraform's form alone tells of a planned change.
+
+ghost use Rattle.std.specs.Prelude.{◌≡◌, option_map};
+ghost use Rattle.std.specs.Option.{option_copied};
+ghost use Rattle.apply_model.specs.Details.{reason_word};
+
+use crate::details::importing::Importing;
+use crate::details::previous_resource::PreviousResource;
+use crate::details::reason::Reason;
+use crate::text::Text;
+
+/// What is told of a planned change in Terraform's form alone (JSON Output Format, "Plan Representation").
+#[derive(Debug, Drop)]
+pub struct ChangeDetails {
+    /// Whether the object is to be forgotten: it stays, and is no longer tracked.
+    pub forgets: bool,
+    /// Why the change was planned. `None` where the plan does not say.
+    pub reason: Option<Reason>,
+    /// What it imports. `None` where it imports nothing.
+    pub importing: Option<Importing>,
+    /// The configuration that was made for an imported object. `None` where none was.
+    pub generated_config: Option<Text>,
+    /// The id that the object is to have. `None` where it is not known or sensitive.
+    pub planned_id: Option<Text>,
+    /// The resource that the object was before it was moved. `None` where the plan does not say.
+    pub previous: Option<PreviousResource>,
+}
+
+impl ChangeDetails {
+    /// The id that the object is to have. `None` where it is not known or sensitive.
+    pub fn planned_id(&self) -> Option<&str>
+        ensures { option_copied result ≡ self.now.planned_id }
+    {
+        self.planned_id.as_ref().map(Text::as_str)
+    }
+
+    /// The word for why the change was planned. `None` where the plan does not say.
+    pub fn reason_word(&self) -> Option<&'static str>
+        ensures { option_copied result ≡ option_map reason_word self.now.reason }
+    {
+        match self.reason {
+            Some(reason) => Some(reason.word()),
+            None => None,
+        }
+    }
+
+    /// The configuration that was made for an imported object. `None` where none was.
+    pub fn generated_config(&self) -> Option<&str>
+        ensures { option_copied result ≡ self.now.generated_config }
+    {
+        self.generated_config.as_ref().map(Text::as_str)
+    }
+}
