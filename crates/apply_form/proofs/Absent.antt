@@ -7,7 +7,7 @@ use Rattle.serde_json.specs.Data.{Data}
 use Rattle.serde_json.specs.Written.{compact_text}
 use Rattle.apply_text.specs.Laws.{line_feeds}
 use Rattle.apply_text.proofs.Feeds as default
-use Rattle.apply_form.specs.declared.output.Output.{Output}
+use Rattle.apply_model.specs.declared.details.output.Output.{Output}
 use Rattle.apply_form.specs.Escapes.{begins_with, escaped}
 use Rattle.apply_form.specs.Laws.{brackets, without_secret}
 use Rattle.apply_form.specs.Lines.{line_of, line_of_text, outputs_text}

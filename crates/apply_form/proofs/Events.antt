@@ -1,5 +1,5 @@
 -- What both forms say of an event in the same words.
-use Rattle.std.proofs.Common.{◌≡◌, ℕ, List, codes, Option, None, refl, ap, ◌∙◌}
+use Rattle.std.proofs.Common.{◌≡◌, ℕ, List, codes, Option, refl, ap, ◌∙◌}
 use Rattle.apply_model.specs.declared.script.diag.Diag.{Diag}
 use Rattle.apply_events.specs.declared.what.What.{What}
 use Rattle.apply_events.specs.declared.what.What.TheVariants.{Start, Progress, Complete, Errored, ErrorNote, WarnNote, Halted, ProvisionStart, ProvisionOutput, ProvisionComplete, ProvisionErrored}
@@ -35,10 +35,10 @@ same_type step planned (ProvisionOutput i line) = refl
 same_type step planned (ProvisionComplete i) = refl
 same_type step planned (ProvisionErrored i) = refl
 
--- the same diagnostic of no address
-pub same_diagnostic : (severity severity₂ summary detail : List ℕ) (diag : Diag) → severity ≡ severity₂ → summary ≡ diag.summary → detail ≡ diag.detail
-    → member_tokens (codes "diagnostic") (diagnostic_object None severity (record { summary = summary; detail = detail })) ≡ member_tokens (codes "diagnostic") (diagnostic_object None severity₂ diag)
-same_diagnostic severity severity₂ summary detail diag severities summaries details =
-    ap (λ s. member_tokens (codes "diagnostic") (diagnostic_object None s (record { summary = summary; detail = detail }))) severities
-    ∙ ap (λ s. member_tokens (codes "diagnostic") (diagnostic_object None severity₂ (record { summary = s; detail = detail }))) summaries
-    ∙ ap (λ d. member_tokens (codes "diagnostic") (diagnostic_object None severity₂ (record { summary = diag.summary; detail = d }))) details
+-- the same diagnostic
+pub same_diagnostic : (address address₂ : Option (List ℕ)) (severity severity₂ : List ℕ) (diag diag₂ : Diag) → address ≡ address₂ → severity ≡ severity₂ → diag ≡ diag₂
+    → member_tokens (codes "diagnostic") (diagnostic_object address severity diag) ≡ member_tokens (codes "diagnostic") (diagnostic_object address₂ severity₂ diag₂)
+same_diagnostic address address₂ severity severity₂ diag diag₂ addresses severities diags =
+    ap (λ a. member_tokens (codes "diagnostic") (diagnostic_object a severity diag)) addresses
+    ∙ ap (λ s. member_tokens (codes "diagnostic") (diagnostic_object address₂ s diag)) severities
+    ∙ ap (λ d. member_tokens (codes "diagnostic") (diagnostic_object address₂ severity₂ d)) diags

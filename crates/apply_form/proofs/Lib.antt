@@ -5,6 +5,7 @@ pub mod Events
 pub mod LinesAdded
 pub mod Members
 pub mod Moments
+pub mod NotesAdded
 pub mod OutputTexts
 pub mod Plain
 pub mod Progress

@@ -13,7 +13,7 @@ use Rattle.apply_text.specs.Sending.{data_tokens}
 use Rattle.apply_form.specs.Lines.{line_of, line_of_text, message_line, version_members, version_text}
 use Rattle.apply_form.specs.Moment.{fine_text}
 
-known : {E : Type 0} {P : Type 0} (w : Result (Unit {0}) E) → IsOk w → OnOk w P → P
+pub known : {E : Type 0} {P : Type 0} (w : Result (Unit {0}) E) → IsOk w → OnOk w P → P
 known (Ok u) ok h = h
 known (Err e) ok h = absurd cc
 
@@ -33,7 +33,7 @@ line_added r w old before new wanted start tokens d same none sent ended is =
 -- ---- the objects that are written are those of the defined lines
 
 -- the object of a message
-abbrev object_of : (moment : List ℕ) → Message → Data
+abbrev pub object_of : (moment : List ℕ) → Message → Data
 object_of moment message = message_object message.level message.text moment (typed message.name message.body message.type_name)
 
 pub version_is : (plan : SavedPlan) (start : ℕ) (version moment : List ℕ) → version ≡ plan.version → moment ≡ fine_text (start + 0) → line_of (message_object (codes "info") (codes "Terraform " ++ version) moment (version_members version)) ≡ version_text plan start

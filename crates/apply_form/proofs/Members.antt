@@ -4,13 +4,18 @@ use Rattle.json.specs.Token.{begin_object, end_object, key}
 use Rattle.json.specs.Tree.{members_tokens}
 use Rattle.serde_json.specs.Data.{Members, no_members}
 use Rattle.serde_json.specs.Written.{members_outline}
-use Rattle.apply_form.specs.declared.importing.Importing.{Importing}
-use Rattle.apply_form.specs.Objects.{importing_member, text_if}
-use Rattle.apply_form.specs.Sending.{importing_tokens, text_tokens}
+use Rattle.apply_model.specs.declared.details.importing.Importing.{Importing}
+use Rattle.apply_model.specs.declared.details.previous_resource.PreviousResource.{PreviousResource}
+use Rattle.apply_form.specs.Objects.{importing_member, previous_member, text_if}
+use Rattle.apply_form.specs.Sending.{importing_tokens, previous_tokens, text_tokens}
 
 pub text_first : (name : List ℕ) (text : Option (List ℕ)) (others : Members) → text_tokens name text ++ members_tokens (members_outline others) ≡ members_tokens (members_outline (text_if name text others))
 text_first name None others = refl
 text_first name (Some text) others = refl
+
+pub previous_first : (previous : Option PreviousResource) (others : Members) → previous_tokens previous ++ members_tokens (members_outline others) ≡ members_tokens (members_outline (previous_member previous others))
+previous_first None others = refl
+previous_first (Some previous) others = refl
 
 pub importing_first : (importing : Option Importing) (others : Members) → importing_tokens importing ++ members_tokens (members_outline others) ≡ members_tokens (members_outline (importing_member importing others))
 importing_first None others = refl

@@ -5,7 +5,7 @@ use Rattle.std.proofs.Math.Seq.{take-length}
 use Rattle.std.proofs.lemmas.List.{drop_more, length-take, take-take}
 use Rattle.std.proofs.lemmas.Result.{on_ok_weaker}
 use Rattle.json.specs.Print.{quoted}
-use Rattle.apply_form.specs.declared.output.Output.{Output}
+use Rattle.apply_model.specs.declared.details.output.Output.{Output}
 use Rattle.apply_form.specs.Escapes.{escaped}
 use Rattle.apply_form.specs.Lines.{line_of_text}
 use Rattle.apply_form.specs.Outputs.{before_type, output_text, outputs_from, outputs_message}

@@ -17,7 +17,7 @@ filled (Err e) old new piece wanted empty grown is = tt
 pub planned_text : (old new address change_address word : List ℕ) → old ≡ [] → new ≡ old ++ (address ++ (codes ": Plan to " ++ word)) → address ≡ change_address → new ≡ change_address ++ codes ": Plan to " ++ word
 planned_text old new address change_address word empty grown is = grown ∙ rw (empty, is) (simp append_assoc)
 
--- what is said of a plan
+-- what is said of no step
 pub note_text : (old new label label₂ summary summary₂ : List ℕ) → old ≡ [] → new ≡ old ++ (label ++ (codes ": " ++ summary)) → label ≡ label₂ → summary ≡ summary₂ → new ≡ label₂ ++ codes ": " ++ summary₂
 note_text old new label label₂ summary summary₂ empty grown labels summaries = grown ∙ rw (empty, labels, summaries) (simp append_assoc)
 

@@ -1,26 +1,7 @@
--- What this form alone tells of a planned change.
+-- What is planned, in the words of a stream.
 use Rattle.std.specs.Prelude.{ℕ, List, [], ◌∷◌, codes, Bool, if◌then◌else◌, Option, Some, None}
 use Rattle.apply_model.specs.declared.plan.step_kind.StepKind.{StepKind}
 use Rattle.apply_text.specs.Words.{action_word}
-use Rattle.apply_form.specs.declared.reason.Reason.{Reason}
-use Rattle.apply_form.specs.declared.reason.Reason.TheVariants.{CannotUpdate, Tainted, Requested, ReplaceTriggeredBy, DeleteBecauseNoResourceConfig, DeleteBecauseWrongRepetition, DeleteBecauseCountIndex, DeleteBecauseEachKey, DeleteBecauseNoModule, DeleteBecauseNoMoveTarget, ReadBecauseConfigUnknown, ReadBecauseDependencyPending, ReadBecauseCheckNested, Unknown}
-
--- why a change was planned, in the words of a stream
-abbrev pub reason_word : Reason → List ℕ
-reason_word CannotUpdate = codes "cannot_update"
-reason_word Tainted = codes "tainted"
-reason_word Requested = codes "requested"
-reason_word ReplaceTriggeredBy = codes "replace_triggered_by"
-reason_word DeleteBecauseNoResourceConfig = codes "delete_because_no_resource_config"
-reason_word DeleteBecauseWrongRepetition = codes "delete_because_wrong_repetition"
-reason_word DeleteBecauseCountIndex = codes "delete_because_count_index"
-reason_word DeleteBecauseEachKey = codes "delete_because_each_key"
-reason_word DeleteBecauseNoModule = codes "delete_because_no_module"
-reason_word DeleteBecauseNoMoveTarget = codes "delete_because_no_move_target"
-reason_word ReadBecauseConfigUnknown = codes "read_because_config_unknown"
-reason_word ReadBecauseDependencyPending = codes "read_because_dependency_pending"
-reason_word ReadBecauseCheckNested = codes "read_because_check_nested"
-reason_word Unknown = codes "unknown"
 
 -- what is planned for an object with these steps; nothing, where it has none and is not forgotten
 abbrev pub planned_word : List StepKind → (forgets : Bool) → Option (List ℕ)

@@ -1,6 +1,6 @@
 -- Words of the laws of lines.
 use Rattle.std.specs.Prelude.{ℕ, List, [], ◌∷◌, count_by, ◌==◌, Bool, false, ◌&&◌, ◌||◌, if◌then◌else◌}
-use Rattle.apply_form.specs.declared.output.Output.{Output}
+use Rattle.apply_model.specs.declared.details.output.Output.{Output}
 use Rattle.apply_form.specs.Escapes.{begins_with}
 
 -- the output without the value of a sensitive one

@@ -3,20 +3,24 @@ use Rattle.std.specs.Prelude.{ℕ, ◌+◌, List, [], ◌∷◌, ◌++◌, codes
 use Rattle.std.specs.Option.{option_map_or}
 use Rattle.serde_json.specs.Data.{Data, string, Members, no_members, member}
 use Rattle.serde_json.specs.Written.{compact_text}
+use Rattle.apply_model.specs.declared.details.change_details.ChangeDetails.{ChangeDetails}
+use Rattle.apply_model.specs.declared.details.note.Note.{Note}
+use Rattle.apply_model.specs.declared.details.output.Output.{Output}
+use Rattle.apply_model.specs.declared.plan.step_kind.StepKind.{StepKind}
+use Rattle.apply_model.specs.declared.script.outcome.Outcome.{Outcome}
 use Rattle.apply_model.specs.Plan.ResourceChange.{ResourceChange}
 use Rattle.apply_model.specs.Plan.SavedPlan.{SavedPlan}
 use Rattle.apply_model.specs.Script.OutcomeMap.{OutcomeMap, outcome_of}
 use Rattle.apply_events.specs.declared.counts.Counts.{Counts}
 use Rattle.apply_events.specs.declared.event.Event.{Event}
+use Rattle.apply_events.specs.declared.what.What.{What}
 use Rattle.apply_text.specs.declared.operation.Operation.{Operation}
 use Rattle.apply_text.specs.Lines.{message_object, typed}
 use Rattle.apply_text.specs.Message.{Message}
-use Rattle.apply_form.specs.declared.change_details.ChangeDetails.{ChangeDetails}
-use Rattle.apply_form.specs.declared.output.Output.{Output}
-use Rattle.apply_form.specs.declared.plan_note.PlanNote.{PlanNote}
 use Rattle.apply_form.specs.Details.{planned_word}
 use Rattle.apply_form.specs.Escapes.{escaped}
-use Rattle.apply_form.specs.Message.{event_message, is_silent, note_message, planned_message, summary_message}
+use Rattle.apply_form.specs.Kept.{kept_members, note_with}
+use Rattle.apply_form.specs.Message.{event_message, is_silent, kept_of, note_message, planned_message, summary_message}
 use Rattle.apply_form.specs.Moment.{fine_text}
 use Rattle.apply_form.specs.Outputs.{outputs_message}
 
@@ -36,6 +40,11 @@ message_line seconds message =
     line_of (message_object message.level message.text (fine_text seconds)
     (typed message.name message.body message.type_name))
 
+-- the same of a message about a diagnostic, with members that are kept as texts, where there are some
+abbrev pub told_line : (seconds : ℕ) → Message → (kept : List ℕ) → List ℕ
+told_line seconds message [] = message_line seconds message
+told_line seconds message (byte ∷ bytes) = line_of_text (note_with (fine_text seconds) message (byte ∷ bytes))
+
 -- the first line, at the start: the version of Terraform that made the plan, and that of this interface
 abbrev pub version_members : (version : List ℕ) → Members
 version_members version =
@@ -54,6 +63,11 @@ planned_text start change details =
     option_map_or (λ word. message_line start (planned_message change word details))
     (planned_word change.steps details.forgets) []
 
+-- the line of an event of a step of the change, of which that is the outcome, and that the planned id
+abbrev pub event_line : (seconds : ℕ) → ResourceChange → StepKind → Outcome → (planned : Option (List ℕ)) → What → List ℕ
+event_line seconds change step outcome planned what =
+    told_line seconds (event_message change step outcome planned what) (kept_of outcome what)
+
 -- the line of an event of the plan, so many seconds after the start, where the event has one; of the object that is
 -- changed that id is planned
 abbrev pub event_text : SavedPlan → OutcomeMap → (start latest : ℕ) → (planned : Option (List ℕ)) → Event → List ℕ
@@ -61,13 +75,13 @@ event_text plan script start latest planned event =
     option_map_or (λ change.
     option_map_or (λ step.
     if is_silent step event.what then []
-    else message_line (start + latest) (event_message change step (outcome_of script event.change event.step) planned event.what))
+    else event_line (start + latest) change step (outcome_of script event.change event.step) planned event.what)
     (slice_get change.steps event.step) [])
     (slice_get plan.changes event.change) []
 
--- what is said of the plan as a whole
-abbrev pub note_text : (start latest : ℕ) → PlanNote → List ℕ
-note_text start latest note = message_line (start + latest) (note_message note)
+-- a diagnostic of no step
+abbrev pub note_text : (start latest : ℕ) → Note → List ℕ
+note_text start latest note = told_line (start + latest) (note_message note) (kept_members note.diag)
 
 -- how much was completed, and how much was imported
 abbrev pub summary_text : (start latest : ℕ) → Operation → Counts → (imported : ℕ) → List ℕ

@@ -2,9 +2,12 @@
 use Rattle.std.specs.Prelude.{ℕ, List, [], ◌++◌, codes, decimal, ◌==◌, ◌&&◌, Bool, true, false, if◌then◌else◌, is_some, not, Option, Some, None}
 use Rattle.std.specs.Option.{option_or}
 use Rattle.serde_json.specs.Data.{Data}
+use Rattle.apply_model.specs.declared.details.change_details.ChangeDetails.{ChangeDetails}
+use Rattle.apply_model.specs.declared.details.note.Note.{Note}
+use Rattle.apply_model.specs.declared.details.severity.Severity.{Severity}
+use Rattle.apply_model.specs.declared.details.severity.Severity.TheVariants.{Error, Warning}
 use Rattle.apply_model.specs.declared.plan.step_kind.StepKind.{StepKind}
 use Rattle.apply_model.specs.declared.plan.step_kind.StepKind.TheVariants.{Create, Update, Delete, Read}
-use Rattle.apply_model.specs.declared.script.diag.Diag.{Diag}
 use Rattle.apply_model.specs.declared.script.ending.Ending.{Ending}
 use Rattle.apply_model.specs.declared.script.outcome.Outcome.{Outcome}
 use Rattle.apply_model.specs.Plan.ResourceChange.{ResourceChange}
@@ -16,9 +19,7 @@ use Rattle.apply_events.specs.declared.what.What.TheVariants.{Start, Progress, C
 use Rattle.apply_text.specs.declared.operation.Operation.{Operation}
 use Rattle.apply_text.specs.declared.operation.Operation.TheVariants.{Apply, Destroy}
 use Rattle.apply_text.specs.Message.{Message, complete_message, error_message, errored_message, halt_of, name_of, output_of, progress_message, provision_complete_message, provision_errored_message, provision_output_message, provision_start_message, start_id, start_message, told_failure, told_id, totals_text, warning_message, warning_of}
-use Rattle.apply_form.specs.declared.change_details.ChangeDetails.{ChangeDetails}
-use Rattle.apply_form.specs.declared.plan_note.PlanNote.{PlanNote}
-use Rattle.apply_form.specs.declared.plan_note.PlanNote.TheVariants.{Partial, Unfinished}
+use Rattle.apply_form.specs.Kept.{kept_members}
 use Rattle.apply_form.specs.Objects.{change_object, changes_object, diagnostic_object, hook_object, provisioner_object}
 
 -- the message with its object in this form's order
@@ -69,6 +70,20 @@ event_message change step outcome planned (ProvisionComplete i) =
 event_message change step outcome planned (ProvisionErrored i) =
     told_as (provision_errored_message change (name_of outcome i)) (provisioner_object change (name_of outcome i) None)
 
+-- what is kept as text of the diagnostic that the event is
+abbrev pub kept_of : Outcome → What → List ℕ
+kept_of outcome Start = []
+kept_of outcome (Progress seconds) = []
+kept_of outcome (Complete seconds) = []
+kept_of outcome (Errored seconds) = []
+kept_of outcome ErrorNote = kept_members (told_failure outcome)
+kept_of outcome WarnNote = kept_members (warning_of outcome.result)
+kept_of outcome (Halted phase hook) = []
+kept_of outcome (ProvisionStart i) = []
+kept_of outcome (ProvisionOutput i line) = []
+kept_of outcome (ProvisionComplete i) = []
+kept_of outcome (ProvisionErrored i) = []
+
 -- that a read failed is told by no message of its hook
 abbrev pub is_silent : StepKind → What → Bool
 is_silent Read (Errored seconds) = true
@@ -86,30 +101,20 @@ planned_message change word details = record {
   type_name = codes "planned_change";
 }
 
--- ---- diagnostics of the plan
-
-abbrev pub note_diag : PlanNote → Diag
-note_diag Partial = record {
-  summary = codes "Applied changes may be incomplete";
-  detail = codes "The plan was created with the -target option in effect, so some changes requested in the configuration may have been ignored and the output values may not be fully updated. Run the following command to verify that no other changes are pending:\n    terraform plan\n\nNote that the -target option is not suitable for routine use, and is provided only for exceptional situations such as recovering from errors or mistakes, or when Terraform specifically suggests to use it as part of an error message.";
-}
-note_diag Unfinished = record {
-  summary = codes "Cannot apply incomplete plan";
-  detail = codes "Terraform encountered an error when generating this plan, so it cannot be applied.";
-}
+-- ---- diagnostics of no step
 
 -- the level of the message, the word of the diagnostic, and that before its summary
-abbrev pub note_words : PlanNote → List ℕ × List ℕ × List ℕ
-note_words Partial = (codes "warn", codes "warning", codes "Warning")
-note_words Unfinished = (codes "error", codes "error", codes "Error")
+abbrev pub note_words : Severity → List ℕ × List ℕ × List ℕ
+note_words Warning = (codes "warn", codes "warning", codes "Warning")
+note_words Error = (codes "error", codes "error", codes "Error")
 
--- what is said of a plan as a whole
-abbrev pub note_message : PlanNote → Message
+-- a diagnostic of no step, but for what is kept of it as text
+abbrev pub note_message : Note → Message
 note_message note = record {
-  level = (note_words note).0;
-  text = (note_words note).2 ++ codes ": " ++ (note_diag note).summary;
+  level = (note_words note.severity).0;
+  text = (note_words note.severity).2 ++ codes ": " ++ note.diag.summary;
   name = codes "diagnostic";
-  body = diagnostic_object None (note_words note).1 (note_diag note);
+  body = diagnostic_object note.address (note_words note.severity).1 note.diag;
   type_name = codes "diagnostic";
 }
 

@@ -1,17 +1,18 @@
 -- The JSON objects in messages, with their members in the order in which Terraform writes them (Machine-Readable UI).
 use Rattle.std.specs.Prelude.{ℕ, List, codes, Option, Some, None, option_map}
 use Rattle.serde_json.specs.Data.{Data, number, string, object, unsigned, Members, no_members, member}
+use Rattle.apply_model.specs.declared.details.change_details.ChangeDetails.{ChangeDetails}
+use Rattle.apply_model.specs.declared.details.importing.Importing.{Importing}
+use Rattle.apply_model.specs.declared.details.previous_resource.PreviousResource.{PreviousResource}
 use Rattle.apply_model.specs.declared.plan.step_kind.StepKind.{StepKind}
 use Rattle.apply_model.specs.declared.script.diag.Diag.{Diag}
+use Rattle.apply_model.specs.Details.{reason_word}
 use Rattle.apply_model.specs.Plan.Address.{provider_of}
 use Rattle.apply_model.specs.Plan.ResourceChange.{ResourceChange, resource_of}
 use Rattle.apply_events.specs.declared.counts.Counts.{Counts}
 use Rattle.apply_text.specs.declared.operation.Operation.{Operation}
 use Rattle.apply_text.specs.Objects.{elapsed_member, id_members, key_data, operation_word, output_member}
 use Rattle.apply_text.specs.Words.{action_word}
-use Rattle.apply_form.specs.declared.change_details.ChangeDetails.{ChangeDetails}
-use Rattle.apply_form.specs.declared.importing.Importing.{Importing}
-use Rattle.apply_form.specs.Details.{reason_word}
 
 -- a member with a text, where there is one, before the other members
 abbrev pub text_if : (name : List ℕ) → Option (List ℕ) → Members → Members
@@ -50,6 +51,23 @@ provisioner_object change name output =
 
 -- ---- the object `change`
 
+-- the resource that an object was before
+unfoldable pub previous_object : PreviousResource → Data
+previous_object previous =
+    object
+    (member (codes "addr") (string previous.address)
+    (member (codes "module") (string previous.module_address)
+    (member (codes "resource") (string previous.resource)
+    (member (codes "implied_provider") (string (provider_of previous.kind_name))
+    (member (codes "resource_type") (string previous.kind_name)
+    (member (codes "resource_name") (string previous.name)
+    (member (codes "resource_key") (key_data previous.key) no_members)))))))
+
+-- the same, where the object was moved, before the other members
+abbrev pub previous_member : Option PreviousResource → Members → Members
+previous_member None others = others
+previous_member (Some previous) others = member (codes "previous_resource") (previous_object previous) others
+
 -- what is imported, where something is, before the other members
 abbrev pub importing_member : Option Importing → Members → Members
 importing_member None others = others
@@ -61,14 +79,15 @@ unfoldable pub change_object : ResourceChange → (word : List ℕ) → ChangeDe
 change_object change word details =
     object
     (member (codes "resource") (resource_object change)
+    (previous_member details.previous
     (member (codes "action") (string word)
     (text_if (codes "reason") (option_map reason_word details.reason)
     (importing_member details.importing
-    (text_if (codes "generated_config") details.generated_config no_members)))))
+    (text_if (codes "generated_config") details.generated_config no_members))))))
 
 -- ---- the object `diagnostic`
 
--- what is said, and of which address, where it is of one
+-- what is said, and of which address, where it is of one; but for what is kept as text
 unfoldable pub diagnostic_object : (address : Option (List ℕ)) → (severity : List ℕ) → Diag → Data
 diagnostic_object address severity diag =
     object

@@ -1,7 +1,7 @@
 -- The message of the outputs (Machine-Readable UI, "Outputs"). Types and values are texts of JSON that stand as they are.
 use Rattle.std.specs.Prelude.{ℕ, List, [], ◌∷◌, ◌++◌, codes, decimal, length, Bool, if◌then◌else◌}
 use Rattle.json.specs.Print.{quoted}
-use Rattle.apply_form.specs.declared.output.Output.{Output}
+use Rattle.apply_model.specs.declared.details.output.Output.{Output}
 
 -- an output behind its name: of a sensitive one the value is not told
 abbrev pub output_text : Output → List ℕ

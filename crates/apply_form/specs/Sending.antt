@@ -2,13 +2,20 @@
 use Rattle.std.specs.Prelude.{ℕ, List, [], ◌∷◌, ◌++◌, codes, Option, Some, None}
 use Rattle.json.specs.Token.{Token, begin_object, end_object, key}
 use Rattle.serde_json.specs.Data.{string}
+use Rattle.apply_model.specs.declared.details.importing.Importing.{Importing}
+use Rattle.apply_model.specs.declared.details.previous_resource.PreviousResource.{PreviousResource}
 use Rattle.apply_text.specs.Sending.{member_tokens}
-use Rattle.apply_form.specs.declared.importing.Importing.{Importing}
+use Rattle.apply_form.specs.Objects.{previous_object}
 
 -- a member with a text, where there is one
 abbrev pub text_tokens : (name : List ℕ) → Option (List ℕ) → List Token
 text_tokens name None = []
 text_tokens name (Some text) = member_tokens name (string text)
+
+-- the resource that an object was before, where it was another one
+abbrev pub previous_tokens : Option PreviousResource → List Token
+previous_tokens None = []
+previous_tokens (Some previous) = member_tokens (codes "previous_resource") (previous_object previous)
 
 abbrev pub importing_tokens : Option Importing → List Token
 importing_tokens None = []

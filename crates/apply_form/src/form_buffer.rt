@@ -1,25 +1,26 @@
 //! A buffer of lines.
 
-ghost use Rattle.std.specs.Prelude.{◌≡◌, ◌≤◌, ◌+◌, ◌++◌, [], IfOk, IsOk, OnOk, OnErr};
+ghost use Rattle.std.specs.Prelude.{◌≡◌, ◌≤◌, ◌+◌, ◌++◌, [], IfOk, IsOk, List, OnOk, OnErr, ℕ};
 ghost use Rattle.std.specs.Option.{option_copied};
 ghost use Rattle.json.specs.Print.{print};
 ghost use Rattle.apply_events.specs.Fits.{HasStep, last_moment};
-ghost use Rattle.apply_form.specs.AppliedStep.{message_of};
+ghost use Rattle.apply_text.specs.AppliedStep.{diag_view};
+ghost use Rattle.apply_form.specs.AppliedStep.{line_of_event};
 ghost use Rattle.apply_form.specs.CachedParts.{progress_text};
+ghost use Rattle.apply_form.specs.Kept.{kept_members, note_end};
 ghost use Rattle.apply_form.specs.Lines.{event_text, line_of_text, message_line, note_text, outputs_text, planned_text, summary_text, version_text};
 ghost use Rattle.apply_form.specs.Message.{is_silent as is_silent_event, planned_message};
 
 use crate::cached_parts::frame::FormFrame;
-use crate::change_details::ChangeDetails;
 use crate::escaping::push_line;
+use crate::kept_members::put_kept;
 use crate::messages::{put_event, put_note, put_planned, put_summary, put_version};
 use crate::moment::FineMoment;
-use crate::output::Output;
 use crate::outputs::push_outputs;
-use crate::plan_note::PlanNote;
+use crate::planned::planned_word;
 use apply_events::{Counts, Event, What};
-use apply_model::{Change, Plan, Script, StepKind};
-use apply_text::parts::{AppliedStep, ProgressFrames};
+use apply_model::{Change, ChangeDetails, Note, Output, Plan, Script, StepKind};
+use apply_text::parts::{AppliedStep, DiagTexts, ProgressFrames};
 use apply_text::{Operation, Start};
 use json::Writer;
 use std::alloc::{AllocError, Global};
@@ -124,7 +125,7 @@ impl FormBuffer {
         ensures ok { OnOk result (self.new ≡ self.old ++ planned_text start change.now details.now) }
         ensures err { OnErr result (self.new ≡ self.old) }
     {
-        match details.planned_word(change.steps()) {
+        match planned_word(change.steps(), details.forgets) {
             Some(word) => self.push_word(start, change, word, details),
             None => Ok(()),
         }
@@ -160,17 +161,17 @@ impl FormBuffer {
         self.push_step(start, latest, event.change, step, planned, event.what)
     }
 
-    /// Appends what is said of a plan as a whole, `latest` seconds after the start (Machine-Readable UI, "Diagnostic").
-    /// `Err` where memory is refused; the lines are then as they were.
-    pub fn push_note(&mut self, start: Start, latest: u64, note: PlanNote) -> Result<(), AllocError>
+    /// Appends a diagnostic of no step, `latest` seconds after the start (Machine-Readable UI, "Diagnostic"). `Err` where memory
+    /// is refused; the lines are then as they were.
+    pub fn push_note(&mut self, start: Start, latest: u64, note: &Note) -> Result<(), AllocError>
         requires in_time { latest ≤ last_moment }
-        ensures ok { OnOk result (self.new ≡ self.old ++ note_text start latest note) }
+        ensures ok { OnOk result (self.new ≡ self.old ++ note_text start latest note.now) }
         ensures err { OnErr result (self.new ≡ self.old) }
     {
         let moment = FineMoment::new(start, latest);
         let mut out = self.begin_line();
         let written = put_note(&mut out, &mut self.scratch, &moment, note);
-        self.end_line(out, written)
+        self.end_note(out, written, DiagTexts::new(&note.diag))
     }
 
     /// Appends the line of how much was completed, and how many changes import (Machine-Readable UI, "Change Summary"),
@@ -254,7 +255,7 @@ impl FormBuffer {
     ) -> Result<(), AllocError>
         requires { latest ≤ last_moment }
         ensures ok { OnOk result (self.new
-            ≡ self.old ++ message_line (start + latest) (message_of step.entry (option_copied planned.entry) what)) }
+            ≡ self.old ++ line_of_event (start + latest) step.entry (option_copied planned.entry) what) }
         ensures err { OnErr result (self.new ≡ self.old) }
     {
         if let What::Progress(seconds) = what {
@@ -265,7 +266,11 @@ impl FormBuffer {
         let moment = FineMoment::new(start, latest);
         let mut out = self.begin_line();
         let written = put_event(&mut out, &mut self.scratch, &moment, step, planned, what);
-        self.end_line(out, written)
+        match what {
+            What::ErrorNote => self.end_note(out, written, step.failure()),
+            What::WarnNote => self.end_note(out, written, step.warning()),
+            _ => self.end_line(out, written),
+        }
     }
 
     /// Appends the line of a step's progress, put together of what is kept.
@@ -309,6 +314,28 @@ impl FormBuffer {
         self.line = out.into_inner();
         match written {
             Ok(()) => push_line(&mut self.bytes, self.line.as_slice()),
+            Err(refused) => Err(refused),
+        }
+    }
+
+    /// Appends the line of a diagnostic, with its range and its snippet, where all of it was written, and takes its room back.
+    fn end_note(
+        &mut self,
+        out: Writer,
+        written: Result<(), AllocError>,
+        diag: DiagTexts<'_>,
+    ) -> Result<(), AllocError>
+        requires { out.before ≡ [] }
+        ensures ok { OnOk result (IsOk written × ((front : List ℕ) → print out.tokens ≡ front ++ note_end
+            → self.new ≡ self.old ++ line_of_text (front ++ (kept_members (diag_view diag.entry) ++ note_end)))) }
+        ensures err { OnErr result (self.new ≡ self.old) }
+    {
+        self.line = out.into_inner();
+        match written {
+            Ok(()) => {
+                put_kept(&mut self.line, diag)?;
+                push_line(&mut self.bytes, self.line.as_slice())
+            }
             Err(refused) => Err(refused),
         }
     }

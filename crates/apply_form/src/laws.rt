@@ -3,7 +3,7 @@
 ghost use Rattle.std.specs.Prelude.{◌≡◌, ℕ, List, false, map};
 ghost use Rattle.apply_text.specs.Laws.{line_feeds};
 ghost use Rattle.serde_json.specs.Data.{Data};
-ghost use Rattle.apply_form.specs.declared.output.Output.{Output};
+ghost use Rattle.apply_model.specs.declared.details.output.Output.{Output};
 ghost use Rattle.apply_form.specs.Laws.{brackets, has_separator, without_secret};
 ghost use Rattle.apply_form.specs.Lines.{line_of, line_of_text, outputs_text};
 

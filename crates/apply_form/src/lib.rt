@@ -3,28 +3,22 @@
 #![tactic(auto)]
 
 mod cached_parts;
-mod change_details;
 mod escaping;
 mod form;
 mod form_buffer;
-mod importing;
+mod kept_members;
 mod laws;
 mod messages;
 mod moment;
+mod note_words;
 mod objects;
-mod output;
 mod outputs;
-mod plan_note;
-mod reason;
+mod planned;
 
-pub use change_details::ChangeDetails;
+pub use apply_model::{ChangeDetails, Importing, Note, Output, PreviousResource, Reason, Severity};
 pub use form::Form;
 pub use form_buffer::FormBuffer;
-pub use importing::Importing;
 pub use laws::{
     a_line_has_no_bracket, a_line_has_no_separator, a_line_has_one_line_feed,
     no_sensitive_value_is_told,
 };
-pub use output::Output;
-pub use plan_note::PlanNote;
-pub use reason::Reason;

@@ -10,16 +10,15 @@ ghost use Rattle.apply_form.specs.AppliedStep.{message_of};
 ghost use Rattle.apply_form.specs.Lines.{version_members};
 ghost use Rattle.apply_form.specs.Message.{end_id, noted_address, note_message, planned_message, summary_message, summary_words};
 
-use crate::change_details::ChangeDetails;
 use crate::moment::FineMoment;
+use crate::note_words::NoteWords;
 use crate::objects::change_object::put_change;
 use crate::objects::changes_object::put_changes;
 use crate::objects::diagnostic_object::put_diagnostic;
 use crate::objects::hook_object::put_hook;
 use crate::objects::provisioner_object::put_provisioner;
-use crate::plan_note::PlanNote;
 use apply_events::{Counts, What};
-use apply_model::{Change, StepKind};
+use apply_model::{Change, ChangeDetails, Note, StepKind};
 use apply_text::Operation;
 use apply_text::parts::{
     AppliedStep, DiagTexts, Elapsed, IdNote, StepWords, end_message, level, phase_words, put_text,
@@ -85,22 +84,23 @@ pub fn put_event(
     end_message(out, type_name(what))
 }
 
-/// Writes what is said of a plan as a whole.
+/// Writes a diagnostic of no step, but for its range and its snippet.
 pub fn put_note(
     out: &mut Writer,
     scratch: &mut String,
     moment: &FineMoment,
-    note: PlanNote,
+    note: &Note,
 ) -> Result<(), AllocError>
-    ensures { Sends result out.old out.new (message_tokens moment.now (note_message note)) }
+    ensures { Sends result out.old out.new (message_tokens moment.now (note_message note.now)) }
 {
-    let words = note.words();
+    let words = NoteWords::new(note.severity);
     let label = words.label;
-    let summary = words.summary;
+    let diag = DiagTexts::new(&note.diag);
+    let summary = diag.summary;
     scratch.clear();
     write!(scratch, "{label}: {summary}")?;
     begin_message(out, scratch, words.level, moment)?;
-    put_diagnostic(out, None, words.severity, summary, words.detail)?;
+    put_diagnostic(out, note.address(), words.severity, diag)?;
     end_message(out, "diagnostic")
 }
 
@@ -259,22 +259,16 @@ fn put_body(
             put_hook(out, change, kind, Some(seconds), told_id(step, planned))
         }
         What::Errored(seconds) => put_hook(out, change, kind, Some(seconds), None),
-        What::ErrorNote => {
-            let DiagTexts { summary, detail } = step.failure();
-            put_diagnostic(out, address_of(step), "error", summary, detail)
-        }
-        What::WarnNote => {
-            let DiagTexts { summary, detail } = step.warning();
-            put_diagnostic(out, address_of(step), "warning", summary, detail)
-        }
+        What::ErrorNote => put_diagnostic(out, address_of(step), "error", step.failure()),
+        What::WarnNote => put_diagnostic(out, address_of(step), "warning", step.warning()),
         What::Halted { phase, hook } => {
             let words = phase_words(phase);
             let action = StepWords::new(kind).action;
             scratch.clear();
             write!(scratch, "Hook {hook} answered Halt {words} {action}.")?;
-            let detail = scratch.as_str();
+            let halt = DiagTexts::of_halt(scratch.as_str());
             let address = Some(change.address());
-            put_diagnostic(out, address, "error", "execution halted", detail)
+            put_diagnostic(out, address, "error", halt)
         }
         What::ProvisionStart(number)
         | What::ProvisionComplete(number)

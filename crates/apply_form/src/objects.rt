@@ -4,6 +4,7 @@ pub mod change_object;
 pub mod changes_object;
 pub mod diagnostic_object;
 pub mod hook_object;
+pub mod previous_object;
 pub mod provisioner_object;
 pub mod resource_object;
 pub mod text_member;

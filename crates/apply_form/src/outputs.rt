@@ -9,7 +9,7 @@ ghost use Rattle.apply_form.specs.Outputs.{output_text, outputs_from, outputs_me
 
 use crate::escaping::push_escaped;
 use crate::moment::FineMoment;
-use crate::output::Output;
+use apply_model::Output;
 use json::Writer;
 use std::alloc::{AllocError, Global};
 

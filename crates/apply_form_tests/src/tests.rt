@@ -13,9 +13,11 @@ mod lines;
 mod outputs;
 
 use apply_events::{Event, LATEST, What};
-use apply_form::{ChangeDetails, FormBuffer, Importing, Output, PlanNote, Reason};
+use apply_form::{
+    ChangeDetails, FormBuffer, Importing, Note, Output, PreviousResource, Reason, Severity,
+};
 use apply_hooks::Phase;
-use apply_model::Text;
+use apply_model::{Diag, Key, Text};
 use apply_plan::{Plan, Script, read_plan, read_script};
 use apply_text::Start;
 use std::alloc::Global;

@@ -41,6 +41,7 @@ fn no_details(rt: &impl Abort, alloc: Global) -> &'static ChangeDetails {
         importing: None,
         generated_config: None,
         planned_id: None,
+        previous: None,
     };
     kept(rt, alloc, details)
 }
@@ -90,6 +91,7 @@ fn each_detail_has_its_place(rt: HostRuntime) {
         importing: Some(Importing { id: None }),
         generated_config: Some(text_of(&rt, alloc, "a = <b>\n")),
         planned_id: None,
+        previous: None,
     };
     let details = kept(&rt, alloc, details);
     let mut lines = FormBuffer::new(alloc);
@@ -102,11 +104,107 @@ const UNFINISHED: &str =
     r##"{"@level":"error","@message":"Error: Cannot apply incomplete plan","@module":"terraform.ui","@timestamp":"1970-01-01T00:00:00.000000Z","diagnostic":{"severity":"error","summary":"Cannot apply incomplete plan","detail":"Terraform encountered an error when generating this plan, so it cannot be applied."},"type":"diagnostic"}
 "##;
 
+/// Adds the line of a diagnostic of no step.
+fn push_note(rt: &impl Abort, lines: &mut FormBuffer, note: &Note) {
+    let pushed = lines.push_note(Start::zero(), 0, note);
+    pushed.ok().expect(rt, "memory");
+}
+
 /// A plan whose making ended with an error.
 #[test]
 fn an_unfinished_plan_is_told_of(rt: HostRuntime) {
-    let mut lines = FormBuffer::new(rt.alloc());
-    let pushed = lines.push_note(Start::zero(), 0, PlanNote::Unfinished);
-    pushed.ok().expect(&rt, "memory");
+    let alloc = rt.alloc();
+    let mut lines = FormBuffer::new(alloc);
+    let note = Note {
+        severity: Severity::Error,
+        diag: Diag {
+            summary: text_of(&rt, alloc, "Cannot apply incomplete plan"),
+            detail: text_of(
+                &rt,
+                alloc,
+                "Terraform encountered an error when generating this plan, so it cannot be applied.",
+            ),
+            range: None,
+            snippet: None,
+        },
+        address: None,
+    };
+    push_note(&rt, &mut lines, kept(&rt, alloc, note));
     compare(&rt, "a note", lines.as_bytes(), UNFINISHED);
+}
+
+const PLACED: &str =
+    r##"{"@level":"warn","@message":"Warning: \u003cno\u003e","@module":"terraform.ui","@timestamp":"1970-01-01T00:00:00.000000Z","diagnostic":{"severity":"warning","summary":"\u003cno\u003e","detail":"","address":"a.b","range":{"filename":"\u0026","b":1.50,"a":null},"snippet":{"code":"\u003e"}},"type":"diagnostic"}
+{"@level":"warn","@message":"Warning: \u003cno\u003e","@module":"terraform.ui","@timestamp":"1970-01-01T00:00:00.000000Z","diagnostic":{"severity":"warning","summary":"\u003cno\u003e","detail":"","snippet":{}},"type":"diagnostic"}
+{"@level":"warn","@message":"Warning: \u003cno\u003e","@module":"terraform.ui","@timestamp":"1970-01-01T00:00:00.000000Z","diagnostic":{"severity":"warning","summary":"\u003cno\u003e","detail":"","address":"a.b"},"type":"diagnostic"}
+"##;
+
+/// A warning of no step with an address, a range and a snippet, where it has them.
+fn placed(
+    rt: &impl Abort,
+    alloc: Global,
+    address: Option<&str>,
+    range: Option<&str>,
+    snippet: Option<&str>,
+) -> &'static Note {
+    let note = Note {
+        severity: Severity::Warning,
+        diag: Diag {
+            summary: text_of(rt, alloc, "<no>"),
+            detail: text_of(rt, alloc, ""),
+            range: Text::of_option(alloc, range).expect(rt, "memory"),
+            snippet: Text::of_option(alloc, snippet).expect(rt, "memory"),
+        },
+        address: Text::of_option(alloc, address).expect(rt, "memory"),
+    };
+    kept(rt, alloc, note)
+}
+
+/// What is kept of a diagnostic as text stands behind its address, and has escapes as the rest of the line.
+#[test]
+fn a_range_stands_before_a_snippet(rt: HostRuntime) {
+    let alloc = rt.alloc();
+    let mut lines = FormBuffer::new(alloc);
+    let range = Some(r##"{"filename":"&","b":1.50,"a":null}"##);
+    let snippet = Some(r##"{"code":">"}"##);
+    push_note(
+        &rt,
+        &mut lines,
+        placed(&rt, alloc, Some("a.b"), range, snippet),
+    );
+    push_note(&rt, &mut lines, placed(&rt, alloc, None, None, Some("{}")));
+    push_note(&rt, &mut lines, placed(&rt, alloc, Some("a.b"), None, None));
+    compare(&rt, "notes", lines.as_bytes(), PLACED);
+}
+
+const MOVED: &str =
+    r##"{"@level":"info","@message":"random_pet.animal: Plan to create","@module":"terraform.ui","@timestamp":"1970-01-01T00:00:00.000000Z","change":{"resource":{"addr":"random_pet.animal","module":"","resource":"random_pet.animal","implied_provider":"random","resource_type":"random_pet","resource_name":"animal","resource_key":null},"previous_resource":{"addr":"module.m.random_pet.a[7]","module":"module.m","resource":"random_pet.a[7]","implied_provider":"random","resource_type":"random_pet","resource_name":"a","resource_key":7},"action":"create","reason":"requested"},"type":"planned_change"}
+"##;
+
+/// The resource that an object was stands behind that which it is.
+#[test]
+fn a_moved_object_tells_what_it_was(rt: HostRuntime) {
+    let alloc = rt.alloc();
+    let plan = plan_of(&rt, alloc, ONE_CREATE);
+    holds(&rt, "a change", 0 < plan.len());
+    let details = ChangeDetails {
+        forgets: false,
+        reason: Some(Reason::Requested),
+        importing: None,
+        generated_config: None,
+        planned_id: None,
+        previous: Some(PreviousResource {
+            address: text_of(&rt, alloc, "module.m.random_pet.a[7]"),
+            module_address: text_of(&rt, alloc, "module.m"),
+            resource: text_of(&rt, alloc, "random_pet.a[7]"),
+            kind_name: text_of(&rt, alloc, "random_pet"),
+            name: text_of(&rt, alloc, "a"),
+            key: Key::Number(7),
+        }),
+    };
+    let details = kept(&rt, alloc, details);
+    let mut lines = FormBuffer::new(alloc);
+    let pushed = lines.push_planned(Start::zero(), plan.change(0), details);
+    pushed.ok().expect(&rt, "memory");
+    compare(&rt, "a planned change", lines.as_bytes(), MOVED);
 }

@@ -1,4 +1,6 @@
 use Rattle.std.proofs.Common.{codes, Some, ap, ◌∙◌}
+use Rattle.apply_text.specs.AppliedStep.{diag_view}
+use Rattle.apply_text.specs.Message.{halted_with}
 use Rattle.apply_text.specs.Sending.{member_tokens}
 use Rattle.apply_text.proofs.Sending.{said}
 use Rattle.apply_text.proofs.Texts.{cleared, halt_text}
@@ -9,5 +11,7 @@ pub returns-in_ok-write-in-Halted : goal.returns-in_ok-write-in-Halted
 returns-in_ok-write-in-Halted c =
     let step = c.args.step in
     let written = cleared _ _ _ c.clear.ensures.bytes c.in_ok-write-in-Halted.ensures.bytes in
-    let detail = c.as_str-detail.ensures.value ∙ written ∙ halt_text step.kind c.in-Halted.phase c.in-Halted.hook _ _ c.phase_words-words.ensures c.new.ensures.action in
-    rw c.in-Halted.is (said (ap (λ a. member_tokens (codes "diagnostic") (diagnostic_object (Some a) (codes "error") (record { summary = codes "execution halted"; detail = c.as_str-detail.result.now }))) c.address.ensures ∙ ap (λ d. member_tokens (codes "diagnostic") (diagnostic_object (Some step.change.now.address) (codes "error") (record { summary = codes "execution halted"; detail = d }))) detail) c.put_diagnostic-in-Halted.ensures)
+    let detail = c.as_str.ensures.value ∙ written ∙ halt_text step.kind c.in-Halted.phase c.in-Halted.hook _ _ c.phase_words-words.ensures c.new.ensures.action in
+    let halt = c.of_halt-halt.ensures ∙ ap halted_with detail in
+    rw c.in-Halted.is (said (ap (λ a. member_tokens (codes "diagnostic") (diagnostic_object (Some a) (codes "error") (diag_view c.of_halt-halt.result))) c.address.ensures
+    ∙ ap (λ d. member_tokens (codes "diagnostic") (diagnostic_object (Some step.change.now.address) (codes "error") d)) halt) c.put_diagnostic-in-Halted.ensures)

@@ -11,7 +11,8 @@ use Rattle.apply_form.proofs.objects.diagnostic_object.put_diagnostic.Goals as g
 pub returns : goal.returns
 unfolding diagnostic_object
 returns c =
-    said (ap (λ tokens. key (codes "diagnostic") ∷ begin_object ∷ (member_tokens (codes "severity") (string c.args.severity.now) ++ (member_tokens (codes "summary") (string c.args.summary.now) ++ (member_tokens (codes "detail") (string c.args.detail.now) ++ tokens)))) (text_first (codes "address") (option_copied c.args.address) no_members))
+    let diag = c.args.diag in
+    said (ap (λ tokens. key (codes "diagnostic") ∷ begin_object ∷ (member_tokens (codes "severity") (string c.args.severity.now) ++ (member_tokens (codes "summary") (string diag.summary.now) ++ (member_tokens (codes "detail") (string diag.detail.now) ++ tokens)))) (text_first (codes "address") (option_copied c.args.address) no_members))
     (then_one _ _ c.in_ok-key.ensures
     (then_one _ _ c.in_ok-begin_object.ensures
     (then _ _ c.in_ok-put_text.ensures
