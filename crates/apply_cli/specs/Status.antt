@@ -47,6 +47,7 @@ script_status_of (script.NoSuchStep n) = 2
 script_status_of (script.NeverBegins n) = 2
 script_status_of (script.BadOutput n) = 2
 script_status_of (script.UnknownOutput n) = 2
+script_status_of (script.BadDiagnostic n) = 2
 script_status_of script.Memory = 3
 
 abbrev pub refusal_status_of : Refusal → ℕ

@@ -7,7 +7,7 @@ use Rattle.std.specs.Option.{is_some}
 use Rattle.std.specs.Ordering.{ordering_reverse}
 use Rattle.serde_json.specs.Data.{Data, Members, no_members, member, put}
 use Rattle.serde_json.specs.Find.{get_member}
-use Rattle.apply_form.specs.declared.output.Output.{Output}
+use Rattle.apply_model.specs.declared.details.output.Output.{Output}
 use Rattle.apply_form_plan.specs.InOrder.{IsAscending, told_each, told_one}
 use Rattle.apply_form_plan.specs.Kept.{members_view, put_all, view}
 use Rattle.apply_form_plan.specs.Outputs.{as_outputs, beside, is_told, output_of}

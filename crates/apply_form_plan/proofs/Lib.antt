@@ -1,4 +1,5 @@
 mod ActionLists
+mod Arrays
 mod Beginnings
 mod Copying
 mod Documents
@@ -9,5 +10,6 @@ mod KeptTexts
 mod MapMembers
 mod MemberTurns
 mod Names
+mod Noted
 mod Seeking
 mod Trimmed

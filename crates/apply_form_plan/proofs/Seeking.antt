@@ -8,10 +8,10 @@ use Rattle.serde_json.specs.View as tree
 use Rattle.serde_json.proofs.Views.{get_member-put, get_member-put_other}
 use Rattle.apply_form_plan.specs.declared.kept.sought.Sought.{Sought}
 use Rattle.apply_form_plan.specs.declared.texts.part.Part.{Part}
-use Rattle.apply_form_plan.specs.declared.texts.part.Part.TheVariants.{Plan, State, Values, Script, Outputs, Output, OutputChanges, OutputChange, Text}
+use Rattle.apply_form_plan.specs.declared.texts.part.Part.TheVariants.{Plan, State, Values, Script, Diagnostics, Diagnostic, Outputs, Output, OutputChanges, OutputChange, Text}
 use Rattle.apply_form_plan.specs.Kept.{found_view}
 use Rattle.apply_form_plan.specs.Outputs.{member_in}
-use Rattle.apply_form_plan.specs.Sought.{IsSoughtIn, is_changes, outputs_in}
+use Rattle.apply_form_plan.specs.Sought.{IsSoughtIn, is_beside, outputs_in}
 use Rattle.apply_form_plan.specs.Texts.{members_with_texts, part_named, with_texts}
 
 -- ---- an object, and what is none
@@ -21,28 +21,34 @@ whole_object Plan ms found is = is
 whole_object State ms found is = is
 whole_object Values ms found is = is
 whole_object Script ms found is = is
+whole_object Diagnostics ms found is = is
+whole_object Diagnostic ms found is = is
 whole_object Outputs ms found is = is
 whole_object Output ms found is = is
 whole_object OutputChanges ms found is = is
 whole_object OutputChange ms found is = is
 whole_object Text ms found is = is
 
-pub nothing_in : (part : Part) (d : Data) (text : List ℕ) (found : Sought) → (part ≡ Outputs → ⊥) → d ≡ string text → found.outputs ≡ None → found.changes ≡ None → IsSoughtIn part d found
+pub nothing_in : (part : Part) (d : Data) (text : List ℕ) (found : Sought) → (part ≡ Outputs → ⊥) → d ≡ string text → found.outputs ≡ None → found.beside ≡ None → IsSoughtIn part d found
 nothing_in Plan d text found other is absent none = rw is (ap (option_map found_view) absent, ap (option_map tree.view) none)
 nothing_in State d text found other is absent none = rw is (ap (option_map found_view) absent, ap (option_map tree.view) none)
 nothing_in Values d text found other is absent none = rw is (ap (option_map found_view) absent, ap (option_map tree.view) none)
 nothing_in Script d text found other is absent none = rw is (ap (option_map found_view) absent, ap (option_map tree.view) none)
+nothing_in Diagnostics d text found other is absent none = (ap (option_map found_view) absent, ap (option_map tree.view) none)
+nothing_in Diagnostic d text found other is absent none = (ap (option_map found_view) absent, ap (option_map tree.view) none)
 nothing_in Outputs d text found other is absent none = absurd (other refl)
 nothing_in Output d text found other is absent none = (ap (option_map found_view) absent, ap (option_map tree.view) none)
 nothing_in OutputChanges d text found other is absent none = (ap (option_map found_view) absent, ap (option_map tree.view) none)
 nothing_in OutputChange d text found other is absent none = (ap (option_map found_view) absent, ap (option_map tree.view) none)
 nothing_in Text d text found other is absent none = (ap (option_map found_view) absent, ap (option_map tree.view) none)
 
-pub nothing_yet : (part : Part) (found : Sought) → (part ≡ Outputs → ⊥) → found.outputs ≡ None → found.changes ≡ None → IsSoughtIn part (object no_members) found
+pub nothing_yet : (part : Part) (found : Sought) → (part ≡ Outputs → ⊥) → found.outputs ≡ None → found.beside ≡ None → IsSoughtIn part (object no_members) found
 nothing_yet Plan found other absent none = (ap (option_map found_view) absent, ap (option_map tree.view) none)
 nothing_yet State found other absent none = (ap (option_map found_view) absent, ap (option_map tree.view) none)
 nothing_yet Values found other absent none = (ap (option_map found_view) absent, ap (option_map tree.view) none)
 nothing_yet Script found other absent none = (ap (option_map found_view) absent, ap (option_map tree.view) none)
+nothing_yet Diagnostics found other absent none = (ap (option_map found_view) absent, ap (option_map tree.view) none)
+nothing_yet Diagnostic found other absent none = (ap (option_map found_view) absent, ap (option_map tree.view) none)
 nothing_yet Outputs found other absent none = absurd (other refl)
 nothing_yet Output found other absent none = (ap (option_map found_view) absent, ap (option_map tree.view) none)
 nothing_yet OutputChanges found other absent none = (ap (option_map found_view) absent, ap (option_map tree.view) none)
@@ -50,17 +56,6 @@ nothing_yet OutputChange found other absent none = (ap (option_map found_view) a
 nothing_yet Text found other absent none = (ap (option_map found_view) absent, ap (option_map tree.view) none)
 
 -- ---- a member that goes in
-
-pub changes_are : (part : Part) → is_changes part ≡ true → part ≡ OutputChanges
-changes_are Plan is = absurd cc
-changes_are State is = absurd cc
-changes_are Values is = absurd cc
-changes_are Script is = absurd cc
-changes_are Outputs is = absurd cc
-changes_are Output is = absurd cc
-changes_are OutputChanges is = refl
-changes_are OutputChange is = absurd cc
-changes_are Text is = absurd cc
 
 -- it is found at its name, and the others stay
 pub at_name : (key name : List ℕ) (d : Data) (ms : Members) → bytes_eq name key ≡ true → get_member key (put name d ms) ≡ Some d
@@ -78,30 +73,44 @@ one_named true p q is = let same : q ≡ p = cc in (refl, same)
 one_named false p q is = absurd cc
 
 module _ (name : List ℕ) (d : Data) (ms : Members) (found new : Sought) where
-  -- what is planned of outputs
-  changes_of_plan : (b c : Bool) → bytes_eq name (codes "prior_state") ≡ b → bytes_eq name (codes "output_changes") ≡ c → Some OutputChanges ≡ (if b then Some State else if c then Some OutputChanges else None)
-      → IsSoughtIn Plan (object ms) found → new.outputs ≡ found.outputs → option_map tree.view new.changes ≡ Some d → IsSoughtIn Plan (object (put name d ms)) new
-  changes_of_plan true c first second is so_far same got = absurd cc
-  changes_of_plan false false first second is so_far same got = absurd cc
-  changes_of_plan false true first second is so_far same got = (
-    ap (option_map found_view) same ∙ so_far.0 ∙ ap (λ o. member_in (codes "outputs") (member_in (codes "values") o)) (sym (at_other (codes "prior_state") name d ms first)),
-    got ∙ sym (at_name (codes "output_changes") name d ms second),
-  )
+  -- what is looked for beside the outputs
+  module _ (inner : Part) (beside : is_beside inner ≡ true) (same : new.outputs ≡ found.outputs) (got : option_map tree.view new.beside ≡ Some d) where
+    never : {P : Type 0} (p : Part) → inner ≡ p → is_beside p ≡ false → P
+    never p is other = absurd (true≢false (sym beside ∙ ap is_beside is ∙ other))
 
-  pub with_changes : (part : Part) → Some OutputChanges ≡ part_named part name → IsSoughtIn part (object ms) found → new.outputs ≡ found.outputs → option_map tree.view new.changes ≡ Some d
-      → IsSoughtIn part (object (put name d ms)) new
-  with_changes Plan is so_far same got = changes_of_plan _ _ refl refl is so_far same got
-  with_changes State is so_far same got = let never : OutputChanges ≡ Values = (one_named _ Values OutputChanges is).1 in absurd cc
-  with_changes Values is so_far same got = let never : OutputChanges ≡ Outputs = (one_named _ Outputs OutputChanges is).1 in absurd cc
-  with_changes Script is so_far same got = let never : OutputChanges ≡ Outputs = (one_named _ Outputs OutputChanges is).1 in absurd cc
-  with_changes Outputs is so_far same got = absurd cc
-  with_changes Output is so_far same got = let never : OutputChanges ≡ Text = (one_named _ Text OutputChanges is).1 in absurd cc
-  with_changes OutputChanges is so_far same got = absurd cc
-  with_changes OutputChange is so_far same got = let never : OutputChanges ≡ Text = (one_named _ Text OutputChanges is).1 in absurd cc
-  with_changes Text is so_far same got = absurd cc
+    beside_of_plan : (b c : Bool) → bytes_eq name (codes "prior_state") ≡ b → bytes_eq name (codes "output_changes") ≡ c → Some inner ≡ (if b then Some State else if c then Some OutputChanges else None)
+        → IsSoughtIn Plan (object ms) found → IsSoughtIn Plan (object (put name d ms)) new
+    beside_of_plan true c first second is so_far = let state : inner ≡ State = cc in never State state refl
+    beside_of_plan false false first second is so_far = absurd cc
+    beside_of_plan false true first second is so_far = (
+      ap (option_map found_view) same ∙ so_far.0 ∙ ap (λ o. member_in (codes "outputs") (member_in (codes "values") o)) (sym (at_other (codes "prior_state") name d ms first)),
+      got ∙ sym (at_name (codes "output_changes") name d ms second),
+    )
+
+    beside_of_script : (b c : Bool) → bytes_eq name (codes "outputs") ≡ b → bytes_eq name (codes "diagnostics") ≡ c → Some inner ≡ (if b then Some Outputs else if c then Some Diagnostics else None)
+        → IsSoughtIn Script (object ms) found → IsSoughtIn Script (object (put name d ms)) new
+    beside_of_script true c first second is so_far = let outputs : inner ≡ Outputs = cc in never Outputs outputs refl
+    beside_of_script false false first second is so_far = absurd cc
+    beside_of_script false true first second is so_far = (
+      ap (option_map found_view) same ∙ so_far.0 ∙ sym (at_other (codes "outputs") name d ms first),
+      got ∙ sym (at_name (codes "diagnostics") name d ms second),
+    )
+
+    pub with_beside : (part : Part) → Some inner ≡ part_named part name → IsSoughtIn part (object ms) found → IsSoughtIn part (object (put name d ms)) new
+    with_beside Plan is so_far = beside_of_plan _ _ refl refl is so_far
+    with_beside State is so_far = never Values (one_named _ Values inner is).1 refl
+    with_beside Values is so_far = never Outputs (one_named _ Outputs inner is).1 refl
+    with_beside Script is so_far = beside_of_script _ _ refl refl is so_far
+    with_beside Diagnostics is so_far = absurd cc
+    with_beside Diagnostic is so_far = never Text (one_named _ Text inner is).1 refl
+    with_beside Outputs is so_far = let output : inner ≡ Output = cc in never Output output refl
+    with_beside Output is so_far = never Text (one_named _ Text inner is).1 refl
+    with_beside OutputChanges is so_far = let change : inner ≡ OutputChange = cc in never OutputChange change refl
+    with_beside OutputChange is so_far = never Text (one_named _ Text inner is).1 refl
+    with_beside Text is so_far = absurd cc
 
   -- a part that is looked into
-  module _ (inner : Part) (below : Sought) (other : is_changes inner ≡ false) (is_below : IsSoughtIn inner d below) (same : new.outputs ≡ below.outputs) (kept : new.changes ≡ found.changes) where
+  module _ (inner : Part) (below : Sought) (other : is_beside inner ≡ false) (is_below : IsSoughtIn inner d below) (same : new.outputs ≡ below.outputs) (kept : new.beside ≡ found.beside) where
     taken : (p : Part) → inner ≡ p → option_map found_view new.outputs ≡ outputs_in p d
     taken p is = ap (option_map found_view) same ∙ is_below.0 ∙ ap (λ p. outputs_in p d) is
 
@@ -112,8 +121,18 @@ module _ (name : List ℕ) (d : Data) (ms : Members) (found new : Sought) where
           taken State state ∙ ap (λ o. member_in (codes "outputs") (member_in (codes "values") o)) (sym (at_name (codes "prior_state") name d ms first)),
           ap (option_map tree.view) kept ∙ so_far.1 ∙ sym (at_other (codes "output_changes") name d ms (apart name (codes "prior_state") (codes "output_changes") first refl)),
         )
-    inner_of_plan false true first second is so_far = let changes : inner ≡ OutputChanges = cc in absurd (true≢false (sym (ap is_changes changes) ∙ other))
+    inner_of_plan false true first second is so_far = let changes : inner ≡ OutputChanges = cc in absurd (true≢false (sym (ap is_beside changes) ∙ other))
     inner_of_plan false false first second is so_far = absurd cc
+
+    inner_of_script : (b c : Bool) → bytes_eq name (codes "outputs") ≡ b → bytes_eq name (codes "diagnostics") ≡ c → Some inner ≡ (if b then Some Outputs else if c then Some Diagnostics else None)
+        → IsSoughtIn Script (object ms) found → IsSoughtIn Script (object (put name d ms)) new
+    inner_of_script true c first second is so_far =
+        let outputs : inner ≡ Outputs = cc in (
+          taken Outputs outputs ∙ sym (at_name (codes "outputs") name d ms first),
+          ap (option_map tree.view) kept ∙ so_far.1 ∙ sym (at_other (codes "diagnostics") name d ms (apart name (codes "outputs") (codes "diagnostics") first refl)),
+        )
+    inner_of_script false true first second is so_far = let diagnostics : inner ≡ Diagnostics = cc in absurd (true≢false (sym (ap is_beside diagnostics) ∙ other))
+    inner_of_script false false first second is so_far = absurd cc
 
     pub with_inner : (part : Part) → Some inner ≡ part_named part name → (part ≡ Outputs → ⊥) → IsSoughtIn part (object ms) found → IsSoughtIn part (object (put name d ms)) new
     with_inner Plan is whole so_far = inner_of_plan _ _ refl refl is so_far
@@ -121,7 +140,9 @@ module _ (name : List ℕ) (d : Data) (ms : Members) (found new : Sought) where
         let one = one_named _ Values inner is in
         (taken Values one.1 ∙ ap (member_in (codes "outputs")) (sym (at_name (codes "values") name d ms one.0)), ap (option_map tree.view) kept ∙ so_far.1)
     with_inner Values is whole so_far = let one = one_named _ Outputs inner is in (taken Outputs one.1 ∙ sym (at_name (codes "outputs") name d ms one.0), ap (option_map tree.view) kept ∙ so_far.1)
-    with_inner Script is whole so_far = let one = one_named _ Outputs inner is in (taken Outputs one.1 ∙ sym (at_name (codes "outputs") name d ms one.0), ap (option_map tree.view) kept ∙ so_far.1)
+    with_inner Script is whole so_far = inner_of_script _ _ refl refl is so_far
+    with_inner Diagnostics is whole so_far = absurd cc
+    with_inner Diagnostic is whole so_far = let one = one_named _ Text inner is in (taken Text one.1, ap (option_map tree.view) kept ∙ so_far.1)
     with_inner Outputs is whole so_far = absurd (whole refl)
     with_inner Output is whole so_far = let one = one_named _ Text inner is in (taken Text one.1, ap (option_map tree.view) kept ∙ so_far.1)
     with_inner OutputChanges is whole so_far = let one : inner ≡ OutputChange = cc in (taken OutputChange one, ap (option_map tree.view) kept ∙ so_far.1)

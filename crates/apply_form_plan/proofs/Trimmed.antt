@@ -94,7 +94,7 @@ same_planned_id (Some change) =
 
 pub same_details : (d : Data) → element_details (trimmed details_selection shape.Element d) ≡ element_details d
 same_details d =
-    rw (member_trimmed details_selection shape.Element shape.Change (codes "change") d refl, non_empty_text_trimmed details_selection shape.Element shape.Scalar (codes "action_reason") d refl, same_forgets (member_of (codes "change") d), same_importing (member_of (codes "change") d), same_config (member_of (codes "change") d), same_planned_id (member_of (codes "change") d))
+    rw (member_trimmed details_selection shape.Element shape.Change (codes "change") d refl, non_empty_text_trimmed details_selection shape.Element shape.Scalar (codes "action_reason") d refl, non_empty_text_trimmed details_selection shape.Element shape.Scalar (codes "previous_address") d refl, same_forgets (member_of (codes "change") d), same_importing (member_of (codes "change") d), same_config (member_of (codes "change") d), same_planned_id (member_of (codes "change") d))
     refl
 
 abbrev all_items : Items → Items

@@ -4,7 +4,7 @@ use Rattle.std.specs.Option.{option_map_or}
 use Rattle.serde_json.specs.Data.{Data, Items}
 use Rattle.serde_json.specs.Find.{as_array}
 use Rattle.apply_json.specs.Tree.{◌>>=◌, list_of, member_of}
-use Rattle.apply_form.specs.declared.change_details.ChangeDetails.{ChangeDetails}
+use Rattle.apply_model.specs.declared.details.change_details.ChangeDetails.{ChangeDetails}
 use Rattle.apply_form_plan.specs.Details.{element_details}
 
 -- the array `resource_changes`

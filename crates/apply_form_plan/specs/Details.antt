@@ -3,13 +3,16 @@
 use Rattle.std.specs.Prelude.{ℕ, List, codes, Bool, true, false, ◌||◌, if◌then◌else◌, Option, Some, None, option_map}
 use Rattle.std.specs.Option.{option_map_or}
 use Rattle.std.specs.Str.{bytes_eq}
+use Rattle.apply_address.specs.Parts.{Parts}
+use Rattle.apply_address.specs.Reading.{parts_in}
 use Rattle.serde_json.specs.Data.{Data, null, boolean, number, string, array, object, Items, no_items, item}
 use Rattle.serde_json.specs.Find.{as_array, as_bool}
 use Rattle.apply_json.specs.Tree.{◌>>=◌, is_word, member_of, non_empty_text_of}
-use Rattle.apply_form.specs.declared.change_details.ChangeDetails.{ChangeDetails}
-use Rattle.apply_form.specs.declared.importing.Importing.{Importing}
-use Rattle.apply_form.specs.declared.reason.Reason.{Reason}
-use Rattle.apply_form.specs.declared.reason.Reason.TheVariants.{CannotUpdate, Tainted, Requested, ReplaceTriggeredBy, DeleteBecauseNoResourceConfig, DeleteBecauseWrongRepetition, DeleteBecauseCountIndex, DeleteBecauseEachKey, DeleteBecauseNoModule, DeleteBecauseNoMoveTarget, ReadBecauseConfigUnknown, ReadBecauseDependencyPending, ReadBecauseCheckNested, Unknown}
+use Rattle.apply_model.specs.declared.details.change_details.ChangeDetails.{ChangeDetails}
+use Rattle.apply_model.specs.declared.details.importing.Importing.{Importing}
+use Rattle.apply_model.specs.declared.details.previous_resource.PreviousResource.{PreviousResource}
+use Rattle.apply_model.specs.declared.details.reason.Reason.{Reason}
+use Rattle.apply_model.specs.declared.details.reason.Reason.TheVariants.{CannotUpdate, Tainted, Requested, ReplaceTriggeredBy, DeleteBecauseNoResourceConfig, DeleteBecauseWrongRepetition, DeleteBecauseCountIndex, DeleteBecauseEachKey, DeleteBecauseNoModule, DeleteBecauseNoMoveTarget, ReadBecauseConfigUnknown, ReadBecauseDependencyPending, ReadBecauseCheckNested, Unknown}
 
 -- the reason that a plan gives in that word
 abbrev pub reason_named : List ℕ → Reason
@@ -85,6 +88,23 @@ forgets_in change = option_map_or is_forgetting (actions_in change) false
 abbrev pub reason_of : Data → Option Reason
 reason_of d = option_map reason_named (non_empty_text_of (codes "action_reason") d)
 
+-- the resource that the object was before it was moved: where the text is an address, by its parts
+abbrev pub with_parts : (address : List ℕ) → Parts → PreviousResource
+with_parts address parts = record {
+  address = address;
+  module_address = parts.module_address;
+  resource = parts.resource;
+  kind_name = parts.kind_name;
+  name = parts.name;
+  key = parts.key;
+}
+
+abbrev pub previous_at : (address : List ℕ) → Option PreviousResource
+previous_at address = option_map (with_parts address) (parts_in address)
+
+abbrev pub previous_of : Data → Option PreviousResource
+previous_of d = non_empty_text_of (codes "previous_address") d >>= previous_at
+
 -- what an element says
 abbrev pub element_details : Data → ChangeDetails
 element_details d = record {
@@ -93,4 +113,5 @@ element_details d = record {
   importing = importing_of (imported_in (member_of (codes "change") d));
   generated_config = config_in (member_of (codes "change") d);
   planned_id = planned_id_in (member_of (codes "change") d);
+  previous = previous_of d;
 }

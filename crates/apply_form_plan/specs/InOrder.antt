@@ -8,7 +8,7 @@ use Rattle.std.specs.Cmp.Lexicographic.{slice_cmp}
 use Rattle.std.specs.Option.{unwrap_or}
 use Rattle.std.specs.Ordering.{nat_cmp}
 use Rattle.serde_json.specs.Data.{Data}
-use Rattle.apply_form.specs.declared.output.Output.{Output}
+use Rattle.apply_model.specs.declared.details.output.Output.{Output}
 use Rattle.apply_form_plan.specs.declared.kept.kept_output.KeptOutput.{KeptOutput}
 use Rattle.apply_form_plan.specs.Kept.{view}
 use Rattle.apply_form_plan.specs.Outputs.{OutputsOfPlan, is_told, knows, output_of}

@@ -1,7 +1,9 @@
 pub mod Changes
 pub mod Details
+pub mod Extras
 pub mod InOrder
 pub mod Kept
+pub mod Notes
 pub mod Outputs
 pub mod Plan
 pub mod Selection

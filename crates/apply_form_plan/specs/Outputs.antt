@@ -3,19 +3,16 @@
 use Rattle.std.specs.Prelude.{ℕ, suc, List, [], ◌∷◌, codes, Bool, true, false, not, ◌&&◌, ◌||◌, if◌then◌else◌, Option, Some, None, Result, Ok, Err, option_map}
 use Rattle.std.specs.Option.{is_some, option_map_or, unwrap_or}
 use Rattle.std.specs.Str.{bytes_eq}
-use Rattle.json.specs.Json.{Json}
 use Rattle.serde_json.specs.Data.{Data, Members, no_members, member, put}
 use Rattle.serde_json.specs.Find.{as_object, as_str, get, get_member}
 use Rattle.serde_json.specs.View.{view}
 use Rattle.apply_json.specs.Tree.{◌>>=◌}
 use Rattle.apply_plan.specs.declared.script.script_error.ScriptError.{ScriptError}
-use Rattle.apply_plan.specs.declared.script.script_error.ScriptError.TheVariants.{BadOutput, BadShape, NotJson, UnknownOutput}
+use Rattle.apply_plan.specs.declared.script.script_error.ScriptError.TheVariants.{BadOutput, BadShape, UnknownOutput}
 use Rattle.apply_plan.specs.Results as results
-use Rattle.apply_form.specs.declared.output.Output.{Output}
+use Rattle.apply_model.specs.declared.details.output.Output.{Output}
 use Rattle.apply_form_plan.specs.declared.plan_outputs.PlanOutputs.{PlanOutputs}
-use Rattle.apply_form_plan.specs.declared.texts.part.Part.TheVariants as part
 use Rattle.apply_form_plan.specs.Kept.{put_all}
-use Rattle.apply_form_plan.specs.Texts.{json_of, with_texts}
 
 -- a member that is kept as text
 abbrev pub text_at : List ℕ → Data → Option (List ℕ)
@@ -122,18 +119,6 @@ outputs_in_script (Some outputs) =
 abbrev pub unless_faulty : OutputsOfPlan → Result Members ScriptError → Result Members ScriptError
 unless_faulty plan (Ok outputs) = results.unless_refused (fault_of plan 0 outputs) outputs
 unless_faulty plan (Err refusal) = Err refusal
-
--- a script's outputs, or the first refusal
-abbrev pub outputs_of_script : OutputsOfPlan → Data → Result Members ScriptError
-outputs_of_script plan script = unless_faulty plan (outputs_in_script (get (codes "outputs") script))
-
-abbrev pub outputs_of_json : OutputsOfPlan → Option Json → Result Members ScriptError
-outputs_of_json plan None = Err NotJson
-outputs_of_json plan (Some j) = outputs_of_script plan (with_texts part.Script j)
-
--- the same, of the bytes
-abbrev pub outputs_of_bytes : OutputsOfPlan → List ℕ → Result Members ScriptError
-outputs_of_bytes plan bytes = outputs_of_json plan (json_of bytes)
 
 -- ---- what is told
 

@@ -2,8 +2,8 @@
 use Rattle.std.specs.Prelude.{codes, Bool, true, false, if◌then◌else◌, Option, Some, None}
 use Rattle.serde_json.specs.Data.{Data}
 use Rattle.apply_json.specs.Tree.{member_of}
-use Rattle.apply_form.specs.declared.plan_note.PlanNote.{PlanNote}
-use Rattle.apply_form.specs.declared.plan_note.PlanNote.TheVariants.{Partial, Unfinished}
+use Rattle.apply_form_plan.specs.declared.told_of_plan.PlanNote.{PlanNote}
+use Rattle.apply_form_plan.specs.declared.told_of_plan.PlanNote.TheVariants.{Partial, Unfinished}
 use Rattle.apply_form_plan.specs.Details.{is_flag}
 
 -- its making ended with an error

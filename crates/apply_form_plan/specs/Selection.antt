@@ -13,7 +13,7 @@ member_shape Plan name =
     else None
 member_shape Element name =
     if bytes_eq name (codes "change") then Some Change
-    else if bytes_eq name (codes "action_reason") then Some Scalar
+    else if bytes_eq name (codes "action_reason") || bytes_eq name (codes "previous_address") then Some Scalar
     else None
 member_shape Change name =
     if bytes_eq name (codes "actions") then Some Actions

@@ -10,7 +10,13 @@ use Rattle.json.specs.Tree.{json_tokens}
 use Rattle.serde_json.specs.Data.{Data, string, object, Members, no_members, put}
 use Rattle.serde_json.specs.Read.{max_depth}
 use Rattle.apply_form_plan.specs.declared.texts.part.Part.{Part}
-use Rattle.apply_form_plan.specs.declared.texts.part.Part.TheVariants.{Plan, State, Values, Script, Outputs, Output, OutputChanges, OutputChange, Text}
+use Rattle.apply_form_plan.specs.declared.texts.part.Part.TheVariants.{Plan, State, Values, Script, Diagnostics, Diagnostic, Outputs, Output, OutputChanges, OutputChange, Text}
+
+-- a diagnostic has a member of that name
+abbrev pub is_of_diagnostic : List ℕ → Bool
+is_of_diagnostic name =
+    bytes_eq name (codes "severity") || (bytes_eq name (codes "summary") || (bytes_eq name (codes "detail")
+    || (bytes_eq name (codes "address") || (bytes_eq name (codes "range") || bytes_eq name (codes "snippet")))))
 
 -- what the member of that name is; none where it is passed over
 abbrev pub part_named : Part → List ℕ → Option Part
@@ -20,7 +26,12 @@ part_named Plan name =
     else None
 part_named State name = if bytes_eq name (codes "values") then Some Values else None
 part_named Values name = if bytes_eq name (codes "outputs") then Some Outputs else None
-part_named Script name = if bytes_eq name (codes "outputs") then Some Outputs else None
+part_named Script name =
+    if bytes_eq name (codes "outputs") then Some Outputs
+    else if bytes_eq name (codes "diagnostics") then Some Diagnostics
+    else None
+part_named Diagnostics name = None
+part_named Diagnostic name = if is_of_diagnostic name then Some Text else None
 part_named Outputs name = Some Output
 part_named Output name =
     if bytes_eq name (codes "sensitive") || (bytes_eq name (codes "type") || bytes_eq name (codes "value")) then Some Text else None
@@ -34,6 +45,8 @@ is_text Plan = false
 is_text State = false
 is_text Values = false
 is_text Script = false
+is_text Diagnostics = true
+is_text Diagnostic = false
 is_text Outputs = false
 is_text Output = false
 is_text OutputChanges = false

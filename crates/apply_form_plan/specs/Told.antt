@@ -2,8 +2,8 @@
 use Rattle.std.specs.Prelude.{ℕ, List, Option, Some}
 use Rattle.serde_json.specs.Read.{of_json}
 use Rattle.apply_json.specs.Tree.{◌>>=◌}
-use Rattle.apply_form.specs.declared.change_details.ChangeDetails.{ChangeDetails}
-use Rattle.apply_form.specs.declared.plan_note.PlanNote.{PlanNote}
+use Rattle.apply_model.specs.declared.details.change_details.ChangeDetails.{ChangeDetails}
+use Rattle.apply_form_plan.specs.declared.told_of_plan.PlanNote.{PlanNote}
 use Rattle.apply_form_plan.specs.declared.details.Details.{Details}
 use Rattle.apply_form_plan.specs.declared.texts.part.Part.TheVariants as part
 use Rattle.apply_form_plan.specs.Changes.{changes_of}

@@ -76,7 +76,7 @@ fn member_of_element(name: &str) -> Option<DetailsShape>
 {
     if name == "change" {
         Some(DetailsShape::Change)
-    } else if name == "action_reason" {
+    } else if name == "action_reason" || name == "previous_address" {
         Some(DetailsShape::Scalar)
     } else {
         None

@@ -3,14 +3,15 @@
 ghost use Rattle.std.specs.Prelude.{◌≡◌, IfOk, option_map};
 ghost use Rattle.std.specs.Option.{option_copied};
 ghost use Rattle.serde_json.specs.View.{view, items_view};
+ghost use Rattle.apply_address.specs.Parts.{parts_view};
 ghost use Rattle.apply_form_plan.specs.Details as specs;
 ghost use Rattle.apply_form_plan.specs.Details.{element_details};
 
 use crate::flags::says;
 use crate::reasons::reason_named;
-use apply_form::{ChangeDetails, Importing, Reason};
+use apply_address::{AddressParts, parts_of};
 use apply_json::members::{is_text, member, non_empty_text_member};
-use apply_model::Text;
+use apply_model::{ChangeDetails, Importing, PreviousResource, Reason, Text};
 use serde_json::Value;
 use std::alloc::{AllocError, Global};
 
@@ -25,6 +26,7 @@ pub fn change_details(alloc: Global, element: &Value) -> Result<ChangeDetails, A
         importing: importing(alloc, change)?,
         generated_config: Text::of_option(alloc, generated_config(change))?,
         planned_id: Text::of_option(alloc, planned_id(change))?,
+        previous: previous(alloc, element)?,
     })
 }
 
@@ -117,4 +119,54 @@ fn hides(sensitive: Option<&Value>) -> bool
         Some(value) => says(Some(value), true) || says(member(value, "id"), true),
         None => false,
     }
+}
+
+/// The resource that the object was before it was moved, with copies of its parts. `Err` where memory is refused.
+fn previous(alloc: Global, element: &Value) -> Result<Option<PreviousResource>, AllocError>
+    ensures { IfOk result (λ found. found ≡ specs.previous_of (view element.now)) }
+{
+    match non_empty_text_member(element, "previous_address") {
+        Some(address) => previous_at(alloc, address),
+        None => Ok(None),
+    }
+}
+
+/// The resource with that address. `None` where it is no address.
+fn previous_at(alloc: Global, address: &str) -> Result<Option<PreviousResource>, AllocError>
+    ensures { IfOk result (λ found. found ≡ specs.previous_at address.now) }
+{
+    match parts_of(alloc, address) {
+        Ok(Some(parts)) => match copied(alloc, address, parts) {
+            Ok(previous) => Ok(Some(previous)),
+            Err(refused) => Err(refused),
+        },
+        Ok(None) => Ok(None),
+        Err(refused) => Err(refused),
+    }
+}
+
+/// The resource with that address, of which these are the parts.
+fn copied(
+    alloc: Global,
+    address: &str,
+    parts: AddressParts<'_>,
+) -> Result<PreviousResource, AllocError>
+    ensures { IfOk result
+        (λ previous. previous ≡ specs.with_parts address.now (parts_view parts.entry)) }
+{
+    let AddressParts {
+        module_address,
+        resource,
+        kind_name,
+        name,
+        key,
+    } = parts;
+    Ok(PreviousResource {
+        address: Text::new(alloc, address)?,
+        module_address: Text::new(alloc, module_address)?,
+        resource: Text::new(alloc, resource)?,
+        kind_name: Text::new(alloc, kind_name)?,
+        name: Text::new(alloc, name)?,
+        key,
+    })
 }

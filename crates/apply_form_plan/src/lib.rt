@@ -16,9 +16,11 @@ mod plan_details;
 mod plan_outputs;
 mod reading;
 mod reasons;
+mod script_notes;
 mod script_outputs;
 mod telling;
 mod texts;
+mod told_of_plan;
 
 pub use changes::read_plan_details;
 pub use details::Details;
@@ -30,4 +32,5 @@ pub use plan_outputs::PlanOutputs;
 pub use reading::read_details;
 pub use reasons::reason_named;
 pub use script_outputs::read_extras;
-pub use telling::told_outputs;
+pub use telling::{told_notes, told_outputs};
+pub use told_of_plan::PlanNote;

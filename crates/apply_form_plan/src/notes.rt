@@ -5,7 +5,7 @@ ghost use Rattle.serde_json.specs.View.{view};
 ghost use Rattle.apply_form_plan.specs.Plan as plans;
 
 use crate::flags::says;
-use apply_form::PlanNote;
+use crate::told_of_plan::PlanNote;
 use apply_json::members::member;
 use serde_json::Value;
 

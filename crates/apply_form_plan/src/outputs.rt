@@ -6,8 +6,7 @@ ghost use Rattle.apply_form_plan.specs.Kept.{view};
 ghost use Rattle.apply_form_plan.specs.Outputs as outputs;
 
 use crate::kept::kept_output::KeptOutput;
-use apply_form::Output;
-use apply_model::Text;
+use apply_model::{Output, Text};
 use std::alloc::{AllocError, Global};
 
 /// Whether there is a text, and it is that word.

@@ -1,6 +1,7 @@
 //! What only Terraform's form tells of a whole plan.
 
-use apply_form::{ChangeDetails, PlanNote};
+use crate::told_of_plan::PlanNote;
+use apply_model::ChangeDetails;
 
 /// What a plan says for Terraform's form alone.
 #[derive(Debug, Drop)]

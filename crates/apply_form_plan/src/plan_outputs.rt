@@ -36,13 +36,13 @@ impl PlanOutputs {
     pub(crate) fn of(alloc: Global, sought: Sought) -> PlanOutputs
         ensures { seen_outputs result ≡ record {
           known = members_or_none (option_map found_view sought.outputs);
-          changes = option_map view sought.changes;
+          changes = option_map view sought.beside;
         } }
     {
-        let Sought { outputs, changes } = sought;
+        let Sought { outputs, beside } = sought;
         PlanOutputs {
             known: known_of(alloc, outputs),
-            changes,
+            changes: beside,
         }
     }
 

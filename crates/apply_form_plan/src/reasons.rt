@@ -3,7 +3,7 @@
 ghost use Rattle.std.specs.Prelude.{◌≡◌};
 ghost use Rattle.apply_form_plan.specs.Details as details;
 
-use apply_form::Reason;
+use apply_model::Reason;
 
 /// The reason that a plan gives in that word; `Unknown` for any other word.
 pub fn reason_named(word: &str) -> Reason

@@ -2,10 +2,12 @@
 
 ghost use Rattle.std.specs.Prelude.{◌≡◌, Err, IfOk, None, Some, option_map};
 ghost use Rattle.json.specs.Json.{Json};
+ghost use Rattle.serde_json.specs.View.{view};
 ghost use Rattle.apply_plan.specs.Results.{Gives};
+ghost use Rattle.apply_form_plan.specs.Extras.{extras_found, extras_of_bytes, seen_extras};
 ghost use Rattle.apply_form_plan.specs.InOrder.{KnowsAs};
 ghost use Rattle.apply_form_plan.specs.Kept.{found_view, members_view};
-ghost use Rattle.apply_form_plan.specs.Outputs.{fault_of, outputs_in_script, outputs_of_bytes, seen_outputs, unless_faulty};
+ghost use Rattle.apply_form_plan.specs.Outputs.{fault_of, outputs_in_script, seen_outputs, unless_faulty};
 ghost use Rattle.apply_form_plan.specs.Sought.{IsSoughtIn};
 ghost use Rattle.apply_form_plan.specs.Texts.{json_of, with_texts};
 ghost use Rattle.apply_form_plan.specs.declared.texts.part.Part.TheVariants as part;
@@ -17,28 +19,31 @@ use crate::kept::kept_output::KeptOutput;
 use crate::kept::sought::Sought;
 use crate::outputs::{is_output, is_that};
 use crate::plan_outputs::PlanOutputs;
+use crate::script_notes::notes_in;
 use crate::texts::part::Part;
 use crate::texts::seeking::read_sought;
 use apply_json::{ReadFault, Scratch};
 use apply_plan::ScriptError;
-use serde_json::Map;
+use serde_json::{Map, Value};
 use std::alloc::{AllocError, Global};
 use std::collections::BTreeMap;
 
 /// What a script says for Terraform's form alone: its `outputs`, an object whose members are outputs of the plan by their
-/// names, each an object with `type`, and with `value` and `sensitive` where it has them. What `terraform output -json`
-/// prints is one.
+/// names, each an object with `type`, and with `value` and `sensitive` where it has them, as `terraform output -json` prints
+/// them; and its `diagnostics`, an array of diagnostics of no step, each an object with `severity` and `summary`, and with
+/// `detail`, `address`, `range` and `snippet` where it has them, as a stream has them.
 ///
 /// It is meant for bytes that `apply_plan::read_script` took for a script. `Err` with `ScriptError::NotJson` where they are no
 /// JSON (RFC 8259) in UTF-8, or nest more than 127 deep; with `ScriptError::BadShape` where `outputs` is no object; with
 /// `ScriptError::BadOutput` or `ScriptError::UnknownOutput` of the first output, in the order of the names' bytes, that has a
-/// fault; with `ScriptError::Memory` where memory is refused.
+/// fault; with `ScriptError::BadShape` where `diagnostics` is no array; with `ScriptError::BadDiagnostic` of the first
+/// diagnostic that has a fault; with `ScriptError::Memory` where memory is refused.
 pub fn read_extras(alloc: Global, bytes: &[u8], plan: &PlanOutputs) -> Result<Extras, ScriptError>
-    ensures { Gives ScriptError.Memory (λ extras. members_view extras.outputs.entries) result
-        (outputs_of_bytes (seen_outputs plan.now) bytes.now) }
+    ensures { Gives ScriptError.Memory seen_extras result
+        (extras_of_bytes (seen_outputs plan.now) bytes.now) }
 {
     match read_script(alloc, bytes) {
-        Ok(Sought { outputs, .. }) => extras_of(alloc, outputs, plan),
+        Ok(Sought { outputs, beside }) => extras_of(alloc, outputs, beside, plan),
         Err(ReadFault::NotJson) => Err(ScriptError::NotJson),
         Err(ReadFault::Memory) => Err(ScriptError::Memory),
     }
@@ -54,19 +59,38 @@ fn read_script(alloc: Global, bytes: &[u8]) -> Result<Sought, ReadFault>
     read_sought(alloc, &mut scratch, bytes, Part::Script)
 }
 
-/// What the script says, in which that was found.
+/// What the script says, in which these were found.
 fn extras_of(
+    alloc: Global,
+    outputs: Option<FoundOutputs>,
+    diagnostics: Option<Value>,
+    plan: &PlanOutputs,
+) -> Result<Extras, ScriptError>
+    ensures { Gives ScriptError.Memory seen_extras result
+        (extras_found (seen_outputs plan.now) (option_map found_view outputs) (option_map view diagnostics)) }
+{
+    match checked_outputs(alloc, outputs, plan) {
+        Ok(outputs) => match notes_in(alloc, diagnostics.as_ref()) {
+            Ok(notes) => Ok(Extras { outputs, notes }),
+            Err(fault) => Err(fault),
+        },
+        Err(fault) => Err(fault),
+    }
+}
+
+/// The outputs of the script, in which that was found, where they have no fault.
+fn checked_outputs(
     alloc: Global,
     found: Option<FoundOutputs>,
     plan: &PlanOutputs,
-) -> Result<Extras, ScriptError>
-    ensures { Gives ScriptError.Memory (λ extras. members_view extras.outputs.entries) result
+) -> Result<Map<String, KeptOutput>, ScriptError>
+    ensures { Gives ScriptError.Memory (λ outputs. members_view outputs.entries) result
         (unless_faulty (seen_outputs plan.now) (outputs_in_script (option_map found_view found))) }
 {
     match outputs_in(alloc, found) {
         Ok(outputs) => match fault(alloc, &outputs, plan) {
             Ok(Some(fault)) => Err(fault),
-            Ok(None) => Ok(Extras { outputs }),
+            Ok(None) => Ok(outputs),
             Err(_) => Err(ScriptError::Memory),
         },
         Err(fault) => Err(fault),

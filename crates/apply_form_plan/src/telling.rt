@@ -5,6 +5,7 @@ ghost use Rattle.serde_json.specs.View.{view};
 ghost use Rattle.apply_form_plan.specs.InOrder.{IsAscending, told_each, told_one};
 ghost use Rattle.apply_form_plan.specs.Kept as kept;
 ghost use Rattle.apply_form_plan.specs.Kept.{members_view};
+ghost use Rattle.apply_form_plan.specs.Notes as said;
 ghost use Rattle.apply_form_plan.specs.Outputs as told;
 ghost use Rattle.apply_form_plan.specs.Outputs.{seen_outputs};
 
@@ -14,7 +15,8 @@ use crate::kept::kept_output::KeptOutput;
 use crate::output_changes::is_told;
 use crate::outputs::output_of;
 use crate::plan_outputs::PlanOutputs;
-use apply_form::Output;
+use crate::told_of_plan::PlanNote;
+use apply_model::{Note, Output};
 use serde_json::{Map, Value};
 use std::alloc::{AllocError, Global};
 
@@ -36,6 +38,30 @@ pub fn told_outputs(
     let known = by_name(alloc, known)?;
     let found = beside(known, changes.as_ref(), script.outputs)?;
     as_outputs(alloc, found)
+}
+
+/// The diagnostics of no step that are told, in their order: those of the script and then what is said of the plan as a whole;
+/// of a plan whose making ended with an error that alone. `Err` where memory is refused.
+pub fn told_notes(
+    alloc: Global,
+    plan: Option<PlanNote>,
+    script: Vec<Note>,
+) -> Result<Vec<Note>, AllocError>
+    ensures { IfOk result (λ notes. notes.items ≡ said.told_notes plan script.items) }
+{
+    match plan {
+        None => Ok(script),
+        Some(PlanNote::Partial) => {
+            let mut notes = script;
+            notes.push(PlanNote::Partial.note(alloc)?)?;
+            Ok(notes)
+        }
+        Some(PlanNote::Unfinished) => {
+            let mut notes = Vec::new(alloc);
+            notes.push(PlanNote::Unfinished.note(alloc)?)?;
+            Ok(notes)
+        }
+    }
 }
 
 /// Whether each name is below the next, as it is in what Terraform writes.

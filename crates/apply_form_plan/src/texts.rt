@@ -2,6 +2,7 @@
 
 mod beginning;
 mod copying;
+pub mod items;
 mod outputs;
 pub mod part;
 mod reading;

@@ -1,9 +1,8 @@
 //! What no clause says: that the definitions are the ones that were meant, and that calls succeed with ample memory.
 
-use apply_form::{ChangeDetails, Importing, PlanNote};
-use apply_form_plan::{change_details, is_errored, is_partial, plan_note};
+use apply_form_plan::{PlanNote, change_details, is_errored, is_partial, plan_note, told_notes};
 use apply_json::parse;
-use apply_model::Text;
+use apply_model::{ChangeDetails, Importing, Key, Note, PreviousResource, Severity, Text};
 use serde_json::Value;
 use std::alloc::Global;
 use std::process::Abort;
@@ -134,4 +133,97 @@ fn one_thing_is_said_of_a_plan(rt: HostRuntime) {
         assert!(rt; is_errored(plan) == (wanted == "unfinished"), "at {row}");
         assert!(rt; is_partial(plan) == (wanted == "partial"), "at {row}");
     }
+}
+
+/// Where objects were before, in the members of an element, and what is told of each: the module, the resource, the provider,
+/// the type, the name and the key.
+const MOVED: &str = r#"{} => -
+{"previous_address":5} => -
+{"previous_address":null} => -
+{"previous_address":""} => -
+{"previous_address":"a.b"} => |a.b|a|a|b|-
+{"address":"a_c.b","previous_address":"a_c.b"} => |a_c.b|a|a_c|b|-
+{"previous_address":"data.a_c.b[7]"} => |data.a_c.b[7]|a|a_c|b|7
+{"previous_address":"module.m.a.b"} => module.m|a.b|a|a|b|-
+{"previous_address":"module.old[\"x.y\"].module.in[0].aws_instance.web[\"k\\\"1$${z}\"]"} => module.old["x.y"].module.in[0]|aws_instance.web["k\"1$${z}"]|aws|aws_instance|web|k"1${z}
+{"previous_address":"a.b[\"\\x\"]"} => -
+{"previous_address":"a.b[\"x\"y\"]"} => -
+{"previous_address":"a.b[00]"} => -
+{"previous_address":"a"} => -
+{"previous_address":"module.m.a.b.c"} => -
+{"previous_address":"a.b[9223372036854775808]"} => -"#;
+
+/// The parts of where an object was, in one row.
+fn shown_previous(
+    rt: &impl Abort,
+    alloc: Global,
+    previous: Option<&PreviousResource>,
+) -> &'static str {
+    let Some(previous) = previous else {
+        return "-";
+    };
+    let module = previous.module_address.as_str();
+    let resource = previous.resource.as_str();
+    let provider = previous.provider();
+    let kind = previous.kind_name.as_str();
+    let name = previous.name.as_str();
+    let row = match &previous.key {
+        Key::None => format!(in alloc; "{module}|{resource}|{provider}|{kind}|{name}|-"),
+        Key::Number(key) => format!(in alloc; "{module}|{resource}|{provider}|{kind}|{name}|{key}"),
+        Key::Name(key) => {
+            let key = key.as_str();
+            format!(in alloc; "{module}|{resource}|{provider}|{kind}|{name}|{key}")
+        }
+    };
+    kept(rt, alloc, row.expect(rt, "memory")).as_str()
+}
+
+#[test]
+fn an_address_from_before_is_taken_apart(rt: HostRuntime) {
+    let alloc = rt.alloc();
+    for row in MOVED.lines() {
+        let (element, wanted) = parted(&rt, row, " => ");
+        let details = change_details(alloc, tree_of(&rt, alloc, element));
+        let details = kept(&rt, alloc, details.ok().expect(&rt, "memory"));
+        let found = shown_previous(&rt, alloc, details.previous.as_ref());
+        assert!(rt; found == wanted, "at {element}: {found}");
+    }
+}
+
+/// Severities and summaries, in one row.
+fn shown_notes(rt: &impl Abort, alloc: Global, notes: &[Note]) -> &'static str {
+    let mut row = String::new(alloc);
+    for note in notes {
+        let severity = match note.severity {
+            Severity::Error => "error",
+            Severity::Warning => "warning",
+        };
+        let summary = note.diag.summary.as_str();
+        let written = write!(row, "{severity} {summary};");
+        written.ok().expect(rt, "memory");
+    }
+    kept(rt, alloc, row).as_str()
+}
+
+/// What is told beside one diagnostic of a script.
+fn told_beside(rt: &impl Abort, alloc: Global, plan: Option<PlanNote>) -> &'static str {
+    let own = PlanNote::Partial.note(alloc);
+    let mut script = Vec::new(alloc);
+    let pushed = script.push(own.ok().expect(rt, "memory"));
+    pushed.ok().expect(rt, "memory");
+    let notes = told_notes(alloc, plan, script);
+    let notes = kept(rt, alloc, notes.ok().expect(rt, "memory"));
+    shown_notes(rt, alloc, notes.as_slice())
+}
+
+#[test]
+fn diagnostics_of_a_script_come_first(rt: HostRuntime) {
+    let alloc = rt.alloc();
+    let one = "warning Applied changes may be incomplete;";
+    let both =
+        "warning Applied changes may be incomplete;warning Applied changes may be incomplete;";
+    assert!(rt; told_beside(&rt, alloc, None) == one);
+    assert!(rt; told_beside(&rt, alloc, Some(PlanNote::Partial)) == both);
+    let unfinished = told_beside(&rt, alloc, Some(PlanNote::Unfinished));
+    assert!(rt; unfinished == "error Cannot apply incomplete plan;");
 }

@@ -10,33 +10,33 @@ use serde_json::Value;
 pub struct Sought {
     /// What stands where the outputs are.
     pub outputs: Option<FoundOutputs>,
-    /// What is planned of outputs, by their names.
-    pub changes: Option<Value>,
+    /// What is looked for beside them: of a plan what is planned of outputs, by their names, of a script its diagnostics.
+    pub beside: Option<Value>,
 }
 
 impl Sought {
     /// Nothing was found.
     pub fn nothing() -> Sought
-        ensures { (result.outputs ≡ None) × (result.changes ≡ None) }
+        ensures { (result.outputs ≡ None) × (result.beside ≡ None) }
     {
         Sought {
             outputs: None,
-            changes: None,
+            beside: None,
         }
     }
 
     /// Takes the outputs that were found further in, or that there are none, in place of those before.
     pub fn take_outputs(&mut self, inner: Sought)
-        ensures { (self.new.outputs ≡ inner.outputs) × (self.new.changes ≡ self.old.changes) }
+        ensures { (self.new.outputs ≡ inner.outputs) × (self.new.beside ≡ self.old.beside) }
     {
         let Sought { outputs, .. } = inner;
         self.outputs = outputs;
     }
 
-    /// Takes what is planned of outputs, in place of that before.
-    pub fn take_changes(&mut self, changes: Value)
-        ensures { (self.new.outputs ≡ self.old.outputs) × (self.new.changes ≡ Some changes) }
+    /// Takes what is looked for beside the outputs, in place of that before.
+    pub fn take_beside(&mut self, beside: Value)
+        ensures { (self.new.outputs ≡ self.old.outputs) × (self.new.beside ≡ Some beside) }
     {
-        self.changes = Some(changes);
+        self.beside = Some(beside);
     }
 }

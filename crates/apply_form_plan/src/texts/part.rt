@@ -1,7 +1,8 @@
 //! What of a plan and of a script is kept as text.
 
 ghost use Rattle.std.specs.Prelude.{◌≡◌};
-ghost use Rattle.apply_form_plan.specs.Sought.{is_changes};
+ghost use Rattle.apply_form_plan.specs.Sought.{is_beside};
+ghost use Rattle.apply_form_plan.specs.Texts as texts;
 ghost use Rattle.apply_form_plan.specs.Texts.{is_text, part_named};
 
 /// What of a plan or a script a value is, on the way to what is kept as text. Values of no part are passed over.
@@ -15,6 +16,10 @@ pub enum Part {
     Values,
     /// The top level of a script.
     Script,
+    /// `diagnostics` of a script, kept as text.
+    Diagnostics,
+    /// A diagnostic of a script.
+    Diagnostic,
     /// Outputs by their names.
     Outputs,
     /// An output.
@@ -32,14 +37,22 @@ impl Part {
     pub fn is_text(self) -> bool
         ensures { result ≡ is_text self }
     {
-        self == Part::Text
+        match self {
+            Part::Text | Part::Diagnostics => true,
+            Part::Plan | Part::State | Part::Values | Part::Script | Part::Diagnostic => false,
+            Part::Outputs | Part::Output | Part::OutputChanges | Part::OutputChange => false,
+        }
     }
 
-    /// Whether it is what is planned of outputs.
-    pub fn is_changes(self) -> bool
-        ensures { result ≡ is_changes self }
+    /// Whether it is looked for beside the outputs: what a plan says of them, and the diagnostics of a script.
+    pub fn is_beside(self) -> bool
+        ensures { result ≡ is_beside self }
     {
-        self == Part::OutputChanges
+        match self {
+            Part::OutputChanges | Part::Diagnostics => true,
+            Part::Plan | Part::State | Part::Values | Part::Script | Part::Diagnostic => false,
+            Part::Outputs | Part::Output | Part::OutputChange | Part::Text => false,
+        }
     }
 
     /// What the member of that name is. `None` where it is passed over.
@@ -59,8 +72,20 @@ impl Part {
             } else {
                 None
             },
-            Part::Values | Part::Script => if name == "outputs" {
+            Part::Values => if name == "outputs" {
                 Some(Part::Outputs)
+            } else {
+                None
+            },
+            Part::Script => if name == "outputs" {
+                Some(Part::Outputs)
+            } else if name == "diagnostics" {
+                Some(Part::Diagnostics)
+            } else {
+                None
+            },
+            Part::Diagnostic => if is_of_diagnostic(name) {
+                Some(Part::Text)
             } else {
                 None
             },
@@ -76,7 +101,19 @@ impl Part {
             } else {
                 None
             },
-            Part::Text => None,
+            Part::Text | Part::Diagnostics => None,
         }
     }
+}
+
+/// Whether a diagnostic has a member of that name.
+fn is_of_diagnostic(name: &str) -> bool
+    ensures { result ≡ texts.is_of_diagnostic name.now }
+{
+    name == "severity"
+        || name == "summary"
+        || name == "detail"
+        || name == "address"
+        || name == "range"
+        || name == "snippet"
 }

@@ -17,7 +17,7 @@ use simdutf8::basic::from_utf8;
 use std::alloc::Global;
 
 /// How deep arrays and objects may nest.
-const MAX_DEPTH: usize = 127;
+pub(crate) const MAX_DEPTH: usize = 127;
 
 /// What is looked for in the bytes of a plan or a script, in which what is kept is text. `Err` with `ReadFault::NotJson` where
 /// they are no JSON (RFC 8259) in UTF-8, or nest more than 127 deep; with `ReadFault::Memory` where memory is refused.
@@ -72,7 +72,7 @@ fn seek(
     if part == Part::Outputs {
         return Ok(Sought {
             outputs: Some(read_outputs(alloc, reader, depth)?),
-            changes: None,
+            beside: None,
         });
     }
     match begin(alloc, reader, depth)? {
@@ -100,9 +100,9 @@ fn seek_in_members(
     let mut found = Sought::nothing();
     'members: while let Some(name) = reader.next_key()? {
         match part.named(name) {
-            Some(inner) => if inner.is_changes() {
-                let changes = read(alloc, reader, depth, inner)?;
-                found.take_changes(changes);
+            Some(inner) => if inner.is_beside() {
+                let beside = read(alloc, reader, depth, inner)?;
+                found.take_beside(beside);
             } else {
                 let below = seek(alloc, reader, depth, inner)?;
                 found.take_outputs(below);

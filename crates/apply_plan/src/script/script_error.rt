@@ -66,6 +66,11 @@ pub enum ScriptError {
     /// In Terraform's form alone, where no variant above holds: the plan has no output of that name, or deletes it.
     #[error("script output {0} is not an output of the plan")]
     UnknownOutput(usize),
+    /// In Terraform's form alone, where no variant above holds: a diagnostic of the script that is of no step, counted from
+    /// 0, is no object, has no `severity` or another one than `error` or `warning`, or has a member that is not what it has
+    /// to be.
+    #[error("script diagnostic {0} is malformed")]
+    BadDiagnostic(usize),
     /// Memory was refused. It comes where the growth stands, before the refusals that would be found later.
     #[error("out of memory")]
     Memory,

@@ -190,6 +190,7 @@ NoSuchStep(15) => script entry 15 waits for a step that its change does not have
 NeverBegins(16) => script entry 16 has a step that could never begin
 BadOutput(11) => script output 11 is malformed
 UnknownOutput(12) => script output 12 is not an output of the plan
+BadDiagnostic(17) => script diagnostic 17 is malformed
 Memory => out of memory
 "#;
 
@@ -213,6 +214,7 @@ fn script_refusals_have_their_texts(rt: HostRuntime) {
         ScriptError::NeverBegins(16),
         ScriptError::BadOutput(11),
         ScriptError::UnknownOutput(12),
+        ScriptError::BadDiagnostic(17),
         ScriptError::Memory,
     ];
     for refusal in refusals {

@@ -5,12 +5,11 @@ use Rattle.serde_json.specs.Data as tree
 use Rattle.serde_json.specs.Data.{put}
 use Rattle.serde_json.specs.View.{view}
 use Rattle.apply_json.proofs.Turns.{key_named}
-use Rattle.apply_form_plan.specs.declared.texts.part.Part.TheVariants as part
 use Rattle.apply_form_plan.specs.Texts.{part_named, with_texts}
 use Rattle.apply_form_plan.proofs.Copying.{unchanged}
 use Rattle.apply_form_plan.proofs.KeptTexts.{named, not_named}
 use Rattle.apply_form_plan.proofs.MemberTurns.{no_key, no_value, over, turn}
-use Rattle.apply_form_plan.proofs.Seeking.{changes_are, nothing_yet, with_changes, with_inner}
+use Rattle.apply_form_plan.proofs.Seeking.{nothing_yet, with_beside, with_inner}
 use Rattle.apply_form_plan.proofs.texts.seeking.+seek.Goals as goal
 
 pub seek_in_members-members-init : goal.seek_in_members-members-init
@@ -61,39 +60,38 @@ seek_in_members-returns-in_err-skip_value-in-None-clause-err t c =
     let key = key_named l.reader s c.in_ok-name.field-0 c.in-Some.name c.in_ok-name.ensures.value c.in-Some.is in
     λ refused. no_value (value c.args.depth) _ l.invariant.2 l.invariant.0 l.reader l.invariant.3 k s key (left_none (value c.args.depth s) c.in_err-skip_value-in-None.ensures.value)
 
-pub seek_in_members-returns-in_err-changes-in-Some-named-clause-err : goal.seek_in_members-returns-in_err-changes-in-Some-named-clause-err
-seek_in_members-returns-in_err-changes-in-Some-named-clause-err t c =
+pub seek_in_members-returns-in_err-beside-in-Some-named-clause-err : goal.seek_in_members-returns-in_err-beside-in-Some-named-clause-err
+seek_in_members-returns-in_err-beside-in-Some-named-clause-err t c =
     let l = c.members in
     let k = c.in-Some.name.now in
     let s = c.next_key.new.self in
     let key = key_named l.reader s c.in_ok-name.field-0 c.in-Some.name c.in_ok-name.ensures.value c.in-Some.is in
     λ refused. no_value (value c.args.depth) _ l.invariant.2 l.invariant.0 l.reader l.invariant.3 k s key (c.read.ensures.err (grind arith))
 
-pub seek_in_members-members-preserved-then-is_changes : goal.seek_in_members-members-preserved-then-is_changes
-seek_in_members-members-preserved-then-is_changes t c =
+pub seek_in_members-members-preserved-then-is_beside : goal.seek_in_members-members-preserved-then-is_beside
+seek_in_members-members-preserved-then-is_beside t c =
     let l = c.members in
     let n = l.invariant.0 in
     let front = l.invariant.2 in
     let k = c.in-Some.name.now in
     let s = c.next_key.new.self in
     let key = key_named l.reader s c.in_ok-name.field-0 c.in-Some.name c.in_ok-name.ensures.value c.in-Some.is in
-    let done = c.in_ok-changes-in-Some-named.ensures in
+    let done = c.in_ok-beside-in-Some-named.ensures in
     let j = done.ok.0 in
     let r = c.read.new.reader in
     let inner = c.in-Some-named.inner in
-    let planned : inner ≡ part.OutputChanges = changes_are inner (sym c.is_changes.ensures ∙ c.if-is_changes.true) in
-    let d = with_texts part.OutputChanges j in
+    let d = with_texts inner j in
     let less = read_key-shorter l.reader (Some k) s key in
     let lesser = done.shorter in
-    let is : Some part.OutputChanges ≡ part_named c.args.part k = ap Some (sym planned) ∙ c.in-Some-named.ensures in
-    let taken = c.take_changes.ensures in (
+    let is : Some inner ≡ part_named c.args.part k = c.in-Some-named.ensures in
+    let taken = c.take_beside.ensures in (
       n - 1,
       omega (arith, l.invariant.1),
       (λ ms. front (member k j ms)),
       turn (value c.args.depth) _ front n l.reader l.invariant.3 k s r j (omega (arith, l.invariant.1)) key done.ok.1,
       put k d l.invariant.4,
-      (λ ms. l.invariant.5 (member k j ms) ∙ named c.args.part part.OutputChanges k j ms l.invariant.4 _ is refl),
-      with_changes k d l.invariant.4 l.found c.take_changes.new.self c.args.part is l.invariant.6 taken.0 (ap (option_map view) taken.1 ∙ ap Some (done.ok.2 ∙ ap (λ p. with_texts p j) planned)),
+      (λ ms. l.invariant.5 (member k j ms) ∙ named c.args.part inner k j ms l.invariant.4 _ is refl),
+      with_beside k d l.invariant.4 l.found c.take_beside.new.self inner (sym c.is_beside.ensures ∙ c.if-is_beside.true) taken.0 (ap (option_map view) taken.1 ∙ ap Some done.ok.2) c.args.part is l.invariant.6,
       omega (arith, l.invariant.7),
     )
 
@@ -105,8 +103,8 @@ seek_in_members-returns-in_err-below-in-Some-named-clause-err t c =
     let key = key_named l.reader s c.in_ok-name.field-0 c.in-Some.name c.in_ok-name.ensures.value c.in-Some.is in
     λ refused. no_value (value c.args.depth) _ l.invariant.2 l.invariant.0 l.reader l.invariant.3 k s key (c.seek.ensures.err (grind arith))
 
-pub seek_in_members-members-preserved-else-is_changes : goal.seek_in_members-members-preserved-else-is_changes
-seek_in_members-members-preserved-else-is_changes t c =
+pub seek_in_members-members-preserved-else-is_beside : goal.seek_in_members-members-preserved-else-is_beside
+seek_in_members-members-preserved-else-is_beside t c =
     let l = c.members in
     let n = l.invariant.0 in
     let front = l.invariant.2 in
@@ -129,7 +127,7 @@ seek_in_members-members-preserved-else-is_changes t c =
       turn (value c.args.depth) _ front n l.reader l.invariant.3 k s r j (omega (arith, l.invariant.1)) key done.ok.1,
       put k d l.invariant.4,
       (λ ms. l.invariant.5 (member k j ms) ∙ named c.args.part inner k j ms l.invariant.4 _ is refl),
-      with_inner k d l.invariant.4 l.found c.take_outputs.new.self inner below (sym c.is_changes.ensures ∙ c.if-is_changes.false) done.ok.2 taken.0 taken.1 c.args.part is c.requires l.invariant.6,
+      with_inner k d l.invariant.4 l.found c.take_outputs.new.self inner below (sym c.is_beside.ensures ∙ c.if-is_beside.false) done.ok.2 taken.0 taken.1 c.args.part is c.requires l.invariant.6,
       omega (arith, l.invariant.7),
     )
 
