@@ -1,5 +1,5 @@
 -- Members of a script's values, of which some are kept as their own texts.
-use Rattle.std.proofs.Common.{◌≡◌, ℕ, List, codes, true, false, Option, Some, ap, sym, ◌∙◌}
+use Rattle.std.proofs.Common.{◌≡◌, ℕ, List, true, false, Option, Some, ap, sym, ◌∙◌}
 use Rattle.std.specs.Str.{bytes_eq}
 use Rattle.json.specs.Token.{Token}
 use Rattle.json.specs.Json as json

@@ -1,4 +1,4 @@
-use Rattle.std.proofs.Common.{◌≡◌, Option, Some, option_map, ap, sym, ◌∙◌}
+use Rattle.std.proofs.Common.{Option, Some, option_map, ap, sym, ◌∙◌}
 use Rattle.apply_model.specs.declared.script.diag.Diag.{Diag}
 use Rattle.apply_plan.proofs.Scripts.Held.{diag_is, diag_there, not_absent}
 use Rattle.apply_plan.proofs.script.tree_diag.TreeDiag.read.Goals as goal
