@@ -6,6 +6,7 @@ mod accepted;
 mod elements;
 mod limits;
 mod outcomes;
+mod passing;
 mod plain;
 mod plans;
 mod provisioners;
@@ -13,7 +14,6 @@ mod provisioning;
 mod script_members;
 mod scripts;
 mod table;
-mod trimming;
 mod waits;
 
 use self::table::{compare, named};
