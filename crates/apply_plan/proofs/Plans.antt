@@ -3,5 +3,6 @@ pub mod Elements
 pub mod Held
 pub mod Seen
 pub mod SeenSet
+pub mod Taken
 pub mod Top
 pub mod WholeList

@@ -3,6 +3,7 @@
 pub mod actions;
 pub mod change_slots;
 pub mod element;
+pub mod element_member;
 pub mod element_slots;
 pub mod elements;
 pub mod id_slots;

@@ -12,6 +12,9 @@ use Rattle.apply_model.specs.Plan.Action.{steps_of_action}
 use Rattle.apply_model.specs.Plan.Address.{relative_address}
 use Rattle.apply_model.specs.Plan.ResourceChange.{ResourceChange}
 use Rattle.apply_plan.specs.declared.plan.change_slots.ChangeSlots.{ChangeSlots}
+use Rattle.apply_json.specs.declared.scalar.Scalar.{Scalar}
+use Rattle.apply_plan.specs.declared.plan.element_member.ElementMember.{ElementMember}
+use Rattle.apply_plan.specs.declared.plan.element_member.ElementMember.TheVariants as member
 use Rattle.apply_plan.specs.declared.plan.element_slots.ElementSlots.{ElementSlots}
 use Rattle.apply_plan.specs.declared.plan.id_slots.IdSlots.{IdSlots}
 use Rattle.apply_plan.specs.declared.plan.plan_error.PlanError.{PlanError}
@@ -62,6 +65,25 @@ key_seen (truth b) = None
 key_seen (number n) = option_map key.Number (as_i64 n)
 key_seen (text s) = Some (key.Name s)
 key_seen other = None
+
+abbrev pub name_of : ElementMember → List ℕ
+name_of member.Address = codes "address"
+name_of member.Mode = codes "mode"
+name_of member.Type = codes "type"
+name_of member.Name = codes "name"
+name_of member.ModuleAddress = codes "module_address"
+name_of member.Index = codes "index"
+name_of member.Deposed = codes "deposed"
+
+-- the slots with that scalar in its place
+abbrev pub with_scalar : ElementSlots → ElementMember → Scalar → ElementSlots
+with_scalar slots member.Address found = record slots { address = found }
+with_scalar slots member.Mode found = record slots { mode = found }
+with_scalar slots member.Type found = record slots { kind_name = found }
+with_scalar slots member.Name found = record slots { name = found }
+with_scalar slots member.ModuleAddress found = record slots { module_address = found }
+with_scalar slots member.Index found = record slots { index = found }
+with_scalar slots member.Deposed found = record slots { deposed = found }
 
 -- ---- what slots hold of some members
 

@@ -1,7 +1,11 @@
 //! What is kept of the members of an element of `resource_changes`.
 
-ghost use Rattle.apply_plan.specs.Plan.Members.{HoldsElement};
+ghost use Rattle.std.specs.Prelude.{◌≡◌, MatchOption, false, true};
+ghost use Rattle.std.specs.Str.{bytes_eq};
+ghost use Rattle.apply_plan.specs.declared.plan.element_member.ElementMember.{ElementMember};
+ghost use Rattle.apply_plan.specs.Plan.Members.{HoldsElement, name_of, with_scalar};
 
+use crate::plan::element_member::ElementMember;
 use crate::plan::planned_change::PlannedChange;
 use apply_json::{ReadFault, Reader, Scalar, Slots, pass, read_scalar};
 use std::alloc::Global;
@@ -37,6 +41,21 @@ impl<'a> ElementSlots<'a> {
             change: None,
         }
     }
+
+    /// Puts a scalar in the place of what was there.
+    fn set(&mut self, member: ElementMember, found: Scalar<'a>)
+        ensures { self.new ≡ with_scalar self.old member found.entry }
+    {
+        match member {
+            ElementMember::Address => self.address = found,
+            ElementMember::Mode => self.mode = found,
+            ElementMember::Type => self.kind_name = found,
+            ElementMember::Name => self.name = found,
+            ElementMember::ModuleAddress => self.module_address = found,
+            ElementMember::Index => self.index = found,
+            ElementMember::Deposed => self.deposed = found,
+        }
+    }
 }
 
 impl<'a> Slots<'a> for ElementSlots<'a> {
@@ -49,33 +68,44 @@ impl<'a> Slots<'a> for ElementSlots<'a> {
         reader: &mut Reader<'a>,
         depth: usize,
     ) -> Result<(), ReadFault> {
-        if name == "address" {
-            self.address = read_scalar(reader, depth)?;
-            Ok(())
-        } else if name == "mode" {
-            self.mode = read_scalar(reader, depth)?;
-            Ok(())
-        } else if name == "type" {
-            self.kind_name = read_scalar(reader, depth)?;
-            Ok(())
-        } else if name == "name" {
-            self.name = read_scalar(reader, depth)?;
-            Ok(())
-        } else if name == "module_address" {
-            self.module_address = read_scalar(reader, depth)?;
-            Ok(())
-        } else if name == "index" {
-            self.index = read_scalar(reader, depth)?;
-            Ok(())
-        } else if name == "deposed" {
-            self.deposed = read_scalar(reader, depth)?;
-            Ok(())
-        } else if name == "change" {
+        if name == "change" {
             self.change = PlannedChange::read(alloc, reader, depth)?;
-            Ok(())
-        } else {
-            pass(reader, depth)?;
-            Ok(())
+            return Ok(());
         }
+        match scalar_of_name(name) {
+            Some(member) => {
+                let found = read_scalar(reader, depth)?;
+                self.set(member, found);
+                Ok(())
+            }
+            None => {
+                pass(reader, depth)?;
+                Ok(())
+            }
+        }
+    }
+}
+
+/// The scalar of that name. `None` where there is none.
+fn scalar_of_name(name: &str) -> Option<ElementMember>
+    ensures { MatchOption result ((member : ElementMember) → bytes_eq name.now (name_of member) ≡ false)
+        (λ member. bytes_eq name.now (name_of member) ≡ true) }
+{
+    if name == "address" {
+        Some(ElementMember::Address)
+    } else if name == "mode" {
+        Some(ElementMember::Mode)
+    } else if name == "type" {
+        Some(ElementMember::Type)
+    } else if name == "name" {
+        Some(ElementMember::Name)
+    } else if name == "module_address" {
+        Some(ElementMember::ModuleAddress)
+    } else if name == "index" {
+        Some(ElementMember::Index)
+    } else if name == "deposed" {
+        Some(ElementMember::Deposed)
+    } else {
+        None
     }
 }
