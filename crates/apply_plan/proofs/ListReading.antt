@@ -1,40 +1,33 @@
--- Reading a list as a loop does: at an element, behind what was made of the elements before it.
-use Rattle.std.proofs.Common.{◌≡◌, ℕ, suc, ◌+◌, ◌<◌, ◌≤◌, List, [], ◌∷◌, ◌++◌, length, drop, get_or, Result, Ok, Err, refl, sym, ap, ◌∙◌, add-one, arith, length-drop}
-use Rattle.std.proofs.Math.Seq.{drop-cons}
-use Rattle.std.proofs.lemmas.List.{nil_from_length}
-use Rattle.serde_json.specs.Data.{Data, item}
-use Rattle.serde_json.specs.View.{view, items_view}
-use Rattle.serde_json.specs.declared.value.Value.{Value}
-use Rattle.apply_plan.specs.ListReading.{made_after}
+-- Reading a list one by one.
+use Rattle.std.proofs.Common.{◌≡◌, List, [], ◌∷◌, ◌++◌, length, suc, Result, Ok, Err, refl, ap}
+use Rattle.serde_json.specs.Data.{Data, Items, no_items, item}
+use Rattle.serde_json.specs.Events.{items_len}
+use Rattle.apply_json.specs.Tree.{list_of}
+use Rattle.apply_plan.specs.ListReading.{items_of, made_after}
+use Rattle.apply_plan.specs.Results.{◌>>=◌}
 
--- what is left begins with the element at hand
-next_is : (values : List Value) (n : ℕ) (value : Value) → n < length values → value ≡ get_or values n value
-    → items_view (drop n values) ≡ item (view value) (items_view (drop (n + 1) values))
-next_is values n value below is =
-    let rest : value ∷ drop (n + 1) values ≡ drop n values = rw (add-one, drop-cons values n value) (ap (λ (v : Value). v ∷ drop (suc n) values) is) in
-    ap (λ (vs : List Value). items_view vs) (sym rest)
+-- of one element more, behind what was made
+abbrev pub one_more : {A E : Type 0} → (List A → Data → Result A E) → Data → List A → Result (List A) E
+one_more answer d all = answer all d >>= λ one. Ok (all ++ one ∷ [])
 
--- the element at hand is refused
-pub refused : {A E : Type 0} (answer : List A → Data → Result A E) (made : List A) (values : List Value) (n : ℕ) (value : Value) (total : Result (List A) E) (e : E)
-    → n < length values → value ≡ get_or values n value → made_after answer made (items_view (drop n values)) ≡ total
-    → answer made (view value) ≡ Err e → total ≡ Err e
+pub made_more : {A E : Type 0} (answer : List A → Data → Result A E) (made : List A) (ds : List Data) (d : Data)
+    → made_after answer made (items_of (ds ++ d ∷ [])) ≡ (made_after answer made (items_of ds) >>= one_more answer d)
 unfolding made_after
-refused answer made values n value total e below is so_far faulty = sym so_far ∙ rw (next_is values n value below is, faulty) refl
+made_more answer made [] d = refl
+made_more {A} {E} answer made (first ∷ ds) d = through (answer made first) (λ one. made_more answer (made ++ one ∷ []) ds d)
+  where
+    through : (r : Result A E) → ((one : A) → made_after answer (made ++ one ∷ []) (items_of (ds ++ d ∷ [])) ≡ (made_after answer (made ++ one ∷ []) (items_of ds) >>= one_more answer d)) → (r >>= λ one. made_after answer (made ++ one ∷ []) (items_of (ds ++ d ∷ []))) ≡ ((r >>= λ one. made_after answer (made ++ one ∷ []) (items_of ds)) >>= one_more answer d)
+    through (Ok one) more = more one
+    through (Err e) more = refl
 
--- of the element at hand one thing more is made
-pub goes_on : {A E : Type 0} (answer : List A → Data → Result A E) (made : List A) (values : List Value) (n : ℕ) (value : Value) (total : Result (List A) E) (one : A)
-    → n < length values → value ≡ get_or values n value → made_after answer made (items_view (drop n values)) ≡ total
-    → answer made (view value) ≡ Ok one → made_after answer (made ++ one ∷ []) (items_view (drop (n + 1) values)) ≡ total
-unfolding made_after
-goes_on answer made values n value total one below is so_far accepted =
-    let step : made_after answer made (items_view (drop n values)) ≡ made_after answer (made ++ one ∷ []) (items_view (drop (n + 1) values)) =
-    rw (next_is values n value below is, accepted) refl in
-    sym step ∙ so_far
+pub list_of-items_of : (ds : List Data) → list_of (items_of ds) ≡ ds
+list_of-items_of [] = refl
+list_of-items_of (d ∷ ds) = ap (λ (rest : List Data). d ∷ rest) (list_of-items_of ds)
 
--- no element is left
-pub is_done : {A E : Type 0} (answer : List A → Data → Result A E) (made : List A) (values : List Value) (n : ℕ) (total : Result (List A) E)
-    → length values ≤ n → made_after answer made (items_view (drop n values)) ≡ total → total ≡ Ok made
-unfolding made_after
-is_done answer made values n total past so_far =
-    let nothing : drop n values ≡ [] = nil_from_length (drop n values) (omega (arith, length-drop n values)) in
-    sym so_far ∙ ap (λ (vs : List Value). made_after answer made (items_view vs)) nothing
+pub items_of-list_of : (ds : Items) → items_of (list_of ds) ≡ ds
+items_of-list_of no_items = refl
+items_of-list_of (item d ds) = ap (item d) (items_of-list_of ds)
+
+pub items_len-list_of : (ds : Items) → items_len ds ≡ length (list_of ds)
+items_len-list_of no_items = refl
+items_len-list_of (item d ds) = ap suc (items_len-list_of ds)

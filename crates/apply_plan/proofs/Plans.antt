@@ -1,7 +1,8 @@
 -- Lemmas on plans.
-pub mod ActionLists
 pub mod Elements
+pub mod Held
 pub mod Seen
-pub mod Trimmed
+pub mod SeenSet
+pub mod Taken
+pub mod Top
 pub mod WholeList
-pub mod WholePlan

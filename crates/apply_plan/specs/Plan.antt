@@ -5,12 +5,14 @@ pub use Rattle.apply_model.specs.Plan.ResourceChange
 pub use Rattle.apply_model.specs.Plan.StepKind
 pub mod Element
 pub mod ElementView
+pub mod ElementsView
 pub mod Header
-pub mod HeaderView
+pub mod Members
 pub mod NextChange
 pub mod ObjectName
 pub mod PlannedView
 pub mod SavedPlan
 pub mod SeenObjects
-pub mod Selection
+pub mod SeenSet
 pub mod Steps
+pub mod Words

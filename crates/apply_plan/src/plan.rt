@@ -1,11 +1,16 @@
 //! How a saved plan is read.
 
-pub mod action;
+pub mod actions;
+pub mod change_slots;
 pub mod element;
-pub mod header;
+pub mod element_member;
+pub mod element_slots;
+pub mod elements;
+pub mod id_slots;
 pub mod object_id;
 pub mod plan_error;
-pub mod plan_shape;
+pub mod plan_slots;
 pub mod planned;
+pub mod planned_change;
 pub mod reading;
 pub mod seen_objects;

@@ -7,6 +7,7 @@ mod elements;
 mod limits;
 mod outcomes;
 mod own_texts;
+mod passing;
 mod plain;
 mod plans;
 mod provisioners;
@@ -15,7 +16,6 @@ mod script_members;
 mod scripts;
 mod skipped;
 mod table;
-mod trimming;
 mod waits;
 
 use self::table::{compare, named};

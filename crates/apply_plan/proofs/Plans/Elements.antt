@@ -1,17 +1,120 @@
--- An element of `resource_changes`, by its members.
-use Rattle.std.proofs.Common.{◌≡◌, ℕ, List, [], Option, Some, refl}
-use Rattle.std.specs.Prelude.{codes}
-use Rattle.serde_json.specs.Data.{Data, Items}
-use Rattle.apply_model.specs.declared.plan.key.Key.{Key}
-use Rattle.apply_model.specs.declared.plan.mode.Mode.{Mode}
-use Rattle.apply_plan.specs.Plan.Element.{element_of, key_of, mode_named, planned_change_of}
-use Rattle.apply_json.specs.Tree.{member_of, non_empty_text_of, text_of, text_or, unless_empty}
+-- Elements as they are read, one behind the other.
+use Rattle.std.proofs.Common.{◌≡◌, ◌≢◌, ◌+◌, ◌<◌, ◌≤◌, true, false, List, [], ◌∷◌, ◌++◌, length, Option, Some, None, Result, Ok, Err, refl, sym, ap, ◌∙◌, ⊎_elim, arith}
+use Rattle.std.specs.Prelude.{is_some}
+use Rattle.std.proofs.lemmas.Bool.{cases_lt, le-ltb, lt-ltb}
+use Rattle.std.proofs.lemmas.List.{length-append}
+use Rattle.serde_json.specs.Data.{Data}
+use Rattle.apply_model.specs.Plan.ResourceChange.{ResourceChange}
+use Rattle.apply_model.specs.Plan.SavedPlan.{max_changes}
+use Rattle.apply_plan.specs.declared.plan.elements.Elements.{Elements}
+use Rattle.apply_plan.specs.declared.plan.plan_error.PlanError.{PlanError}
+use Rattle.apply_plan.specs.declared.plan.plan_error.PlanError.TheVariants.{Memory, TooMany}
+use Rattle.apply_plan.specs.ListReading.{items_of, made_after}
+use Rattle.apply_plan.specs.Plan.ElementsView.{HoldsElements, changes_within}
+use Rattle.apply_plan.specs.Plan.NextChange.{change_after}
+use Rattle.apply_plan.specs.Plan.SeenSet.{HaveBeenSeen}
+use Rattle.apply_plan.specs.Results.{◌>>=◌, unless_refused}
+use Rattle.apply_plan.proofs.ListReading.{made_more, one_more}
 
-pub element_made : (d : Data) (address word kind_name name module_address deposed : List ℕ) (mode : Mode) (key : Key) (shown : Option (List ℕ)) (actions : Items) (prior_id : Option (List ℕ)) → Some address ≡ text_of (codes "address") d
-    → Some word ≡ text_of (codes "mode") d → Some mode ≡ mode_named word → Some kind_name ≡ non_empty_text_of (codes "type") d → Some name ≡ non_empty_text_of (codes "name") d
-    → Some module_address ≡ text_or [] (member_of (codes "module_address") d) → Some key ≡ key_of (member_of (codes "index") d) → Some deposed ≡ text_or [] (member_of (codes "deposed") d)
-    → shown ≡ unless_empty deposed → Some (actions, prior_id) ≡ planned_change_of d
-    → Some (record { address = address; mode = mode; kind_name = kind_name; name = name; module_address = module_address; key = key; deposed = shown; actions = actions; prior_id = prior_id }) ≡ element_of d
-unfolding element_of
-element_made d address word kind_name name module_address deposed mode key shown actions prior_id at_address at_mode is_mode at_type at_name at_module at_index at_deposed is_shown at_change =
-    rw (← at_address, ← at_mode, ← is_mode, ← at_type, ← at_name, ← at_module, ← at_index, ← at_deposed, ← at_change, is_shown) refl
+longer : (ds : List Data) (d : Data) → length (ds ++ d ∷ []) ≡ length ds + 1
+longer ds d = omega (arith, length-append ds (d ∷ []))
+
+none_there : {A : Type 0} (fault : Option A) → is_some fault ≡ false → fault ≡ None
+none_there None h = refl
+none_there (Some x) h = absurd cc
+
+pub no_want : (fault : Option PlanError) → is_some fault ≡ false → fault ≢ Some Memory
+no_want None h = λ is. absurd cc
+no_want (Some x) h = absurd cc
+
+-- as many as a plan may have
+within : (ds : List Data) → length ds ≤ max_changes → changes_within ds ≡ made_after change_after [] (items_of ds)
+within ds few = rw (le-ltb max_changes (length ds) few) refl
+
+beyond : (ds : List Data) → max_changes < length ds → changes_within ds ≡ Err TooMany
+beyond ds many = rw (lt-ltb max_changes (length ds) many) refl
+
+pub holds_none : (elements : Elements) → elements.count ≡ 0 → elements.changes.items ≡ [] → HaveBeenSeen elements.seen [] → elements.fault ≡ None → HoldsElements elements []
+unfolding made_after
+holds_none elements count changes seen fault = record {
+  counted = omega (arith, count);
+  made = λ none. ap length changes;
+  seen = λ none. rw changes seen;
+  so_far = λ not. rw (fault, changes) refl;
+}
+
+-- the answers for one element more
+next_element : (elements : Elements) (ds : List Data) (d : Data) → HoldsElements elements ds → elements.count < max_changes → elements.fault ≢ Some Memory
+    → changes_within (ds ++ d ∷ []) ≡ (unless_refused elements.fault elements.changes.items >>= one_more change_after d)
+next_element elements ds d holds room not =
+    within (ds ++ d ∷ []) (omega (arith, room, holds.counted, longer ds d))
+    ∙ made_more change_after [] ds d
+    ∙ ap (λ (r : Result (List ResourceChange) PlanError). r >>= one_more change_after d) (sym (within ds (omega (arith, room, holds.counted))) ∙ holds.so_far not)
+
+-- behind a fault
+pub holds_past : (old new : Elements) (ds : List Data) (d : Data) → is_some old.fault ≡ true → HoldsElements old ds → old.count < max_changes → new ≡ record old { count = old.count + 1 } → HoldsElements new (ds ++ d ∷ [])
+holds_past old new ds d some holds room is = rw is (record {
+  counted = omega (arith, room, holds.counted, longer ds d);
+  made = λ none. absurd (there old.fault some none);
+  seen = λ none. absurd (there old.fault some none);
+  so_far = λ not. next_element old ds d holds room not ∙ stays old.fault some;
+})
+  where
+    there : (fault : Option PlanError) → is_some fault ≡ true → fault ≡ None → ⊥
+    there None h none = absurd cc
+    there (Some e) h none = absurd cc
+
+    stays : (fault : Option PlanError) → is_some fault ≡ true → (unless_refused fault old.changes.items >>= one_more change_after d) ≡ unless_refused fault old.changes.items
+    stays None none = absurd cc
+    stays (Some e) some = refl
+
+-- where there was no fault
+next_answer : (elements : Elements) (ds : List Data) (d : Data) → HoldsElements elements ds → elements.count < max_changes → is_some elements.fault ≡ false → (answer : Result ResourceChange PlanError) → change_after elements.changes.items d ≡ answer
+    → changes_within (ds ++ d ∷ []) ≡ (answer >>= λ one. Ok (elements.changes.items ++ one ∷ []))
+next_answer elements ds d holds room none answer is =
+    next_element elements ds d holds room (no_want elements.fault none)
+    ∙ ap (λ (o : Option PlanError). unless_refused o elements.changes.items >>= one_more change_after d) (none_there elements.fault none)
+    ∙ ap (λ (r : Result ResourceChange PlanError). r >>= λ one. Ok (elements.changes.items ++ one ∷ [])) is
+
+-- without a fault each element has a change
+numbered : (elements : Elements) (ds : List Data) → HoldsElements elements ds → elements.count < max_changes → is_some elements.fault ≡ false → length elements.changes.items ≡ elements.count
+numbered elements ds holds room none = omega (arith, room, holds.counted, holds.made (none_there elements.fault none))
+
+pub holds_more : (old new : Elements) (ds : List Data) (d : Data) (change : ResourceChange) → HoldsElements old ds → old.count < max_changes → is_some old.fault ≡ false
+    → (length old.changes.items ≡ old.count → HaveBeenSeen old.seen old.changes.items → change_after old.changes.items d ≡ Ok change) → (HaveBeenSeen old.seen old.changes.items → HaveBeenSeen new.seen (old.changes.items ++ change ∷ []))
+    → new.changes.items ≡ old.changes.items ++ change ∷ [] → new.count ≡ old.count + 1 → new.fault ≡ old.fault → HoldsElements new (ds ++ d ∷ [])
+holds_more old new ds d change holds room none accepted seen changes count fault =
+    let nothing = none_there old.fault none in
+    record {
+      counted = omega (arith, room, count, holds.counted, longer ds d);
+      made = λ no_fault. omega (arith, ap length changes, length-append old.changes.items (change ∷ []), longer ds d, holds.made nothing);
+      seen = λ no_fault. rw changes (seen (holds.seen nothing));
+      so_far = λ not. next_answer old ds d holds room none (Ok change) (accepted (numbered old ds holds room none) (holds.seen nothing)) ∙ rw (fault, nothing, changes) refl;
+    }
+
+pub holds_refused : (old new : Elements) (ds : List Data) (d : Data) (fault : PlanError) → HoldsElements old ds → old.count < max_changes → is_some old.fault ≡ false
+    → (length old.changes.items ≡ old.count → HaveBeenSeen old.seen old.changes.items → fault ≢ Memory → change_after old.changes.items d ≡ Err fault) → new.changes.items ≡ old.changes.items → new.count ≡ old.count + 1 → new.fault ≡ Some fault → HoldsElements new (ds ++ d ∷ [])
+holds_refused old new ds d fault holds room none refused changes count is = record {
+  counted = omega (arith, room, count, holds.counted, longer ds d);
+  made = λ no_fault. absurd (let never : None ≡ Some fault = sym no_fault ∙ is in cc);
+  seen = λ no_fault. absurd (let never : None ≡ Some fault = sym no_fault ∙ is in cc);
+  so_far = λ not. next_answer old ds d holds room none (Err fault) (refused (numbered old ds holds room none) (holds.seen (none_there old.fault none)) (λ want. not (is ∙ ap (λ (e : PlanError). Some e) want))) ∙ rw is refl;
+}
+
+-- ---- the changes that they make
+
+pub refused_elements : (elements : Elements) (ds : List Data) (fault : PlanError) → HoldsElements elements ds → elements.fault ≡ Some fault → fault ≢ Memory → changes_within ds ≡ Err fault
+refused_elements elements ds fault holds is known =
+    holds.so_far (λ want. known (same (sym is ∙ want))) ∙ rw is refl
+  where
+    same : {x y : PlanError} → Some x ≡ Some y → x ≡ y
+    same e = cc
+
+pub made_elements : (elements : Elements) (ds : List Data) → HoldsElements elements ds → elements.fault ≡ None → changes_within ds ≡ Ok elements.changes.items
+made_elements elements ds holds none =
+    holds.so_far (λ want. absurd (let never : None ≡ Some Memory = sym none ∙ want in cc)) ∙ rw none refl
+
+pub few_elements : (elements : Elements) (ds : List Data) → HoldsElements elements ds → elements.fault ≡ None → length elements.changes.items ≤ max_changes
+few_elements elements ds holds none =
+    ⊎_elim (λ (many : max_changes < length ds). absurd (let never : Err TooMany ≡ Ok elements.changes.items = sym (beyond ds many) ∙ made_elements elements ds holds none in cc))
+    (λ (few : length ds ≤ max_changes). omega (arith, few, holds.made none)) (cases_lt max_changes (length ds))

@@ -1,19 +1,13 @@
--- A set of objects, for the private type that keeps one.
+-- Objects as they are named, for the private types that compare them.
 use Rattle.std.specs.Prelude.{Bool}
-use Rattle.std.specs.List.{list_any}
 use Rattle.std.specs.Option.{option_copied}
 use Rattle.apply_plan.specs.declared.plan.object_id.ObjectId.{ObjectId}
 use Rattle.apply_plan.specs.Plan.ObjectName.{name_one_object}
 use Rattle.apply_model.specs.Plan.ResourceChange.{ResourceChange}
-use Rattle.apply_plan.specs.declared.plan.seen_objects.SeenObjects.{SeenObjects}
 
 abbrev pub is_same_id : ObjectId → ObjectId → Bool
 is_same_id one other =
     name_one_object one.address.now (option_copied one.deposed) other.address.now (option_copied other.deposed)
-
--- the object is in the set
-abbrev pub has_seen : SeenObjects → ObjectId → Bool
-has_seen seen id = list_any (is_same_id id) seen.ids.keys
 
 -- a change is of that object
 abbrev pub is_of : ObjectId → ResourceChange → Bool

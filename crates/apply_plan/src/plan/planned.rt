@@ -3,11 +3,11 @@
 ghost use Rattle.std.specs.Prelude.{◌≡◌, IfOk, is_some, true};
 ghost use Rattle.apply_model.specs.Plan.Address.{relative_address};
 
-use crate::plan::action::action_of;
 use crate::plan::element::Element;
+use crate::plan::element_slots::ElementSlots;
 use crate::plan::plan_error::PlanError;
+use apply_json::{ReadFault, Reader, read_object};
 use apply_model::{Action, Change, ChangeParts, Text, relative_address};
-use serde_json::Value;
 use std::alloc::{AllocError, Global};
 
 /// An element of `resource_changes` that is well-formed, with the action that its list means, and whose address
@@ -20,20 +20,40 @@ pub struct Planned<'a> {
 }
 
 impl<'a> Planned<'a> {
-    ghost use Rattle.apply_plan.specs.Plan.SavedPlan.{planned_at};
+    ghost use Rattle.std.specs.Prelude.{◌<◌, Err, OnOk, length};
+    ghost use Rattle.serde_json.specs.Data.{Data};
+    ghost use Rattle.apply_json.specs.Tokens.{IsNoValue, IsRead};
+    ghost use Rattle.apply_plan.specs.Plan.Members.{element_held, planned_held};
     ghost use Rattle.apply_plan.specs.Plan.PlannedView.{planned_view};
+    ghost use Rattle.apply_plan.specs.Plan.SavedPlan.{planned_at};
     ghost use Rattle.apply_plan.specs.Results.{IsExactly};
-    ghost use Rattle.serde_json.specs.View.{view};
 
-    /// The element of that number, or the first fault that it has by itself. No memory is taken.
-    #[tactic(auto, unfolding(crate::specs::Plan::SavedPlan::planned_at))]
-    pub fn of(number: u32, value: &'a Value) -> Result<Planned<'a>, PlanError>
-        ensures { IsExactly planned_view result (planned_at number (view value.now)) }
+    /// Reads the element of that number, in which arrays and objects nest at most `depth` deep. It may have a fault by itself: the
+    /// first is the inner answer. No memory is taken.
+    pub fn read(
+        alloc: Global,
+        reader: &mut Reader<'a>,
+        depth: usize,
+        number: u32,
+    ) -> Result<Result<Planned<'a>, PlanError>, ReadFault>
+        ensures ok { IfOk result (λ planned. (d : Data) × IsRead depth reader.old d reader.new
+            × IsExactly planned_view planned (planned_at number d)) }
+        ensures shorter { OnOk result (length reader.new < length reader.old) }
+        ensures err { result ≡ Err ReadFault.NotJson → IsNoValue depth reader.old }
     {
-        let Some(element) = Element::of(value) else {
+        let mut slots = ElementSlots::new();
+        read_object(alloc, reader, depth, &mut slots)?;
+        Ok(Planned::of(number, &slots))
+    }
+
+    /// The element that the members are, or the first fault that it has by itself.
+    fn of(number: u32, slots: &ElementSlots<'a>) -> Result<Planned<'a>, PlanError>
+        ensures { IsExactly planned_view result (planned_held number (element_held slots.now)) }
+    {
+        let Some(element) = Element::of(slots) else {
             return Err(PlanError::BadChange(number));
         };
-        let Some(action) = action_of(element.actions) else {
+        let Some(action) = element.action else {
             return Err(PlanError::BadActions(number));
         };
         if relative_address(element.module_address, element.address).is_none() {

@@ -3,17 +3,20 @@
 ghost use Rattle.std.specs.Prelude.{◌≡◌, ◌||◌, IfOk, OnOk, false, not};
 
 use crate::plan::object_id::ObjectId;
+use crate::script::hashed_id::HashedId;
 use std::alloc::{AllocError, Global};
 use std::collections::BTreeSet;
 
-/// A set of objects.
+/// A set of objects, in the order of their hashes: so an object is found by few comparisons of addresses, however these were
+/// chosen.
 #[derive(Drop)]
 pub struct SeenObjects<'a> {
-    ids: BTreeSet<ObjectId<'a>>,
+    ids: BTreeSet<HashedId<'a>>,
 }
 
 impl<'a> SeenObjects<'a> {
-    ghost use Rattle.apply_plan.specs.Plan.SeenObjects.{has_seen, is_same_id};
+    ghost use Rattle.apply_plan.specs.Plan.SeenObjects.{is_same_id};
+    ghost use Rattle.apply_plan.specs.Plan.SeenSet.{has_seen};
 
     /// No object.
     pub fn new(alloc: Global) -> Self
@@ -30,6 +33,6 @@ impl<'a> SeenObjects<'a> {
         ensures added { OnOk result ((other : _)
             → has_seen self.new other ≡ (is_same_id id.entry other || has_seen self.old other)) }
     {
-        Ok(self.ids.insert(id)?)
+        Ok(self.ids.insert(HashedId::of(id))?)
     }
 }

@@ -203,6 +203,14 @@ const PRIOR_IDS: &str = r#"
 "before":"i-1" => None
 "before":null => None
 "after":{"id":"i-1"} => None
+"before":{"id":"i-1","id":"i-2"} => Some("i-2")
+"before":{"id":"i-1","id":5} => None
+"before":{"id":"i-1"},"before":{"id":"i-2"} => Some("i-2")
+"before":{"id":"i-1"},"before":{"name":"i-2"} => None
+"before":{"id":"i-1"},"before":5 => None
+"before":{"id":"i-1"},"before_sensitive":true,"before_sensitive":false => Some("i-1")
+"before":{"id":"i-1"},"before_sensitive":true,"before_sensitive":null => Some("i-1")
+"before":{"id":"i-1"},"before_sensitive":{"id":true,"id":false} => Some("i-1")
 "#;
 
 #[test]

@@ -208,6 +208,32 @@ fn an_element_is_an_object(rt: HostRuntime) {
     plans_are_answered(&rt, rt.alloc(), PLAN, NO_OBJECTS);
 }
 
+/// A plan whose first element has each member.
+const BEHIND_ALL: &str =
+    r#"{"format_version":"1.2","resource_changes":[{"address":"module.m.t.n","module_address":"module.m","mode":"data","type":"t","name":"n","index":5,"deposed":"d","change":{"actions":["delete","create"],"before":{"id":"i"},"before_sensitive":{"id":false}}},CELL]}"#;
+
+/// What stands behind it.
+const OWN_MEMBERS: &str = r#"
+5 => change 1 is malformed
+{} => change 1 is malformed
+{"mode":"managed","type":"t","name":"o","change":{"actions":["create"]}} => change 1 is malformed
+{"address":"t.o","type":"t","name":"o","change":{"actions":["create"]}} => change 1 is malformed
+{"address":"t.o","mode":"managed","name":"o","change":{"actions":["create"]}} => change 1 is malformed
+{"address":"t.o","mode":"managed","type":"t","change":{"actions":["create"]}} => change 1 is malformed
+{"address":"t.o","mode":"managed","type":"t","name":"o"} => change 1 is malformed
+{"address":"t.o","mode":"managed","type":"t","name":"o","change":{"before":{"id":"j"}}} => change 1 is malformed
+{"address":"t.o","mode":"managed","type":"t","name":"o","change":{"actions":[]}} => change 1 has an action list that is out of scope
+{"address":"t.o","mode":"managed","type":"t","name":"o","change":{"actions":["create"]}} => accepted
+{"address":"module.m.t.n","mode":"managed","type":"t","name":"n","change":{"actions":["create"]}} => accepted
+{"address":"t.o","mode":"managed","type":"t","name":"o","change":{"actions":["update"],"before":{"id":"j"},"before_sensitive":true}},{"address":"t.p","mode":"managed","type":"t","name":"p","change":{"actions":["update"],"before":{"id":"k"}}} => accepted
+"#;
+
+/// Nothing is kept of an element for the next one.
+#[test]
+fn an_element_has_its_own_members_alone(rt: HostRuntime) {
+    plans_are_answered(&rt, rt.alloc(), BEHIND_ALL, OWN_MEMBERS);
+}
+
 /// Elements by their faults.
 const ELEMENTS: &str = r#"
 usual => {"address":"a.a","mode":"managed","type":"a","name":"a","change":{"actions":["create"]}}

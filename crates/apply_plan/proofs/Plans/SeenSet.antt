@@ -1,0 +1,70 @@
+-- A set of objects, and the changes that they are of.
+use Rattle.std.proofs.Common.{◌≡◌, Bool, true, false, cond, List, [], ◌∷◌, ◌++◌, not, ap, refl, sym, ◌∙◌}
+use Rattle.std.specs.Prelude.{◌||◌}
+use Rattle.std.specs.BTreeSet.{BTreeSet, contains, Updates}
+use Rattle.std.specs.List.{list_any}
+use Rattle.std.specs.Option.{option_copied}
+use Rattle.apply_plan.specs.declared.plan.object_id.ObjectId.{ObjectId}
+use Rattle.apply_plan.specs.declared.plan.seen_objects.SeenObjects.{SeenObjects}
+use Rattle.apply_plan.specs.declared.script.hashed_id.HashedId.{HashedId}
+use Rattle.apply_model.specs.Plan.ResourceChange.{ResourceChange}
+use Rattle.apply_plan.specs.Plan.ObjectName.{is_same_object}
+use Rattle.apply_plan.specs.Plan.SeenObjects.{is_of, is_same_id}
+use Rattle.apply_plan.specs.Plan.SeenSet.{HaveBeenSeen, has_seen}
+use Rattle.apply_plan.specs.Script.HashedId.{hashed, is_same}
+use Rattle.apply_plan.proofs.Scripts.Numbers.{by_hash_and_object, same_object, tells}
+
+any_same : (p q : HashedId → Bool) → ((id : HashedId) → p id ≡ q id) → (ids : List HashedId) → list_any p ids ≡ list_any q ids
+any_same p q same [] = refl
+any_same p q same (id ∷ ids) = rw (same id, any_same p q same ids) refl
+
+pub contains_is : (seen : BTreeSet HashedId) (id : HashedId) → contains by_hash_and_object seen id ≡ list_any (is_same id) seen.keys
+contains_is seen id = any_same _ _ (λ other. tells id other) seen.keys
+
+or_from_cond : (a b : Bool) → cond a true b ≡ (a || b)
+or_from_cond true b = refl
+or_from_cond false b = refl
+
+-- what an addition leaves
+pub added_is : (old new : BTreeSet HashedId) (id : ObjectId) (key : HashedId) → key ≡ hashed id → Updates by_hash_and_object old new key true
+    → (other : ObjectId) → list_any (is_same (hashed other)) new.keys ≡ (is_same_id id other || list_any (is_same (hashed other)) old.keys)
+added_is old new id key is updates other =
+    sym (contains_is new (hashed other)) ∙ updates.0 (hashed other)
+    ∙ rw (tells key (hashed other), is, same_object id other, contains_is old (hashed other)) (or_from_cond (is_same_id id other) (list_any (is_same (hashed other)) old.keys))
+
+-- ---- the objects of changes
+
+or_swap : (a b c : Bool) → (a || (b || c)) ≡ (b || (a || c))
+or_swap true true c = refl
+or_swap true false c = refl
+or_swap false b c = refl
+
+any_push : (p : ResourceChange → Bool) (changes : List ResourceChange) (change : ResourceChange) → list_any p (changes ++ change ∷ []) ≡ (p change || list_any p changes)
+any_push p [] change = refl
+any_push p (first ∷ others) change = rw (any_push p others change) (or_swap (p first) (p change) (list_any p others))
+
+true_of_not : (answer named : Bool) → answer ≡ not named → answer ≡ false → named ≡ true
+true_of_not answer true e f = refl
+true_of_not answer false e f = absurd cc
+
+false_of_not : (answer named : Bool) → answer ≡ not named → answer ≡ true → named ≡ false
+false_of_not answer true e f = absurd cc
+false_of_not answer false e f = refl
+
+-- of the object of a change
+module _ (id : ObjectId) (change : ResourceChange) (address : id.address.now ≡ change.address) (deposed : option_copied id.deposed ≡ change.deposed) where
+  -- the set goes on having the objects of the changes, after both have grown
+  pub seen_more : (old new : SeenObjects) (changes : List ResourceChange) → HaveBeenSeen old changes → ((other : ObjectId) → has_seen new other ≡ (is_same_id id other || has_seen old other))
+      → HaveBeenSeen new (changes ++ change ∷ [])
+  seen_more old new changes before grown other = grown other ∙ rw (before other, any_push (is_of other) changes change, address, deposed) refl
+
+  named : (seen : SeenObjects) (changes : List ResourceChange) → HaveBeenSeen seen changes → has_seen seen id ≡ list_any (is_same_object change) changes
+  named seen changes before = rw (← address, ← deposed) (before id)
+
+  -- an object that is in the set already is that of an earlier change
+  pub was_named : (seen : SeenObjects) (changes : List ResourceChange) (answer : Bool) → HaveBeenSeen seen changes → answer ≡ not (has_seen seen id) → answer ≡ false → list_any (is_same_object change) changes ≡ true
+  was_named seen changes answer before fresh e = true_of_not answer _ (fresh ∙ ap not (named seen changes before)) e
+
+  -- an object that is new to the set is that of no earlier change
+  pub was_not_named : (seen : SeenObjects) (changes : List ResourceChange) (answer : Bool) → HaveBeenSeen seen changes → answer ≡ not (has_seen seen id) → answer ≡ true → list_any (is_same_object change) changes ≡ false
+  was_not_named seen changes answer before fresh e = false_of_not answer _ (fresh ∙ ap not (named seen changes before)) e

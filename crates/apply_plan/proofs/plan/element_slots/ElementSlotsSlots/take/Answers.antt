@@ -1,0 +1,24 @@
+use Rattle.std.proofs.Common.{refl, subst, sym, ◌∙◌}
+use Rattle.serde_json.specs.Data.{put}
+use Rattle.apply_plan.specs.Plan.Members.{HoldsElement}
+use Rattle.apply_plan.proofs.Plans.Taken.{takes_change, takes_other, takes_scalar}
+use Rattle.apply_plan.proofs.plan.element_slots.ElementSlotsSlots.take.Goals as goal
+
+pub returns-then-eq-clause-ok : goal.returns-then-eq-clause-ok
+returns-then-eq-clause-ok c =
+    let done = c.in_ok-self.ensures.ok in
+    (done.0, done.1, λ start ms holds. takes_change c.args.self.now c.args.name.now done.0 ms holds _ (sym c.eq.ensures ∙ c.if-eq.true) done.2 refl)
+
+pub returns-in_ok-found-in-Some-clause-ok : goal.returns-in_ok-found-in-Some-clause-ok
+returns-in_ok-found-in-Some-clause-ok c =
+    let done = c.in_ok-found-in-Some.ensures.ok in (
+      done.0,
+      done.1,
+      λ start ms holds.
+          subst (λ slots. HoldsElement slots (put c.args.name.now done.0 ms)) (sym c.set.ensures) (takes_scalar c.args.self.now c.args.name.now done.0 ms holds c.in-Some.member c.in_ok-found-in-Some.found c.in-Some.ensures done.2),
+    )
+
+pub returns-in_ok-pass-in-None-clause-ok : goal.returns-in_ok-pass-in-None-clause-ok
+returns-in_ok-pass-in-None-clause-ok c =
+    let done = c.in_ok-pass-in-None.ensures.ok in
+    (done.0, done.1, λ start ms holds. takes_other c.args.self.now c.args.name.now done.0 ms holds c.in-None.ensures (sym c.eq.ensures ∙ c.if-eq.false))

@@ -1,0 +1,33 @@
+use Rattle.std.proofs.Common.{refl, sym}
+use Rattle.apply_plan.proofs.Plans.Elements.{holds_more, holds_past, holds_refused}
+use Rattle.apply_plan.proofs.plan.elements.ElementsCollector.take.Goals as goal
+
+pub returns-then-is_some-clause-ok : goal.returns-then-is_some-clause-ok
+returns-then-is_some-clause-ok c =
+    let done = c.in_ok-pass-2.ensures.ok in
+    (done.0, done.1, λ start ds holds. holds_past c.args.self.now _ ds done.0 (sym c.if-is_some.ensures) holds c.if-self-ge-MAX_CHANGES.false refl)
+
+pub returns-in_ok-push-in-Ok-clause-ok : goal.returns-in_ok-push-in-Ok-clause-ok
+returns-in_ok-push-in-Ok-clause-ok c =
+    let done = c.in_ok-planned.ensures.ok in
+    let made = c.args.self.now.changes.items in (
+      done.0,
+      done.1,
+      λ start ds holds.
+          holds_more c.args.self.now _ ds done.0 c.in-Ok.change holds c.if-self-ge-MAX_CHANGES.false (sym c.if-is_some.ensures) (λ count seen. c.in-Ok.ensures.defined done.0 made done.2 count seen) (λ seen. c.in-Ok.ensures.seen made seen) c.in_ok-push-in-Ok.ensures.items refl refl,
+    )
+
+pub returns-in-Err : goal.returns-in-Err
+returns-in-Err c =
+    let done = c.in_ok-planned.ensures.ok in
+    let made = c.args.self.now.changes.items in
+    record {
+      ok = (
+        done.0,
+        done.1,
+        λ start ds holds.
+            holds_refused c.args.self.now _ ds done.0 c.in-Err.fault holds c.if-self-ge-MAX_CHANGES.false (sym c.if-is_some.ensures) (λ count seen known. c.in-Err.ensures.defined done.0 made done.2 count seen known) refl refl refl,
+      );
+      shorter = c.in_ok-planned.ensures.shorter;
+      err = λ never. absurd cc;
+    }

@@ -1,0 +1,71 @@
+use Rattle.std.proofs.Common.{◌≡◌, codes, refl, subst, sym, true, ap, ◌∙◌}
+use Rattle.std.specs.Str.{bytes_eq}
+use Rattle.serde_json.specs.Find.{get_member}
+use Rattle.apply_json.specs.Seen.{seen}
+use Rattle.apply_json.specs.Tree.{list_of}
+use Rattle.apply_json.proofs.Held.{is_name, left, taken}
+use Rattle.apply_plan.specs.Plan.ElementsView.{HoldsElements, items_at, kind_of}
+use Rattle.apply_plan.proofs.plan.plan_slots.PlanSlotsSlots.take.Goals as goal
+
+pub returns-in_ok-self-clause-ok : goal.returns-in_ok-self-clause-ok
+returns-in_ok-self-clause-ok c =
+    let k = c.args.name.now in
+    let done = c.in_ok-self.ensures.ok in
+    let d = done.0 in
+    let here : bytes_eq k (codes "format_version") ≡ true = sym c.eq.ensures ∙ c.if-eq.true in (
+      d,
+      done.1,
+      λ start ms holds. record {
+        format_version = taken seen (codes "format_version") k d ms _ here done.2;
+        terraform_version = left seen (codes "terraform_version") k d ms _ (ap (λ name. bytes_eq name (codes "terraform_version")) (is_name k (codes "format_version") here)) holds.terraform_version;
+        resource_changes = left kind_of (codes "resource_changes") k d ms _ (ap (λ name. bytes_eq name (codes "resource_changes")) (is_name k (codes "format_version") here)) holds.resource_changes;
+        elements = subst (λ items. HoldsElements c.args.self.now.elements (list_of items)) (left items_at (codes "resource_changes") k d ms (items_at (get_member (codes "resource_changes") ms)) (ap (λ name. bytes_eq name (codes "resource_changes")) (is_name k (codes "format_version") here)) refl) holds.elements;
+      },
+    )
+
+pub returns-in_ok-self-2-clause-ok : goal.returns-in_ok-self-2-clause-ok
+returns-in_ok-self-2-clause-ok c =
+    let k = c.args.name.now in
+    let done = c.in_ok-self-2.ensures.ok in
+    let d = done.0 in
+    let here : bytes_eq k (codes "terraform_version") ≡ true = sym c.eq-else-eq.ensures ∙ c.if-eq-2.true in (
+      d,
+      done.1,
+      λ start ms holds. record {
+        format_version = left seen (codes "format_version") k d ms _ (ap (λ name. bytes_eq name (codes "format_version")) (is_name k (codes "terraform_version") here)) holds.format_version;
+        terraform_version = taken seen (codes "terraform_version") k d ms _ here done.2;
+        resource_changes = left kind_of (codes "resource_changes") k d ms _ (ap (λ name. bytes_eq name (codes "resource_changes")) (is_name k (codes "terraform_version") here)) holds.resource_changes;
+        elements = subst (λ items. HoldsElements c.args.self.now.elements (list_of items)) (left items_at (codes "resource_changes") k d ms (items_at (get_member (codes "resource_changes") ms)) (ap (λ name. bytes_eq name (codes "resource_changes")) (is_name k (codes "terraform_version") here)) refl) holds.elements;
+      },
+    )
+
+pub returns-in_ok-self-3-clause-ok : goal.returns-in_ok-self-3-clause-ok
+returns-in_ok-self-3-clause-ok c =
+    let k = c.args.name.now in
+    let done = c.in_ok-self-3.ensures.ok in
+    let d = done.0 in
+    let here : bytes_eq k (codes "resource_changes") ≡ true = sym c.eq-else-eq-2.ensures ∙ c.if-eq-3.true in (
+      d,
+      done.1,
+      λ start ms holds. record {
+        format_version = left seen (codes "format_version") k d ms _ (ap (λ name. bytes_eq name (codes "format_version")) (is_name k (codes "resource_changes") here)) holds.format_version;
+        terraform_version = left seen (codes "terraform_version") k d ms _ (ap (λ name. bytes_eq name (codes "terraform_version")) (is_name k (codes "resource_changes") here)) holds.terraform_version;
+        resource_changes = taken kind_of (codes "resource_changes") k d ms _ here done.2;
+        elements = subst (λ items. HoldsElements c.read_list.new.collector (list_of items)) (taken items_at (codes "resource_changes") k d ms _ here refl) done.3;
+      },
+    )
+
+pub returns-in_ok-pass-clause-ok : goal.returns-in_ok-pass-clause-ok
+returns-in_ok-pass-clause-ok c =
+    let k = c.args.name.now in
+    let done = c.in_ok-pass.ensures.ok in
+    let d = done.0 in (
+      d,
+      done.1,
+      λ start ms holds. record {
+        format_version = left seen (codes "format_version") k d ms _ (sym c.eq.ensures ∙ c.if-eq.false) holds.format_version;
+        terraform_version = left seen (codes "terraform_version") k d ms _ (sym c.eq-else-eq.ensures ∙ c.if-eq-2.false) holds.terraform_version;
+        resource_changes = left kind_of (codes "resource_changes") k d ms _ (sym c.eq-else-eq-2.ensures ∙ c.if-eq-3.false) holds.resource_changes;
+        elements = subst (λ items. HoldsElements c.args.self.now.elements (list_of items)) (left items_at (codes "resource_changes") k d ms (items_at (get_member (codes "resource_changes") ms)) (sym c.eq-else-eq-2.ensures ∙ c.if-eq-3.false) refl) holds.elements;
+      },
+    )

@@ -1,0 +1,61 @@
+//! What is kept of the members of `change`.
+
+ghost use Rattle.apply_plan.specs.Plan.Members.{HoldsChange};
+
+use crate::plan::actions::read_actions;
+use crate::plan::id_slots::{read_hides_id, read_id};
+use apply_json::{ReadFault, Reader, Slots, pass};
+use apply_model::Action;
+use std::alloc::Global;
+
+/// The members of `change`.
+#[derive(Clone, Copy, Drop)]
+pub struct ChangeSlots<'a> {
+    /// The action that the list of actions means, if any. `None` where there is no such list.
+    pub actions: Option<Option<Action>>,
+    /// The id before the change, where it is a text that is not empty.
+    pub id: Option<&'a str>,
+    /// Whether that id is sensitive.
+    pub hides_id: bool,
+}
+
+impl<'a> ChangeSlots<'a> {
+    ghost use Rattle.serde_json.specs.Data.{no_members};
+
+    /// No member.
+    pub fn new() -> ChangeSlots<'a>
+        ensures { HoldsChange result no_members }
+    {
+        ChangeSlots {
+            actions: None,
+            id: None,
+            hides_id: false,
+        }
+    }
+}
+
+impl<'a> Slots<'a> for ChangeSlots<'a> {
+    ghost holds = { λ _ slots ms. HoldsChange slots ms };
+
+    fn take(
+        &mut self,
+        alloc: Global,
+        name: &str,
+        reader: &mut Reader<'a>,
+        depth: usize,
+    ) -> Result<(), ReadFault> {
+        if name == "actions" {
+            self.actions = read_actions(alloc, reader, depth)?;
+            Ok(())
+        } else if name == "before" {
+            self.id = read_id(alloc, reader, depth)?;
+            Ok(())
+        } else if name == "before_sensitive" {
+            self.hides_id = read_hides_id(alloc, reader, depth)?;
+            Ok(())
+        } else {
+            pass(reader, depth)?;
+            Ok(())
+        }
+    }
+}

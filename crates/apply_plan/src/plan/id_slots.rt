@@ -1,0 +1,98 @@
+//! The id in what was before a change, and in what of that is sensitive.
+
+ghost use Rattle.std.specs.Prelude.{◌≡◌, ◌<◌, Err, IfOk, OnOk, Some, length};
+ghost use Rattle.std.specs.Option.{option_copied};
+ghost use Rattle.serde_json.specs.Data.{Data};
+ghost use Rattle.apply_json.specs.Seen.{scalar_view};
+ghost use Rattle.apply_json.specs.Tokens.{IsNoValue, IsRead};
+ghost use Rattle.apply_plan.specs.Plan.Members.{HoldsId, id_held, id_member, sensitive_member, truth_seen};
+
+use apply_json::members::non_empty;
+use apply_json::{ReadFault, Reader, Scalar, Slots, pass, read_object, read_scalar};
+use std::alloc::Global;
+
+/// The members of `before` or of `before_sensitive`.
+#[derive(Clone, Copy, Drop)]
+pub struct IdSlots<'a> {
+    pub id: Scalar<'a>,
+}
+
+impl<'a> IdSlots<'a> {
+    ghost use Rattle.serde_json.specs.Data.{no_members};
+
+    /// No member.
+    pub fn new() -> IdSlots<'a>
+        ensures { HoldsId result no_members }
+    {
+        IdSlots { id: Scalar::Absent }
+    }
+
+    /// The id, where it is a text that is not empty.
+    fn text(&self) -> Option<&'a str>
+        ensures { option_copied result ≡ id_held self.now }
+    {
+        non_empty(self.id.text()?)
+    }
+}
+
+impl<'a> Slots<'a> for IdSlots<'a> {
+    ghost holds = { λ _ slots ms. HoldsId slots ms };
+
+    fn take(
+        &mut self,
+        _alloc: Global,
+        name: &str,
+        reader: &mut Reader<'a>,
+        depth: usize,
+    ) -> Result<(), ReadFault> {
+        if name == "id" {
+            self.id = read_scalar(reader, depth)?;
+            Ok(())
+        } else {
+            pass(reader, depth)?;
+            Ok(())
+        }
+    }
+}
+
+/// Reads the id in `before`, where it is a text that is not empty. Arrays and objects nest at most `depth` deep there.
+pub fn read_id<'a>(
+    alloc: Global,
+    reader: &mut Reader<'a>,
+    depth: usize,
+) -> Result<Option<&'a str>, ReadFault>
+    ensures ok { IfOk result (λ found. (d : Data) × IsRead depth reader.old d reader.new
+        × (option_copied found ≡ id_member (Some d))) }
+    ensures shorter { OnOk result (length reader.new < length reader.old) }
+    ensures err { result ≡ Err ReadFault.NotJson → IsNoValue depth reader.old }
+{
+    let mut slots = IdSlots::new();
+    read_object(alloc, reader, depth, &mut slots)?;
+    Ok(slots.text())
+}
+
+/// Reads `before_sensitive`: whether it hides the id. Arrays and objects nest at most `depth` deep there.
+pub fn read_hides_id(
+    alloc: Global,
+    reader: &mut Reader<'_>,
+    depth: usize,
+) -> Result<bool, ReadFault>
+    ensures ok { IfOk result (λ hides. (d : Data) × IsRead depth reader.old d reader.new
+        × (hides ≡ sensitive_member (Some d))) }
+    ensures shorter { OnOk result (length reader.new < length reader.old) }
+    ensures err { result ≡ Err ReadFault.NotJson → IsNoValue depth reader.old }
+{
+    let mut slots = IdSlots::new();
+    let value = read_object(alloc, reader, depth, &mut slots)?;
+    Ok(is_true(value) || is_true(slots.id))
+}
+
+/// Whether the value is `true` and nothing else.
+fn is_true(found: Scalar<'_>) -> bool
+    ensures { result ≡ truth_seen (scalar_view found.entry) }
+{
+    match found {
+        Scalar::Bool(b) => b,
+        _ => false,
+    }
+}
