@@ -1,4 +1,5 @@
-//! What no clause says: whole streams in Terraform's form as bytes, and which scripts are refused for their outputs.
+//! What no clause says: whole streams in Terraform's form as bytes, and which scripts are refused for their outputs and for
+//! their diagnostics of no step.
 
 ghost use Rattle.std.specs.Prelude.{◌≡◌};
 
@@ -142,6 +143,16 @@ fn destroy_is_as_terraform_prints_it(rt: HostRuntime) {
 }
 
 #[test]
+fn diagnostics_of_no_step_are_as_terraform_prints_them(rt: HostRuntime) {
+    streams_are(&rt, rt.alloc(), &cases::diagnostics_of_no_step::CASE);
+}
+
+#[test]
+fn error_of_no_step_is_as_terraform_prints_it(rt: HostRuntime) {
+    streams_are(&rt, rt.alloc(), &cases::error_of_no_step::CASE);
+}
+
+#[test]
 fn errored_is_as_terraform_prints_it(rt: HostRuntime) {
     streams_are(&rt, rt.alloc(), &cases::errored::CASE);
 }
@@ -159,6 +170,11 @@ fn failed_is_as_terraform_prints_it(rt: HostRuntime) {
 #[test]
 fn failed_delete_is_as_terraform_prints_it(rt: HostRuntime) {
     streams_are(&rt, rt.alloc(), &cases::failed_delete::CASE);
+}
+
+#[test]
+fn moved_is_as_terraform_prints_it(rt: HostRuntime) {
+    streams_are(&rt, rt.alloc(), &cases::moved::CASE);
 }
 
 #[test]
@@ -182,6 +198,11 @@ fn planned_id_is_as_terraform_prints_it(rt: HostRuntime) {
 }
 
 #[test]
+fn range_and_snippet_is_as_terraform_prints_it(rt: HostRuntime) {
+    streams_are(&rt, rt.alloc(), &cases::range_and_snippet::CASE);
+}
+
+#[test]
 fn targeted_is_as_terraform_prints_it(rt: HostRuntime) {
     streams_are(&rt, rt.alloc(), &cases::targeted::CASE);
 }
@@ -195,6 +216,8 @@ fn end_of(ended: Result<FormReport, Refusal>) -> &'static str {
         Err(Refusal::Script(ScriptError::BadOutput(1))) => "malformed 1",
         Err(Refusal::Script(ScriptError::UnknownOutput(0))) => "unknown 0",
         Err(Refusal::Script(ScriptError::UnknownOutput(1))) => "unknown 1",
+        Err(Refusal::Script(ScriptError::BadDiagnostic(0))) => "diagnostic 0",
+        Err(Refusal::Script(ScriptError::BadDiagnostic(1))) => "diagnostic 1",
         Err(Refusal::Plan(PlanError::NotJson)) => "no plan",
         Err(_) => "another end",
     }
@@ -229,13 +252,13 @@ const SCRIPTS: &str = r#"{"changes":[]} => applied
 {"outputs":{"new":{},"known":{"type":"string"}},"changes":[]} => malformed 1
 {"outputs":{"zebra":{"type":"string"},"known":{"type":"string"}},"changes":[]} => unknown 1"#;
 
-#[test]
-fn outputs_of_a_script_are_refused_in_their_order(rt: HostRuntime) {
-    let alloc = rt.alloc();
-    for row in SCRIPTS.lines() {
-        let (script, wanted) = row.split_once(" => ").expect(&rt, "a mark");
+/// Fails where a script for that plan ends a run in Terraform's form otherwise than its row says, or is refused in the default
+/// form.
+fn scripts_end_so<R: Threads + Wait + Sync + Abort>(rt: &R, alloc: Global, rows: &str) {
+    for row in rows.lines() {
+        let (script, wanted) = row.split_once(" => ").expect(rt, "a mark");
         let (_, told) = by_workers(
-            &rt,
+            rt,
             alloc,
             WITH_OUTPUTS,
             Some(script),
@@ -245,7 +268,7 @@ fn outputs_of_a_script_are_refused_in_their_order(rt: HostRuntime) {
         );
         assert!(rt; end_of(told) == wanted, "{script}");
         let (_, plain) = by_workers(
-            &rt,
+            rt,
             alloc,
             WITH_OUTPUTS,
             Some(script),
@@ -255,6 +278,47 @@ fn outputs_of_a_script_are_refused_in_their_order(rt: HostRuntime) {
         );
         assert!(rt; end_of(plain) == "applied", "{script}");
     }
+}
+
+#[test]
+fn outputs_of_a_script_are_refused_in_their_order(rt: HostRuntime) {
+    scripts_end_so(&rt, rt.alloc(), SCRIPTS);
+}
+
+/// Scripts with diagnostics of no step, and how a run in Terraform's form ends; in the default form all are applied.
+const DIAGNOSTICS: &str = r#"{"diagnostics":null,"changes":[]} => applied
+{"diagnostics":[],"changes":[]} => applied
+{"diagnostics":{},"changes":[]} => malformed
+{"diagnostics":5,"changes":[]} => malformed
+{"diagnostics":"[]","changes":[]} => malformed
+{"diagnostics":5,"diagnostics":[],"changes":[]} => applied
+{"diagnostics":[5],"changes":[]} => diagnostic 0
+{"diagnostics":[null],"changes":[]} => diagnostic 0
+{"diagnostics":[[]],"changes":[]} => diagnostic 0
+{"diagnostics":[{"summary":"no"}],"changes":[]} => diagnostic 0
+{"diagnostics":[{"severity":null,"summary":"no"}],"changes":[]} => diagnostic 0
+{"diagnostics":[{"severity":"warn","summary":"no"}],"changes":[]} => diagnostic 0
+{"diagnostics":[{"severity":["error"],"summary":"no"}],"changes":[]} => diagnostic 0
+{"diagnostics":[{"severity":"error"}],"changes":[]} => diagnostic 0
+{"diagnostics":[{"severity":"error","summary":null}],"changes":[]} => diagnostic 0
+{"diagnostics":[{"severity":"error","summary":5}],"changes":[]} => diagnostic 0
+{"diagnostics":[{"severity":"error","summary":""}],"changes":[]} => applied
+{"diagnostics":[{"severity":"\u0065rror","summary":"","detail":null,"address":null,"range":null,"snippet":null}],"changes":[]} => applied
+{"diagnostics":[{"severity":"warning","summary":"","detail":"","address":"","range":{},"snippet":{}}],"changes":[]} => applied
+{"diagnostics":[{"severity":"error","summary":"","detail":5}],"changes":[]} => diagnostic 0
+{"diagnostics":[{"severity":"error","summary":"","address":5}],"changes":[]} => diagnostic 0
+{"diagnostics":[{"severity":"error","summary":"","range":"x"}],"changes":[]} => diagnostic 0
+{"diagnostics":[{"severity":"error","summary":"","range":[]}],"changes":[]} => diagnostic 0
+{"diagnostics":[{"severity":"error","summary":"","snippet":1}],"changes":[]} => diagnostic 0
+{"diagnostics":[{"severity":5,"severity":"error","summary":""}],"changes":[]} => applied
+{"diagnostics":[{"severity":"error","summary":""},{"summary":""}],"changes":[]} => diagnostic 1
+{"diagnostics":[{},{}],"changes":[]} => diagnostic 0
+{"diagnostics":5,"outputs":{"another":{"type":"string","value":"h"}},"changes":[]} => unknown 0
+{"diagnostics":[5],"outputs":{"known":{}},"changes":[]} => malformed 0"#;
+
+#[test]
+fn diagnostics_of_a_script_are_refused_in_their_order(rt: HostRuntime) {
+    scripts_end_so(&rt, rt.alloc(), DIAGNOSTICS);
 }
 
 /// Scripts for it, and the outputs that are told.

@@ -2,18 +2,19 @@
 
 ghost use Rattle.std.specs.Prelude.{◌≡◌};
 ghost use Rattle.std.specs.Option.{option_copied};
+ghost use Rattle.apply_run.specs.Stream.Terraform as specs;
 ghost use Rattle.apply_run.specs.Stream.Terraform.{imported_in, planned_id_of, tells_error};
 
 use apply_events::Counts;
-use apply_form::{ChangeDetails, Output, PlanNote};
+use apply_model::{ChangeDetails, Note, Output, Severity};
 
 /// What a plan and a script say besides for Terraform's form.
 #[derive(Clone, Copy)]
 pub(crate) struct ToldBesides<'a> {
     /// What is told of each change, by its number.
     pub details: &'a [ChangeDetails],
-    /// What is said of the plan as a whole.
-    pub note: Option<PlanNote>,
+    /// The diagnostics of no step, in their order.
+    pub notes: &'a [Note],
     /// The outputs, in their order.
     pub outputs: &'a [Output],
 }
@@ -41,8 +42,18 @@ impl ToldBesides<'_> {
 
     /// Whether the stream tells of an error, where its events add up so.
     pub fn tells_error(&self, counts: &Counts) -> bool
-        ensures { result ≡ tells_error self.now.note counts.now }
+        ensures { result ≡ tells_error self.now.notes.now counts.now }
     {
-        0 < counts.failed || 0 < counts.halted || self.note == Some(PlanNote::Unfinished)
+        0 < counts.failed || 0 < counts.halted || self.notes.iter().any(is_error)
+    }
+}
+
+/// Whether a diagnostic of no step is an error.
+fn is_error(note: &Note) -> bool
+    ensures { result ≡ specs.is_error note.now }
+{
+    match note.severity {
+        Severity::Error => true,
+        Severity::Warning => false,
     }
 }
