@@ -1,14 +1,18 @@
 -- What was written, with more of it.
-use Rattle.std.proofs.Common.{◌≡◌, ◌∙◌, ℕ, ◌+◌, ◌<◌, ◌∷◌, [], ◌++◌, List, Bool, Option, ap, subst, sym, get_or, length, take, append-nil, length-append, refl, codes, arith}
-use Rattle.std.specs.Prelude.{All, map}
-use Rattle.std.specs.List.{flat_map}
+use Rattle.std.proofs.Common.{◌≡◌, ◌∙◌, ℕ, ◌+◌, ◌<◌, ◌∷◌, [], ◌++◌, List, Bool, Option, None, Some, ap, subst, sym, get_or, length, take, append-nil, append_assoc, codes, arith}
+use Rattle.std.specs.Prelude.{All, IfSome, map}
+use Rattle.std.specs.List.{AllZip, flat_map, slice_get}
 use Rattle.std.specs.Io.KnownBytes.{Appends, Keeps}
 use Rattle.std.proofs.KnownBytes.{Appends-kept, Appends-nil, Appends-trans}
 use Rattle.std.proofs.lemmas.Grind.{flat_map-append}
 use Rattle.std.proofs.lemmas.List.{map-append, take_more}
 use Rattle.std.proofs.lemmas.List.Elements.{All-append}
-use Rattle.apply_picture.specs.Lines.{IsLine, LinesWritten, RowsWritten, TextWritten, line_bytes, text_bytes}
-use Rattle.apply_picture.specs.Markup.{GroupWritten, GroupsWritten, MarkupWritten, SvgWritten, group_bytes, part_bytes}
+use Rattle.apply_view.specs.Steps.{ToldStep}
+use Rattle.apply_picture.specs.Heading.{heading_words}
+use Rattle.apply_picture.specs.Lines.{IsHeadedBy, IsLine, IsRowAt, LinesWritten, RowsWritten, TextWritten, heading_characters, line_bytes, text_bytes}
+use Rattle.apply_picture.specs.Markup.{GroupWritten, GroupsWritten, HeadWritten, IsGroupAt, IsGroupOf, MarkupWritten, SvgWritten, escaped, group_bytes, heading_bytes, part_bytes, title_bytes}
+use Rattle.apply_picture.specs.Shown.{shown_characters}
+use Rattle.apply_picture.specs.declared.picture.Picture.{Picture}
 use Rattle.apply_picture.specs.declared.svg.part.Part.{Part}
 use Rattle.apply_picture.specs.declared.text.line.Line.{Line}
 use Rattle.apply_picture.specs.declared.text.piece.Piece.{Piece}
@@ -40,33 +44,50 @@ pub line-sent : (colour : Bool) (lines : List Line) (i : ℕ) (line : Line) (a b
 line-sent colour lines i line a b c below is before more =
     subst (Appends a c) (sym (text-more colour lines i line below is)) (Appends-trans a b c _ _ before more)
 
+-- ---- two lists, place by place
+
+pub zip_push : {A B : Type 0} (R : A → B → Type 0) (xs : List A) (ys : List B) (x : A) (y : B) → AllZip R xs ys → R x y
+    → AllZip R (xs ++ x ∷ []) (ys ++ y ∷ [])
+zip_push R [] [] x y all one = (one, tt)
+zip_push R [] (z ∷ zs) x y all one = absurd all
+zip_push R (w ∷ ws) [] x y all one = absurd all
+zip_push R (w ∷ ws) (z ∷ zs) x y all one = (all.0, zip_push R ws zs x y all.1 one)
+
+pub zip_more : {A B : Type 0} (R : A → B → Type 0) (xs : List A) (i : ℕ) (d : A) (ys : List B) (y : B) → i < length xs
+    → AllZip R (take i xs) ys → R (get_or xs i d) y → AllZip R (take (i + 1) xs) (ys ++ y ∷ [])
+zip_more R xs i d ys y below all one =
+    subst (λ zs. AllZip R zs (ys ++ y ∷ [])) (sym (take_more xs i d below)) (zip_push R (take i xs) ys (get_or xs i d) y all one)
+
 -- ---- lines
 
-pub no_rows : (width : ℕ) (colour : Bool) (a : Option (List ℕ)) → RowsWritten width colour 0 a a
-no_rows width colour a = record { rows = []; each = refl; fine = λ k d below. absurd (omega (arith, below)); written = Appends-nil a }
+pub no_rows : (width : ℕ) (colour : Bool) (steps : List ToldStep) (a : Option (List ℕ)) → RowsWritten width colour steps [] a a
+no_rows width colour steps a = record { rows = []; each = tt; fine = λ k d below. absurd (omega (arith, below)); written = Appends-nil a }
 
 -- what is so of each of some lines and of one more
 all-more : (P : List Piece → Type 0) (lines : List (List Piece)) (line : List Piece) → All P lines → P line → All P (lines ++ line ∷ [])
 all-more P lines line all one = All-append P lines (line ∷ []) all (λ k d below. let zero : k ≡ 0 = omega (arith, below) in rw zero one)
 
-pub row_more : (width : ℕ) (colour : Bool) (count : ℕ) (a b c : Option (List ℕ)) (row : List Piece) → RowsWritten width colour count a b
-    → IsLine width row → Appends b c (line_bytes colour row) → RowsWritten width colour (count + 1) a c
-row_more width colour count a b c row before fine more =
+pub row_more : (width : ℕ) (colour : Bool) (steps : List ToldStep) (places : List ℕ) (i : ℕ) (a b c : Option (List ℕ)) (row : List Piece)
+    → i < length places → RowsWritten width colour steps (take i places) a b → IsRowAt width steps (get_or places i 0) row
+    → IsLine width row → Appends b c (line_bytes colour row) → RowsWritten width colour steps (take (i + 1) places) a c
+row_more width colour steps places i a b c row below before of_step fine more =
     let one : text_bytes colour (row ∷ []) ≡ line_bytes colour row = append-nil (line_bytes colour row) in
     record {
       rows = before.rows ++ row ∷ [];
-      each = omega (arith, length-append before.rows (row ∷ []), before.each);
+      each = zip_more (IsRowAt width steps) places i 0 before.rows row below before.each of_step;
       fine = all-more (IsLine width) before.rows row before.fine fine;
       written = subst (Appends a c) (sym (flat_map-append (line_bytes colour) before.rows (row ∷ []) ∙ ap (λ bs. text_bytes colour before.rows ++ bs) one))
           (Appends-trans a b c _ _ before.written more);
     }
 
 -- a head, the rows, and a tail, all of one style
-pub text_written : (style : Style) (count : ℕ) (a b c d : Option (List ℕ)) (head tail : List (List Piece)) (first last : Style)
+pub text_written : (style : Style) (picture : Picture) (a b c d : Option (List ℕ)) (head tail : List (List Piece)) (first last : Style)
     → first ≡ style → last ≡ style → All (IsLine first.width) head → Appends a b (text_bytes first.has_colour head)
-    → RowsWritten style.width style.has_colour count b c → All (IsLine last.width) tail → Appends c d (text_bytes last.has_colour tail)
-    → TextWritten style.width style.has_colour count a d
-text_written style count a b c d head tail first last is_first is_last head_fine head_sent rows tail_fine tail_sent =
+    → IsHeadedBy style.width (heading_characters picture) head
+    → RowsWritten style.width style.has_colour picture.told.now.steps picture.rows.places.items b c
+    → All (IsLine last.width) tail → Appends c d (text_bytes last.has_colour tail)
+    → TextWritten style.width style.has_colour picture a d
+text_written style picture a b c d head tail first last is_first is_last head_fine head_sent headed rows tail_fine tail_sent =
     let colour = style.has_colour in
     let fine_head = subst (λ (s : Style). All (IsLine s.width) head) is_first head_fine in
     let fine_tail = subst (λ (s : Style). All (IsLine s.width) tail) is_last tail_fine in
@@ -76,6 +97,7 @@ text_written style count a b c d head tail first last is_first is_last head_fine
       head = head;
       rows = rows.rows;
       tail = tail;
+      headed = headed;
       each = rows.each;
       fine = All-append (IsLine style.width) (head ++ rows.rows) tail (All-append (IsLine style.width) head rows.rows fine_head rows.fine) fine_tail;
       written = subst (Appends a d)
@@ -84,8 +106,9 @@ text_written style count a b c d head tail first last is_first is_last head_fine
           (Appends-trans a c d _ _ (Appends-trans a b c _ _ sent_head rows.written) sent_tail);
     }
 
-pub as_lines : (width : ℕ) (colour : Bool) (count : ℕ) (a b : Option (List ℕ)) → TextWritten width colour count a b → LinesWritten width colour a b
-as_lines width colour count a b text = record { lines = text.head ++ text.rows ++ text.tail; fine = text.fine; written = text.written }
+pub as_lines : (width : ℕ) (colour : Bool) (picture : Picture) (a b : Option (List ℕ)) → TextWritten width colour picture a b
+    → LinesWritten width colour a b
+as_lines width colour picture a b text = record { lines = text.head ++ text.rows ++ text.tail; fine = text.fine; written = text.written }
 
 -- ---- markup
 
@@ -101,26 +124,95 @@ more_markup a b c parts before more = record {
 pub markup_then : (a b c : Option (List ℕ)) → MarkupWritten a b → MarkupWritten b c → MarkupWritten a c
 markup_then a b c before more = more_markup a b c more.parts before more.written
 
-pub no_groups : (a : Option (List ℕ)) → GroupsWritten 0 a a
-no_groups a = record { groups = []; each = refl; written = Appends-nil a }
+pub no_groups : (steps : List ToldStep) (a : Option (List ℕ)) → GroupsWritten steps [] a a
+no_groups steps a = record { groups = []; each = tt; written = Appends-nil a }
 
-pub group_more : (count : ℕ) (a b c : Option (List ℕ)) → GroupsWritten count a b → GroupWritten b c → GroupsWritten (count + 1) a c
-group_more count a b c before more =
+pub group_more : (steps : List ToldStep) (places : List ℕ) (i : ℕ) (a b c : Option (List ℕ)) → i < length places
+    → GroupsWritten steps (take i places) a b → GroupWritten steps (get_or places i 0) b c
+    → GroupsWritten steps (take (i + 1) places) a c
+group_more steps places i a b c below before more =
     let one : flat_map group_bytes (more.group ∷ []) ≡ group_bytes more.group = append-nil (group_bytes more.group) in
     record {
       groups = before.groups ++ more.group ∷ [];
-      each = omega (arith, length-append before.groups (more.group ∷ []), before.each);
+      each = zip_more (IsGroupAt steps) places i 0 before.groups more.group below before.each more.is;
       written = subst (Appends a c)
           (sym (flat_map-append group_bytes before.groups (more.group ∷ []) ∙ ap (λ bs. flat_map group_bytes before.groups ++ bs) one))
           (Appends-trans a b c _ _ before.written more.written);
     }
 
-pub svg_written : (count : ℕ) (a b c d e f : Option (List ℕ)) (tail : List Part) → MarkupWritten a b → GroupsWritten count b c
-    → Appends c d (flat_map part_bytes tail) → Appends d e (codes "</svg>\n") → Keeps e f → SvgWritten count a f
-svg_written count a b c d e f tail head groups tail_sent end kept = record {
-  head = head.parts;
-  groups = groups.groups;
-  tail = tail;
-  each = groups.each;
-  written = Appends-kept a e f _ (Appends-trans a d e _ _ (Appends-trans a c d _ _ (Appends-trans a b c _ _ head.written groups.written) tail_sent) end) kept;
+pub svg_written : (picture : Picture) (a b c d e f g : Option (List ℕ)) (others tail : List Part) → HeadWritten picture a b
+    → Appends b c (flat_map part_bytes others) → MarkupWritten c d → GroupsWritten picture.told.now.steps picture.rows.places.items d e
+    → Appends e f (flat_map part_bytes tail) → Appends f g (codes "</svg>\n") → (h : Option (List ℕ)) → Keeps g h → SvgWritten picture a h
+svg_written picture a b c d e f g others tail head others_sent grid groups tail_sent end h kept =
+    let front = markup_then b c d (more_markup b b c others (no_markup b) others_sent) grid in
+    let more = front.parts in
+    let back = head.titled.back ++ more in
+    record {
+      head = head.parts ++ more;
+      groups = groups.groups;
+      tail = tail;
+      titled = record {
+        front = head.titled.front;
+        back = back;
+        is = flat_map-append part_bytes head.parts more ∙ ap (λ bs. bs ++ flat_map part_bytes more) head.titled.is
+            ∙ append_assoc _ (flat_map part_bytes head.titled.back) (flat_map part_bytes more)
+            ∙ ap (λ bs. flat_map part_bytes head.titled.front ++ codes "<title>" ++ heading_bytes picture ++ codes "</title>" ++ bs)
+            (sym (flat_map-append part_bytes head.titled.back more));
+      };
+      each = groups.each;
+      written = subst (λ bs. Appends a h (bs ++ flat_map group_bytes groups.groups ++ flat_map part_bytes tail ++ codes "</svg>\n"))
+          (sym (flat_map-append part_bytes head.parts more))
+          (Appends-kept a g h _ (Appends-trans a f g _ _ (Appends-trans a e f _ _ (Appends-trans a d e _ _
+          (Appends-trans a b d _ _ head.written front.written) groups.written) tail_sent) end) kept);
+    }
+
+-- what was done stands between two tags, behind what came before
+pub head_written : (picture : Picture) (a b c d : Option (List ℕ)) (front old title style : List Part) (what : List ℕ) → old ≡ []
+    → what ≡ shown_characters (heading_words picture.moments picture.told.now picture.numbers)
+    → flat_map part_bytes title ≡ flat_map part_bytes old ++ codes "<title>" ++ flat_map escaped what ++ codes "</title>"
+    → Appends a b (flat_map part_bytes front) → Appends b c (flat_map part_bytes title) → Appends c d (flat_map part_bytes style)
+    → HeadWritten picture a d
+head_written picture a b c d front old title style what none is told front_sent title_sent style_sent =
+    let F = flat_map part_bytes front in
+    let S = flat_map part_bytes style in
+    let is_title : flat_map part_bytes title ≡ codes "<title>" ++ heading_bytes picture ++ codes "</title>" =
+    told ∙ ap (λ ps. flat_map part_bytes ps ++ codes "<title>" ++ flat_map escaped what ++ codes "</title>") none
+    ∙ ap (λ cs. codes "<title>" ++ flat_map escaped cs ++ codes "</title>") is in
+    let joined : F ++ (codes "<title>" ++ heading_bytes picture ++ codes "</title>")
+    ≡ F ++ codes "<title>" ++ heading_bytes picture ++ codes "</title>" =
+    sym (append_assoc F (codes "<title>" ++ heading_bytes picture) (codes "</title>"))
+    ∙ ap (λ bs. bs ++ codes "</title>") (sym (append_assoc F (codes "<title>") (heading_bytes picture))) in
+    record {
+      parts = front ++ title ++ style;
+      titled = record {
+        front = front;
+        back = style;
+        is = flat_map-append part_bytes (front ++ title) style
+            ∙ ap (λ bs. bs ++ S) (flat_map-append part_bytes front title ∙ ap (λ bs. F ++ bs) is_title ∙ joined);
+      };
+      written = subst (Appends a d)
+          (sym (flat_map-append part_bytes (front ++ title) style ∙ ap (λ bs. bs ++ S) (flat_map-append part_bytes front title)))
+          (Appends-trans a c d _ _ (Appends-trans a b c _ _ front_sent title_sent) style_sent);
+    }
+
+-- ---- the row of a step
+
+group_if : (step : Option ToldStep) (title rest : List Part) → IfSome step (λ step. flat_map part_bytes title ≡ title_bytes step)
+    → IfSome step (IsGroupOf (title ++ rest))
+group_if None title rest told = tt
+group_if (Some step) title rest told =
+    record { rest = rest; begins = flat_map-append part_bytes title rest ∙ ap (λ bs. bs ++ flat_map part_bytes rest) told }
+
+pub group_written : (steps : List ToldStep) (place : ℕ) (a b c d e : Option (List ℕ)) (old title rest : List Part) → old ≡ []
+    → IfSome (slice_get steps place) (λ step. flat_map part_bytes title ≡ flat_map part_bytes old ++ title_bytes step)
+    → Appends a b (codes "<g>") → Appends b c (flat_map part_bytes title) → Appends c d (flat_map part_bytes rest) → Appends d e (codes "</g>\n")
+    → GroupWritten steps place a e
+group_written steps place a b c d e old title rest none told begin_sent title_sent rest_sent end_sent = record {
+  group = title ++ rest;
+  is = group_if (slice_get steps place) title rest
+      (subst (λ (ps : List Part). IfSome (slice_get steps place) (λ step. flat_map part_bytes title ≡ flat_map part_bytes ps ++ title_bytes step)) none told);
+  written = subst (λ bs. Appends a e (bs ++ codes "</g>\n"))
+      (append_assoc (codes "<g>") (flat_map part_bytes title) (flat_map part_bytes rest)
+      ∙ ap (λ bs. codes "<g>" ++ bs) (sym (flat_map-append part_bytes title rest)))
+      (Appends-trans a d e _ _ (Appends-trans a c d _ _ (Appends-trans a b c _ _ begin_sent title_sent) rest_sent) end_sent);
 }

@@ -1,9 +1,13 @@
 -- What the SVG is made of: markup of ours, numbers, and characters of texts, which are escaped.
-use Rattle.std.specs.Prelude.{◌≡◌, ◌++◌, ◌∷◌, ◌==◌, ◌||◌, ◌⊎◌, [], ℕ, ◌/◌, ◌%◌, List, Bool, All, Option, IsTrue, codes, encode_utf8, if◌then◌else◌, length}
+use Rattle.std.specs.Prelude.{◌≡◌, ◌++◌, ◌∷◌, ◌==◌, ◌||◌, ◌⊎◌, [], ℕ, ◌/◌, ◌%◌, List, Bool, All, Option, IfSome, IsTrue, codes, encode_utf8, if◌then◌else◌}
 use Rattle.std.specs.Fmt.{decimal}
-use Rattle.std.specs.List.{flat_map, list_any}
+use Rattle.std.specs.List.{AllZip, flat_map, list_any, slice_get}
 use Rattle.std.specs.Str.{NoCharPasses, bytes_eq}
 use Rattle.std.specs.Io.KnownBytes.{Appends}
+use Rattle.apply_view.specs.Steps.{ToldStep}
+use Rattle.apply_picture.specs.Heading.{heading_words}
+use Rattle.apply_picture.specs.Shown.{shown_characters}
+use Rattle.apply_picture.specs.declared.picture.Picture.{Picture}
 use Rattle.apply_picture.specs.declared.svg.part.Part.{Part}
 use Rattle.apply_picture.specs.declared.svg.part.Part.TheVariants as part
 
@@ -30,31 +34,70 @@ pub record MarkupWritten (before after : Option (List ℕ)) : Type 0 where
   pub parts : List Part
   pub written : Appends before after (flat_map part_bytes parts)
 
--- a row: what the group has
+-- the characters of a text as it is shown
+abbrev pub shown_bytes : List ℕ → List ℕ
+shown_bytes bytes = flat_map escaped (shown_characters bytes)
+
+-- ---- rows
+
+-- the address of a step, and behind it its action, as the title of its row
+abbrev pub title_bytes : ToldStep → List ℕ
+title_bytes step = codes "<title>" ++ shown_bytes step.address ++ codes "\n" ++ shown_bytes step.action
+
+-- the group begins with the title of the step
+pub record IsGroupOf (group : List Part) (step : ToldStep) : Type 0 where
+  pub rest : List Part
+  pub begins : flat_map part_bytes group ≡ title_bytes step ++ flat_map part_bytes rest
+
+-- it is that of the step at the place
+abbrev pub IsGroupAt : List ToldStep → (place : ℕ) → (group : List Part) → Type 0
+IsGroupAt steps place group = IfSome (slice_get steps place) (IsGroupOf group)
+
+-- what a group has
 abbrev pub group_bytes : List Part → List ℕ
 group_bytes parts = codes "<g>" ++ flat_map part_bytes parts ++ codes "</g>\n"
 
-pub record GroupWritten (before after : Option (List ℕ)) : Type 0 where
+pub record GroupWritten (steps : List ToldStep) (place : ℕ) (before after : Option (List ℕ)) : Type 0 where
   pub group : List Part
+  pub is : IsGroupAt steps place group
   pub written : Appends before after (group_bytes group)
 
--- so many rows were written, and nothing else
-pub record GroupsWritten (count : ℕ) (before after : Option (List ℕ)) : Type 0 where
+-- the row of each of the steps at the places was written, and nothing else
+pub record GroupsWritten (steps : List ToldStep) (places : List ℕ) (before after : Option (List ℕ)) : Type 0 where
   pub groups : List (List Part)
-  pub each : length groups ≡ count
+  pub each : AllZip (IsGroupAt steps) places groups
   pub written : Appends before after (flat_map group_bytes groups)
 
--- parts, so many rows, other parts, and the end of the SVG
-pub record SvgWritten (count : ℕ) (before after : Option (List ℕ)) : Type 0 where
+-- ---- the whole
+
+-- what was done, as it is shown
+abbrev pub heading_bytes : Picture → List ℕ
+heading_bytes picture = shown_bytes (heading_words picture.moments picture.told.now picture.numbers)
+
+-- among the parts stands what was done, as the title of the whole
+pub record IsTitledBy (picture : Picture) (parts : List Part) : Type 0 where
+  pub front : List Part
+  pub back : List Part
+  pub is : flat_map part_bytes parts
+      ≡ flat_map part_bytes front ++ codes "<title>" ++ heading_bytes picture ++ codes "</title>" ++ flat_map part_bytes back
+
+pub record HeadWritten (picture : Picture) (before after : Option (List ℕ)) : Type 0 where
+  pub parts : List Part
+  pub titled : IsTitledBy picture parts
+  pub written : Appends before after (flat_map part_bytes parts)
+
+-- parts with the title, the rows, other parts, and the end of the SVG
+pub record SvgWritten (picture : Picture) (before after : Option (List ℕ)) : Type 0 where
   pub head : List Part
   pub groups : List (List Part)
   pub tail : List Part
-  pub each : length groups ≡ count
+  pub titled : IsTitledBy picture head
+  pub each : AllZip (IsGroupAt picture.told.now.steps) picture.rows.places.items groups
   pub written : Appends before after
       (flat_map part_bytes head ++ flat_map group_bytes groups ++ flat_map part_bytes tail ++ codes "</svg>\n")
 
 abbrev pub SomeSvgWritten : (before after : Option (List ℕ)) → Type 0
-SomeSvgWritten before after = (count : ℕ) × SvgWritten count before after
+SomeSvgWritten before after = (picture : Picture) × SvgWritten picture before after
 
 -- ---- text that is no markup
 

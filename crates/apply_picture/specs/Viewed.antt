@@ -1,16 +1,26 @@
 -- What came of the words behind `view`.
-use Rattle.std.specs.Prelude.{◌≡◌, ◌⊎◌, ⊤, ℕ, List, Bool, true, false, Option, Result, Ok, Err}
-use Rattle.std.specs.Io.KnownBytes.{Keeps}
+use Rattle.std.specs.Prelude.{◌≡◌, ◌⊎◌, ⊤, ℕ, List, Bool, true, false, Option, None, IfErr, IfSome, OnOk, Result, Ok, Err, pos, unwrap_or}
+use Rattle.std.specs.Io.KnownBytes.{IsAtEnd, Keeps}
+use Rattle.apply_lines.specs.Cut.{cut_lines}
+use Rattle.apply_words.specs.Words.{IsGivenBy}
 use Rattle.apply_view.specs.declared.told.view_fault.ViewFault.{ViewFault}
 use Rattle.apply_view.specs.declared.told.view_fault.ViewFault.TheVariants as told
-use Rattle.apply_picture.specs.Lines.{LinesWritten}
-use Rattle.apply_picture.specs.Markup.{SomeSvgWritten}
+use Rattle.apply_view.specs.declared.told.moments.Moments.{Moments}
+use Rattle.apply_view.specs.Lines.{IsToldOf}
+use Rattle.apply_view.specs.Numbers.{IsNumbersOf}
+use Rattle.apply_view.specs.Rows.{AreRowsOf}
+use Rattle.apply_view.specs.Telling.{Telling, told_of}
+use Rattle.apply_picture.specs.Lines.{LinesWritten, TextWritten}
+use Rattle.apply_picture.specs.Markup.{SomeSvgWritten, SvgWritten}
 use Rattle.apply_picture.specs.declared.command.colour.Colour.{Colour}
 use Rattle.apply_picture.specs.declared.command.colour.Colour.TheVariants as colour
+use Rattle.apply_picture.specs.declared.command.followed.Followed.{Followed}
 use Rattle.apply_picture.specs.declared.command.form.Form.{Form}
 use Rattle.apply_picture.specs.declared.command.form.Form.TheVariants as form
 use Rattle.apply_picture.specs.declared.command.picture_fault.PictureFault.{PictureFault}
 use Rattle.apply_picture.specs.declared.command.picture_fault.PictureFault.TheVariants as fault
+use Rattle.apply_picture.specs.declared.command.settings.Settings.{Settings}
+use Rattle.apply_picture.specs.declared.picture.Picture.{Picture}
 
 -- whether there are colours
 abbrev pub is_on : (is_wanted : Bool) → Colour → Bool
@@ -30,6 +40,31 @@ WasDrawn form is_wanted before after (Ok done) = PictureWritten form is_wanted b
 WasDrawn form is_wanted before after (Err (fault.Untold why)) = Keeps before after
 WasDrawn form is_wanted before after (Err (fault.Undrawn why)) = ⊤
 
+-- the first and the last moment, which are 0 where no line tells one
+abbrev pub moments_of : Telling → Moments
+moments_of told = unwrap_or told.moments (record { first = pos 0; last = pos 0 })
+
+-- the picture was written
+abbrev pub IsDrawn : Form → (is_wanted : Bool) → Picture → (before after : Option (List ℕ)) → Type 0
+IsDrawn (form.Text width colour) is_wanted picture before after = TextWritten width (is_on is_wanted colour) picture before after
+IsDrawn form.Svg is_wanted picture before after = SvgWritten picture before after
+
+-- A picture was written of what is told: of its moments, its numbers, and the steps that get a row.
+pub record IsDrawnOf (told : Telling) (limit : Option ℕ) (form : Form) (is_wanted : Bool) (before after : Option (List ℕ)) : Type 0 where
+  pub picture : Picture
+  pub is_told : picture.told.now ≡ told
+  pub moments : picture.moments ≡ moments_of told
+  pub numbers : IsNumbersOf (moments_of told) told.steps picture.numbers
+  pub rows : AreRowsOf (moments_of told) told.steps limit picture.rows
+  pub drawn : IsDrawn form is_wanted picture before after
+
+-- what was written, or why nothing was, is of what the lines of these bytes tell
+abbrev pub IsOfStream : List ℕ → (limit : Option ℕ) → Form → (is_wanted : Bool) → (before after : Option (List ℕ))
+    → Result (Unit {0}) PictureFault → Type 0
+IsOfStream bytes limit form is_wanted before after (Ok done) = IsDrawnOf (told_of (cut_lines bytes)) limit form is_wanted before after
+IsOfStream bytes limit form is_wanted before after (Err (fault.Untold why)) = IsToldOf bytes (Err why)
+IsOfStream bytes limit form is_wanted before after (Err (fault.Undrawn why)) = ⊤
+
 abbrev pub told_status_of : ViewFault → ℕ
 told_status_of (told.TooLong number) = 2
 told_status_of told.TooManyLines = 2
@@ -46,3 +81,15 @@ fault_status_of (fault.Undrawn why) = 3
 abbrev pub IsStatusOf : Result (Unit {0}) PictureFault → ℕ → Type 0
 IsStatusOf (Ok done) status = status ≡ 0
 IsStatusOf (Err fault) status = (status ≡ 3) ⊎ (status ≡ fault_status_of fault)
+
+-- A stream was viewed: that of the input where no file is named, else that of a file. What such a file has to give, `remaining`
+-- says. Where the input was not drawn, it was read to its end: `left` is what it has left.
+pub record WasViewed {File : Type 0} (remaining : File → Option (List ℕ)) (input left : Option (List ℕ)) (is_wanted : Bool)
+    (before after : Option (List ℕ)) (followed : Followed) (answer : Result (Unit {0}) PictureFault) : Type 0 where
+  pub settings : Settings
+  pub bytes : Option (List ℕ)
+  pub given : IsGivenBy remaining input settings.file bytes
+  pub drawn : WasDrawn settings.form is_wanted before after answer
+  pub stream : IfSome bytes (λ bytes. IsOfStream bytes settings.rows settings.form is_wanted before after answer)
+  pub told : IsStatusOf answer followed.status
+  pub read : settings.file ≡ None → IfErr answer (λ fault. OnOk followed.rest (IsAtEnd left))

@@ -1,5 +1,8 @@
 //! The kinds of steps.
 
+ghost use Rattle.std.specs.Prelude.{◌≡◌};
+ghost use Rattle.apply_picture.specs.Kinds.{kind_of, kind_paint};
+
 use crate::text::paint::Paint;
 
 /// What a step does, by its action.
@@ -25,7 +28,9 @@ impl Kind {
     ];
 
     /// That of an action.
-    pub fn of(action: &str) -> Kind {
+    pub fn of(action: &str) -> Kind
+        ensures { result ≡ kind_of action.now }
+    {
         match action {
             "create" => Kind::Create,
             "update" => Kind::Update,
@@ -60,7 +65,9 @@ impl Kind {
     }
 
     /// How it is shown in a text with colours.
-    pub fn paint(self) -> Paint {
+    pub fn paint(self) -> Paint
+        ensures { result ≡ kind_paint self }
+    {
         match self {
             Kind::Create => Paint::Green,
             Kind::Update => Paint::Yellow,

@@ -1,5 +1,11 @@
 //! What a picture shows.
 
+ghost use Rattle.std.specs.Prelude.{◌≡◌, IfOk};
+ghost use Rattle.apply_view.specs.Intervals.{span_of};
+ghost use Rattle.apply_view.specs.Numbers.{IsNumbersOf};
+ghost use Rattle.apply_view.specs.Rows.{AreRowsOf};
+ghost use Rattle.apply_picture.specs.Viewed.{moments_of};
+
 use apply_view::{Moments, Numbers, Rows, Step, Told, numbers_of, rows_of};
 use std::alloc::{AllocError, Global};
 
@@ -19,7 +25,12 @@ impl<'a> Picture<'a> {
         alloc: Global,
         told: &'a Told,
         limit: Option<usize>,
-    ) -> Result<Picture<'a>, AllocError> {
+    ) -> Result<Picture<'a>, AllocError>
+        ensures told { IfOk result (λ picture. picture.told.now ≡ told.now) }
+        ensures moments { IfOk result (λ picture. picture.moments ≡ moments_of told.now) }
+        ensures numbers { IfOk result (λ picture. IsNumbersOf (moments_of told.now) told.now.steps picture.numbers) }
+        ensures rows { IfOk result (λ picture. AreRowsOf (moments_of told.now) told.now.steps limit picture.rows) }
+    {
         let moments = told.moments().unwrap_or(Moments { first: 0, last: 0 });
         Ok(Picture {
             told,
@@ -30,7 +41,9 @@ impl<'a> Picture<'a> {
     }
 
     /// From the first moment to the last, in microseconds.
-    pub fn span(&self) -> u64 {
+    pub fn span(&self) -> u64
+        ensures { result ≡ span_of self.now.moments }
+    {
         self.moments.span()
     }
 

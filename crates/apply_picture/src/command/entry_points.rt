@@ -1,10 +1,11 @@
 //! The command `view`, from its arguments to its exit status, over any files and streams.
 
-ghost use Rattle.std.specs.Prelude.{◌≡◌, ◌≤◌, Err, IfErr, IfSome, None, OnOk, Some, false};
+ghost use Rattle.std.specs.Prelude.{◌≡◌, ◌≢◌, ◌≤◌, Err, IfErr, IfSome, None, OnOk, Some, false};
 ghost use Rattle.std.specs.Io.KnownBytes.{IsAtEnd, Keeps};
-ghost use Rattle.apply_picture.specs.Viewed.{IsStatusOf, WasDrawn};
-ghost use Rattle.apply_picture.specs.declared.command.form.Form.{Form as form_type};
-ghost use Rattle.apply_picture.specs.declared.command.picture_fault.PictureFault.TheVariants.{Undrawn};
+ghost use Rattle.apply_view.specs.Lines.{IsToldOf};
+ghost use Rattle.apply_view.specs.declared.told.view_fault.ViewFault.{ViewFault as view_fault};
+ghost use Rattle.apply_picture.specs.Viewed.{IsDrawnOf, IsOfStream, IsStatusOf, WasDrawn, WasViewed};
+ghost use Rattle.apply_picture.specs.declared.command.picture_fault.PictureFault.TheVariants.{Undrawn, Untold};
 ghost use Rattle.apply_picture.specs.declared.draw_fault.DrawFault.TheVariants.{Gone};
 
 use crate::command::arguments::read_words;
@@ -43,8 +44,8 @@ pub fn follow<F: Files, R: Read, W: Write, E: Write>(
     out: &mut W,
     faults: &mut E,
 ) -> Followed
-    ensures drawn { IfSome result.answer (λ answer. (form : form_type)
-        × WasDrawn form is_colour_wanted (W.contents out.old) (W.contents out.new) answer) }
+    ensures viewed { IfSome result.answer (WasViewed F.File.remaining (R.remaining input.old) (R.remaining input.new) is_colour_wanted
+        (W.contents out.old) (W.contents out.new) result) }
     ensures kept { result.answer ≡ None → 1 ≤ result.status → Keeps (W.contents out.old) (W.contents out.new) }
     ensures quiet { result.status ≡ 0 → Keeps (E.contents faults.old) (E.contents faults.new) }
     ensures gone { result.answer ≡ Some (Err (Undrawn Gone)) → Keeps (E.contents faults.old) (E.contents faults.new) }
@@ -104,6 +105,8 @@ pub fn view_input<R: Read, W: Write, E: Write>(
     faults: &mut E,
 ) -> Outcome
     ensures drawn { WasDrawn form is_colour_wanted (W.contents out.old) (W.contents out.new) result.answer }
+    ensures stream { IfSome (R.remaining input.old) (λ bytes. IsOfStream bytes rows form is_colour_wanted
+        (W.contents out.old) (W.contents out.new) result.answer) }
     ensures status { IsStatusOf result.answer result.status }
     ensures quiet { result.status ≡ 0 → Keeps (E.contents faults.old) (E.contents faults.new) }
     ensures gone { result.answer ≡ Err (Undrawn Gone) → Keeps (E.contents faults.old) (E.contents faults.new) }
@@ -134,7 +137,9 @@ fn draw_input<R: Read, W: Write>(
     input: &mut R,
     out: &mut W,
 ) -> Result<(), PictureFault>
-    ensures { WasDrawn form is_colour_wanted (W.contents out.old) (W.contents out.new) result }
+    ensures drawn { WasDrawn form is_colour_wanted (W.contents out.old) (W.contents out.new) result }
+    ensures stream { IfSome (R.remaining input.old) (λ bytes. IsOfStream bytes rows form is_colour_wanted
+        (W.contents out.old) (W.contents out.new) result) }
 {
     match told_of(alloc, input) {
         Ok(told) => draw(alloc, form, rows, is_colour_wanted, &told, out),
@@ -143,7 +148,9 @@ fn draw_input<R: Read, W: Write>(
 }
 
 /// What the stream tells.
-fn told_of<R: Read>(alloc: Global, input: &mut R) -> Result<Told, ViewFault> {
+fn told_of<R: Read>(alloc: Global, input: &mut R) -> Result<Told, ViewFault>
+    ensures { IfSome (R.remaining input.old) (λ bytes. IsToldOf bytes result) }
+{
     let Ok(mut reader) = BufReader::with_capacity(alloc, BUFFER_LEN, &mut *input) else {
         return Err(ViewFault::Memory);
     };
@@ -159,7 +166,9 @@ fn draw<W: Write>(
     told: &Told,
     out: &mut W,
 ) -> Result<(), PictureFault>
-    ensures { WasDrawn form is_colour_wanted (W.contents out.old) (W.contents out.new) result }
+    ensures drawn { WasDrawn form is_colour_wanted (W.contents out.old) (W.contents out.new) result }
+    ensures rows { OnOk result (IsDrawnOf told.now rows form is_colour_wanted (W.contents out.old) (W.contents out.new)) }
+    ensures told { (why : view_fault) → result ≢ Err (Untold why) }
 {
     let Ok(picture) = Picture::of(alloc, told, rows) else {
         return Err(PictureFault::Undrawn(DrawFault::Memory));

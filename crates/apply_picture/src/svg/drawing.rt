@@ -1,18 +1,20 @@
 //! The whole SVG.
 
-ghost use Rattle.std.specs.Prelude.{OnOk, length};
-ghost use Rattle.apply_picture.specs.Markup.{GroupWritten, GroupsWritten, MarkupWritten, SomeSvgWritten, SvgWritten};
+ghost use Rattle.std.specs.Prelude.{◌≡◌, ◌++◌, IfSome, OnOk, codes};
+ghost use Rattle.std.specs.List.{flat_map, slice_get};
+ghost use Rattle.apply_picture.specs.Markup.{GroupWritten, GroupsWritten, HeadWritten, MarkupWritten, SomeSvgWritten, SvgWritten, escaped, part_bytes, title_bytes};
 
 use crate::draw_fault::DrawFault;
 use crate::picture::Picture;
 use crate::svg::back::push_back;
 use crate::svg::front::{push_front, push_grid};
 use crate::svg::markup::Markup;
-use crate::svg::row::push_row;
+use crate::svg::row::{begin_title, push_row};
 use crate::svg::scale::Scale;
 use crate::svg::sheet::{EDGE, ROW, WIDTH};
 use crate::svg::style::STYLE;
 use crate::telling::heading::heading;
+use crate::words::shown_text::ShownText;
 use crate::writing::{flush, write_text};
 use std::alloc::{AllocError, Global};
 use std::io::Write;
@@ -25,7 +27,7 @@ pub fn draw_svg<W: Write>(
     picture: &Picture<'_>,
     out: &mut W,
 ) -> Result<(), DrawFault>
-    ensures rows { OnOk result (SvgWritten (length picture.now.rows.places.items) (W.contents out.old) (W.contents out.new)) }
+    ensures rows { OnOk result (SvgWritten picture.now (W.contents out.old) (W.contents out.new)) }
     ensures svg { OnOk result (SomeSvgWritten (W.contents out.old) (W.contents out.new)) }
 {
     let scale = Scale::of(alloc, picture)?;
@@ -35,9 +37,7 @@ pub fn draw_svg<W: Write>(
     let bottom = top.saturating_add(count.saturating_mul(ROW));
     let mut back = Markup::new(alloc);
     let height = push_back(alloc, &mut back, picture, scale, bottom)?;
-    let mut head = Markup::new(alloc);
-    push_head(alloc, &mut head, picture, height)?;
-    head.send(alloc, out)?;
+    draw_head(alloc, picture, height, out)?;
     front.send(alloc, out)?;
     draw_grid(alloc, picture, scale, top, bottom, out)?;
     draw_rows(alloc, picture, scale, top, out)?;
@@ -47,14 +47,30 @@ pub fn draw_svg<W: Write>(
     Ok(())
 }
 
-/// Adds what an SVG begins with, of that height.
-fn push_head(
+/// Writes what an SVG begins with, of that height.
+fn draw_head<W: Write>(
     alloc: Global,
-    markup: &mut Markup,
     picture: &Picture<'_>,
     height: u64,
-) -> Result<(), AllocError> {
-    let title = heading(alloc, picture)?;
+    out: &mut W,
+) -> Result<(), DrawFault>
+    ensures { OnOk result (HeadWritten picture.now (W.contents out.old) (W.contents out.new)) }
+{
+    let what = heading(alloc, picture)?;
+    let mut front = Markup::new(alloc);
+    push_opening(&mut front, &what, height)?;
+    front.send(alloc, out)?;
+    let mut title = Markup::new(alloc);
+    push_title(&mut title, &what)?;
+    title.send(alloc, out)?;
+    let mut style = Markup::new(alloc);
+    push_style(&mut style, height)?;
+    style.send(alloc, out)?;
+    Ok(())
+}
+
+/// Adds what stands before the title.
+fn push_opening(markup: &mut Markup, title: &ShownText, height: u64) -> Result<(), AllocError> {
     markup.own("<svg xmlns=\"http://www.w3.org/2000/svg\"")?;
     push_size(markup, height)?;
     markup.own(" viewBox=\"0 0 ")?;
@@ -62,10 +78,23 @@ fn push_head(
     markup.own(" ")?;
     markup.number(height)?;
     markup.own("\" role=\"img\" aria-label=\"")?;
-    markup.text(&title)?;
-    markup.own("\">\n<title>")?;
-    markup.text(&title)?;
-    markup.own("</title>\n<style>")?;
+    markup.text(title)?;
+    markup.own("\">\n")
+}
+
+/// Adds the title of the whole.
+fn push_title(markup: &mut Markup, title: &ShownText) -> Result<(), AllocError>
+    ensures { OnOk result (flat_map part_bytes markup.new.parts.items ≡ flat_map part_bytes markup.old.parts.items
+        ++ codes "<title>" ++ flat_map escaped title.now.characters.items ++ codes "</title>") }
+{
+    markup.own("<title>")?;
+    markup.text(title)?;
+    markup.own("</title>")
+}
+
+/// Adds how it looks.
+fn push_style(markup: &mut Markup, height: u64) -> Result<(), AllocError> {
+    markup.own("\n<style>")?;
     for rules in STYLE {
         markup.own(rules)?;
     }
@@ -114,7 +143,7 @@ fn draw_rows<W: Write>(
     top: u64,
     out: &mut W,
 ) -> Result<(), DrawFault>
-    ensures { OnOk result (GroupsWritten (length picture.now.rows.places.items) (W.contents out.old) (W.contents out.new)) }
+    ensures { OnOk result (GroupsWritten picture.now.told.now.steps picture.now.rows.places.items (W.contents out.old) (W.contents out.new)) }
 {
     let mut y = top;
     for place in &picture.rows.places {
@@ -133,17 +162,36 @@ fn draw_row<W: Write>(
     y: u64,
     out: &mut W,
 ) -> Result<(), DrawFault>
-    ensures { OnOk result (GroupWritten (W.contents out.old) (W.contents out.new)) }
+    ensures { OnOk result (GroupWritten picture.now.told.now.steps place (W.contents out.old) (W.contents out.new)) }
 {
-    let mut markup = Markup::new(alloc);
-    push_step(alloc, &mut markup, picture, scale, place, y)?;
+    let mut title = Markup::new(alloc);
+    begin_row(alloc, &mut title, picture, place)?;
+    let mut rest = Markup::new(alloc);
+    push_step(alloc, &mut rest, picture, scale, place, y)?;
     write_text("<g>", out)?;
-    markup.send(alloc, out)?;
+    title.send(alloc, out)?;
+    rest.send(alloc, out)?;
     write_text("</g>\n", out)?;
     Ok(())
 }
 
-/// Adds the row of the step at that place, at that height.
+/// Adds what the row of the step at that place begins with.
+fn begin_row(
+    alloc: Global,
+    markup: &mut Markup,
+    picture: &Picture<'_>,
+    place: usize,
+) -> Result<(), AllocError>
+    ensures { OnOk result (IfSome (slice_get picture.now.told.now.steps place)
+        (λ step. flat_map part_bytes markup.new.parts.items ≡ flat_map part_bytes markup.old.parts.items ++ title_bytes step)) }
+{
+    match picture.told.steps().get(place) {
+        Some(step) => begin_title(alloc, markup, step),
+        None => Ok(()),
+    }
+}
+
+/// Adds the rest of it, at that height.
 fn push_step(
     alloc: Global,
     markup: &mut Markup,

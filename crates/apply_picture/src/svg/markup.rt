@@ -1,9 +1,9 @@
 //! Parts of the SVG that go out.
 
-ghost use Rattle.std.specs.Prelude.{◌≡◌, IfOk, OnOk, string_bytes};
+ghost use Rattle.std.specs.Prelude.{◌≡◌, ◌++◌, [], IfOk, OnOk, string_bytes};
 ghost use Rattle.std.specs.Io.KnownBytes.{Appends};
 ghost use Rattle.std.specs.List.{flat_map};
-ghost use Rattle.apply_picture.specs.Markup.{part_bytes};
+ghost use Rattle.apply_picture.specs.Markup.{escaped, part_bytes, shown_bytes};
 
 use crate::draw_fault::DrawFault;
 use crate::svg::part::Part;
@@ -20,14 +20,18 @@ pub struct Markup {
 
 impl Markup {
     /// None.
-    pub fn new(alloc: Global) -> Markup {
+    pub fn new(alloc: Global) -> Markup
+        ensures { result.parts.items ≡ [] }
+    {
         Markup {
             parts: Vec::new(alloc),
         }
     }
 
     /// Adds text of ours.
-    pub fn own(&mut self, text: &'static str) -> Result<(), AllocError> {
+    pub fn own(&mut self, text: &'static str) -> Result<(), AllocError>
+        ensures { OnOk result (flat_map part_bytes self.new.parts.items ≡ flat_map part_bytes self.old.parts.items ++ text.now) }
+    {
         self.parts.push(Part::Own(text))?;
         Ok(())
     }
@@ -45,13 +49,17 @@ impl Markup {
     }
 
     /// Adds a character of a text, which is escaped.
-    pub fn character(&mut self, character: char) -> Result<(), AllocError> {
+    pub fn character(&mut self, character: char) -> Result<(), AllocError>
+        ensures { OnOk result (flat_map part_bytes self.new.parts.items ≡ flat_map part_bytes self.old.parts.items ++ escaped character) }
+    {
         self.parts.push(Part::Character(character))?;
         Ok(())
     }
 
     /// Adds a text, whose characters are escaped.
-    pub fn text(&mut self, text: &ShownText) -> Result<(), AllocError> {
+    pub fn text(&mut self, text: &ShownText) -> Result<(), AllocError>
+        ensures { OnOk result (flat_map part_bytes self.new.parts.items ≡ flat_map part_bytes self.old.parts.items ++ flat_map escaped text.now.characters.items) }
+    {
         for character in text.characters() {
             self.character(*character)?;
         }
@@ -59,7 +67,9 @@ impl Markup {
     }
 
     /// Adds the bytes as they are shown.
-    pub fn shown(&mut self, alloc: Global, bytes: &[u8]) -> Result<(), AllocError> {
+    pub fn shown(&mut self, alloc: Global, bytes: &[u8]) -> Result<(), AllocError>
+        ensures { OnOk result (flat_map part_bytes self.new.parts.items ≡ flat_map part_bytes self.old.parts.items ++ shown_bytes bytes.now) }
+    {
         self.text(&ShownText::of(alloc, bytes)?)
     }
 

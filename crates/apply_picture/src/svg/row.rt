@@ -1,5 +1,9 @@
 //! The row of a step.
 
+ghost use Rattle.std.specs.Prelude.{◌≡◌, ◌++◌, OnOk};
+ghost use Rattle.std.specs.List.{flat_map};
+ghost use Rattle.apply_picture.specs.Markup.{part_bytes, title_bytes};
+
 use crate::kind::Kind;
 use crate::picture::Picture;
 use crate::svg::markup::Markup;
@@ -17,7 +21,17 @@ struct Place {
     top: u64,
 }
 
-/// Adds the row of the step at that place, at that height.
+/// Adds what the title of a row begins with: the address and the action of its step.
+pub fn begin_title(alloc: Global, markup: &mut Markup, step: &Step) -> Result<(), AllocError>
+    ensures { OnOk result (flat_map part_bytes markup.new.parts.items ≡ flat_map part_bytes markup.old.parts.items ++ title_bytes step.now) }
+{
+    markup.own("<title>")?;
+    markup.shown(alloc, step.address().as_bytes())?;
+    markup.own("\n")?;
+    markup.shown(alloc, step.action().as_bytes())
+}
+
+/// Adds the rest of the row of the step at that place, at that height: what its title goes on with, its label, bar and length.
 pub fn push_row(
     alloc: Global,
     markup: &mut Markup,
@@ -34,7 +48,6 @@ pub fn push_row(
         width: right.saturating_sub(left).max(LEAST_BAR),
         top: y.saturating_add((ROW - BAR) / 2),
     };
-    markup.own("<title>")?;
     push_title(alloc, markup, picture, place, step)?;
     markup.own("</title>")?;
     push_label(alloc, markup, step, y)?;
@@ -42,7 +55,7 @@ pub fn push_row(
     push_length(alloc, markup, picture, step, bar, y)
 }
 
-/// Adds all that is told of a step.
+/// Adds what is told of a step besides.
 fn push_title(
     alloc: Global,
     markup: &mut Markup,
@@ -50,9 +63,6 @@ fn push_title(
     place: usize,
     step: &Step,
 ) -> Result<(), AllocError> {
-    markup.shown(alloc, step.address().as_bytes())?;
-    markup.own("\n")?;
-    markup.shown(alloc, step.action().as_bytes())?;
     markup.own(match (step.has_failed(), step.end()) {
         (_, Some(_)) => ", ",
         (true, None) => ", at most ",

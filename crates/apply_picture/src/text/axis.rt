@@ -1,6 +1,7 @@
 //! The axis above the bars.
 
 ghost use Rattle.std.specs.Prelude.{◌≡◌, OnOk};
+ghost use Rattle.apply_picture.specs.Lines.{HasMore};
 
 use crate::picture::Picture;
 use crate::text::chart::Chart;
@@ -20,7 +21,8 @@ pub fn push_axis(
     picture: &Picture<'_>,
     chart: &Chart,
 ) -> Result<(), AllocError>
-    ensures { OnOk result (page.new.style ≡ page.old.style) }
+    ensures style { OnOk result (page.new.style ≡ page.old.style) }
+    ensures more { OnOk result (HasMore page.old.lines.items page.new.lines.items) }
 {
     if picture.rows.places.is_empty() {
         return Ok(());

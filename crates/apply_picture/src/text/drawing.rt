@@ -1,7 +1,7 @@
 //! The whole text.
 
-ghost use Rattle.std.specs.Prelude.{◌≡◌, IfOk, OnOk, length};
-ghost use Rattle.apply_picture.specs.Lines.{LinesWritten, RowsWritten, TextWritten};
+ghost use Rattle.std.specs.Prelude.{◌≡◌, [], IfOk, OnOk, map};
+ghost use Rattle.apply_picture.specs.Lines.{IsHeadedBy, IsRowAt, LinesWritten, RowsWritten, TextWritten, heading_characters};
 
 use crate::draw_fault::DrawFault;
 use crate::picture::Picture;
@@ -38,7 +38,7 @@ pub fn draw_text<W: Write>(
     out: &mut W,
 ) -> Result<(), DrawFault>
     ensures lines { OnOk result (LinesWritten width has_colour (W.contents out.old) (W.contents out.new)) }
-    ensures rows { OnOk result (TextWritten width has_colour (length picture.now.rows.places.items) (W.contents out.old) (W.contents out.new)) }
+    ensures rows { OnOk result (TextWritten width has_colour picture.now (W.contents out.old) (W.contents out.new)) }
 {
     let style = Style {
         width: width as usize,
@@ -63,7 +63,9 @@ pub fn draw_text<W: Write>(
 
 /// Adds what was done, and what ran beside what.
 fn push_head(alloc: Global, page: &mut Page, picture: &Picture<'_>) -> Result<(), AllocError>
-    ensures { OnOk result (page.new.style ≡ page.old.style) }
+    ensures style { OnOk result (page.new.style ≡ page.old.style) }
+    ensures headed { page.old.lines.items ≡ [] → OnOk result (IsHeadedBy page.old.style.width (heading_characters picture.now)
+        (map (λ line. line.pieces.items) page.new.lines.items)) }
 {
     page.push_wrapped(alloc, 0, &heading(alloc, picture)?, Some(Paint::Bold))?;
     match overlap(alloc, picture)? {
@@ -80,7 +82,8 @@ fn draw_rows<W: Write>(
     style: Style,
     out: &mut W,
 ) -> Result<(), DrawFault>
-    ensures { OnOk result (RowsWritten style.width style.has_colour (length picture.now.rows.places.items) (W.contents out.old) (W.contents out.new)) }
+    ensures { OnOk result (RowsWritten style.width style.has_colour picture.now.told.now.steps picture.now.rows.places.items
+        (W.contents out.old) (W.contents out.new)) }
 {
     let ticks = tick_cells(alloc, chart)?;
     for place in &picture.rows.places {
@@ -99,7 +102,8 @@ fn line_of(
     place: usize,
     width: usize,
 ) -> Result<Line, AllocError>
-    ensures { IfOk result (λ line. line.width ≡ width) }
+    ensures width { IfOk result (λ line. line.width ≡ width) }
+    ensures row { IfOk result (λ line. IsRowAt width picture.now.told.now.steps place line.pieces.items) }
 {
     match picture.told.steps().get(place) {
         Some(step) => row_of(alloc, picture, chart, ticks, step, width),

@@ -1,8 +1,9 @@
 //! A line of the text.
 
-ghost use Rattle.std.specs.Prelude.{◌≡◌, ◌≤◌, IsTrue, OnOk};
+ghost use Rattle.std.specs.Prelude.{◌≡◌, ◌≤◌, ◌++◌, ◌∷◌, [], ℕ, IsTrue, OnOk, replicate};
 ghost use Rattle.std.specs.List.{list_all, sum_by};
-ghost use Rattle.apply_picture.specs.Lines.{is_no_control, piece_columns};
+ghost use Rattle.apply_picture.specs.Lines.{HasMore, is_no_control, piece_columns, with_character, with_characters, with_styled};
+ghost use Rattle.apply_picture.specs.declared.text.piece.Piece.TheVariants.{Begin, End};
 
 use crate::text::paint::Paint;
 use crate::text::piece::Piece;
@@ -24,7 +25,8 @@ pub struct Line {
 impl Line {
     /// An empty line, which may be that wide.
     pub fn new(alloc: Global, width: usize) -> Line
-        ensures { result.width ≡ width }
+        ensures width { result.width ≡ width }
+        ensures empty { result.pieces.items ≡ [] }
     {
         Line {
             pieces: Vec::new(alloc),
@@ -42,7 +44,8 @@ impl Line {
 
     /// Adds a character. One that has no room, or is a control, is left out.
     pub fn push(&mut self, character: char) -> Result<(), AllocError>
-        ensures { OnOk result (self.new.width ≡ self.old.width) }
+        ensures width { OnOk result (self.new.width ≡ self.old.width) }
+        ensures pieces { OnOk result (self.new.pieces.items ≡ with_character self.old.width self.old.pieces.items character) }
     {
         let Some(columns) = character.width() else {
             return Ok(());
@@ -57,7 +60,8 @@ impl Line {
 
     /// Begins a stretch that is shown so.
     pub fn begin(&mut self, paint: Paint) -> Result<(), AllocError>
-        ensures { OnOk result (self.new.width ≡ self.old.width) }
+        ensures width { OnOk result (self.new.width ≡ self.old.width) }
+        ensures pieces { OnOk result (self.new.pieces.items ≡ self.old.pieces.items ++ Begin paint ∷ []) }
     {
         self.pieces.push(Piece::Begin(paint))?;
         Ok(())
@@ -65,7 +69,8 @@ impl Line {
 
     /// Ends a stretch.
     pub fn end(&mut self) -> Result<(), AllocError>
-        ensures { OnOk result (self.new.width ≡ self.old.width) }
+        ensures width { OnOk result (self.new.width ≡ self.old.width) }
+        ensures pieces { OnOk result (self.new.pieces.items ≡ self.old.pieces.items ++ End ∷ []) }
     {
         self.pieces.push(Piece::End)?;
         Ok(())
@@ -73,7 +78,8 @@ impl Line {
 
     /// Adds characters.
     pub fn push_all(&mut self, characters: &[char]) -> Result<(), AllocError>
-        ensures { OnOk result (self.new.width ≡ self.old.width) }
+        ensures width { OnOk result (self.new.width ≡ self.old.width) }
+        ensures pieces { OnOk result (self.new.pieces.items ≡ with_characters self.old.width self.old.pieces.items characters.now) }
     {
         for character in characters {
             self.push(*character)?;
@@ -83,18 +89,37 @@ impl Line {
 
     /// Adds characters as a stretch.
     pub fn push_painted(&mut self, characters: &[char], paint: Paint) -> Result<(), AllocError>
-        ensures { OnOk result (self.new.width ≡ self.old.width) }
+        ensures width { OnOk result (self.new.width ≡ self.old.width) }
+        ensures more { OnOk result (HasMore self.old.pieces.items self.new.pieces.items) }
+        ensures pieces { OnOk result (self.new.pieces.items
+            ≡ with_characters self.old.width (self.old.pieces.items ++ Begin paint ∷ []) characters.now ++ End ∷ []) }
     {
         self.begin(paint)?;
         self.push_all(characters)?;
         self.end()
     }
 
+    /// Adds characters, as a stretch where they have a colour.
+    pub fn push_styled(
+        &mut self,
+        characters: &[char],
+        paint: Option<Paint>,
+    ) -> Result<(), AllocError>
+        ensures width { OnOk result (self.new.width ≡ self.old.width) }
+        ensures pieces { OnOk result (self.new.pieces.items ≡ with_styled self.old.width self.old.pieces.items paint characters.now) }
+    {
+        match paint {
+            Some(paint) => self.push_painted(characters, paint),
+            None => self.push_all(characters),
+        }
+    }
+
     /// Adds so many blanks.
     pub fn push_blanks(&mut self, count: usize) -> Result<(), AllocError>
-        ensures { OnOk result (self.new.width ≡ self.old.width) }
+        ensures width { OnOk result (self.new.width ≡ self.old.width) }
+        ensures pieces { OnOk result (self.new.pieces.items ≡ with_characters self.old.width self.old.pieces.items (replicate count 32)) }
     {
-        'blanks: for _ in 0..count {
+        'blanks: for _blank in 0..count {
             self.push(' ')?;
         }
         Ok(())
@@ -102,7 +127,8 @@ impl Line {
 
     /// Adds a text at the left of so many columns.
     pub fn push_left(&mut self, text: &ShownText, columns: usize) -> Result<(), AllocError>
-        ensures { OnOk result (self.new.width ≡ self.old.width) }
+        ensures width { OnOk result (self.new.width ≡ self.old.width) }
+        ensures pieces { OnOk result ((blanks : ℕ) × (self.new.pieces.items ≡ with_characters self.old.width self.old.pieces.items (text.now.characters.items ++ replicate blanks 32))) }
     {
         self.push_all(text.characters())?;
         self.push_blanks(columns.saturating_sub(text.columns()))
@@ -110,7 +136,8 @@ impl Line {
 
     /// Adds a text at the right of so many columns.
     pub fn push_right(&mut self, text: &ShownText, columns: usize) -> Result<(), AllocError>
-        ensures { OnOk result (self.new.width ≡ self.old.width) }
+        ensures width { OnOk result (self.new.width ≡ self.old.width) }
+        ensures more { OnOk result (HasMore self.old.pieces.items self.new.pieces.items) }
     {
         self.push_blanks(columns.saturating_sub(text.columns()))?;
         self.push_all(text.characters())

@@ -1,8 +1,11 @@
 //! Lines that go out.
 
-ghost use Rattle.std.specs.Prelude.{◌≡◌, ◌==◌, All, IfOk, IsTrue, OnOk, map};
+ghost use Rattle.std.specs.Prelude.{◌≡◌, ◌==◌, ◌≤◌, ◌-◌, ◌++◌, ◌∷◌, [], All, IfOk, IsTrue, OnOk, map};
 ghost use Rattle.std.specs.Io.KnownBytes.{Appends};
 ghost use Rattle.std.specs.List.{list_all};
+ghost use Rattle.apply_picture.specs.Columns.{columns_of};
+ghost use Rattle.apply_picture.specs.Lines.{HasMore, IsTextLine};
+ghost use Rattle.apply_picture.specs.declared.text.line.Line.{Line as line_type};
 
 use crate::draw_fault::DrawFault;
 use crate::text::line::Line;
@@ -27,7 +30,8 @@ impl Page {
 
     /// Without lines, which look so.
     pub fn new(alloc: Global, style: Style) -> Page
-        ensures { result.style ≡ style }
+        ensures style { result.style ≡ style }
+        ensures empty { result.lines.items ≡ [] }
     {
         Page {
             lines: Vec::new(alloc),
@@ -45,7 +49,8 @@ impl Page {
     /// Adds a line.
     pub fn push(&mut self, line: Line) -> Result<(), AllocError>
         requires { line.width ≡ self.old.style.width }
-        ensures { OnOk result (self.new.style ≡ self.old.style) }
+        ensures style { OnOk result (self.new.style ≡ self.old.style) }
+        ensures lines { OnOk result (self.new.lines.items ≡ self.old.lines.items ++ line ∷ []) }
     {
         self.lines.push(line)?;
         Ok(())
@@ -53,7 +58,8 @@ impl Page {
 
     /// Adds an empty line.
     pub fn push_empty(&mut self, alloc: Global) -> Result<(), AllocError>
-        ensures { OnOk result (self.new.style ≡ self.old.style) }
+        ensures style { OnOk result (self.new.style ≡ self.old.style) }
+        ensures more { OnOk result (HasMore self.old.lines.items self.new.lines.items) }
     {
         self.push(Line::new(alloc, self.style.width))
     }
@@ -66,7 +72,9 @@ impl Page {
         text: &ShownText,
         paint: Option<Paint>,
     ) -> Result<(), AllocError>
-        ensures { OnOk result (self.new.style ≡ self.old.style) }
+        ensures style { OnOk result (self.new.style ≡ self.old.style) }
+        ensures line { OnOk result ((line : line_type) × (self.new.lines.items ≡ self.old.lines.items ++ line ∷ [])
+            × IsTextLine self.old.style.width indent paint text.now.characters.items line.pieces.items) }
     {
         let line = text_line(alloc, self.style.width, indent, text, paint)?;
         self.push(line)
@@ -80,7 +88,11 @@ impl Page {
         text: &ShownText,
         paint: Option<Paint>,
     ) -> Result<(), AllocError>
-        ensures { OnOk result (self.new.style ≡ self.old.style) }
+        ensures style { OnOk result (self.new.style ≡ self.old.style) }
+        ensures more { OnOk result (HasMore self.old.lines.items self.new.lines.items) }
+        ensures line { OnOk result (columns_of text.now.characters.items ≤ self.old.style.width - indent
+            → (line : line_type) × (self.new.lines.items ≡ self.old.lines.items ++ line ∷ [])
+            × IsTextLine self.old.style.width indent paint text.now.characters.items line.pieces.items) }
     {
         let lines = wrapped(alloc, text, self.style.width.saturating_sub(indent))?;
         for line in &lines {
@@ -110,7 +122,8 @@ fn text_line(
     text: &ShownText,
     paint: Option<Paint>,
 ) -> Result<Line, AllocError>
-    ensures { IfOk result (λ line. line.width ≡ width) }
+    ensures width { IfOk result (λ line. line.width ≡ width) }
+    ensures pieces { IfOk result (λ line. IsTextLine width indent paint text.now.characters.items line.pieces.items) }
 {
     let characters = without_blanks(text.characters());
     let mut line = Line::new(alloc, width);
@@ -118,9 +131,6 @@ fn text_line(
         return Ok(line);
     }
     line.push_blanks(indent)?;
-    match paint {
-        Some(paint) => line.push_painted(characters, paint)?,
-        None => line.push_all(characters)?,
-    }
+    line.push_styled(characters, paint)?;
     Ok(line)
 }

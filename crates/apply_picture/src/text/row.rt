@@ -1,6 +1,8 @@
 //! The row of a step.
 
-ghost use Rattle.std.specs.Prelude.{◌≡◌, IfOk, OnOk};
+ghost use Rattle.std.specs.Prelude.{◌≡◌, ◌++◌, ℕ, List, IfOk, OnOk, replicate};
+ghost use Rattle.apply_picture.specs.Lines.{HasMore, IsFitted, IsRowOf, paint_of, with_characters};
+ghost use Rattle.apply_picture.specs.Shown.{shown_characters};
 
 use crate::kind::Kind;
 use crate::picture::Picture;
@@ -23,14 +25,11 @@ pub fn row_of(
     step: &Step,
     width: usize,
 ) -> Result<Line, AllocError>
-    ensures { IfOk result (λ line. line.width ≡ width) }
+    ensures width { IfOk result (λ line. line.width ≡ width) }
+    ensures row { IfOk result (λ line. IsRowOf width line.pieces.items step.now) }
 {
     let mut line = Line::new(alloc, width);
-    let paint = if step.has_failed() {
-        Paint::Red
-    } else {
-        Kind::of(step.action()).paint()
-    };
+    let paint = paint_of(step);
     line.begin(paint)?;
     push_text(alloc, &mut line, step.action(), chart.action)?;
     line.end()?;
@@ -43,9 +42,22 @@ pub fn row_of(
     Ok(line)
 }
 
+/// The colour of a step.
+fn paint_of(step: &Step) -> Paint
+    ensures { result ≡ paint_of step.now }
+{
+    if step.has_failed() {
+        Paint::Red
+    } else {
+        Kind::of(step.action()).paint()
+    }
+}
+
 /// Adds a text at the left of so many columns, fitted to them.
 fn push_text(alloc: Global, line: &mut Line, text: &str, columns: usize) -> Result<(), AllocError>
-    ensures { OnOk result (line.new.width ≡ line.old.width) }
+    ensures width { OnOk result (line.new.width ≡ line.old.width) }
+    ensures pieces { OnOk result ((fitted : List ℕ) × (blanks : ℕ) × IsFitted (shown_characters text.now) fitted
+        × (line.new.pieces.items ≡ with_characters line.old.width line.old.pieces.items (fitted ++ replicate blanks 32))) }
 {
     let text = ShownText::of(alloc, text.as_bytes())?;
     line.push_left(&fitted(alloc, &text, columns)?, columns)
@@ -58,7 +70,8 @@ fn push_duration(
     picture: &Picture<'_>,
     step: &Step,
 ) -> Result<(), AllocError>
-    ensures { OnOk result (line.new.width ≡ line.old.width) }
+    ensures width { OnOk result (line.new.width ≡ line.old.width) }
+    ensures more { OnOk result (HasMore line.old.pieces.items line.new.pieces.items) }
 {
     let length = Duration::of(step.length(picture.moments));
     let (mark, bound) = match (step.has_failed(), step.end()) {
@@ -91,7 +104,8 @@ fn push_bar(
     step: &Step,
     paint: Paint,
 ) -> Result<(), AllocError>
-    ensures { OnOk result (line.new.width ≡ line.old.width) }
+    ensures width { OnOk result (line.new.width ≡ line.old.width) }
+    ensures more { OnOk result (HasMore line.old.pieces.items line.new.pieces.items) }
 {
     let bar = Bar {
         halves: halves_of(
@@ -120,7 +134,8 @@ fn push_bar(
 
 /// Adds cells that no bar covers, where there are any.
 fn push_dim(line: &mut Line, cells: &[char]) -> Result<(), AllocError>
-    ensures { OnOk result (line.new.width ≡ line.old.width) }
+    ensures width { OnOk result (line.new.width ≡ line.old.width) }
+    ensures more { OnOk result (HasMore line.old.pieces.items line.new.pieces.items) }
 {
     if cells.is_empty() {
         Ok(())

@@ -1,5 +1,9 @@
 //! Durations.
 
+ghost use Rattle.std.specs.Prelude.{◌≡◌, Some};
+ghost use Rattle.std.specs.Fmt.{WritesOnOk};
+ghost use Rattle.apply_picture.specs.Words.{duration_words, short_words};
+
 use std::fmt;
 
 /// How many microseconds a second has.
@@ -11,12 +15,17 @@ pub struct Duration(pub u128);
 
 impl Duration {
     /// So many microseconds.
-    pub fn of(microseconds: u64) -> Duration {
+    pub fn of(microseconds: u64) -> Duration
+        ensures { result.0 ≡ microseconds }
+    {
         Duration(microseconds as u128)
     }
 }
 
+#[tactic(auto, unfolding(crate::specs::Words::duration_words))]
 impl fmt::Display for Duration {
+    ghost output = { λ duration. Some (duration_words duration.0) };
+
     fn fmt<W: fmt::Write>(&self, f: &mut fmt::Formatter<W>) -> fmt::Result {
         let seconds = u64::try_from(self.0 / SECOND).unwrap_or(u64::MAX);
         let milliseconds = (self.0 % SECOND / 1_000) as u64;
@@ -29,9 +38,11 @@ impl fmt::Display for Duration {
         if minutes == 0 {
             write!(f, "{second}s")
         } else if hours == 0 {
-            write!(f, "{minute}m{second:02}s")
+            let (tens, ones) = (second / 10, second % 10);
+            write!(f, "{minute}m{tens}{ones}s")
         } else {
-            write!(f, "{hours}h{minute:02}m")
+            let (tens, ones) = (minute / 10, minute % 10);
+            write!(f, "{hours}h{tens}{ones}m")
         }
     }
 }
@@ -41,7 +52,9 @@ fn write_short<W: fmt::Write>(
     f: &mut fmt::Formatter<W>,
     seconds: u64,
     milliseconds: u64,
-) -> fmt::Result {
+) -> fmt::Result
+    ensures { WritesOnOk W.write_str_gives f.old result (short_words seconds milliseconds) f.new }
+{
     let tenths = milliseconds / 100;
     match (seconds, milliseconds) {
         (0, 0) => write!(f, "0s"),

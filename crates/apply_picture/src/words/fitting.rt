@@ -1,6 +1,7 @@
 //! Texts that have little room.
 
-ghost use Rattle.std.specs.Prelude.{◌≤◌, length};
+ghost use Rattle.std.specs.Prelude.{◌≡◌, ◌≤◌, IfOk, length};
+ghost use Rattle.apply_picture.specs.Lines.{IsFitted, few_marks};
 
 use crate::words::columns::{columns, columns_of};
 use crate::words::shown_text::ShownText;
@@ -12,7 +13,9 @@ const MOST_MARKS: usize = 4;
 /// The text in at most so many columns. Of characters without a column the first four are kept of those that stand one behind
 /// another. Where it is wider then, its begin and its end stand round `…`: two fifths of what room there is for the begin, and
 /// the rest for the end. `Err` where memory is refused.
-pub fn fitted(alloc: Global, text: &ShownText, limit: usize) -> Result<ShownText, AllocError> {
+pub fn fitted(alloc: Global, text: &ShownText, limit: usize) -> Result<ShownText, AllocError>
+    ensures { IfOk result (λ short. IsFitted text.now.characters.items short.characters.items) }
+{
     let characters = with_few_marks(alloc, text.characters())?;
     if columns(&characters) <= limit {
         return Ok(ShownText { characters });
@@ -29,7 +32,9 @@ pub fn fitted(alloc: Global, text: &ShownText, limit: usize) -> Result<ShownText
 }
 
 /// The characters, but of those without a column no more than four that stand one behind another.
-fn with_few_marks(alloc: Global, characters: &[char]) -> Result<Vec<char>, AllocError> {
+fn with_few_marks(alloc: Global, characters: &[char]) -> Result<Vec<char>, AllocError>
+    ensures { IfOk result (λ few. few.items ≡ few_marks 0 characters.now) }
+{
     let mut few = Vec::new(alloc);
     let mut marks = 0;
     for character in characters {

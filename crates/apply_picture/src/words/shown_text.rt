@@ -1,5 +1,10 @@
 //! Texts of a stream as they are shown.
 
+ghost use Rattle.std.specs.Prelude.{◌≡◌, IfOk};
+ghost use Rattle.std.specs.Str.{chars};
+ghost use Rattle.apply_picture.specs.Lines.{IsTrimmed};
+ghost use Rattle.apply_picture.specs.Shown.{shown_characters};
+
 use crate::words::columns::columns;
 use apply_shown::shown;
 use std::alloc::{AllocError, Global};
@@ -12,17 +17,27 @@ pub struct ShownText {
 
 impl ShownText {
     /// The bytes as they are shown.
-    pub fn of(alloc: Global, bytes: &[u8]) -> Result<ShownText, AllocError> {
+    pub fn of(alloc: Global, bytes: &[u8]) -> Result<ShownText, AllocError>
+        ensures { IfOk result (λ text. text.characters.items ≡ shown_characters bytes.now) }
+    {
         let text = shown(alloc, bytes)?;
-        let mut characters = Vec::new(alloc);
-        for character in text.as_str().chars() {
-            characters.push(character)?;
-        }
+        let characters = characters_of(alloc, text.as_str())?;
         Ok(ShownText { characters })
     }
 
+    /// One of these characters.
+    pub fn copied(alloc: Global, characters: &[char]) -> Result<ShownText, AllocError>
+        ensures { IfOk result (λ text. text.characters.items ≡ characters.now) }
+    {
+        Ok(ShownText {
+            characters: Vec::from_slice(alloc, characters)?,
+        })
+    }
+
     /// Its characters.
-    pub fn characters(&self) -> &[char] {
+    pub fn characters(&self) -> &[char]
+        ensures { result.now ≡ self.now.characters.items }
+    {
         self.characters.as_slice()
     }
 
@@ -32,8 +47,17 @@ impl ShownText {
     }
 }
 
+/// The characters of a text.
+fn characters_of(alloc: Global, text: &str) -> Result<Vec<char>, AllocError>
+    ensures { IfOk result (λ characters. characters.items ≡ chars text.now) }
+{
+    text.chars().collect(alloc)
+}
+
 /// Characters without the blanks at their end.
-pub fn without_blanks(characters: &[char]) -> &[char] {
+pub fn without_blanks(characters: &[char]) -> &[char]
+    ensures { IsTrimmed characters.now result.now }
+{
     let mut len = characters.len();
     'back: while len > 0 && characters[len - 1] == ' ' {
         len -= 1;

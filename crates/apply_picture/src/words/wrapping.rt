@@ -1,6 +1,9 @@
 //! Texts that take several lines.
 
-ghost use Rattle.std.specs.Prelude.{◌≤◌, length};
+ghost use Rattle.std.specs.Prelude.{◌≡◌, ◌≤◌, ◌<◌, ◌∷◌, [], IfOk, length};
+ghost use Rattle.apply_picture.specs.Columns.{columns_of};
+ghost use Rattle.apply_picture.specs.Lines.{IsTrimmed};
+ghost use Rattle.apply_picture.specs.declared.words.shown_text.ShownText.{ShownText as shown_type};
 
 use crate::words::columns::columns_of;
 use crate::words::shown_text::{ShownText, without_blanks};
@@ -8,27 +11,27 @@ use std::alloc::{AllocError, Global};
 
 /// The text in lines of at most so many columns each: broken at the last blank that fits, else where a line is full. There is
 /// one line at least. `Err` where memory is refused.
-pub fn wrapped(
-    alloc: Global,
-    text: &ShownText,
-    limit: usize,
-) -> Result<Vec<ShownText>, AllocError> {
+pub fn wrapped(alloc: Global, text: &ShownText, limit: usize) -> Result<Vec<ShownText>, AllocError>
+    ensures { IfOk result (λ lines. columns_of text.now.characters.items ≤ limit
+        → (line : shown_type) × (lines.items ≡ line ∷ []) × IsTrimmed text.now.characters.items line.characters.items) }
+{
     let mut lines = Vec::new(alloc);
-    let mut rest = text.characters();
-    for _ in 0..=text.characters().len() {
+    let (line, mut rest) = split_line(text.characters(), limit);
+    lines.push(ShownText::copied(alloc, line)?)?;
+    'lines: while !rest.is_empty() {
         let (line, more) = split_line(rest, limit);
-        let characters = Vec::from_slice(alloc, line)?;
-        lines.push(ShownText { characters })?;
+        lines.push(ShownText::copied(alloc, line)?)?;
         rest = more;
-        if rest.is_empty() {
-            break;
-        }
     }
     Ok(lines)
 }
 
 /// The first line of characters, and those behind it; blanks between them are dropped.
-fn split_line(characters: &[char], limit: usize) -> (&[char], &[char]) {
+fn split_line(characters: &[char], limit: usize) -> (&[char], &[char])
+    ensures line { columns_of characters.now ≤ limit → IsTrimmed characters.now result.0.now }
+    ensures rest { columns_of characters.now ≤ limit → result.1.now ≡ [] }
+    ensures shorter { 1 ≤ length characters.now → length result.1.now < length characters.now }
+{
     let len = line_len(characters, full_len(characters, limit));
     let line = without_blanks(&characters[..len]);
     (line, without_front_blanks(&characters[len..]))
@@ -36,7 +39,9 @@ fn split_line(characters: &[char], limit: usize) -> (&[char], &[char]) {
 
 /// How many of the first characters fit, and one at least.
 fn full_len(characters: &[char], limit: usize) -> usize
-    ensures { result ≤ length characters.now }
+    ensures within { result ≤ length characters.now }
+    ensures some { 1 ≤ length characters.now → 1 ≤ result }
+    ensures all { columns_of characters.now ≤ limit → result ≡ length characters.now }
 {
     let mut left = limit;
     for (len, character) in characters.iter().enumerate() {
@@ -51,7 +56,9 @@ fn full_len(characters: &[char], limit: usize) -> usize
 
 /// How many characters stand on a line into which so many fit: those before the last blank of these.
 fn line_len(characters: &[char], full: usize) -> usize
-    ensures { result ≤ length characters.now }
+    ensures within { result ≤ length characters.now }
+    ensures some { 1 ≤ length characters.now → 1 ≤ full → 1 ≤ result }
+    ensures all { length characters.now ≤ full → result ≡ length characters.now }
 {
     if full >= characters.len() {
         return characters.len();
@@ -67,7 +74,9 @@ fn line_len(characters: &[char], full: usize) -> usize
 }
 
 /// Characters without the blanks at their front.
-fn without_front_blanks(characters: &[char]) -> &[char] {
+fn without_front_blanks(characters: &[char]) -> &[char]
+    ensures { length result.now ≤ length characters.now }
+{
     let mut len = 0;
     'front: while len < characters.len() && characters[len] == ' ' {
         len += 1;

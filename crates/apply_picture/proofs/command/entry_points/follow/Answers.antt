@@ -1,24 +1,39 @@
--- What was drawn, as what was answered says.
-use Rattle.std.proofs.Common.{◌≡◌, ℕ, Bool, List, Option, Some, subst, sym}
-use Rattle.std.specs.Prelude.{IfSome}
-use Rattle.apply_picture.specs.Viewed.{WasDrawn}
+-- What was viewed, as what was answered says.
+use Rattle.std.proofs.Common.{◌≡◌, ◌∙◌, ℕ, Bool, List, Option, None, Some, refl, subst, sym}
+use Rattle.std.specs.Prelude.{IfErr, IfSome, OnOk}
+use Rattle.std.specs.Io.KnownBytes.{IsAtEnd}
+use Rattle.apply_words.specs.Words.{IsGivenBy}
+use Rattle.apply_picture.specs.Viewed.{IsOfStream, IsStatusOf, WasDrawn, WasViewed}
 use Rattle.apply_picture.specs.declared.command.followed.Followed.{Followed}
-use Rattle.apply_picture.specs.declared.command.form.Form.{Form}
 use Rattle.apply_picture.specs.declared.command.outcome.Outcome.{Outcome}
+use Rattle.apply_picture.specs.declared.command.settings.Settings.{Settings}
 use Rattle.apply_picture.proofs.command.entry_points.follow.Goals as goal
 
-was_drawn : (followed : Followed) (outcome : Outcome) (form : Form) (is_wanted : Bool) (before after : Option (List ℕ))
+was_viewed : {File : Type 0} (remaining : File → Option (List ℕ)) (input left : Option (List ℕ)) (is_wanted : Bool) (before after : Option (List ℕ))
+    (followed : Followed) (outcome : Outcome) (settings : Settings) (bytes : Option (List ℕ))
     → followed ≡ record { status = outcome.status; answer = Some outcome.answer; rest = outcome.rest }
-    → WasDrawn form is_wanted before after outcome.answer
-    → IfSome followed.answer (λ answer. (form : Form) × WasDrawn form is_wanted before after answer)
-was_drawn followed outcome form is_wanted before after is drawn =
-    subst (λ (f : Followed). IfSome f.answer (λ answer. (form : Form) × WasDrawn form is_wanted before after answer)) (sym is) (form, drawn)
+    → IsGivenBy remaining input settings.file bytes → WasDrawn settings.form is_wanted before after outcome.answer
+    → IfSome bytes (λ bytes. IsOfStream bytes settings.rows settings.form is_wanted before after outcome.answer)
+    → IsStatusOf outcome.answer outcome.status
+    → (settings.file ≡ None → IfErr outcome.answer (λ fault. OnOk outcome.rest (IsAtEnd left)))
+    → IfSome followed.answer (WasViewed remaining input left is_wanted before after followed)
+was_viewed remaining input left is_wanted before after followed outcome settings bytes is given drawn stream told read =
+    subst (λ (f : Followed). IfSome f.answer (WasViewed remaining input left is_wanted before after f)) (sym is)
+    (record { settings = settings; bytes = bytes; given = given; drawn = drawn; stream = stream; told = told; read = read })
 
-pub returns-in_default-clause-drawn : goal.returns-in_default-clause-drawn
-returns-in_default-clause-drawn g c =
-    was_drawn _ c.view_input-outcome.result c.in-Ok.settings.form _ _ _ c.with_answer.ensures c.view_input-outcome.ensures.drawn
+pub returns-in_default-clause-viewed : goal.returns-in_default-clause-viewed
+returns-in_default-clause-viewed g c =
+    let input = g.R.Read.remaining c.args.input.now in
+    let given = subst (λ o. IsGivenBy g.F.File.Read.remaining input o input) (sym c.in_default.is) refl in
+    let viewed = c.view_input-outcome.ensures in
+    was_viewed g.F.File.Read.remaining input _ _ _ _ _ c.view_input-outcome.result c.in-Ok.settings input c.with_answer.ensures given
+    viewed.drawn viewed.stream viewed.status (λ none. viewed.read)
 
-pub returns-in-Ok-open-clause-drawn : goal.returns-in-Ok-open-clause-drawn
-returns-in-Ok-open-clause-drawn g c =
-    was_drawn _ c.view_input-outcome-in-Ok-open.result c.in-Ok.settings.form _ _ _ c.with_answer-in-Ok-open.ensures
-    c.view_input-outcome-in-Ok-open.ensures.drawn
+pub returns-in-Ok-open-clause-viewed : goal.returns-in-Ok-open-clause-viewed
+returns-in-Ok-open-clause-viewed g c =
+    let input = g.R.Read.remaining c.args.input.now in
+    let bytes = g.F.File.Read.remaining c.in-Ok-open.file in
+    let given = subst (λ o. IsGivenBy g.F.File.Read.remaining input o bytes) (sym c.in-Some.is) (c.in-Ok-open.file, refl) in
+    let viewed = c.view_input-outcome-in-Ok-open.ensures in
+    was_viewed g.F.File.Read.remaining input _ _ _ _ _ c.view_input-outcome-in-Ok-open.result c.in-Ok.settings bytes
+    c.with_answer-in-Ok-open.ensures given viewed.drawn viewed.stream viewed.status (λ none. let bad = sym c.in-Some.is ∙ none in cc)

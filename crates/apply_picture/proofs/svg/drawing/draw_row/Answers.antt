@@ -1,8 +1,8 @@
-use Rattle.std.proofs.KnownBytes.{Appends-trans}
+use Rattle.apply_picture.proofs.Sent.{group_written}
 use Rattle.apply_picture.proofs.svg.drawing.draw_row.Goals as goal
 
 pub returns : goal.returns
-returns g c = record {
-  group = c.push_step.new.markup.parts.items;
-  written = Appends-trans _ _ _ _ _ (Appends-trans _ _ _ _ _ c.in_ok-write_text.ensures c.in_ok-send.ensures) c.in_ok-write_text-2.ensures;
-}
+returns g c =
+    group_written c.args.picture.now.told.now.steps c.args.place _ _ _ _ _ c.new-title.result.parts.items c.begin_row.new.markup.parts.items
+    c.push_step.new.markup.parts.items c.new-title.ensures c.in_ok-begin_row.ensures c.in_ok-write_text.ensures c.in_ok-send.ensures
+    c.in_ok-send-2.ensures c.in_ok-write_text-2.ensures

@@ -1,5 +1,8 @@
-use Rattle.std.proofs.Common.{◌≡◌}
+use Rattle.std.proofs.Common.{◌≡◌, take}
+use Rattle.apply_picture.specs.Lines.{with_characters}
 use Rattle.apply_picture.proofs.text.line.Line.push_all.Given as goal
 
 abbrev pub invariant-loop-character : goal.invariant-loop-character
-invariant-loop-character l = l.self.width ≡ l.initial.self.width
+invariant-loop-character l =
+    (l.self.width ≡ l.initial.self.width)
+    × (l.self.pieces.items ≡ with_characters l.initial.self.width l.initial.self.pieces.items (take l.character-index l.characters))

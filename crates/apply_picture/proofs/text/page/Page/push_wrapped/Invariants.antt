@@ -1,5 +1,13 @@
-use Rattle.std.proofs.Common.{◌≡◌}
+use Rattle.std.proofs.Common.{◌≡◌, ◌++◌, List, take}
+use Rattle.std.specs.List.{AllZip}
+use Rattle.apply_picture.specs.Lines.{IsTextLine}
+use Rattle.apply_picture.specs.declared.text.line.Line.{Line}
+use Rattle.apply_picture.specs.declared.words.shown_text.ShownText.{ShownText}
 use Rattle.apply_picture.proofs.text.page.Page.push_wrapped.Given as goal
 
 abbrev pub invariant-loop-line : goal.invariant-loop-line
-invariant-loop-line l = l.self.style ≡ l.initial.self.style
+invariant-loop-line l =
+    (l.self.style ≡ l.initial.self.style)
+    × ((news : List Line) × (l.self.lines.items ≡ l.initial.self.lines.items ++ news)
+    × AllZip (λ (text : ShownText) (line : Line). IsTextLine l.initial.self.style.width l.indent l.paint text.characters.items line.pieces.items)
+    (take l.line-index l.line-items) news)

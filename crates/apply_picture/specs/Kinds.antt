@@ -1,0 +1,26 @@
+-- The kinds of steps.
+use Rattle.std.specs.Prelude.{ℕ, List, codes, if◌then◌else◌}
+use Rattle.std.specs.Str.{bytes_eq}
+use Rattle.apply_picture.specs.declared.kind.Kind.{Kind}
+use Rattle.apply_picture.specs.declared.kind.Kind.TheVariants as kind
+use Rattle.apply_picture.specs.declared.text.paint.Paint.{Paint}
+use Rattle.apply_picture.specs.declared.text.paint.Paint.TheVariants as paint
+
+-- that of an action
+abbrev pub kind_of : List ℕ → Kind
+kind_of action =
+    if bytes_eq action (codes "create") then kind.Create
+    else if bytes_eq action (codes "update") then kind.Update
+    else if bytes_eq action (codes "delete") then kind.Delete
+    else if bytes_eq action (codes "read") then kind.Read
+    else if bytes_eq action (codes "refresh") then kind.Refresh
+    else kind.Other
+
+-- how it is shown in a text with colours
+abbrev pub kind_paint : Kind → Paint
+kind_paint kind.Create = paint.Green
+kind_paint kind.Update = paint.Yellow
+kind_paint kind.Delete = paint.Magenta
+kind_paint kind.Read = paint.Cyan
+kind_paint kind.Refresh = paint.Cyan
+kind_paint kind.Other = paint.White
