@@ -13,14 +13,15 @@ use Rattle.apply_text.specs.declared.operation.Operation.{Operation}
 use Rattle.apply_text.specs.Latest.{latest_of}
 use Rattle.apply_text.specs.Lines.{message_object, typed}
 use Rattle.apply_text.specs.Message.{Message}
-use Rattle.apply_form.specs.declared.change_details.ChangeDetails.{ChangeDetails}
-use Rattle.apply_form.specs.declared.plan_note.PlanNote.{PlanNote}
+use Rattle.apply_model.specs.declared.details.change_details.ChangeDetails.{ChangeDetails}
+use Rattle.apply_model.specs.declared.details.note.Note.{Note}
 use Rattle.apply_form.specs.Details.{planned_word}
-use Rattle.apply_form.specs.Lines.{message_line, note_text, planned_text, version_members, version_text}
-use Rattle.apply_form.specs.Message.{event_message, is_silent, note_message, planned_message}
+use Rattle.apply_form.specs.Kept.{kept_members}
+use Rattle.apply_form.specs.Lines.{event_line, message_line, note_text, planned_text, told_line, version_members, version_text}
+use Rattle.apply_form.specs.Message.{event_message, is_silent, kept_of, note_message, planned_message}
 use Rattle.apply_form.specs.Moment.{fine_text}
 use Rattle.apply_run.specs.InForm.{form_of}
-use Rattle.apply_run.specs.Read.{Told, applied_plan, applied_script}
+use Rattle.apply_run.specs.Read.{Told, applied_plan, applied_script, besides_of}
 use Rattle.apply_run.specs.Stream.Terraform.{head_pieces, planned_at, planned_id_of}
 use Rattle.apply_agreement.specs.Levels.{IsLineOrNothing, event_lines, lines_before_end}
 
@@ -36,10 +37,14 @@ all_mapped f is [] = tt
 all_mapped f is (x ∷ xs) = (is x, all_mapped f is xs)
 
 of_message : (seconds : ℕ) (message : Message) → IsLineOrNothing (message_line seconds message)
-of_message seconds message = inr (message_object message.level message.text (fine_text seconds) (typed message.name message.body message.type_name), refl)
+of_message seconds message = inr (inl (message_object message.level message.text (fine_text seconds) (typed message.name message.body message.type_name), refl))
+
+of_told : (seconds : ℕ) (message : Message) (kept : List ℕ) → IsLineOrNothing (told_line seconds message kept)
+of_told seconds message [] = of_message seconds message
+of_told seconds message (byte ∷ bytes) = inr (inr (seconds, message, byte ∷ bytes, refl))
 
 of_version : (plan : SavedPlan) (start : ℕ) → IsLineOrNothing (version_text plan start)
-of_version plan start = inr (message_object (codes "info") (codes "Terraform " ++ plan.version) (fine_text start) (version_members plan.version), refl)
+of_version plan start = inr (inl (message_object (codes "info") (codes "Terraform " ++ plan.version) (fine_text start) (version_members plan.version), refl))
 
 of_planned : (start : ℕ) (change : ResourceChange) (details : Option ChangeDetails) → IsLineOrNothing (option_map_or (planned_text start change) details [])
 of_planned start change None = inl refl
@@ -53,15 +58,15 @@ of_planned start change (Some details) = of_word (planned_word change.steps deta
 
 module _ (seconds : ℕ) (outcome : Outcome) (planned : Option (List ℕ)) (what : What) where
   abbrev line : ResourceChange → StepKind → List ℕ
-  line change step = cond (is_silent step what) [] (message_line seconds (event_message change step outcome planned what))
+  line change step = cond (is_silent step what) [] (event_line seconds change step outcome planned what)
 
   of_step : (change : ResourceChange) (step : Option StepKind) → IsLineOrNothing (option_map_or (λ step. line change step) step [])
   of_step change None = inl refl
   of_step change (Some step) = of_test (is_silent step what)
     where
-      of_test : (silent : Bool) → IsLineOrNothing (cond silent [] (message_line seconds (event_message change step outcome planned what)))
+      of_test : (silent : Bool) → IsLineOrNothing (cond silent [] (event_line seconds change step outcome planned what))
       of_test true = inl refl
-      of_test false = of_message seconds (event_message change step outcome planned what)
+      of_test false = of_told seconds (event_message change step outcome planned what) (kept_of outcome what)
 
   of_change : (k : ℕ) (change : Option ResourceChange) → IsLineOrNothing (option_map_or (λ change. option_map_or (λ step. line change step) (slice_get change.steps k) []) change [])
   of_change k None = inl refl
@@ -69,18 +74,18 @@ module _ (seconds : ℕ) (outcome : Outcome) (planned : Option (List ℕ)) (what
 
 -- ---- all of them
 
-of_note : (start latest : ℕ) (note : Option PlanNote) → AreLines (option_map_or (λ note. note_text start latest note ∷ []) note [])
-of_note start latest None = tt
-of_note start latest (Some note) = (of_message (start + latest) (note_message note), tt)
+of_note : (start latest : ℕ) (note : Note) → IsLineOrNothing (note_text start latest note)
+of_note start latest note = of_told (start + latest) (note_message note) (kept_members note.diag)
 
 pub all_lines : (told : Told) (start : ℕ) (operation : Operation) (written : List Event) → AreLines (lines_before_end told start operation written)
 all_lines told start operation written =
     let plan = applied_plan told in
+    let notes = (besides_of told).notes in
     let latest = latest_of written (length written) in
-    all_both (head_pieces plan told.details.changes start) (event_lines (form_of told start operation) written ++ option_map_or (λ note. note_text start latest note ∷ []) told.details.note [])
+    all_both (head_pieces plan told.details.changes start) (event_lines (form_of told start operation) written ++ map (note_text start latest) notes)
     (of_version plan start, all_mapped (planned_at start told.details.changes) (λ p. of_planned start p.1 (slice_get told.details.changes p.0)) (enumerate_from 0 plan.changes))
-    (all_both (event_lines (form_of told start operation) written) (option_map_or (λ note. note_text start latest note ∷ []) told.details.note [])
+    (all_both (event_lines (form_of told start operation) written) (map (note_text start latest) notes)
     (all_mapped (λ (p : ℕ × Event). (form_of told start operation).line (latest_of written (p.0 + 1)) p.1)
     (λ p. of_change (start + latest_of written (p.0 + 1)) (outcome_of (applied_script told) p.1.change p.1.step) (planned_id_of told.details.changes p.1.change) p.1.what p.1.step (slice_get plan.changes p.1.change))
     (enumerate_from 0 written))
-    (of_note start latest told.details.note))
+    (all_mapped (note_text start latest) (of_note start latest) notes))

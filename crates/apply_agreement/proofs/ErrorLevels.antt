@@ -1,5 +1,5 @@
 -- A line of a stream in Terraform's form has the level `error` exactly where the stream has no summary.
-use Rattle.std.proofs.Common.{◌≡◌, ℕ, ◌+◌, ◌<◌, List, [], ◌∷◌, ◌++◌, append-nil, append_assoc, length, map, Bool, true, false, cond, Option, Some, None, refl, sym, ap, ap₂, ◌∙◌, slice_get}
+use Rattle.std.proofs.Common.{◌≡◌, ℕ, ◌+◌, ◌<◌, List, [], ◌∷◌, ◌++◌, append_assoc, length, map, Bool, true, false, cond, Option, Some, None, refl, sym, ap, ap₂, ◌∙◌, slice_get}
 use Rattle.std.specs.Prelude.{◌||◌, flat_map}
 use Rattle.std.specs.List.{concat, enumerate_from, list_any}
 use Rattle.std.specs.Option.{option_map_or}
@@ -22,18 +22,23 @@ use Rattle.apply_events.specs.Totals.{is_halted, totals_of}
 use Rattle.apply_text.specs.declared.operation.Operation.{Operation}
 use Rattle.apply_text.specs.Latest.{latest_of}
 use Rattle.apply_text.specs.Lines.{message_object}
+use Rattle.apply_text.specs.Message.{Message}
 use Rattle.apply_text.specs.Order.{as_written}
-use Rattle.apply_form.specs.declared.change_details.ChangeDetails.{ChangeDetails}
-use Rattle.apply_form.specs.declared.output.Output.{Output}
-use Rattle.apply_form.specs.declared.plan_note.PlanNote.{PlanNote}
-use Rattle.apply_form.specs.declared.plan_note.PlanNote.TheVariants.{Partial, Unfinished}
+use Rattle.apply_model.specs.declared.details.change_details.ChangeDetails.{ChangeDetails}
+use Rattle.apply_model.specs.declared.details.output.Output.{Output}
+use Rattle.apply_model.specs.declared.details.note.Note.{Note}
+use Rattle.apply_model.specs.declared.details.severity.Severity.{Severity}
+use Rattle.apply_model.specs.declared.details.severity.Severity.TheVariants.{Error, Warning}
+use Rattle.apply_model.specs.declared.script.diag.Diag.{Diag}
 use Rattle.apply_form.specs.Details.{planned_word}
-use Rattle.apply_form.specs.Lines.{event_text, message_line, note_text, outputs_text, planned_text, summary_text, version_text}
-use Rattle.apply_form.specs.Message.{event_message, is_silent, planned_message}
+use Rattle.apply_form.specs.Kept.{kept_members, note_with}
+use Rattle.apply_form.specs.Lines.{event_line, event_text, line_of_text, message_line, note_text, outputs_text, planned_text, summary_text, told_line, version_text}
+use Rattle.apply_form.specs.Message.{event_message, is_silent, kept_of, note_message, planned_message}
+use Rattle.apply_form.specs.Moment.{fine_text}
 use Rattle.apply_run.specs.InForm.{form_of}
-use Rattle.apply_run.specs.Read.{Told, applied_plan, applied_script}
+use Rattle.apply_run.specs.Read.{Told, applied_plan, applied_script, besides_of}
 use Rattle.apply_run.specs.Stream.Form.{lines_in}
-use Rattle.apply_run.specs.Stream.Terraform.{head_pieces, is_error, planned_at, planned_id_of, tells_error}
+use Rattle.apply_run.specs.Stream.Terraform.{head_pieces, is_error, is_severe, planned_at, planned_id_of, tells_error}
 use Rattle.apply_agreement.specs.Levels.{HasAnEndOrAnError, end_of, event_lines, has_error_line, is_error_line, lines_before_end}
 use Rattle.apply_agreement.specs.WholeSteps.{IsOfWholeSteps}
 use Rattle.apply_agreement.proofs.EndedLines.{all_lines}
@@ -71,18 +76,31 @@ none_of_planned start details (p ∷ ps) = ap₂ (λ (a b : Bool). a || b) (plan
 none_of_head : (plan : SavedPlan) (details : List ChangeDetails) (start : ℕ) → list_any is_error_line (head_pieces plan details start) ≡ false
 none_of_head plan details start = ap₂ (λ (a b : Bool). a || b) (version_is_fine plan start) (none_of_planned start details (enumerate_from 0 plan.changes))
 
--- ---- what is said of the plan as a whole
+-- ---- diagnostics of no step
 
-of_note : (start latest : ℕ) (note : Option PlanNote) → list_any is_error_line (option_map_or (λ note. note_text start latest note ∷ []) note []) ≡ is_error note
+-- a line with what is kept, or without
+either_kept : (seconds : ℕ) (message : Message) (kept : List ℕ) (is : Bool) → is_error_line (message_line seconds message) ≡ is
+    → ((byte : ℕ) (bytes : List ℕ) → is_error_line (line_of_text (note_with (fine_text seconds) message (byte ∷ bytes))) ≡ is)
+    → is_error_line (told_line seconds message kept) ≡ is
+either_kept seconds message [] is plain more = plain
+either_kept seconds message (byte ∷ bytes) is plain more = more byte bytes
+
+of_severity : (start latest : ℕ) (severity : Severity) (diag : Diag) (address : Option (List ℕ))
+    → is_error_line (note_text start latest (record { severity = severity; diag = diag; address = address })) ≡ is_severe severity
 unfolding message_object escape_byte
-of_note start latest None = refl
-of_note start latest (Some Partial) = refl
-of_note start latest (Some Unfinished) = refl
+of_severity start latest Error diag address =
+    either_kept (start + latest) (note_message (record { severity = Error; diag = diag; address = address })) (kept_members diag) true refl (λ byte bytes. refl)
+of_severity start latest Warning diag address =
+    either_kept (start + latest) (note_message (record { severity = Warning; diag = diag; address = address })) (kept_members diag) false refl (λ byte bytes. refl)
+
+of_notes : (start latest : ℕ) (notes : List Note) → list_any is_error_line (map (note_text start latest) notes) ≡ list_any is_error notes
+of_notes start latest [] = refl
+of_notes start latest (note ∷ notes) = ap₂ (λ (a b : Bool). a || b) (of_severity start latest note.severity note.diag note.address) (of_notes start latest notes)
 
 -- ---- the line of an event
 
-abbrev event_line : (seconds : ℕ) → ResourceChange → StepKind → Outcome → (planned : Option (List ℕ)) → What → List ℕ
-event_line seconds change step outcome planned what = cond (is_silent step what) [] (message_line seconds (event_message change step outcome planned what))
+abbrev line_or_none : (seconds : ℕ) → ResourceChange → StepKind → Outcome → (planned : Option (List ℕ)) → What → List ℕ
+line_or_none seconds change step outcome planned what = cond (is_silent step what) [] (event_line seconds change step outcome planned what)
 
 -- a line that is written or is not
 either : (silent : Bool) (line : List ℕ) → is_error_line line ≡ false → is_error_line (cond silent [] line) ≡ false
@@ -102,15 +120,17 @@ halted Delete phase hook = refl
 halted Read phase hook = refl
 
 of_what : (seconds : ℕ) (change : ResourceChange) (step : StepKind) (outcome : Outcome) (planned : Option (List ℕ)) (what : What)
-    → is_error_line (event_line seconds change step outcome planned what) ≡ (is_error_note what || is_halted what)
+    → is_error_line (line_or_none seconds change step outcome planned what) ≡ (is_error_note what || is_halted what)
 unfolding message_object escape_byte
 of_what seconds change step outcome planned Start = either (is_silent step Start) _ refl
 of_what seconds change step outcome planned (Progress n) = either (is_silent step (Progress n)) _ refl
 of_what seconds change step outcome planned (Complete n) = either (is_silent step (Complete n)) _ refl
 of_what seconds change step outcome planned (Errored n) = either (is_silent step (Errored n)) _ refl
 of_what seconds change step outcome planned ErrorNote =
-    ap (λ (b : Bool). is_error_line (cond b [] (message_line seconds (event_message change step outcome planned ErrorNote)))) (noted step)
-of_what seconds change step outcome planned WarnNote = either (is_silent step WarnNote) _ refl
+    ap (λ (b : Bool). is_error_line (cond b [] (event_line seconds change step outcome planned ErrorNote))) (noted step)
+    ∙ either_kept seconds (event_message change step outcome planned ErrorNote) (kept_of outcome ErrorNote) true refl (λ byte bytes. refl)
+of_what seconds change step outcome planned WarnNote =
+    either (is_silent step WarnNote) _ (either_kept seconds (event_message change step outcome planned WarnNote) (kept_of outcome WarnNote) false refl (λ byte bytes. refl))
 of_what seconds change step outcome planned (Halted phase hook) =
     ap (λ (b : Bool). is_error_line (cond b [] (message_line seconds (event_message change step outcome planned (Halted phase hook))))) (halted step phase hook)
 of_what seconds change step outcome planned (ProvisionStart i) = either (is_silent step (ProvisionStart i)) _ refl
@@ -125,8 +145,8 @@ of_event : (plan : SavedPlan) (script : OutcomeMap) (start latest : ℕ) (planne
 of_event plan script start latest planned e is =
     let step = found (slice_get plan.changes e.change) e.step is.0 is.1 in
     let outcome = outcome_of script e.change e.step in
-    ap (λ (o : Option ResourceChange). is_error_line (option_map_or (λ change. option_map_or (λ kind. event_line (start + latest) change kind outcome planned e.what) (slice_get change.steps e.step) []) o [])) step.1
-    ∙ ap (λ (o : Option StepKind). is_error_line (option_map_or (λ kind. event_line (start + latest) step.0 kind outcome planned e.what) o [])) step.2
+    ap (λ (o : Option ResourceChange). is_error_line (option_map_or (λ change. option_map_or (λ kind. line_or_none (start + latest) change kind outcome planned e.what) (slice_get change.steps e.step) []) o [])) step.1
+    ∙ ap (λ (o : Option StepKind). is_error_line (option_map_or (λ kind. line_or_none (start + latest) step.0 kind outcome planned e.what) o [])) step.2
     ∙ of_what (start + latest) step.0 is.0 outcome planned e.what
 
 -- ---- the events of a run
@@ -146,21 +166,21 @@ module _ (told : Told) (start : ℕ) (operation : Operation) where
 
     -- a line has the level exactly where the run says that the stream tells of an error
     of_run : (events : List Event) → IsOfWholeSteps work events
-        → has_error_line told start operation (as_written events) ≡ tells_error told.details.note (totals_of (applied_plan told) events)
+        → has_error_line told start operation (as_written events) ≡ tells_error (besides_of told).notes (totals_of (applied_plan told) events)
     of_run events steps =
         let plan = applied_plan told in
         let limit = length plan.changes in
         let written = as_written events in
         let head = head_pieces plan told.details.changes start in
         let lines = event_lines (form_of told start operation) written in
-        let last = option_map_or (λ note. note_text start (latest_of written (length written)) note ∷ []) told.details.note [] in
+        let last = map (note_text start (latest_of written (length written))) (besides_of told).notes in
         let planned : Each (IsPlanned plan) events = are_planned plan events steps.planned in
         let counted = errors_counted work limit events (each_weaker (IsPlanned plan) (λ e. e.change < limit) (is_within plan) events planned) steps.whole in
         any_both is_error_line head (lines ++ last)
         ∙ ap₂ (λ (a b : Bool). a || b) (none_of_head plan told.details.changes start) (any_both is_error_line lines last)
         ∙ ap₂ (λ (a b : Bool). a || b)
         (of_events (latest_of written) 0 written (each_written (IsPlanned plan) events planned) ∙ any_written tells events ∙ counted)
-        (of_note start (latest_of written (length written)) told.details.note)
+        (of_notes start (latest_of written (length written)) (besides_of told).notes)
 
 -- ---- the stream
 
@@ -168,36 +188,33 @@ joined : {X : Type 0} (f : X → List ℕ) (xs : List X) → concat (map f xs) �
 joined f [] = refl
 joined f (x ∷ xs) = ap (λ (l : List ℕ). f x ++ l) (joined f xs)
 
-one_note : (start latest : ℕ) (note : Option PlanNote) → concat (option_map_or (λ note. note_text start latest note ∷ []) note []) ≡ option_map_or (note_text start latest) note []
-one_note start latest None = refl
-one_note start latest (Some note) = append-nil (note_text start latest note)
-
 -- the lines, joined
 all_joined : (told : Told) (start : ℕ) (operation : Operation) (written : List Event)
-    → concat (lines_before_end told start operation written) ≡ lines_in (form_of told start operation) written ++ option_map_or (note_text start (latest_of written (length written))) told.details.note []
+    → concat (lines_before_end told start operation written) ≡ lines_in (form_of told start operation) written ++ flat_map (note_text start (latest_of written (length written))) (besides_of told).notes
 all_joined told start operation written =
     let form = form_of told start operation in
     let head = head_pieces (applied_plan told) told.details.changes start in
     let lines = event_lines form written in
     let latest = latest_of written (length written) in
-    let last = option_map_or (λ note. note_text start latest note ∷ []) told.details.note [] in
+    let notes = (besides_of told).notes in
+    let last = map (note_text start latest) notes in
     concat-append head (lines ++ last)
     ∙ ap (λ (l : List ℕ). concat head ++ l)
     (concat-append lines last
-    ∙ ap₂ (λ (a b : List ℕ). a ++ b) (joined (λ p. form.line (latest_of written (p.0 + 1)) p.1) (enumerate_from 0 written)) (one_note start latest told.details.note))
-    ∙ sym (append_assoc (concat head) (flat_map (λ p. form.line (latest_of written (p.0 + 1)) p.1) (enumerate_from 0 written)) (option_map_or (note_text start latest) told.details.note []))
+    ∙ ap₂ (λ (a b : List ℕ). a ++ b) (joined (λ p. form.line (latest_of written (p.0 + 1)) p.1) (enumerate_from 0 written)) (joined (note_text start latest) notes))
+    ∙ sym (append_assoc (concat head) (flat_map (λ p. form.line (latest_of written (p.0 + 1)) p.1) (enumerate_from 0 written)) (flat_map (note_text start latest) notes))
 
 pub an_end_or_an_error : (told : Told) (start : ℕ) (operation : Operation) (hooks : List (List Rule)) (events : List Event) (counts : Counts) (said : Bool)
-    → IsOfWholeSteps (record { plan = applied_plan told; script = applied_script told; hooks = hooks }) events → counts ≡ totals_of (applied_plan told) events → said ≡ tells_error told.details.note counts
+    → IsOfWholeSteps (record { plan = applied_plan told; script = applied_script told; hooks = hooks }) events → counts ≡ totals_of (applied_plan told) events → said ≡ tells_error (besides_of told).notes counts
     → HasAnEndOrAnError told start operation events said
 an_end_or_an_error told start operation hooks events counts said steps counted reported =
     let written = as_written events in
     let latest = latest_of written (length written) in
     let same = of_run told start operation hooks events steps in
-    let note = option_map_or (note_text start latest) told.details.note [] in
+    let notes = flat_map (note_text start latest) (besides_of told).notes in
     record {
       lines = all_lines told start operation written;
-      stream = sym (append_assoc (lines_in (form_of told start operation) written) note (cond (tells_error told.details.note (totals_of (applied_plan told) events)) [] (end_of told start operation events)))
+      stream = sym (append_assoc (lines_in (form_of told start operation) written) notes (cond (tells_error (besides_of told).notes (totals_of (applied_plan told) events)) [] (end_of told start operation events)))
           ∙ ap₂ (λ (a : List ℕ) (b : Bool). a ++ cond b [] (end_of told start operation events)) (sym (all_joined told start operation written)) (sym same);
-      error = reported ∙ ap (tells_error told.details.note) counted ∙ sym same;
+      error = reported ∙ ap (tells_error (besides_of told).notes) counted ∙ sym same;
     }

@@ -3,7 +3,7 @@
 ghost use Rattle.std.specs.Prelude.{◌≡◌, ℕ, List, false};
 ghost use Rattle.apply_events.specs.declared.counts.Counts.{Counts};
 ghost use Rattle.apply_text.specs.declared.operation.Operation.{Operation};
-ghost use Rattle.apply_form.specs.declared.output.Output.{Output};
+ghost use Rattle.apply_model.specs.declared.details.output.Output.{Output};
 ghost use Rattle.apply_form.specs.Lines.{outputs_text, summary_text};
 ghost use Rattle.apply_run.specs.declared.form_report.FormReport.{FormReport};
 ghost use Rattle.apply_run.specs.declared.options.Options.{Options};
@@ -16,8 +16,8 @@ use crate::applied::what_was_read_is_within_limits;
 use crate::laws::{a_run_is_of_whole_steps, a_time_line_is_of_whole_steps};
 
 /// A stream in Terraform's form that was written whole ends with a summary, and with it, of an apply, one line of outputs,
-/// exactly where none of its lines has the level `error`, be it one of events or what is said of the plan as a whole. That it
-/// tells of an error is reported exactly where one of them has. So it is by workers and in lanes.
+/// exactly where none of its lines has the level `error`, be it one of events or a diagnostic of no step. That it tells of an
+/// error is reported exactly where one of them has. So it is by workers and in lanes.
 pub fn a_stream_has_an_end_or_an_error()
     ensures workers { (given : Given) (options : Options) (report : FormReport) (before after : Sight)
         (applied : WasAppliedAsTold given options report before after)

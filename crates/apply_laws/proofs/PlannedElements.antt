@@ -27,7 +27,7 @@ use Rattle.apply_plan.specs.Plan.SavedPlan.{change_of, plan_of, planned_at}
 use Rattle.apply_plan.specs.Plan.Steps.{steps_alone, steps_of_actions, steps_together}
 use Rattle.apply_plan.specs.Results.{or_refuse}
 use Rattle.apply_plan.proofs.Results.{bind_ok, guard_ok, ok_is, or_refuse_ok}
-use Rattle.apply_form.specs.declared.change_details.ChangeDetails.{ChangeDetails}
+use Rattle.apply_model.specs.declared.details.change_details.ChangeDetails.{ChangeDetails}
 use Rattle.apply_form_plan.specs.Changes.{elements_of}
 use Rattle.apply_form_plan.specs.Details.{actions_in, element_details, forgets_in, is_forgetting}
 use Rattle.apply_form_plan.specs.Told.{DetailsOfPlan, details_of}

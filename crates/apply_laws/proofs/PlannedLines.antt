@@ -10,7 +10,7 @@ use Rattle.apply_model.specs.Plan.SavedPlan.{SavedPlan}
 use Rattle.apply_text.specs.Laws.{line_feeds}
 use Rattle.apply_text.specs.Lines.{message_object, typed}
 use Rattle.apply_text.specs.Words.{action_word}
-use Rattle.apply_form.specs.declared.change_details.ChangeDetails.{ChangeDetails}
+use Rattle.apply_model.specs.declared.details.change_details.ChangeDetails.{ChangeDetails}
 use Rattle.apply_form.specs.Details.{planned_word}
 use Rattle.apply_form.specs.Lines.{message_line, planned_text, version_members, version_text}
 use Rattle.apply_form.specs.Message.{planned_message}

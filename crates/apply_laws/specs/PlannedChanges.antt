@@ -9,7 +9,7 @@ use Rattle.apply_model.specs.Plan.ResourceChange.{ResourceChange}
 use Rattle.apply_model.specs.Plan.SavedPlan.{SavedPlan}
 use Rattle.apply_text.specs.Laws.{line_feeds}
 use Rattle.apply_text.specs.Message.{Message}
-use Rattle.apply_form.specs.declared.change_details.ChangeDetails.{ChangeDetails}
+use Rattle.apply_model.specs.declared.details.change_details.ChangeDetails.{ChangeDetails}
 use Rattle.apply_form.specs.Lines.{message_line}
 use Rattle.apply_form_plan.specs.Changes.{elements_of}
 use Rattle.apply_form_plan.specs.Details.{actions_in}

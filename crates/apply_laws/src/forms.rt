@@ -9,7 +9,7 @@ ghost use Rattle.apply_events.specs.declared.event.Event.{Event};
 ghost use Rattle.apply_text.specs.declared.operation.Operation.{Operation};
 ghost use Rattle.apply_text.specs.Laws.{line_feeds};
 ghost use Rattle.apply_text.specs.Lines.{lines_of, stream_of};
-ghost use Rattle.apply_form.specs.declared.change_details.ChangeDetails.{ChangeDetails};
+ghost use Rattle.apply_model.specs.declared.details.change_details.ChangeDetails.{ChangeDetails};
 ghost use Rattle.apply_form.specs.Lines.{version_text};
 ghost use Rattle.apply_form_plan.specs.Told.{DetailsOfPlan, details_of};
 ghost use Rattle.apply_run.specs.Stream.Form.{lines_in, plain_form, stream_in};

@@ -43,4 +43,5 @@ memory_or_not (error.NoSuchStep n) = inr (λ is. absurd cc)
 memory_or_not (error.NeverBegins n) = inr (λ is. absurd cc)
 memory_or_not (error.BadOutput n) = inr (λ is. absurd cc)
 memory_or_not (error.UnknownOutput n) = inr (λ is. absurd cc)
+memory_or_not (error.BadDiagnostic n) = inr (λ is. absurd cc)
 memory_or_not error.Memory = inl refl

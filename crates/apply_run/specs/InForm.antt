@@ -1,5 +1,5 @@
 -- What is answered to the bytes of a plan and of a script, in the form that was asked for.
-use Rattle.std.specs.Prelude.{◌≡◌, ◌⊎◌, ℕ, List, Bool, true, false, None}
+use Rattle.std.specs.Prelude.{◌≡◌, ◌⊎◌, ℕ, List, [], Bool, true, false}
 use Rattle.apply_plan.specs.Script.Waits.{has_waits}
 use Rattle.apply_events.specs.Lanes.{AreLanes}
 use Rattle.apply_events.specs.Step.{Work}
@@ -34,13 +34,13 @@ pub record WasAppliedAsTold (given : Given) (options : Options) (report : FormRe
   pub read : IsTold given.plan given.script told
   pub sizes : IsInRange options
   pub streamed : HasStreamedInForm (form_of told options.start options.operation) (work_of given told) options.workers report.run before after
-  pub error : report.tells_error ≡ tells_error told.details.note report.run.counts
+  pub error : report.tells_error ≡ tells_error (besides_of told).notes report.run.counts
   pub no_waits : has_waits told.script ≡ false
 
 -- the same in the form that was asked for
 abbrev pub WasAppliedInForm : Form → Given → Options → FormReport → (before after : Sight) → Type 0
 WasAppliedInForm Applystream given options report before after =
-    WasApplied given options report.run before after × (report.tells_error ≡ tells_error None report.run.counts)
+    WasApplied given options report.run before after × (report.tells_error ≡ tells_error [] report.run.counts)
 WasAppliedInForm Terraform given options report before after = WasAppliedAsTold given options report before after
 
 -- refused as with any form, or for the outputs of the script; the sink is as it was. Otherwise the run has ended in a fault
@@ -66,11 +66,11 @@ pub record WasAppliedAsToldInLanes (given : Given) (lanes start : ℕ) (operatio
   pub read : IsTold given.plan given.script told
   pub sizes : AreLanes lanes
   pub streamed : HasStreamedInFormAndLanes (form_of told start operation) (work_of given told) lanes report.run before after
-  pub error : report.tells_error ≡ tells_error told.details.note report.run.counts
+  pub error : report.tells_error ≡ tells_error (besides_of told).notes report.run.counts
 
 abbrev pub WasAppliedInFormAndLanes : Form → Given → (lanes start : ℕ) → Operation → FormReport → (before after : Sight) → Type 0
 WasAppliedInFormAndLanes Applystream given lanes start operation report before after =
-    WasAppliedInLanes given lanes start operation report.run before after × (report.tells_error ≡ tells_error None report.run.counts)
+    WasAppliedInLanes given lanes start operation report.run before after × (report.tells_error ≡ tells_error [] report.run.counts)
 WasAppliedInFormAndLanes Terraform given lanes start operation report before after =
     WasAppliedAsToldInLanes given lanes start operation report before after
 

@@ -1,6 +1,6 @@
 //! The run of a plan that is read from bytes, in the form that is asked for.
 
-ghost use Rattle.std.specs.Prelude.{◌≡◌, ◌<◌, ◌-◌, ◌^◌, None, IfErr, IfOk};
+ghost use Rattle.std.specs.Prelude.{◌≡◌, ◌<◌, ◌-◌, ◌^◌, [], IfErr, IfOk};
 ghost use Rattle.std.specs.Option.{option_copied};
 ghost use Rattle.apply_hooks.specs.Registry.{rules_of};
 ghost use Rattle.apply_run.specs.InForm.{WasAppliedAsTold, WasAppliedAsToldInLanes, WasAppliedInForm, WasAppliedInFormAndLanes, WasNotApplied, WasNotAppliedInLanes, WasRefusedInForm, WasRefusedInFormAndLanes};
@@ -36,7 +36,7 @@ use std::thread::Threads;
 /// In Terraform's form a plan whose making ended with an error is applied as one without changes, and tells of that error.
 ///
 /// `Err` with `Refusal::Plan` where the bytes are no plan, else with `Refusal::Script` where there is a script and it is none
-/// for the plan, or, in Terraform's form, its outputs are none of the plan, else with `Refusal::Waits` where the script
+/// for the plan, or, in Terraform's form, its outputs are none of the plan or its diagnostics malformed, else with `Refusal::Waits` where the script
 /// says what steps wait for, else with `Refusal::Size` where the options are out of range: then nothing was written, and the
 /// sink is as it was. `Err` with `Refusal::Fault` where the run did not end well.
 pub fn apply_bytes_in_form<S: Sink + Drop, G: Gate, R: Threads + Wait + Sync>(
@@ -76,7 +76,7 @@ pub fn apply_bytes_in_form<S: Sink + Drop, G: Gate, R: Threads + Wait + Sync>(
 
 /// What a run in the default form has done.
 fn plain_report(run: Report) -> FormReport
-    ensures { (result.run ≡ run) × (result.tells_error ≡ tells_error None run.counts) }
+    ensures { (result.run ≡ run) × (result.tells_error ≡ tells_error [] run.counts) }
 {
     FormReport {
         run,
@@ -86,7 +86,7 @@ fn plain_report(run: Report) -> FormReport
 
 /// Whether a step failed or was halted.
 fn is_unfinished(counts: &Counts) -> bool
-    ensures { result ≡ tells_error None counts.now }
+    ensures { result ≡ tells_error [] counts.now }
 {
     0 < counts.failed || 0 < counts.halted
 }

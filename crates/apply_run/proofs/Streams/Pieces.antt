@@ -8,7 +8,7 @@ use Rattle.std.proofs.lemmas.List.FromFn.{get_or-enumerate_from, length-enumerat
 use Rattle.std.proofs.lemmas.Option.{slice_get-get_or}
 use Rattle.apply_model.specs.Plan.ResourceChange.{ResourceChange}
 use Rattle.apply_model.specs.Plan.SavedPlan.{SavedPlan}
-use Rattle.apply_form.specs.declared.change_details.ChangeDetails.{ChangeDetails}
+use Rattle.apply_model.specs.declared.details.change_details.ChangeDetails.{ChangeDetails}
 use Rattle.apply_run.specs.Stream.Terraform.{head_pieces, planned_at}
 
 -- one for the version, and one for each change

@@ -1,6 +1,6 @@
 -- What a stream tells in Terraform's own form, of what the plan and the script say besides for it.
-use Rattle.std.specs.Prelude.{ℕ, ◌+◌, List, [], ◌∷◌, ◌++◌, Bool, true, false, ◌||◌, nat_lt, if◌then◌else◌, is_some, map, count_by, slice_get, Option, Some, None, option_and_then}
-use Rattle.std.specs.List.{concat, enumerate_from}
+use Rattle.std.specs.Prelude.{ℕ, ◌+◌, List, [], ◌∷◌, ◌++◌, Bool, true, false, ◌||◌, nat_lt, if◌then◌else◌, is_some, map, flat_map, count_by, slice_get, Option, Some, None, option_and_then}
+use Rattle.std.specs.List.{concat, enumerate_from, list_any}
 use Rattle.std.specs.Option.{option_map_or}
 use Rattle.apply_model.specs.Plan.ResourceChange.{ResourceChange}
 use Rattle.apply_model.specs.Plan.SavedPlan.{SavedPlan}
@@ -9,17 +9,18 @@ use Rattle.apply_events.specs.declared.counts.Counts.{Counts}
 use Rattle.apply_events.specs.declared.event.Event.{Event}
 use Rattle.apply_text.specs.declared.operation.Operation.{Operation}
 use Rattle.apply_text.specs.declared.operation.Operation.TheVariants.{Apply, Destroy}
-use Rattle.apply_form.specs.declared.change_details.ChangeDetails.{ChangeDetails}
-use Rattle.apply_form.specs.declared.output.Output.{Output}
-use Rattle.apply_form.specs.declared.plan_note.PlanNote.{PlanNote}
-use Rattle.apply_form.specs.declared.plan_note.PlanNote.TheVariants.{Partial, Unfinished}
+use Rattle.apply_model.specs.declared.details.change_details.ChangeDetails.{ChangeDetails}
+use Rattle.apply_model.specs.declared.details.note.Note.{Note}
+use Rattle.apply_model.specs.declared.details.output.Output.{Output}
+use Rattle.apply_model.specs.declared.details.severity.Severity.{Severity}
+use Rattle.apply_model.specs.declared.details.severity.Severity.TheVariants.{Error, Warning}
 use Rattle.apply_form.specs.Lines.{event_text, note_text, outputs_text, planned_text, summary_text, version_text}
 use Rattle.apply_run.specs.Stream.Form.{StreamForm}
 
--- what is told besides: of each change by its number, of the plan as a whole, and the outputs in their order
+-- what is told besides: of each change by its number, the diagnostics of no step and the outputs, both in their order
 pub record Besides : Type 0 where
   pub details : List ChangeDetails
-  pub note : Option PlanNote
+  pub notes : List Note
   pub outputs : List Output
 
 -- ---- what comes first
@@ -40,15 +41,17 @@ planned_id_of details change = option_and_then (λ (d : ChangeDetails). d.planne
 
 -- ---- what comes last
 
--- a diagnostic of the plan as a whole says that it has failed
-abbrev pub is_error : Option PlanNote → Bool
-is_error None = false
-is_error (Some Partial) = false
-is_error (Some Unfinished) = true
+-- a diagnostic of no step is an error
+abbrev pub is_severe : Severity → Bool
+is_severe Error = true
+is_severe Warning = false
 
--- the stream tells of an error: a step failed or was halted, or the plan as a whole has failed
-abbrev pub tells_error : Option PlanNote → Counts → Bool
-tells_error note counts = nat_lt 0 (counts.failed + counts.halted) || is_error note
+abbrev pub is_error : Note → Bool
+is_error note = is_severe note.severity
+
+-- the stream tells of an error: a step failed or was halted, or a diagnostic of no step is an error
+abbrev pub tells_error : List Note → Counts → Bool
+tells_error notes counts = nat_lt 0 (counts.failed + counts.halted) || list_any is_error notes
 
 -- how many changes import something
 abbrev pub imported_in : List ChangeDetails → ℕ
@@ -59,11 +62,11 @@ abbrev pub outputs_of_apply : Operation → (start latest : ℕ) → List Output
 outputs_of_apply Apply start latest outputs = outputs_text start latest outputs
 outputs_of_apply Destroy start latest outputs = []
 
--- what is said of the plan as a whole; then the summary and the outputs, where nothing tells of an error
+-- the diagnostics of no step; then the summary and the outputs, where nothing tells of an error
 abbrev pub tail_text : Besides → (start : ℕ) → Operation → (latest : ℕ) → Counts → List ℕ
 tail_text besides start operation latest counts =
-    option_map_or (note_text start latest) besides.note []
-    ++ (if tells_error besides.note counts then []
+    flat_map (note_text start latest) besides.notes
+    ++ (if tells_error besides.notes counts then []
     else (summary_text start latest operation counts (imported_in besides.details)
     ++ outputs_of_apply operation start latest besides.outputs))
 

@@ -5,20 +5,20 @@ ghost use Rattle.std.specs.Option.{option_copied};
 ghost use Rattle.apply_plan.specs.declared.script.script_error.ScriptError.TheVariants as script_error;
 ghost use Rattle.apply_plan.specs.Bytes.{max_bytes};
 ghost use Rattle.apply_plan.specs.Results.{Gives};
-ghost use Rattle.apply_form_plan.specs.Kept.{members_view};
+ghost use Rattle.apply_form_plan.specs.Extras.{seen_extras};
 ghost use Rattle.apply_form_plan.specs.Outputs.{seen_outputs};
 ghost use Rattle.apply_form_plan.specs.Told.{seen_details};
 ghost use Rattle.apply_run.specs.Bytes.{MayBeRead};
-ghost use Rattle.apply_run.specs.Read.{given_outputs, IsReadAsTold, WasNotRead, WasRead};
+ghost use Rattle.apply_run.specs.Read.{given_extras, IsReadAsTold, WasNotRead, WasRead};
 
 use crate::bytes::read_given;
 use crate::forms::told_besides::ToldBesides;
 use crate::refusal::Refusal;
-use apply_form::{ChangeDetails, Output, PlanNote};
 use apply_form_plan::{
-    Details, Extras, PlanDetails, PlanOutputs, read_details, read_extras, told_outputs,
+    Details, Extras, PlanDetails, PlanNote, PlanOutputs, read_details, read_extras, told_notes,
+    told_outputs,
 };
-use apply_model::Text;
+use apply_model::{ChangeDetails, Note, Output, Text};
 use apply_plan::{Plan, PlanError, Script, ScriptError, read_plan};
 use std::alloc::{AllocError, Global};
 
@@ -31,8 +31,8 @@ pub(crate) struct ReadBesides {
     pub script: Script,
     /// What is told of each change, by its number.
     pub changes: Vec<ChangeDetails>,
-    /// What is said of the plan as a whole.
-    pub note: Option<PlanNote>,
+    /// The diagnostics of no step, in their order.
+    pub notes: Vec<Note>,
     /// The outputs, in their order.
     pub outputs: Vec<Output>,
     /// Whether the script that was read says what steps wait for.
@@ -43,12 +43,12 @@ impl ReadBesides {
     /// What is told besides the events.
     pub fn besides(&self) -> ToldBesides<'_>
         ensures details { result.details.now ≡ self.now.changes.items }
-        ensures note { result.note ≡ self.now.note }
+        ensures notes { result.notes.now ≡ self.now.notes.items }
         ensures outputs { result.outputs.now ≡ self.now.outputs.items }
     {
         ToldBesides {
             details: &self.changes,
-            note: self.note,
+            notes: &self.notes,
             outputs: &self.outputs,
         }
     }
@@ -57,8 +57,8 @@ impl ReadBesides {
 /// Reads a plan (JSON Output Format, "Plan Representation"), a script of outcomes for it, where there is one, and what both
 /// say besides.
 ///
-/// `Err` with `Refusal::Plan` where the bytes are no plan, else with `Refusal::Script` where they are no script for it, or its
-/// outputs are none of the plan. Want of memory is a refusal of what was being read.
+/// `Err` with `Refusal::Plan` where the bytes are no plan, else with `Refusal::Script` where they are no script for it, its
+/// outputs are none of the plan, or its diagnostics of no step are malformed. Want of memory is a refusal of what was being read.
 pub(crate) fn read_besides(
     alloc: Global,
     plan: &[u8],
@@ -95,8 +95,8 @@ fn read_given_extras(
     plan: &PlanOutputs,
 ) -> Result<Extras, ScriptError>
     requires { IfSome (option_copied bytes) (λ some. length some ≤ max_bytes) }
-    ensures defined { Gives script_error.Memory (λ extras. members_view extras.outputs.entries) result
-        (given_outputs (seen_outputs plan.now) (option_copied bytes.entry)) }
+    ensures defined { Gives script_error.Memory seen_extras result
+        (given_extras (seen_outputs plan.now) (option_copied bytes.entry)) }
     ensures memory { result ≡ Err script_error.Memory → MayBeRead (option_copied bytes.entry) }
 {
     match bytes {
@@ -117,7 +117,7 @@ fn as_told(
       plan = plan;
       script = script;
       details = seen_details details;
-      outputs = members_view extras.outputs.entries;
+      extras = seen_extras extras;
     })) }
 {
     let Details {
@@ -125,6 +125,8 @@ fn as_told(
         outputs,
     } = details;
     let PlanDetails { changes, note } = said;
+    let mut extras = extras;
+    let notes = told_notes(alloc, note, extras.take_notes(alloc))?;
     let outputs = told_outputs(alloc, outputs, extras)?;
     let has_waits = script.has_waits();
     let (plan, script) = if note == Some(PlanNote::Unfinished) {
@@ -137,7 +139,7 @@ fn as_told(
         plan,
         script,
         changes,
-        note,
+        notes,
         outputs,
         has_waits,
     })

@@ -1,6 +1,6 @@
 //! The lines of a stream in Terraform's own form.
 
-ghost use Rattle.std.specs.Prelude.{◌≡◌, ◌<◌, ◌≤◌, ◌++◌, [], length, slice_get, slice_index_or, OnOk, IfOk, option_and_then};
+ghost use Rattle.std.specs.Prelude.{◌≡◌, ◌<◌, ◌≤◌, ◌+◌, ◌++◌, [], flat_map, length, slice_get, slice_index_or, OnOk, IfOk, option_and_then};
 ghost use Rattle.std.specs.List.{concat};
 ghost use Rattle.std.specs.Option.{option_copied, option_map_or};
 ghost use Rattle.apply_events.specs.Fits.{IsOfPlan, last_moment};
@@ -12,6 +12,7 @@ use crate::forms::form_lines::FormLines;
 use crate::forms::told_besides::ToldBesides;
 use apply_events::{Counts, Event};
 use apply_form::FormBuffer;
+use apply_model::Note;
 use apply_plan::{Plan, Script};
 use apply_text::{Operation, Start};
 use std::alloc::{AllocError, Global};
@@ -40,7 +41,7 @@ impl<'a> TerraformLines<'a> {
         operation: Operation,
     ) -> Result<TerraformLines<'a>, AllocError>
         ensures { IfOk result (λ lines. (lines.plan.now ≡ plan.now) × (lines.script.now ≡ script.now)
-            × (lines.besides.details.now ≡ besides.entry.details.now) × (lines.besides.note ≡ besides.entry.note)
+            × (lines.besides.details.now ≡ besides.entry.details.now) × (lines.besides.notes.now ≡ besides.entry.notes.now)
             × (lines.besides.outputs.now ≡ besides.entry.outputs.now)
             × (lines.start ≡ start) × (lines.operation ≡ operation)) }
     {
@@ -71,17 +72,14 @@ impl<'a> TerraformLines<'a> {
         }
     }
 
-    /// Appends what is said of the plan as a whole, where something is. `Err` where memory is refused.
-    fn push_note(&mut self, latest: u64) -> Result<(), AllocError>
+    /// Appends the diagnostics of no step. `Err` where memory is refused.
+    fn push_notes(&mut self, latest: u64) -> Result<(), AllocError>
         requires { latest ≤ last_moment }
         ensures ok { OnOk result (self.new.buffer
-            ≡ self.old.buffer ++ option_map_or (note_text self.old.start latest) self.old.besides.note []) }
+            ≡ self.old.buffer ++ flat_map (note_text self.old.start latest) self.old.besides.notes.now) }
         ensures same { IsSame self.old self.new }
     {
-        match self.besides.note {
-            Some(note) => self.buffer.push_note(self.start, latest, note),
-            None => Ok(()),
-        }
+        push_each(&mut self.buffer, self.start, latest, self.besides.notes)
     }
 
     /// Appends the summary, and the outputs of an apply. `Err` where memory is refused.
@@ -105,11 +103,27 @@ impl<'a> TerraformLines<'a> {
     }
 }
 
+/// Appends diagnostics of no step. `Err` where memory is refused.
+fn push_each(
+    buffer: &mut FormBuffer,
+    start: Start,
+    latest: u64,
+    notes: &[Note],
+) -> Result<(), AllocError>
+    requires { latest ≤ last_moment }
+    ensures { OnOk result (buffer.new ≡ buffer.old ++ flat_map (note_text start latest) notes.now) }
+{
+    for note in notes {
+        buffer.push_note(start, latest, note)?;
+    }
+    Ok(())
+}
+
 impl FormLines for TerraformLines<'_> {
     ghost use Rattle.apply_run.specs.Stream.Terraform.{head_pieces, terraform_form};
 
     ghost form = { λ lines. terraform_form lines.plan.now lines.script.now
-        (record { details = lines.besides.details.now; note = lines.besides.note; outputs = lines.besides.outputs.now })
+        (record { details = lines.besides.details.now; notes = lines.besides.notes.now; outputs = lines.besides.outputs.now })
         lines.start lines.operation };
 
     ghost pieces = { λ lines. head_pieces lines.plan.now lines.besides.details.now lines.start };
@@ -142,7 +156,7 @@ impl FormLines for TerraformLines<'_> {
 
     fn build_tail(&mut self, latest: u64, counts: &Counts) -> Result<(), AllocError> {
         self.buffer.clear();
-        self.push_note(latest)?;
+        self.push_notes(latest)?;
         if self.besides.tells_error(counts) {
             Ok(())
         } else {
