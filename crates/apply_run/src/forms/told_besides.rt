@@ -1,6 +1,6 @@
 //! What a plan and a script say besides for Terraform's form.
 
-ghost use Rattle.std.specs.Prelude.{◌≡◌, is_some};
+ghost use Rattle.std.specs.Prelude.{◌≡◌};
 ghost use Rattle.std.specs.List.{list_any};
 ghost use Rattle.std.specs.Option.{option_copied};
 ghost use Rattle.apply_run.specs.Stream.Terraform as specs;
@@ -63,16 +63,15 @@ fn has_error(notes: &[Note]) -> bool
     notes.iter().any(is_error)
 }
 
-/// Whether a change imports something.
-fn imports(details: &&ChangeDetails) -> bool
-    ensures { result ≡ is_some details.now.now.importing }
-{
-    details.importing.is_some()
-}
-
-/// How many of them do.
+/// How many of the changes import something.
 fn count_imports(details: &[ChangeDetails]) -> u64
     ensures { result ≡ imported_in details.now }
 {
-    details.iter().filter(imports).count() as u64
+    let mut count: u64 = 0;
+    for change in details {
+        if change.importing.is_some() {
+            count += 1;
+        }
+    }
+    count
 }
