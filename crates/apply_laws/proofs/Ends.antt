@@ -75,7 +75,7 @@ count-between k w s at (x ∷ xs) none =
     omega arith
 
 between_ends_nothing : (s : Step) → EndsNothing (between s)
-between_ends_nothing s = all_along (λ x. (is_complete x.1 || is_errored x.1) ≡ false) (seconds_of s) 0 0 s.provider_seconds s.ran
+between_ends_nothing s = all_along (λ x. (is_complete x.1 || is_errored x.1) ≡ false) (seconds_of s) 0 0 s.seconds_before s.ran
     (λ t. refl) (λ i p since. refl) (λ i p j since. refl) (λ i p since. end_is_none i p)
   where
     end_is_none : (i : ℕ) (p : Provisioner) → (is_complete (provision_end i p) || is_errored (provision_end i p)) ≡ false

@@ -1,10 +1,11 @@
 -- The events of a work can happen.
-use Rattle.std.proofs.Common.{◌≡◌, ℕ, ◌+◌, ◌<◌, ◌≤◌, All, nat_eq, Bool, true, false, not, ◌&&◌, List, [], ◌∷◌, ◌++◌, cond, length, map, Option, Some, None, IfSome, refl, ap, arith, ⊎_elim}
-use Rattle.std.specs.Prelude.{IsTrue, is_some, nat_lt, option_map, option_to_list}
+use Rattle.std.proofs.Common.{◌≡◌, ℕ, ◌+◌, ◌<◌, ◌≤◌, All, nat_eq, Bool, true, false, not, ◌&&◌, List, [], ◌∷◌, ◌++◌, cond, drop, length, map, Option, Some, None, IfSome, refl, ap, ◌∙◌, add-one, arith, ⊎_elim}
+use Rattle.std.specs.Prelude.{IsTrue, is_some, nat_lt, option_map, option_to_list, slice_get}
 use Rattle.std.specs.List.{enumerate_from}
+use Rattle.std.specs.Option.{option_map_or}
 use Rattle.std.proofs.lemmas.Bool.{lt-ltb}
 use Rattle.std.proofs.lemmas.Bool.Decides.{eqb_tells}
-use Rattle.std.proofs.lemmas.List.Elements.{All-append, All-cons, All-map, All-nil}
+use Rattle.std.proofs.lemmas.List.Elements.{All-append, All-cons, All-map, All-nil, All-weaker}
 use Rattle.std.proofs.lemmas.List.Quantifiers.{position-Some}
 use Rattle.apply_model.specs.declared.plan.step_kind.StepKind.{StepKind}
 use Rattle.apply_model.specs.declared.script.outcome.Outcome.{Outcome}
@@ -21,38 +22,38 @@ use Rattle.apply_events.specs.declared.event.Event.{Event}
 use Rattle.apply_events.specs.declared.what.What.{What}
 use Rattle.apply_events.specs.declared.what.What.TheVariants.{Start, Complete, Errored, ErrorNote, WarnNote, Halted}
 use Rattle.apply_events.specs.ChangeEvents.{begun, change_events, in_turn, span_of}
-use Rattle.apply_events.specs.Fits.{can_happen, last_moment, max_span, may_be_asked}
+use Rattle.apply_events.specs.Fits.{can_happen, happens, last_moment, max_span, may_be_asked}
 use Rattle.apply_events.specs.Laws.{AllFit, IsWithinLimits, NamesEachOnce}
-use Rattle.apply_events.specs.Step.{Work, address_of, has_warning, kinds_of, step_of}
+use Rattle.apply_events.specs.Step.{Work, address_of, has_warning, kinds_applied, step_of}
 use Rattle.apply_events.specs.StepEvents.{between, end_of, endings, event, goes_on, halts, notes, phase_after, seconds_of, started, step_events, step_time}
 use Rattle.apply_events.specs.WorkerEvents.{worker_events}
 use Rattle.apply_events.proofs.Moments.{change_rises, moment_of, span_short, worker_in_time}
-use Rattle.apply_laws.proofs.ProvisionsFit.{along_happens}
+use Rattle.apply_laws.proofs.ProvisionsFit.{CanHappenTo, along_happens, found_at, found_next}
 use Rattle.apply_events.proofs.Rising.{Rises-at_most, Rises-higher}
 use Rattle.apply_events.proofs.WorkerLists.{change_planned, worker_planned}
 
--- it can happen to its step, as the script has that step end
+-- it can happen to its step, which is applied, as the script has that step end
 abbrev pub CanHappen : Work → Event → Type 0
-CanHappen work e = IsTrue (can_happen (outcome_of work.script e.change e.step) e.what)
+CanHappen work e = IsTrue (happens work.plan work.script e)
 
 itself : (n : ℕ) → nat_eq n n ≡ true
 itself n = ⊎_elim (λ e. e.0) (λ e. absurd (e.1 refl)) (eqb_tells n n)
 
 -- ---- what happens to a step
 
-abbrev Suits : Outcome → What → Type 0
-Suits outcome what = IsTrue (can_happen outcome what)
+abbrev Suits : StepKind → Outcome → What → Type 0
+Suits kind outcome what = IsTrue (can_happen kind outcome what)
 
 both : (a b : Bool) → a ≡ true → b ≡ true → (a && b) ≡ true
 both a b p q = rw (p, q) refl
 
-all-endings : (outcome : Outcome) → All (Suits outcome) (end_of (fails outcome) (took outcome) ∷ notes (fails outcome) (has_warning outcome.result))
-all-endings outcome =
-    let P = Suits outcome in
-    elim (fails outcome) as (λ b. fails outcome ≡ b → All P (end_of b (took outcome) ∷ notes b (has_warning outcome.result))) [
-      | true ↦ λ fails_so. All-cons P (Errored (took outcome)) (ErrorNote ∷ []) (both (fails outcome) (nat_eq (took outcome) (took outcome)) fails_so (itself (took outcome))) (All-cons P ErrorNote [] fails_so (All-nil P))
+all-endings : (kind : StepKind) (outcome : Outcome) → All (Suits kind outcome) (end_of (fails outcome) (took kind outcome) ∷ notes (fails outcome) (has_warning outcome.result))
+all-endings kind outcome =
+    let P = Suits kind outcome in
+    elim (fails outcome) as (λ b. fails outcome ≡ b → All P (end_of b (took kind outcome) ∷ notes b (has_warning outcome.result))) [
+      | true ↦ λ fails_so. All-cons P (Errored (took kind outcome)) (ErrorNote ∷ []) (both (fails outcome) (nat_eq (took kind outcome) (took kind outcome)) fails_so (itself (took kind outcome))) (All-cons P ErrorNote [] fails_so (All-nil P))
       | false ↦ λ fails_so.
-          All-cons P (Complete (took outcome)) (notes false (has_warning outcome.result)) (both (not (fails outcome)) (nat_eq (took outcome) (took outcome)) (ap not fails_so) (itself (took outcome)))
+          All-cons P (Complete (took kind outcome)) (notes false (has_warning outcome.result)) (both (not (fails outcome)) (nat_eq (took kind outcome) (took kind outcome)) (ap not fails_so) (itself (took kind outcome)))
           (elim (has_warning outcome.result) as (λ b. has_warning outcome.result ≡ b → All P (notes false b)) [
             | true ↦ λ warns_so. All-cons P WarnNote [] (both (not (fails outcome)) (has_warning outcome.result) (ap not fails_so) warns_so) (All-nil P)
             | false ↦ λ warns_so. All-nil P
@@ -74,54 +75,70 @@ few-found (Some hook) count below few = let less : hook < count = below hook ref
 few-halting : (hooks : List (List Rule)) (call : Call) → length hooks ≤ max_hooks → IsFew (first_halting hooks call)
 few-halting hooks call few = few-found (first_halting hooks call) (length hooks) (λ hook is. (position-Some (λ rules. is_halt (verdict_of rules call)) hooks hook [] is).0) few
 
-all-halts : (work : Work) (w c n : ℕ) (kind : StepKind) (phase : Phase) (at : ℕ) (found : Option ℕ)
-    → may_be_asked (fails (outcome_of work.script c n)) phase ≡ true → IsFew found
-    → All (CanHappen work) (option_to_list (option_map (λ hook. event w (step_of work c n kind) at (Halted phase hook)) found))
-all-halts work w c n kind phase at None asked few = All-nil (CanHappen work)
-all-halts work w c n kind phase at (Some hook) asked few = All-cons (CanHappen work) (event w (step_of work c n kind) at (Halted phase hook)) [] (both (may_be_asked (fails (outcome_of work.script c n)) phase) (nat_lt hook max_hooks) asked few) (All-nil (CanHappen work))
-
 few-step : (work : Work) (c n : ℕ) (kind : StepKind) (phase : Phase) → length work.hooks ≤ max_hooks → IsFew ((step_of work c n kind).halts phase)
 few-step work c n kind phase few = few-halting work.hooks (record { phase = phase; kind = kind; address = address_of work.plan c }) few
 
-all-started : (work : Work) (w c n : ℕ) (kind : StepKind) (at : ℕ) → length work.hooks ≤ max_hooks → All (CanHappen work) (started w (step_of work c n kind) at)
-all-started work w c n kind at few =
+-- step n of change c, which is of that kind, is applied
+abbrev pub IsAt : Work → (c n : ℕ) → StepKind → Type 0
+IsAt work c n kind = slice_get (kinds_applied work.plan work.script c) n ≡ Some kind
+
+-- what can happen to a step of that kind with that outcome can happen to the step
+of_applied : (work : Work) (w c n : ℕ) (kind : StepKind) (at : ℕ) (what : What) → IsAt work c n kind → Suits kind (outcome_of work.script c n) what
+    → CanHappen work (event w (step_of work c n kind) at what)
+of_applied work w c n kind at what here suits =
+    ap (λ found. option_map_or (λ one. can_happen one (outcome_of work.script c n) what) found false) here ∙ suits
+
+all-halts : (work : Work) (w c n : ℕ) (kind : StepKind) (phase : Phase) (at : ℕ) (found : Option ℕ) → IsAt work c n kind
+    → may_be_asked (fails (outcome_of work.script c n)) phase ≡ true → IsFew found
+    → All (CanHappen work) (option_to_list (option_map (λ hook. event w (step_of work c n kind) at (Halted phase hook)) found))
+all-halts work w c n kind phase at None here asked few = All-nil (CanHappen work)
+all-halts work w c n kind phase at (Some hook) here asked few =
+    All-cons (CanHappen work) (event w (step_of work c n kind) at (Halted phase hook)) []
+    (of_applied work w c n kind at (Halted phase hook) here (both (may_be_asked (fails (outcome_of work.script c n)) phase) (nat_lt hook max_hooks) asked few))
+    (All-nil (CanHappen work))
+
+all-started : (work : Work) (w c n : ℕ) (kind : StepKind) (at : ℕ) → IsAt work c n kind → length work.hooks ≤ max_hooks → All (CanHappen work) (started w (step_of work c n kind) at)
+all-started work w c n kind at here few =
     let s = step_of work c n kind in
     let outcome = outcome_of work.script c n in
     let progress = map (λ (p : ℕ × What). event w s (at + p.0) p.1) (between s) in
     let ends = map (λ what. event w s (at + (seconds_of s)) what) (endings s) in
     let halt = halts w s (phase_after s.fails) (at + (seconds_of s)) in
-    All-cons (CanHappen work) (event w s at Start) (progress ++ ends ++ halt) refl
+    All-cons (CanHappen work) (event w s at Start) (progress ++ ends ++ halt) (of_applied work w c n kind at Start here refl)
     (All-append (CanHappen work) (progress ++ ends) halt
     (All-append (CanHappen work) progress ends
-    (All-map (CanHappen work) (λ (p : ℕ × What). event w s (at + p.0) p.1) (between s) (along_happens outcome))
-    (All-map (CanHappen work) (λ what. event w s (at + (seconds_of s)) what) (endings s) (all-endings outcome)))
-    (all-halts work w c n kind (phase_after s.fails) (at + (seconds_of s)) (s.halts (phase_after s.fails)) (asked_after s.fails) (few-step work c n kind (phase_after s.fails) few)))
+    (All-map (CanHappen work) (λ (p : ℕ × What). event w s (at + p.0) p.1) (between s)
+    (All-weaker (CanHappenTo kind outcome) (λ p. CanHappen work (event w s (at + p.0) p.1)) (λ p. of_applied work w c n kind (at + p.0) p.1 here) (between s) (along_happens kind outcome)))
+    (All-map (CanHappen work) (λ what. event w s (at + (seconds_of s)) what) (endings s)
+    (All-weaker (Suits kind outcome) (λ what. CanHappen work (event w s (at + (seconds_of s)) what)) (λ what. of_applied work w c n kind (at + (seconds_of s)) what here) (endings s) (all-endings kind outcome))))
+    (all-halts work w c n kind (phase_after s.fails) (at + (seconds_of s)) (s.halts (phase_after s.fails)) here (asked_after s.fails) (few-step work c n kind (phase_after s.fails) few)))
 
-pub all-step : (work : Work) (w c n : ℕ) (kind : StepKind) (at : ℕ) → length work.hooks ≤ max_hooks → All (CanHappen work) (step_events w (step_of work c n kind) at)
-all-step work w c n kind at few = all-step-at work w c n kind at ((step_of work c n kind).halts Pre) (few-step work c n kind Pre few) few
+pub all-step : (work : Work) (w c n : ℕ) (kind : StepKind) (at : ℕ) → IsAt work c n kind → length work.hooks ≤ max_hooks → All (CanHappen work) (step_events w (step_of work c n kind) at)
+all-step work w c n kind at here few = all-step-at work w c n kind at ((step_of work c n kind).halts Pre) here (few-step work c n kind Pre few) few
   where
-    all-step-at : (work : Work) (w c n : ℕ) (kind : StepKind) (at : ℕ) (found : Option ℕ) → IsFew found → length work.hooks ≤ max_hooks
+    all-step-at : (work : Work) (w c n : ℕ) (kind : StepKind) (at : ℕ) (found : Option ℕ) → IsAt work c n kind → IsFew found → length work.hooks ≤ max_hooks
         → All (CanHappen work) (cond (is_some found) (option_to_list (option_map (λ hook. event w (step_of work c n kind) at (Halted Pre hook)) found)) (started w (step_of work c n kind) at))
-    all-step-at work w c n kind at None low few = all-started work w c n kind at few
-    all-step-at work w c n kind at (Some hook) low few = all-halts work w c n kind Pre at (Some hook) refl low
+    all-step-at work w c n kind at None here low few = all-started work w c n kind at here few
+    all-step-at work w c n kind at (Some hook) here low few = all-halts work w c n kind Pre at (Some hook) here refl low
 
 -- ---- what happens to the steps of changes
 
-all-steps : (work : Work) (w c n : ℕ) (kinds : List StepKind) (at : ℕ) → length work.hooks ≤ max_hooks
+-- these kinds are those of the steps that are applied from step n on
+all-steps : (work : Work) (w c n : ℕ) (kinds : List StepKind) (at : ℕ) → drop n (kinds_applied work.plan work.script c) ≡ kinds → length work.hooks ≤ max_hooks
     → All (CanHappen work) (in_turn (step_events w) step_time (begun (map (λ p. step_of work c p.0 p.1) (enumerate_from n kinds))) at)
-all-steps work w c n [] at few = All-nil (CanHappen work)
-all-steps work w c n (kind ∷ kinds) at few =
+all-steps work w c n [] at here few = All-nil (CanHappen work)
+all-steps work w c n (kind ∷ kinds) at here few =
     let s = step_of work c n kind in
     let others = begun (map (λ p. step_of work c p.0 p.1) (enumerate_from (n + 1) kinds)) in
     All-append (CanHappen work) (step_events w s at) (in_turn (step_events w) step_time (cond (goes_on s) others []) (at + step_time s))
-    (all-step work w c n kind at few)
+    (all-step work w c n kind at (found_at (kinds_applied work.plan work.script c) n kind kinds here) few)
     (elim (goes_on s) as (λ b. All (CanHappen work) (in_turn (step_events w) step_time (cond b others []) (at + step_time s))) [
-      | true ↦ all-steps work w c (n + 1) kinds (at + step_time s) few
+      | true ↦ all-steps work w c (n + 1) kinds (at + step_time s) (rw add-one (found_next (kinds_applied work.plan work.script c) n kind kinds here)) few
       | false ↦ All-nil (CanHappen work)
     ])
 
 change_happens : (work : Work) (w c at : ℕ) → length work.hooks ≤ max_hooks → All (CanHappen work) (change_events work w c at)
-change_happens work w c at few = all-steps work w c 0 (kinds_of work.plan c) at few
+change_happens work w c at few = all-steps work w c 0 (kinds_applied work.plan work.script c) at refl few
 
 changes_happen : (work : Work) (w : ℕ) (changes : List ℕ) (at : ℕ) → length work.hooks ≤ max_hooks → All (CanHappen work) (in_turn (change_events work w) (span_of work) changes at)
 changes_happen work w [] at few = All-nil (CanHappen work)
@@ -134,11 +151,11 @@ pub change_fits : (work : Work) (w c at : ℕ) → IsWithinLimits work → lengt
 change_fits work w c at read few early k d less =
     let short : span_of work c ≤ max_span = span_short work c read in
     let in_time = Rises-at_most moment_of at last_moment (change_events work w c at) (Rises-higher moment_of at (at + span_of work c) last_moment (change_events work w c at) (omega arith) (change_rises work w c at)) in
-    record { of_plan = record { has_step = change_planned work w c at k d less; in_time = in_time k d less }; can_happen = change_happens work w c at few k d less }
+    record { of_plan = record { has_step = change_planned work w c at k d less; in_time = in_time k d less }; happens = change_happens work w c at few k d less }
 
 pub worker_fits : (work : Work) (w : ℕ) (changes : List ℕ) → IsWithinLimits work → length work.hooks ≤ max_hooks → NamesEachOnce work changes → AllFit work (worker_events work w changes)
 worker_fits work w changes read few named k d less =
     record {
       of_plan = record { has_step = worker_planned work w changes k d less; in_time = worker_in_time work w changes read named k d less };
-      can_happen = changes_happen work w changes 0 few k d less;
+      happens = changes_happen work w changes 0 few k d less;
     }

@@ -7,7 +7,7 @@ use Rattle.std.proofs.lemmas.List.Sums.{count_by-le-length, sum_by-cons}
 use Rattle.apply_model.specs.declared.script.wait.Wait.{Wait}
 use Rattle.apply_model.specs.Script.OutcomeMap.{OutcomeMap}
 use Rattle.apply_model.specs.Script.Waits as waits
-use Rattle.apply_model.specs.Script.Waits.{begins_within, waits_of}
+use Rattle.apply_model.specs.Script.Waits.{begins_within, waits_told}
 use Rattle.apply_laws.specs.Waits.{CouldBegin, WaitsWithin}
 use Rattle.apply_laws.specs.Waits.{could_begin}
 
@@ -31,13 +31,13 @@ all_from p (x ∷ xs) each = and_true (p x) (list_all p xs) (each 0 x refl) (all
 abbrev begins : OutcomeMap → ℕ → Wait → Bool
 begins script rounds wait = begins_within script rounds wait.change wait.step
 
-later : (script : OutcomeMap) (rounds c k : ℕ) → ((i : ℕ) (wait : Wait) → slice_get (waits_of script c k) i ≡ Some wait → begins script rounds wait ≡ true) → begins_within script (suc rounds) c k ≡ true
+later : (script : OutcomeMap) (rounds c k : ℕ) → ((i : ℕ) (wait : Wait) → slice_get (waits_told script c k) i ≡ Some wait → begins script rounds wait ≡ true) → begins_within script (suc rounds) c k ≡ true
 unfolding begins_within
-later script rounds c k each = all_from (begins script rounds) (waits_of script c k) each
+later script rounds c k each = all_from (begins script rounds) (waits_told script c k) each
 
-before : (script : OutcomeMap) (rounds c k i : ℕ) (wait : Wait) → begins_within script (suc rounds) c k ≡ true → slice_get (waits_of script c k) i ≡ Some wait → begins script rounds wait ≡ true
+before : (script : OutcomeMap) (rounds c k i : ℕ) (wait : Wait) → begins_within script (suc rounds) c k ≡ true → slice_get (waits_told script c k) i ≡ Some wait → begins script rounds wait ≡ true
 unfolding begins_within
-before script rounds c k i wait e at = all_at (begins script rounds) (waits_of script c k) i wait e at
+before script rounds c k i wait e at = all_at (begins script rounds) (waits_told script c k) i wait e at
 
 never : (script : OutcomeMap) (c k : ℕ) → begins_within script 0 c k ≡ true → ⊥
 unfolding begins_within

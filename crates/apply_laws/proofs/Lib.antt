@@ -8,6 +8,7 @@ mod FirstHalting
 mod LaneLines
 mod Latest
 mod LeastSet
+mod NoneSkipped
 mod PlannedElements
 mod PlannedLines
 mod ProvisionsFit

@@ -1,18 +1,22 @@
 //! Laws of lists of events. Each function does nothing; its contract is the law.
 
-ghost use Rattle.std.specs.Prelude.{All, IfSome, List, count_by, length, slice_get, ℕ, ◌++◌, ◌+◌, ◌<◌, ◌≡◌, ◌≤◌};
+ghost use Rattle.std.specs.Prelude.{All, IfSome, List, Some, [], count_by, length, slice_get, slice_index_or, ℕ, ◌++◌, ◌+◌, ◌<◌, ◌≡◌, ◌≢◌, ◌≤◌};
 ghost use Rattle.std.specs.List.Sorted.{IsNonDecreasingBy};
+ghost use Rattle.apply_model.specs.Script.OutcomeMap.{first_skipped};
 ghost use Rattle.apply_hooks.specs.Hooks.{max_hooks};
 ghost use Rattle.apply_events.specs.declared.event.Event.{Event};
 ghost use Rattle.apply_events.specs.ChangeEvents.{change_events, span_of};
-ghost use Rattle.apply_events.specs.Fits.{HasStep, last_moment, max_span};
+ghost use Rattle.apply_events.specs.Fits.{HasStep, IsApplied, last_moment, max_span};
+ghost use Rattle.apply_events.specs.Interleaving.{IsInterleaving};
 ghost use Rattle.apply_events.specs.Laws.{AllFit, IsWithinLimits, NamesEachOnce, ends_step};
 ghost use Rattle.apply_events.specs.OfWorker.{of_worker};
 ghost use Rattle.apply_events.specs.Step.{Work};
 ghost use Rattle.apply_events.specs.Waits.TimeLine.{IsTimeLine};
 ghost use Rattle.apply_events.specs.WorkerEvents.{worker_events};
 
-use apply_wait_laws::{a_time_line_has_few_events, steps_are_whole};
+use apply_wait_laws::{
+    a_step_begins_where_all_that_it_waits_for_is_done, a_time_line_has_few_events, steps_are_whole,
+};
 
 /// The moments along a change's list never fall.
 pub fn moments_never_fall()
@@ -83,6 +87,21 @@ pub fn every_event_of_a_time_line_fits()
 {
     steps_are_whole();
     a_time_line_has_few_events();
+}
+
+/// No event is of a step that the script skips, or of one behind it in its change: of those of workers, however they come
+/// in between each other, and of those of a time line. So a change of which the first step is skipped has none.
+pub fn what_is_skipped_has_no_event()
+    ensures by_workers { (work : Work) (workers : ℕ) (lists : List (List ℕ)) (events : List Event)
+        → IsInterleaving workers (λ worker. worker_events work worker (slice_index_or lists worker [])) events
+        → All (λ event. IsApplied work.plan work.script event.change event.step) events }
+    ensures in_lanes { (work : Work) (n : ℕ) (events : List Event) → IsTimeLine work n events
+        → All (λ event. IsApplied work.plan work.script event.change event.step) events }
+    ensures of_the_change { (work : Work) (c : ℕ) (events : List Event) → first_skipped work.script c ≡ Some 0
+        → All (λ event. IsApplied work.plan work.script event.change event.step) events
+        → All (λ event. event.change ≢ c) events }
+{
+    a_step_begins_where_all_that_it_waits_for_is_done();
 }
 
 /// With a plan and a script that were read, no change takes longer than two days.

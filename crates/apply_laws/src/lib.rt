@@ -21,7 +21,7 @@ pub use events::{
     a_change_ends_with_its_span, a_span_is_short, a_step_ends_once, a_worker_names_itself,
     every_event_fits, every_event_has_its_step, every_event_of_a_time_line_fits,
     moments_never_fall, no_event_comes_after_latest, parts_of_joined_lists_join,
-    steps_never_go_back, the_first_event_is_at_the_begin,
+    steps_never_go_back, the_first_event_is_at_the_begin, what_is_skipped_has_no_event,
 };
 pub use forms::{
     all_but_no_ops_are_planned, each_planned_change_has_one_line,

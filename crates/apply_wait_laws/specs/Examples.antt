@@ -58,7 +58,7 @@ abbrev pub outcome_of_planned : Planned → Outcome
 outcome_of_planned planned = record {
   seconds = planned.seconds;
   provisioners = [];
-  result = if planned.fails then Failed (record { summary = []; detail = [] }) else Done None None;
+  result = if planned.fails then Failed (record { summary = []; detail = []; range = None; snippet = None }) else Done None None;
   after = planned.waits;
 }
 

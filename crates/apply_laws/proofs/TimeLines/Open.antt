@@ -142,7 +142,7 @@ quiet_found w at s phase (Some hook) = All-cons Quiet (event w s at (Halted phas
 quiet_between : (w at : ℕ) (s : Step) → All Quiet (map (λ (p : ℕ × What). event w s (at + p.0) p.1) (between s))
 quiet_between w at s =
     All-map Quiet (λ (p : ℕ × What). event w s (at + p.0) p.1) (between s)
-    (all_along (λ p. IsQuiet p.1) (seconds_of s) 0 0 s.provider_seconds s.ran
+    (all_along (λ p. IsQuiet p.1) (seconds_of s) 0 0 s.seconds_before s.ran
     (λ t. (refl, refl)) (λ i p since. (refl, refl)) (λ i p j since. (refl, refl)) (λ i p since. quiet_end i p))
   where
     quiet_end : (i : ℕ) (p : Provisioner) → IsQuiet (provision_end i p)

@@ -17,7 +17,7 @@ use Rattle.apply_events.specs.ChangeEvents.{begun, change_events, in_turn, span_
 use Rattle.apply_events.specs.Interleaving.{IsInterleaving}
 use Rattle.apply_events.specs.Partition.{IsPartition, count_of, places}
 use Rattle.apply_events.specs.Provisions.{provision_end}
-use Rattle.apply_events.specs.Step.{Step, Work, kinds_of, step_of, steps_of}
+use Rattle.apply_events.specs.Step.{Step, Work, kinds_applied, step_of, steps_of}
 use Rattle.apply_events.specs.StepEvents.{between, end_of, endings, event, goes_on, halts, notes, phase_after, seconds_of, started, step_events, step_time}
 use Rattle.apply_events.specs.WorkerEvents.{worker_events}
 use Rattle.apply_laws.specs.StepTimes.{ComesAsTold, HasOneBegin}
@@ -53,7 +53,7 @@ end_on_time w at s false warns =
 between_on_time : (w at : ℕ) (s : Step) → All (IsOnTime at s) (map (λ (p : ℕ × What). event w s (at + p.0) p.1) (between s))
 between_on_time w at s =
     All-map (IsOnTime at s) (λ (p : ℕ × What). event w s (at + p.0) p.1) (between s)
-    (all_along (λ p. IsOnTime at s (event w s (at + p.0) p.1)) (seconds_of s) 0 0 s.provider_seconds s.ran
+    (all_along (λ p. IsOnTime at s (event w s (at + p.0) p.1)) (seconds_of s) 0 0 s.seconds_before s.ran
     (λ t. (refl, refl, refl)) (λ i p since. (refl, refl, tt)) (λ i p j since. (refl, refl, tt)) (λ i p since. end_says_no_time i p since))
   where
     end_says_no_time : (i : ℕ) (p : Provisioner) (since : ℕ) → IsOnTime at s (event w s (at + since) (provision_end i p))
@@ -134,7 +134,7 @@ IsOfChange work c at e = (e.change ≡ c) × ComesAsTold (begin_in_change work c
 pub change_on_time : (work : Work) (w c at : ℕ) → All (IsOfChange work c at) (change_events work w c at)
 change_on_time work w c at =
     All-weaker (IsInTurn c 0 at (begun (steps_of work c))) (IsOfChange work c at) (λ e h. (h.0, h.2)) (change_events work w c at)
-    (steps_in_turn w c 0 at (begun (steps_of work c)) (begun_of c 0 (steps_of work c) (enumerated work c 0 (kinds_of work.plan c))))
+    (steps_in_turn w c 0 at (begun (steps_of work c)) (begun_of c 0 (steps_of work c) (enumerated work c 0 (kinds_applied work.plan work.script c))))
 
 -- ---- within a lane
 
