@@ -1,6 +1,7 @@
 //! What a plan and a script say besides for Terraform's form.
 
-ghost use Rattle.std.specs.Prelude.{◌≡◌};
+ghost use Rattle.std.specs.Prelude.{◌≡◌, is_some};
+ghost use Rattle.std.specs.List.{list_any};
 ghost use Rattle.std.specs.Option.{option_copied};
 ghost use Rattle.apply_run.specs.Stream.Terraform as specs;
 ghost use Rattle.apply_run.specs.Stream.Terraform.{imported_in, planned_id_of, tells_error};
@@ -34,17 +35,14 @@ impl ToldBesides<'_> {
     pub fn imported(&self) -> u64
         ensures { result ≡ imported_in self.now.details.now }
     {
-        self.details
-            .iter()
-            .filter(|details| details.importing.is_some())
-            .count() as u64
+        count_imports(self.details)
     }
 
     /// Whether the stream tells of an error, where its events add up so.
     pub fn tells_error(&self, counts: &Counts) -> bool
         ensures { result ≡ tells_error self.now.notes.now counts.now }
     {
-        0 < counts.failed || 0 < counts.halted || self.notes.iter().any(is_error)
+        0 < counts.failed || 0 < counts.halted || has_error(self.notes)
     }
 }
 
@@ -56,4 +54,25 @@ fn is_error(note: &Note) -> bool
         Severity::Error => true,
         Severity::Warning => false,
     }
+}
+
+/// Whether one of them is.
+fn has_error(notes: &[Note]) -> bool
+    ensures { result ≡ list_any specs.is_error notes.now }
+{
+    notes.iter().any(is_error)
+}
+
+/// Whether a change imports something.
+fn imports(details: &&ChangeDetails) -> bool
+    ensures { result ≡ is_some details.now.now.importing }
+{
+    details.importing.is_some()
+}
+
+/// How many of them do.
+fn count_imports(details: &[ChangeDetails]) -> u64
+    ensures { result ≡ imported_in details.now }
+{
+    details.iter().filter(imports).count() as u64
 }
