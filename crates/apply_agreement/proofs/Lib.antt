@@ -1,3 +1,4 @@
+pub mod AppliedKinds
 mod AppliedSteps
 pub mod BetweenSteps
 pub mod Bytes
