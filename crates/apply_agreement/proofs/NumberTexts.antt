@@ -1,6 +1,6 @@
 -- The text of a number is ASCII: a minus, digits, a point, an exponent.
 use Rattle.std.proofs.Common.{◌≡◌, ℕ, suc, ◌+◌, ◌-◌, ◌<◌, ◌≤◌, ◌==◌, List, [], ◌∷◌, ◌++◌, IsUtf8, append_assoc, cond, drop, length, length-append, take, Bool, true, false, Option, Some, None, refl, sym, ap, ◌∙◌, subst, ⊎_elim, arith}
-use Rattle.std.specs.Prelude.{◌&&◌, ◌||◌, IfSome, option_and_then}
+use Rattle.std.specs.Prelude.{◌&&◌, ◌||◌, IfSome, nat_le, option_and_then}
 use Rattle.std.specs.List.{prefix_len}
 use Rattle.std.specs.Char.{is_ascii_digit}
 use Rattle.std.proofs.Math.Seq.{take-append_seam}
@@ -38,7 +38,7 @@ may_skip t true low = one_less t (low refl)
 may_skip t false low = all_left t
 
 digit_low : (x : ℕ) → is_ascii_digit x ≡ true → x < 128
-digit_low x e = let low : x ≤ 57 = leb-true x 57 (and_parts _ _ e).1 in omega arith
+digit_low x e = omega (arith, leb-true x 57 (and_parts (nat_le 48 x) (nat_le x 57) e).1)
 
 behind_digits : (t : List ℕ) → IsRest t (drop (prefix_len is_ascii_digit t) t)
 behind_digits [] = all_left []

@@ -99,7 +99,7 @@ known plan [] = tt
 known plan (e ∷ es) = one_known (slice_get (kinds_of plan e.change) e.step) refl (known plan es)
   where
     one_known : (o : Option StepKind) → slice_get (kinds_of plan e.change) e.step ≡ o → AllKnown (length plan.changes) (address_of plan) Anywhere (Does plan) (Provides plan) (all_deeds plan es)
-        → AllKnown (length plan.changes) (address_of plan) Anywhere (Does plan) (option_map_or (λ kind. deed e kind ∷ []) o [] ++ all_deeds plan es)
+        → AllKnown (length plan.changes) (address_of plan) Anywhere (Does plan) (Provides plan) (option_map_or (λ kind. deed e kind ∷ []) o [] ++ all_deeds plan es)
     one_known None lookup rest = rest
     one_known (Some step) lookup rest =
         let change = found (slice_get plan.changes e.change) e.step step lookup in
