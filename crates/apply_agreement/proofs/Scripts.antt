@@ -2,13 +2,11 @@
 use Rattle.std.proofs.Common.{◌≡◌, ◌≢◌, ℕ, zero, suc, ◌+◌, ◌==◌, List, [], ◌∷◌, length, map, find, Bool, true, false, cond, Option, Some, None, Result, Ok, Err, refl, sym, ap, ◌∙◌, subst, ◌⊎◌, inl, inr, ⊎_elim, slice_get, unwrap_or, option_map, take, arith}
 use Rattle.std.specs.Prelude.{◌&&◌, ◌||◌, is_some, not, nat_lt, option_and_then, sum_by}
 use Rattle.std.specs.List.{AllByRecursion, enumerate_from, filter_map, list_any, position_from, range_with_len, zip}
-use Rattle.std.specs.Option.{option_map_or}
 use Rattle.std.proofs.lemmas.Bool.{both_ways, lt-ltb}
 use Rattle.std.proofs.lemmas.Bool.Decides.{eqb_tells}
 use Rattle.std.proofs.lemmas.Option.{same_Some}
 use Rattle.serde_json.specs.Data.{Data, Items}
 use Rattle.apply_model.specs.declared.plan.step_kind.StepKind.{StepKind}
-use Rattle.apply_model.specs.declared.plan.step_kind.StepKind.TheVariants.{Create, Update, Delete, Read}
 use Rattle.apply_model.specs.declared.script.outcome.Outcome.{Outcome}
 use Rattle.apply_model.specs.declared.script.provisioner.Provisioner.{Provisioner}
 use Rattle.apply_model.specs.declared.script.script_step.ScriptStep.{ScriptStep}
