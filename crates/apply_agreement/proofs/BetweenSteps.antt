@@ -7,32 +7,31 @@ use Rattle.std.proofs.lemmas.List.Sums.{sum_by-cons}
 use Rattle.apply_model.specs.declared.script.provisioner.Provisioner.{Provisioner}
 use Rattle.apply_plan.specs.Script.Outcome.{has_failed, seconds_of_all}
 use Rattle.apply_check.specs.declared.messages.action.Action.{Action}
-use Rattle.apply_check.specs.declared.messages.action.Action.TheVariants.{Create}
 use Rattle.apply_events.specs.declared.what.What.{What}
 use Rattle.apply_events.specs.declared.what.What.TheVariants.{Progress, ProvisionStart, ProvisionOutput, ProvisionComplete, ProvisionErrored}
 use Rattle.apply_events.specs.Diagnostics.{is_note}
 use Rattle.apply_events.specs.ProgressTimes.{is_multiple_of_ten}
-use Rattle.apply_events.specs.Provisions.{along, progress, provision_end, provisions, results}
+use Rattle.apply_events.specs.Provisions.{along, progress, provision_end, results}
 use Rattle.apply_events.specs.Step.{Step}
 use Rattle.apply_events.specs.StepEvents as told_in
 use Rattle.apply_events.specs.StepEvents.{end_of, endings, event, goes_on, halts, notes, phase_after, seconds_of, started, step_events, step_time}
 use Rattle.apply_events.proofs.Provisions.{all_along}
 use Rattle.apply_agreement.specs.Told.{told}
-use Rattle.apply_agreement.proofs.Phases.{Phase, under_way, Turns}
+use Rattle.apply_agreement.proofs.Phases.{MayRun, Phase, under_way, Turns}
 
 -- it takes a change whose step does so from the first phase to the other, one after another
-abbrev pub Passes : Action → Phase → List (ℕ × What) → Phase → Type 0
-Passes k p [] r = p ≡ r
-Passes k p (x ∷ xs) r = (q : Phase) × Turns p k x.1 q × Passes k q xs r
+abbrev pub Passes : (may : Type 0) → Action → Phase → List (ℕ × What) → Phase → Type 0
+Passes may k p [] r = p ≡ r
+Passes may k p (x ∷ xs) r = (q : Phase) × Turns may p k x.1 q × Passes may k q xs r
 
-passes_on : (k : Action) (p q r : Phase) (xs ys : List (ℕ × What)) → Passes k p xs q → Passes k q ys r → Passes k p (xs ++ ys) r
-passes_on k p q r [] ys one other = subst (λ (x : Phase). Passes k x ys r) (sym one) other
-passes_on k p q r (x ∷ xs) ys one other = (one.0, one.1, passes_on k one.0 q r xs ys one.2 other)
+passes_on : (may : Type 0) (k : Action) (p q r : Phase) (xs ys : List (ℕ × What)) → Passes may k p xs q → Passes may k q ys r → Passes may k p (xs ++ ys) r
+passes_on may k p q r [] ys one other = subst (λ (x : Phase). Passes may k x ys r) (sym one) other
+passes_on may k p q r (x ∷ xs) ys one other = (one.0, one.1, passes_on may k one.0 q r xs ys one.2 other)
 
-module _ (k : Action) where
+module _ (may : Type 0) (k : Action) where
   -- in a step that told so many seconds, with a provisioner under way or none, it leads to one that tells no more than a limit
   abbrev Goes : (b : Bool) → (told limit : ℕ) → List (ℕ × What) → (c : Bool) → Type 0
-  Goes b told limit xs c = (last : ℕ) × (last ≤ limit) × Passes k (under_way k told b) xs (under_way k last c)
+  Goes b told limit xs c = (last : ℕ) × (last ≤ limit) × Passes may k (under_way k told b) xs (under_way k last c)
 
   -- progress at those of some times that are within two numbers
   abbrev tells_of : (after until : ℕ) → List ℕ → List (ℕ × What)
@@ -61,51 +60,50 @@ module _ (k : Action) where
   progress_goes : (b : Bool) (d after until told : ℕ) → told ≤ after → after ≤ until → Goes b told until (progress d after until) b
   progress_goes b d after until told fits order = told_on b after until told 1 (d - 1) (omega arith) (λ p above more. omega arith)
 
-  module _ (creates : k ≡ Create) where
-    results_told : (told i until : ℕ) (p : Provisioner) → Passes k (under_way k told true) (map (λ (what : What). (until, what)) (results i 0 p)) (under_way k told false)
+  -- what it tells when a provisioner ends
+  module _ (runs : MayRun may k) where
+    results_told : (told i until : ℕ) (p : Provisioner) → Passes may k (under_way k told true) (map (λ (what : What). (until, what)) (results i 0 p)) (under_way k told false)
     results_told told i until p = tells (range_with_len 0 (length p.output - 0))
       where
-        tells : (js : List ℕ) → Passes k (under_way k told true) (map (λ (what : What). (until, what)) (map (λ j. ProvisionOutput i j) js ++ provision_end i p ∷ [])) (under_way k told false)
+        tells : (js : List ℕ) → Passes may k (under_way k told true) (map (λ (what : What). (until, what)) (map (λ j. ProvisionOutput i j) js ++ provision_end i p ∷ [])) (under_way k told false)
         tells [] =
-            elim (has_failed p) as (λ f. Passes k (under_way k told true) ((until, cond f (ProvisionErrored i) (ProvisionComplete i)) ∷ []) (under_way k told false)) [
-              | true ↦ (under_way k told false, (refl, creates, refl, refl), refl)
-              | false ↦ (under_way k told false, (refl, creates, refl, refl), refl)
+            elim (has_failed p) as (λ f. Passes may k (under_way k told true) ((until, cond f (ProvisionErrored i) (ProvisionComplete i)) ∷ []) (under_way k told false)) [
+              | true ↦ (under_way k told false, (refl, runs, refl, refl), refl)
+              | false ↦ (under_way k told false, (refl, runs, refl, refl), refl)
             ]
-        tells (j ∷ js) = (under_way k told true, (refl, creates, refl, refl), tells js)
+        tells (j ∷ js) = (under_way k told true, (refl, runs, refl, refl), tells js)
 
-    provisioned : (d i since told : ℕ) (ps : List Provisioner) → told ≤ since → Goes false told (since + seconds_of_all ps) (provisions d i since ps) false
-    provisioned d i since told [] fits = (told, (let none : seconds_of_all [] ≡ 0 = refl in omega arith), refl)
-    provisioned d i since told (p ∷ ps) fits =
+    all_told : (d after i since told : ℕ) (ps : List Provisioner) → told ≤ after → after ≤ since → since + seconds_of_all ps ≤ d → Goes false told d (along d after i since ps) false
+    all_told d after i since told [] low order high = progress_goes false d after d told low (let none : seconds_of_all [] ≡ 0 = refl in omega arith)
+    all_told d after i since told (p ∷ ps) low order high =
         let until = since + p.seconds in
-        let within = progress_goes true d since until told fits (omega arith) in
-        let rest = provisioned d (i + 1) until within.0 ps within.1 in
         let sum = sum_by-cons (λ (q : Provisioner). q.seconds) p ps in
-        let start : List (ℕ × What) = (since, ProvisionStart i) ∷ [] in
-        let told_then : List (ℕ × What) = map (λ (what : What). (until, what)) (results i 0 p) in (
+        let before = progress_goes false d after since told low order in
+        let within = progress_goes true d since until before.0 before.1 (omega arith) in
+        let rest = all_told d until (i + 1) until within.0 ps within.1 (omega arith) (omega arith) in
+        let ended : List (ℕ × What) = map (λ (what : What). (until, what)) (results i 0 p) in
+        let others = along d until (i + 1) until ps in (
           rest.0,
-          (let few : rest.0 ≤ until + seconds_of_all ps = rest.1 in omega arith),
-          passes_on k (under_way k told false) (under_way k within.0 false) (under_way k rest.0 false) (start ++ progress d since until ++ told_then) (provisions d (i + 1) until ps)
-              (passes_on k (under_way k told false) (under_way k within.0 true) (under_way k within.0 false) (start ++ progress d since until) told_then
-              (under_way k told true, (refl, creates, refl, refl), within.2)
-              (results_told within.0 i until p))
-              rest.2,
+          rest.1,
+          passes_on may k (under_way k told false) (under_way k before.0 false) (under_way k rest.0 false) (progress d after since) ((since, ProvisionStart i) ∷ (progress d since until ++ ended ++ others)) before.2 (
+              under_way k before.0 true,
+              (refl, runs, refl, refl),
+              passes_on may k (under_way k before.0 true) (under_way k within.0 false) (under_way k rest.0 false) (progress d since until ++ ended) others
+                  (passes_on may k (under_way k before.0 true) (under_way k within.0 true) (under_way k within.0 false) (progress d since until) ended within.2 (results_told within.0 i until p))
+                  rest.2,
+          ),
         )
 
-  -- all of it: it runs no provisioners, or is a create
-  pub along_told : (d since : ℕ) (ps : List Provisioner) → (ps ≡ []) ⊎ (k ≡ Create) → Goes false 0 (since + seconds_of_all ps) (along d 0 0 since ps) false
-  along_told d since ps may =
-      let first = progress_goes false d 0 since 0 (omega arith) (omega arith) in
+  -- all of it: it runs no provisioners, or may
+  pub along_told : (d since : ℕ) (ps : List Provisioner) → (ps ≡ []) ⊎ MayRun may k → since + seconds_of_all ps ≤ d → Goes false 0 d (along d 0 0 since ps) false
+  along_told d since ps whether high =
       ⊎_elim
-      (λ (none : ps ≡ []).
-      subst (λ (l : List Provisioner). Goes false 0 (since + seconds_of_all l) (progress d 0 since ++ provisions d 0 since l) false) (sym none)
-      (first.0, (let no_more : seconds_of_all [] ≡ 0 = refl in let few : first.0 ≤ since = first.1 in omega arith), passes_on k (under_way k 0 false) (under_way k first.0 false) (under_way k first.0 false) (progress d 0 since) [] first.2 refl))
-      (λ creates.
-      let rest = provisioned creates d 0 since first.0 ps first.1 in
-      (rest.0, rest.1, passes_on k (under_way k 0 false) (under_way k first.0 false) (under_way k rest.0 false) (progress d 0 since) (provisions d 0 since ps) first.2 rest.2))
-      may
+      (λ (none : ps ≡ []). subst (λ (l : List Provisioner). Goes false 0 d (along d 0 0 since l) false) (sym none) (progress_goes false d 0 d 0 (omega arith) (omega arith)))
+      (λ runs. all_told runs d 0 0 since 0 ps (omega arith) (omega arith) high)
+      whether
 
 -- none of it is told by a diagnostic
 pub no_note : (s : Step) → All (λ (x : ℕ × What). is_note x.1 ≡ false) (told_in.between s)
 no_note s =
-    all_along (λ (x : ℕ × What). is_note x.1 ≡ false) (seconds_of s) 0 0 s.provider_seconds s.ran (λ t. refl) (λ i p since. refl) (λ i p j since. refl)
+    all_along (λ (x : ℕ × What). is_note x.1 ≡ false) (seconds_of s) 0 0 s.seconds_before s.ran (λ t. refl) (λ i p since. refl) (λ i p j since. refl)
     (λ i p since. elim (has_failed p) as (λ f. is_note (cond f (ProvisionErrored i) (ProvisionComplete i)) ≡ false) [ true ↦ refl | false ↦ refl ])

@@ -1,88 +1,110 @@
 -- What happens to the steps of a change, one after another.
 use Rattle.std.proofs.Common.{◌≡◌, ℕ, ◌+◌, suc, List, [], ◌∷◌, ◌++◌, map, Bool, true, false, Some, refl, sym, ap, ◌∙◌, subst, slice_get, arith, append-nil, inl, inr, ⊎_elim}
-use Rattle.std.specs.Prelude.{is_some, not}
+use Rattle.std.specs.Prelude.{◌==◌, is_some, not}
+use Rattle.std.proofs.lemmas.Bool.{and_parts, not-true}
 use Rattle.std.specs.List.{enumerate_from}
 use Rattle.apply_model.specs.declared.plan.step_kind.StepKind.{StepKind}
 use Rattle.apply_model.specs.declared.plan.step_kind.StepKind.TheVariants as does
 use Rattle.apply_plan.specs.Plan.SavedPlan.{SavedPlan}
+use Rattle.apply_plan.specs.Plan.ResourceChange.{ResourceChange}
 use Rattle.apply_plan.specs.Script.Outcome.{ran}
+use Rattle.apply_plan.specs.Script.Refusals.{takes_provisioners}
 use Rattle.apply_hooks.specs.declared.phase.Phase.TheVariants.{Pre}
 use Rattle.apply_events.specs.declared.event.Event.{Event}
 use Rattle.apply_events.specs.Diagnostics.{is_note}
-use Rattle.apply_events.specs.Step.{Step, Work, kinds_of, step_of, steps_of}
+use Rattle.apply_events.specs.Step.{Step, Work, kinds_applied, kinds_of, step_of, steps_of}
 use Rattle.apply_events.specs.StepEvents.{goes_on, step_events}
 use Rattle.apply_text.specs.Order.{hook_messages_of, notes_of}
-use Rattle.apply_agreement.specs.Plans.{ProvisionsCreates}
+use Rattle.apply_agreement.specs.Plans.{IsChange, IsOrdinary, ProvisionsCreates}
+use Rattle.apply_agreement.specs.Told.{action_of}
 use Rattle.apply_agreement.specs.WholeSteps.{AreOfSteps}
-use Rattle.apply_agreement.proofs.Phases.{IsStill, Phase, between}
+use Rattle.apply_agreement.proofs.Phases.{IsStill, MayRun, Phase, between}
+use Rattle.apply_agreement.proofs.AppliedKinds.{applied_is_planned}
 use Rattle.apply_agreement.proofs.Deeds.{Leads, leads_on}
+use Rattle.apply_agreement.proofs.Ordinary.{Provides, deleted, found}
 use Rattle.apply_agreement.proofs.StepDeeds.{IsOfKind, MayProvision, goes_between, kept_both, phase_is, phase_then, step_hooks, step_notes, step_warns}
 
-abbrev ArePlanned : SavedPlan → List Step → Type 0
-ArePlanned plan [] = Unit {0}
-ArePlanned plan (s ∷ steps) = ((kind : StepKind) × IsOfKind plan kind s × MayProvision kind s) × ArePlanned plan steps
+abbrev ArePlanned : (may : Type 0) → SavedPlan → List Step → Type 0
+ArePlanned may plan [] = Unit {0}
+ArePlanned may plan (s ∷ steps) = ((kind : StepKind) × IsOfKind plan kind s × MayProvision may kind s) × ArePlanned may plan steps
 
-planned : (work : Work) (c n : ℕ) (kinds : List StepKind) → ((i : ℕ) → slice_get (kinds_of work.plan c) (n + i) ≡ slice_get kinds i)
-    → ((i : ℕ) (kind : StepKind) → slice_get (kinds_of work.plan c) i ≡ Some kind → MayProvision kind (step_of work c i kind))
-    → ArePlanned work.plan (map (λ p. step_of work c p.0 p.1) (enumerate_from n kinds))
-planned work c n [] is may = tt
-planned work c n (kind ∷ kinds) is may =
-    let here : n ≡ n + 0 = omega arith in
-    let lookup : slice_get (kinds_of work.plan c) n ≡ Some kind = ap (λ (x : ℕ). slice_get (kinds_of work.plan c) x) here ∙ is 0 in (
-      (kind, lookup, may n kind lookup),
-      planned work c (n + 1) kinds (λ i. let next : n + 1 + i ≡ n + suc i = omega arith in ap (λ (x : ℕ). slice_get (kinds_of work.plan c) x) next ∙ is (suc i)) may,
+planned : (may : Type 0) (work : Work) (c n : ℕ) (kinds : List StepKind) → ((i : ℕ) (kind : StepKind) → slice_get kinds i ≡ Some kind → slice_get (kinds_of work.plan c) (n + i) ≡ Some kind)
+    → ((i : ℕ) (kind : StepKind) → slice_get (kinds_of work.plan c) i ≡ Some kind → MayProvision may kind (step_of work c i kind))
+    → ArePlanned may work.plan (map (λ p. step_of work c p.0 p.1) (enumerate_from n kinds))
+planned may work c n [] is runs = tt
+planned may work c n (kind ∷ kinds) is runs =
+    let here : n + 0 ≡ n = omega arith in
+    let lookup : slice_get (kinds_of work.plan c) n ≡ Some kind = subst (λ (x : ℕ). slice_get (kinds_of work.plan c) x ≡ Some kind) here (is 0 kind refl) in (
+      (kind, lookup, runs n kind lookup),
+      planned may work c (n + 1) kinds (λ i k found. let next : n + suc i ≡ n + 1 + i = omega arith in subst (λ (x : ℕ). slice_get (kinds_of work.plan c) x ≡ Some k) next (is (suc i) k found)) runs,
     )
 
--- only creates have provisioners
-may_run : (work : Work) → ProvisionsCreates work.plan work.script → (c i : ℕ) (kind : StepKind) → slice_get (kinds_of work.plan c) i ≡ Some kind → MayProvision kind (step_of work c i kind)
-may_run work none c i does.Create is = inr refl
-may_run work none c i does.Update is = inl (ap ran (none c i does.Update is (λ e. cc)))
-may_run work none c i does.Delete is = inl (ap ran (none c i does.Delete is (λ e. cc)))
-may_run work none c i does.Read is = inl (ap ran (none c i does.Read is (λ e. cc)))
+-- a step has provisioners only where it takes them
+may_run : (work : Work) → IsOrdinary work.plan → ProvisionsCreates work.plan work.script → (c i : ℕ) (kind : StepKind) → slice_get (kinds_of work.plan c) i ≡ Some kind → MayProvision (Provides work.plan c) kind (step_of work c i kind)
+may_run work ordinary none c i kind is =
+    let there = found (slice_get work.plan.changes c) i kind is in
+    by_test there.0 there.1 there.2 (takes_provisioners (is_some there.0.deposed) (i, kind)) refl
+  where
+    not_deposed : (change : ResourceChange) → IsChange work.plan c change → slice_get change.steps i ≡ Some kind → (kind ≡ does.Delete → ⊥) → (b : Bool) → is_some change.deposed ≡ b → is_some change.deposed ≡ false
+    not_deposed change place step other false e = e
+    not_deposed change place step other true e = absurd (other (deleted work.plan ordinary c i kind change place step e))
+
+    takes : (k : StepKind) → k ≡ kind → (change : ResourceChange) → IsChange work.plan c change → slice_get change.steps i ≡ Some kind → takes_provisioners (is_some change.deposed) (i, k) ≡ true → MayRun (Provides work.plan c) (action_of k)
+    takes does.Create same change place step e =
+        ((change, place, not_deposed change place step (λ (deletes : kind ≡ does.Delete). let never : does.Create ≡ does.Delete = same ∙ deletes in cc) (is_some change.deposed) refl), inl refl)
+    takes does.Update same change place step e = absurd cc
+    takes does.Delete same change place step e = ((change, place, not-true (is_some change.deposed) (and_parts (i == 0) (not (is_some change.deposed)) e).1), inr refl)
+    takes does.Read same change place step e = absurd cc
+
+    by_test : (change : ResourceChange) → IsChange work.plan c change → slice_get change.steps i ≡ Some kind → (b : Bool) → takes_provisioners (is_some change.deposed) (i, kind) ≡ b → MayProvision (Provides work.plan c) kind (step_of work c i kind)
+    by_test change place step true e = inr (takes kind refl change place step e)
+    by_test change place step false e = inl (ap ran (none c i change kind place step e))
 
 -- where the hook messages of these events leave a change, from where their notes take it on
-pub record Written (plan : SavedPlan) (es : List Event) : Type 0 where
+pub record Written (may : Type 0) (plan : SavedPlan) (es : List Event) : Type 0 where
   pub phase : Phase
   pub still : IsStill phase
-  pub hooks : Leads plan between (hook_messages_of es) phase
-  pub notes : Leads plan phase (notes_of es) between
+  pub hooks : Leads may plan between (hook_messages_of es) phase
+  pub notes : Leads may plan phase (notes_of es) between
 
-nothing_written : (plan : SavedPlan) → Written plan []
-nothing_written plan = record { phase = between; still = tt; hooks = refl; notes = refl }
+nothing_written : (may : Type 0) (plan : SavedPlan) → Written may plan []
+nothing_written may plan = record { phase = between; still = tt; hooks = refl; notes = refl }
 
-steps_written : (plan : SavedPlan) (steps : List Step) (es : List Event) → ArePlanned plan steps → AreOfSteps steps es → Written plan es
-steps_written plan [] es h are = subst (Written plan) (sym are) (nothing_written plan)
-steps_written plan (s ∷ steps) es h are =
+steps_written : (may : Type 0) (plan : SavedPlan) (steps : List Step) (es : List Event) → ArePlanned may plan steps → AreOfSteps steps es → Written may plan es
+steps_written may plan [] es h are = subst (Written may plan) (sym are) (nothing_written may plan)
+steps_written may plan (s ∷ steps) es h are =
     ⊎_elim
-    (λ (none : es ≡ []). subst (Written plan) (sym none) (nothing_written plan))
+    (λ (none : es ≡ []). subst (Written may plan) (sym none) (nothing_written may plan))
     (λ (some : (w : ℕ) × (at : ℕ) × (rest : List Event) × (es ≡ step_events w s at ++ rest) × (goes_on s ≡ true → AreOfSteps steps rest) × (goes_on s ≡ false → rest ≡ [])).
-    subst (Written plan) (sym some.3) (either some.0 some.1 some.2 (λ on. steps_written plan steps some.2 h.1 (some.4 on)) some.5 (goes_on s) refl))
+    subst (Written may plan) (sym some.3) (either some.0 some.1 some.2 (λ on. steps_written may plan steps some.2 h.1 (some.4 on)) some.5 (goes_on s) refl))
     are
   where
-    either : (w at : ℕ) (rest : List Event) → (goes_on s ≡ true → Written plan rest) → (goes_on s ≡ false → rest ≡ []) → (on : Bool) → goes_on s ≡ on → Written plan (step_events w s at ++ rest)
+    either : (w at : ℕ) (rest : List Event) → (goes_on s ≡ true → Written may plan rest) → (goes_on s ≡ false → rest ≡ []) → (on : Bool) → goes_on s ≡ on → Written may plan (step_events w s at ++ rest)
     either w at others then none true on =
         let rest = then on in
         record {
           phase = rest.phase;
           still = rest.still;
-          hooks = subst (λ (es : List Event). Leads plan between es rest.phase) (sym (kept_both (λ e. not (is_note e.what)) (step_events w s at) others))
-              (leads_on plan between between rest.phase (hook_messages_of (step_events w s at)) (hook_messages_of others)
-              (subst (Leads plan between (hook_messages_of (step_events w s at))) (goes_between plan h.0.0 w s h.0.1 h.0.2 on) (step_hooks plan h.0.0 w s h.0.1 h.0.2 at)) rest.hooks);
-          notes = subst (λ (es : List Event). Leads plan rest.phase es between) (sym (kept_both (λ e. is_note e.what) (step_events w s at) others))
-              (leads_on plan rest.phase rest.phase between (notes_of (step_events w s at)) (notes_of others) (step_warns plan h.0.0 w s h.0.1 h.0.2 on at rest.phase rest.still) rest.notes);
+          hooks = subst (λ (es : List Event). Leads may plan between es rest.phase) (sym (kept_both (λ e. not (is_note e.what)) (step_events w s at) others))
+              (leads_on may plan between between rest.phase (hook_messages_of (step_events w s at)) (hook_messages_of others)
+              (subst (Leads may plan between (hook_messages_of (step_events w s at))) (goes_between may plan h.0.0 w s h.0.1 h.0.2 on) (step_hooks may plan h.0.0 w s h.0.1 h.0.2 at)) rest.hooks);
+          notes = subst (λ (es : List Event). Leads may plan rest.phase es between) (sym (kept_both (λ e. is_note e.what) (step_events w s at) others))
+              (leads_on may plan rest.phase rest.phase between (notes_of (step_events w s at)) (notes_of others) (step_warns may plan h.0.0 w s h.0.1 h.0.2 on at rest.phase rest.still) rest.notes);
         }
     either w at others then none false off =
         let whole : step_events w s at ++ others ≡ step_events w s at = ap (λ (l : List Event). step_events w s at ++ l) (none off) ∙ append-nil (step_events w s at) in
         record {
-          phase = phase_then plan h.0.0 w s h.0.1 h.0.2 (is_some (s.halts Pre)) s.fails;
-          still = phase_is plan h.0.0 w s h.0.1 h.0.2 (is_some (s.halts Pre)) s.fails;
-          hooks = subst (λ (es : List Event). Leads plan between (hook_messages_of es) (phase_then plan h.0.0 w s h.0.1 h.0.2 (is_some (s.halts Pre)) s.fails)) (sym whole) (step_hooks plan h.0.0 w s h.0.1 h.0.2 at);
-          notes = subst (λ (es : List Event). Leads plan (phase_then plan h.0.0 w s h.0.1 h.0.2 (is_some (s.halts Pre)) s.fails) (notes_of es) between) (sym whole) (step_notes plan h.0.0 w s h.0.1 h.0.2 at);
+          phase = phase_then may plan h.0.0 w s h.0.1 h.0.2 (is_some (s.halts Pre)) s.fails;
+          still = phase_is may plan h.0.0 w s h.0.1 h.0.2 (is_some (s.halts Pre)) s.fails;
+          hooks = subst (λ (es : List Event). Leads may plan between (hook_messages_of es) (phase_then may plan h.0.0 w s h.0.1 h.0.2 (is_some (s.halts Pre)) s.fails)) (sym whole) (step_hooks may plan h.0.0 w s h.0.1 h.0.2 at);
+          notes = subst (λ (es : List Event). Leads may plan (phase_then may plan h.0.0 w s h.0.1 h.0.2 (is_some (s.halts Pre)) s.fails) (notes_of es) between) (sym whole) (step_notes may plan h.0.0 w s h.0.1 h.0.2 at);
         }
 
 -- the hook messages of a change lead it from between two steps to its end or a failure, and the notes from there to the end
-pub change_written : (work : Work) → ProvisionsCreates work.plan work.script → (c : ℕ) (es : List Event) → AreOfSteps (steps_of work c) es → Written work.plan es
-change_written work none c es are =
-    steps_written work.plan (steps_of work c) es
-    (planned work c 0 (kinds_of work.plan c) (λ i. let same : 0 + i ≡ i = omega arith in ap (λ (x : ℕ). slice_get (kinds_of work.plan c) x) same) (λ i kind is. may_run work none c i kind is))
+pub change_written : (work : Work) → IsOrdinary work.plan → ProvisionsCreates work.plan work.script → (c : ℕ) (es : List Event) → AreOfSteps (steps_of work c) es → Written (Provides work.plan c) work.plan es
+change_written work ordinary none c es are =
+    steps_written (Provides work.plan c) work.plan (steps_of work c) es
+    (planned (Provides work.plan c) work c 0 (kinds_applied work.plan work.script c)
+    (λ i kind applied. let same : i ≡ 0 + i = omega arith in subst (λ (x : ℕ). slice_get (kinds_of work.plan c) x ≡ Some kind) same (applied_is_planned work.plan work.script c i kind applied))
+    (may_run work ordinary none c))
     are

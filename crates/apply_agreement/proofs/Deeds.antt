@@ -57,21 +57,21 @@ of_change_is plan c (e ∷ es) = one_of_change plan c e (e.change == c) (slice_g
 -- ---- the course of a change, by its events
 
 -- the event takes the change from the first phase to the other
-abbrev pub EventTurns : SavedPlan → Phase → Event → Phase → Type 0
-EventTurns plan p e q = (kind : StepKind) × (slice_get (kinds_of plan e.change) e.step ≡ Some kind) × Turns p (action_of kind) e.what q
+abbrev pub EventTurns : (may : Type 0) → SavedPlan → Phase → Event → Phase → Type 0
+EventTurns may plan p e q = (kind : StepKind) × (slice_get (kinds_of plan e.change) e.step ≡ Some kind) × Turns may p (action_of kind) e.what q
 
 -- so do the events, one after another
-abbrev pub Leads : SavedPlan → Phase → List Event → Phase → Type 0
-Leads plan p [] r = p ≡ r
-Leads plan p (e ∷ es) r = (q : Phase) × EventTurns plan p e q × Leads plan q es r
+abbrev pub Leads : (may : Type 0) → SavedPlan → Phase → List Event → Phase → Type 0
+Leads may plan p [] r = p ≡ r
+Leads may plan p (e ∷ es) r = (q : Phase) × EventTurns may plan p e q × Leads may plan q es r
 
-pub leads_on : (plan : SavedPlan) (p q r : Phase) (es fs : List Event) → Leads plan p es q → Leads plan q fs r → Leads plan p (es ++ fs) r
-leads_on plan p q r [] fs one other = subst (λ (x : Phase). Leads plan x fs r) (sym one) other
-leads_on plan p q r (e ∷ es) fs one other = (one.0, one.1, leads_on plan one.0 q r es fs one.2 other)
+pub leads_on : (may : Type 0) (plan : SavedPlan) (p q r : Phase) (es fs : List Event) → Leads may plan p es q → Leads may plan q fs r → Leads may plan p (es ++ fs) r
+leads_on may plan p q r [] fs one other = subst (λ (x : Phase). Leads may plan x fs r) (sym one) other
+leads_on may plan p q r (e ∷ es) fs one other = (one.0, one.1, leads_on may plan one.0 q r es fs one.2 other)
 
-pub follows : (plan : SavedPlan) (p : Phase) (es : List Event) (r : Phase) → Leads plan p es r → Follows p (all_deeds plan es) r
-follows plan p [] r leads = leads
-follows plan p (e ∷ es) r leads =
+pub follows : (may : Type 0) (plan : SavedPlan) (p : Phase) (es : List Event) (r : Phase) → Leads may plan p es r → Follows may p (all_deeds plan es) r
+follows may plan p [] r leads = leads
+follows may plan p (e ∷ es) r leads =
     let turn = leads.1 in
-    subst (λ (o : Option StepKind). Follows p (option_map_or (λ kind. deed e kind ∷ []) o [] ++ all_deeds plan es) r) (sym turn.1)
-    (leads.0, turn.2, follows plan leads.0 es r leads.2)
+    subst (λ (o : Option StepKind). Follows may p (option_map_or (λ kind. deed e kind ∷ []) o [] ++ all_deeds plan es) r) (sym turn.1)
+    (leads.0, turn.2, follows may plan leads.0 es r leads.2)

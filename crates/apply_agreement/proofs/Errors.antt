@@ -138,7 +138,7 @@ FailsNot x = is_error_note x.1 ≡ is_errored x.1
 
 none_fails : (s : Step) → All FailsNot (between s)
 none_fails s =
-    all_along FailsNot (seconds_of s) 0 0 s.provider_seconds s.ran (λ t. refl) (λ i p since. refl) (λ i p j since. refl)
+    all_along FailsNot (seconds_of s) 0 0 s.seconds_before s.ran (λ t. refl) (λ i p since. refl) (λ i p j since. refl)
     (λ i p since. elim (has_failed p) as (λ f. is_error_note (cond f (ProvisionErrored i) (ProvisionComplete i)) ≡ is_errored (cond f (ProvisionErrored i) (ProvisionComplete i))) [ true ↦ refl | false ↦ refl ])
 
 module _ (w : ℕ) (s : Step) where

@@ -1,5 +1,5 @@
 -- Each text in the tree of some bytes is UTF-8, and each integer fits 64 bits.
-use Rattle.std.proofs.Common.{◌≡◌, ℕ, zero, suc, List, [], ◌∷◌, IsUtf8, cond, length, Bool, true, false, Option, Some, None, Ordering, Less, Equal, Greater, refl}
+use Rattle.std.proofs.Common.{◌≡◌, ℕ, zero, suc, List, [], ◌∷◌, ◌++◌, IsUtf8, cond, length, Bool, true, false, Option, Some, None, Ordering, Less, Equal, Greater, refl}
 use Rattle.std.specs.Prelude.{⊤, IfSome, option_and_then, option_map}
 use Rattle.std.specs.Ordering.{nat_cmp, match_ordering}
 use Rattle.std.specs.Cmp.Lexicographic.{slice_cmp}
@@ -8,11 +8,14 @@ use Rattle.std.proofs.lemmas.Str.{IsUtf8-from_is_utf8}
 use Rattle.json.specs.Json as j
 use Rattle.json.specs.Json.{Json, Parse, after_end_array, if_last, items, items_step, members, members_step, parse_map, read_key, value, value_with}
 use Rattle.json.specs.Token.{Token}
+use Rattle.json.specs.Tree.{items_tokens, json_tokens, members_tokens}
 use Rattle.json.specs.Lex.{tokens}
 use Rattle.serde_json.specs.Data.{Data, null, boolean, number, string, array, object, Items, no_items, item, Members, no_members, member, put}
 use Rattle.serde_json.specs.Read.{max_depth, number_of, of_items, of_json, of_members, read}
+use Rattle.apply_json.specs.Keeping.{as_own_text, keeping, keeping_items, keeping_members, keeping_tree_of, keeping_tree_of_text, own_text}
 use Rattle.apply_json.specs.Tree.{tree_of}
-use Rattle.apply_agreement.proofs.Given.{gone_on, mapped}
+use Rattle.apply_agreement.proofs.Given.{any_given, gone_on, mapped}
+use Rattle.apply_agreement.proofs.OwnTexts.{printed_utf8}
 use Rattle.apply_agreement.proofs.ReadNumbers.{IsOfBits, number_fits}
 use Rattle.apply_agreement.proofs.Tokens.{AreSpelt, tokens_spelt}
 
@@ -39,7 +42,7 @@ abbrev mutual
   IsClear : Json → Type 0
   IsClear j.null = ⊤
   IsClear (j.boolean b) = ⊤
-  IsClear (j.number s) = ⊤
+  IsClear (j.number s) = IsUtf8 s
   IsClear (j.string s) = IsUtf8 s
   IsClear (j.array js) = AreClear js
   IsClear (j.object ms) = HaveClear ms
@@ -50,7 +53,7 @@ abbrev mutual
 
   HaveClear : j.Members → Type 0
   HaveClear j.no_members = ⊤
-  HaveClear (j.member k v ms) = IsClear v × HaveClear ms
+  HaveClear (j.member k v ms) = IsUtf8 k × IsClear v × HaveClear ms
 
 -- ---- the grammar
 
@@ -91,13 +94,17 @@ after_end (Token.boolean b ∷ ts) h = tt
 after_end (Token.null ∷ ts) h = tt
 after_end (Token.bad ∷ ts) h = tt
 
-after_key : (ts : List Token) → AreSpelt ts → IfSome (read_key ts) (λ p. AreSpelt p.1)
+-- the name of a member, if there is one more, and what is left behind it
+abbrev IsNamed : Option (List ℕ) × List Token → Type 0
+IsNamed p = IfSome p.0 IsUtf8 × AreSpelt p.1
+
+after_key : (ts : List Token) → AreSpelt ts → IfSome (read_key ts) IsNamed
 after_key [] h = tt
 after_key (Token.begin_object ∷ ts) h = tt
-after_key (Token.end_object ∷ ts) h = h.1
+after_key (Token.end_object ∷ ts) h = (tt, h.1)
 after_key (Token.begin_array ∷ ts) h = tt
 after_key (Token.end_array ∷ ts) h = tt
-after_key (Token.key s ∷ ts) h = h.1
+after_key (Token.key s ∷ ts) h = h
 after_key (Token.string s ∷ ts) h = tt
 after_key (Token.number s ∷ ts) h = tt
 after_key (Token.boolean b ∷ ts) h = tt
@@ -116,17 +123,17 @@ module _ (part : Parse Json) (keeps : Keeps IsClear part) where
   list_of zero ts h = tt
   list_of (suc n) ts h = list_step (items part n) (list_of n) ts h (after_end_array ts) (after_end ts h)
 
-  member_step : (more : Parse j.Members) → Keeps HaveClear more → (found : Option (List ℕ)) (ts : List Token) → AreSpelt ts → IfSome (members_step part more found ts) (Leaves HaveClear)
-  member_step more rest None ts h = (tt, h)
-  member_step more rest (Some k) ts h =
+  member_step : (more : Parse j.Members) → Keeps HaveClear more → (found : Option (List ℕ)) (ts : List Token) → IfSome found IsUtf8 → AreSpelt ts → IfSome (members_step part more found ts) (Leaves HaveClear)
+  member_step more rest None ts name h = (tt, h)
+  member_step more rest (Some k) ts name h =
       gone_on (Leaves IsClear) (Leaves HaveClear) (λ p. parse_map (j.member k p.0) (more p.1)) (part ts)
-      (λ p first. read_on HaveClear HaveClear (j.member k p.0) (more p.1) (λ ms clear. (first.0, clear)) (rest p.1 first.1)) (keeps ts h)
+      (λ p first. read_on HaveClear HaveClear (j.member k p.0) (more p.1) (λ ms clear. (name, first.0, clear)) (rest p.1 first.1)) (keeps ts h)
 
   members_of : (n : ℕ) → Keeps HaveClear (members part n)
   unfolding members
   members_of zero ts h = tt
   members_of (suc n) ts h =
-      gone_on (λ p. AreSpelt p.1) (Leaves HaveClear) (λ p. members_step part (members part n) p.0 p.1) (read_key ts) (λ p left. member_step (members part n) (members_of n) p.0 p.1 left) (after_key ts h)
+      gone_on IsNamed (Leaves HaveClear) (λ p. members_step part (members part n) p.0 p.1) (read_key ts) (λ p left. member_step (members part n) (members_of n) p.0 p.1 left.0 left.1) (after_key ts h)
 
 value_clear : (depth : ℕ) → Keeps IsClear (value depth)
 unfolding value
@@ -168,12 +175,65 @@ mutual
   members_legible : (ms : j.Members) (found : Members) → HaveClear ms → HaveLegible found → IfSome (of_members ms found) HaveLegible
   members_legible j.no_members found h legible = legible
   members_legible (j.member k v ms) found h legible =
-      gone_on IsLegible HaveLegible (λ d. of_members ms (put k d found)) (of_json v) (λ d one. members_legible ms (put k d found) h.1 (put_legible k d found one legible)) (data_legible v h.0)
+      gone_on IsLegible HaveLegible (λ d. of_members ms (put k d found)) (of_json v) (λ d one. members_legible ms (put k d found) h.2 (put_legible k d found one legible)) (data_legible v h.1)
+
+-- ---- values that are kept as their own texts
+
+spelt_both : (ts us : List Token) → AreSpelt ts → AreSpelt us → AreSpelt (ts ++ us)
+spelt_both [] us h k = k
+spelt_both (t ∷ ts) us h k = (h.0, spelt_both ts us h.1 k)
+
+mutual
+  value_spelt : (v : Json) → IsClear v → AreSpelt (json_tokens v)
+  value_spelt j.null h = (tt, tt)
+  value_spelt (j.boolean b) h = (tt, tt)
+  value_spelt (j.number s) h = (h, tt)
+  value_spelt (j.string s) h = (h, tt)
+  value_spelt (j.array js) h = (tt, items_spelt js h)
+  value_spelt (j.object ms) h = (tt, members_spelt ms h)
+
+  items_spelt : (js : j.Items) → AreClear js → AreSpelt (items_tokens js)
+  items_spelt j.no_items h = (tt, tt)
+  items_spelt (j.item v js) h = spelt_both (json_tokens v) (items_tokens js) (value_spelt v h.0) (items_spelt js h.1)
+
+  members_spelt : (ms : j.Members) → HaveClear ms → AreSpelt (members_tokens ms)
+  members_spelt j.no_members h = (tt, tt)
+  members_spelt (j.member k v ms) h = (h.0, spelt_both (json_tokens v) (members_tokens ms) (value_spelt v h.1) (members_spelt ms h.2))
+
+own_legible : (v : Json) → IsClear v → IfSome (as_own_text v) IsLegible
+own_legible v h = mapped (λ _. Unit {0}) IsLegible (λ tree. string (own_text v)) (of_json v) (λ tree u. printed_utf8 (json_tokens v) (value_spelt v h)) (any_given (of_json v))
+
+either_legible : (b : Bool) (o p : Option Data) → IfSome o IsLegible → IfSome p IsLegible → IfSome (cond b o p) IsLegible
+either_legible true o p first second = first
+either_legible false o p first second = second
+
+mutual
+  kept_legible : (kept : List ℕ → Bool) (v : Json) → IsClear v → IfSome (keeping kept v) IsLegible
+  kept_legible kept j.null h = tt
+  kept_legible kept (j.boolean b) h = tt
+  kept_legible kept (j.number s) h = mapped IsOfBits IsLegible number (number_of s) (λ n fits. fits) (number_fits s)
+  kept_legible kept (j.string s) h = h
+  kept_legible kept (j.array js) h = mapped AreLegible IsLegible array (keeping_items kept js) (λ ds legible. legible) (kept_items kept js h)
+  kept_legible kept (j.object ms) h = mapped HaveLegible IsLegible object (keeping_members kept ms no_members) (λ found legible. legible) (kept_members kept ms no_members h tt)
+
+  kept_items : (kept : List ℕ → Bool) (js : j.Items) → AreClear js → IfSome (keeping_items kept js) AreLegible
+  kept_items kept j.no_items h = tt
+  kept_items kept (j.item v js) h =
+      gone_on IsLegible AreLegible (λ d. option_map (item d) (keeping_items kept js)) (keeping kept v) (λ d one. mapped AreLegible AreLegible (item d) (keeping_items kept js) (λ ds legible. (one, legible)) (kept_items kept js h.1)) (kept_legible kept v h.0)
+
+  kept_members : (kept : List ℕ → Bool) (ms : j.Members) (found : Members) → HaveClear ms → HaveLegible found → IfSome (keeping_members kept ms found) HaveLegible
+  kept_members kept j.no_members found h legible = legible
+  kept_members kept (j.member k v ms) found h legible =
+      gone_on IsLegible HaveLegible (λ d. keeping_members kept ms (put k d found)) (cond (kept k) (as_own_text v) (keeping kept v)) (λ d one. kept_members kept ms (put k d found) h.2 (put_legible k d found one legible))
+      (either_legible (kept k) (as_own_text v) (keeping kept v) (own_legible v h.1) (kept_legible kept v h.1))
+
+-- ---- the value of a whole text
+
+text_clear : (text : List ℕ) → IsUtf8 text → IfSome (option_and_then (λ p. if_last p.0 p.1) (value max_depth (tokens text))) IsClear
+text_clear text utf8 = gone_on (Leaves IsClear) IsClear (λ p. if_last p.0 p.1) (value max_depth (tokens text)) (λ p left. last_clear p.0 p.1 left.0) (value_clear max_depth (tokens text) (tokens_spelt text utf8))
 
 read_legible : (text : List ℕ) → IsUtf8 text → IfSome (read text) IsLegible
-read_legible text utf8 =
-    gone_on IsClear IsLegible of_json (option_and_then (λ p. if_last p.0 p.1) (value max_depth (tokens text))) data_legible
-    (gone_on (Leaves IsClear) IsClear (λ p. if_last p.0 p.1) (value max_depth (tokens text)) (λ p left. last_clear p.0 p.1 left.0) (value_clear max_depth (tokens text) (tokens_spelt text utf8)))
+read_legible text utf8 = gone_on IsClear IsLegible of_json (option_and_then (λ p. if_last p.0 p.1) (value max_depth (tokens text))) data_legible (text_clear text utf8)
 
 pub tree_legible : (bytes : List ℕ) → IfSome (tree_of bytes) IsLegible
 tree_legible bytes = of_test (is_utf8 bytes) refl
@@ -181,3 +241,11 @@ tree_legible bytes = of_test (is_utf8 bytes) refl
     of_test : (b : Bool) → is_utf8 bytes ≡ b → IfSome (cond b (read bytes) None) IsLegible
     of_test false is = tt
     of_test true is = read_legible bytes (IsUtf8-from_is_utf8 bytes is)
+
+-- the same of a tree in which the members of some names are their own texts
+pub kept_tree_legible : (kept : List ℕ → Bool) (bytes : List ℕ) → IfSome (keeping_tree_of kept bytes) IsLegible
+kept_tree_legible kept bytes = of_test (is_utf8 bytes) refl
+  where
+    of_test : (b : Bool) → is_utf8 bytes ≡ b → IfSome (cond b (keeping_tree_of_text kept bytes) None) IsLegible
+    of_test false is = tt
+    of_test true is = gone_on IsClear IsLegible (keeping kept) (option_and_then (λ p. if_last p.0 p.1) (value max_depth (tokens bytes))) (kept_legible kept) (text_clear bytes (IsUtf8-from_is_utf8 bytes is))

@@ -1,3 +1,4 @@
+pub mod AppliedKinds
 mod AppliedSteps
 pub mod BetweenSteps
 pub mod Bytes
@@ -16,9 +17,11 @@ pub mod Heard
 pub mod Legible
 pub mod LookUps
 pub mod Moves
+pub mod NumberTexts
 pub mod ObjectsBack
 pub mod ObjectsHeard
 pub mod Ordinary
+pub mod OwnTexts
 pub mod Parts
 pub mod Phases
 pub mod PlanTexts

@@ -4,7 +4,7 @@ use Rattle.std.proofs.lemmas.Bool.{both_ways, cases_Bool, cases_eq}
 use Rattle.std.proofs.lemmas.Option.{cond_some}
 use Rattle.std.proofs.lemmas.Slice.Eq.{bytes_eq-Decides}
 use Rattle.apply_check.specs.declared.messages.action.Action.{Action}
-use Rattle.apply_check.specs.declared.messages.action.Action.TheVariants.{Create, Delete}
+use Rattle.apply_check.specs.declared.messages.action.Action.TheVariants.{Delete}
 use Rattle.apply_check.specs.declared.messages.stage.Stage.{Stage}
 use Rattle.apply_check.specs.declared.rules.pending.Pending.{Pending}
 use Rattle.apply_check.specs.declared.rules.standing.Standing.{Standing}
@@ -12,26 +12,31 @@ use Rattle.apply_check.specs.declared.messages.timed_stage.TimedStage.{TimedStag
 use Rattle.apply_check.specs.Course.{after}
 use Rattle.apply_check.specs.Lines.{next}
 use Rattle.apply_check.specs.Message.{Message, step, provision, diagnostic}
-use Rattle.apply_check.specs.Standing.{explained, pending_at, provision_on, standing_of, step_on}
+use Rattle.apply_check.specs.Standing.{explained, may_provision, pending_at, provision_on, standing_of, step_on}
 use Rattle.apply_check.specs.Words.{same_action}
 use Rattle.apply_check.proofs.Actions.{same_is}
 use Rattle.apply_agreement.proofs.Fitting.{MatchesPending, fits_same, something_open}
 use Rattle.apply_agreement.proofs.Phases.{IsProvisioning, Phase, between, under_way, unexplained, put, put_elsewhere, put_here, seconds_in, shown, shown_same}
-use Rattle.apply_agreement.proofs.Standings.{IsAmid, IsNoFailure, diagnostic_elsewhere, diagnostic_there, explained_keeps, failures_same, next_diagnostic, next_provision, next_step, pending_other, pending_same, pending_still, provision_elsewhere, provision_there, provisioner_in, provisioner_kept, provisioner_same, same_itself, same_text, step_elsewhere, step_in, step_is, step_there}
+use Rattle.apply_agreement.proofs.Standings.{IsAmid, IsNoFailure, diagnostic_elsewhere, diagnostic_there, explained_keeps, failures_same, may_hold, next_diagnostic, next_provision, next_step, pending_other, pending_same, pending_still, provision_elsewhere, provision_there, provisioner_in, provisioner_kept, provisioner_same, same_itself, same_text, step_elsewhere, step_in, step_is, step_there}
 
 -- after the messages the checker stands, at each address of some, where the changes below the limit stand
-pub record Agrees (limit : ℕ) (addresses : ℕ → List ℕ) (Within : List ℕ → Type 0) (Does : ℕ → Action → Type 0) (phases : ℕ → Phase) (ms : List Message) : Type 0 where
+pub record Agrees (limit : ℕ) (addresses : ℕ → List ℕ) (Within : List ℕ → Type 0) (Does : ℕ → Action → Type 0) (Provides : ℕ → Type 0) (phases : ℕ → Phase) (ms : List Message) : Type 0 where
   pub open_steps : (a : List ℕ) (k : Action) → Within a → MatchesPending limit k (shown addresses phases a k) (pending_at k (standing_of a ms))
   -- a provisioner is under way at an address exactly where it is in a change of that address
   pub provisioners : (a : List ℕ) → Within a → is_some (standing_of a ms).provisioner ≡ true → (c : ℕ) × (c < limit) × (addresses c ≡ a) × IsProvisioning (phases c)
   pub provisioning : (c : ℕ) → c < limit → Within (addresses c) → IsProvisioning (phases c) → is_some (standing_of (addresses c) ms).provisioner ≡ true
   pub failures : (a : List ℕ) → Within a → is_some (standing_of a ms).failures ≡ true → (c : ℕ) × (c < limit) × (addresses c ≡ a) × (phases c ≡ unexplained)
   pub does : (c t : ℕ) (k : Action) (b : Bool) → phases c ≡ under_way k t b → Does c k
+  pub provides : (c : ℕ) → IsProvisioning (phases c) → Provides c
   pub amid : IsAmid ms
 
 -- two changes of one address both do a thing only if it is a delete
 abbrev pub Apart : (addresses : ℕ → List ℕ) (Does : ℕ → Action → Type 0) → Type 0
 Apart addresses Does = (b c : ℕ) (k : Action) → addresses b ≡ addresses c → Does b k → Does c k → b ≢ c → k ≡ Delete
+
+-- of one address one change alone may have provisioners
+abbrev pub Sole : (addresses : ℕ → List ℕ) (Provides : ℕ → Type 0) → Type 0
+Sole addresses Provides = (b c : ℕ) → addresses b ≡ addresses c → Provides b → Provides c → b ≡ c
 
 -- ---- words of phases
 
@@ -94,10 +99,10 @@ shown_elsewhere addresses phases c q a l away b =
     (λ elsewhere. shown_same addresses phases (put phases c q) a l b (put_elsewhere phases c q b elsewhere))
     (cases_eq b c)
 
-module _ (limit : ℕ) (addresses : ℕ → List ℕ) (Within : List ℕ → Type 0) (Does : ℕ → Action → Type 0) where
+module _ (limit : ℕ) (addresses : ℕ → List ℕ) (Within : List ℕ → Type 0) (Does : ℕ → Action → Type 0) (Provides : ℕ → Type 0) where
   -- the message is accepted, and the checker stands where the changes stand then
   abbrev pub Moves : (ℕ → Phase) → List Message → (c : ℕ) → Phase → Message → Type 0
-  Moves phases ms c q m = (next ms m ≡ Ok (m ∷ ms)) × Agrees limit addresses Within Does (put phases c q) (m ∷ ms)
+  Moves phases ms c q m = (next ms m ≡ Ok (m ∷ ms)) × Agrees limit addresses Within Does Provides (put phases c q) (m ∷ ms)
 
   still_does : (phases : ℕ → Phase) (c : ℕ) (q : Phase) → ((b t : ℕ) (l : Action) (p : Bool) → phases b ≡ under_way l t p → Does b l) → ((t : ℕ) (l : Action) (p : Bool) → q ≡ under_way l t p → Does c l)
       → (b t : ℕ) (l : Action) (p : Bool) → put phases c q b ≡ under_way l t p → Does b l
@@ -137,14 +142,16 @@ module _ (limit : ℕ) (addresses : ℕ → List ℕ) (Within : List ℕ → Typ
       (λ elsewhere. subst IsProvisioning (put_elsewhere phases c q d elsewhere) is)
       (cases_eq d c)
 
-  -- then a create stands open there
-  create_open : (phases : ℕ → Phase) (a : List ℕ) (p : Option Pending) → MatchesPending limit Create (shown addresses phases a Create) p → Has phases a → is_some p ≡ true
-  create_open phases a p fit found =
-      something_open limit Create (shown addresses phases a Create) p found.0 found.3.0 fit found.1
-      (ap (λ (x : List ℕ). shown addresses phases x Create found.0) (sym found.2) ∙ shown_here addresses phases Create found.0 ∙ ap (seconds_in Create) found.3.1 ∙ running Create found.3.0 true)
+  -- then a step stands open there in which it may run
+  holder_open : (phases : ℕ → Phase) (a : List ℕ) (s : Standing) → ((l : Action) → MatchesPending limit l (shown addresses phases a l) (pending_at l s)) → Has phases a → may_provision s ≡ true
+  holder_open phases a s fits found =
+      let k = found.3.1 in
+      may_hold k s found.3.3
+      (something_open limit k (shown addresses phases a k) (pending_at k s) found.0 found.3.0 (fits k) found.1
+      (ap (λ (x : List ℕ). shown addresses phases x k found.0) (sym found.2) ∙ shown_here addresses phases k found.0 ∙ ap (seconds_in k) found.3.2 ∙ running k found.3.0 true))
 
   pub stepped : (phases : ℕ → Phase) (ms : List Message) (c : ℕ) (k : Action) (stage : TimedStage) (q : Phase) (p : Option Pending)
-      → Agrees limit addresses Within Does phases ms → c < limit → Within (addresses c)
+      → Agrees limit addresses Within Does Provides phases ms → c < limit → Within (addresses c)
       → after k stage (length ms + 1) (pending_at k (standing_of (addresses c) ms)) ≡ Ok p
       → MatchesPending limit k (shown addresses (put phases c q) (addresses c) k) p
       → ((l : Action) → same_action k l ≡ false → seconds_in l q ≡ seconds_in l (phases c))
@@ -166,7 +173,7 @@ module _ (limit : ℕ) (addresses : ℕ → List ℕ) (Within : List ℕ → Typ
       (fits_same limit l (shown addresses phases a l) (shown addresses (put phases c q) a l) (pending_at l s) (λ b _. shown_kept addresses phases c q a l (kept l no) b) (agrees.open_steps a l within)))
       (cases_Bool (same_action k l)) in
       let is : step_on k stage line s ≡ Ok (step_in k stage line p s) =
-      step_is k stage line p s (λ some. create_open (put phases c q) a (pending_at Create (step_in k stage line p s)) (fits Create) (still_has phases c q a on (agrees.provisioners a within some))) e in
+      step_is k stage line p s (λ some. holder_open (put phases c q) a (step_in k stage line p s) fits (still_has phases c q a on (agrees.provisioners a within some))) e in
       let there : standing_of a (step a k stage ∷ ms) ≡ step_in k stage line p s = step_there a k stage (step_in k stage line p s) ms is in (
         next_step a k stage (step_in k stage line p s) ms agrees.amid is,
         record {
@@ -195,21 +202,23 @@ module _ (limit : ℕ) (addresses : ℕ → List ℕ) (Within : List ℕ → Typ
               let before : is_some (standing_of b ms).failures ≡ true = sym (ap is_some (ap (λ (t : Standing). t.failures) (step_elsewhere a k stage ms b no))) ∙ some in
               still_failed phases c q b (agrees.failures b w before) (λ d there u. other_address c d b no there));
           does = still_does phases c q agrees.does does;
+          provides = λ d is. agrees.provides d (had phases c q d back is);
           amid = agrees.amid;
         },
       )
 
   -- a provisioner begins, goes on or ends
   pub provisioned : (phases : ℕ → Phase) (ms : List Message) (c : ℕ) (stage : Stage) (q : Phase) (r : Option ℕ)
-      → Agrees limit addresses Within Does phases ms → c < limit → Within (addresses c)
+      → Agrees limit addresses Within Does Provides phases ms → c < limit → Within (addresses c)
       → provision_on stage (length ms + 1) (standing_of (addresses c) ms) ≡ Ok (provisioner_in r (standing_of (addresses c) ms))
       → ((l : Action) → seconds_in l q ≡ seconds_in l (phases c))
       → ((t : ℕ) (l : Action) (b : Bool) → q ≡ under_way l t b → Does c l)
       → phases c ≢ unexplained
       → (is_some r ≡ true → Has (put phases c q) (addresses c))
       → ((d : ℕ) → addresses d ≡ addresses c → IsProvisioning (put phases c q d) → is_some r ≡ true)
+      → (IsProvisioning q → Provides c)
       → Moves phases ms c q (provision (addresses c) stage)
-  provisioned phases ms c stage q r agrees less within e kept does explained_before on back =
+  provisioned phases ms c stage q r agrees less within e kept does explained_before on back provides =
       let a = addresses c in
       let s = standing_of a ms in
       let there : standing_of a (provision a stage ∷ ms) ≡ provisioner_in r s = provision_there a stage (provisioner_in r s) ms e in (
@@ -241,13 +250,18 @@ module _ (limit : ℕ) (addresses : ℕ → List ℕ) (Within : List ℕ → Typ
               let before : is_some (standing_of b ms).failures ≡ true = sym (ap is_some (ap (λ (t : Standing). t.failures) (provision_elsewhere a stage ms b no))) ∙ some in
               still_failed phases c q b (agrees.failures b w before) (λ d same u. other_address c d b no same));
           does = still_does phases c q agrees.does does;
+          provides = λ d is.
+              ⊎_elim
+              (λ (here : d ≡ c). subst Provides (sym here) (provides (subst IsProvisioning (ap (put phases c q) here ∙ put_here phases c q) is)))
+              (λ elsewhere. agrees.provides d (subst IsProvisioning (put_elsewhere phases c q d elsewhere) is))
+              (cases_eq d c);
           amid = agrees.amid;
         },
       )
 
   -- a note changes nothing but the failures at its address
   pub noted : (phases : ℕ → Phase) (ms : List Message) (c : ℕ) (e : Bool) (q : Phase)
-      → Agrees limit addresses Within Does phases ms → c < limit → Within (addresses c)
+      → Agrees limit addresses Within Does Provides phases ms → c < limit → Within (addresses c)
       → ((l : Action) → seconds_in l q ≡ None) → ((l : Action) → seconds_in l (phases c) ≡ None)
       → (e ≡ true) ⊎ (q ≡ phases c)
       → Moves phases ms c q (diagnostic e (Some (addresses c)))
@@ -256,8 +270,8 @@ module _ (limit : ℕ) (addresses : ℕ → List ℕ) (Within : List ℕ → Typ
       let s = standing_of a ms in
       let there : standing_of a (diagnostic e (Some a) ∷ ms) ≡ explained e s = diagnostic_there a e ms in
       let kept = λ (b : List ℕ) (l : Action). shown_kept addresses phases c q b l (after_none l ∙ sym (before_none l)) in
-      let on : IsProvisioning (phases c) → IsProvisioning q = λ p. absurd (let f : None ≡ Some p.0 = sym (before_none Create) ∙ ap (seconds_in Create) p.1 ∙ running Create p.0 true in cc) in
-      let back : IsProvisioning q → IsProvisioning (phases c) = λ p. absurd (let f : None ≡ Some p.0 = sym (after_none Create) ∙ ap (seconds_in Create) p.1 ∙ running Create p.0 true in cc) in (
+      let on : IsProvisioning (phases c) → IsProvisioning q = λ p. absurd (let f : None ≡ Some p.0 = sym (before_none p.1) ∙ ap (seconds_in p.1) p.2 ∙ running p.1 p.0 true in cc) in
+      let back : IsProvisioning q → IsProvisioning (phases c) = λ p. absurd (let f : None ≡ Some p.0 = sym (after_none p.1) ∙ ap (seconds_in p.1) p.2 ∙ running p.1 p.0 true in cc) in (
         next_diagnostic a e ms agrees.amid,
         record {
           open_steps = λ b l w. by_address (λ b. Within b → MatchesPending limit l (shown addresses (put phases c q) b l) (pending_at l (standing_of b (diagnostic e (Some a) ∷ ms)))) a
@@ -283,6 +297,7 @@ module _ (limit : ℕ) (addresses : ℕ → List ℕ) (Within : List ℕ → Typ
               let before : is_some (standing_of b ms).failures ≡ true = sym (ap is_some (ap (λ (t : Standing). t.failures) (diagnostic_elsewhere a e ms b no))) ∙ some in
               still_failed phases c q b (agrees.failures b w before) (λ d there u. other_address c d b no there));
           does = still_does phases c q agrees.does (λ t l b is. absurd (let f : seconds_in l q ≡ Some t = ap (seconds_in l) is ∙ running l t b in let g : None ≡ Some t = sym (after_none l) ∙ f in cc));
+          provides = λ d is. agrees.provides d (had phases c q d back is);
           amid = agrees.amid;
         },
       )

@@ -16,12 +16,16 @@ use Rattle.apply_events.specs.Step.{address_of, kinds_of}
 use Rattle.apply_agreement.specs.Plans.{IsChange, IsOrdinary}
 use Rattle.apply_agreement.specs.Told.{action_of}
 use Rattle.apply_agreement.proofs.Deeds.{all_deeds, deed}
-use Rattle.apply_agreement.proofs.Moves.{Apart}
+use Rattle.apply_agreement.proofs.Moves.{Apart, Sole}
 use Rattle.apply_agreement.proofs.Turning.{AllKnown}
 
 -- one of the steps of change c does so
 abbrev pub Does : SavedPlan → ℕ → Action → Type 0
 Does plan c k = (n : ℕ) × (step : StepKind) × (slice_get (kinds_of plan c) n ≡ Some step) × (k ≡ action_of step)
+
+-- a change may have provisioners: its object is not deposed
+abbrev pub Provides : SavedPlan → ℕ → Type 0
+Provides plan c = (change : ResourceChange) × IsChange plan c change × (is_some change.deposed ≡ false)
 
 -- the change whose step it is
 abbrev pub Found : Option ResourceChange → ℕ → StepKind → Type 0
@@ -59,7 +63,7 @@ one_change (x ∷ changes) once (suc b) (suc c) one other e f address deposed = 
 
 module _ (plan : SavedPlan) (ordinary : IsOrdinary plan) where
   -- a deposed object's step is a delete
-  deleted : (c n : ℕ) (step : StepKind) (change : ResourceChange) → IsChange plan c change → slice_get change.steps n ≡ Some step → is_some change.deposed ≡ true → step ≡ kind.Delete
+  pub deleted : (c n : ℕ) (step : StepKind) (change : ResourceChange) → IsChange plan c change → slice_get change.steps n ≡ Some step → is_some change.deposed ≡ true → step ≡ kind.Delete
   deleted c n step change is e deposed =
       subst (λ (x : StepKind). x ≡ kind.Delete) (get_or_from_slice_get change.steps n step step e) (ordinary.deleted c change is deposed n step (slice_get_within change.steps n step e))
 
@@ -82,17 +86,20 @@ module _ (plan : SavedPlan) (ordinary : IsOrdinary plan) where
   pub apart : Apart (address_of plan) (Does plan)
   apart = sole
 
+  pub only : Sole (address_of plan) (Provides plan)
+  only b c same one other = same_change b c one.0 other.0 one.1 other.1 same one.2 other.2
+
 -- ---- what happens is of the plan
 
 abbrev pub Anywhere : List ℕ → Type 0
 Anywhere a = Unit {0}
 
-pub known : (plan : SavedPlan) (es : List Event) → AllKnown (length plan.changes) (address_of plan) Anywhere (Does plan) (all_deeds plan es)
+pub known : (plan : SavedPlan) (es : List Event) → AllKnown (length plan.changes) (address_of plan) Anywhere (Does plan) (Provides plan) (all_deeds plan es)
 known plan [] = tt
 known plan (e ∷ es) = one_known (slice_get (kinds_of plan e.change) e.step) refl (known plan es)
   where
-    one_known : (o : Option StepKind) → slice_get (kinds_of plan e.change) e.step ≡ o → AllKnown (length plan.changes) (address_of plan) Anywhere (Does plan) (all_deeds plan es)
-        → AllKnown (length plan.changes) (address_of plan) Anywhere (Does plan) (option_map_or (λ kind. deed e kind ∷ []) o [] ++ all_deeds plan es)
+    one_known : (o : Option StepKind) → slice_get (kinds_of plan e.change) e.step ≡ o → AllKnown (length plan.changes) (address_of plan) Anywhere (Does plan) (Provides plan) (all_deeds plan es)
+        → AllKnown (length plan.changes) (address_of plan) Anywhere (Does plan) (Provides plan) (option_map_or (λ kind. deed e kind ∷ []) o [] ++ all_deeds plan es)
     one_known None lookup rest = rest
     one_known (Some step) lookup rest =
         let change = found (slice_get plan.changes e.change) e.step step lookup in

@@ -18,11 +18,12 @@ use Rattle.apply_events.specs.Fits.{HasStep}
 use Rattle.apply_events.specs.Interleaving.{IsInterleaving}
 use Rattle.apply_events.specs.OfWorker.{of_worker}
 use Rattle.apply_events.specs.Partition.{IsPartition, count_of}
-use Rattle.apply_events.specs.Step.{Step, Work, kinds_of, step_of, steps_of}
+use Rattle.apply_events.specs.Step.{Step, Work, kinds_applied, kinds_of, step_of, steps_of}
 use Rattle.apply_events.specs.StepEvents.{between, endings, event, goes_on, halts, phase_after, seconds_of, started, step_events, step_time}
 use Rattle.apply_events.specs.WorkerEvents.{worker_events}
 use Rattle.apply_text.specs.Order.{as_written, hook_messages_of, notes_of}
 use Rattle.apply_agreement.specs.WholeSteps.{AreOfSteps, IsOfWholeSteps, events_of_change}
+use Rattle.apply_agreement.proofs.AppliedKinds.{applied_is_planned}
 
 -- ---- what holds of each event
 
@@ -84,19 +85,20 @@ pub record TellsOfChange (work : Work) (c : ℕ) (e : Event) : Type 0 where
   pub named : e.change ≡ c
   pub planned : (kind : StepKind) × (slice_get (kinds_of work.plan e.change) e.step ≡ Some kind)
 
-all_of : (work : Work) (w c n : ℕ) (kinds : List StepKind) → ((i : ℕ) → slice_get (kinds_of work.plan c) (n + i) ≡ slice_get kinds i)
+all_of : (work : Work) (w c n : ℕ) (kinds : List StepKind) → ((i : ℕ) (kind : StepKind) → slice_get kinds i ≡ Some kind → slice_get (kinds_of work.plan c) (n + i) ≡ Some kind)
     → AllSuit (TellsOfChange work c) w (map (λ p. step_of work c p.0 p.1) (enumerate_from n kinds))
 all_of work w c n [] is = tt
 all_of work w c n (kind ∷ kinds) is =
-    let here : n ≡ n + 0 = omega arith in (
-      λ at what. record { named = refl; planned = (kind, ap (λ (x : ℕ). slice_get (kinds_of work.plan c) x) here ∙ is 0) },
-      all_of work w c (n + 1) kinds (λ i. let next : n + 1 + i ≡ n + suc i = omega arith in ap (λ (x : ℕ). slice_get (kinds_of work.plan c) x) next ∙ is (suc i)),
+    let here : n + 0 ≡ n = omega arith in (
+      λ at what. record { named = refl; planned = (kind, subst (λ (x : ℕ). slice_get (kinds_of work.plan c) x ≡ Some kind) here (is 0 kind refl)) },
+      all_of work w c (n + 1) kinds (λ i k found. let next : n + suc i ≡ n + 1 + i = omega arith in subst (λ (x : ℕ). slice_get (kinds_of work.plan c) x ≡ Some k) next (is (suc i) k found)),
     )
 
 pub change_is_of : (work : Work) (w c at : ℕ) → Each (TellsOfChange work c) (change_events work w c at)
 change_is_of work w c at =
     each_of_steps (TellsOfChange work c) w (begun (steps_of work c)) at
-    (suit_begun (TellsOfChange work c) w (steps_of work c) (all_of work w c 0 (kinds_of work.plan c) (λ i. let same : 0 + i ≡ i = omega arith in ap (λ (x : ℕ). slice_get (kinds_of work.plan c) x) same)))
+    (suit_begun (TellsOfChange work c) w (steps_of work c) (all_of work w c 0 (kinds_applied work.plan work.script c)
+    (λ i kind applied. let same : i ≡ 0 + i = omega arith in subst (λ (x : ℕ). slice_get (kinds_of work.plan c) x ≡ Some kind) same (applied_is_planned work.plan work.script c i kind applied))))
 
 -- ---- the part of a change in a list
 

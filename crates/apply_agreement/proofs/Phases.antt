@@ -1,7 +1,7 @@
 -- The course of a change: what may happen to it, one event after another.
-use Rattle.std.proofs.Common.{◌≡◌, ◌≢◌, ℕ, ◌<◌, ◌≤◌, ◌==◌, List, [], ◌∷◌, Bool, true, false, cond, filter, Option, Some, None, refl, ap, bytes_eq, eq-eqb, ne_eqb}
+use Rattle.std.proofs.Common.{◌≡◌, ◌≢◌, ℕ, ◌<◌, ◌≤◌, ◌==◌, ◌⊎◌, List, [], ◌∷◌, Bool, true, false, cond, filter, Option, Some, None, refl, ap, bytes_eq, eq-eqb, ne_eqb}
 use Rattle.apply_check.specs.declared.messages.action.Action.{Action}
-use Rattle.apply_check.specs.declared.messages.action.Action.TheVariants.{Create}
+use Rattle.apply_check.specs.declared.messages.action.Action.TheVariants.{Create, Delete}
 use Rattle.apply_check.specs.Words.{same_action}
 use Rattle.apply_events.specs.declared.what.What.{What}
 use Rattle.apply_events.specs.declared.what.What.TheVariants.{Start, Progress, Complete, Errored, ErrorNote, WarnNote, Halted, ProvisionStart, ProvisionOutput, ProvisionComplete, ProvisionErrored}
@@ -13,23 +13,32 @@ pub data Phase : Type 0 where
   under_way : Action → (told : ℕ) → (provisions : Bool) → Phase
   unexplained : Phase
 
--- what happens to a step with that action takes the change from the first phase to the other
-abbrev pub Turns : Phase → Action → What → Phase → Type 0
-Turns between k Start q = q ≡ under_way k 0 false
-Turns between k ErrorNote q = q ≡ between
-Turns between k WarnNote q = q ≡ between
-Turns between k (Halted phase hook) q = q ≡ between
-Turns (under_way l t b) k (Progress s) q = (l ≡ k) × (t < s) × (q ≡ under_way k s b)
-Turns (under_way l t b) k (Complete s) q = (l ≡ k) × (b ≡ false) × (t ≤ s) × (q ≡ between)
-Turns (under_way l t b) k (Errored s) q = (l ≡ k) × (b ≡ false) × (t ≤ s) × (q ≡ unexplained)
-Turns (under_way l t b) k (ProvisionStart i) q = (l ≡ k) × (k ≡ Create) × (b ≡ false) × (q ≡ under_way k t true)
-Turns (under_way l t b) k (ProvisionOutput i line) q = (l ≡ k) × (k ≡ Create) × (b ≡ true) × (q ≡ under_way k t true)
-Turns (under_way l t b) k (ProvisionComplete i) q = (l ≡ k) × (k ≡ Create) × (b ≡ true) × (q ≡ under_way k t false)
-Turns (under_way l t b) k (ProvisionErrored i) q = (l ≡ k) × (k ≡ Create) × (b ≡ true) × (q ≡ under_way k t false)
-Turns unexplained k ErrorNote q = q ≡ between
-Turns unexplained k WarnNote q = q ≡ unexplained
-Turns unexplained k (Halted phase hook) q = q ≡ between
-Turns _ _ _ _ = ⊥
+-- provisioners run within creates and deletes
+abbrev pub HoldsProvisioners : Action → Type 0
+HoldsProvisioners k = (k ≡ Create) ⊎ (k ≡ Delete)
+
+-- a provisioner may run within that action of a change that may have provisioners, if it may
+abbrev pub MayRun : (may : Type 0) → Action → Type 0
+MayRun may k = may × HoldsProvisioners k
+
+-- what happens to a step with that action takes the change, which may have provisioners or not, from the first phase to the
+-- other
+abbrev pub Turns : (may : Type 0) → Phase → Action → What → Phase → Type 0
+Turns may between k Start q = q ≡ under_way k 0 false
+Turns may between k ErrorNote q = q ≡ between
+Turns may between k WarnNote q = q ≡ between
+Turns may between k (Halted phase hook) q = q ≡ between
+Turns may (under_way l t b) k (Progress s) q = (l ≡ k) × (t < s) × (q ≡ under_way k s b)
+Turns may (under_way l t b) k (Complete s) q = (l ≡ k) × (b ≡ false) × (t ≤ s) × (q ≡ between)
+Turns may (under_way l t b) k (Errored s) q = (l ≡ k) × (b ≡ false) × (t ≤ s) × (q ≡ unexplained)
+Turns may (under_way l t b) k (ProvisionStart i) q = (l ≡ k) × MayRun may k × (b ≡ false) × (q ≡ under_way k t true)
+Turns may (under_way l t b) k (ProvisionOutput i line) q = (l ≡ k) × MayRun may k × (b ≡ true) × (q ≡ under_way k t true)
+Turns may (under_way l t b) k (ProvisionComplete i) q = (l ≡ k) × MayRun may k × (b ≡ true) × (q ≡ under_way k t false)
+Turns may (under_way l t b) k (ProvisionErrored i) q = (l ≡ k) × MayRun may k × (b ≡ true) × (q ≡ under_way k t false)
+Turns may unexplained k ErrorNote q = q ≡ between
+Turns may unexplained k WarnNote q = q ≡ unexplained
+Turns may unexplained k (Halted phase hook) q = q ≡ between
+Turns may _ _ _ _ = ⊥
 
 -- what happens to a step of a change
 pub record Deed : Type 0 where
@@ -38,9 +47,9 @@ pub record Deed : Type 0 where
   pub what : What
 
 -- it may happen to a change in the first phase, one after another, and leaves it in the other
-abbrev pub Follows : Phase → List Deed → Phase → Type 0
-Follows p [] r = p ≡ r
-Follows p (d ∷ ds) r = (q : Phase) × Turns p d.action d.what q × Follows q ds r
+abbrev pub Follows : (may : Type 0) → Phase → List Deed → Phase → Type 0
+Follows may p [] r = p ≡ r
+Follows may p (d ∷ ds) r = (q : Phase) × Turns may p d.action d.what q × Follows may q ds r
 
 -- no step of the change is under way
 abbrev pub IsStill : Phase → Type 0
@@ -70,9 +79,9 @@ seconds_in k between = None
 seconds_in k (under_way l told b) = cond (same_action l k) (Some told) None
 seconds_in k unexplained = None
 
--- a provisioner of a create is under way
+-- a provisioner of a create or of a delete is under way
 abbrev pub IsProvisioning : Phase → Type 0
-IsProvisioning p = (t : ℕ) × (p ≡ under_way Create t true)
+IsProvisioning p = (t : ℕ) × (k : Action) × (p ≡ under_way k t true) × HoldsProvisioners k
 
 -- the seconds that the action on the object of the address told last, if change c has it under way
 abbrev pub shown : (addresses : ℕ → List ℕ) → (ℕ → Phase) → (a : List ℕ) → Action → (c : ℕ) → Option ℕ

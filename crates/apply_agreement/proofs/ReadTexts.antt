@@ -1,5 +1,5 @@
 -- What messages say of a plan and a script that were read is UTF-8.
-use Rattle.std.proofs.Common.{ℕ, List, [], ◌∷◌, IsUtf8, slice_get, unwrap_or, Option, Some, None}
+use Rattle.std.proofs.Common.{ℕ, List, [], ◌∷◌, IsUtf8, slice_get, unwrap_or, Option, Some, None, cond, Bool, true, false}
 use Rattle.std.specs.Prelude.{IfSome}
 use Rattle.std.specs.List.{AllByRecursion}
 use Rattle.std.specs.Option.{option_map_or}
@@ -10,7 +10,7 @@ use Rattle.apply_model.specs.declared.script.outcome.Outcome.{Outcome}
 use Rattle.apply_model.specs.declared.script.provisioner.Provisioner.{Provisioner}
 use Rattle.apply_laws.specs.Plans.{HasRelativeAddress}
 use Rattle.apply_plan.specs.Plan.SavedPlan.{SavedPlan}
-use Rattle.apply_plan.specs.Script.Outcome.{default_outcome, diag_of_ending, failure_of, first_diag}
+use Rattle.apply_plan.specs.Script.Outcome.{default_outcome, diag_of_ending, failure_by, failure_of, first_diag}
 use Rattle.apply_plan.specs.Script.OutcomeMap.{OutcomeMap, given_outcome}
 use Rattle.apply_text.specs.Message.{no_diag, told_id, warning_of}
 use Rattle.apply_agreement.specs.Texts.{HasDiagTexts, HasOutcomeTexts, HasTexts}
@@ -29,7 +29,11 @@ why_it_ended (Failed diag) h = h
 
 why_first : (provisioners : List Provisioner) → AllByRecursion HasProvisionerTexts provisioners → MayHaveDiag (first_diag provisioners)
 why_first [] h = tt
-why_first (p ∷ ps) h = first_of_two HasDiagTexts p.failed (first_diag ps) h.0.failed (why_first ps h.1)
+why_first (p ∷ ps) h = first_of_two HasDiagTexts (failure_by p) (first_diag ps) (unless p.may_fail h.0.failed) (why_first ps h.1)
+  where
+    unless : (b : Bool) → MayHaveDiag p.failed → MayHaveDiag (cond b None p.failed)
+    unless true why = tt
+    unless false why = why
 
 id_of : (result : Ending) → HasEndingTexts result → IfSome (told_id result) IsUtf8
 id_of (Done id warning) h = h.0

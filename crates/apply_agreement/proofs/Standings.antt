@@ -1,5 +1,5 @@
 -- What stands open after one message more.
-use Rattle.std.proofs.Common.{◌≡◌, ℕ, ◌+◌, List, ◌∷◌, length, Bool, true, false, cond, Option, Some, None, Result, Ok, Err, refl, ap, ◌∙◌, bytes_eq}
+use Rattle.std.proofs.Common.{◌≡◌, ℕ, ◌+◌, List, ◌∷◌, length, Bool, true, false, cond, Option, Some, None, Result, Ok, Err, refl, ap, ◌∙◌, bytes_eq, subst, ⊎_elim}
 use Rattle.std.specs.Prelude.{◌||◌, ◌&&◌, is_some}
 use Rattle.std.specs.List.{list_any}
 use Rattle.std.specs.Option.{option_map_or}
@@ -23,6 +23,7 @@ use Rattle.apply_check.specs.Standing.{explained, failed_by, may_fail, may_provi
 use Rattle.apply_check.specs.Tally.{begun_totals, is_begin, is_planned, is_summary, is_version, line_of, planned_totals, share_of}
 use Rattle.apply_check.specs.Words.{same_action}
 use Rattle.apply_check.proofs.Pendings.{put_other, put_same}
+use Rattle.apply_agreement.proofs.Phases.{HoldsProvisioners}
 
 pub same_text : (a : List ℕ) → bytes_eq a a ≡ true
 same_text a = (bytes_eq-Decides a a).1 refl
@@ -33,16 +34,28 @@ same_text a = (bytes_eq-Decides a a).1 refl
 abbrev pub step_in : Action → TimedStage → (line : ℕ) → Option Pending → Standing → Standing
 step_in k stage line q s = failed_by k stage line (with_pending k q s)
 
+-- a provisioner may run where a create or a delete stands open
+pub may_hold : (k : Action) (s : Standing) → HoldsProvisioners k → is_some (pending_at k s) ≡ true → may_provision s ≡ true
+may_hold k s holds open_step =
+    ⊎_elim
+    (λ (creates : k ≡ Create). let open_create : is_some s.create ≡ true = subst (λ (m : Action). is_some (pending_at m s) ≡ true) creates open_step in ap (λ (b : Bool). b || is_some s.delete) open_create)
+    (λ (deletes : k ≡ Delete). let open_delete : is_some s.delete ≡ true = subst (λ (m : Action). is_some (pending_at m s) ≡ true) deletes open_step in second (is_some s.create) (is_some s.delete) open_delete)
+    holds
+  where
+    second : (a b : Bool) → b ≡ true → (a || b) ≡ true
+    second true b is = refl
+    second false b is = is
+
 -- it leaves no provisioner behind
-left_none : (o : Option ℕ) (s : Standing) → (is_some o ≡ true → is_some (pending_at Create s) ≡ true) → unless_left o s ≡ Ok s
+left_none : (o : Option ℕ) (s : Standing) → (is_some o ≡ true → may_provision s ≡ true) → unless_left o s ≡ Ok s
 left_none None s within = refl
 left_none (Some begin) s within =
-    ap (λ (b : Bool). cond (b || is_some s.delete) (fine s) (Err (LeavesProvisioner begin))) (within refl)
+    ap (λ (b : Bool). cond b (fine s) (Err (LeavesProvisioner begin))) (within refl)
   where
     fine : Standing → Result Standing Fault
     fine x = Ok x
 
-pub step_is : (k : Action) (stage : TimedStage) (line : ℕ) (q : Option Pending) (s : Standing) → (is_some s.provisioner ≡ true → is_some (pending_at Create (step_in k stage line q s)) ≡ true) → after k stage line (pending_at k s) ≡ Ok q
+pub step_is : (k : Action) (stage : TimedStage) (line : ℕ) (q : Option Pending) (s : Standing) → (is_some s.provisioner ≡ true → may_provision (step_in k stage line q s) ≡ true) → after k stage line (pending_at k s) ≡ Ok q
     → step_on k stage line s ≡ Ok (step_in k stage line q s)
 step_is k stage line q s within e =
     ap (λ (r : Result (Option Pending) Fault). r >>= λ pending. unless_left s.provisioner (failed_by k stage line (with_pending k pending s))) e

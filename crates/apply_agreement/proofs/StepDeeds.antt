@@ -1,5 +1,5 @@
 -- What happens to a step, by its events: its hook messages, and its notes.
-use Rattle.std.proofs.Common.{◌≡◌, ℕ, ◌+◌, ◌≤◌, List, [], ◌∷◌, ◌++◌, map, filter, Bool, true, false, cond, Option, Some, None, refl, sym, ap, ◌∙◌, subst, slice_get, option_map, option_to_list, append-nil, All, ◌⊎◌}
+use Rattle.std.proofs.Common.{◌≡◌, ℕ, ◌+◌, ◌≤◌, List, [], ◌∷◌, ◌++◌, map, filter, Bool, true, false, cond, Option, Some, None, refl, sym, ap, ◌∙◌, subst, slice_get, option_map, option_to_list, append-nil, All, ◌⊎◌, arith}
 use Rattle.std.specs.Prelude.{◌&&◌, is_none, is_some, not}
 use Rattle.std.proofs.lemmas.Bool.{and_parts, not-true}
 use Rattle.std.proofs.lemmas.List.Elements.{All-head, All-tail}
@@ -7,7 +7,6 @@ use Rattle.apply_model.specs.declared.plan.step_kind.StepKind.{StepKind}
 use Rattle.apply_plan.specs.Plan.SavedPlan.{SavedPlan}
 use Rattle.apply_hooks.specs.declared.phase.Phase as asked
 use Rattle.apply_hooks.specs.declared.phase.Phase.TheVariants.{Pre, PostDone}
-use Rattle.apply_check.specs.declared.messages.action.Action.TheVariants.{Create}
 use Rattle.apply_events.specs.declared.event.Event.{Event}
 use Rattle.apply_events.specs.declared.what.What.{What}
 use Rattle.apply_events.specs.declared.what.What.TheVariants.{Start, Halted}
@@ -17,7 +16,7 @@ use Rattle.apply_events.specs.StepEvents as told_in
 use Rattle.apply_events.specs.StepEvents.{end_of, endings, event, goes_on, halts, notes, phase_after, seconds_of, started, step_events, step_time}
 use Rattle.apply_text.specs.Order.{hook_messages_of, notes_of}
 use Rattle.apply_agreement.specs.Told.{action_of}
-use Rattle.apply_agreement.proofs.Phases.{IsStill, Phase, between, under_way, unexplained}
+use Rattle.apply_agreement.proofs.Phases.{IsStill, MayRun, Phase, between, under_way, unexplained}
 use Rattle.apply_agreement.proofs.BetweenSteps.{Passes, along_told, no_note}
 use Rattle.apply_agreement.proofs.Deeds.{Leads, leads_on}
 
@@ -41,12 +40,12 @@ is_nothing (Some x) e = absurd cc
 abbrev pub IsOfKind : SavedPlan → StepKind → Step → Type 0
 IsOfKind plan kind s = slice_get (kinds_of plan s.change) s.number ≡ Some kind
 
--- it runs no provisioners, or is a create
-abbrev pub MayProvision : StepKind → Step → Type 0
-MayProvision kind s = (s.ran ≡ []) ⊎ (action_of kind ≡ Create)
+-- it runs no provisioners, or it may
+abbrev pub MayProvision : (may : Type 0) → StepKind → Step → Type 0
+MayProvision may kind s = (s.ran ≡ []) ⊎ MayRun may (action_of kind)
 
-module _ (plan : SavedPlan) (kind : StepKind) (w : ℕ) (s : Step) (is : IsOfKind plan kind s) (may_provision : MayProvision kind s) where
-  halted : (phase : asked.Phase) (at : ℕ) (found : Option ℕ) → Leads plan between (option_to_list (option_map (λ hook. event w s at (Halted phase hook)) found)) between
+module _ (may : Type 0) (plan : SavedPlan) (kind : StepKind) (w : ℕ) (s : Step) (is : IsOfKind plan kind s) (may_provision : MayProvision may kind s) where
+  halted : (phase : asked.Phase) (at : ℕ) (found : Option ℕ) → Leads may plan between (option_to_list (option_map (λ hook. event w s at (Halted phase hook)) found)) between
   halted phase at None = refl
   halted phase at (Some hook) = (between, (kind, is, refl), refl)
 
@@ -54,7 +53,7 @@ module _ (plan : SavedPlan) (kind : StepKind) (w : ℕ) (s : Step) (is : IsOfKin
   events_of : (at : ℕ) → List (ℕ × What) → List Event
   events_of at xs = map (λ (x : ℕ × What). event w s (at + x.0) x.1) xs
 
-  leads_passed : (at : ℕ) (p : Phase) (xs : List (ℕ × What)) (r : Phase) → Passes (action_of kind) p xs r → Leads plan p (events_of at xs) r
+  leads_passed : (at : ℕ) (p : Phase) (xs : List (ℕ × What)) (r : Phase) → Passes may (action_of kind) p xs r → Leads may plan p (events_of at xs) r
   unfolding events_of
   leads_passed at p [] r h = h
   leads_passed at p (x ∷ xs) r h = (h.0, (kind, is, h.1), leads_passed at h.0 xs r h.2)
@@ -67,7 +66,7 @@ module _ (plan : SavedPlan) (kind : StepKind) (w : ℕ) (s : Step) (is : IsOfKin
   phase_then false true = unexplained
   phase_then false false = between
 
-  end_leads : (fails : Bool) (at last end : ℕ) → last ≤ end → Leads plan (under_way (action_of kind) last false) (event w s at (end_of fails end) ∷ []) (phase_then false fails)
+  end_leads : (fails : Bool) (at last end : ℕ) → last ≤ end → Leads may plan (under_way (action_of kind) last false) (event w s at (end_of fails end) ∷ []) (phase_then false fails)
   end_leads true at last end fits = (unexplained, (kind, is, (refl, refl, fits, refl)), refl)
   end_leads false at last end fits = (between, (kind, is, (refl, refl, fits, refl)), refl)
 
@@ -118,52 +117,52 @@ module _ (plan : SavedPlan) (kind : StepKind) (w : ℕ) (s : Step) (is : IsOfKin
             ∙ ap (λ (x : List Event). map (λ what. event w s (at + seconds_of s) what) (notes s.fails s.warns) ++ x) h.1,
       )
 
-  hooks_ran : (at : ℕ) → Leads plan between (hooks_told at) (phase_then false s.fails)
+  hooks_ran : (at : ℕ) → Leads may plan between (hooks_told at) (phase_then false s.fails)
   unfolding hooks_told
   hooks_ran at =
-      let told = along_told (action_of kind) (seconds_of s) s.provider_seconds s.ran may_provision in
+      let told = along_told may (action_of kind) (seconds_of s) s.seconds_before s.ran may_provision (omega arith) in
       let start = event w s at Start ∷ [] in
       let middle = events_of at (told_in.between s) in
-      leads_on plan between (under_way (action_of kind) told.0 false) (phase_then false s.fails) (start ++ middle) (event w s (at + seconds_of s) (end_of s.fails (seconds_of s)) ∷ [])
-      (leads_on plan between (under_way (action_of kind) 0 false) (under_way (action_of kind) told.0 false) start middle (under_way (action_of kind) 0 false, (kind, is, refl), refl)
+      leads_on may plan between (under_way (action_of kind) told.0 false) (phase_then false s.fails) (start ++ middle) (event w s (at + seconds_of s) (end_of s.fails (seconds_of s)) ∷ [])
+      (leads_on may plan between (under_way (action_of kind) 0 false) (under_way (action_of kind) told.0 false) start middle (under_way (action_of kind) 0 false, (kind, is, refl), refl)
       (leads_passed at (under_way (action_of kind) 0 false) (told_in.between s) (under_way (action_of kind) told.0 false) told.2))
       (end_leads s.fails (at + seconds_of s) told.0 (seconds_of s) told.1)
 
   -- the notes of a step end the change's course
-  noted : (fails warns : Bool) (at : ℕ) → Leads plan (phase_then false fails) (map (λ what. event w s at what) (notes fails warns)) between
+  noted : (fails warns : Bool) (at : ℕ) → Leads may plan (phase_then false fails) (map (λ what. event w s at what) (notes fails warns)) between
   noted true warns at = (between, (kind, is, refl), refl)
   noted false true at = (between, (kind, is, refl), refl)
   noted false false at = refl
 
   -- those of a step behind which the change goes on leave it where it is
-  warned : (warns : Bool) (at : ℕ) (p : Phase) → IsStill p → Leads plan p (map (λ what. event w s at what) (notes false warns)) p
-  warned false at p may = refl
-  warned true at between may = (between, (kind, is, refl), refl)
-  warned true at unexplained may = (unexplained, (kind, is, refl), refl)
-  warned true at (under_way k t b) may = absurd may
+  warned : (warns : Bool) (at : ℕ) (p : Phase) → IsStill p → Leads may plan p (map (λ what. event w s at what) (notes false warns)) p
+  warned false at p still = refl
+  warned true at between still = (between, (kind, is, refl), refl)
+  warned true at unexplained still = (unexplained, (kind, is, refl), refl)
+  warned true at (under_way k t b) still = absurd still
 
-  pub step_hooks : (at : ℕ) → Leads plan between (hook_messages_of (step_events w s at)) (phase_then (is_some (s.halts Pre)) s.fails)
+  pub step_hooks : (at : ℕ) → Leads may plan between (hook_messages_of (step_events w s at)) (phase_then (is_some (s.halts Pre)) s.fails)
   step_hooks at = either (s.halts Pre)
     where
-      either : (found : Option ℕ) → Leads plan between (hook_messages_of (cond (is_some found) (option_to_list (option_map (λ hook. event w s at (Halted Pre hook)) found)) (started w s at))) (phase_then (is_some found) s.fails)
-      either None = subst (λ (es : List Event). Leads plan between es (phase_then false s.fails)) (sym (started_split at).0) (hooks_ran at)
+      either : (found : Option ℕ) → Leads may plan between (hook_messages_of (cond (is_some found) (option_to_list (option_map (λ hook. event w s at (Halted Pre hook)) found)) (started w s at))) (phase_then (is_some found) s.fails)
+      either None = subst (λ (es : List Event). Leads may plan between es (phase_then false s.fails)) (sym (started_split at).0) (hooks_ran at)
       either (Some hook) = refl
 
-  pub step_notes : (at : ℕ) → Leads plan (phase_then (is_some (s.halts Pre)) s.fails) (notes_of (step_events w s at)) between
+  pub step_notes : (at : ℕ) → Leads may plan (phase_then (is_some (s.halts Pre)) s.fails) (notes_of (step_events w s at)) between
   unfolding notes_told
   step_notes at = either (s.halts Pre)
     where
-      either : (found : Option ℕ) → Leads plan (phase_then (is_some found) s.fails) (notes_of (cond (is_some found) (option_to_list (option_map (λ hook. event w s at (Halted Pre hook)) found)) (started w s at))) between
+      either : (found : Option ℕ) → Leads may plan (phase_then (is_some found) s.fails) (notes_of (cond (is_some found) (option_to_list (option_map (λ hook. event w s at (Halted Pre hook)) found)) (started w s at))) between
       either None =
-          subst (λ (es : List Event). Leads plan (phase_then false s.fails) es between) (sym (started_split at).1)
-          (leads_on plan (phase_then false s.fails) between between (map (λ what. event w s (at + seconds_of s) what) (notes s.fails s.warns)) (halts w s (phase_after s.fails) (at + seconds_of s))
+          subst (λ (es : List Event). Leads may plan (phase_then false s.fails) es between) (sym (started_split at).1)
+          (leads_on may plan (phase_then false s.fails) between between (map (λ what. event w s (at + seconds_of s) what) (notes s.fails s.warns)) (halts w s (phase_after s.fails) (at + seconds_of s))
           (noted s.fails s.warns (at + seconds_of s)) (halted (phase_after s.fails) (at + seconds_of s) (s.halts (phase_after s.fails))))
       either (Some hook) = halted Pre at (Some hook)
 
   -- a step behind which the change goes on
-  pub step_warns : goes_on s ≡ true → (at : ℕ) (p : Phase) → IsStill p → Leads plan p (notes_of (step_events w s at)) p
+  pub step_warns : goes_on s ≡ true → (at : ℕ) (p : Phase) → IsStill p → Leads may plan p (notes_of (step_events w s at)) p
   unfolding notes_told
-  step_warns on at p may =
+  step_warns on at p still =
       let all = and_parts (is_none (s.halts Pre) && not s.fails) (is_none (s.halts PostDone)) on in
       let both = and_parts (is_none (s.halts Pre)) (not s.fails) all.0 in
       let pre : is_some (s.halts Pre) ≡ false = ap is_some (is_nothing (s.halts Pre) both.0) in
@@ -175,7 +174,7 @@ module _ (plan : SavedPlan) (kind : StepKind) (w : ℕ) (s : Step) (is : IsOfKin
       ∙ ap (λ (f : Bool). map (λ what. event w s (at + seconds_of s) what) (notes f s.warns) ++ halts w s (phase_after f) (at + seconds_of s)) fine
       ∙ ap (λ (o : Option ℕ). map (λ what. event w s (at + seconds_of s) what) (notes false s.warns) ++ option_to_list (option_map (λ hook. event w s (at + seconds_of s) (Halted PostDone hook)) o)) post
       ∙ append-nil (map (λ what. event w s (at + seconds_of s) what) (notes false s.warns)) in
-      subst (λ (es : List Event). Leads plan p es p) (sym told) (warned s.warns (at + seconds_of s) p may)
+      subst (λ (es : List Event). Leads may plan p es p) (sym told) (warned s.warns (at + seconds_of s) p still)
 
   pub goes_between : goes_on s ≡ true → phase_then (is_some (s.halts Pre)) s.fails ≡ between
   goes_between on =

@@ -35,7 +35,7 @@ use Rattle.apply_agreement.specs.WholeSteps.{IsOfWholeSteps, events_of_change}
 use Rattle.apply_agreement.proofs.ChangeDeeds.{change_written}
 use Rattle.apply_agreement.proofs.Deeds.{all_deeds, all_told_both, follows, of_change_is, told_is}
 use Rattle.apply_agreement.proofs.Errors.{IsPlanned, errors_told}
-use Rattle.apply_agreement.proofs.Ordinary.{Anywhere, Does, apart, found, known}
+use Rattle.apply_agreement.proofs.Ordinary.{Anywhere, Does, Provides, apart, found, known, only}
 use Rattle.apply_agreement.proofs.Parts.{Each, each_of_all, each_weaker, each_written, part_of_kept}
 use Rattle.apply_agreement.proofs.Phases.{Deed, Follows, between, of_change}
 use Rattle.apply_agreement.proofs.Turning.{Runs, behind, both_run, said}
@@ -175,29 +175,29 @@ whole_steps_accepted plans work events ordinary provisioned steps =
     let addresses = address_of plan in
     let hooks = all_deeds plan (hook_messages_of events) in
     let notes = all_deeds plan (notes_of events) in
-    let ran : Runs limit addresses Anywhere (Does plan) (version ∷ []) (map (said addresses) hooks ++ map (said addresses) notes) =
-    both_run limit addresses Anywhere (Does plan) ordinary.few (apart plan ordinary) hooks notes (λ c. between) (version ∷ []) (at_begin limit addresses (Does plan))
+    let ran : Runs limit addresses Anywhere (Does plan) (Provides plan) (version ∷ []) (map (said addresses) hooks ++ map (said addresses) notes) =
+    both_run limit addresses Anywhere (Does plan) (Provides plan) ordinary.few (apart plan ordinary) (only plan ordinary) hooks notes (λ c. between) (version ∷ []) (at_begin limit addresses (Does plan) (Provides plan))
     (known plan (hook_messages_of events)) (known plan (notes_of events))
     (λ c less.
     let part = events_of_change c events in
-    let written = change_written work provisioned c part (steps.whole c less) in
+    let written = change_written work ordinary provisioned c part (steps.whole c less) in
     let first : of_change c hooks ≡ all_deeds plan (hook_messages_of part) =
     of_change_is plan c (hook_messages_of events) ∙ ap (all_deeds plan) (part_of_kept c (λ e. not (is_note e.what)) events) in
     let second : of_change c notes ≡ all_deeds plan (notes_of part) =
     of_change_is plan c (notes_of events) ∙ ap (all_deeds plan) (part_of_kept c (λ e. is_note e.what) events) in (
       written.phase,
-      subst (λ (ds : List Deed). Follows between ds written.phase) (sym first) (follows plan between (hook_messages_of part) written.phase written.hooks),
-      subst (λ (ds : List Deed). Follows written.phase ds between) (sym second) (follows plan written.phase (notes_of part) between written.notes),
+      subst (λ (ds : List Deed). Follows (Provides plan c) between ds written.phase) (sym first) (follows (Provides plan c) plan between (hook_messages_of part) written.phase written.hooks),
+      subst (λ (ds : List Deed). Follows (Provides plan c) written.phase ds between) (sym second) (follows (Provides plan c) plan written.phase (notes_of part) between written.notes),
     )) in
     let same : map (said addresses) hooks ++ map (said addresses) notes ≡ all_told plan (as_written events) =
     ap (λ (l : List Message). l ++ map (said addresses) notes) (sym (told_is plan (hook_messages_of events)))
     ∙ ap (λ (l : List Message). all_told plan (hook_messages_of events) ++ l) (sym (told_is plan (notes_of events)))
     ∙ sym (all_told_both plan (hook_messages_of events) (notes_of events)) in
-    let ran_so : Runs limit addresses Anywhere (Does plan) (version ∷ []) (all_told plan (as_written events)) = subst (Runs limit addresses Anywhere (Does plan) (version ∷ [])) same ran in
+    let ran_so : Runs limit addresses Anywhere (Does plan) (Provides plan) (version ∷ []) (all_told plan (as_written events)) = subst (Runs limit addresses Anywhere (Does plan) (Provides plan) (version ∷ [])) same ran in
     let planned = are_planned plan events steps.planned in
     let lines = all_lines plan (as_written events) (each_written (IsPlanned plan) events planned) in
     let errors = errors_told work limit events (each_written (IsPlanned plan) events planned) (each_weaker (IsPlanned plan) (λ e. e.change < limit) (is_within plan) events planned) steps.whole in
-    accepted plans limit addresses (Does plan) (all_told plan (as_written events)) (totals_said (events_are.totals_of plan events)) ran_so (totals_written plan events)
+    accepted plans limit addresses (Does plan) (Provides plan) (all_told plan (as_written events)) (totals_said (events_are.totals_of plan events)) ran_so (totals_written plan events)
     ∙ ap (λ (w : Whole). fine w) (whole_is plans plan events lines errors)
   where
     fine : Whole → Result Whole Fault

@@ -1,6 +1,6 @@
--- The strings among the tokens of a text of UTF-8 are UTF-8.
+-- The strings, the keys and the numbers among the tokens of a text of UTF-8 are UTF-8.
 use Rattle.std.proofs.Common.{◌≡◌, ℕ, ◌-◌, ◌==◌, List, [], ◌∷◌, ◌++◌, IsUtf8, append_assoc, cond, drop, length, nat_eq, take, Bool, true, false, Option, Some, None, refl, sym, subst, arith}
-use Rattle.std.specs.Prelude.{◌&&◌, ⊤}
+use Rattle.std.specs.Prelude.{◌&&◌, IfSome, ⊤}
 use Rattle.std.specs.List.{AllByRecursion, starts_with}
 use Rattle.std.proofs.lemmas.Bool.{eqb-true}
 use Rattle.json.specs.Text.{content, plain}
@@ -10,15 +10,16 @@ use Rattle.json.specs.Word.{after_number, ends_word, head, is_operator, is_space
 use Rattle.json.specs.Lex.{Class, quote, backslash, operator, space, other, class, Lexeme, token, comma, colon, Mode, between, in_word, in_string, in_escape, Place, fresh, after_value, after_comma, after_key, begins_colon, if_allowed, lex, lex_byte, may_begin, may_close, operator_lexeme, place_token, punctuate, string_token, tokens}
 use Rattle.apply_agreement.proofs.Content.{content_utf8}
 use Rattle.apply_agreement.proofs.Cuts.{behind}
+use Rattle.apply_agreement.proofs.NumberTexts.{IsRest, before_rest, number_rest}
 
 abbrev pub IsSpelt : Token → Type 0
 IsSpelt begin_object = ⊤
 IsSpelt end_object = ⊤
 IsSpelt begin_array = ⊤
 IsSpelt end_array = ⊤
-IsSpelt (key s) = ⊤
+IsSpelt (key s) = IsUtf8 s
 IsSpelt (string s) = IsUtf8 s
-IsSpelt (number s) = ⊤
+IsSpelt (number s) = IsUtf8 s
 IsSpelt (boolean b) = ⊤
 IsSpelt null = ⊤
 IsSpelt bad = ⊤
@@ -40,9 +41,9 @@ either : (b : Bool) (t u : Token) → IsSpelt t → IsSpelt u → IsSpelt (cond 
 either true t u first second = first
 either false t u first second = second
 
-number_spelt : (t : List ℕ) (o : Option (List ℕ)) → IsSpelt (number_before t o)
-number_spelt t None = tt
-number_spelt t (Some rest) = either (ends_word rest) (number (take (length t - length rest) t)) bad tt tt
+number_spelt : (t : List ℕ) (o : Option (List ℕ)) → IfSome o (IsRest t) → IsSpelt (number_before t o)
+number_spelt t None left = tt
+number_spelt t (Some rest) left = either (ends_word rest) (number (take (length t - length rest) t)) bad (before_rest t rest left) tt
 
 literal_spelt : (name : List ℕ) (found : Token) (t : List ℕ) → IsSpelt found → IsSpelt (literal name found t)
 literal_spelt name found t h = either (starts_with nat_eq t name && ends_word (drop (length name) t)) found bad h tt
@@ -52,7 +53,7 @@ unfolding word
 word_spelt t =
     either (head t == ascii.lower_t) (literal ascii.true_text (boolean true) t) _ (literal_spelt ascii.true_text (boolean true) t tt)
     (either (head t == ascii.lower_f) (literal ascii.false_text (boolean false) t) _ (literal_spelt ascii.false_text (boolean false) t tt)
-    (either (head t == ascii.lower_n) (literal ascii.null_text null t) _ (literal_spelt ascii.null_text null t tt) (number_spelt t (after_number t))))
+    (either (head t == ascii.lower_n) (literal ascii.null_text null t) _ (literal_spelt ascii.null_text null t tt) (number_spelt t (after_number t) (number_rest t))))
 
 operator_read : (x : ℕ) → IsRead (operator_lexeme x)
 operator_read x = of_tests (x == ascii.open_brace) (x == ascii.close_brace) (x == ascii.open_bracket) (x == ascii.close_bracket) (x == ascii.comma)
@@ -119,9 +120,9 @@ placed p end_object b k one rest = allowed (may_close p) end_object k after_valu
 placed p begin_array b k one rest = allowed (may_begin p) begin_array k fresh tt (rest fresh)
 placed p end_array b k one rest = allowed (may_close p) end_array k after_value tt (rest after_value)
 placed p (key s) b k one rest = (tt, tt)
-placed p (string s) true k one rest = allowed (may_begin p) (key s) k after_key tt (rest after_key)
+placed p (string s) true k one rest = allowed (may_begin p) (key s) k after_key one (rest after_key)
 placed p (string s) false k one rest = allowed (may_begin p) (string s) k after_value one (rest after_value)
-placed p (number s) b k one rest = allowed (may_begin p) (number s) k after_value tt (rest after_value)
+placed p (number s) b k one rest = allowed (may_begin p) (number s) k after_value one (rest after_value)
 placed p (boolean x) b k one rest = allowed (may_begin p) (boolean x) k after_value tt (rest after_value)
 placed p null b k one rest = allowed (may_begin p) null k after_value tt (rest after_value)
 placed p bad b k one rest = (tt, tt)

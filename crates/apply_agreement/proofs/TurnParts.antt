@@ -10,9 +10,10 @@ use Rattle.apply_model.specs.declared.plan.step_kind.StepKind.{StepKind}
 use Rattle.apply_model.specs.declared.script.wait.Wait.{Wait}
 use Rattle.apply_model.specs.Script.Waits.{waits_of}
 use Rattle.apply_events.specs.declared.event.Event.{Event}
-use Rattle.apply_events.specs.Fits.{HasStep}
-use Rattle.apply_events.specs.Step.{Step, Work, kinds_of, step_of, steps_of}
+use Rattle.apply_events.specs.Fits.{HasStep, IsApplied}
+use Rattle.apply_events.specs.Step.{Step, Work, kinds_applied, kinds_of, step_of, steps_of}
 use Rattle.apply_events.specs.StepEvents.{goes_on, step_events}
+use Rattle.apply_events.proofs.AppliedSteps.{few_applied}
 use Rattle.apply_wait_laws.specs.Laws.{AreWhole, BeginWhereAllIsDone, HasFewSteps, StandBehindWhatTheyWaitFor, events_of, goes_on_if_begun, has_events, is_done_along, is_of_step}
 use Rattle.apply_agreement.specs.WholeSteps.{AreOfSteps, IsOfWholeSteps, events_of_change}
 
@@ -87,15 +88,17 @@ two_parts c (e ∷ es) few order =
 -- ---- the steps of a change
 
 module _ (work : Work) (events : List Event) (whole : AreWhole work events) (begins : BeginWhereAllIsDone work events) where
-  kinds_and_steps : (c : ℕ) → length (steps_of work c) ≡ length (kinds_of work.plan c)
-  kinds_and_steps c = mapped_length (λ (p : ℕ × StepKind). step_of work c p.0 p.1) (enumerate_from 0 (kinds_of work.plan c)) ∙ numbered_length 0 (kinds_of work.plan c)
+  kinds_and_steps : (c : ℕ) → length (steps_of work c) ≡ length (kinds_applied work.plan work.script c)
+  kinds_and_steps c = mapped_length (λ (p : ℕ × StepKind). step_of work c p.0 p.1) (enumerate_from 0 (kinds_applied work.plan work.script c)) ∙ numbered_length 0 (kinds_applied work.plan work.script c)
 
   -- the plan has a step that has an event
   step_there : (name : Wait) → has_events events name ≡ true → HasStep work.plan name.change name.step
   step_there name there =
       let one = whole name there in
       let within : name.step < length (steps_of work name.change) = slice_get_within (steps_of work name.change) name.step one.step one.is_step in
-      let same = kinds_and_steps name.change in omega arith
+      let same = kinds_and_steps name.change in
+      let applied = few_applied work.plan work.script name.change in
+      omega arith
 
   planned_in : (es : List Event) → ((name : Wait) → has_events es name ≡ true → has_events events name ≡ true) → All (λ e. HasStep work.plan e.change e.step) es
   planned_in [] within = All-nil (λ e. HasStep work.plan e.change e.step)
@@ -131,7 +134,7 @@ module _ (work : Work) (events : List Event) (whole : AreWhole work events) (beg
         either true there = let one = whole (named c k) there in let found = one.is_step in absurd cc
 
     -- the second step has events only where the first is done
-    second_waits : HasStep work.plan c 1 → is_done_along work events (named c 0) ≡ false → part 1 ≡ []
+    second_waits : IsApplied work.plan work.script c 1 → is_done_along work events (named c 0) ≡ false → part 1 ≡ []
     second_waits has undone = without 1 (begins c 1 has ∙ ap (λ (b : Bool). b && list_all (is_done_along work events) (others (waits_of work.script c 1))) undone)
       where
         others : List Wait → List Wait
@@ -150,7 +153,7 @@ module _ (work : Work) (events : List Event) (whole : AreWhole work events) (beg
     of_steps (s ∷ t ∷ []) is few =
         let same = kinds_and_steps c in
         let two : length (steps_of work c) ≡ 2 = ap length is in
-        let has : HasStep work.plan c 1 = omega arith in
+        let has : IsApplied work.plan work.script c 1 = omega arith in
         let first_goes : goes_on_if_begun work (named c 0) ≡ goes_on s = ap (λ (l : List Step). option_map_or goes_on (slice_get l 0) false) is in
         ⊎_elim
         (λ (absent : has_events events (named c 0) ≡ false).
@@ -176,7 +179,7 @@ module _ (work : Work) (events : List Event) (whole : AreWhole work events) (beg
             (λ (absent : has_events events (named c 1) ≡ false). inl (without 1 absent))
             (λ (some : (w : ℕ) × (at : ℕ) × (part 1 ≡ step_events w t at)). inr (some.0, some.1, [], some.2 ∙ sym (append-nil (step_events some.0 t some.1)), (λ on. refl), (λ off. refl)))
             (one_step 1 t is)
-    of_steps (s ∷ t ∷ u ∷ steps) is few = absurd (let same = kinds_and_steps c in let many : length (steps_of work c) ≡ suc (suc (suc (length steps))) = ap length is in omega arith)
+    of_steps (s ∷ t ∷ u ∷ steps) is few = absurd (let same = kinds_and_steps c in let applied = few_applied work.plan work.script c in let many : length (steps_of work c) ≡ suc (suc (suc (length steps))) = ap length is in omega arith)
 
 -- ---- all of it
 

@@ -36,14 +36,15 @@ none_shown limit addresses phases a k rest =
     absurd (let e : between ≡ under_way k found.1 seen.1 = sym (rest found.0 (let less : found.0 < 0 + limit = found.2 in omega arith)) ∙ seen.2 in cc))
     (none_or_some (shown addresses phases a k) 0 limit)
 
-pub at_begin : (limit : ℕ) (addresses : ℕ → List ℕ) (Does : ℕ → Action → Type 0) → Agrees limit addresses Anywhere Does (λ c. between) (version ∷ [])
+pub at_begin : (limit : ℕ) (addresses : ℕ → List ℕ) (Does : ℕ → Action → Type 0) (Provides : ℕ → Type 0) → Agrees limit addresses Anywhere Does Provides (λ c. between) (version ∷ [])
 unfolding standing_of
-at_begin limit addresses Does = record {
+at_begin limit addresses Does Provides = record {
   open_steps = λ a k _. idle_at a k (none_shown limit addresses (λ c. between) a k (λ c less. refl));
   provisioners = λ a _ some. absurd cc;
-  provisioning = λ c less _ is. absurd (let e : between ≡ under_way Create is.0 true = is.1 in cc);
+  provisioning = λ c less _ is. absurd (let e : between ≡ under_way is.1 is.0 true = is.2 in cc);
   failures = λ a _ some. absurd cc;
   does = λ c t k b e. absurd cc;
+  provides = λ c is. absurd (let e : between ≡ under_way is.1 is.0 true = is.2 in cc);
   amid = (refl, refl, refl);
 }
   where
@@ -66,9 +67,9 @@ nothing : {X : Type 0} (o : Option X) → (is_some o ≡ true → ⊥) → o ≡
 nothing None h = refl
 nothing (Some x) h = absurd (h refl)
 
-closed_at_end : (limit : ℕ) (addresses : ℕ → List ℕ) (Does : ℕ → Action → Type 0) (phases : ℕ → Phase) (ms : List Message) → Agrees limit addresses Anywhere Does phases ms → ((c : ℕ) → c < limit → phases c ≡ between)
+closed_at_end : (limit : ℕ) (addresses : ℕ → List ℕ) (Does : ℕ → Action → Type 0) (Provides : ℕ → Type 0) (phases : ℕ → Phase) (ms : List Message) → Agrees limit addresses Anywhere Does Provides phases ms → ((c : ℕ) → c < limit → phases c ≡ between)
     → (r f : Bool) (a : List ℕ) → stands_open r f (standing_of a ms) ≡ false
-closed_at_end limit addresses Does phases ms agrees rest r f a =
+closed_at_end limit addresses Does Provides phases ms agrees rest r f a =
     let none = λ (k : Action). nothing_fits limit k (shown addresses phases a k) (pending_at k (standing_of a ms)) (agrees.open_steps a k tt) (none_shown limit addresses phases a k rest) in
     closed_from r f (standing_of a ms) (none Create) (none Update) (none Delete) (none Refresh)
     (nothing (standing_of a ms).failures (λ some. let found = agrees.failures a tt some in let e : between ≡ unexplained = sym (rest found.0 found.1) ∙ found.3 in absurd cc))
@@ -99,12 +100,12 @@ whole_end plans t ms closed = rw (closed, no_plan plans (is_some (line_of is_pla
 
 -- ---- all messages
 
-pub accepted : (plans : Bool) (limit : ℕ) (addresses : ℕ → List ℕ) (Does : ℕ → Action → Type 0) (ms : List Message) (t : Totals) → Runs limit addresses Anywhere Does (version ∷ []) ms → t ≡ completed_totals (behind (version ∷ []) ms)
+pub accepted : (plans : Bool) (limit : ℕ) (addresses : ℕ → List ℕ) (Does : ℕ → Action → Type 0) (Provides : ℕ → Type 0) (ms : List Message) (t : Totals) → Runs limit addresses Anywhere Does Provides (version ∷ []) ms → t ≡ completed_totals (behind (version ∷ []) ms)
     → verdict_on (plain plans) (version ∷ (ms ++ summary t ∷ [])) ≡ Ok (whole_of (plain plans) (summary t ∷ behind (version ∷ []) ms))
-accepted plans limit addresses Does ms t runs totals =
+accepted plans limit addresses Does Provides ms t runs totals =
     let later = behind (version ∷ []) ms in
     let agrees = runs.1.1 in
-    let closed = closed_at_end limit addresses Does runs.1.0 later agrees runs.1.2 in
+    let closed = closed_at_end limit addresses Does Provides runs.1.0 later agrees runs.1.2 in
     let last : next later (summary t) ≡ Ok (summary t ∷ later) = next_summary t later agrees.amid (not_any_open later (closed _ _)) totals in
     let all = summary t ∷ later in
     let none : any_open all ≡ false = not_any_open all (λ a. ap (stands_open _ _) (still_closed t later a) ∙ closed _ _ a) in

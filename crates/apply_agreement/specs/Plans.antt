@@ -1,13 +1,13 @@
 -- Plans as Terraform makes them, and scripts as they are read for them: a deposed object may stand beside the current
--- one of its address, and is only deleted, and only creates have provisioners.
-use Rattle.std.specs.Prelude.{◌≡◌, ◌≢◌, ◌≤◌, ℕ, All, [], Some, is_some, slice_get, true, length}
+-- one of its address, and is only deleted, and only steps have provisioners that take them.
+use Rattle.std.specs.Prelude.{◌≡◌, ◌≤◌, ℕ, All, [], Some, is_some, slice_get, false, true, length}
 use Rattle.apply_model.specs.declared.plan.step_kind.StepKind.{StepKind}
-use Rattle.apply_model.specs.declared.plan.step_kind.StepKind.TheVariants.{Create, Delete}
+use Rattle.apply_model.specs.declared.plan.step_kind.StepKind.TheVariants.{Delete}
 use Rattle.apply_laws.specs.Plans.{NamesEachObjectOnce}
 use Rattle.apply_plan.specs.Plan.ResourceChange.{ResourceChange}
 use Rattle.apply_plan.specs.Plan.SavedPlan.{SavedPlan, max_changes}
 use Rattle.apply_plan.specs.Script.OutcomeMap.{OutcomeMap, outcome_of}
-use Rattle.apply_events.specs.Step.{kinds_of}
+use Rattle.apply_plan.specs.Script.Refusals.{takes_provisioners}
 
 -- the plan has the change at that number
 abbrev pub IsChange : SavedPlan → ℕ → ResourceChange → Type 0
@@ -25,8 +25,9 @@ pub record IsOrdinary (plan : SavedPlan) : Type 0 where
   pub once : NamesEachObjectOnce plan.changes
   pub deleted : DeletesDeposed plan
 
--- a step that is no create has no provisioner
+-- a step that takes no provisioners has none: a create takes them, and a delete that is the first step of a change of an object
+-- that is not deposed
 abbrev pub ProvisionsCreates : SavedPlan → OutcomeMap → Type 0
 ProvisionsCreates plan script =
-    (c k : ℕ) (kind : StepKind) → slice_get (kinds_of plan c) k ≡ Some kind → kind ≢ Create
-    → (outcome_of script c k).provisioners ≡ []
+    (c k : ℕ) (change : ResourceChange) (kind : StepKind) → IsChange plan c change → slice_get change.steps k ≡ Some kind
+    → takes_provisioners (is_some change.deposed) (k, kind) ≡ false → (outcome_of script c k).provisioners ≡ []
