@@ -83,3 +83,7 @@ pub flat_map_next : {X : Type 0} (f : X → List Finding) (xs : List X) (i : ℕ
 flat_map_next f xs i x below read =
     flat_map_more f [] (take i xs) x
     ∙ ap (λ ys. flat_map f ys) (ap (λ y. take i xs ++ y ∷ []) read ∙ sym (take_more xs i x below))
+
+pub refuses_is : (t : Told) (xs : List Finding) → t ≡ told xs → t.refuses ≡ list_any is_refusal xs
+unfolding told
+refuses_is t xs is = ap (λ (s : Told). s.refuses) is

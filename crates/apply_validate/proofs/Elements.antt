@@ -250,15 +250,16 @@ clean_itself d =
     let wrong : List Finding = faults_of element_table d in
     let change : List Finding = inside in_change name.Change d in
     let address : List Finding = marked (address_marks d) in
-    let e1 : clean wrong ≡ (is_some a && (is_some m && (is_some o && (is_some k && (is_some n && (is_some x && (is_some p && (is_met want.Object ch && true)))))))) =
+    let members_met : Bool = is_some a && (is_some m && (is_some o && (is_some k && (is_some n && (is_some x && (is_some p && (is_met want.Object ch && true))))))) in
+    let e1 : clean wrong ≡ members_met =
     clean-faults_of element_table d
     ∙ members (is_met want.Object ch) (met_text (member_of (codes "address") d)) (met_text_or (member_of (codes "module_address") d)) (met_mode (member_of (codes "mode") d))
     (met_non_empty (member_of (codes "type") d)) (met_non_empty (member_of (codes "name") d)) (met_key (member_of (codes "index") d)) (met_text_or (member_of (codes "deposed") d)) in
     let e2 : clean change ≡ is_absent_or is_change ch = clean-inside in_change is_change clean_change name.Change d in
     let e3 : clean address ≡ not (is_misplaced a m) = clean_address d in
     clean-append (wrong ++ change) address
-    ∙ ap (λ (b : Bool). b && clean address) (clean-append wrong change ∙ ap (λ (b : Bool). b && clean change) e1 ∙ ap (λ (b : Bool). _ && b) e2)
-    ∙ ap (λ (b : Bool). _ && b) e3
+    ∙ ap (λ (b : Bool). b && clean address) (clean-append wrong change ∙ ap (λ (b : Bool). b && clean change) e1 ∙ ap (λ (b : Bool). members_met && b) e2)
+    ∙ ap (λ (b : Bool). (members_met && is_absent_or is_change ch) && b) e3
     ∙ shuffle (is_some a) (is_some m) (is_some o) (is_some k) (is_some n) (is_some x) (is_some p) (is_met want.Object ch) (is_absent_or is_change ch) (not (is_misplaced a m))
     ∙ ap (λ (b : Bool). is_some a && (is_some o && (is_some k && (is_some n && (is_some m && (is_some x && (is_some p && (b && not (is_misplaced a m)))))))))
     (change_there d ch refl)

@@ -5,6 +5,7 @@ use Rattle.std.specs.Prelude.{String, string_bytes}
 use Rattle.std.specs.declared.alloc.Global.{Global}
 use Rattle.std.proofs.lemmas.List.Sums.{sum_by-cons}
 use Rattle.std.proofs.lemmas.List.{append-nil, length-append, length-map, length-take-le, map-append, take_more}
+use denote.Ref.{Bor}
 use Rattle.serde_json.specs.Data.{Data, null, boolean, number, string, array, object, Members, no_members}
 use Rattle.serde_json.specs.Find.{as_object}
 use Rattle.serde_json.specs.View.{items_of, items_view, members_view, view}
@@ -16,7 +17,7 @@ use Rattle.apply_validate.specs.declared.findings.finding.Finding.{Finding}
 use Rattle.apply_validate.specs.declared.findings.name.Name.{Name}
 use Rattle.apply_validate.specs.declared.findings.part.Part.TheVariants.{Item}
 use Rattle.apply_validate.specs.Findings.{under}
-use Rattle.apply_validate.specs.PlanFindings.{elements_behind, in_element, is_one_of_eight}
+use Rattle.apply_validate.specs.PlanFindings.{elements_behind, in_element, is_one_of_eight, name_of}
 use Rattle.apply_validate.specs.ScriptFindings.{seconds_in}
 use Rattle.apply_validate.specs.Walks.{items_from, texts_in, unless_known, unread_from}
 
@@ -81,7 +82,18 @@ elements_more vs i v below read =
     ∙ sym (elements_push [] so_far (view v))
     ∙ ap (λ (ds : List Data). elements_behind [] ds) (sym (listed_more vs i v below read))
 
-pub unread_push : (names : List Name) (n : ℕ) (texts : List (List ℕ)) (text : List ℕ)
+pub named_more : {N : Type 0} (see : N → Option (List ℕ × Option (List ℕ))) (names more : List N) (name : N) (vs : List Value) (i : ℕ) (v : Value)
+    → more ≡ names ++ name ∷ [] → map see names ≡ map name_of (list_of (items_view (take i vs))) → see name ≡ name_of (view v) → i < length vs → v ≡ get_or vs i v
+    → map see more ≡ map name_of (list_of (items_view (take (i + 1) vs)))
+named_more {N} see names more name vs i v one so_far is below read =
+    ap (map see) one
+    ∙ map-append see names (name ∷ [])
+    ∙ ap (λ (xs : List (Option (List ℕ × Option (List ℕ)))). xs ++ see name ∷ []) so_far
+    ∙ ap (λ (x : Option (List ℕ × Option (List ℕ))). map name_of (list_of (items_view (take i vs))) ++ x ∷ []) is
+    ∙ sym (map-append name_of (list_of (items_view (take i vs))) (view v ∷ []))
+    ∙ ap (map name_of) (sym (listed_more vs i v below read))
+
+unread_push : (names : List Name) (n : ℕ) (texts : List (List ℕ)) (text : List ℕ)
     → unread_from names n (texts ++ text ∷ []) ≡ unread_from names n texts ++ unless_known names (n + length texts) text
 unread_push names n [] text =
     append-nil (unless_known names n text) ∙ ap (λ (k : ℕ). unless_known names k text) (let e : n ≡ n + 0 = omega arith in e)
@@ -89,6 +101,18 @@ unread_push names n (t ∷ texts) text =
     ap (λ (xs : List Finding). unless_known names n t ++ xs) (unread_push names (suc n) texts text)
     ∙ sym (append_assoc (unless_known names n t) (unread_from names (suc n) texts) (unless_known names (suc n + length texts) text))
     ∙ ap (λ (k : ℕ). unless_known names n t ++ unread_from names (suc n) texts ++ unless_known names k text) (let q : suc n + length texts ≡ n + suc (length texts) = omega arith in q)
+
+abbrev texts_of : List (Bor (List ℕ)) → List (List ℕ)
+texts_of texts = map (λ text. text.now) texts
+
+pub texts_more : (names : List Name) (texts : List (Bor (List ℕ))) (i : ℕ) (d : Bor (List ℕ)) → i < length texts
+    → unread_from names 0 (texts_of (take i texts)) ++ unless_known names i (get_or texts i d).now ≡ unread_from names 0 (texts_of (take (i + 1) texts))
+texts_more names texts i d below =
+    let so_far : List (List ℕ) = texts_of (take i texts) in
+    let n : i ≡ 0 + length so_far = sym (let e : 0 + length so_far ≡ length so_far = omega arith in e ∙ length-map (take i texts) (λ text. text.now) ∙ length-take-le i texts (omega arith)) in
+    ap (λ (k : ℕ). unread_from names 0 so_far ++ unless_known names k (get_or texts i d).now) n
+    ∙ sym (unread_push names 0 so_far (get_or texts i d).now)
+    ∙ ap (λ (xs : List (List ℕ)). unread_from names 0 xs) (sym (ap texts_of (take_more texts i d below) ∙ map-append (λ text. text.now) (take i texts) (get_or texts i d ∷ [])))
 
 -- ---- seconds
 

@@ -1,7 +1,7 @@
 //! Members that no run reads.
 
-ghost use Rattle.std.specs.Prelude.{◌≡◌, IfOk, map, string_bytes};
-ghost use Rattle.serde_json.specs.View.{view};
+ghost use Rattle.std.specs.Prelude.{◌≡◌, IfOk, map};
+ghost use Rattle.serde_json.specs.View.{members_view, view};
 ghost use Rattle.apply_json.specs.Seen.{members_in};
 ghost use Rattle.apply_validate.specs.Findings.{told};
 ghost use Rattle.apply_validate.specs.Walks.{is_known, texts_in, unless_known, unread, unread_from};
@@ -51,9 +51,13 @@ fn texts_in(alloc: Global, value: &Value) -> Result<Vec<&str>, AllocError>
 
 /// The names of members.
 fn texts_of(alloc: Global, members: &Map<String, Value>) -> Result<Vec<&str>, AllocError>
-    ensures { IfOk result (λ texts. map (λ text. text.now) texts.items ≡ map (λ entry. string_bytes entry.0) members.now.entries) }
+    ensures { IfOk result (λ texts. map (λ text. text.now) texts.items ≡ texts_in (members_view members.now.entries)) }
 {
-    members.keys().map(|name| name.as_str()).collect(alloc)
+    let mut texts = Vec::new(alloc);
+    for (name, _) in members {
+        texts.push(name.as_str())?;
+    }
+    Ok(texts)
 }
 
 /// Whether a member of that number has none of these names.

@@ -1,7 +1,6 @@
 use Rattle.std.proofs.Common.{◌≡◌, ◌+◌, take}
 use Rattle.std.specs.List.{sum_by}
-use Rattle.serde_json.specs.View.{items_view, view}
-use Rattle.apply_json.specs.Tree.{list_of}
+use Rattle.serde_json.specs.View.{view}
 use Rattle.apply_model.specs.Script.Limits.{max_seconds}
 use Rattle.apply_validate.specs.ScriptFindings.{seconds_in}
 use Rattle.apply_validate.proofs.script.step.is_too_long.Given as goal

@@ -1,0 +1,7 @@
+//! Findings as people are told of them.
+
+pub mod count;
+pub mod finding;
+pub mod found;
+pub mod place;
+pub mod wants;
