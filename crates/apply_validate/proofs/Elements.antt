@@ -1,12 +1,11 @@
 -- Elements of `resource_changes` by themselves: nothing is found, exactly where a run reads one.
-use Rattle.std.proofs.Common.{◌≡◌, ℕ, List, [], ◌∷◌, ◌++◌, map, Bool, true, false, not, ◌&&◌, ◌||◌, cond, is_some, is_ok, Option, Some, None, Result, Ok, Err, refl, sym, ap, ◌∙◌}
+use Rattle.std.proofs.Common.{◌≡◌, ℕ, List, [], ◌∷◌, ◌++◌, Bool, true, false, not, ◌&&◌, ◌||◌, is_some, is_ok, Option, Some, None, Result, Ok, refl, sym, ap, ◌∙◌}
 use Rattle.std.specs.Prelude.{codes, if◌then◌else◌, is_none}
-use Rattle.std.specs.List.{list_all, list_any}
-use Rattle.std.specs.Option.{option_and_then, option_map, option_map_or}
+use Rattle.std.specs.Option.{option_map_or}
 use Rattle.std.specs.Str.{bytes_eq}
 use Rattle.serde_json.specs.Data.{Data, Items, null, boolean, number, string, array, object}
 use Rattle.serde_json.specs.Find.{as_array, as_object, as_str}
-use Rattle.apply_json.specs.Tree.{◌>>=◌, is_empty, is_word, member_of, non_empty_text_of, text_of, text_or, unless_empty}
+use Rattle.apply_json.specs.Tree.{◌>>=◌, member_of, non_empty_text_of, text_of, text_or, unless_empty}
 use Rattle.apply_model.specs.declared.plan.key.Key.{Key}
 use Rattle.apply_model.specs.declared.plan.mode.Mode.{Mode}
 use Rattle.apply_model.specs.declared.plan.mode.Mode.TheVariants.{Managed, DataSource}
@@ -14,22 +13,21 @@ use Rattle.apply_model.specs.declared.plan.step_kind.StepKind.{StepKind}
 use Rattle.apply_model.specs.Plan.Address.{relative_address}
 use Rattle.apply_model.specs.Plan.ResourceChange.{ResourceChange}
 use Rattle.apply_plan.specs.declared.plan.plan_error.PlanError.{PlanError}
-use Rattle.apply_plan.specs.declared.plan.plan_error.PlanError.TheVariants.{BadActions, BadAddress, BadChange}
+use Rattle.apply_plan.specs.declared.plan.plan_error.PlanError.TheVariants.{BadActions, BadAddress}
 use Rattle.apply_plan.specs.Plan.Element.{Element, element_of, key_of, mode_named, planned_change_of, prior_id_of}
-use Rattle.apply_plan.specs.Plan.SavedPlan.{change_of, planned_at}
+use Rattle.apply_plan.specs.Plan.SavedPlan.{change_of}
 use Rattle.apply_plan.specs.Plan.Steps.{steps_of_actions}
 use Rattle.apply_plan.specs.Results as results
 use Rattle.apply_plan.specs.Results.{or_refuse}
 use Rattle.apply_validate.specs.declared.findings.finding.Finding.{Finding}
 use Rattle.apply_validate.specs.declared.findings.name.Name.TheVariants as name
 use Rattle.apply_validate.specs.declared.findings.want.Want.TheVariants as want
-use Rattle.apply_validate.specs.declared.walks.known.Known.{Known}
-use Rattle.apply_validate.specs.PlanFindings.{actions_mark, address_marks, by_itself, element_table, has_empty_address, in_change, is_misplaced, is_one_of_eight, is_sound, misplaces, name_of, name_read}
+use Rattle.apply_validate.specs.PlanFindings.{actions_mark, address_marks, by_itself, element_table, has_empty_address, in_change, is_misplaced, is_one_of_eight, is_sound, misplaces, name_read}
 use Rattle.apply_validate.specs.ScriptFindings.{known}
-use Rattle.apply_validate.specs.Walks.{faults_of, inside, marked, member_at}
-use Rattle.apply_validate.specs.Wants.{is_met, is_mode, suits}
+use Rattle.apply_validate.specs.Walks.{faults_of, inside, marked}
+use Rattle.apply_validate.specs.Wants.{is_met}
 use Rattle.apply_validate.proofs.Clean.{clean, clean-append, clean-faults_of, clean-inside, clean-marked, is_absent_or}
-use Rattle.apply_validate.proofs.Options.{and_false, and_then_is, and_true, not_not}
+use Rattle.apply_validate.proofs.Options.{and_then_is, and_true, not_not}
 use Rattle.apply_validate.proofs.Wanted.{met_array, met_non_empty, met_text, met_text_or, needs_object}
 
 -- ---- what values have to be

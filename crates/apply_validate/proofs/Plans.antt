@@ -7,9 +7,9 @@ use Rattle.std.proofs.lemmas.List.{length-append, take_at}
 use Rattle.std.proofs.lemmas.List.Folds.{list_all-append}
 use Rattle.serde_json.specs.Data.{Data, Items, no_items, item, null, boolean, number, string, array, object}
 use Rattle.serde_json.specs.Events.{items_len}
-use Rattle.serde_json.specs.Find.{as_array, as_object, as_str}
+use Rattle.serde_json.specs.Find.{as_object, as_str}
 use Rattle.apply_json.specs.Seen.{items_in}
-use Rattle.apply_json.specs.Tree.{◌>>=◌, items_or_empty, list_of, member_of, text_of, text_or, tree_of}
+use Rattle.apply_json.specs.Tree.{◌>>=◌, items_or_empty, list_of, member_of, text_or, tree_of}
 use Rattle.apply_model.specs.Plan.ResourceChange.{ResourceChange}
 use Rattle.apply_model.specs.Plan.SavedPlan.{SavedPlan, max_changes}
 use Rattle.apply_plan.specs.declared.plan.plan_error.PlanError.{PlanError}
@@ -31,13 +31,13 @@ use Rattle.apply_validate.specs.declared.findings.want.Want.TheVariants as want
 use Rattle.apply_validate.specs.declared.findings.what.What.TheVariants as what
 use Rattle.apply_validate.specs.Findings.{finding_at, finding_here, under}
 use Rattle.apply_validate.specs.Laws.{has_refusal}
-use Rattle.apply_validate.specs.PlanFindings.{by_itself, elements_behind, first_named, header_table, in_element, in_element_named, in_elements, in_plan, is_named, is_sound, name_of, name_read, named_again}
-use Rattle.apply_validate.specs.Walks.{faults_of, items_at, member_at}
+use Rattle.apply_validate.specs.PlanFindings.{by_itself, elements_behind, first_named, header_table, in_element, in_elements, in_plan, is_named, is_sound, name_of, named_again}
+use Rattle.apply_validate.specs.Walks.{faults_of, items_at}
 use Rattle.apply_validate.specs.Wants.{is_met}
 use Rattle.apply_validate.specs.Whole.{plan_findings}
 use Rattle.apply_validate.proofs.Clean.{clean, clean-append, clean-faults_of, clean-under, clean-where_suits}
 use Rattle.apply_validate.proofs.Elements.{has_change, name_read_is, sound_is}
-use Rattle.apply_validate.proofs.Options.{and_false, and_left, and_right, and_true, not_not}
+use Rattle.apply_validate.proofs.Options.{and_false, and_left, and_right, not_not}
 use Rattle.apply_validate.proofs.Wanted.{met_array_or, met_text_or, needs_object}
 
 -- ---- an object that was named before

@@ -1,5 +1,5 @@
 -- Provisioners: nothing is found for which a run refuses, exactly where one is read and puts out no more than it may.
-use Rattle.std.proofs.Common.{◌≡◌, ℕ, suc, ◌+◌, List, [], ◌∷◌, ◌++◌, length, map, Bool, true, false, not, ◌&&◌, is_some, Option, Some, None, unwrap_or, refl, sym, ap, ◌∙◌}
+use Rattle.std.proofs.Common.{◌≡◌, ℕ, suc, ◌+◌, List, [], ◌∷◌, ◌++◌, length, map, Bool, false, not, ◌&&◌, is_some, Option, Some, None, unwrap_or, refl, sym, ap, ◌∙◌}
 use Rattle.std.specs.Prelude.{codes, nat_lt}
 use Rattle.std.specs.List.{sum_by}
 use Rattle.std.specs.Option.{option_and_then, option_map_or}
@@ -17,7 +17,7 @@ use Rattle.apply_validate.specs.declared.findings.finding.Finding.{Finding}
 use Rattle.apply_validate.specs.declared.findings.name.Name.TheVariants as name
 use Rattle.apply_validate.specs.declared.findings.want.Want.TheVariants as want
 use Rattle.apply_validate.specs.ScriptFindings.{in_diagnostic, in_provisioner, known, provisioner_mark, provisioner_names, provisioner_table, seconds_in}
-use Rattle.apply_validate.specs.Walks.{faults_of, in_list, inside, items_at, marked, member_at, unless_suits, unread}
+use Rattle.apply_validate.specs.Walks.{faults_of, in_list, inside, items_at, marked, unless_suits, unread}
 use Rattle.apply_validate.specs.Wants.{is_met}
 use Rattle.apply_validate.proofs.Clean.{clean, clean-append, clean-in_list, clean-inside, clean-marked, clean-then_unread, clean-unless_suits, clean-where_suits}
 use Rattle.apply_validate.proofs.Diagnostics.{absent_or_diagnostic, clean_diagnostic, two}

@@ -1,5 +1,5 @@
 -- A script that a run takes has nothing for which it would be refused without a look at the plan.
-use Rattle.std.proofs.Common.{◌≡◌, ℕ, ◌+◌, List, [], ◌∷◌, length, map, take, Bool, true, false, cond, not, ◌&&◌, ◌||◌, is_ok, is_err, Option, Some, None, Result, Ok, Err, refl, sym, ap, ◌∙◌}
+use Rattle.std.proofs.Common.{◌≡◌, ℕ, ◌+◌, List, [], ◌∷◌, length, map, take, Bool, true, false, cond, not, ◌&&◌, ◌||◌, is_ok, Option, Some, None, Result, Ok, Err, refl, sym, ◌∙◌}
 use Rattle.std.specs.Prelude.{nat_lt}
 use Rattle.std.specs.List.{enumerate_from, list_all, list_any, sum_by}
 use Rattle.std.specs.Option.{option_map_or, option_or}
@@ -25,7 +25,7 @@ use Rattle.apply_validate.specs.ScriptFindings.{in_script}
 use Rattle.apply_validate.specs.Findings.{finding_here}
 use Rattle.apply_validate.specs.declared.findings.what.What.TheVariants as what
 use Rattle.apply_validate.specs.declared.findings.finding.Finding.{Finding}
-use Rattle.apply_validate.proofs.Options.{and_left, and_right, not_not}
+use Rattle.apply_validate.proofs.Options.{and_left, and_right}
 use Rattle.apply_validate.proofs.Plans.{all_ok}
 use Rattle.apply_validate.proofs.Scripts.{clean_script}
 

@@ -1,6 +1,5 @@
 -- Something is found for which a run refuses, exactly where a run refuses.
-use Rattle.std.proofs.Common.{◌≡◌, ℕ, List, [], ◌∷◌, ◌++◌, Bool, true, false, cond, not, ◌&&◌, ◌||◌, is_err, is_ok, Option, Some, None, Result, Ok, Err, refl, sym, ap, ◌∙◌}
-use Rattle.std.specs.List.{list_any}
+use Rattle.std.proofs.Common.{◌≡◌, ℕ, List, [], ◌∷◌, ◌++◌, Bool, true, false, cond, not, ◌&&◌, ◌||◌, is_err, is_ok, Option, Some, None, Result, Ok, Err, refl, ap, ◌∙◌}
 use Rattle.std.proofs.lemmas.List.Folds.{list_any-append}
 use Rattle.apply_model.specs.Plan.SavedPlan.{SavedPlan}
 use Rattle.apply_model.specs.Script.OutcomeMap.{OutcomeMap}
@@ -11,10 +10,10 @@ use Rattle.apply_plan.specs.Plan.SavedPlan.{plan_of}
 use Rattle.apply_plan.specs.Script.OutcomeMap.{script_of}
 use Rattle.apply_validate.specs.declared.findings.finding.Finding.{Finding}
 use Rattle.apply_validate.specs.declared.findings.what.What.{What}
-use Rattle.apply_validate.specs.declared.findings.what.What.TheVariants.{ForPlan, Waits}
+use Rattle.apply_validate.specs.declared.findings.what.What.TheVariants.{ForPlan}
 use Rattle.apply_validate.specs.Findings.{is_refusal, is_refusal_of}
 use Rattle.apply_validate.specs.Laws.{has_refusal, refuses_given, refuses_read, run_refuses}
-use Rattle.apply_validate.specs.Whole.{beside_plan, entry_of_refusal, given_findings, placed, plan_findings, refusals_of, refused_for, script_findings, unless_waits}
+use Rattle.apply_validate.specs.Whole.{beside_plan, entry_of_refusal, given_findings, placed, plan_findings, refusals_of, refused_for, script_findings}
 use Rattle.apply_validate.proofs.Plans.{refusals_of_plan}
 use Rattle.apply_validate.proofs.Refused.{taken_script}
 

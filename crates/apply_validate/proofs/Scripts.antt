@@ -1,5 +1,5 @@
 -- Scripts: nothing is found for which a run refuses, exactly where each entry is one.
-use Rattle.std.proofs.Common.{◌≡◌, ℕ, List, [], ◌∷◌, ◌++◌, map, Bool, true, false, not, ◌&&◌, is_some, Option, Some, None, refl, sym, ap, ◌∙◌}
+use Rattle.std.proofs.Common.{◌≡◌, ℕ, List, [], ◌++◌, map, Bool, false, not, ◌&&◌, is_some, Option, Some, None, refl, sym, ap, ◌∙◌}
 use Rattle.std.specs.Prelude.{codes}
 use Rattle.std.specs.List.{list_all}
 use Rattle.std.specs.Option.{option_map_or}
@@ -16,7 +16,7 @@ use Rattle.apply_validate.specs.Walks.{faults_of, in_list, unread}
 use Rattle.apply_validate.specs.Wants.{is_met}
 use Rattle.apply_validate.proofs.Clean.{all_items, clean, clean-append, clean-in_list, clean-then_unread, clean-where_suits, is_absent_or}
 use Rattle.apply_validate.proofs.Diagnostics.{two}
-use Rattle.apply_validate.proofs.Options.{and_false, not_not}
+use Rattle.apply_validate.proofs.Options.{not_not}
 use Rattle.apply_validate.proofs.Steps.{clean_step, is_step}
 use Rattle.apply_validate.proofs.Wanted.{each_fits_there, met_text, met_text_or, needs_object}
 

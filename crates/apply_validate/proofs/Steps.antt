@@ -1,14 +1,13 @@
 -- Steps: nothing is found for which a run refuses, exactly where one is read that is within the limits.
 use Rattle.std.proofs.Common.{◌≡◌, ℕ, suc, ◌+◌, ◌<◌, List, [], ◌∷◌, ◌++◌, length, Bool, true, false, not, ◌&&◌, is_some, Option, Some, None, refl, sym, ap, ◌∙◌, arith}
 use Rattle.std.specs.Prelude.{codes, nat_lt}
-use Rattle.std.specs.List.{list_all, list_any, sum_by}
+use Rattle.std.specs.List.{list_all, sum_by}
 use Rattle.std.specs.Option.{option_map, option_map_or}
 use Rattle.std.proofs.lemmas.Bool.{lt-ltb}
 use Rattle.serde_json.specs.Data.{Data}
 use Rattle.serde_json.specs.Find.{as_number, as_object, as_str, as_u64}
 use Rattle.apply_json.specs.Tree.{◌>>=◌, member_of, text_or, unless_empty}
 use Rattle.apply_model.specs.declared.script.diag.Diag.{Diag}
-use Rattle.apply_model.specs.declared.script.ending.Ending.{Ending}
 use Rattle.apply_model.specs.declared.script.provisioner.Provisioner.{Provisioner}
 use Rattle.apply_model.specs.Script.Limits.{max_provisioners, max_seconds}
 use Rattle.apply_model.specs.Script.Outcome.{puts_out_too_much, seconds_of_all}
@@ -17,8 +16,8 @@ use Rattle.apply_validate.specs.declared.findings.finding.Finding.{Finding}
 use Rattle.apply_validate.specs.declared.findings.name.Name.TheVariants as name
 use Rattle.apply_validate.specs.declared.findings.want.Want.TheVariants as want
 use Rattle.apply_validate.specs.Laws.{is_within_limits}
-use Rattle.apply_validate.specs.ScriptFindings.{has_failed, in_diagnostic, in_provisioner, in_step, in_wait, known, seconds_in, seconds_in_all, step_marks, step_names, step_table}
-use Rattle.apply_validate.specs.Walks.{faults_of, in_list, inside, items_at, marked, member_at, unread}
+use Rattle.apply_validate.specs.ScriptFindings.{in_diagnostic, in_provisioner, in_step, in_wait, known, seconds_in, seconds_in_all, step_marks, step_names, step_table}
+use Rattle.apply_validate.specs.Walks.{faults_of, in_list, inside, items_at, marked, unread}
 use Rattle.apply_validate.specs.Wants.{is_met}
 use Rattle.apply_validate.proofs.Clean.{clean, clean-append, clean-in_list, clean-inside, clean-marked, clean-then_unread, clean-where_suits}
 use Rattle.apply_validate.proofs.Diagnostics.{absent_or_diagnostic, clean_diagnostic, clean_wait, two}

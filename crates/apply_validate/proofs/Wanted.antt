@@ -1,15 +1,13 @@
 -- What values have to be, by what the readers read of them.
-use Rattle.std.proofs.Common.{◌≡◌, ℕ, List, [], ◌∷◌, map, Bool, true, false, not, ◌&&◌, is_some, Option, Some, None, refl, sym, ap, ◌∙◌}
+use Rattle.std.proofs.Common.{◌≡◌, ℕ, List, [], ◌∷◌, map, Bool, false, not, ◌&&◌, is_some, Option, Some, None, refl, sym, ap, ◌∙◌}
 use Rattle.std.specs.List.{list_all}
-use Rattle.std.specs.Option.{option_and_then, option_map, option_map_or}
-use Rattle.serde_json.specs.Data.{Data, null, boolean, number, string, array, object, Items}
+use Rattle.std.specs.Option.{option_map_or}
+use Rattle.serde_json.specs.Data.{Data, null, boolean, number, string, array, object}
 use Rattle.serde_json.specs.Find.{as_array, as_number, as_object, as_str, as_u64}
-use Rattle.apply_json.specs.Seen.{items_in}
 use Rattle.apply_json.specs.Tree.{◌>>=◌, is_empty, items_or_empty, list_of, member_of, text_or, unless_empty}
 use Rattle.apply_plan.specs.Script.Entry.{all_some, each_of, number_or_none}
-use Rattle.apply_validate.specs.declared.findings.want.Want.{Want}
 use Rattle.apply_validate.specs.declared.findings.want.Want.TheVariants as want
-use Rattle.apply_validate.specs.Wants.{is_met, is_text_with_a_byte, is_whole}
+use Rattle.apply_validate.specs.Wants.{is_met}
 use Rattle.apply_validate.proofs.Clean.{all_items, is_absent_or}
 use Rattle.apply_validate.proofs.Options.{all_fit, all_some_is, and_then_is, some_map}
 

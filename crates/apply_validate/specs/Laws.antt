@@ -11,7 +11,7 @@ use Rattle.apply_model.specs.Script.Waits.{has_waits}
 use Rattle.apply_plan.specs.declared.plan.plan_error.PlanError.{PlanError}
 use Rattle.apply_plan.specs.declared.script.script_error.ScriptError.{ScriptError}
 use Rattle.apply_plan.specs.Plan.SavedPlan.{plan_of}
-use Rattle.apply_plan.specs.Script.Entry.{Entry, EntryStep, entry_of}
+use Rattle.apply_plan.specs.Script.Entry.{EntryStep, entry_of}
 use Rattle.apply_plan.specs.Script.OutcomeMap.{elements_of, script_of}
 use Rattle.apply_validate.specs.declared.findings.finding.Finding.{Finding}
 use Rattle.apply_validate.specs.Findings.{is_refusal}

@@ -1,5 +1,5 @@
 -- What is found in a plan. All paths are from the value.
-use Rattle.std.specs.Prelude.{ℕ, List, [], ◌∷◌, ◌++◌, length, map, Bool, false, ◌&&◌, not, is_none, is_some, nat_lt, if◌then◌else◌, Option, Some, None, option_map, option_and_then}
+use Rattle.std.specs.Prelude.{ℕ, List, [], ◌∷◌, ◌++◌, length, map, Bool, false, ◌&&◌, not, is_none, is_some, nat_lt, if◌then◌else◌, Option, Some, None, option_and_then}
 use Rattle.std.specs.List.{list_any, position_from}
 use Rattle.std.specs.Option.{option_map_or}
 use Rattle.serde_json.specs.Data.{Data, Items}
@@ -19,7 +19,7 @@ use Rattle.apply_validate.specs.declared.walks.mark.Mark.{Mark}
 use Rattle.apply_validate.specs.Findings.{finding_at, finding_here, is_refusal, under}
 use Rattle.apply_validate.specs.Names.{name_text}
 use Rattle.apply_validate.specs.ScriptFindings.{known}
-use Rattle.apply_validate.specs.Walks.{fault_of, faults_of, inside, items_at, marked, member_at, where_suits}
+use Rattle.apply_validate.specs.Walks.{faults_of, inside, items_at, marked, member_at, where_suits}
 
 -- ---- elements of `resource_changes`
 

@@ -1,5 +1,5 @@
 -- What is found in a script, without a look at the plan. All paths are from the value.
-use Rattle.std.specs.Prelude.{ℕ, ◌+◌, List, [], ◌∷◌, ◌++◌, length, sum_by, Bool, ◌&&◌, is_some, nat_lt, if◌then◌else◌, Option, Some, None, option_and_then, unwrap_or}
+use Rattle.std.specs.Prelude.{ℕ, ◌+◌, List, [], ◌∷◌, ◌++◌, length, sum_by, Bool, ◌&&◌, is_some, nat_lt, if◌then◌else◌, Some, None, option_and_then, unwrap_or}
 use Rattle.serde_json.specs.Data.{Data}
 use Rattle.serde_json.specs.Find.{as_number, as_str, as_u64}
 use Rattle.apply_json.specs.Tree.{non_empty_text_of}
@@ -9,7 +9,6 @@ use Rattle.apply_validate.specs.declared.findings.name.Name.{Name}
 use Rattle.apply_validate.specs.declared.findings.name.Name.TheVariants as name
 use Rattle.apply_validate.specs.declared.findings.want.Want.{Want}
 use Rattle.apply_validate.specs.declared.findings.want.Want.TheVariants as want
-use Rattle.apply_validate.specs.declared.findings.what.What.{What}
 use Rattle.apply_validate.specs.declared.findings.what.What.TheVariants as what
 use Rattle.apply_validate.specs.declared.walks.known.Known.{Known}
 use Rattle.apply_validate.specs.declared.walks.mark.Mark.{Mark}

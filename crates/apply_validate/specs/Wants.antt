@@ -1,5 +1,5 @@
 -- What values have to be, each as the readers of plans and scripts have it.
-use Rattle.std.specs.Prelude.{ℕ, List, Bool, true, false, ◌||◌, not, codes, is_some, nat_eq, Option, Some, None, option_and_then}
+use Rattle.std.specs.Prelude.{Bool, true, false, ◌||◌, not, codes, is_some, nat_eq, Option, Some, None, option_and_then}
 use Rattle.std.specs.List.{starts_with}
 use Rattle.std.specs.Option.{option_map_or}
 use Rattle.serde_json.specs.Data.{Data}

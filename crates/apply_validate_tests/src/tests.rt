@@ -12,7 +12,13 @@ const PLAN: &str = r#"{"format_version":"1.2","terraform_version":"1.9.0","resou
 {"address":"a.c","mode":"managed","type":"a","name":"c","change":{"actions":["create","delete"]}}]}"#;
 
 /// What is told of a plan and a script, and whether a run refuses one of them.
-fn told(rt: &impl Abort, alloc: Global, plan: &str, script: Option<&str>, lanes: bool) -> (String, bool) {
+fn told(
+    rt: &impl Abort,
+    alloc: Global,
+    plan: &str,
+    script: Option<&str>,
+    lanes: bool,
+) -> (String, bool) {
     let plan = plan.as_bytes();
     let script = match script {
         Some(text) => Some(text.as_bytes()),
@@ -40,8 +46,18 @@ fn of_script(rt: &impl Abort, alloc: Global, script: &str, expected: &str, refus
 fn plans_are_told_of_in_their_order(rt: HostRuntime) {
     let alloc = rt.alloc();
     of_plan(&rt, alloc, PLAN, "the plan is accepted\n");
-    of_plan(&rt, alloc, "{", "plan .: is not JSON, or nested more than 127 deep\n");
-    of_plan(&rt, alloc, "[1]", "plan .: is an array of 1, and has to be an object, as \"terraform show -json\" prints it of a plan's file\n");
+    of_plan(
+        &rt,
+        alloc,
+        "{",
+        "plan .: is not JSON, or nested more than 127 deep\n",
+    );
+    of_plan(
+        &rt,
+        alloc,
+        "[1]",
+        "plan .: is an array of 1, and has to be an object, as \"terraform show -json\" prints it of a plan's file\n",
+    );
     of_plan(
         &rt,
         alloc,
@@ -80,10 +96,34 @@ plan .resource_changes[5]: is of the object of .resource_changes[4] again: \"t.n
 #[test]
 fn scripts_are_told_of_in_their_order(rt: HostRuntime) {
     let alloc = rt.alloc();
-    of_script(&rt, alloc, r#"{"changes":[]}"#, "plan and script are accepted\n", false);
-    of_script(&rt, alloc, r#"{"$schema":"s","changes":[],"outputs":1,"diagnostics":2,"a b":3}"#, "warning: script .[\"a b\"]: is not read\n", false);
-    of_script(&rt, alloc, "7", "script .: is 7, and has to be an object\n", true);
-    of_script(&rt, alloc, r#"{"change":[]}"#, "script .changes: is missing, and has to be an array\nwarning: script .change: is not read\n", true);
+    of_script(
+        &rt,
+        alloc,
+        r#"{"changes":[]}"#,
+        "plan and script are accepted\n",
+        false,
+    );
+    of_script(
+        &rt,
+        alloc,
+        r#"{"$schema":"s","changes":[],"outputs":1,"diagnostics":2,"a b":3}"#,
+        "warning: script .[\"a b\"]: is not read\n",
+        false,
+    );
+    of_script(
+        &rt,
+        alloc,
+        "7",
+        "script .: is 7, and has to be an object\n",
+        true,
+    );
+    of_script(
+        &rt,
+        alloc,
+        r#"{"change":[]}"#,
+        "script .changes: is missing, and has to be an array\nwarning: script .change: is not read\n",
+        true,
+    );
     of_script(
         &rt,
         alloc,
@@ -104,10 +144,34 @@ script .changes[1].steps[1]: takes 90,000 seconds, 86,400 at most\n",
 #[test]
 fn what_a_run_refuses_beside_the_plan_is_told(rt: HostRuntime) {
     let alloc = rt.alloc();
-    of_script(&rt, alloc, r#"{"changes":[{"address":"a.x","steps":[]}]}"#, "script .changes[0]: names an object that the plan does not change\n", true);
-    of_script(&rt, alloc, r#"{"changes":[{"address":"a.b","steps":[{"seconds":1},{"seconds":1}]}]}"#, "script .changes[0]: has more steps than its change\n", true);
-    of_script(&rt, alloc, r#"{"changes":[{"address":"a.b","steps":[{"seconds":1,"after":["a.c"]}]}]}"#, "script .: waits, which takes --parallelism\n", true);
-    let (text, refuses) = told(&rt, alloc, PLAN, Some(r#"{"changes":[{"address":"a.b","steps":[{"seconds":1,"after":["a.c"]}]}]}"#), true);
+    of_script(
+        &rt,
+        alloc,
+        r#"{"changes":[{"address":"a.x","steps":[]}]}"#,
+        "script .changes[0]: names an object that the plan does not change\n",
+        true,
+    );
+    of_script(
+        &rt,
+        alloc,
+        r#"{"changes":[{"address":"a.b","steps":[{"seconds":1},{"seconds":1}]}]}"#,
+        "script .changes[0]: has more steps than its change\n",
+        true,
+    );
+    of_script(
+        &rt,
+        alloc,
+        r#"{"changes":[{"address":"a.b","steps":[{"seconds":1,"after":["a.c"]}]}]}"#,
+        "script .: waits, which takes --parallelism\n",
+        true,
+    );
+    let (text, refuses) = told(
+        &rt,
+        alloc,
+        PLAN,
+        Some(r#"{"changes":[{"address":"a.b","steps":[{"seconds":1,"after":["a.c"]}]}]}"#),
+        true,
+    );
     assert_eq!(rt; text.as_str(), "plan and script are accepted\n");
     assert_eq!(rt; refuses, false);
 }

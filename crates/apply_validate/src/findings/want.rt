@@ -62,7 +62,10 @@ impl Want {
     pub fn may_be_absent(self) -> bool
         ensures { result ≡ may_be_absent self }
     {
-        matches!(self, Want::ArrayOrAbsent | Want::Key | Want::StepOrAbsent | Want::TextOrAbsent)
+        matches!(
+            self,
+            Want::ArrayOrAbsent | Want::Key | Want::StepOrAbsent | Want::TextOrAbsent
+        )
     }
 
     /// Whether the value is that.

@@ -20,17 +20,44 @@ use serde_json::Value;
 use std::alloc::{AllocError, Global};
 
 const TABLE: [Known; 8] = [
-    Known { name: Name::Address, want: Want::Text },
-    Known { name: Name::ModuleAddress, want: Want::TextOrAbsent },
-    Known { name: Name::Mode, want: Want::Mode },
-    Known { name: Name::Kind, want: Want::NonEmptyText },
-    Known { name: Name::Name, want: Want::NonEmptyText },
-    Known { name: Name::Index, want: Want::Key },
-    Known { name: Name::Deposed, want: Want::TextOrAbsent },
-    Known { name: Name::Change, want: Want::Object },
+    Known {
+        name: Name::Address,
+        want: Want::Text,
+    },
+    Known {
+        name: Name::ModuleAddress,
+        want: Want::TextOrAbsent,
+    },
+    Known {
+        name: Name::Mode,
+        want: Want::Mode,
+    },
+    Known {
+        name: Name::Kind,
+        want: Want::NonEmptyText,
+    },
+    Known {
+        name: Name::Name,
+        want: Want::NonEmptyText,
+    },
+    Known {
+        name: Name::Index,
+        want: Want::Key,
+    },
+    Known {
+        name: Name::Deposed,
+        want: Want::TextOrAbsent,
+    },
+    Known {
+        name: Name::Change,
+        want: Want::Object,
+    },
 ];
 
-const ACTIONS: [Known; 1] = [Known { name: Name::Actions, want: Want::Array }];
+const ACTIONS: [Known; 1] = [Known {
+    name: Name::Actions,
+    want: Want::Array,
+}];
 
 /// Whether a list of actions is one of the eight.
 fn is_one_of_eight(actions: &[Value]) -> bool
@@ -128,8 +155,16 @@ fn address_marks(element: &Value) -> [Mark; 2]
     let misplaced = misplaces(element);
     let empty = has_empty_address(element);
     [
-        Mark { holds: misplaced && empty, at: Some(Name::Address), what: What::EmptyAddress },
-        Mark { holds: misplaced && !empty, at: Some(Name::Address), what: What::OutsideModule },
+        Mark {
+            holds: misplaced && empty,
+            at: Some(Name::Address),
+            what: What::EmptyAddress,
+        },
+        Mark {
+            holds: misplaced && !empty,
+            at: Some(Name::Address),
+            what: What::OutsideModule,
+        },
     ]
 }
 

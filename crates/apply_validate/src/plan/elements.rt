@@ -63,7 +63,11 @@ fn walk_element<'a>(
 fn name_unless(refuses: bool, element: &Value) -> Option<ObjectName<'_>>
     ensures { option_map name_view result ≡ (if refuses then None else name_read (view element.now)) }
 {
-    if refuses { None } else { ObjectName::of(element) }
+    if refuses {
+        None
+    } else {
+        ObjectName::of(element)
+    }
 }
 
 /// That the element of that number names the object too.

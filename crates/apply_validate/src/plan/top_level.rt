@@ -19,9 +19,18 @@ use serde_json::Value;
 use std::alloc::{AllocError, Global};
 
 const TABLE: [Known; 3] = [
-    Known { name: Name::FormatVersion, want: Want::FormatVersion },
-    Known { name: Name::TerraformVersion, want: Want::TextOrAbsent },
-    Known { name: Name::ResourceChanges, want: Want::ArrayOrAbsent },
+    Known {
+        name: Name::FormatVersion,
+        want: Want::FormatVersion,
+    },
+    Known {
+        name: Name::TerraformVersion,
+        want: Want::TextOrAbsent,
+    },
+    Known {
+        name: Name::ResourceChanges,
+        want: Want::ArrayOrAbsent,
+    },
 ];
 
 /// What is found in the elements, which may be too many.
@@ -29,7 +38,11 @@ fn walk_changes(alloc: Global, elements: &[Value]) -> Result<Findings, AllocErro
     ensures { IfOk result (λ f. f ≡ told (in_elements (list_of (items_view elements.now)))) }
 {
     if elements.len() > MAX_CHANGES {
-        return Findings::at(alloc, Part::Member(Name::ResourceChanges), What::TooManyChanges);
+        return Findings::at(
+            alloc,
+            Part::Member(Name::ResourceChanges),
+            What::TooManyChanges,
+        );
     }
     walk_elements(alloc, elements)?.under(Part::Member(Name::ResourceChanges))
 }

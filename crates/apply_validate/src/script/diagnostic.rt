@@ -17,8 +17,14 @@ use serde_json::Value;
 use std::alloc::{AllocError, Global};
 
 const TABLE: [Known; 2] = [
-    Known { name: Name::Summary, want: Want::Text },
-    Known { name: Name::Detail, want: Want::TextOrAbsent },
+    Known {
+        name: Name::Summary,
+        want: Want::Text,
+    },
+    Known {
+        name: Name::Detail,
+        want: Want::TextOrAbsent,
+    },
 ];
 
 const NAMES: [Name; 2] = [Name::Summary, Name::Detail];

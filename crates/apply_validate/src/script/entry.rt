@@ -15,13 +15,22 @@ use serde_json::Value;
 use std::alloc::{AllocError, Global};
 
 const TABLE: [Known; 2] = [
-    Known { name: Name::Address, want: Want::Text },
-    Known { name: Name::Deposed, want: Want::TextOrAbsent },
+    Known {
+        name: Name::Address,
+        want: Want::Text,
+    },
+    Known {
+        name: Name::Deposed,
+        want: Want::TextOrAbsent,
+    },
 ];
 
 const NAMES: [Name; 3] = [Name::Address, Name::Deposed, Name::Steps];
 
-const STEPS: Known = Known { name: Name::Steps, want: Want::Array };
+const STEPS: Known = Known {
+    name: Name::Steps,
+    want: Want::Array,
+};
 
 /// An entry of a script.
 #[derive(Clone, Copy)]

@@ -19,13 +19,22 @@ use serde_json::Value;
 use std::alloc::{AllocError, Global};
 
 const TABLE: [Known; 2] = [
-    Known { name: Name::Provisioner, want: Want::NonEmptyText },
-    Known { name: Name::Seconds, want: Want::Seconds },
+    Known {
+        name: Name::Provisioner,
+        want: Want::NonEmptyText,
+    },
+    Known {
+        name: Name::Seconds,
+        want: Want::Seconds,
+    },
 ];
 
 const NAMES: [Name; 4] = [Name::Provisioner, Name::Seconds, Name::Output, Name::Failed];
 
-const OUTPUT: Known = Known { name: Name::Output, want: Want::ArrayOrAbsent };
+const OUTPUT: Known = Known {
+    name: Name::Output,
+    want: Want::ArrayOrAbsent,
+};
 
 /// A provisioner of a step.
 #[derive(Clone, Copy)]

@@ -23,8 +23,14 @@ use serde_json::Value;
 use std::alloc::{AllocError, Global};
 
 const TABLE: [Known; 2] = [
-    Known { name: Name::Seconds, want: Want::Seconds },
-    Known { name: Name::Id, want: Want::TextOrAbsent },
+    Known {
+        name: Name::Seconds,
+        want: Want::Seconds,
+    },
+    Known {
+        name: Name::Id,
+        want: Want::TextOrAbsent,
+    },
 ];
 
 const NAMES: [Name; 6] = [
@@ -36,9 +42,15 @@ const NAMES: [Name; 6] = [
     Name::After,
 ];
 
-const PROVISIONERS: Known = Known { name: Name::Provisioners, want: Want::ArrayOrAbsent };
+const PROVISIONERS: Known = Known {
+    name: Name::Provisioners,
+    want: Want::ArrayOrAbsent,
+};
 
-const AFTER: Known = Known { name: Name::After, want: Want::ArrayOrAbsent };
+const AFTER: Known = Known {
+    name: Name::After,
+    want: Want::ArrayOrAbsent,
+};
 
 /// A step of an entry.
 #[derive(Clone, Copy)]
@@ -88,11 +100,27 @@ fn marks(value: &Value) -> [Mark; 5]
 {
     let count = count_at(value, Name::Provisioners);
     [
-        beside(value, Name::Id, non_empty_text_member(value, Name::Id.text()).is_some()),
-        beside(value, Name::Warning, member(value, Name::Warning.text()).is_some()),
+        beside(
+            value,
+            Name::Id,
+            non_empty_text_member(value, Name::Id.text()).is_some(),
+        ),
+        beside(
+            value,
+            Name::Warning,
+            member(value, Name::Warning.text()).is_some(),
+        ),
         beside(value, Name::Provisioners, count > 0),
-        Mark { holds: is_too_long(value), at: None, what: What::TooLong },
-        Mark { holds: count > MAX_PROVISIONERS, at: Some(Name::Provisioners), what: What::TooManyProvisioners },
+        Mark {
+            holds: is_too_long(value),
+            at: None,
+            what: What::TooLong,
+        },
+        Mark {
+            holds: count > MAX_PROVISIONERS,
+            at: Some(Name::Provisioners),
+            what: What::TooManyProvisioners,
+        },
     ]
 }
 

@@ -16,9 +16,17 @@ use crate::walks::unread::walk_unread;
 use serde_json::Value;
 use std::alloc::{AllocError, Global};
 
-const NAMES: [Name; 4] = [Name::Changes, Name::Outputs, Name::Diagnostics, Name::Schema];
+const NAMES: [Name; 4] = [
+    Name::Changes,
+    Name::Outputs,
+    Name::Diagnostics,
+    Name::Schema,
+];
 
-const CHANGES: Known = Known { name: Name::Changes, want: Want::Array };
+const CHANGES: Known = Known {
+    name: Name::Changes,
+    want: Want::Array,
+};
 
 /// What is found in the tree of a script, without a look at the plan. `Err` where memory is refused.
 #[tactic(auto, unfolding(crate::specs::ScriptFindings::in_script))]

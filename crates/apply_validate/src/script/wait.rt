@@ -14,9 +14,18 @@ use serde_json::Value;
 use std::alloc::{AllocError, Global};
 
 const TABLE: [Known; 3] = [
-    Known { name: Name::Address, want: Want::Text },
-    Known { name: Name::Deposed, want: Want::TextOrAbsent },
-    Known { name: Name::Step, want: Want::StepOrAbsent },
+    Known {
+        name: Name::Address,
+        want: Want::Text,
+    },
+    Known {
+        name: Name::Deposed,
+        want: Want::TextOrAbsent,
+    },
+    Known {
+        name: Name::Step,
+        want: Want::StepOrAbsent,
+    },
 ];
 
 const NAMES: [Name; 3] = [Name::Address, Name::Deposed, Name::Step];

@@ -28,11 +28,7 @@ pub trait Walk {
 }
 
 /// Finds what is wrong in the items of an array.
-pub fn walk_items<W: Walk>(
-    alloc: Global,
-    walk: &W,
-    items: &[Value],
-) -> Result<Findings, AllocError>
+pub fn walk_items<W: Walk>(alloc: Global, walk: &W, items: &[Value]) -> Result<Findings, AllocError>
     ensures { IfOk result (λ f. f ≡ told (items_from (W.found walk.now) 0 (list_of (items_view items.now)))) }
 {
     let mut all = Findings::none(alloc);

@@ -53,7 +53,9 @@ fn parallelism<'a>(alloc: Global) -> Arg<'a> {
         .long("parallelism")
         .value_name("N")
         .value_parser(value_parser!(u8).range(1..=64))
-        .help("The run has so many changes under way at once, 1 to 64; without it no step of a script may wait for others")
+        .help(
+            "The run has so many changes under way at once, 1 to 64; without it no step of a script may wait for others",
+        )
 }
 
 /// What the matches say.

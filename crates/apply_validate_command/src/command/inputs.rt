@@ -37,7 +37,11 @@ impl<T: Drop> From<AllocFailed<T>> for InputFault {
 }
 
 /// The bytes of a script's file, and no more than one more than it may have.
-pub fn read_script_file<F: Files>(files: &F, alloc: Global, name: &str) -> Result<Vec<u8>, InputFault> {
+pub fn read_script_file<F: Files>(
+    files: &F,
+    alloc: Global,
+    name: &str,
+) -> Result<Vec<u8>, InputFault> {
     match fs::open(files, name) {
         Ok(mut file) => read_all(alloc, &mut file, InputFault::Script),
         Err(_) => Err(InputFault::Script),
@@ -45,7 +49,11 @@ pub fn read_script_file<F: Files>(files: &F, alloc: Global, name: &str) -> Resul
 }
 
 /// The bytes of an input, and no more than one more than it may have. `Err` with that fault where a read fails.
-pub fn read_all<R: Read>(alloc: Global, input: &mut R, fault: InputFault) -> Result<Vec<u8>, InputFault> {
+pub fn read_all<R: Read>(
+    alloc: Global,
+    input: &mut R,
+    fault: InputFault,
+) -> Result<Vec<u8>, InputFault> {
     let mut buffer = vec![in alloc; 0u8; BUFFER_LEN]?;
     let mut bytes = Vec::new(alloc);
     // Each turn takes a byte at least, so that no more turns are needed than bytes.

@@ -12,7 +12,12 @@ use std::alloc::{AllocError, Global};
 const MOST_TOLD: usize = 1000;
 
 /// What is told, as lines: the first 1,000 findings, and how many more there are. `Err` where memory is refused.
-pub fn found_text(alloc: Global, found: &Found, plan: &[u8], script: Option<&[u8]>) -> Result<String, AllocError> {
+pub fn found_text(
+    alloc: Global,
+    found: &Found,
+    plan: &[u8],
+    script: Option<&[u8]>,
+) -> Result<String, AllocError> {
     let mut text = String::new(alloc);
     push_findings(alloc, &mut text, Input::Plan, &found.plan, plan, MOST_TOLD)?;
     if let Some(script) = script {

@@ -4,8 +4,8 @@ use crate::texts::count::Count;
 use crate::texts::found::{found_text, shortened_json};
 use crate::texts::place::{path_text, value_at};
 use crate::texts::wants::want_text;
-use apply_validate::{Finding, Name, What};
 use apply_plan::{MAX_BYTES, MAX_CHANGES, MAX_OUTPUTS, MAX_PROVISIONERS, MAX_SECONDS, ScriptError};
+use apply_validate::{Finding, Name, What};
 use serde_json::Value;
 use std::alloc::{AllocError, Global};
 
@@ -26,10 +26,16 @@ impl Input {
 }
 
 /// The eight lists of actions.
-const ACTIONS: &str = r#"["no-op"], ["create"], ["read"], ["update"], ["delete"], ["forget"], ["delete","create"] or ["create","delete"]"#;
+const ACTIONS: &str =
+    r#"["no-op"], ["create"], ["read"], ["update"], ["delete"], ["forget"], ["delete","create"] or ["create","delete"]"#;
 
 /// What is found in bytes that are no tree. `Err` where memory is refused.
-pub fn bytes_text(alloc: Global, input: Input, what: What, len: usize) -> Result<String, AllocError> {
+pub fn bytes_text(
+    alloc: Global,
+    input: Input,
+    what: What,
+    len: usize,
+) -> Result<String, AllocError> {
     let word = input.word();
     match what {
         What::TooManyBytes => {
@@ -91,7 +97,10 @@ fn what_text(alloc: Global, tree: &Value, finding: &Finding) -> Result<String, A
             format!(in alloc; "is of the object of .resource_changes[{number}] again: {address}")
         }
         What::BesideFailed => {
-            String::from_str(alloc, "stands beside `failed`, and a step that failed has none")
+            String::from_str(
+                alloc,
+                "stands beside `failed`, and a step that failed has none",
+            )
         }
         What::TooLong => too_long_text(alloc, found),
         What::TooManyProvisioners => {
@@ -114,7 +123,8 @@ fn for_plan_text(refusal: ScriptError) -> &'static str {
         ScriptError::UnknownChange(_) => "names an object that the plan does not change",
         ScriptError::Duplicate(_) => "is about a change that an earlier entry is about",
         ScriptError::TooManySteps(_) => "has more steps than its change",
-        ScriptError::NotACreate(_) => "has a provisioner at a step that is no create, and only a create has some",
+        ScriptError::NotACreate(_) =>
+            "has a provisioner at a step that is no create, and only a create has some",
         ScriptError::TooManyWaits(_) => "goes beyond 1,000,000 waits",
         ScriptError::UnknownWait(_) => "waits for an object that the plan does not change",
         ScriptError::NoSuchStep(_) => "waits for a step that its change does not have",

@@ -71,7 +71,10 @@ fn push_name(alloc: Global, text: &mut String, name: &str) -> Result<(), AllocEr
 /// Whether it is a name as `jq` takes them without quotes.
 fn is_identifier(name: &[u8]) -> bool {
     match name.first() {
-        Some(first) => !first.is_ascii_digit() && name.iter().all(|byte| *byte == b'_' || byte.is_ascii_alphanumeric()),
+        Some(first) => !first.is_ascii_digit()
+            && name
+                .iter()
+                .all(|byte| *byte == b'_' || byte.is_ascii_alphanumeric()),
         None => false,
     }
 }

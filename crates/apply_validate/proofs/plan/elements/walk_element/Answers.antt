@@ -1,4 +1,4 @@
-use Rattle.std.proofs.Common.{◌≡◌, Bool, true, List, ap, map, option_map, sym, ◌∙◌, rules, is_some}
+use Rattle.std.proofs.Common.{◌≡◌, true, ap, map, option_map, ◌∙◌, rules, is_some}
 use Rattle.serde_json.specs.Find.{as_object}
 use Rattle.serde_json.specs.View.{view}
 use Rattle.apply_validate.specs.Findings.{told}

@@ -1,4 +1,4 @@
-use Rattle.std.proofs.Common.{◌≡◌, ◌<◌, length, map, option_map, ap, ◌∙◌, arith}
+use Rattle.std.proofs.Common.{◌<◌, length, map, option_map, ap, ◌∙◌, arith}
 use Rattle.serde_json.specs.View.{view}
 use Rattle.apply_validate.specs.Findings.{told}
 use Rattle.apply_validate.specs.ObjectNames.{name_view}

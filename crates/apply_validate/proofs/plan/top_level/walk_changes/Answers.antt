@@ -1,12 +1,10 @@
-use Rattle.std.proofs.Common.{◌≡◌, ◌<◌, ◌≤◌, ℕ, List, length, Bool, true, false, ap, sym, ◌∙◌, arith, if◌then◌else◌}
+use Rattle.std.proofs.Common.{◌≡◌, ℕ, length, true, false, ap, ◌∙◌, arith}
 use Rattle.std.specs.Prelude.{nat_lt}
 use Rattle.std.proofs.lemmas.Bool.{le-ltb, lt-ltb}
 use Rattle.std.proofs.lemmas.Result.{IfOk-weaker}
 use Rattle.serde_json.specs.View.{items_view}
 use Rattle.apply_json.specs.Tree.{list_of}
 use Rattle.apply_model.specs.Plan.SavedPlan.{max_changes}
-use Rattle.apply_validate.specs.Findings.{told}
-use Rattle.apply_validate.specs.PlanFindings.{in_elements}
 use Rattle.apply_validate.proofs.Trees.{length_listed}
 use Rattle.apply_validate.proofs.plan.top_level.walk_changes.Goals as goal
 
