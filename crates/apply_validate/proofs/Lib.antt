@@ -4,6 +4,7 @@ pub mod Diagnostics
 pub mod Elements
 pub mod Named
 pub mod Options
+pub mod Places
 pub mod Plans
 pub mod Provisioners
 pub mod Refused

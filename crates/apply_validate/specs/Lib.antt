@@ -1,6 +1,7 @@
 pub mod Findings
 pub mod Laws
 pub mod Names
+pub mod Near
 pub mod ObjectNames
 pub mod PlanFindings
 pub mod ScriptFindings

@@ -3,6 +3,7 @@
 
 mod findings;
 mod laws;
+mod near;
 mod plan;
 mod reading;
 mod script;
@@ -19,4 +20,6 @@ pub use laws::{
     findings_are_refusals_of_a_run, findings_of_plans_are_refusals,
     findings_of_scripts_are_refusals, the_refusal_of_a_run_is_found,
 };
+pub use near::nearest;
+pub use script::known_names::known_names;
 pub use reading::{Found, findings_of, findings_of_plan, findings_of_script};

@@ -2,6 +2,7 @@
 
 pub mod diagnostic;
 pub mod entry;
+pub mod known_names;
 pub mod provisioner;
 pub mod step;
 pub mod top_level;

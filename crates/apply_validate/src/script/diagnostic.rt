@@ -27,7 +27,7 @@ const TABLE: [Known; 2] = [
     },
 ];
 
-const NAMES: [Name; 2] = [Name::Summary, Name::Detail];
+pub(crate) const NAMES: [Name; 2] = [Name::Summary, Name::Detail];
 
 /// A diagnostic: a step's warning, or why a step or a provisioner fails.
 #[derive(Clone, Copy)]

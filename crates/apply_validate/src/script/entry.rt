@@ -25,7 +25,7 @@ const TABLE: [Known; 2] = [
     },
 ];
 
-const NAMES: [Name; 3] = [Name::Address, Name::Deposed, Name::Steps];
+pub(crate) const NAMES: [Name; 3] = [Name::Address, Name::Deposed, Name::Steps];
 
 const STEPS: Known = Known {
     name: Name::Steps,

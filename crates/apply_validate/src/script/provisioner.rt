@@ -29,7 +29,7 @@ const TABLE: [Known; 2] = [
     },
 ];
 
-const NAMES: [Name; 4] = [Name::Provisioner, Name::Seconds, Name::Output, Name::Failed];
+pub(crate) const NAMES: [Name; 4] = [Name::Provisioner, Name::Seconds, Name::Output, Name::Failed];
 
 const OUTPUT: Known = Known {
     name: Name::Output,

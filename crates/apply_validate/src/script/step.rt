@@ -33,7 +33,7 @@ const TABLE: [Known; 2] = [
     },
 ];
 
-const NAMES: [Name; 6] = [
+pub(crate) const NAMES: [Name; 6] = [
     Name::Seconds,
     Name::Id,
     Name::Warning,

@@ -16,7 +16,7 @@ use crate::walks::unread::walk_unread;
 use serde_json::Value;
 use std::alloc::{AllocError, Global};
 
-const NAMES: [Name; 4] = [
+pub(crate) const NAMES: [Name; 4] = [
     Name::Changes,
     Name::Outputs,
     Name::Diagnostics,

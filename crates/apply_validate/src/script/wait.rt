@@ -28,7 +28,7 @@ const TABLE: [Known; 3] = [
     },
 ];
 
-const NAMES: [Name; 3] = [Name::Address, Name::Deposed, Name::Step];
+pub(crate) const NAMES: [Name; 3] = [Name::Address, Name::Deposed, Name::Step];
 
 /// An item of `after`: an address, or an object that names a step.
 #[derive(Clone, Copy)]
