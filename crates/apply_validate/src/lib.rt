@@ -21,5 +21,5 @@ pub use laws::{
     findings_of_scripts_are_refusals, the_refusal_of_a_run_is_found,
 };
 pub use near::nearest;
-pub use script::known_names::known_names;
 pub use reading::{Found, findings_of, findings_of_plan, findings_of_script};
+pub use script::known_names::known_names;

@@ -3,5 +3,6 @@
 pub mod count;
 pub mod finding;
 pub mod found;
+pub mod near;
 pub mod place;
 pub mod wants;

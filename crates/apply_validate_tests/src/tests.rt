@@ -121,7 +121,7 @@ fn scripts_are_told_of_in_their_order(rt: HostRuntime) {
         &rt,
         alloc,
         r#"{"change":[]}"#,
-        "script .changes: is missing, and has to be an array\nwarning: script .change: is not read\n",
+        "script .changes: is missing, and has to be an array\nwarning: script .change: is not read; is \"changes\" meant?\n",
         true,
     );
     of_script(
@@ -130,11 +130,11 @@ fn scripts_are_told_of_in_their_order(rt: HostRuntime) {
         r#"{"changes":[{"address":"a.b","steps":[{"second":12,"id":"i-7"}]},
 {"address":"a.c","steps":[{"seconds":3,"id":5,"warnings":{}},{"seconds":90000,"failed":{"sumary":"boom"},"id":"x"}]}]}"#,
         "script .changes[0].steps[0].seconds: is missing, and has to be a whole number from 0 to 86400\n\
-warning: script .changes[0].steps[0].second: is not read\n\
+warning: script .changes[0].steps[0].second: is not read; is \"seconds\" meant?\n\
 script .changes[1].steps[0].id: is 5, and has to be a text, or absent\n\
-warning: script .changes[1].steps[0].warnings: is not read\n\
+warning: script .changes[1].steps[0].warnings: is not read; is \"warning\" meant?\n\
 script .changes[1].steps[1].failed.summary: is missing, and has to be a text\n\
-warning: script .changes[1].steps[1].failed.sumary: is not read\n\
+warning: script .changes[1].steps[1].failed.sumary: is not read; is \"summary\" meant?\n\
 script .changes[1].steps[1].id: stands beside `failed`, and a step that failed has none\n\
 script .changes[1].steps[1]: takes 90,000 seconds, 86,400 at most\n",
         true,

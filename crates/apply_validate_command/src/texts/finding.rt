@@ -2,6 +2,7 @@
 
 use crate::texts::count::Count;
 use crate::texts::found::{found_text, shortened_json};
+use crate::texts::near::not_read_text;
 use crate::texts::place::{path_text, value_at};
 use crate::texts::wants::want_text;
 use apply_plan::{MAX_BYTES, MAX_CHANGES, MAX_OUTPUTS, MAX_PROVISIONERS, MAX_SECONDS, ScriptError};
@@ -111,7 +112,7 @@ fn what_text(alloc: Global, tree: &Value, finding: &Finding) -> Result<String, A
             let (count, most) = (Count(count_of(found)), Count(MAX_OUTPUTS as u64));
             format!(in alloc; "has {count} texts, {most} at most")
         }
-        What::NotRead => String::from_str(alloc, "is not read"),
+        What::NotRead => not_read_text(alloc, tree, finding),
         What::ForPlan(refusal) => String::from_str(alloc, for_plan_text(refusal)),
         What::Waits => String::from_str(alloc, "waits, which takes --parallelism"),
     }

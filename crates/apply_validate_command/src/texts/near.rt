@@ -6,11 +6,7 @@ use serde_json::Value;
 use std::alloc::{AllocError, Global};
 
 /// That nobody reads a member, and which known ones its name is nearly. `Err` where memory is refused.
-pub fn not_read_text(
-    alloc: Global,
-    tree: &Value,
-    finding: &Finding,
-) -> Result<String, AllocError> {
+pub fn not_read_text(alloc: Global, tree: &Value, finding: &Finding) -> Result<String, AllocError> {
     let mut text = String::from_str(alloc, "is not read")?;
     let before = finding.path.len().saturating_sub(1);
     if let Some(name) = name_found(tree, finding, before) {
