@@ -1,6 +1,6 @@
 //! Prints the stream of messages for applying a saved plan, which is read from standard input, as the words of the command
 //! line say; or checks such a stream, where the first of them is `check`, plays it, where it is `play`, or draws it, where it is
-//! `view`.
+//! `view`; or says every fault of a plan and of a script, where it is `validate`.
 #![tactic(auto)]
 
 use apply_cli::{Awaited, Usage, follow_standard, given_words, refuse_standard};
@@ -19,6 +19,10 @@ const NO_STREAM_TO_PLAY: &str =
 /// Said where somebody has typed `applystream view` alone.
 const NO_STREAM_TO_VIEW: &str =
     "a stream is awaited from this terminal: name its file, as in applystream view stream.jsonl";
+
+/// Said where somebody has typed `applystream validate` alone.
+const NO_PLAN: &str =
+    "a plan is awaited from this terminal: give it, as in applystream validate < plan.json";
 
 /// How many bytes of output are gathered before they are written.
 const OUTPUT_ROOM: usize = 65_536;
@@ -40,6 +44,7 @@ fn use_tool(rt: &HostRuntime, words: &[String]) -> Option<u8> {
         "check" => Some(check_stream(rt, words)),
         "play" => Some(play_stream(rt, words)),
         "view" => Some(view_stream(rt, words)),
+        "validate" => Some(validate(rt, words)),
         _ => None,
     }
 }
@@ -105,6 +110,20 @@ fn view_stream(rt: &HostRuntime, words: &[String]) -> u8 {
     // What a failed write left behind is given up: a drop would write it once more, behind the fault.
     let (_stdout, _unwritten) = output.into_parts();
     followed.status
+}
+
+/// Validates a plan and a script, as the words behind the second say, and answers the exit status.
+fn validate(rt: &HostRuntime, words: &[String]) -> u8 {
+    let words = words.get(2..).unwrap_or(&[]);
+    let text = rt.stdin().is_terminal().then_some(NO_PLAN);
+    apply_validate_command::follow(
+        rt,
+        rt.alloc(),
+        words,
+        &mut Awaited::new(rt.reader(), rt.stderr(), text),
+        &mut rt.stdout(),
+        &mut rt.stderr(),
+    )
 }
 
 /// Whether `NO_COLOR` is absent or empty.

@@ -1,0 +1,15 @@
+pub mod Clean
+pub mod Collected
+pub mod Diagnostics
+pub mod Elements
+pub mod Named
+pub mod Options
+pub mod Places
+pub mod Plans
+pub mod Provisioners
+pub mod Refused
+pub mod Runs
+pub mod Scripts
+pub mod Steps
+pub mod Trees
+pub mod Wanted

@@ -1,0 +1,143 @@
+-- Provisioners: nothing is found for which a run refuses, exactly where one is read and puts out no more than it may.
+use Rattle.std.proofs.Common.{◌≡◌, ℕ, suc, ◌+◌, List, [], ◌∷◌, ◌++◌, length, map, Bool, false, not, ◌&&◌, is_some, Option, Some, None, unwrap_or, refl, sym, ap, ◌∙◌}
+use Rattle.std.specs.Prelude.{codes, nat_lt}
+use Rattle.std.specs.List.{sum_by}
+use Rattle.std.specs.Option.{option_and_then, option_map_or}
+use Rattle.std.proofs.lemmas.List.Sums.{sum_by-cons}
+use Rattle.serde_json.specs.Data.{Data, null, boolean, number, string, array, object}
+use Rattle.serde_json.specs.Find.{as_number, as_object, as_str, as_u64}
+use Rattle.apply_json.specs.Seen.{items_in}
+use Rattle.apply_json.specs.Tree.{◌>>=◌, list_of, member_of, non_empty_text_of, unless_empty}
+use Rattle.apply_model.specs.declared.script.diag.Diag.{Diag}
+use Rattle.apply_model.specs.declared.script.provisioner.Provisioner.{Provisioner}
+use Rattle.apply_model.specs.Script.Limits.{max_outputs}
+use Rattle.apply_model.specs.Script.Outcome.{puts_out_too_much, seconds_of_all}
+use Rattle.apply_plan.specs.Script.Entry.{all_some, diag_from, diag_or_none, each_of, provisioner_from, seconds_of}
+use Rattle.apply_validate.specs.declared.findings.finding.Finding.{Finding}
+use Rattle.apply_validate.specs.declared.findings.name.Name.TheVariants as name
+use Rattle.apply_validate.specs.declared.findings.want.Want.TheVariants as want
+use Rattle.apply_validate.specs.ScriptFindings.{in_diagnostic, in_provisioner, known, provisioner_mark, provisioner_names, provisioner_table, seconds_in}
+use Rattle.apply_validate.specs.Walks.{faults_of, in_list, inside, items_at, marked, unless_suits, unread}
+use Rattle.apply_validate.specs.Wants.{is_met}
+use Rattle.apply_validate.proofs.Clean.{clean, clean-append, clean-in_list, clean-inside, clean-marked, clean-then_unread, clean-unless_suits, clean-where_suits}
+use Rattle.apply_validate.proofs.Diagnostics.{absent_or_diagnostic, clean_diagnostic, two}
+use Rattle.apply_validate.proofs.Wanted.{each_is, met_non_empty, met_seconds, needs_object}
+use Rattle.apply_validate.proofs.Options.{and_false, and_then_is, and_true, bind_some}
+
+-- what a run reads of a provisioner, that puts out no more than it may
+abbrev pub fits : Provisioner → Bool
+fits provisioner = not (puts_out_too_much provisioner)
+
+abbrev pub is_provisioner : Data → Bool
+is_provisioner d = option_map_or fits (provisioner_from d) false
+
+abbrev made : List ℕ → ℕ → List (List ℕ) → Option Diag → Provisioner
+made name seconds output failed = record { name = name; seconds = seconds; output = output; failed = failed }
+
+reads : (name : Option (List ℕ)) (seconds : Option ℕ) (failed : Option (Option Diag)) (output : Option (List (List ℕ))) (many : Bool)
+    → ((texts : List (List ℕ)) → output ≡ Some texts → many ≡ nat_lt max_outputs (length texts))
+    → ((((is_some name && is_some seconds) && is_some output) && not many) && is_some failed)
+    ≡ option_map_or fits (name >>= λ n. seconds >>= λ s. failed >>= λ f. output >>= λ o. Some (made n s o f)) false
+reads None seconds failed output many are = refl
+reads (Some n) None failed output many are = refl
+reads (Some n) (Some s) None output many are = and_false (is_some output && not many)
+reads (Some n) (Some s) (Some f) None many are = refl
+reads (Some n) (Some s) (Some f) (Some o) many are = and_true (not many) ∙ ap not (are o refl)
+
+-- ---- as many items as were read
+
+some_is : {A : Type 0} (x y : A) → Some x ≡ Some y → x ≡ y
+some_is x y e = cc
+
+length_of_all : {A : Type 0} (part : Data → Option A) (ds : List Data) (xs : List A) → all_some (map part ds) ≡ Some xs → length ds ≡ length xs
+length_of_all part [] xs e = ap length (some_is [] xs e)
+length_of_all {A} part (d ∷ ds) xs e =
+    let one = bind_some (part d) (λ x. all_some (map part ds) >>= λ ys. Some (x ∷ ys)) xs e in
+    let others = bind_some (all_some (map part ds)) (λ ys. Some (one.0 ∷ ys)) xs one.2 in
+    ap suc (length_of_all part ds others.0 others.1) ∙ ap length (some_is (one.0 ∷ others.0) xs others.2)
+
+pub length_read : {A : Type 0} (part : Data → Option A) (o : Option Data) (xs : List A) → each_of part o ≡ Some xs
+    → length (option_map_or (λ value. list_of (items_in value)) o []) ≡ length xs
+length_read part None xs e = ap length (some_is [] xs e)
+length_read part (Some null) xs e = absurd cc
+length_read part (Some (boolean b)) xs e = absurd cc
+length_read part (Some (number n)) xs e = absurd cc
+length_read part (Some (string s)) xs e = absurd cc
+length_read part (Some (array ds)) xs e = length_of_all part (list_of ds) xs e
+length_read part (Some (object ms)) xs e = absurd cc
+
+-- ---- the seconds that were read
+
+pub seconds_are : (o : Option Data) → option_and_then as_u64 (option_and_then as_number o) ≡ (o >>= as_number >>= as_u64)
+seconds_are o = and_then_is as_u64 (option_and_then as_number o) ∙ ap (λ n. n >>= as_u64) (and_then_is as_number o)
+
+pub seconds_read : (d : Data) (s : ℕ) → seconds_of d ≡ Some s → seconds_in d ≡ s
+seconds_read d s e = ap (λ (n : Option ℕ). unwrap_or n 0) (seconds_are (member_of (codes "seconds") d) ∙ e)
+
+of_provisioner : (d : Data) (p : Provisioner) → provisioner_from d ≡ Some p → seconds_in d ≡ p.seconds
+unfolding provisioner_from
+of_provisioner d p e =
+    let name = bind_some (non_empty_text_of (codes "provisioner") d) (λ n. seconds_of d >>= λ s. diag_or_none (member_of (codes "failed") d) >>= λ f. each_of as_str (member_of (codes "output") d) >>= λ o. Some (made n s o f)) p e in
+    let seconds = bind_some (seconds_of d) (λ s. diag_or_none (member_of (codes "failed") d) >>= λ f. each_of as_str (member_of (codes "output") d) >>= λ o. Some (made name.0 s o f)) p name.2 in
+    let failed = bind_some (diag_or_none (member_of (codes "failed") d)) (λ f. each_of as_str (member_of (codes "output") d) >>= λ o. Some (made name.0 seconds.0 o f)) p seconds.2 in
+    let output = bind_some (each_of as_str (member_of (codes "output") d)) (λ o. Some (made name.0 seconds.0 o failed.0)) p failed.2 in
+    seconds_read d seconds.0 seconds.1 ∙ ap (λ (x : Provisioner). x.seconds) (some_is (made name.0 seconds.0 output.0 failed.0) p output.2)
+
+seconds_of_list : (ds : List Data) (ps : List Provisioner) → all_some (map provisioner_from ds) ≡ Some ps → sum_by seconds_in ds ≡ seconds_of_all ps
+seconds_of_list [] ps e = ap seconds_of_all (some_is [] ps e)
+seconds_of_list (d ∷ ds) ps e =
+    let one = bind_some (provisioner_from d) (λ x. all_some (map provisioner_from ds) >>= λ ys. Some (x ∷ ys)) ps e in
+    let others = bind_some (all_some (map provisioner_from ds)) (λ ys. Some (one.0 ∷ ys)) ps one.2 in
+    sum_by-cons seconds_in d ds
+    ∙ ap (λ (n : ℕ). n + sum_by seconds_in ds) (of_provisioner d one.0 one.1)
+    ∙ ap (λ (n : ℕ). one.0.seconds + n) (seconds_of_list ds others.0 others.1)
+    ∙ sym (sum_by-cons (λ (p : Provisioner). p.seconds) one.0 others.0)
+    ∙ ap seconds_of_all (some_is (one.0 ∷ others.0) ps others.2)
+
+pub all_seconds_read : (o : Option Data) (ps : List Provisioner) → each_of provisioner_from o ≡ Some ps
+    → sum_by seconds_in (option_map_or (λ value. list_of (items_in value)) o []) ≡ seconds_of_all ps
+all_seconds_read None ps e = ap seconds_of_all (some_is [] ps e)
+all_seconds_read (Some null) ps e = absurd cc
+all_seconds_read (Some (boolean b)) ps e = absurd cc
+all_seconds_read (Some (number n)) ps e = absurd cc
+all_seconds_read (Some (string s)) ps e = absurd cc
+all_seconds_read (Some (array ds)) ps e = seconds_of_list (list_of ds) ps e
+all_seconds_read (Some (object ms)) ps e = absurd cc
+
+-- ---- the provisioner
+
+pub clean_provisioner : (d : Data) → clean (in_provisioner d) ≡ is_provisioner d
+unfolding in_provisioner provisioner_from
+clean_provisioner d =
+    let wrong : List Finding = faults_of provisioner_table d in
+    let output : List Finding = in_list (λ number. unless_suits want.Text) (known name.Output want.ArrayOrAbsent) d in
+    let marks : List Finding = marked (provisioner_mark d ∷ []) in
+    let failed : List Finding = inside in_diagnostic name.Failed d in
+    let many : Bool = nat_lt max_outputs (length (items_at name.Output d)) in
+    let name_read : Option (List ℕ) = non_empty_text_of (codes "provisioner") d in
+    let seconds : Option ℕ = seconds_of d in
+    let failed_read : Option (Option Diag) = diag_or_none (member_of (codes "failed") d) in
+    let output_read : Option (List (List ℕ)) = each_of as_str (member_of (codes "output") d) in
+    let a : clean wrong ≡ (is_some name_read && is_some seconds) =
+    two (known name.Provisioner want.NonEmptyText) (known name.Seconds want.Seconds) d
+    ∙ ap (λ (b : Bool). b && is_met want.Seconds (member_of (codes "seconds") d)) (met_non_empty (member_of (codes "provisioner") d))
+    ∙ ap (λ (b : Bool). is_some name_read && b) (met_seconds (member_of (codes "seconds") d)) in
+    let b : clean output ≡ is_some output_read =
+    clean-in_list (λ number. unless_suits want.Text) (λ e. is_some (as_str e)) (λ number e. clean-unless_suits want.Text e) (known name.Output want.ArrayOrAbsent) d
+    ∙ each_is as_str (member_of (codes "output") d) in
+    let m : clean marks ≡ not many = clean-marked (provisioner_mark d ∷ []) refl ∙ and_true (not many) in
+    let f : clean failed ≡ is_some failed_read =
+    clean-inside in_diagnostic (λ e. is_some (diag_from e)) clean_diagnostic name.Failed d ∙ absent_or_diagnostic (member_of (codes "failed") d) in
+    clean-where_suits want.Provisioner d (wrong ++ output ++ marks ++ failed ++ unread provisioner_names d)
+    ∙ ap (λ (x : Bool). is_some (as_object d) && x)
+    (clean-then_unread (wrong ++ output ++ marks ++ failed) provisioner_names d
+    ∙ clean-append (wrong ++ output ++ marks) failed
+    ∙ ap (λ (x : Bool). x && clean failed) (clean-append (wrong ++ output) marks ∙ ap (λ (x : Bool). x && clean marks) (clean-append wrong output))
+    ∙ ap (λ (x : Bool). ((x && clean output) && clean marks) && clean failed) a
+    ∙ ap (λ (x : Bool). (((is_some name_read && is_some seconds) && x) && clean marks) && clean failed) b
+    ∙ ap (λ (x : Bool). (((is_some name_read && is_some seconds) && is_some output_read) && x) && clean failed) m
+    ∙ ap (λ (x : Bool). (((is_some name_read && is_some seconds) && is_some output_read) && not many) && x) f)
+    ∙ needs_object (codes "provisioner") d ((((is_some name_read && is_some seconds) && is_some output_read) && not many) && is_some failed_read)
+    (λ none. ap (λ (o : Option Data). (((is_some (o >>= as_str >>= unless_empty) && is_some seconds) && is_some output_read) && not many) && is_some failed_read) none)
+    ∙ reads name_read seconds failed_read output_read many
+    (λ texts e. ap (λ (n : ℕ). nat_lt max_outputs n) (length_read as_str (member_of (codes "output") d) texts e))

@@ -1,0 +1,25 @@
+use Rattle.std.proofs.Common.{◌≡◌, List, true, ap, is_some, ◌∙◌, rules}
+use Rattle.serde_json.specs.Find.{as_object}
+use Rattle.serde_json.specs.View.{view}
+use Rattle.apply_validate.specs.declared.walks.mark.Mark.{Mark}
+use Rattle.apply_validate.specs.Findings.{told}
+use Rattle.apply_validate.specs.ScriptFindings.{in_step}
+use Rattle.apply_validate.specs.Walks.{marked}
+use Rattle.apply_validate.proofs.script.step.StepWalk.walk.Goals as goal
+
+pub returns : goal.returns
+unfolding in_step
+returns c =
+    let there : is_some (as_object (view c.args.value.now)) ≡ true = search rules in
+    rw there
+    (c.in_ok-all-7.ensures _ _
+    (c.in_ok-all-6.ensures _ _
+    (c.in_ok-all-5.ensures _ _
+    (c.in_ok-all-4.ensures _ _
+    (c.in_ok-all-3.ensures _ _
+    (c.in_ok-all-2.ensures _ _ c.in_ok-all.ensures c.in_ok-walk_inside.ensures)
+    c.in_ok-walk_inside-2.ensures)
+    c.in_ok-walk_list.ensures)
+    (c.in_ok-walk_marks.ensures ∙ ap (λ (marks : List Mark). told (marked marks)) c.marks.ensures))
+    c.in_ok-walk_list-2.ensures)
+    c.in_ok-walk_unread.ensures)

@@ -1,0 +1,50 @@
+-- Where findings are told, and what a run does.
+use Rattle.std.specs.Prelude.{ℕ, List, Bool, true, false, ◌&&◌, not, Option, Some, None, Result, Ok, Err}
+use Rattle.std.specs.List.{list_all, list_any}
+use Rattle.std.specs.Option.{option_map_or}
+use Rattle.serde_json.specs.Data.{Data}
+use Rattle.apply_json.specs.Tree.{list_of}
+use Rattle.apply_model.specs.Script.Outcome.{has_too_many_provisioners, has_too_much_output, is_too_long}
+use Rattle.apply_model.specs.Plan.SavedPlan.{SavedPlan}
+use Rattle.apply_model.specs.Script.OutcomeMap.{OutcomeMap}
+use Rattle.apply_model.specs.Script.Waits.{has_waits}
+use Rattle.apply_plan.specs.declared.plan.plan_error.PlanError.{PlanError}
+use Rattle.apply_plan.specs.declared.script.script_error.ScriptError.{ScriptError}
+use Rattle.apply_plan.specs.Plan.SavedPlan.{plan_of}
+use Rattle.apply_plan.specs.Script.Entry.{EntryStep, entry_of}
+use Rattle.apply_plan.specs.Script.OutcomeMap.{elements_of, script_of}
+use Rattle.apply_validate.specs.declared.findings.finding.Finding.{Finding}
+use Rattle.apply_validate.specs.Findings.{is_refusal}
+
+-- one of them is something for which a run refuses
+abbrev pub has_refusal : List Finding → Bool
+has_refusal all = list_any is_refusal all
+
+-- a step is within the limits of one
+abbrev pub is_within_limits : EntryStep → Bool
+is_within_limits step =
+    not (is_too_long step.outcome) && (not (has_too_many_provisioners step.outcome) && not (has_too_much_output step.outcome))
+
+-- an entry is one, each of whose steps is within the limits
+abbrev pub is_entry : Data → Bool
+is_entry d = option_map_or (λ entry. list_all is_within_limits entry.steps) (entry_of d) false
+
+-- a tree is a script, as far as it shows without a look at a plan
+abbrev pub is_script : Data → Bool
+is_script d = option_map_or (λ elements. list_all is_entry (list_of elements)) (elements_of d) false
+
+-- ---- what a run does
+
+-- a run refuses a script of which that is read; lanes are its `--parallelism`, without which no step may wait
+abbrev pub refuses_read : (lanes : Bool) → Result OutcomeMap ScriptError → Bool
+refuses_read lanes (Ok script) = not lanes && has_waits script
+refuses_read lanes (Err refusal) = true
+
+abbrev pub refuses_given : (lanes : Bool) → Result SavedPlan PlanError → Option (List ℕ) → Bool
+refuses_given lanes (Err refusal) script = true
+refuses_given lanes (Ok plan) None = false
+refuses_given lanes (Ok plan) (Some bytes) = refuses_read lanes (script_of plan bytes)
+
+-- a run refuses the bytes of a plan, or those of a script for it, memory aside
+abbrev pub run_refuses : (lanes : Bool) → List ℕ → Option (List ℕ) → Bool
+run_refuses lanes plan script = refuses_given lanes (plan_of plan) script

@@ -1,0 +1,10 @@
+pub mod Findings
+pub mod Laws
+pub mod Names
+pub mod Near
+pub mod ObjectNames
+pub mod PlanFindings
+pub mod ScriptFindings
+pub mod Walks
+pub mod Wants
+pub mod Whole

@@ -1,0 +1,7 @@
+-- What contracts see of the name of an object, for the private type that borrows it.
+use Rattle.std.specs.Prelude.{ℕ, List, Option}
+use Rattle.std.specs.Option.{option_copied}
+use Rattle.apply_validate.specs.declared.plan.object_name.ObjectName.{ObjectName}
+
+abbrev pub name_view : ObjectName → List ℕ × Option (List ℕ)
+name_view name = (name.address.now, option_copied name.deposed)

@@ -1,0 +1,122 @@
+-- What is found in a script, without a look at the plan. All paths are from the value.
+use Rattle.std.specs.Prelude.{ℕ, ◌+◌, List, [], ◌∷◌, ◌++◌, length, sum_by, Bool, ◌&&◌, is_some, nat_lt, if◌then◌else◌, Some, None, option_and_then, unwrap_or}
+use Rattle.serde_json.specs.Data.{Data}
+use Rattle.serde_json.specs.Find.{as_number, as_str, as_u64}
+use Rattle.apply_json.specs.Tree.{non_empty_text_of}
+use Rattle.apply_model.specs.Script.Limits.{max_outputs, max_provisioners, max_seconds}
+use Rattle.apply_validate.specs.declared.findings.finding.Finding.{Finding}
+use Rattle.apply_validate.specs.declared.findings.name.Name.{Name}
+use Rattle.apply_validate.specs.declared.findings.name.Name.TheVariants as name
+use Rattle.apply_validate.specs.declared.findings.want.Want.{Want}
+use Rattle.apply_validate.specs.declared.findings.want.Want.TheVariants as want
+use Rattle.apply_validate.specs.declared.findings.what.What.TheVariants as what
+use Rattle.apply_validate.specs.declared.walks.known.Known.{Known}
+use Rattle.apply_validate.specs.declared.walks.mark.Mark.{Mark}
+use Rattle.apply_validate.specs.Names.{name_text}
+use Rattle.apply_validate.specs.Walks.{faults_of, in_list, inside, items_at, marked, member_at, unless_suits, unread, where_suits}
+
+abbrev pub known : Name → Want → Known
+known name wanted = record { name = name; want = wanted }
+
+-- ---- diagnostics
+
+abbrev pub diagnostic_table : List Known
+diagnostic_table = known name.Summary want.Text ∷ known name.Detail want.TextOrAbsent ∷ []
+
+abbrev pub diagnostic_names : List Name
+diagnostic_names = name.Summary ∷ name.Detail ∷ []
+
+unfoldable pub in_diagnostic : Data → List Finding
+in_diagnostic d = where_suits want.Diagnostic d (faults_of diagnostic_table d ++ unread diagnostic_names d)
+
+-- ---- provisioners
+
+abbrev pub provisioner_table : List Known
+provisioner_table = known name.Provisioner want.NonEmptyText ∷ known name.Seconds want.Seconds ∷ []
+
+abbrev pub provisioner_names : List Name
+provisioner_names = name.Provisioner ∷ name.Seconds ∷ name.Output ∷ name.Failed ∷ []
+
+abbrev pub provisioner_mark : Data → Mark
+provisioner_mark d =
+    record { holds = nat_lt max_outputs (length (items_at name.Output d)); at = Some name.Output; what = what.TooManyTexts }
+
+unfoldable pub in_provisioner : Data → List Finding
+in_provisioner d = where_suits want.Provisioner d
+    (faults_of provisioner_table d
+    ++ in_list (λ number. unless_suits want.Text) (known name.Output want.ArrayOrAbsent) d
+    ++ marked (provisioner_mark d ∷ [])
+    ++ inside in_diagnostic name.Failed d
+    ++ unread provisioner_names d)
+
+-- ---- what a step waits for
+
+abbrev pub wait_table : List Known
+wait_table = known name.Address want.Text ∷ known name.Deposed want.TextOrAbsent ∷ known name.Step want.StepOrAbsent ∷ []
+
+abbrev pub wait_names : List Name
+wait_names = name.Address ∷ name.Deposed ∷ name.Step ∷ []
+
+-- of a text nothing more
+unfoldable pub in_wait : Data → List Finding
+in_wait d =
+    if is_some (as_str d) then [] else where_suits want.Wait d (faults_of wait_table d ++ unread wait_names d)
+
+-- ---- steps
+
+abbrev pub step_table : List Known
+step_table = known name.Seconds want.Seconds ∷ known name.Id want.TextOrAbsent ∷ []
+
+abbrev pub step_names : List Name
+step_names = name.Seconds ∷ name.Id ∷ name.Warning ∷ name.Failed ∷ name.Provisioners ∷ name.After ∷ []
+
+abbrev pub has_failed : Data → Bool
+has_failed d = is_some (member_at name.Failed d)
+
+-- the seconds of a step or of a provisioner, where they are a whole number
+abbrev pub seconds_in : Data → ℕ
+seconds_in d = unwrap_or (option_and_then as_u64 (option_and_then as_number (member_at name.Seconds d))) 0
+
+-- those of a step with all its provisioners
+abbrev pub seconds_in_all : Data → ℕ
+seconds_in_all d = seconds_in d + sum_by seconds_in (items_at name.Provisioners d)
+
+abbrev pub beside : Name → Bool → Data → Mark
+beside name stands d = record { holds = has_failed d && stands; at = Some name; what = what.BesideFailed }
+
+abbrev pub step_marks : Data → List Mark
+step_marks d =
+    beside name.Id (is_some (non_empty_text_of (name_text name.Id) d)) d
+    ∷ beside name.Warning (is_some (member_at name.Warning d)) d
+    ∷ beside name.Provisioners (nat_lt 0 (length (items_at name.Provisioners d))) d
+    ∷ record { holds = nat_lt max_seconds (seconds_in_all d); at = None; what = what.TooLong }
+    ∷ record { holds = nat_lt max_provisioners (length (items_at name.Provisioners d)); at = Some name.Provisioners; what = what.TooManyProvisioners }
+    ∷ []
+
+unfoldable pub in_step : Data → List Finding
+in_step d = where_suits want.Step d
+    (faults_of step_table d
+    ++ inside in_diagnostic name.Warning d
+    ++ inside in_diagnostic name.Failed d
+    ++ in_list (λ number. in_provisioner) (known name.Provisioners want.ArrayOrAbsent) d
+    ++ marked (step_marks d)
+    ++ in_list (λ number. in_wait) (known name.After want.ArrayOrAbsent) d
+    ++ unread step_names d)
+
+-- ---- entries, and the whole
+
+abbrev pub entry_table : List Known
+entry_table = known name.Address want.Text ∷ known name.Deposed want.TextOrAbsent ∷ []
+
+abbrev pub entry_names : List Name
+entry_names = name.Address ∷ name.Deposed ∷ name.Steps ∷ []
+
+unfoldable pub in_entry : Data → List Finding
+in_entry d = where_suits want.Entry d
+    (faults_of entry_table d ++ in_list (λ number. in_step) (known name.Steps want.Array) d ++ unread entry_names d)
+
+abbrev pub script_names : List Name
+script_names = name.Changes ∷ name.Outputs ∷ name.Diagnostics ∷ name.Schema ∷ []
+
+unfoldable pub in_script : Data → List Finding
+in_script d = where_suits want.Object d (in_list (λ number. in_entry) (known name.Changes want.Array) d ++ unread script_names d)

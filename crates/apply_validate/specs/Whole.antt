@@ -1,0 +1,85 @@
+-- What is found in bytes.
+use Rattle.std.specs.Prelude.{ℕ, List, [], ◌∷◌, ◌++◌, length, map, Bool, ◌&&◌, not, nat_lt, if◌then◌else◌, Option, Some, None, Result, Ok, Err}
+use Rattle.std.specs.List.{list_any}
+use Rattle.std.specs.Option.{option_map_or}
+use Rattle.serde_json.specs.Data.{Data}
+use Rattle.apply_json.specs.Tree.{tree_of}
+use Rattle.apply_model.specs.Plan.SavedPlan.{SavedPlan}
+use Rattle.apply_model.specs.Script.OutcomeMap.{OutcomeMap}
+use Rattle.apply_model.specs.Script.Waits.{has_waits}
+use Rattle.apply_plan.specs.Bytes.{max_bytes}
+use Rattle.apply_plan.specs.declared.plan.plan_error.PlanError.{PlanError}
+use Rattle.apply_plan.specs.declared.script.script_error.ScriptError.{ScriptError}
+use Rattle.apply_plan.specs.declared.script.script_error.ScriptError.TheVariants as error
+use Rattle.apply_plan.specs.Script.OutcomeMap.{script_of}
+use Rattle.apply_validate.specs.declared.findings.finding.Finding.{Finding}
+use Rattle.apply_validate.specs.declared.findings.what.What.{What}
+use Rattle.apply_validate.specs.declared.findings.what.What.TheVariants.{ForPlan, NotJson, TooManyBytes, Waits}
+use Rattle.apply_validate.specs.declared.findings.name.Name.TheVariants.{Changes}
+use Rattle.apply_validate.specs.declared.findings.part.Part.TheVariants.{Item, Member}
+use Rattle.apply_validate.specs.Findings.{finding_here, is_refusal, under}
+use Rattle.apply_validate.specs.PlanFindings.{in_plan}
+use Rattle.apply_validate.specs.ScriptFindings.{in_script}
+
+-- what is found in the tree of the bytes, which may be too many or no JSON
+abbrev pub in_bytes : (Data → List Finding) → List ℕ → List Finding
+in_bytes found bytes =
+    if nat_lt max_bytes (length bytes) then finding_here TooManyBytes ∷ []
+    else option_map_or found (tree_of bytes) (finding_here NotJson ∷ [])
+
+-- what is found in a plan
+abbrev pub plan_findings : List ℕ → List Finding
+plan_findings bytes = in_bytes in_plan bytes
+
+-- what is found in a script, without a look at the plan
+abbrev pub script_findings : List ℕ → List Finding
+script_findings bytes = in_bytes in_script bytes
+
+-- ---- a script for a plan
+
+-- the entry that a refusal names
+abbrev pub entry_of_refusal : ScriptError → Option ℕ
+entry_of_refusal (error.BadShape entry) = entry
+entry_of_refusal (error.UnknownChange n) = Some n
+entry_of_refusal (error.Duplicate n) = Some n
+entry_of_refusal (error.TooManySteps n) = Some n
+entry_of_refusal (error.SecondsRange n) = Some n
+entry_of_refusal (error.TooManyProvisioners n) = Some n
+entry_of_refusal (error.TooMuchOutput n) = Some n
+entry_of_refusal (error.NotACreate n) = Some n
+entry_of_refusal (error.TooManyWaits n) = Some n
+entry_of_refusal (error.UnknownWait n) = Some n
+entry_of_refusal (error.NoSuchStep n) = Some n
+entry_of_refusal (error.NeverBegins n) = Some n
+entry_of_refusal _ = None
+
+-- what a run refuses a script for, beside the plan, where it stands
+abbrev pub placed : Option ℕ → What → List Finding
+placed None what = finding_here what ∷ []
+placed (Some n) what = map (under (Member Changes)) (map (under (Item n)) (finding_here what ∷ []))
+
+abbrev pub refused_for : ScriptError → List Finding
+refused_for refusal = placed (entry_of_refusal refusal) (ForPlan refusal)
+
+-- waits take lanes
+abbrev pub unless_waits : (lanes : Bool) → OutcomeMap → List Finding
+unless_waits lanes script = if not lanes && has_waits script then finding_here Waits ∷ [] else []
+
+abbrev pub refusals_of : (lanes : Bool) → Result OutcomeMap ScriptError → List Finding
+refusals_of lanes (Ok script) = unless_waits lanes script
+refusals_of lanes (Err refusal) = refused_for refusal
+
+-- what is found in a script beside a plan, in which nothing is found without it
+abbrev pub beside_plan : (lanes : Bool) → SavedPlan → List ℕ → List Finding
+beside_plan lanes plan bytes =
+    if list_any is_refusal (script_findings bytes) then [] else refusals_of lanes (script_of plan bytes)
+
+-- what is found in a script for a plan that may be refused
+abbrev pub script_findings_for : (lanes : Bool) → Result SavedPlan PlanError → List ℕ → List Finding
+script_findings_for lanes (Ok plan) bytes = script_findings bytes ++ beside_plan lanes plan bytes
+script_findings_for lanes (Err refusal) bytes = script_findings bytes
+
+-- what is found in a script that may not be given
+abbrev pub given_findings : (lanes : Bool) → Result SavedPlan PlanError → Option (List ℕ) → List Finding
+given_findings lanes plan None = []
+given_findings lanes plan (Some bytes) = script_findings_for lanes plan bytes

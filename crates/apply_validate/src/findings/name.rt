@@ -1,0 +1,75 @@
+//! Members that a run looks at.
+
+ghost use Rattle.std.specs.Prelude.{◌≡◌};
+ghost use Rattle.apply_validate.specs.Names.{name_text};
+
+/// A member of a plan or of a script that a run looks at, or that `validate` knows.
+#[derive(Clone, Copy, Debug)]
+pub enum Name {
+    Actions,
+    Address,
+    After,
+    Change,
+    Changes,
+    Deposed,
+    Detail,
+    Diagnostics,
+    Failed,
+    FormatVersion,
+    Id,
+    Index,
+    Kind,
+    Mode,
+    ModuleAddress,
+    Name,
+    Output,
+    Outputs,
+    Provisioner,
+    Provisioners,
+    ResourceChanges,
+    Schema,
+    Seconds,
+    Step,
+    Steps,
+    Summary,
+    TerraformVersion,
+    Warning,
+}
+
+impl Name {
+    /// The name as JSON has it.
+    pub fn text(self) -> &'static str
+        ensures { result.now ≡ name_text self }
+    {
+        match self {
+            Name::Actions => "actions",
+            Name::Address => "address",
+            Name::After => "after",
+            Name::Change => "change",
+            Name::Changes => "changes",
+            Name::Deposed => "deposed",
+            Name::Detail => "detail",
+            Name::Diagnostics => "diagnostics",
+            Name::Failed => "failed",
+            Name::FormatVersion => "format_version",
+            Name::Id => "id",
+            Name::Index => "index",
+            Name::Kind => "type",
+            Name::Mode => "mode",
+            Name::ModuleAddress => "module_address",
+            Name::Name => "name",
+            Name::Output => "output",
+            Name::Outputs => "outputs",
+            Name::Provisioner => "provisioner",
+            Name::Provisioners => "provisioners",
+            Name::ResourceChanges => "resource_changes",
+            Name::Schema => "$schema",
+            Name::Seconds => "seconds",
+            Name::Step => "step",
+            Name::Steps => "steps",
+            Name::Summary => "summary",
+            Name::TerraformVersion => "terraform_version",
+            Name::Warning => "warning",
+        }
+    }
+}

@@ -1,0 +1,126 @@
+//! What has to stand somewhere.
+
+ghost use Rattle.std.specs.Prelude.{◌≡◌, is_some, option_map, Some};
+ghost use Rattle.serde_json.specs.View.{view};
+ghost use Rattle.apply_plan.specs.Plan.Element.{key_of};
+ghost use Rattle.apply_validate.specs.Wants.{is_format_version, is_met, is_mode, is_text_with_a_byte, may_be_absent, suits};
+
+use apply_json::members::is_text;
+use serde_json::Value;
+
+/// What a value has to be.
+#[derive(Clone, Copy, Debug)]
+pub enum Want {
+    /// An array.
+    Array,
+    /// An array, or nothing.
+    ArrayOrAbsent,
+    /// An object with a `summary`.
+    Diagnostic,
+    /// An object with an `address` and `steps`.
+    Entry,
+    /// A text that begins with `1.`.
+    FormatVersion,
+    /// The key of an instance: a text, a whole number of 64 bits with a sign, or nothing.
+    Key,
+    /// One of the two modes of a resource.
+    Mode,
+    /// A text of one byte at least.
+    NonEmptyText,
+    /// An object.
+    Object,
+    /// A plan.
+    Plan,
+    /// An object with a `provisioner` and `seconds`.
+    Provisioner,
+    /// A whole number of 64 bits, which a limit of its own holds down to a day.
+    Seconds,
+    /// An object with `seconds`.
+    Step,
+    /// The number of a step, or nothing.
+    StepOrAbsent,
+    /// A text.
+    Text,
+    /// A text, or nothing.
+    TextOrAbsent,
+    /// A text, or an object with an `address`.
+    Wait,
+}
+
+impl Want {
+    /// Whether the value that was found is that, or nothing where there may be nothing. `null` was not found.
+    pub fn is_met(self, found: Option<&Value>) -> bool
+        ensures { result ≡ is_met self (option_map (λ value. view value.now) found.entry) }
+    {
+        match found {
+            Some(value) => self.suits(value),
+            None => self.may_be_absent(),
+        }
+    }
+
+    /// Whether there may be nothing.
+    pub fn may_be_absent(self) -> bool
+        ensures { result ≡ may_be_absent self }
+    {
+        matches!(
+            self,
+            Want::ArrayOrAbsent | Want::Key | Want::StepOrAbsent | Want::TextOrAbsent
+        )
+    }
+
+    /// Whether the value is that.
+    pub fn suits(self, value: &Value) -> bool
+        ensures { result ≡ suits self (view value.now) }
+    {
+        match self {
+            Want::Array | Want::ArrayOrAbsent => value.as_array().is_some(),
+            Want::Diagnostic
+            | Want::Entry
+            | Want::Object
+            | Want::Plan
+            | Want::Provisioner
+            | Want::Step => value.is_object(),
+            Want::FormatVersion => is_format_version(value),
+            Want::Key => is_key(value),
+            Want::Mode => is_mode(value),
+            Want::NonEmptyText => is_text_with_a_byte(value),
+            Want::Seconds | Want::StepOrAbsent => value.as_u64().is_some(),
+            Want::Text | Want::TextOrAbsent => value.as_str().is_some(),
+            Want::Wait => value.as_str().is_some() || value.is_object(),
+        }
+    }
+}
+
+fn is_format_version(value: &Value) -> bool
+    ensures { result ≡ is_format_version (view value.now) }
+{
+    match value.as_str() {
+        Some(text) => text.starts_with("1."),
+        None => false,
+    }
+}
+
+fn is_key(value: &Value) -> bool
+    ensures { result ≡ is_some (key_of (Some (view value.now))) }
+{
+    match value {
+        Value::Number(number) => number.as_i64().is_some(),
+        Value::String(_) => true,
+        _ => false,
+    }
+}
+
+fn is_mode(value: &Value) -> bool
+    ensures { result ≡ is_mode (view value.now) }
+{
+    is_text(value, "managed") || is_text(value, "data")
+}
+
+fn is_text_with_a_byte(value: &Value) -> bool
+    ensures { result ≡ is_text_with_a_byte (view value.now) }
+{
+    match value.as_str() {
+        Some(text) => !text.is_empty(),
+        None => false,
+    }
+}

@@ -1,0 +1,56 @@
+//! What is wrong.
+
+ghost use Rattle.std.specs.Prelude.{◌≡◌};
+ghost use Rattle.apply_validate.specs.Findings.{is_refusal_of};
+
+use crate::findings::want::Want;
+use apply_plan::ScriptError;
+
+/// What is wrong where a path leads.
+#[derive(Clone, Copy, Debug)]
+pub enum What {
+    /// The bytes are more than a run reads.
+    TooManyBytes,
+    /// The bytes are no JSON (RFC 8259) in UTF-8, or nest more than 127 deep.
+    NotJson,
+    /// Something else stands there.
+    IsNot(Want),
+    /// Nothing stands there.
+    IsMissing(Want),
+    /// The plan has more than 10,000 changes.
+    TooManyChanges,
+    /// The actions are none of the eight lists.
+    BadActions,
+    /// The address is empty.
+    EmptyAddress,
+    /// The address does not begin with that of its module, a dot and something more.
+    OutsideModule,
+    /// The element of that number has named the object before.
+    NamedBefore(usize),
+    /// It stands beside the failure of a step.
+    BesideFailed,
+    /// The step takes longer than a day.
+    TooLong,
+    /// The step has more than 8 provisioners.
+    TooManyProvisioners,
+    /// The provisioner puts out more than 100 texts.
+    TooManyTexts,
+    /// A run refuses it beside the plan.
+    ForPlan(ScriptError),
+    /// Some step waits for others, which takes lanes.
+    Waits,
+    /// No run reads the member.
+    NotRead,
+}
+
+impl What {
+    /// Whether a run refuses a plan or a script for it.
+    pub fn is_refusal(self) -> bool
+        ensures { result ≡ is_refusal_of self }
+    {
+        match self {
+            What::NotRead => false,
+            _ => true,
+        }
+    }
+}

@@ -1,0 +1,35 @@
+//! Laws of findings. Each function does nothing; its contract is the law.
+
+ghost use Rattle.std.specs.Prelude.{◌≡◌, ◌++◌, ◌||◌, ℕ, List, Bool, Err, Ok, Option, Some, false, is_err, not};
+ghost use Rattle.serde_json.specs.Data.{Data};
+ghost use Rattle.apply_model.specs.Plan.SavedPlan.{SavedPlan};
+ghost use Rattle.apply_plan.specs.Plan.SavedPlan.{plan_of};
+ghost use Rattle.apply_plan.specs.Script.OutcomeMap.{script_of};
+ghost use Rattle.apply_plan.specs.declared.script.script_error.ScriptError.{ScriptError};
+ghost use Rattle.apply_validate.specs.Laws.{has_refusal, is_script, run_refuses};
+ghost use Rattle.apply_validate.specs.ScriptFindings.{in_script};
+ghost use Rattle.apply_validate.specs.Whole.{given_findings, plan_findings, refused_for, script_findings};
+
+/// Something is found in a plan for which a run refuses, exactly where a run refuses it.
+pub fn findings_of_plans_are_refusals()
+    ensures { (bytes : List ℕ) → has_refusal (plan_findings bytes) ≡ is_err (plan_of bytes) }
+{}
+
+/// Something is found in a script for which a run refuses, without a look at a plan, exactly where it is none, one of its
+/// entries is none, or a step goes beyond a limit.
+pub fn findings_of_scripts_are_refusals()
+    ensures { (script : Data) → has_refusal (in_script script) ≡ not (is_script script) }
+{}
+
+/// Something is found in a plan, or in a script for it, for which a run refuses, exactly where a run with the same bytes
+/// refuses the plan or the script. `lanes` says that the run has `--parallelism`, without which no step may wait.
+pub fn findings_are_refusals_of_a_run()
+    ensures { (lanes : Bool) (plan : List ℕ) (script : Option (List ℕ))
+        → (has_refusal (plan_findings plan) || has_refusal (given_findings lanes (plan_of plan) script)) ≡ run_refuses lanes plan script }
+{}
+
+/// Of what a run refuses a script for, the finding is told: where nothing is found in the script by itself, behind its warnings.
+pub fn the_refusal_of_a_run_is_found()
+    ensures { (lanes : Bool) (plan : SavedPlan) (bytes : List ℕ) (refusal : ScriptError) → has_refusal (script_findings bytes) ≡ false
+        → script_of plan bytes ≡ Err refusal → given_findings lanes (Ok plan) (Some bytes) ≡ script_findings bytes ++ refused_for refusal }
+{}

@@ -1,0 +1,25 @@
+//! Every fault of a saved plan and of a script at once, each with its place.
+#![tactic(auto)]
+
+mod findings;
+mod laws;
+mod near;
+mod plan;
+mod reading;
+mod script;
+mod walks;
+
+pub use findings::finding::Finding;
+pub use findings::list::Findings;
+pub use findings::name::Name;
+pub use findings::part::Part;
+pub use findings::path::Path;
+pub use findings::want::Want;
+pub use findings::what::What;
+pub use laws::{
+    findings_are_refusals_of_a_run, findings_of_plans_are_refusals,
+    findings_of_scripts_are_refusals, the_refusal_of_a_run_is_found,
+};
+pub use near::nearest;
+pub use reading::{Found, findings_of, findings_of_plan, findings_of_script};
+pub use script::known_names::known_names;

@@ -1,0 +1,176 @@
+//! From bytes to findings.
+
+ghost use Rattle.std.specs.Prelude.{◌≡◌, [], IfOk, if◌then◌else◌};
+ghost use Rattle.std.specs.Option.{option_copied};
+ghost use Rattle.apply_plan.specs.Plan.SavedPlan.{plan_of};
+ghost use Rattle.apply_plan.specs.Script.OutcomeMap.{script_of};
+ghost use Rattle.apply_validate.specs.Findings.{told};
+ghost use Rattle.apply_validate.specs.Whole.{entry_of_refusal, given_findings, plan_findings, refusals_of, refused_for, script_findings, script_findings_for, unless_waits};
+
+use crate::findings::list::Findings;
+use crate::findings::name::Name;
+use crate::findings::part::Part;
+use crate::findings::what::What;
+use crate::plan::top_level::walk_plan;
+use crate::script::top_level::walk_script;
+use apply_json::{JsonFault, parse};
+use apply_plan::{MAX_BYTES, Plan, PlanError, Script, ScriptError, read_plan, read_script};
+use std::alloc::{AllocError, Global};
+
+/// What is found in the bytes of a saved plan (JSON Output Format, "Plan Representation"): something exactly where
+/// `apply_plan::read_plan` refuses it. `Err` where memory is refused.
+pub fn findings_of_plan(alloc: Global, bytes: &[u8]) -> Result<Findings, AllocError>
+    ensures { IfOk result (λ f. f ≡ told (plan_findings bytes.now)) }
+{
+    match parse(alloc, bytes, MAX_BYTES) {
+        Ok(plan) => walk_plan(alloc, &plan),
+        Err(JsonFault::TooLarge) => Findings::here(alloc, What::TooManyBytes),
+        Err(JsonFault::NotJson) => Findings::here(alloc, What::NotJson),
+        Err(JsonFault::Memory) => Err(AllocError),
+    }
+}
+
+/// What is found in the bytes of a script, without a look at a plan. `Err` where memory is refused.
+pub fn findings_of_script(alloc: Global, bytes: &[u8]) -> Result<Findings, AllocError>
+    ensures { IfOk result (λ f. f ≡ told (script_findings bytes.now)) }
+{
+    match parse(alloc, bytes, MAX_BYTES) {
+        Ok(script) => walk_script(alloc, &script),
+        Err(JsonFault::TooLarge) => Findings::here(alloc, What::TooManyBytes),
+        Err(JsonFault::NotJson) => Findings::here(alloc, What::NotJson),
+        Err(JsonFault::Memory) => Err(AllocError),
+    }
+}
+
+/// What is found in a plan and in a script for it.
+#[derive(Debug, Drop)]
+pub struct Found {
+    /// In the plan.
+    pub plan: Findings,
+    /// In the script; nothing where none is given.
+    pub script: Findings,
+}
+
+/// What is found in the bytes of a saved plan, and in those of a script for it, where one is given: something for which a run
+/// refuses exactly where a run with the same bytes refuses. `lanes` says that the run has `--parallelism`, without which no step
+/// may wait. Where a script has no fault by itself, the first fault that it has beside the plan is told. `Err` where memory is
+/// refused.
+pub fn findings_of(
+    alloc: Global,
+    plan: &[u8],
+    script: Option<&[u8]>,
+    lanes: bool,
+) -> Result<Found, AllocError>
+    ensures plan { IfOk result (λ found. found.plan ≡ told (plan_findings plan.now)) }
+    ensures script { IfOk result (λ found. found.script ≡ told (given_findings lanes (plan_of plan.now) (option_copied script.entry))) }
+{
+    let of_plan = findings_of_plan(alloc, plan)?;
+    let of_script = findings_given(alloc, plan, script, lanes)?;
+    Ok(Found {
+        plan: of_plan,
+        script: of_script,
+    })
+}
+
+/// What is found in a script that may not be given.
+fn findings_given(
+    alloc: Global,
+    plan: &[u8],
+    script: Option<&[u8]>,
+    lanes: bool,
+) -> Result<Findings, AllocError>
+    ensures { IfOk result (λ f. f ≡ told (given_findings lanes (plan_of plan.now) (option_copied script.entry))) }
+{
+    match script {
+        Some(bytes) => findings_for(alloc, plan, bytes, lanes),
+        None => Ok(Findings::none(alloc)),
+    }
+}
+
+/// What is found in a script for a plan, which may be none.
+fn findings_for(
+    alloc: Global,
+    plan: &[u8],
+    bytes: &[u8],
+    lanes: bool,
+) -> Result<Findings, AllocError>
+    ensures { IfOk result (λ f. f ≡ told (script_findings_for lanes (plan_of plan.now) bytes.now)) }
+{
+    let itself = findings_of_script(alloc, bytes)?;
+    match read_plan(alloc, plan) {
+        Ok(plan) => {
+            let beside = beside_plan(alloc, itself.refuses(), &plan, bytes, lanes)?;
+            let all = itself.then(beside)?;
+            Ok(all)
+        }
+        Err(PlanError::Memory) => Err(AllocError),
+        Err(_) => Ok(itself),
+    }
+}
+
+/// What is found in a script beside the plan, unless it is refused without a look at that.
+fn beside_plan(
+    alloc: Global,
+    is_refused: bool,
+    plan: &Plan,
+    bytes: &[u8],
+    lanes: bool,
+) -> Result<Findings, AllocError>
+    ensures { IfOk result (λ f. f ≡ told (if is_refused then [] else refusals_of lanes (script_of plan.now bytes.now))) }
+{
+    if is_refused {
+        return Ok(Findings::none(alloc));
+    }
+    match read_script(alloc, bytes, plan) {
+        Ok(script) => unless_waits(alloc, lanes, &script),
+        Err(ScriptError::Memory) => Err(AllocError),
+        Err(refusal) => refused_for(alloc, refusal),
+    }
+}
+
+/// That a script has waits, which take lanes.
+fn unless_waits(alloc: Global, lanes: bool, script: &Script) -> Result<Findings, AllocError>
+    ensures { IfOk result (λ f. f ≡ told (unless_waits lanes script.now)) }
+{
+    if !lanes && script.has_waits() {
+        Findings::here(alloc, What::Waits)
+    } else {
+        Ok(Findings::none(alloc))
+    }
+}
+
+/// What a run refuses a script for, where it stands.
+fn refused_for(alloc: Global, refusal: ScriptError) -> Result<Findings, AllocError>
+    ensures { IfOk result (λ f. f ≡ told (refused_for refusal)) }
+{
+    let found = Findings::here(alloc, What::ForPlan(refusal))?;
+    match entry_of(refusal) {
+        Some(number) => {
+            let found = found.under(Part::Item(number))?;
+            let found = found.under(Part::Member(Name::Changes))?;
+            Ok(found)
+        }
+        None => Ok(found),
+    }
+}
+
+/// The entry that a refusal names.
+fn entry_of(refusal: ScriptError) -> Option<usize>
+    ensures { result ≡ entry_of_refusal refusal }
+{
+    match refusal {
+        ScriptError::BadShape(Some(number))
+        | ScriptError::UnknownChange(number)
+        | ScriptError::Duplicate(number)
+        | ScriptError::TooManySteps(number)
+        | ScriptError::SecondsRange(number)
+        | ScriptError::TooManyProvisioners(number)
+        | ScriptError::TooMuchOutput(number)
+        | ScriptError::NotACreate(number)
+        | ScriptError::TooManyWaits(number)
+        | ScriptError::UnknownWait(number)
+        | ScriptError::NoSuchStep(number)
+        | ScriptError::NeverBegins(number) => Some(number as usize),
+        _ => None,
+    }
+}

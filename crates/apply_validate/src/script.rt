@@ -1,0 +1,9 @@
+//! What is found in a script.
+
+pub mod diagnostic;
+pub mod entry;
+pub mod known_names;
+pub mod provisioner;
+pub mod step;
+pub mod top_level;
+pub mod wait;

@@ -1,0 +1,48 @@
+//! What is found in a diagnostic.
+
+ghost use Rattle.std.specs.Prelude.{◌≡◌, IfOk};
+ghost use Rattle.serde_json.specs.View.{view};
+ghost use Rattle.apply_validate.specs.Findings.{told};
+ghost use Rattle.apply_validate.specs.ScriptFindings.{in_diagnostic};
+
+use crate::findings::list::Findings;
+use crate::findings::name::Name;
+use crate::findings::want::Want;
+use crate::findings::what::What;
+use crate::walks::known::Known;
+use crate::walks::members::faults;
+use crate::walks::unread::walk_unread;
+use crate::walks::walk::Walk;
+use serde_json::Value;
+use std::alloc::{AllocError, Global};
+
+const TABLE: [Known; 2] = [
+    Known {
+        name: Name::Summary,
+        want: Want::Text,
+    },
+    Known {
+        name: Name::Detail,
+        want: Want::TextOrAbsent,
+    },
+];
+
+pub(crate) const NAMES: [Name; 2] = [Name::Summary, Name::Detail];
+
+/// A diagnostic: a step's warning, or why a step or a provisioner fails.
+#[derive(Clone, Copy)]
+pub struct Diagnostic;
+
+impl Walk for Diagnostic {
+    ghost found = { λ _ _ d. in_diagnostic d };
+
+    #[tactic(auto, unfolding(crate::specs::ScriptFindings::in_diagnostic))]
+    fn walk(&self, alloc: Global, _number: usize, value: &Value) -> Result<Findings, AllocError> {
+        if !Want::Diagnostic.suits(value) {
+            return Findings::here(alloc, What::IsNot(Want::Diagnostic));
+        }
+        let wrong = faults(alloc, value, &TABLE)?;
+        let all = wrong.then(walk_unread(alloc, value, &NAMES)?)?;
+        Ok(all)
+    }
+}

@@ -1,0 +1,69 @@
+//! What is found in a provisioner.
+
+ghost use Rattle.std.specs.Prelude.{◌≡◌};
+ghost use Rattle.serde_json.specs.View.{view};
+ghost use Rattle.apply_validate.specs.ScriptFindings.{in_provisioner, provisioner_mark};
+
+use crate::findings::list::Findings;
+use crate::findings::name::Name;
+use crate::findings::want::Want;
+use crate::findings::what::What;
+use crate::script::diagnostic::Diagnostic;
+use crate::walks::known::Known;
+use crate::walks::mark::Mark;
+use crate::walks::members::{count_at, faults, walk_inside, walk_list, walk_marks};
+use crate::walks::unread::walk_unread;
+use crate::walks::walk::{Leaf, Walk};
+use apply_plan::MAX_OUTPUTS;
+use serde_json::Value;
+use std::alloc::{AllocError, Global};
+
+const TABLE: [Known; 2] = [
+    Known {
+        name: Name::Provisioner,
+        want: Want::NonEmptyText,
+    },
+    Known {
+        name: Name::Seconds,
+        want: Want::Seconds,
+    },
+];
+
+pub(crate) const NAMES: [Name; 4] = [Name::Provisioner, Name::Seconds, Name::Output, Name::Failed];
+
+const OUTPUT: Known = Known {
+    name: Name::Output,
+    want: Want::ArrayOrAbsent,
+};
+
+/// A provisioner of a step.
+#[derive(Clone, Copy)]
+pub struct Provisioner;
+
+/// Whether it puts out too much.
+fn mark(value: &Value) -> Mark
+    ensures { result ≡ provisioner_mark (view value.now) }
+{
+    Mark {
+        holds: count_at(value, Name::Output) > MAX_OUTPUTS,
+        at: Some(Name::Output),
+        what: What::TooManyTexts,
+    }
+}
+
+impl Walk for Provisioner {
+    ghost found = { λ _ _ d. in_provisioner d };
+
+    #[tactic(auto, unfolding(crate::specs::ScriptFindings::in_provisioner))]
+    fn walk(&self, alloc: Global, _number: usize, value: &Value) -> Result<Findings, AllocError> {
+        if !Want::Provisioner.suits(value) {
+            return Findings::here(alloc, What::IsNot(Want::Provisioner));
+        }
+        let all = faults(alloc, value, &TABLE)?;
+        let all = all.then(walk_list(alloc, &Leaf(Want::Text), value, OUTPUT)?)?;
+        let all = all.then(walk_marks(alloc, &[mark(value)])?)?;
+        let all = all.then(walk_inside(alloc, &Diagnostic, value, Name::Failed)?)?;
+        let all = all.then(walk_unread(alloc, value, &NAMES)?)?;
+        Ok(all)
+    }
+}

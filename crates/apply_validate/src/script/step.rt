@@ -1,0 +1,144 @@
+//! What is found in a step.
+
+ghost use Rattle.std.specs.Prelude.{◌≡◌, nat_lt};
+ghost use Rattle.serde_json.specs.View.{view};
+ghost use Rattle.apply_model.specs.Script.Limits.{max_seconds};
+ghost use Rattle.apply_validate.specs.ScriptFindings.{beside, in_step, seconds_in, seconds_in_all, step_marks};
+
+use crate::findings::list::Findings;
+use crate::findings::name::Name;
+use crate::findings::want::Want;
+use crate::findings::what::What;
+use crate::script::diagnostic::Diagnostic;
+use crate::script::provisioner::Provisioner;
+use crate::script::wait::Wait;
+use crate::walks::known::Known;
+use crate::walks::mark::Mark;
+use crate::walks::members::{count_at, faults, items_at, walk_inside, walk_list, walk_marks};
+use crate::walks::unread::walk_unread;
+use crate::walks::walk::Walk;
+use apply_json::members::{member, non_empty_text_member};
+use apply_plan::{MAX_PROVISIONERS, MAX_SECONDS};
+use serde_json::Value;
+use std::alloc::{AllocError, Global};
+
+const TABLE: [Known; 2] = [
+    Known {
+        name: Name::Seconds,
+        want: Want::Seconds,
+    },
+    Known {
+        name: Name::Id,
+        want: Want::TextOrAbsent,
+    },
+];
+
+pub(crate) const NAMES: [Name; 6] = [
+    Name::Seconds,
+    Name::Id,
+    Name::Warning,
+    Name::Failed,
+    Name::Provisioners,
+    Name::After,
+];
+
+const PROVISIONERS: Known = Known {
+    name: Name::Provisioners,
+    want: Want::ArrayOrAbsent,
+};
+
+const AFTER: Known = Known {
+    name: Name::After,
+    want: Want::ArrayOrAbsent,
+};
+
+/// A step of an entry.
+#[derive(Clone, Copy)]
+pub struct Step;
+
+/// The seconds of a step or of a provisioner, 0 where they are none.
+fn seconds(value: &Value) -> u64
+    ensures { result ≡ seconds_in (view value.now) }
+{
+    match member(value, Name::Seconds.text()) {
+        Some(found) => found.as_u64().unwrap_or(0),
+        None => 0,
+    }
+}
+
+/// Whether a step takes longer than a day, with all its provisioners.
+fn is_too_long(value: &Value) -> bool
+    ensures { result ≡ nat_lt max_seconds (seconds_in_all (view value.now)) }
+{
+    let Some(mut left) = u64::from(MAX_SECONDS).checked_sub(seconds(value)) else {
+        return true;
+    };
+    for provisioner in items_at(value, Name::Provisioners) {
+        let taken = seconds(provisioner);
+        if taken > left {
+            return true;
+        }
+        left -= taken;
+    }
+    false
+}
+
+/// What may not stand beside the failure of a step.
+fn beside(value: &Value, name: Name, stands: bool) -> Mark
+    ensures { result ≡ beside name stands (view value.now) }
+{
+    Mark {
+        holds: member(value, Name::Failed.text()).is_some() && stands,
+        at: Some(name),
+        what: What::BesideFailed,
+    }
+}
+
+/// What is tested of a step by itself.
+fn marks(value: &Value) -> [Mark; 5]
+    ensures { result ≡ step_marks (view value.now) }
+{
+    let count = count_at(value, Name::Provisioners);
+    [
+        beside(
+            value,
+            Name::Id,
+            non_empty_text_member(value, Name::Id.text()).is_some(),
+        ),
+        beside(
+            value,
+            Name::Warning,
+            member(value, Name::Warning.text()).is_some(),
+        ),
+        beside(value, Name::Provisioners, count > 0),
+        Mark {
+            holds: is_too_long(value),
+            at: None,
+            what: What::TooLong,
+        },
+        Mark {
+            holds: count > MAX_PROVISIONERS,
+            at: Some(Name::Provisioners),
+            what: What::TooManyProvisioners,
+        },
+    ]
+}
+
+impl Walk for Step {
+    ghost found = { λ _ _ d. in_step d };
+
+    #[tactic(auto, unfolding(crate::specs::ScriptFindings::in_step))]
+    fn walk(&self, alloc: Global, _number: usize, value: &Value) -> Result<Findings, AllocError> {
+        if !Want::Step.suits(value) {
+            return Findings::here(alloc, What::IsNot(Want::Step));
+        }
+        let all = faults(alloc, value, &TABLE)?;
+        let all = all.then(walk_inside(alloc, &Diagnostic, value, Name::Warning)?)?;
+        let all = all.then(walk_inside(alloc, &Diagnostic, value, Name::Failed)?)?;
+        let all = all.then(walk_list(alloc, &Provisioner, value, PROVISIONERS)?)?;
+        let all = all.then(walk_marks(alloc, &marks(value))?)?;
+        let all = all.then(walk_list(alloc, &Wait, value, AFTER)?)?;
+        let all = all.then(walk_unread(alloc, value, &NAMES)?)?;
+        Ok(all)
+    }
+}

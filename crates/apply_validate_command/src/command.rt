@@ -1,0 +1,7 @@
+//! The command `validate`, from its arguments to its exit status.
+
+pub mod arguments;
+pub mod entry_points;
+pub mod inputs;
+pub mod settings;
+pub mod telling;

@@ -1,0 +1,117 @@
+//! The command `validate`, from its arguments to its exit status, over any files and streams.
+
+ghost use Rattle.std.specs.Prelude.{◌≤◌};
+
+use crate::command::arguments::read_words;
+use crate::command::inputs::{InputFault, read_all, read_script_file};
+use crate::command::settings::Settings;
+use crate::command::telling::found_text;
+use apply_validate::{Found, findings_of};
+use apply_words::{FAILED, REFUSED, answer_usage, refuse_memory, report};
+use std::alloc::Global;
+use std::io::{self, ErrorKind, Read, Write};
+use std::rt::Files;
+
+/// The exit status where something is found, but nothing for which a run refuses.
+const WARNED: u8 = 1;
+
+/// Does what the words behind `validate` say, and answers the exit status: 0 where nothing was found, or help was asked for, 1
+/// where no run reads some member of the script and that is all, 2 where a run with these options refuses the plan or the
+/// script, and where the words are none of the command or an input could not be read, and 3 where memory was refused or `out`
+/// could not be written, which is said unless its reader is gone.
+pub fn follow<F: Files, R: Read, W: Write, E: Write>(
+    files: &F,
+    alloc: Global,
+    words: &[String],
+    input: &mut R,
+    out: &mut W,
+    faults: &mut E,
+) -> u8
+    ensures { result ≤ 3 }
+{
+    let settings = match read_words(alloc, words) {
+        Ok(settings) => settings,
+        Err(usage) => return answer_usage(&usage, out, faults),
+    };
+    match read_inputs(files, alloc, &settings, input) {
+        Ok((plan, script)) => validate(alloc, settings.lanes, &plan, script.as_ref(), out, faults),
+        Err(fault) => refuse(faults, fault),
+    }
+}
+
+/// The bytes of the plan and of the script, where one is named.
+fn read_inputs<F: Files, R: Read>(
+    files: &F,
+    alloc: Global,
+    settings: &Settings,
+    input: &mut R,
+) -> Result<(Vec<u8>, Option<Vec<u8>>), InputFault> {
+    let script = match &settings.script {
+        Some(name) => Some(read_script_file(files, alloc, name.as_str())?),
+        None => None,
+    };
+    let plan = read_all(alloc, input, InputFault::Plan)?;
+    Ok((plan, script))
+}
+
+/// Says why nothing was validated, and answers the exit status.
+fn refuse<E: Write>(faults: &mut E, fault: InputFault) -> u8
+    ensures { result ≤ 3 }
+{
+    report(faults, fault);
+    match fault {
+        InputFault::Memory => FAILED,
+        _ => REFUSED,
+    }
+}
+
+/// Says what is found, and answers the exit status.
+fn validate<W: Write, E: Write>(
+    alloc: Global,
+    lanes: bool,
+    plan: &[u8],
+    script: Option<&Vec<u8>>,
+    out: &mut W,
+    faults: &mut E,
+) -> u8
+    ensures { result ≤ 3 }
+{
+    let script = match script {
+        Some(bytes) => Some(bytes.as_slice()),
+        None => None,
+    };
+    let Ok(found) = findings_of(alloc, plan, script, lanes) else {
+        return refuse_memory(faults);
+    };
+    let Ok(text) = found_text(alloc, &found, plan, script) else {
+        return refuse_memory(faults);
+    };
+    match write_whole(out, text.as_str()) {
+        Ok(()) => status_of(&found),
+        Err(error) => {
+            if error.kind() != ErrorKind::BrokenPipe {
+                report(faults, "the output could not be written");
+            }
+            FAILED
+        }
+    }
+}
+
+/// The exit status for what is found.
+fn status_of(found: &Found) -> u8
+    ensures { result ≤ 2 }
+{
+    if found.plan.refuses() || found.script.refuses() {
+        REFUSED
+    } else if found.plan.count() > 0 || found.script.count() > 0 {
+        WARNED
+    } else {
+        0
+    }
+}
+
+/// Writes the text, and flushes.
+fn write_whole<W: Write>(out: &mut W, text: &str) -> io::Result<()> {
+    out.write_all(text.as_bytes())?;
+    out.flush()
+}

@@ -1,0 +1,10 @@
+//! The command `validate`: every fault of a saved plan and of a script, for people.
+#![tactic(auto)]
+
+mod command;
+mod texts;
+
+pub use command::arguments::read_words;
+pub use command::entry_points::follow;
+pub use command::settings::Settings;
+pub use command::telling::found_text;

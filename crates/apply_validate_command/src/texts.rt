@@ -1,0 +1,8 @@
+//! Findings as people are told of them.
+
+pub mod count;
+pub mod finding;
+pub mod found;
+pub mod near;
+pub mod place;
+pub mod wants;

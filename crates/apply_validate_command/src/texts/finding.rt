@@ -1,0 +1,198 @@
+//! One finding.
+
+use crate::texts::count::Count;
+use crate::texts::found::{found_text, shortened_json};
+use crate::texts::near::not_read_text;
+use crate::texts::place::{path_text, value_at};
+use crate::texts::wants::want_text;
+use apply_plan::{MAX_BYTES, MAX_CHANGES, MAX_OUTPUTS, MAX_PROVISIONERS, MAX_SECONDS, ScriptError};
+use apply_validate::{Finding, Name, What};
+use serde_json::Value;
+use std::alloc::{AllocError, Global};
+
+/// Which of the two inputs it is about.
+#[derive(Clone, Copy)]
+pub enum Input {
+    Plan,
+    Script,
+}
+
+impl Input {
+    fn word(self) -> &'static str {
+        match self {
+            Input::Plan => "plan",
+            Input::Script => "script",
+        }
+    }
+}
+
+/// The eight lists of actions.
+const ACTIONS: &str =
+    r#"["no-op"], ["create"], ["read"], ["update"], ["delete"], ["forget"], ["delete","create"] or ["create","delete"]"#;
+
+/// What is found in bytes that are no tree. `Err` where memory is refused.
+pub fn bytes_text(
+    alloc: Global,
+    input: Input,
+    what: What,
+    len: usize,
+) -> Result<String, AllocError> {
+    let word = input.word();
+    match what {
+        What::TooManyBytes => {
+            let (len, most) = (Count(len as u64), Count(MAX_BYTES as u64));
+            format!(in alloc; "{word} .: has {len} bytes, {most} at most")
+        }
+        _ => format!(in alloc; "{word} .: is not JSON, or nested more than 127 deep"),
+    }
+}
+
+/// What is found in a tree. `Err` where memory is refused.
+pub fn finding_text(
+    alloc: Global,
+    input: Input,
+    tree: &Value,
+    finding: &Finding,
+) -> Result<String, AllocError> {
+    let path = path_text(alloc, tree, &finding.path)?;
+    let word = input.word();
+    let text = what_text(alloc, tree, finding)?;
+    if finding.what.is_refusal() {
+        format!(in alloc; "{word} {path}: {text}")
+    } else {
+        format!(in alloc; "warning: {word} {path}: {text}")
+    }
+}
+
+/// What is wrong there.
+fn what_text(alloc: Global, tree: &Value, finding: &Finding) -> Result<String, AllocError> {
+    let found = value_at(tree, &finding.path, finding.path.len());
+    match finding.what {
+        What::IsNot(want) => {
+            let shown = shown_there(alloc, found)?;
+            let want = want_text(want);
+            format!(in alloc; "is {shown}, and has to be {want}")
+        }
+        What::IsMissing(want) => {
+            let want = want_text(want);
+            format!(in alloc; "is missing, and has to be {want}")
+        }
+        What::TooManyBytes => String::from_str(alloc, "is too large"),
+        What::NotJson => String::from_str(alloc, "is not JSON, or nested more than 127 deep"),
+        What::TooManyChanges => {
+            let (count, most) = (Count(count_of(found)), Count(MAX_CHANGES as u64));
+            format!(in alloc; "has {count} changes, {most} at most")
+        }
+        What::BadActions => {
+            let shown = json_there(alloc, found)?;
+            format!(in alloc; "is {shown}, and has to be {ACTIONS}")
+        }
+        What::EmptyAddress => String::from_str(alloc, "is empty"),
+        What::OutsideModule => {
+            let shown = json_there(alloc, found)?;
+            let module = module_text(alloc, tree, finding)?;
+            format!(in alloc; "is {shown}, and has to begin with its module, {module}")
+        }
+        What::NamedBefore(number) => {
+            let address = address_text(alloc, found)?;
+            format!(in alloc; "is of the object of .resource_changes[{number}] again: {address}")
+        }
+        What::BesideFailed => {
+            String::from_str(
+                alloc,
+                "stands beside `failed`, and a step that failed has none",
+            )
+        }
+        What::TooLong => too_long_text(alloc, found),
+        What::TooManyProvisioners => {
+            let (count, most) = (Count(count_of(found)), Count(MAX_PROVISIONERS as u64));
+            format!(in alloc; "has {count} provisioners, {most} at most")
+        }
+        What::TooManyTexts => {
+            let (count, most) = (Count(count_of(found)), Count(MAX_OUTPUTS as u64));
+            format!(in alloc; "has {count} texts, {most} at most")
+        }
+        What::NotRead => not_read_text(alloc, tree, finding),
+        What::ForPlan(refusal) => String::from_str(alloc, for_plan_text(refusal)),
+        What::Waits => String::from_str(alloc, "waits, which takes --parallelism"),
+    }
+}
+
+/// What a run refuses an entry for, beside the plan.
+fn for_plan_text(refusal: ScriptError) -> &'static str {
+    match refusal {
+        ScriptError::UnknownChange(_) => "names an object that the plan does not change",
+        ScriptError::Duplicate(_) => "is about a change that an earlier entry is about",
+        ScriptError::TooManySteps(_) => "has more steps than its change",
+        ScriptError::NotACreate(_) =>
+            "has a provisioner at a step that is no create, and only a create has some",
+        ScriptError::TooManyWaits(_) => "goes beyond 1,000,000 waits",
+        ScriptError::UnknownWait(_) => "waits for an object that the plan does not change",
+        ScriptError::NoSuchStep(_) => "waits for a step that its change does not have",
+        ScriptError::NeverBegins(_) => "has a step that could never begin",
+        _ => "is refused",
+    }
+}
+
+fn shown_there(alloc: Global, found: Option<&Value>) -> Result<String, AllocError> {
+    match found {
+        Some(value) => found_text(alloc, value),
+        None => Ok(String::new(alloc)),
+    }
+}
+
+fn json_there(alloc: Global, found: Option<&Value>) -> Result<String, AllocError> {
+    match found {
+        Some(value) => shortened_json(alloc, value),
+        None => Ok(String::new(alloc)),
+    }
+}
+
+fn count_of(found: Option<&Value>) -> u64 {
+    match found {
+        Some(Value::Array(items)) => items.len() as u64,
+        _ => 0,
+    }
+}
+
+/// The address of an element.
+fn address_text(alloc: Global, found: Option<&Value>) -> Result<String, AllocError> {
+    let Some(value) = found else {
+        return Ok(String::new(alloc));
+    };
+    json_there(alloc, value.get(Name::Address.text()))
+}
+
+/// The address of the module of the element that a path goes through.
+fn module_text(alloc: Global, tree: &Value, finding: &Finding) -> Result<String, AllocError> {
+    let element = value_at(tree, &finding.path, finding.path.len().saturating_sub(1));
+    match element {
+        Some(element) => json_there(alloc, element.get(Name::ModuleAddress.text())),
+        None => Ok(String::new(alloc)),
+    }
+}
+
+/// How long a step takes.
+fn too_long_text(alloc: Global, found: Option<&Value>) -> Result<String, AllocError> {
+    let most = Count(u64::from(MAX_SECONDS));
+    let Some(step) = found else {
+        return Ok(String::new(alloc));
+    };
+    let mut taken = seconds_of(step);
+    let mut words = "";
+    if let Some(Value::Array(provisioners)) = step.get(Name::Provisioners.text()) {
+        for provisioner in provisioners {
+            taken = taken.saturating_add(seconds_of(provisioner));
+            words = ", its provisioners included";
+        }
+    }
+    let taken = Count(taken);
+    format!(in alloc; "takes {taken} seconds{words}, {most} at most")
+}
+
+fn seconds_of(value: &Value) -> u64 {
+    match value.get(Name::Seconds.text()) {
+        Some(seconds) => seconds.as_u64().unwrap_or(0),
+        None => 0,
+    }
+}

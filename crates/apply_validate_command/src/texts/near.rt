@@ -1,0 +1,63 @@
+//! Names that are nearly what was found.
+
+use crate::texts::place::{other_name, value_at};
+use apply_validate::{Finding, Name, Part, known_names, nearest};
+use serde_json::Value;
+use std::alloc::{AllocError, Global};
+
+/// That nobody reads a member, and which known ones its name is nearly. `Err` where memory is refused.
+pub fn not_read_text(alloc: Global, tree: &Value, finding: &Finding) -> Result<String, AllocError> {
+    let mut text = String::from_str(alloc, "is not read")?;
+    let before = finding.path.len().saturating_sub(1);
+    if let Some(name) = name_found(tree, finding, before) {
+        let mut names = Vec::new(alloc);
+        for known in known_names(last_member(finding, before)) {
+            names.push(known.text())?;
+        }
+        let reach = (name.chars().count() / 2).max(1);
+        let near = nearest(alloc, name, &names, reach)?;
+        push_near(&mut text, &names, &near)?;
+    }
+    Ok(text)
+}
+
+/// The name of the member that the path leads to by its number, behind so many steps.
+fn name_found<'a>(tree: &'a Value, finding: &Finding, before: usize) -> Option<&'a str> {
+    if before >= finding.path.len() {
+        return None;
+    }
+    match finding.path.get(before) {
+        Part::Other(number) => other_name(value_at(tree, &finding.path, before), number),
+        _ => None,
+    }
+}
+
+/// The last member among the first steps of the path.
+fn last_member(finding: &Finding, before: usize) -> Option<Name> {
+    let mut last = None;
+    for number in 0..finding.path.len() {
+        if number < before {
+            if let Part::Member(name) = finding.path.get(number) {
+                last = Some(name);
+            }
+        }
+    }
+    last
+}
+
+/// Adds which names may be meant.
+fn push_near(text: &mut String, names: &[&str], near: &[usize]) -> Result<(), AllocError> {
+    for (count, place) in near.iter().enumerate() {
+        text.push_str(match (near.len(), count) {
+            (1, _) => "; is \"",
+            (_, 0) => "; near it are \"",
+            _ => "\", \"",
+        })?;
+        text.push_str(names.get(*place).copied().unwrap_or(""))?;
+    }
+    match near.len() {
+        0 => Ok(()),
+        1 => text.push_str("\" meant?"),
+        _ => text.push('"'),
+    }
+}

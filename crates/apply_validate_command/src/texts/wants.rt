@@ -1,0 +1,26 @@
+//! What has to stand somewhere.
+
+use apply_validate::Want;
+
+/// What has to stand there.
+pub fn want_text(want: Want) -> &'static str {
+    match want {
+        Want::Array => "an array",
+        Want::ArrayOrAbsent => "an array, or absent",
+        Want::Diagnostic => r#"an object, as {"summary":"boom"}"#,
+        Want::Entry => r#"an object, as {"address":"null_resource.a","steps":[{"seconds":1}]}"#,
+        Want::FormatVersion => r#"a text that begins with "1.""#,
+        Want::Key => "a text, a whole number of 64 bits, or absent",
+        Want::Mode => r#""managed" or "data""#,
+        Want::NonEmptyText => "a text of one byte at least",
+        Want::Object => "an object",
+        Want::Plan => r#"an object, as "terraform show -json" prints it of a plan's file"#,
+        Want::Provisioner => r#"an object, as {"provisioner":"local-exec","seconds":1}"#,
+        Want::Seconds => "a whole number from 0 to 86400",
+        Want::Step => r#"an object, as {"seconds":1}"#,
+        Want::StepOrAbsent => "a whole number, or absent",
+        Want::Text => "a text",
+        Want::TextOrAbsent => "a text, or absent",
+        Want::Wait => r#"a text, or an object as {"address":"null_resource.a"}"#,
+    }
+}

@@ -1,0 +1,177 @@
+//! What no clause says: the texts of findings, and which exit status follows.
+
+use apply_validate::findings_of;
+use apply_validate_command::found_text;
+use std::alloc::Global;
+use std::process::Abort;
+
+/// A plan with an update, a deposed object that is deleted, and a replacement.
+const PLAN: &str = r#"{"format_version":"1.2","terraform_version":"1.9.0","resource_changes":[
+{"address":"a.b","mode":"managed","type":"a","name":"b","change":{"actions":["update"]}},
+{"address":"a.b","mode":"managed","type":"a","name":"b","deposed":"1f","change":{"actions":["delete"]}},
+{"address":"a.c","mode":"managed","type":"a","name":"c","change":{"actions":["create","delete"]}}]}"#;
+
+/// What is told of a plan and a script, and whether a run refuses one of them.
+fn told(
+    rt: &impl Abort,
+    alloc: Global,
+    plan: &str,
+    script: Option<&str>,
+    lanes: bool,
+) -> (String, bool) {
+    let plan = plan.as_bytes();
+    let script = match script {
+        Some(text) => Some(text.as_bytes()),
+        None => None,
+    };
+    let found = findings_of(alloc, plan, script, lanes).expect(rt, "memory");
+    let text = found_text(alloc, &found, plan, script).expect(rt, "memory");
+    (text, found.plan.refuses() || found.script.refuses())
+}
+
+/// What is told of a plan alone.
+fn of_plan(rt: &impl Abort, alloc: Global, plan: &str, expected: &str) {
+    let (text, _) = told(rt, alloc, plan, None, false);
+    assert_eq!(rt; text.as_str(), expected);
+}
+
+/// What is told of a script for the plan above.
+fn of_script(rt: &impl Abort, alloc: Global, script: &str, expected: &str, refused: bool) {
+    let (text, refuses) = told(rt, alloc, PLAN, Some(script), false);
+    assert_eq!(rt; text.as_str(), expected);
+    assert_eq!(rt; refuses, refused);
+}
+
+#[test]
+fn plans_are_told_of_in_their_order(rt: HostRuntime) {
+    let alloc = rt.alloc();
+    of_plan(&rt, alloc, PLAN, "the plan is accepted\n");
+    of_plan(
+        &rt,
+        alloc,
+        "{",
+        "plan .: is not JSON, or nested more than 127 deep\n",
+    );
+    of_plan(
+        &rt,
+        alloc,
+        "[1]",
+        "plan .: is an array of 1, and has to be an object, as \"terraform show -json\" prints it of a plan's file\n",
+    );
+    of_plan(
+        &rt,
+        alloc,
+        r#"{"format_version":"2.0","terraform_version":1,"resource_changes":{}}"#,
+        "plan .format_version: is \"2.0\", and has to be a text that begins with \"1.\"\n\
+plan .terraform_version: is 1, and has to be a text, or absent\n\
+plan .resource_changes: is an object, and has to be an array, or absent\n",
+    );
+}
+
+#[test]
+fn elements_are_told_of_in_their_order(rt: HostRuntime) {
+    of_plan(
+        &rt,
+        rt.alloc(),
+        r#"{"format_version":"1.0","resource_changes":[null,
+{"address":1,"mode":"x","type":"","name":"n","index":true,"deposed":[],"change":{"actions":["import"]}},
+{"address":"","mode":"managed","type":"t","name":"n","change":{}},
+{"address":"module.n.t.n","module_address":"module.m","mode":"data","type":"t","name":"n","change":{"actions":["read"]}},
+{"address":"t.n","mode":"data","type":"t","name":"n","change":{"actions":["read"]}},
+{"address":"t.n","mode":"data","type":"t","name":"n","change":{"actions":["no-op"]}}]}"#,
+        "plan .resource_changes[0]: is null, and has to be an object\n\
+plan .resource_changes[1].address: is 1, and has to be a text\n\
+plan .resource_changes[1].mode: is \"x\", and has to be \"managed\" or \"data\"\n\
+plan .resource_changes[1].type: is \"\", and has to be a text of one byte at least\n\
+plan .resource_changes[1].index: is true, and has to be a text, a whole number of 64 bits, or absent\n\
+plan .resource_changes[1].deposed: is an array of 0, and has to be a text, or absent\n\
+plan .resource_changes[1].change.actions: is [\"import\"], and has to be [\"no-op\"], [\"create\"], [\"read\"], [\"update\"], [\"delete\"], [\"forget\"], [\"delete\",\"create\"] or [\"create\",\"delete\"]\n\
+plan .resource_changes[2].change.actions: is missing, and has to be an array\n\
+plan .resource_changes[2].address: is empty\n\
+plan .resource_changes[3].address: is \"module.n.t.n\", and has to begin with its module, \"module.m\"\n\
+plan .resource_changes[5]: is of the object of .resource_changes[4] again: \"t.n\"\n",
+    );
+}
+
+#[test]
+fn scripts_are_told_of_in_their_order(rt: HostRuntime) {
+    let alloc = rt.alloc();
+    of_script(
+        &rt,
+        alloc,
+        r#"{"changes":[]}"#,
+        "plan and script are accepted\n",
+        false,
+    );
+    of_script(
+        &rt,
+        alloc,
+        r#"{"$schema":"s","changes":[],"outputs":1,"diagnostics":2,"a b":3}"#,
+        "warning: script .[\"a b\"]: is not read\n",
+        false,
+    );
+    of_script(
+        &rt,
+        alloc,
+        "7",
+        "script .: is 7, and has to be an object\n",
+        true,
+    );
+    of_script(
+        &rt,
+        alloc,
+        r#"{"change":[]}"#,
+        "script .changes: is missing, and has to be an array\nwarning: script .change: is not read; is \"changes\" meant?\n",
+        true,
+    );
+    of_script(
+        &rt,
+        alloc,
+        r#"{"changes":[{"address":"a.b","steps":[{"second":12,"id":"i-7"}]},
+{"address":"a.c","steps":[{"seconds":3,"id":5,"warnings":{}},{"seconds":90000,"failed":{"sumary":"boom"},"id":"x"}]}]}"#,
+        "script .changes[0].steps[0].seconds: is missing, and has to be a whole number from 0 to 86400\n\
+warning: script .changes[0].steps[0].second: is not read; is \"seconds\" meant?\n\
+script .changes[1].steps[0].id: is 5, and has to be a text, or absent\n\
+warning: script .changes[1].steps[0].warnings: is not read; is \"warning\" meant?\n\
+script .changes[1].steps[1].failed.summary: is missing, and has to be a text\n\
+warning: script .changes[1].steps[1].failed.sumary: is not read; is \"summary\" meant?\n\
+script .changes[1].steps[1].id: stands beside `failed`, and a step that failed has none\n\
+script .changes[1].steps[1]: takes 90,000 seconds, 86,400 at most\n",
+        true,
+    );
+}
+
+#[test]
+fn what_a_run_refuses_beside_the_plan_is_told(rt: HostRuntime) {
+    let alloc = rt.alloc();
+    of_script(
+        &rt,
+        alloc,
+        r#"{"changes":[{"address":"a.x","steps":[]}]}"#,
+        "script .changes[0]: names an object that the plan does not change\n",
+        true,
+    );
+    of_script(
+        &rt,
+        alloc,
+        r#"{"changes":[{"address":"a.b","steps":[{"seconds":1},{"seconds":1}]}]}"#,
+        "script .changes[0]: has more steps than its change\n",
+        true,
+    );
+    of_script(
+        &rt,
+        alloc,
+        r#"{"changes":[{"address":"a.b","steps":[{"seconds":1,"after":["a.c"]}]}]}"#,
+        "script .: waits, which takes --parallelism\n",
+        true,
+    );
+    let (text, refuses) = told(
+        &rt,
+        alloc,
+        PLAN,
+        Some(r#"{"changes":[{"address":"a.b","steps":[{"seconds":1,"after":["a.c"]}]}]}"#),
+        true,
+    );
+    assert_eq!(rt; text.as_str(), "plan and script are accepted\n");
+    assert_eq!(rt; refuses, false);
+}
