@@ -12,6 +12,9 @@ unfolding in_step
 returns c =
     let there : is_some (as_object (view c.args.value.now)) ≡ true = search rules in
     rw there
+    (c.in_ok-all-10.ensures _ _
+    (c.in_ok-all-9.ensures _ _
+    (c.in_ok-all-8.ensures _ _
     (c.in_ok-all-7.ensures _ _
     (c.in_ok-all-6.ensures _ _
     (c.in_ok-all-5.ensures _ _
@@ -21,5 +24,8 @@ returns c =
     c.in_ok-walk_inside-2.ensures)
     c.in_ok-walk_list.ensures)
     (c.in_ok-walk_marks.ensures ∙ ap (λ (marks : List Mark). told (marked marks)) c.marks.ensures))
+    c.in_ok-faults-2.ensures)
+    (c.in_ok-walk_marks-2.ensures ∙ ap (λ (marks : List Mark). told (marked marks)) c.skipped_marks.ensures))
+    c.in_ok-walk_items_at.ensures)
     c.in_ok-walk_list-2.ensures)
     c.in_ok-walk_unread.ensures)
