@@ -119,12 +119,13 @@ own (json.object ms) d has is = let it = mapped object (of_members ms no_members
 
 -- what a member of that name is read as
 one_member : (l : List ℕ) (j : json.Json) (d e : Data) → HasNumbers j → of_json j ≡ Some d → keeping_member is_kept l j ≡ Some e → ((x : Data) → keeping is_kept j ≡ Some x → Alike d x) → AlikeMember l d e
-one_member l j d e has is read alike =
-    ((λ not. alike e (let plain : keeping_member is_kept l j ≡ keeping is_kept j = rw not refl in sym plain ∙ read)),
-    (λ is_one.
-    let text : as_own_text j ≡ Some e = (let plain : keeping_member is_kept l j ≡ as_own_text j = rw is_one refl in sym plain ∙ read) in
-    let it = mapped (λ tree. string (own_text j)) (of_json j) e text in
-    rw it.2 (own j d has is)))
+one_member l j d e has is read alike = (
+  (λ not. alike e (let plain : keeping_member is_kept l j ≡ keeping is_kept j = rw not refl in sym plain ∙ read)),
+  (λ is_one.
+      let text : as_own_text j ≡ Some e = (let plain : keeping_member is_kept l j ≡ as_own_text j = rw is_one refl in sym plain ∙ read) in
+      let it = mapped (λ tree. string (own_text j)) (of_json j) e text in
+      rw it.2 (own j d has is)),
+)
 
 mutual
   trees_alike : (j : json.Json) (d k : Data) → HasNumbers j → of_json j ≡ Some d → keeping is_kept j ≡ Some k → Alike d k

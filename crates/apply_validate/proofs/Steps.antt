@@ -268,9 +268,10 @@ tests_same d k a =
     ap (λ (n : ℕ). n + sum_by seconds_in (items_at name.Provisioners d)) (seconds_same d k a) ∙ ap (λ (n : ℕ). seconds_in k + n) (sum_same name.Provisioners refl d k a) in
     let failed = is_there_same (codes "failed") refl d k a in
     let warning = is_there_same (codes "warning") refl d k a in
-    let id = ap (λ (o : Option (List ℕ)). is_some o) (non_empty_same (codes "id") refl d k a) in
-    (same_tests _ _ _ _ _ _ _ _ _ _ failed id warning count taken,
-    same_alone _ _ _ _ _ _ _ _ _ _ _ _ (flag_same (codes "skipped") refl d k a) (is_there_same (codes "seconds") refl d k a) id warning failed count)
+    let id = ap (λ (o : Option (List ℕ)). is_some o) (non_empty_same (codes "id") refl d k a) in (
+      same_tests _ _ _ _ _ _ _ _ _ _ failed id warning count taken,
+      same_alone _ _ _ _ _ _ _ _ _ _ _ _ (flag_same (codes "skipped") refl d k a) (is_there_same (codes "seconds") refl d k a) id warning failed count,
+    )
 
 table_clean : (skipped : Bool) (d k : Data) → Alike d k → clean (faults_of (step_table skipped) d) ≡ (timed skipped (seconds_of k) && is_some (text_or [] (member_of (codes "id") k)))
 table_clean true d k a = clean-faults_of (known name.Id want.TextOrAbsent ∷ []) d ∙ and_true (is_met want.TextOrAbsent (member_of (codes "id") d)) ∙ text_or_there (codes "id") refl d k a

@@ -226,8 +226,7 @@ script .changes[0].steps[0].warning: stands beside `failed`, and a step that fai
 }
 
 /// A plan with a delete.
-const DELETED: &str =
-    r#"{"format_version":"1.2","terraform_version":"1.9.0","resource_changes":[
+const DELETED: &str = r#"{"format_version":"1.2","terraform_version":"1.9.0","resource_changes":[
 {"address":"a.d","mode":"managed","type":"a","name":"d","change":{"actions":["delete"]}}]}"#;
 
 #[test]
@@ -237,7 +236,9 @@ fn steps_that_take_provisioners_are_told_apart(rt: HostRuntime) {
         &rt,
         alloc,
         DELETED,
-        Some(r#"{"changes":[{"address":"a.d","steps":[{"seconds":1,"provisioners":[{"provisioner":"p","seconds":1}]}]}]}"#),
+        Some(
+            r#"{"changes":[{"address":"a.d","steps":[{"seconds":1,"provisioners":[{"provisioner":"p","seconds":1}]}]}]}"#,
+        ),
         false,
     );
     assert_eq!(rt; text.as_str(), "plan and script are accepted\n");

@@ -42,12 +42,10 @@ const OUTPUT: Known = Known {
     want: Want::ArrayOrAbsent,
 };
 
-const GROWTH: [Known; 1] = [
-    Known {
-        name: Name::OnFailure,
-        want: Want::OnFailure,
-    },
-];
+const GROWTH: [Known; 1] = [Known {
+    name: Name::OnFailure,
+    want: Want::OnFailure,
+}];
 
 /// A provisioner of a step.
 #[derive(Clone, Copy)]

@@ -35,19 +35,15 @@ const TABLE: [Known; 2] = [
     },
 ];
 
-const TABLE_WHERE_SKIPPED: [Known; 1] = [
-    Known {
-        name: Name::Id,
-        want: Want::TextOrAbsent,
-    },
-];
+const TABLE_WHERE_SKIPPED: [Known; 1] = [Known {
+    name: Name::Id,
+    want: Want::TextOrAbsent,
+}];
 
-const GROWTH: [Known; 1] = [
-    Known {
-        name: Name::Skipped,
-        want: Want::FlagOrAbsent,
-    },
-];
+const GROWTH: [Known; 1] = [Known {
+    name: Name::Skipped,
+    want: Want::FlagOrAbsent,
+}];
 
 pub(crate) const NAMES: [Name; 7] = [
     Name::Seconds,
@@ -221,12 +217,7 @@ impl Walk for Step {
         let all = all.then(walk_marks(alloc, &marks(value))?)?;
         let all = all.then(faults(alloc, value, &GROWTH)?)?;
         let all = all.then(walk_marks(alloc, &skipped_marks(value))?)?;
-        let all = all.then(walk_items_at(
-            alloc,
-            &ProvisionerGrowth,
-            value,
-            Name::Provisioners,
-        )?)?;
+        let all = all.then(walk_items_at(alloc, &ProvisionerGrowth, value, Name::Provisioners)?)?;
         let all = all.then(walk_list(alloc, &Wait, value, AFTER)?)?;
         let all = all.then(walk_unread(alloc, value, &NAMES)?)?;
         Ok(all)

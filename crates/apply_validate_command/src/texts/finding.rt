@@ -130,8 +130,7 @@ fn for_plan_text(refusal: ScriptError) -> &'static str {
         ScriptError::UnknownChange(_) => "names an object that the plan does not change",
         ScriptError::Duplicate(_) => "is about a change that an earlier entry is about",
         ScriptError::TooManySteps(_) => "has more steps than its change",
-        ScriptError::NotACreate(_) =>
-            "has a provisioner at a step that takes none",
+        ScriptError::NotACreate(_) => "has a provisioner at a step that takes none",
         ScriptError::TooManyWaits(_) => "goes beyond 1,000,000 waits",
         ScriptError::UnknownWait(_) => "waits for an object that the plan does not change",
         ScriptError::NoSuchStep(_) => "waits for a step that its change does not have",
