@@ -1,6 +1,6 @@
 -- A tree, and the one that a run reads of the same text, in which the members of some names are their own texts: what a script's
 -- reader looks at is the same in both.
-use Rattle.std.proofs.Common.{◌≡◌, ℕ, List, [], ◌∷◌, Bool, true, false, ◌==◌, ◌&&◌, is_some, Option, Some, None, option_map, option_and_then, refl, sym, ap, subst, ◌∙◌, if◌then◌else◌, ⊎_elim, Ordering, Less, Equal, Greater}
+use Rattle.std.proofs.Common.{◌≡◌, ℕ, List, [], ◌∷◌, Bool, true, false, ◌==◌, is_some, Option, Some, None, option_map, option_and_then, refl, sym, ap, subst, ◌∙◌, if◌then◌else◌, ⊎_elim, Ordering, Less, Equal, Greater}
 use Rattle.std.specs.Prelude.{codes, slice_index}
 use Rattle.std.specs.Ordering.{nat_cmp, match_ordering}
 use Rattle.std.specs.Cmp.Lexicographic.{slice_cmp}
@@ -18,7 +18,7 @@ use Rattle.json.specs.Tree.{HasNumbers, ItemsHaveNumbers, MembersHaveNumbers}
 use Rattle.json.specs.Word.{after_number}
 use Rattle.json.proofs.Numbered.{ArePrintableOrBad-tokens, value-HasNumbers}
 use Rattle.serde_json.specs.Data.{Data, null, boolean, number, string, array, object, Items, no_items, item, Members, no_members, member, put}
-use Rattle.serde_json.specs.Find.{as_array, as_bool, as_number, as_object, as_str, get, get_member}
+use Rattle.serde_json.specs.Find.{as_bool, as_number, as_object, as_str, get, get_member}
 use Rattle.serde_json.specs.Read.{max_depth, number_of, of_items, of_json, of_members, read}
 use Rattle.apply_json.specs.Keeping.{as_own_text, keeping, keeping_items, keeping_member, keeping_members, keeping_tree_of, own_text}
 use Rattle.apply_json.proofs.Keeping.{no_item, no_value}

@@ -6,10 +6,9 @@ use Rattle.serde_json.specs.Find.{as_object, as_str}
 use Rattle.apply_json.specs.Tree.{◌>>=◌, member_of, text_of, text_or, unless_empty}
 use Rattle.apply_model.specs.declared.script.diag.Diag.{Diag}
 use Rattle.apply_plan.specs.Script.Entry.{WaitName, diag_from, diag_or_none, number_or_none, object_or_none, wait_from, wait_of_members}
-use Rattle.apply_validate.specs.declared.findings.name.Name.TheVariants as name
 use Rattle.apply_validate.specs.declared.findings.want.Want.TheVariants as want
 use Rattle.apply_validate.specs.declared.walks.known.Known.{Known}
-use Rattle.apply_validate.specs.ScriptFindings.{diagnostic_names, diagnostic_table, in_diagnostic, in_wait, known, wait_names, wait_table}
+use Rattle.apply_validate.specs.ScriptFindings.{diagnostic_names, diagnostic_table, in_diagnostic, in_wait, wait_names, wait_table}
 use Rattle.apply_validate.specs.Walks.{faults_of, member_at, unread}
 use Rattle.apply_validate.specs.Wants.{is_met}
 use Rattle.apply_validate.proofs.Clean.{clean, clean-faults_of, clean-then_unread, clean-where_suits, is_absent_or}

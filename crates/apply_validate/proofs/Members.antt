@@ -1,5 +1,5 @@
 -- Members of a tree, by those of the one that a run reads of the same text.
-use Rattle.std.proofs.Common.{◌≡◌, ℕ, suc, ◌+◌, List, [], ◌∷◌, ◌++◌, length, map, Bool, true, false, ◌&&◌, is_some, Option, Some, None, unwrap_or, refl, sym, ap, ◌∙◌}
+use Rattle.std.proofs.Common.{◌≡◌, ℕ, suc, ◌+◌, List, [], length, map, Bool, false, ◌&&◌, is_some, Option, Some, None, unwrap_or, refl, sym, ap, ◌∙◌}
 use Rattle.std.specs.Prelude.{codes}
 use Rattle.std.specs.List.{list_all, sum_by}
 use Rattle.std.specs.Option.{option_and_then, option_map, option_map_or}
@@ -8,7 +8,7 @@ use Rattle.serde_json.specs.Data.{Data, null, boolean, number, string, array, ob
 use Rattle.serde_json.specs.Find.{as_array, as_bool, as_number, as_str, as_u64}
 use Rattle.apply_json.specs.Seen.{items_in}
 use Rattle.apply_json.specs.Tree.{◌>>=◌, list_of, member_of, non_empty_text_of, text_of, text_or, unless_empty}
-use Rattle.apply_plan.specs.Script.Entry.{flag_or_false, is_kept, may_fail_by, may_fail_or_not, number_or_none, seconds_of}
+use Rattle.apply_plan.specs.Script.Entry.{flag_or_false, is_kept, may_fail_by, may_fail_or_not, number_or_none}
 use Rattle.apply_validate.specs.declared.findings.finding.Finding.{Finding}
 use Rattle.apply_validate.specs.declared.findings.name.Name.{Name}
 use Rattle.apply_validate.specs.declared.findings.part.Part.TheVariants.{Item, Member}

@@ -6,11 +6,10 @@ use Rattle.std.specs.Option.{option_and_then, option_map, option_map_or}
 use Rattle.std.proofs.lemmas.Bool.{lt-ltb}
 use Rattle.serde_json.specs.Data.{Data, null, boolean, number, string, array, object}
 use Rattle.serde_json.specs.Find.{as_bool, as_number, as_object, as_str, as_u64}
-use Rattle.apply_json.specs.Tree.{◌>>=◌, member_of, non_empty_text_of, text_or, unless_empty}
+use Rattle.apply_json.specs.Tree.{◌>>=◌, member_of, text_or, unless_empty}
 use Rattle.apply_model.specs.declared.script.diag.Diag.{Diag}
 use Rattle.apply_model.specs.declared.script.ending.Ending.{Ending}
 use Rattle.apply_model.specs.declared.script.ending.Ending.TheVariants.{Done, Failed}
-use Rattle.apply_model.specs.declared.script.outcome.Outcome.{Outcome}
 use Rattle.apply_model.specs.declared.script.provisioner.Provisioner.{Provisioner}
 use Rattle.apply_model.specs.Script.Limits.{max_provisioners, max_seconds}
 use Rattle.apply_model.specs.Script.Outcome.{puts_out_too_much, seconds_of_all}
@@ -20,7 +19,7 @@ use Rattle.apply_validate.specs.declared.findings.name.Name.TheVariants as name
 use Rattle.apply_validate.specs.declared.findings.want.Want.TheVariants as want
 use Rattle.apply_validate.specs.Laws.{is_within_limits}
 use Rattle.apply_validate.specs.ScriptFindings.{growth_of_provisioner, in_diagnostic, in_provisioner, in_step, in_wait, is_skipped, known, seconds_in, seconds_in_all, skipped_marks, step_marks, step_names, step_table}
-use Rattle.apply_validate.specs.Walks.{faults_of, in_items, in_list, inside, items_at, marked, member_at, unread}
+use Rattle.apply_validate.specs.Walks.{faults_of, in_items, in_list, inside, items_at, marked, unread}
 use Rattle.apply_validate.specs.Wants.{is_met}
 use Rattle.apply_validate.proofs.Alike.{Alike, object_alike}
 use Rattle.apply_validate.proofs.Clean.{all_items, clean, clean-append, clean-faults_of, clean-marked, clean-then_unread, clean-where_suits, is_absent_or}
@@ -28,7 +27,7 @@ use Rattle.apply_validate.proofs.Diagnostics.{absent_or_diagnostic, clean_diagno
 use Rattle.apply_validate.proofs.Members.{IsCleanBeside, array_or, count_same, flag_same, flag_there, inside_clean, is_there_same, items_inside, list_clean, non_empty_same, seconds_same, sum_same, text_or_there, whole_there}
 use Rattle.apply_validate.proofs.Options.{and_false, and_true, none_any, nothing_then}
 use Rattle.apply_validate.proofs.Provisioners.{all_seconds_read, clean_growth, clean_provisioner, fits, fits_first, fits_growth, is_provisioner, items_both, length_read, seconds_are}
-use Rattle.apply_validate.proofs.Wanted.{each_fits, each_is, needs_object}
+use Rattle.apply_validate.proofs.Wanted.{each_fits, each_is}
 
 -- none of the tests of a step by itself holds
 unfoldable untouched : (failed id warning : Bool) (count seconds : ℕ) → Bool

@@ -5,7 +5,7 @@ use Rattle.std.specs.List.{list_all}
 use Rattle.std.specs.Option.{option_map_or}
 use Rattle.std.specs.Str.{bytes_eq}
 use Rattle.serde_json.specs.Data.{Data, null, boolean, number, string, array, object}
-use Rattle.serde_json.specs.Find.{as_array, as_bool, as_number, as_object, as_str, as_u64}
+use Rattle.serde_json.specs.Find.{as_array, as_number, as_object, as_str, as_u64}
 use Rattle.apply_json.specs.Tree.{◌>>=◌, is_empty, items_or_empty, list_of, member_of, text_or, unless_empty}
 use Rattle.apply_plan.specs.Script.Entry.{all_some, each_of, flag_or_false, may_fail_by, may_fail_or_not, number_or_none}
 use Rattle.apply_validate.specs.declared.findings.want.Want.TheVariants as want
