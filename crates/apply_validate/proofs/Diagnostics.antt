@@ -5,21 +5,29 @@ use Rattle.serde_json.specs.Data.{Data, null, boolean, number, string, array, ob
 use Rattle.serde_json.specs.Find.{as_object, as_str}
 use Rattle.apply_json.specs.Tree.{◌>>=◌, member_of, text_of, text_or, unless_empty}
 use Rattle.apply_model.specs.declared.script.diag.Diag.{Diag}
-use Rattle.apply_plan.specs.Script.Entry.{WaitName, diag_from, diag_or_none, number_or_none, wait_from, wait_of_members}
-use Rattle.apply_validate.specs.declared.findings.name.Name.TheVariants as name
+use Rattle.apply_plan.specs.Script.Entry.{WaitName, diag_from, diag_or_none, number_or_none, object_or_none, wait_from, wait_of_members}
 use Rattle.apply_validate.specs.declared.findings.want.Want.TheVariants as want
 use Rattle.apply_validate.specs.declared.walks.known.Known.{Known}
-use Rattle.apply_validate.specs.ScriptFindings.{diagnostic_names, diagnostic_table, in_diagnostic, in_wait, known, wait_names, wait_table}
+use Rattle.apply_validate.specs.ScriptFindings.{diagnostic_names, diagnostic_table, in_diagnostic, in_wait, wait_names, wait_table}
 use Rattle.apply_validate.specs.Walks.{faults_of, member_at, unread}
 use Rattle.apply_validate.specs.Wants.{is_met}
 use Rattle.apply_validate.proofs.Clean.{clean, clean-faults_of, clean-then_unread, clean-where_suits, is_absent_or}
-use Rattle.apply_validate.proofs.Wanted.{met_step, met_text, met_text_or, needs_object}
+use Rattle.apply_validate.proofs.Alike.{Alike, met_own, object_alike}
+use Rattle.apply_validate.proofs.Members.{IsCleanBeside, step_there, text_or_there, text_there}
+use Rattle.apply_validate.proofs.Wanted.{needs_object}
 use Rattle.apply_validate.proofs.Options.{and_true, some_map}
 
-diag_reads : (s t : Option (List ℕ)) → is_some (s >>= λ x. t >>= λ y. Some (let z : Diag = record { summary = x; detail = y } in z)) ≡ (is_some s && is_some t)
-diag_reads None t = refl
-diag_reads (Some x) None = refl
-diag_reads (Some x) (Some y) = refl
+diag_reads : (s t : Option (List ℕ)) (r n : Option (Option (List ℕ)))
+    → is_some (s >>= λ x. t >>= λ y. r >>= λ z. n >>= λ w. Some (let q : Diag = record { summary = x; detail = y; range = z; snippet = w } in q))
+    ≡ (is_some s && (is_some t && (is_some r && (is_some n && true))))
+diag_reads None t r n = refl
+diag_reads (Some x) None r n = refl
+diag_reads (Some x) (Some y) None n = refl
+diag_reads (Some x) (Some y) (Some z) None = refl
+diag_reads (Some x) (Some y) (Some z) (Some w) = refl
+
+four : {a b c e a1 b1 c1 e1 : Bool} → a ≡ a1 → b ≡ b1 → c ≡ c1 → e ≡ e1 → (a && (b && (c && (e && true)))) ≡ (a1 && (b1 && (c1 && (e1 && true))))
+four ea eb ec ee = cc
 
 -- two members
 pub two : (one other : Known) (d : Data)
@@ -28,20 +36,23 @@ two one other d =
     clean-faults_of (one ∷ other ∷ []) d
     ∙ ap (λ (b : Bool). is_met one.want (member_at one.name d) && b) (and_true (is_met other.want (member_at other.name d)))
 
-pub clean_diagnostic : (d : Data) → clean (in_diagnostic d) ≡ is_some (diag_from d)
+pub clean_diagnostic : IsCleanBeside in_diagnostic (λ k. is_some (diag_from k))
 unfolding in_diagnostic
-clean_diagnostic d =
-    let summary : Option (List ℕ) = text_of (codes "summary") d in
-    let detail : Option (List ℕ) = text_or [] (member_of (codes "detail") d) in
-    let wrong : clean (faults_of diagnostic_table d) ≡ (is_some summary && is_some detail) =
-    two (known name.Summary want.Text) (known name.Detail want.TextOrAbsent) d
-    ∙ ap (λ (b : Bool). b && is_met want.TextOrAbsent (member_of (codes "detail") d)) (met_text (member_of (codes "summary") d))
-    ∙ ap (λ (b : Bool). is_some summary && b) (met_text_or (member_of (codes "detail") d)) in
+clean_diagnostic d k a =
+    let summary : Option (List ℕ) = text_of (codes "summary") k in
+    let detail : Option (List ℕ) = text_or [] (member_of (codes "detail") k) in
+    let range : Option (Option (List ℕ)) = object_or_none (member_of (codes "range") k) in
+    let snippet : Option (Option (List ℕ)) = object_or_none (member_of (codes "snippet") k) in
+    let read : Bool = is_some summary && (is_some detail && (is_some range && (is_some snippet && true))) in
+    let wrong : clean (faults_of diagnostic_table d) ≡ read =
+    clean-faults_of diagnostic_table d
+    ∙ four (text_there (codes "summary") refl d k a) (text_or_there (codes "detail") refl d k a) (met_own (codes "range") refl d k a) (met_own (codes "snippet") refl d k a) in
     clean-where_suits want.Diagnostic d (faults_of diagnostic_table d ++ unread diagnostic_names d)
     ∙ ap (λ (b : Bool). is_some (as_object d) && b) (clean-then_unread (faults_of diagnostic_table d) diagnostic_names d ∙ wrong)
-    ∙ needs_object (codes "summary") d (is_some summary && is_some detail)
-    (λ none. ap (λ (o : Option Data). is_some (o >>= as_str) && is_some detail) none)
-    ∙ sym (diag_reads summary detail)
+    ∙ ap (λ (b : Bool). b && read) (object_alike d k a)
+    ∙ needs_object (codes "summary") k read
+    (λ none. ap (λ (o : Option Data). is_some (o >>= as_str) && (is_some detail && (is_some range && (is_some snippet && true)))) none)
+    ∙ sym (diag_reads summary detail range snippet)
 
 -- one that may be absent
 pub absent_or_diagnostic : (o : Option Data) → is_absent_or (λ d. is_some (diag_from d)) o ≡ is_some (diag_or_none o)
@@ -52,31 +63,30 @@ absent_or_diagnostic (Some d) = sym (some_map (λ (x : Diag). Some x) (diag_from
 
 wait_reads : (a deposed : Option (List ℕ)) (step : Option (Option ℕ))
     → is_some (a >>= λ x. deposed >>= λ y. step >>= λ z. Some (let w : WaitName = record { address = x; deposed = unless_empty y; step = z } in w))
-    ≡ (is_some a && (is_some deposed && is_some step))
+    ≡ (is_some a && (is_some deposed && (is_some step && true)))
 wait_reads None deposed step = refl
 wait_reads (Some x) None step = refl
 wait_reads (Some x) (Some y) None = refl
 wait_reads (Some x) (Some y) (Some z) = refl
 
-members_of_wait : (d : Data) → clean (faults_of wait_table d ++ unread wait_names d) ≡ is_some (wait_of_members d)
+three : {a b c a1 b1 c1 : Bool} → a ≡ a1 → b ≡ b1 → c ≡ c1 → (a && (b && (c && true))) ≡ (a1 && (b1 && (c1 && true)))
+three ea eb ec = cc
+
+members_of_wait : (d k : Data) → Alike d k → clean (faults_of wait_table d ++ unread wait_names d) ≡ is_some (wait_of_members k)
 unfolding wait_of_members
-members_of_wait d =
-    let address : Option (List ℕ) = text_of (codes "address") d in
-    let deposed : Option (List ℕ) = text_or [] (member_of (codes "deposed") d) in
-    let step : Option (Option ℕ) = number_or_none (member_of (codes "step") d) in
+members_of_wait d k a =
     clean-then_unread (faults_of wait_table d) wait_names d
     ∙ clean-faults_of wait_table d
-    ∙ ap (λ (b : Bool). b && (is_met want.TextOrAbsent (member_of (codes "deposed") d) && (is_met want.StepOrAbsent (member_of (codes "step") d) && true)))
-    (met_text (member_of (codes "address") d))
-    ∙ ap (λ (b : Bool). is_some address && (b && (is_met want.StepOrAbsent (member_of (codes "step") d) && true))) (met_text_or (member_of (codes "deposed") d))
-    ∙ ap (λ (b : Bool). is_some address && (is_some deposed && b)) (and_true (is_met want.StepOrAbsent (member_of (codes "step") d)) ∙ met_step (member_of (codes "step") d))
-    ∙ sym (wait_reads address deposed step)
+    ∙ three (text_there (codes "address") refl d k a) (text_or_there (codes "deposed") refl d k a) (step_there (codes "step") refl d k a)
+    ∙ sym (wait_reads (text_of (codes "address") k) (text_or [] (member_of (codes "deposed") k)) (number_or_none (member_of (codes "step") k)))
 
-pub clean_wait : (d : Data) → clean (in_wait d) ≡ is_some (wait_from d)
+pub clean_wait : IsCleanBeside in_wait (λ k. is_some (wait_from k))
 unfolding in_wait wait_of_members
-clean_wait null = refl
-clean_wait (boolean b) = refl
-clean_wait (number n) = refl
-clean_wait (string s) = refl
-clean_wait (array ds) = refl
-clean_wait (object ms) = members_of_wait (object ms)
+clean_wait null k a = rw a refl
+clean_wait (boolean b) k a = rw a refl
+clean_wait (number n) k a = rw a refl
+clean_wait (string s) k a = rw a refl
+clean_wait (array ds) k a = rw (a.1) refl
+clean_wait (object ms) k a =
+    let other : k ≡ object a.0 = a.1 in
+    members_of_wait (object ms) k a ∙ rw other refl

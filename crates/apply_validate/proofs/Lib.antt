@@ -1,7 +1,9 @@
+pub mod Alike
 pub mod Clean
 pub mod Collected
 pub mod Diagnostics
 pub mod Elements
+pub mod Members
 pub mod Named
 pub mod Options
 pub mod Places

@@ -1,7 +1,7 @@
 -- Provisioners: nothing is found for which a run refuses, exactly where one is read and puts out no more than it may.
-use Rattle.std.proofs.Common.{◌≡◌, ℕ, suc, ◌+◌, List, [], ◌∷◌, ◌++◌, length, map, Bool, false, not, ◌&&◌, is_some, Option, Some, None, unwrap_or, refl, sym, ap, ◌∙◌}
+use Rattle.std.proofs.Common.{◌≡◌, ℕ, suc, ◌+◌, List, [], ◌∷◌, ◌++◌, length, map, Bool, true, false, not, ◌&&◌, is_some, Option, Some, None, unwrap_or, refl, sym, ap, ◌∙◌}
 use Rattle.std.specs.Prelude.{codes, nat_lt}
-use Rattle.std.specs.List.{sum_by}
+use Rattle.std.specs.List.{list_all, sum_by}
 use Rattle.std.specs.Option.{option_and_then, option_map_or}
 use Rattle.std.proofs.lemmas.List.Sums.{sum_by-cons}
 use Rattle.serde_json.specs.Data.{Data, null, boolean, number, string, array, object}
@@ -12,16 +12,18 @@ use Rattle.apply_model.specs.declared.script.diag.Diag.{Diag}
 use Rattle.apply_model.specs.declared.script.provisioner.Provisioner.{Provisioner}
 use Rattle.apply_model.specs.Script.Limits.{max_outputs}
 use Rattle.apply_model.specs.Script.Outcome.{puts_out_too_much, seconds_of_all}
-use Rattle.apply_plan.specs.Script.Entry.{all_some, diag_from, diag_or_none, each_of, provisioner_from, seconds_of}
+use Rattle.apply_plan.specs.Script.Entry.{all_some, diag_from, diag_or_none, each_of, may_fail_or_not, provisioner_from, seconds_of}
 use Rattle.apply_validate.specs.declared.findings.finding.Finding.{Finding}
 use Rattle.apply_validate.specs.declared.findings.name.Name.TheVariants as name
 use Rattle.apply_validate.specs.declared.findings.want.Want.TheVariants as want
-use Rattle.apply_validate.specs.ScriptFindings.{in_diagnostic, in_provisioner, known, provisioner_mark, provisioner_names, provisioner_table, seconds_in}
+use Rattle.apply_validate.specs.ScriptFindings.{growth_of_provisioner, in_diagnostic, in_provisioner, known, provisioner_mark, provisioner_names, provisioner_table, seconds_in}
 use Rattle.apply_validate.specs.Walks.{faults_of, in_list, inside, items_at, marked, unless_suits, unread}
 use Rattle.apply_validate.specs.Wants.{is_met}
-use Rattle.apply_validate.proofs.Clean.{clean, clean-append, clean-in_list, clean-inside, clean-marked, clean-then_unread, clean-unless_suits, clean-where_suits}
+use Rattle.apply_validate.proofs.Clean.{all_items, clean, clean-append, clean-faults_of, clean-marked, clean-then_unread, clean-unless_suits, clean-where_suits, is_absent_or}
 use Rattle.apply_validate.proofs.Diagnostics.{absent_or_diagnostic, clean_diagnostic, two}
-use Rattle.apply_validate.proofs.Wanted.{each_is, met_non_empty, met_seconds, needs_object}
+use Rattle.apply_validate.proofs.Alike.{as_str_alike, object_alike}
+use Rattle.apply_validate.proofs.Members.{IsCleanBeside, array_or, count_same, inside_clean, list_clean, non_empty_there, on_failure_there, whole_there}
+use Rattle.apply_validate.proofs.Wanted.{each_is, needs_object}
 use Rattle.apply_validate.proofs.Options.{and_false, and_then_is, and_true, bind_some}
 
 -- what a run reads of a provisioner, that puts out no more than it may
@@ -29,20 +31,34 @@ abbrev pub fits : Provisioner → Bool
 fits provisioner = not (puts_out_too_much provisioner)
 
 abbrev pub is_provisioner : Data → Bool
-is_provisioner d = option_map_or fits (provisioner_from d) false
+is_provisioner k = option_map_or fits (provisioner_from k) false
 
-abbrev made : List ℕ → ℕ → List (List ℕ) → Option Diag → Provisioner
-made name seconds output failed = record { name = name; seconds = seconds; output = output; failed = failed }
+-- the same, but for what comes of its failure
+abbrev members_fit : (name : Option (List ℕ)) (seconds : Option ℕ) (output : Option (List (List ℕ))) (many : Bool) (failed : Option (Option Diag)) → Bool
+members_fit name seconds output many failed = (((is_some name && is_some seconds) && is_some output) && not many) && is_some failed
 
-reads : (name : Option (List ℕ)) (seconds : Option ℕ) (failed : Option (Option Diag)) (output : Option (List (List ℕ))) (many : Bool)
+unfoldable pub fits_first : Data → Bool
+fits_first k =
+    members_fit (non_empty_text_of (codes "provisioner") k) (seconds_of k) (each_of as_str (member_of (codes "output") k))
+    (nat_lt max_outputs (length (items_at name.Output k))) (diag_or_none (member_of (codes "failed") k))
+
+-- and that
+abbrev pub fits_growth : Data → Bool
+fits_growth k = is_some (may_fail_or_not (member_of (codes "on_failure") k))
+
+abbrev made : List ℕ → ℕ → List (List ℕ) → Option Diag → Bool → Provisioner
+made name seconds output failed may_fail = record { name = name; seconds = seconds; output = output; failed = failed; may_fail = may_fail }
+
+reads : (name : Option (List ℕ)) (seconds : Option ℕ) (failed : Option (Option Diag)) (output : Option (List (List ℕ))) (may_fail : Option Bool) (many : Bool)
     → ((texts : List (List ℕ)) → output ≡ Some texts → many ≡ nat_lt max_outputs (length texts))
-    → ((((is_some name && is_some seconds) && is_some output) && not many) && is_some failed)
-    ≡ option_map_or fits (name >>= λ n. seconds >>= λ s. failed >>= λ f. output >>= λ o. Some (made n s o f)) false
-reads None seconds failed output many are = refl
-reads (Some n) None failed output many are = refl
-reads (Some n) (Some s) None output many are = and_false (is_some output && not many)
-reads (Some n) (Some s) (Some f) None many are = refl
-reads (Some n) (Some s) (Some f) (Some o) many are = and_true (not many) ∙ ap not (are o refl)
+    → (members_fit name seconds output many failed && is_some may_fail)
+    ≡ option_map_or fits (name >>= λ n. seconds >>= λ s. failed >>= λ f. output >>= λ o. may_fail >>= λ m. Some (made n s o f m)) false
+reads None seconds failed output may_fail many are = refl
+reads (Some n) None failed output may_fail many are = refl
+reads (Some n) (Some s) None output may_fail many are = ap (λ (b : Bool). b && is_some may_fail) (and_false (is_some output && not many))
+reads (Some n) (Some s) (Some f) None may_fail many are = refl
+reads (Some n) (Some s) (Some f) (Some o) None many are = and_false ((not many) && true)
+reads (Some n) (Some s) (Some f) (Some o) (Some m) many are = and_true ((not many) && true) ∙ and_true (not many) ∙ ap not (are o refl)
 
 -- ---- as many items as were read
 
@@ -77,11 +93,14 @@ seconds_read d s e = ap (λ (n : Option ℕ). unwrap_or n 0) (seconds_are (membe
 of_provisioner : (d : Data) (p : Provisioner) → provisioner_from d ≡ Some p → seconds_in d ≡ p.seconds
 unfolding provisioner_from
 of_provisioner d p e =
-    let name = bind_some (non_empty_text_of (codes "provisioner") d) (λ n. seconds_of d >>= λ s. diag_or_none (member_of (codes "failed") d) >>= λ f. each_of as_str (member_of (codes "output") d) >>= λ o. Some (made n s o f)) p e in
-    let seconds = bind_some (seconds_of d) (λ s. diag_or_none (member_of (codes "failed") d) >>= λ f. each_of as_str (member_of (codes "output") d) >>= λ o. Some (made name.0 s o f)) p name.2 in
-    let failed = bind_some (diag_or_none (member_of (codes "failed") d)) (λ f. each_of as_str (member_of (codes "output") d) >>= λ o. Some (made name.0 seconds.0 o f)) p seconds.2 in
-    let output = bind_some (each_of as_str (member_of (codes "output") d)) (λ o. Some (made name.0 seconds.0 o failed.0)) p failed.2 in
-    seconds_read d seconds.0 seconds.1 ∙ ap (λ (x : Provisioner). x.seconds) (some_is (made name.0 seconds.0 output.0 failed.0) p output.2)
+    let may : Option Bool = may_fail_or_not (member_of (codes "on_failure") d) in
+    let texts : Option (List (List ℕ)) = each_of as_str (member_of (codes "output") d) in
+    let name = bind_some (non_empty_text_of (codes "provisioner") d) (λ n. seconds_of d >>= λ s. diag_or_none (member_of (codes "failed") d) >>= λ f. texts >>= λ o. may >>= λ m. Some (made n s o f m)) p e in
+    let seconds = bind_some (seconds_of d) (λ s. diag_or_none (member_of (codes "failed") d) >>= λ f. texts >>= λ o. may >>= λ m. Some (made name.0 s o f m)) p name.2 in
+    let failed = bind_some (diag_or_none (member_of (codes "failed") d)) (λ f. texts >>= λ o. may >>= λ m. Some (made name.0 seconds.0 o f m)) p seconds.2 in
+    let output = bind_some texts (λ o. may >>= λ m. Some (made name.0 seconds.0 o failed.0 m)) p failed.2 in
+    let growth = bind_some may (λ m. Some (made name.0 seconds.0 output.0 failed.0 m)) p output.2 in
+    seconds_read d seconds.0 seconds.1 ∙ ap (λ (x : Provisioner). x.seconds) (some_is (made name.0 seconds.0 output.0 failed.0 growth.0) p growth.2)
 
 seconds_of_list : (ds : List Data) (ps : List Provisioner) → all_some (map provisioner_from ds) ≡ Some ps → sum_by seconds_in ds ≡ seconds_of_all ps
 seconds_of_list [] ps e = ap seconds_of_all (some_is [] ps e)
@@ -106,28 +125,30 @@ all_seconds_read (Some (object ms)) ps e = absurd cc
 
 -- ---- the provisioner
 
-pub clean_provisioner : (d : Data) → clean (in_provisioner d) ≡ is_provisioner d
-unfolding in_provisioner provisioner_from
-clean_provisioner d =
+pub clean_provisioner : IsCleanBeside in_provisioner fits_first
+unfolding in_provisioner fits_first
+clean_provisioner d k alike =
     let wrong : List Finding = faults_of provisioner_table d in
     let output : List Finding = in_list (λ number. unless_suits want.Text) (known name.Output want.ArrayOrAbsent) d in
     let marks : List Finding = marked (provisioner_mark d ∷ []) in
     let failed : List Finding = inside in_diagnostic name.Failed d in
-    let many : Bool = nat_lt max_outputs (length (items_at name.Output d)) in
-    let name_read : Option (List ℕ) = non_empty_text_of (codes "provisioner") d in
-    let seconds : Option ℕ = seconds_of d in
-    let failed_read : Option (Option Diag) = diag_or_none (member_of (codes "failed") d) in
-    let output_read : Option (List (List ℕ)) = each_of as_str (member_of (codes "output") d) in
+    let many : Bool = nat_lt max_outputs (length (items_at name.Output k)) in
+    let name_read : Option (List ℕ) = non_empty_text_of (codes "provisioner") k in
+    let seconds : Option ℕ = seconds_of k in
+    let failed_read : Option (Option Diag) = diag_or_none (member_of (codes "failed") k) in
+    let output_read : Option (List (List ℕ)) = each_of as_str (member_of (codes "output") k) in
     let a : clean wrong ≡ (is_some name_read && is_some seconds) =
     two (known name.Provisioner want.NonEmptyText) (known name.Seconds want.Seconds) d
-    ∙ ap (λ (b : Bool). b && is_met want.Seconds (member_of (codes "seconds") d)) (met_non_empty (member_of (codes "provisioner") d))
-    ∙ ap (λ (b : Bool). is_some name_read && b) (met_seconds (member_of (codes "seconds") d)) in
+    ∙ ap (λ (b : Bool). b && is_met want.Seconds (member_of (codes "seconds") d)) (non_empty_there (codes "provisioner") refl d k alike)
+    ∙ ap (λ (b : Bool). is_some name_read && b) (whole_there (codes "seconds") refl d k alike) in
     let b : clean output ≡ is_some output_read =
-    clean-in_list (λ number. unless_suits want.Text) (λ e. is_some (as_str e)) (λ number e. clean-unless_suits want.Text e) (known name.Output want.ArrayOrAbsent) d
-    ∙ each_is as_str (member_of (codes "output") d) in
-    let m : clean marks ≡ not many = clean-marked (provisioner_mark d ∷ []) refl ∙ and_true (not many) in
+    list_clean (λ number. unless_suits want.Text) (λ e. is_some (as_str e))
+    (λ number x y same. clean-unless_suits want.Text x ∙ ap (λ (t : Option (List ℕ)). is_some t) (as_str_alike x y same)) (known name.Output want.ArrayOrAbsent) array_or refl d k alike
+    ∙ each_is as_str (member_of (codes "output") k) in
+    let m : clean marks ≡ not many =
+    clean-marked (provisioner_mark d ∷ []) refl ∙ and_true (not (nat_lt max_outputs (length (items_at name.Output d)))) ∙ ap (λ (n : ℕ). not (nat_lt max_outputs n)) (count_same name.Output refl d k alike) in
     let f : clean failed ≡ is_some failed_read =
-    clean-inside in_diagnostic (λ e. is_some (diag_from e)) clean_diagnostic name.Failed d ∙ absent_or_diagnostic (member_of (codes "failed") d) in
+    inside_clean in_diagnostic (λ e. is_some (diag_from e)) clean_diagnostic name.Failed refl d k alike ∙ absent_or_diagnostic (member_of (codes "failed") k) in
     clean-where_suits want.Provisioner d (wrong ++ output ++ marks ++ failed ++ unread provisioner_names d)
     ∙ ap (λ (x : Bool). is_some (as_object d) && x)
     (clean-then_unread (wrong ++ output ++ marks ++ failed) provisioner_names d
@@ -137,7 +158,34 @@ clean_provisioner d =
     ∙ ap (λ (x : Bool). (((is_some name_read && is_some seconds) && x) && clean marks) && clean failed) b
     ∙ ap (λ (x : Bool). (((is_some name_read && is_some seconds) && is_some output_read) && x) && clean failed) m
     ∙ ap (λ (x : Bool). (((is_some name_read && is_some seconds) && is_some output_read) && not many) && x) f)
-    ∙ needs_object (codes "provisioner") d ((((is_some name_read && is_some seconds) && is_some output_read) && not many) && is_some failed_read)
-    (λ none. ap (λ (o : Option Data). (((is_some (o >>= as_str >>= unless_empty) && is_some seconds) && is_some output_read) && not many) && is_some failed_read) none)
-    ∙ reads name_read seconds failed_read output_read many
-    (λ texts e. ap (λ (n : ℕ). nat_lt max_outputs n) (length_read as_str (member_of (codes "output") d) texts e))
+    ∙ ap (λ (x : Bool). x && members_fit name_read seconds output_read many failed_read) (object_alike d k alike)
+    ∙ needs_object (codes "provisioner") k (members_fit name_read seconds output_read many failed_read)
+    (λ none. ap (λ (o : Option Data). members_fit (o >>= as_str >>= unless_empty) seconds output_read many failed_read) none)
+
+-- what comes of its failure
+pub clean_growth : IsCleanBeside growth_of_provisioner fits_growth
+clean_growth d k alike =
+    clean-faults_of (known name.OnFailure want.OnFailure ∷ []) d
+    ∙ and_true (is_met want.OnFailure (member_of (codes "on_failure") d))
+    ∙ on_failure_there (codes "on_failure") refl d k alike
+
+-- both
+pub fits_both : (k : Data) → (fits_first k && fits_growth k) ≡ is_provisioner k
+unfolding provisioner_from fits_first
+fits_both k =
+    reads (non_empty_text_of (codes "provisioner") k) (seconds_of k) (diag_or_none (member_of (codes "failed") k)) (each_of as_str (member_of (codes "output") k))
+    (may_fail_or_not (member_of (codes "on_failure") k)) (nat_lt max_outputs (length (items_at name.Output k)))
+    (λ texts e. ap (λ (n : ℕ). nat_lt max_outputs n) (length_read as_str (member_of (codes "output") k) texts e))
+
+crossed : (a b c e : Bool) → ((a && b) && (c && e)) ≡ ((a && c) && (b && e))
+crossed false b c e = refl
+crossed true false c e = sym (and_false c)
+crossed true true c e = refl
+
+all_both : (ks : List Data) → (list_all fits_first ks && list_all fits_growth ks) ≡ list_all is_provisioner ks
+all_both [] = refl
+all_both (k ∷ ks) = crossed (fits_first k) (list_all fits_first ks) (fits_growth k) (list_all fits_growth ks) ∙ ap (λ (b : Bool). b && (list_all fits_first ks && list_all fits_growth ks)) (fits_both k) ∙ ap (λ (b : Bool). is_provisioner k && b) (all_both ks)
+
+pub items_both : (o : Option Data) → (is_absent_or (all_items fits_first) o && is_absent_or (all_items fits_growth) o) ≡ is_absent_or (all_items is_provisioner) o
+items_both None = refl
+items_both (Some k) = all_both (list_of (items_in k))

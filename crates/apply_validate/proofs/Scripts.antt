@@ -1,24 +1,31 @@
 -- Scripts: nothing is found for which a run refuses, exactly where each entry is one.
-use Rattle.std.proofs.Common.{◌≡◌, ℕ, List, [], ◌++◌, map, Bool, false, not, ◌&&◌, is_some, Option, Some, None, refl, sym, ap, ◌∙◌}
-use Rattle.std.specs.Prelude.{codes}
+use Rattle.std.proofs.Common.{◌≡◌, ℕ, List, [], ◌∷◌, ◌++◌, length, map, Bool, true, false, not, ◌&&◌, if◌then◌else◌, is_some, Option, Some, None, refl, sym, ap, ◌∙◌}
+use Rattle.std.specs.Prelude.{codes, nat_lt}
 use Rattle.std.specs.List.{list_all}
 use Rattle.std.specs.Option.{option_map_or}
 use Rattle.serde_json.specs.Data.{Data, Items, null, boolean, number, string, array, object}
 use Rattle.serde_json.specs.Find.{as_array, as_object, as_str}
-use Rattle.apply_json.specs.Tree.{◌>>=◌, list_of, member_of, text_of, text_or, unless_empty}
-use Rattle.apply_plan.specs.Script.Entry.{Entry, EntryStep, all_some, entry_of, step_from}
+use Rattle.apply_json.specs.Keeping.{keeping_tree_of}
+use Rattle.apply_json.specs.Tree.{◌>>=◌, list_of, member_of, text_of, text_or, tree_of, unless_empty}
+use Rattle.apply_plan.specs.Bytes.{max_bytes}
+use Rattle.apply_plan.specs.Script.Entry.{Entry, EntryStep, all_some, entry_of, is_kept, step_from}
 use Rattle.apply_validate.specs.declared.findings.finding.Finding.{Finding}
 use Rattle.apply_validate.specs.declared.findings.name.Name.TheVariants as name
 use Rattle.apply_validate.specs.declared.findings.want.Want.TheVariants as want
-use Rattle.apply_validate.specs.Laws.{has_refusal, is_entry, is_script, is_within_limits}
+use Rattle.apply_validate.specs.declared.findings.what.What.TheVariants as what
+use Rattle.apply_validate.specs.Findings.{finding_here}
+use Rattle.apply_validate.specs.Laws.{are_script, has_refusal, is_entry, is_script, is_within_limits}
 use Rattle.apply_validate.specs.ScriptFindings.{entry_names, entry_table, in_entry, in_script, in_step, known, script_names}
 use Rattle.apply_validate.specs.Walks.{faults_of, in_list, unread}
 use Rattle.apply_validate.specs.Wants.{is_met}
-use Rattle.apply_validate.proofs.Clean.{all_items, clean, clean-append, clean-in_list, clean-then_unread, clean-where_suits, is_absent_or}
+use Rattle.apply_validate.specs.Whole.{script_findings}
+use Rattle.apply_validate.proofs.Alike.{Alike, both_trees, bytes_alike, object_alike}
+use Rattle.apply_validate.proofs.Clean.{all_items, clean, clean-append, clean-then_unread, clean-where_suits, is_absent_or}
 use Rattle.apply_validate.proofs.Diagnostics.{two}
+use Rattle.apply_validate.proofs.Members.{IsCleanBeside, array_there, list_clean, text_or_there, text_there}
 use Rattle.apply_validate.proofs.Options.{not_not}
 use Rattle.apply_validate.proofs.Steps.{clean_step, is_step}
-use Rattle.apply_validate.proofs.Wanted.{each_fits_there, met_text, met_text_or, needs_object}
+use Rattle.apply_validate.proofs.Wanted.{each_fits_there, needs_object}
 
 abbrev within : List EntryStep → Bool
 within steps = list_all is_within_limits steps
@@ -48,28 +55,29 @@ reads (Some x) None list = refl
 reads (Some x) (Some y) None = refl
 reads (Some x) (Some y) (Some l) = of_items x y (as_array l)
 
-pub clean_entry : (d : Data) → clean (in_entry d) ≡ is_entry d
+pub clean_entry : IsCleanBeside in_entry is_entry
 unfolding in_entry entry_of
-clean_entry d =
+clean_entry d k alike =
     let wrong : List Finding = faults_of entry_table d in
     let steps : List Finding = in_list (λ number. in_step) (known name.Steps want.Array) d in
-    let a : Option (List ℕ) = text_of (codes "address") d in
-    let t : Option (List ℕ) = text_or [] (member_of (codes "deposed") d) in
-    let o : Option Data = member_of (codes "steps") d in
+    let a : Option (List ℕ) = text_of (codes "address") k in
+    let t : Option (List ℕ) = text_or [] (member_of (codes "deposed") k) in
+    let o : Option Data = member_of (codes "steps") k in
     let fit : Bool = option_map_or within (o >>= as_array >>= λ ds. all_some (map step_from (list_of ds))) false in
     let e1 : clean wrong ≡ (is_some a && is_some t) =
     two (known name.Address want.Text) (known name.Deposed want.TextOrAbsent) d
-    ∙ ap (λ (b : Bool). b && is_met want.TextOrAbsent (member_of (codes "deposed") d)) (met_text (member_of (codes "address") d))
-    ∙ ap (λ (b : Bool). is_some a && b) (met_text_or (member_of (codes "deposed") d)) in
+    ∙ ap (λ (b : Bool). b && is_met want.TextOrAbsent (member_of (codes "deposed") d)) (text_there (codes "address") refl d k alike)
+    ∙ ap (λ (b : Bool). is_some a && b) (text_or_there (codes "deposed") refl d k alike) in
     let e2 : clean steps ≡ fit =
-    clean-in_list (λ number. in_step) is_step (λ number. clean_step) (known name.Steps want.Array) d ∙ each_fits_there step_from is_within_limits o in
+    list_clean (λ number. in_step) is_step (λ number. clean_step) (known name.Steps want.Array) array_there refl d k alike ∙ each_fits_there step_from is_within_limits o in
     clean-where_suits want.Entry d (wrong ++ steps ++ unread entry_names d)
     ∙ ap (λ (x : Bool). is_some (as_object d) && x)
     (clean-then_unread (wrong ++ steps) entry_names d
     ∙ clean-append wrong steps
     ∙ ap (λ (x : Bool). x && clean steps) e1
     ∙ ap (λ (x : Bool). (is_some a && is_some t) && x) e2)
-    ∙ needs_object (codes "address") d ((is_some a && is_some t) && fit)
+    ∙ ap (λ (x : Bool). x && ((is_some a && is_some t) && fit)) (object_alike d k alike)
+    ∙ needs_object (codes "address") k ((is_some a && is_some t) && fit)
     (λ none. ap (λ (x : Option Data). (is_some (x >>= as_str) && is_some t) && fit) none)
     ∙ reads a t o
 
@@ -85,18 +93,37 @@ entries : (o : Option Data) → (is_met want.Array o && is_absent_or (all_items 
 entries None = refl
 entries (Some d) = of_array d
 
-pub clean_script : (d : Data) → clean (in_script d) ≡ is_script d
+pub clean_script : IsCleanBeside in_script is_script
 unfolding in_script
-clean_script d =
+clean_script d k alike =
     let changes : List Finding = in_list (λ number. in_entry) (known name.Changes want.Array) d in
-    let o : Option Data = member_of (codes "changes") d in
+    let o : Option Data = member_of (codes "changes") k in
     clean-where_suits want.Object d (changes ++ unread script_names d)
     ∙ ap (λ (x : Bool). is_some (as_object d) && x)
     (clean-then_unread changes script_names d
-    ∙ clean-in_list (λ number. in_entry) is_entry (λ number. clean_entry) (known name.Changes want.Array) d
+    ∙ list_clean (λ number. in_entry) is_entry (λ number. clean_entry) (known name.Changes want.Array) array_there refl d k alike
     ∙ entries o)
-    ∙ needs_object (codes "changes") d (is_script d)
+    ∙ ap (λ (x : Bool). x && is_script k) (object_alike d k alike)
+    ∙ needs_object (codes "changes") k (is_script k)
     (λ none. ap (λ (x : Option Data). option_map_or (λ elements. list_all is_entry (list_of elements)) (x >>= as_array) false) none)
 
-pub refusals_of_script : (d : Data) → has_refusal (in_script d) ≡ not (is_script d)
-refusals_of_script d = sym (not_not (has_refusal (in_script d))) ∙ ap not (clean_script d)
+-- ---- the bytes
+
+of_trees : (o p : Option Data) → is_some o ≡ is_some p → ((d k : Data) → o ≡ Some d → p ≡ Some k → Alike d k)
+    → clean (option_map_or in_script o (finding_here what.NotJson ∷ [])) ≡ option_map_or is_script p false
+of_trees None None same alike = refl
+of_trees None (Some k) same alike = absurd cc
+of_trees (Some d) None same alike = absurd cc
+of_trees (Some d) (Some k) same alike = clean_script d k (alike d k refl refl)
+
+by_size : (large : Bool) (xs : List Finding) (b : Bool) → clean xs ≡ b
+    → clean (if large then finding_here what.TooManyBytes ∷ [] else xs) ≡ (if large then false else b)
+by_size true xs b is = refl
+by_size false xs b is = is
+
+pub refusals_of_script : (bytes : List ℕ) → has_refusal (script_findings bytes) ≡ not (are_script bytes)
+refusals_of_script bytes =
+    sym (not_not (has_refusal (script_findings bytes)))
+    ∙ ap not
+    (by_size (nat_lt max_bytes (length bytes)) (option_map_or in_script (tree_of bytes) (finding_here what.NotJson ∷ [])) (option_map_or is_script (keeping_tree_of is_kept bytes) false)
+    (of_trees (tree_of bytes) (keeping_tree_of is_kept bytes) (both_trees bytes) (bytes_alike bytes)))

@@ -1,29 +1,33 @@
 -- Steps: nothing is found for which a run refuses, exactly where one is read that is within the limits.
-use Rattle.std.proofs.Common.{◌≡◌, ℕ, suc, ◌+◌, ◌<◌, List, [], ◌∷◌, ◌++◌, length, Bool, true, false, not, ◌&&◌, is_some, Option, Some, None, refl, sym, ap, ◌∙◌, arith}
+use Rattle.std.proofs.Common.{◌≡◌, ℕ, suc, ◌+◌, ◌<◌, List, [], ◌∷◌, ◌++◌, length, Bool, true, false, not, ◌&&◌, ◌||◌, is_some, Option, Some, None, unwrap_or, if◌then◌else◌, refl, sym, ap, ◌∙◌, arith}
 use Rattle.std.specs.Prelude.{codes, nat_lt}
 use Rattle.std.specs.List.{list_all, sum_by}
-use Rattle.std.specs.Option.{option_map, option_map_or}
+use Rattle.std.specs.Option.{option_and_then, option_map, option_map_or}
 use Rattle.std.proofs.lemmas.Bool.{lt-ltb}
-use Rattle.serde_json.specs.Data.{Data}
-use Rattle.serde_json.specs.Find.{as_number, as_object, as_str, as_u64}
+use Rattle.serde_json.specs.Data.{Data, null, boolean, number, string, array, object}
+use Rattle.serde_json.specs.Find.{as_bool, as_number, as_object, as_str, as_u64}
 use Rattle.apply_json.specs.Tree.{◌>>=◌, member_of, text_or, unless_empty}
 use Rattle.apply_model.specs.declared.script.diag.Diag.{Diag}
+use Rattle.apply_model.specs.declared.script.ending.Ending.{Ending}
+use Rattle.apply_model.specs.declared.script.ending.Ending.TheVariants.{Done, Failed}
 use Rattle.apply_model.specs.declared.script.provisioner.Provisioner.{Provisioner}
 use Rattle.apply_model.specs.Script.Limits.{max_provisioners, max_seconds}
 use Rattle.apply_model.specs.Script.Outcome.{puts_out_too_much, seconds_of_all}
-use Rattle.apply_plan.specs.Script.Entry.{EntryStep, WaitName, diag_from, diag_or_none, each_of, ending_from, ending_of, entry_step, provisioner_from, seconds_of, step_from, wait_from, with_provisioners}
+use Rattle.apply_plan.specs.Script.Entry.{EntryStep, WaitName, answered_with, diag_from, diag_or_none, each_of, ending_from, ending_of, flag_or_false, provisioner_from, says_nothing, seconds_of, skipped_with, step_from, wait_from}
 use Rattle.apply_validate.specs.declared.findings.finding.Finding.{Finding}
 use Rattle.apply_validate.specs.declared.findings.name.Name.TheVariants as name
 use Rattle.apply_validate.specs.declared.findings.want.Want.TheVariants as want
 use Rattle.apply_validate.specs.Laws.{is_within_limits}
-use Rattle.apply_validate.specs.ScriptFindings.{in_diagnostic, in_provisioner, in_step, in_wait, known, seconds_in, seconds_in_all, step_marks, step_names, step_table}
-use Rattle.apply_validate.specs.Walks.{faults_of, in_list, inside, items_at, marked, unread}
+use Rattle.apply_validate.specs.ScriptFindings.{growth_of_provisioner, in_diagnostic, in_provisioner, in_step, in_wait, is_skipped, known, seconds_in, seconds_in_all, skipped_marks, step_marks, step_names, step_table}
+use Rattle.apply_validate.specs.Walks.{faults_of, in_items, in_list, inside, items_at, marked, unread}
 use Rattle.apply_validate.specs.Wants.{is_met}
-use Rattle.apply_validate.proofs.Clean.{clean, clean-append, clean-in_list, clean-inside, clean-marked, clean-then_unread, clean-where_suits}
+use Rattle.apply_validate.proofs.Alike.{Alike, object_alike}
+use Rattle.apply_validate.proofs.Clean.{all_items, clean, clean-append, clean-faults_of, clean-marked, clean-then_unread, clean-where_suits, is_absent_or}
 use Rattle.apply_validate.proofs.Diagnostics.{absent_or_diagnostic, clean_diagnostic, clean_wait, two}
+use Rattle.apply_validate.proofs.Members.{IsCleanBeside, array_or, count_same, flag_same, flag_there, inside_clean, is_there_same, items_inside, list_clean, non_empty_same, seconds_same, sum_same, text_or_there, whole_there}
 use Rattle.apply_validate.proofs.Options.{and_false, and_true, none_any, nothing_then}
-use Rattle.apply_validate.proofs.Provisioners.{all_seconds_read, clean_provisioner, fits, is_provisioner, length_read, seconds_read}
-use Rattle.apply_validate.proofs.Wanted.{each_fits, each_is, met_seconds, met_text_or, needs_object}
+use Rattle.apply_validate.proofs.Provisioners.{all_seconds_read, clean_growth, clean_provisioner, fits, fits_first, fits_growth, is_provisioner, items_both, length_read, seconds_are}
+use Rattle.apply_validate.proofs.Wanted.{each_fits, each_is}
 
 -- none of the tests of a step by itself holds
 unfoldable untouched : (failed id warning : Bool) (count seconds : ℕ) → Bool
@@ -33,6 +37,14 @@ untouched failed id warning count seconds =
 
 same_tests : (f g i j w v : Bool) (c d s t : ℕ) → f ≡ g → i ≡ j → w ≡ v → c ≡ d → s ≡ t → untouched f i w c s ≡ untouched g j v d t
 same_tests f g i j w v c d s t e1 e2 e3 e4 e5 = cc
+
+-- nor one of those of a step that is skipped
+unfoldable alone : (skipped told id warning failed : Bool) (count : ℕ) → Bool
+alone skipped told id warning failed count =
+    not (skipped && told) && (not (skipped && id) && (not (skipped && warning) && (not (skipped && failed) && (not (skipped && nat_lt 0 count) && true))))
+
+same_alone : (x y t u i j w v f g : Bool) (c d : ℕ) → x ≡ y → t ≡ u → i ≡ j → w ≡ v → f ≡ g → c ≡ d → alone x t i w f c ≡ alone y u j v g d
+same_alone x y t u i j w v f g c d e1 e2 e3 e4 e5 e6 = cc
 
 some_is : {A : Type 0} (x y : A) → Some x ≡ Some y → x ≡ y
 some_is x y e = cc
@@ -56,6 +68,12 @@ id_there (Some d) t e = ap (λ (x : Option (List ℕ)). is_some (x >>= unless_em
 abbrev little : List Provisioner → Bool
 little ps = list_all fits ps
 
+-- the step that comes of these, within the limits
+abbrev ended : (skipped told : Bool) (s : Option ℕ) (after : List WaitName) → List Provisioner → Option Ending → Bool
+ended skipped told s after ps result =
+    option_map_or is_within_limits
+    (result >>= λ r. (if skipped then skipped_with told r ps else answered_with s r ps) >>= λ o. Some (let step : EntryStep = record { outcome = o; after = after } in step)) false
+
 order : (n x y : Bool) → (n && (x && (y && true))) ≡ (x && (y && n))
 order true x y = refl
 order false true true = refl
@@ -63,107 +81,288 @@ order false true false = refl
 order false false y = refl
 
 -- a failure, beside which stands none or some of the provisioners
-beside_provisioners : (s : ℕ) (diag : Diag) (ps : List Provisioner) (after : List WaitName)
-    → (little ps && untouched true false false (length ps) (s + seconds_of_all ps))
-    ≡ option_map_or is_within_limits (ending_from None None (Some diag) >>= λ r. option_map (entry_step after) (with_provisioners s r ps)) false
+beside_provisioners : (told : Bool) (s : ℕ) (diag : Diag) (ps : List Provisioner) (after : List WaitName)
+    → (little ps && untouched true false false (length ps) (s + seconds_of_all ps)) ≡ ended false told (Some s) after ps (ending_from None None (Some diag))
 unfolding untouched
-beside_provisioners s diag [] after = refl
-beside_provisioners s diag (p ∷ ps) after =
+beside_provisioners told s diag [] after = refl
+beside_provisioners told s diag (p ∷ ps) after =
     let some : nat_lt 0 (length (p ∷ ps)) ≡ true = lt-ltb 0 (length (p ∷ ps)) (let l : 0 < suc (length ps) = omega arith in l) in
     rw some (and_false (little (p ∷ ps)))
 
-ends : (s : ℕ) (id : Option (List ℕ)) (warning failed : Option Diag) (ps : List Provisioner) (after : List WaitName)
-    → (little ps && untouched (is_some failed) (is_some id) (is_some warning) (length ps) (s + seconds_of_all ps))
-    ≡ option_map_or is_within_limits (ending_from id warning failed >>= λ r. option_map (entry_step after) (with_provisioners s r ps)) false
+answers : (told : Bool) (s : ℕ) (id : Option (List ℕ)) (warning failed : Option Diag) (ps : List Provisioner) (after : List WaitName)
+    → (little ps && untouched (is_some failed) (is_some id) (is_some warning) (length ps) (s + seconds_of_all ps)) ≡ ended false told (Some s) after ps (ending_from id warning failed)
 unfolding untouched
-ends s id warning None ps after =
+answers told s id warning None ps after =
     order (little ps) (not (nat_lt max_seconds (s + seconds_of_all ps))) (not (nat_lt max_provisioners (length ps)))
     ∙ ap (λ (b : Bool). not (nat_lt max_seconds (s + seconds_of_all ps)) && (not (nat_lt max_provisioners (length ps)) && b)) (none_any puts_out_too_much ps)
-ends s None None (Some diag) ps after = beside_provisioners s diag ps after
-ends s None (Some warning) (Some diag) ps after = and_false (little ps)
-ends s (Some id) warning (Some diag) ps after = and_false (little ps)
+answers told s None None (Some diag) ps after = beside_provisioners told s diag ps after
+answers told s None (Some warning) (Some diag) ps after = and_false (little ps)
+answers told s (Some id) warning (Some diag) ps after = and_false (little ps)
+
+-- no seconds
+silent : (told : Bool) (after : List WaitName) (ps : List Provisioner) (result : Option Ending) → false ≡ ended false told None after ps result
+silent told after ps None = refl
+silent told after ps (Some r) = refl
+
+abbrev given : Option ℕ → ℕ
+given s = unwrap_or s 0
+
+skips_none : (told : Bool) (s : Option ℕ) (ps : List Provisioner) (after : List WaitName) → (told ≡ false → s ≡ None)
+    → (little ps && (untouched false false false (length ps) (given s + seconds_of_all ps) && alone true told false false false (length ps))) ≡ ended true told s after ps (ending_from None None None)
+unfolding untouched alone
+skips_none true s ps after none = ap (λ (b : Bool). little ps && b) (and_false (untouched false false false (length ps) (given s + seconds_of_all ps))) ∙ and_false (little ps)
+skips_none false s [] after none = rw (none refl) refl
+skips_none false s (p ∷ ps) after none =
+    let some : nat_lt 0 (length (p ∷ ps)) ≡ true = lt-ltb 0 (length (p ∷ ps)) (let l : 0 < suc (length ps) = omega arith in l) in
+    rw some (ap (λ (b : Bool). little (p ∷ ps) && b) (and_false (untouched false false false (length (p ∷ ps)) (given s + seconds_of_all (p ∷ ps)))) ∙ and_false (little (p ∷ ps)))
+
+-- something stands beside it
+touched : (told id warning failed : Bool) (count : ℕ) → (id || (warning || failed)) ≡ true → alone true told id warning failed count ≡ false
+unfolding alone
+touched told true warning failed count e = and_false (not told)
+touched told false true failed count e = and_false (not told)
+touched told false false true count e = and_false (not told)
+touched told false false false count e = absurd cc
+
+none_of : (x y z : Bool) → z ≡ false → (x && (y && z)) ≡ false
+none_of x y z e = rw e (ap (λ (b : Bool). x && b) (and_false y) ∙ and_false x)
+
+-- nothing is read of it
+unread_of : (told : Bool) (s : Option ℕ) (r : Ending) (ps : List Provisioner) (after : List WaitName) → says_nothing r ≡ false → ended true told s after ps (Some r) ≡ false
+unread_of true s r ps after e = refl
+unread_of false s r ps after e = rw e refl
+
+skips : (told : Bool) (s : Option ℕ) (id : Option (List ℕ)) (warning failed : Option Diag) (ps : List Provisioner) (after : List WaitName) → (told ≡ false → s ≡ None)
+    → (little ps && (untouched (is_some failed) (is_some id) (is_some warning) (length ps) (given s + seconds_of_all ps) && alone true told (is_some id) (is_some warning) (is_some failed) (length ps)))
+    ≡ ended true told s after ps (ending_from id warning failed)
+skips told s None None None ps after none = skips_none told s ps after none
+skips told s (Some id) w None ps after none =
+    none_of (little ps) (untouched false true (is_some w) (length ps) (given s + seconds_of_all ps)) (alone true told true (is_some w) false (length ps)) (touched told true (is_some w) false (length ps) refl)
+    ∙ sym (unread_of told s (Done (Some id) w) ps after refl)
+skips told s None (Some w) None ps after none =
+    none_of (little ps) (untouched false false true (length ps) (given s + seconds_of_all ps)) (alone true told false true false (length ps)) (touched told false true false (length ps) refl)
+    ∙ sym (unread_of told s (Done None (Some w)) ps after refl)
+skips told s None None (Some f) ps after none =
+    none_of (little ps) (untouched true false false (length ps) (given s + seconds_of_all ps)) (alone true told false false true (length ps)) (touched told false false true (length ps) refl)
+    ∙ sym (unread_of told s (Failed f) ps after refl)
+skips told s None (Some w) (Some f) ps after none =
+    none_of (little ps) (untouched true false true (length ps) (given s + seconds_of_all ps)) (alone true told false true true (length ps)) (touched told false true true (length ps) refl)
+skips told s (Some id) w (Some f) ps after none =
+    none_of (little ps) (untouched true true (is_some w) (length ps) (given s + seconds_of_all ps)) (alone true told true (is_some w) true (length ps)) (touched told true (is_some w) true (length ps) refl)
+
+-- seconds are asked for where the step is not skipped
+abbrev timed : (skipped : Bool) → Option ℕ → Bool
+timed skipped s = skipped || is_some s
+
+-- nothing is asked of a step that is not
+free : (told id warning failed : Bool) (count : ℕ) → alone false told id warning failed count ≡ true
+unfolding alone
+free told id warning failed count = refl
+
+-- how it ends, skipped or not
+ends : (skipped told : Bool) (s : Option ℕ) (id : Option (List ℕ)) (warning failed : Option Diag) (ps : List Provisioner) (after : List WaitName) → (told ≡ false → s ≡ None)
+    → (timed skipped s && (little ps && (untouched (is_some failed) (is_some id) (is_some warning) (length ps) (given s + seconds_of_all ps) && alone skipped told (is_some id) (is_some warning) (is_some failed) (length ps))))
+    ≡ ended skipped told s after ps (ending_from id warning failed)
+ends true told s id warning failed ps after none = skips told s id warning failed ps after none
+ends false told None id warning failed ps after none = silent told after ps (ending_from id warning failed)
+ends false told (Some s) id warning failed ps after none =
+    ap (λ (b : Bool). little ps && (untouched (is_some failed) (is_some id) (is_some warning) (length ps) (s + seconds_of_all ps) && b)) (free told (is_some id) (is_some warning) (is_some failed) (length ps))
+    ∙ ap (λ (b : Bool). little ps && b) (and_true (untouched (is_some failed) (is_some id) (is_some warning) (length ps) (s + seconds_of_all ps)))
+    ∙ answers told s id warning failed ps after
 
 -- ---- the step
 
-reads : (seconds : Option ℕ) (id : Option (List ℕ)) (warning failed : Option (Option Diag)) (ps : Option (List Provisioner)) (after : Option (List WaitName)) (tests : Bool)
-    → ((s : ℕ) (t : List ℕ) (w f : Option Diag) (l : List Provisioner) → seconds ≡ Some s → id ≡ Some t → warning ≡ Some w → failed ≡ Some f → ps ≡ Some l
-    → tests ≡ untouched (is_some f) (is_some (unless_empty t)) (is_some w) (length l) (s + seconds_of_all l))
-    → ((((((is_some seconds && is_some id) && is_some warning) && is_some failed) && option_map_or (list_all fits) ps false) && tests) && is_some after)
-    ≡ option_map_or is_within_limits
-    (seconds >>= λ s. (id >>= λ t. warning >>= λ w. failed >>= λ f. ending_from (unless_empty t) w f) >>= λ r. ps >>= λ l. after >>= λ a. option_map (entry_step a) (with_provisioners s r l)) false
-reads None id warning failed ps after tests are = refl
-reads (Some s) None warning failed ps after tests are = refl
-reads (Some s) (Some t) None failed ps after tests are = refl
-reads (Some s) (Some t) (Some w) None ps after tests are = refl
-reads (Some s) (Some t) (Some w) (Some f) None after tests are =
-    ap (λ (o : Option EntryStep). option_map_or is_within_limits o false) (sym (nothing_then (ending_from (unless_empty t) w f)))
-reads (Some s) (Some t) (Some w) (Some f) (Some l) None tests are =
-    and_false (little l && tests)
-    ∙ ap (λ (o : Option EntryStep). option_map_or is_within_limits o false) (sym (nothing_then (ending_from (unless_empty t) w f)))
-reads (Some s) (Some t) (Some w) (Some f) (Some l) (Some a) tests are =
-    and_true (little l && tests)
-    ∙ ap (λ (b : Bool). little l && b) (are s t w f l refl refl refl refl refl)
-    ∙ ends s (unless_empty t) w f l a
+-- what is found of it, by its parts
+abbrev parts : (timed id warning failed provisioners tests flag tests_skipped after : Bool) → Bool
+parts timed id warning failed provisioners tests flag tests_skipped after =
+    timed && (id && (warning && (failed && (provisioners && (tests && (flag && (tests_skipped && after)))))))
+
+abbrev step_read : (q : Option Bool) (told : Bool) (s : Option ℕ) (id : Option (List ℕ)) (warning failed : Option (Option Diag)) (ps : Option (List Provisioner)) (after : Option (List WaitName)) → Option EntryStep
+step_read q told s id warning failed ps after =
+    q >>= λ skipped. (id >>= λ t. warning >>= λ w. failed >>= λ f. ending_from (unless_empty t) w f) >>= λ r. ps >>= λ l. after >>= λ a.
+    (if skipped then skipped_with told r l else answered_with s r l) >>= λ o. Some (let step : EntryStep = record { outcome = o; after = a } in step)
+
+abbrev fit : Option EntryStep → Bool
+fit step = option_map_or is_within_limits step false
+
+no_flag : (timed id warning failed provisioners tests tests_skipped after : Bool) → parts timed id warning failed provisioners tests false tests_skipped after ≡ false
+no_flag true true true true true true s a = refl
+no_flag true true true true true false s a = refl
+no_flag true true true true false t s a = refl
+no_flag true true true false p t s a = refl
+no_flag true true false f p t s a = refl
+no_flag true false w f p t s a = refl
+no_flag false i w f p t s a = refl
+
+last_out : (timed ps tests tests_skipped : Bool) → (timed && (ps && (tests && (tests_skipped && false)))) ≡ false
+last_out false ps tests tests_skipped = refl
+last_out true false tests tests_skipped = refl
+last_out true true false tests_skipped = refl
+last_out true true true tests_skipped = and_false tests_skipped
+
+reads : (q : Option Bool) (skipped told : Bool) (s : Option ℕ) (id : Option (List ℕ)) (warning failed : Option (Option Diag)) (ps : Option (List Provisioner)) (after : Option (List WaitName)) (tests tests_skipped : Bool)
+    → (told ≡ false → s ≡ None)
+    → ((b : Bool) → q ≡ Some b → skipped ≡ b)
+    → ((t : List ℕ) (w f : Option Diag) (l : List Provisioner) → id ≡ Some t → warning ≡ Some w → failed ≡ Some f → ps ≡ Some l
+    → (tests ≡ untouched (is_some f) (is_some (unless_empty t)) (is_some w) (length l) (given s + seconds_of_all l))
+    × (tests_skipped ≡ alone skipped told (is_some (unless_empty t)) (is_some w) (is_some f) (length l)))
+    → parts (timed skipped s) (is_some id) (is_some warning) (is_some failed) (option_map_or (list_all fits) ps false) tests (is_some q) tests_skipped (is_some after)
+    ≡ fit (step_read q told s id warning failed ps after)
+reads None skipped told s id warning failed ps after tests tests_skipped none flag are =
+    no_flag (timed skipped s) (is_some id) (is_some warning) (is_some failed) (option_map_or (list_all fits) ps false) tests tests_skipped (is_some after)
+reads (Some b) skipped told s None warning failed ps after tests tests_skipped none flag are = and_false (timed skipped s)
+reads (Some b) skipped told s (Some t) None failed ps after tests tests_skipped none flag are = and_false (timed skipped s)
+reads (Some b) skipped told s (Some t) (Some w) None ps after tests tests_skipped none flag are = and_false (timed skipped s)
+reads (Some b) skipped told s (Some t) (Some w) (Some f) None after tests tests_skipped none flag are =
+    and_false (timed skipped s) ∙ ap fit (sym (nothing_then (ending_from (unless_empty t) w f)))
+reads (Some b) skipped told s (Some t) (Some w) (Some f) (Some l) None tests tests_skipped none flag are =
+    last_out (timed skipped s) (little l) tests tests_skipped ∙ ap fit (sym (nothing_then (ending_from (unless_empty t) w f)))
+reads (Some b) skipped told s (Some t) (Some w) (Some f) (Some l) (Some a) tests tests_skipped none flag are =
+    let both = are t w f l refl refl refl refl in
+    let same : skipped ≡ b = flag b refl in
+    ap (λ (x : Bool). timed skipped s && (little l && (tests && x))) (and_true tests_skipped)
+    ∙ ap (λ (x : Bool). timed skipped s && (little l && (x && tests_skipped))) both.0
+    ∙ ap (λ (x : Bool). timed skipped s && (little l && (untouched (is_some f) (is_some (unless_empty t)) (is_some w) (length l) (given s + seconds_of_all l) && x))) both.1
+    ∙ ends skipped told s (unless_empty t) w f l a none
+    ∙ ap (λ (x : Bool). ended x told s a l (ending_from (unless_empty t) w f)) same
 
 -- what a run reads of a step that is within the limits
 abbrev pub is_step : Data → Bool
-is_step d = option_map_or is_within_limits (step_from d) false
+is_step k = fit (step_from k)
 
-tests_are : (d : Data) (s : ℕ) (t : List ℕ) (w f : Option Diag) (l : List Provisioner) → seconds_of d ≡ Some s → text_or [] (member_of (codes "id") d) ≡ Some t
-    → diag_or_none (member_of (codes "warning") d) ≡ Some w → diag_or_none (member_of (codes "failed") d) ≡ Some f
-    → each_of provisioner_from (member_of (codes "provisioners") d) ≡ Some l
-    → list_all (λ mark. not mark.holds) (step_marks d) ≡ untouched (is_some f) (is_some (unless_empty t)) (is_some w) (length l) (s + seconds_of_all l)
-unfolding untouched
-tests_are d s t w f l es et ew ef el =
-    let count : length (items_at name.Provisioners d) ≡ length l = length_read provisioner_from (member_of (codes "provisioners") d) l el in
-    let taken : seconds_in_all d ≡ s + seconds_of_all l =
-    ap (λ (n : ℕ). n + sum_by seconds_in (items_at name.Provisioners d)) (seconds_read d s es) ∙ ap (λ (n : ℕ). s + n) (all_seconds_read (member_of (codes "provisioners") d) l el) in
-    same_tests _ _ _ _ _ _ _ _ _ _ (diagnostic_there (member_of (codes "failed") d) f ef) (id_there (member_of (codes "id") d) t et)
-    (diagnostic_there (member_of (codes "warning") d) w ew) count taken
+-- ---- its parts, of the tree that a run reads
 
-pub clean_step : (d : Data) → clean (in_step d) ≡ is_step d
+silent_read : (o : Option Data) → is_some o ≡ false → (o >>= as_number >>= as_u64) ≡ None
+silent_read None e = refl
+silent_read (Some d) e = absurd cc
+
+flag_read : (o : Option Data) (b : Bool) → flag_or_false o ≡ Some b → option_map_or (λ flag. flag) (option_and_then as_bool o) false ≡ b
+flag_read None b e = some_is false b e
+flag_read (Some d) b e = ap (λ (x : Option Bool). option_map_or (λ flag. flag) x false) e
+
+tests_read : (k : Data) (t : List ℕ) (w f : Option Diag) (l : List Provisioner) → text_or [] (member_of (codes "id") k) ≡ Some t
+    → diag_or_none (member_of (codes "warning") k) ≡ Some w → diag_or_none (member_of (codes "failed") k) ≡ Some f
+    → each_of provisioner_from (member_of (codes "provisioners") k) ≡ Some l
+    → (list_all (λ mark. not mark.holds) (step_marks k) ≡ untouched (is_some f) (is_some (unless_empty t)) (is_some w) (length l) (given (seconds_of k) + seconds_of_all l))
+    × (list_all (λ mark. not mark.holds) (skipped_marks k) ≡ alone (is_skipped k) (is_some (member_of (codes "seconds") k)) (is_some (unless_empty t)) (is_some w) (is_some f) (length l))
+unfolding untouched alone
+tests_read k t w f l et ew ef el =
+    let count : length (items_at name.Provisioners k) ≡ length l = length_read provisioner_from (member_of (codes "provisioners") k) l el in
+    let taken : seconds_in_all k ≡ given (seconds_of k) + seconds_of_all l =
+    ap (λ (n : ℕ). n + sum_by seconds_in (items_at name.Provisioners k)) (ap (λ (o : Option ℕ). unwrap_or o 0) (seconds_are (member_of (codes "seconds") k)))
+    ∙ ap (λ (n : ℕ). given (seconds_of k) + n) (all_seconds_read (member_of (codes "provisioners") k) l el) in
+    let failed = diagnostic_there (member_of (codes "failed") k) f ef in
+    let id = id_there (member_of (codes "id") k) t et in
+    let warning = diagnostic_there (member_of (codes "warning") k) w ew in
+    (same_tests _ _ _ _ _ _ _ _ _ _ failed id warning count taken, same_alone (is_skipped k) (is_skipped k) (is_some (member_of (codes "seconds") k)) (is_some (member_of (codes "seconds") k)) _ _ _ _ _ _ _ _ refl refl id warning failed count)
+
+-- and of the other tree
+tests_same : (d k : Data) → Alike d k
+    → (list_all (λ mark. not mark.holds) (step_marks d) ≡ list_all (λ mark. not mark.holds) (step_marks k))
+    × (list_all (λ mark. not mark.holds) (skipped_marks d) ≡ list_all (λ mark. not mark.holds) (skipped_marks k))
+unfolding untouched alone
+tests_same d k a =
+    let count = count_same name.Provisioners refl d k a in
+    let taken : seconds_in_all d ≡ seconds_in_all k =
+    ap (λ (n : ℕ). n + sum_by seconds_in (items_at name.Provisioners d)) (seconds_same d k a) ∙ ap (λ (n : ℕ). seconds_in k + n) (sum_same name.Provisioners refl d k a) in
+    let failed = is_there_same (codes "failed") refl d k a in
+    let warning = is_there_same (codes "warning") refl d k a in
+    let id = ap (λ (o : Option (List ℕ)). is_some o) (non_empty_same (codes "id") refl d k a) in (
+      same_tests _ _ _ _ _ _ _ _ _ _ failed id warning count taken,
+      same_alone _ _ _ _ _ _ _ _ _ _ _ _ (flag_same (codes "skipped") refl d k a) (is_there_same (codes "seconds") refl d k a) id warning failed count,
+    )
+
+table_clean : (skipped : Bool) (d k : Data) → Alike d k → clean (faults_of (step_table skipped) d) ≡ (timed skipped (seconds_of k) && is_some (text_or [] (member_of (codes "id") k)))
+table_clean true d k a = clean-faults_of (known name.Id want.TextOrAbsent ∷ []) d ∙ and_true (is_met want.TextOrAbsent (member_of (codes "id") d)) ∙ text_or_there (codes "id") refl d k a
+table_clean false d k a =
+    two (known name.Seconds want.Seconds) (known name.Id want.TextOrAbsent) d
+    ∙ ap (λ (b : Bool). b && is_met want.TextOrAbsent (member_of (codes "id") d)) (whole_there (codes "seconds") refl d k a)
+    ∙ ap (λ (b : Bool). is_some (seconds_of k) && b) (text_or_there (codes "id") refl d k a)
+
+-- the two walks over the provisioners, apart from one another
+apart : (t i w f listed first tests flag skipped growth after all : Bool) → (first && growth) ≡ all
+    → (((((((((t && i) && w) && f) && (listed && first)) && tests) && flag) && skipped) && growth) && after) ≡ parts t i w f (listed && all) tests flag skipped after
+apart false i w f listed first tests flag skipped growth after all e = refl
+apart true false w f listed first tests flag skipped growth after all e = refl
+apart true true false f listed first tests flag skipped growth after all e = refl
+apart true true true false listed first tests flag skipped growth after all e = refl
+apart true true true true false first tests flag skipped growth after all e = refl
+apart true true true true true false tests flag skipped growth after all e = rw (sym e) refl
+apart true true true true true true false flag skipped growth after all e = sym (and_false all)
+apart true true true true true true true false skipped growth after all e = sym (and_false all)
+apart true true true true true true true true false growth after all e = sym (and_false all)
+apart true true true true true true true true true growth after all e = ap (λ (b : Bool). b && after) e
+
+appended : (xs ys : List Finding) (a b : Bool) → clean xs ≡ a → clean ys ≡ b → clean (xs ++ ys) ≡ (a && b)
+appended xs ys a b one other = clean-append xs ys ∙ ap (λ (x : Bool). x && clean ys) one ∙ ap (λ (x : Bool). a && x) other
+
+-- what is no object is no step
+only_object : (k : Data) → (is_some (as_object k) && is_step k) ≡ is_step k
+unfolding step_from ending_of
+only_object null = refl
+only_object (boolean b) = refl
+only_object (number n) = refl
+only_object (string s) = refl
+only_object (array ds) = refl
+only_object (object ms) = refl
+
+pub clean_step : IsCleanBeside in_step is_step
 unfolding in_step step_from ending_of
-clean_step d =
-    let wrong : List Finding = faults_of step_table d in
+clean_step d k alike =
+    let wrong : List Finding = faults_of (step_table (is_skipped d)) d in
     let warning : List Finding = inside in_diagnostic name.Warning d in
     let failed : List Finding = inside in_diagnostic name.Failed d in
     let provisioners : List Finding = in_list (λ number. in_provisioner) (known name.Provisioners want.ArrayOrAbsent) d in
     let marks : List Finding = marked (step_marks d) in
+    let flag : List Finding = faults_of (known name.Skipped want.FlagOrAbsent ∷ []) d in
+    let marks_skipped : List Finding = marked (skipped_marks d) in
+    let growth : List Finding = inside (in_items (λ number. growth_of_provisioner)) name.Provisioners d in
     let after : List Finding = in_list (λ number. in_wait) (known name.After want.ArrayOrAbsent) d in
-    let s : Option ℕ = seconds_of d in
-    let t : Option (List ℕ) = text_or [] (member_of (codes "id") d) in
-    let w : Option (Option Diag) = diag_or_none (member_of (codes "warning") d) in
-    let f : Option (Option Diag) = diag_or_none (member_of (codes "failed") d) in
-    let l : Option (List Provisioner) = each_of provisioner_from (member_of (codes "provisioners") d) in
-    let a : Option (List WaitName) = each_of wait_from (member_of (codes "after") d) in
-    let tests : Bool = list_all (λ mark. not mark.holds) (step_marks d) in
-    let e1 : clean wrong ≡ (is_some s && is_some t) =
-    two (known name.Seconds want.Seconds) (known name.Id want.TextOrAbsent) d
-    ∙ ap (λ (b : Bool). b && is_met want.TextOrAbsent (member_of (codes "id") d)) (met_seconds (member_of (codes "seconds") d))
-    ∙ ap (λ (b : Bool). is_some s && b) (met_text_or (member_of (codes "id") d)) in
-    let e2 : clean warning ≡ is_some w = clean-inside in_diagnostic (λ e. is_some (diag_from e)) clean_diagnostic name.Warning d ∙ absent_or_diagnostic (member_of (codes "warning") d) in
-    let e3 : clean failed ≡ is_some f = clean-inside in_diagnostic (λ e. is_some (diag_from e)) clean_diagnostic name.Failed d ∙ absent_or_diagnostic (member_of (codes "failed") d) in
-    let e4 : clean provisioners ≡ option_map_or (list_all fits) l false =
-    clean-in_list (λ number. in_provisioner) is_provisioner (λ number. clean_provisioner) (known name.Provisioners want.ArrayOrAbsent) d
-    ∙ each_fits provisioner_from fits (member_of (codes "provisioners") d) in
-    let e5 : clean marks ≡ tests = clean-marked (step_marks d) refl in
-    let e6 : clean after ≡ is_some a =
-    clean-in_list (λ number. in_wait) (λ e. is_some (wait_from e)) (λ number. clean_wait) (known name.After want.ArrayOrAbsent) d
-    ∙ each_is wait_from (member_of (codes "after") d) in
-    clean-where_suits want.Step d (wrong ++ warning ++ failed ++ provisioners ++ marks ++ after ++ unread step_names d)
-    ∙ ap (λ (x : Bool). is_some (as_object d) && x)
-    (clean-then_unread (wrong ++ warning ++ failed ++ provisioners ++ marks ++ after) step_names d
-    ∙ clean-append (wrong ++ warning ++ failed ++ provisioners ++ marks) after
-    ∙ ap (λ (x : Bool). x && clean after) (clean-append (wrong ++ warning ++ failed ++ provisioners) marks
-    ∙ ap (λ (x : Bool). x && clean marks) (clean-append (wrong ++ warning ++ failed) provisioners
-    ∙ ap (λ (x : Bool). x && clean provisioners) (clean-append (wrong ++ warning) failed
-    ∙ ap (λ (x : Bool). x && clean failed) (clean-append wrong warning
-    ∙ ap (λ (x : Bool). x && clean warning) e1
-    ∙ ap (λ (x : Bool). (is_some s && is_some t) && x) e2)
-    ∙ ap (λ (x : Bool). ((is_some s && is_some t) && is_some w) && x) e3)
-    ∙ ap (λ (x : Bool). (((is_some s && is_some t) && is_some w) && is_some f) && x) e4)
-    ∙ ap (λ (x : Bool). ((((is_some s && is_some t) && is_some w) && is_some f) && option_map_or (list_all fits) l false) && x) e5)
-    ∙ ap (λ (x : Bool). (((((is_some s && is_some t) && is_some w) && is_some f) && option_map_or (list_all fits) l false) && tests) && x) e6)
-    ∙ needs_object (codes "seconds") d ((((((is_some s && is_some t) && is_some w) && is_some f) && option_map_or (list_all fits) l false) && tests) && is_some a)
-    (λ none. ap (λ (o : Option Data). (((((is_some (o >>= as_number >>= as_u64) && is_some t) && is_some w) && is_some f) && option_map_or (list_all fits) l false) && tests) && is_some a) none)
-    ∙ reads s t w f l a tests (tests_are d)
+    let q : Option Bool = flag_or_false (member_of (codes "skipped") k) in
+    let told : Bool = is_some (member_of (codes "seconds") k) in
+    let s : Option ℕ = seconds_of k in
+    let t : Option (List ℕ) = text_or [] (member_of (codes "id") k) in
+    let w : Option (Option Diag) = diag_or_none (member_of (codes "warning") k) in
+    let f : Option (Option Diag) = diag_or_none (member_of (codes "failed") k) in
+    let o : Option Data = member_of (codes "provisioners") k in
+    let l : Option (List Provisioner) = each_of provisioner_from o in
+    let a : Option (List WaitName) = each_of wait_from (member_of (codes "after") k) in
+    let tests : Bool = list_all (λ mark. not mark.holds) (step_marks k) in
+    let tests_skipped : Bool = list_all (λ mark. not mark.holds) (skipped_marks k) in
+    let listed : Bool = is_met want.ArrayOrAbsent o in
+    let skipped : Bool = is_skipped k in
+    let same = tests_same d k alike in
+    let e1 : clean wrong ≡ (timed skipped s && is_some t) =
+    table_clean (is_skipped d) d k alike ∙ ap (λ (b : Bool). timed b s && is_some t) (flag_same (codes "skipped") refl d k alike) in
+    let e2 : clean warning ≡ is_some w = inside_clean in_diagnostic (λ e. is_some (diag_from e)) clean_diagnostic name.Warning refl d k alike ∙ absent_or_diagnostic (member_of (codes "warning") k) in
+    let e3 : clean failed ≡ is_some f = inside_clean in_diagnostic (λ e. is_some (diag_from e)) clean_diagnostic name.Failed refl d k alike ∙ absent_or_diagnostic (member_of (codes "failed") k) in
+    let e4 : clean provisioners ≡ (listed && is_absent_or (all_items fits_first) o) =
+    list_clean (λ number. in_provisioner) fits_first (λ number. clean_provisioner) (known name.Provisioners want.ArrayOrAbsent) array_or refl d k alike in
+    let e5 : clean marks ≡ tests = clean-marked (step_marks d) refl ∙ same.0 in
+    let e6 : clean flag ≡ is_some q =
+    clean-faults_of (known name.Skipped want.FlagOrAbsent ∷ []) d ∙ and_true (is_met want.FlagOrAbsent (member_of (codes "skipped") d)) ∙ flag_there (codes "skipped") refl d k alike in
+    let e7 : clean marks_skipped ≡ tests_skipped = clean-marked (skipped_marks d) refl ∙ same.1 in
+    let e8 : clean growth ≡ is_absent_or (all_items fits_growth) o =
+    items_inside (λ number. growth_of_provisioner) fits_growth (λ number. clean_growth) name.Provisioners refl d k alike in
+    let e9 : clean after ≡ is_some a =
+    list_clean (λ number. in_wait) (λ e. is_some (wait_from e)) (λ number. clean_wait) (known name.After want.ArrayOrAbsent) array_or refl d k alike
+    ∙ each_is wait_from (member_of (codes "after") k) in
+    let c2 = appended wrong warning _ _ e1 e2 in
+    let c3 = appended (wrong ++ warning) failed _ _ c2 e3 in
+    let c4 = appended (wrong ++ warning ++ failed) provisioners _ _ c3 e4 in
+    let c5 = appended (wrong ++ warning ++ failed ++ provisioners) marks _ _ c4 e5 in
+    let c6 = appended (wrong ++ warning ++ failed ++ provisioners ++ marks) flag _ _ c5 e6 in
+    let c7 = appended (wrong ++ warning ++ failed ++ provisioners ++ marks ++ flag) marks_skipped _ _ c6 e7 in
+    let c8 = appended (wrong ++ warning ++ failed ++ provisioners ++ marks ++ flag ++ marks_skipped) growth _ _ c7 e8 in
+    let c9 = appended (wrong ++ warning ++ failed ++ provisioners ++ marks ++ flag ++ marks_skipped ++ growth) after _ _ c8 e9 in
+    let whole : clean (wrong ++ warning ++ failed ++ provisioners ++ marks ++ flag ++ marks_skipped ++ growth ++ after ++ unread step_names d) ≡ is_step k =
+    clean-then_unread (wrong ++ warning ++ failed ++ provisioners ++ marks ++ flag ++ marks_skipped ++ growth ++ after) step_names d
+    ∙ c9
+    ∙ apart (timed skipped s) (is_some t) (is_some w) (is_some f) listed (is_absent_or (all_items fits_first) o) tests (is_some q) tests_skipped (is_absent_or (all_items fits_growth) o) (is_some a)
+    (is_absent_or (all_items is_provisioner) o) (items_both o)
+    ∙ ap (λ (x : Bool). parts (timed skipped s) (is_some t) (is_some w) (is_some f) x tests (is_some q) tests_skipped (is_some a)) (each_fits provisioner_from fits o)
+    ∙ reads q skipped told s t w f l a tests tests_skipped (silent_read (member_of (codes "seconds") k)) (flag_read (member_of (codes "skipped") k)) (tests_read k) in
+    clean-where_suits want.Step d (wrong ++ warning ++ failed ++ provisioners ++ marks ++ flag ++ marks_skipped ++ growth ++ after ++ unread step_names d)
+    ∙ ap (λ (x : Bool). is_some (as_object d) && x) whole
+    ∙ ap (λ (x : Bool). x && is_step k) (object_alike d k alike)
+    ∙ only_object k

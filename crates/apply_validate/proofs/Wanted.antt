@@ -1,11 +1,13 @@
 -- What values have to be, by what the readers read of them.
-use Rattle.std.proofs.Common.{◌≡◌, ℕ, List, [], ◌∷◌, map, Bool, false, not, ◌&&◌, is_some, Option, Some, None, refl, sym, ap, ◌∙◌}
+use Rattle.std.proofs.Common.{◌≡◌, ℕ, List, [], ◌∷◌, map, Bool, true, false, not, ◌&&◌, ◌||◌, if◌then◌else◌, is_some, Option, Some, None, refl, sym, ap, ◌∙◌}
+use Rattle.std.specs.Prelude.{codes}
 use Rattle.std.specs.List.{list_all}
 use Rattle.std.specs.Option.{option_map_or}
+use Rattle.std.specs.Str.{bytes_eq}
 use Rattle.serde_json.specs.Data.{Data, null, boolean, number, string, array, object}
 use Rattle.serde_json.specs.Find.{as_array, as_number, as_object, as_str, as_u64}
 use Rattle.apply_json.specs.Tree.{◌>>=◌, is_empty, items_or_empty, list_of, member_of, text_or, unless_empty}
-use Rattle.apply_plan.specs.Script.Entry.{all_some, each_of, number_or_none}
+use Rattle.apply_plan.specs.Script.Entry.{all_some, each_of, flag_or_false, may_fail_by, may_fail_or_not, number_or_none}
 use Rattle.apply_validate.specs.declared.findings.want.Want.TheVariants as want
 use Rattle.apply_validate.specs.Wants.{is_met}
 use Rattle.apply_validate.proofs.Clean.{all_items, is_absent_or}
@@ -35,6 +37,23 @@ pub met_step : (o : Option Data) → is_met want.StepOrAbsent o ≡ is_some (num
 met_step None = refl
 met_step (Some d) =
     ap (λ (n : Option ℕ). is_some n) (and_then_is as_u64 (as_number d)) ∙ sym (some_map (λ (n : ℕ). Some n) (as_number d >>= as_u64))
+
+pub met_flag : (o : Option Data) → is_met want.FlagOrAbsent o ≡ is_some (flag_or_false o)
+met_flag None = refl
+met_flag (Some d) = refl
+
+two_words : (b c : Bool) → (b || c) ≡ is_some (let o : Option Bool = if b then Some true else if c then Some false else None in o)
+two_words true c = refl
+two_words false true = refl
+two_words false false = refl
+
+word_text : (text : Option (List ℕ)) → (option_map_or (λ t. bytes_eq t (codes "continue")) text false || option_map_or (λ t. bytes_eq t (codes "fail")) text false) ≡ is_some (text >>= may_fail_by)
+word_text None = refl
+word_text (Some t) = two_words (bytes_eq t (codes "continue")) (bytes_eq t (codes "fail"))
+
+pub met_on_failure : (o : Option Data) → is_met want.OnFailure o ≡ is_some (may_fail_or_not o)
+met_on_failure None = refl
+met_on_failure (Some d) = word_text (as_str d)
 
 some_byte : (text : Option (List ℕ)) → option_map_or (λ t. not (is_empty t)) text false ≡ is_some (text >>= unless_empty)
 some_byte None = refl

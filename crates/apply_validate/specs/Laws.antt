@@ -1,17 +1,20 @@
 -- Where findings are told, and what a run does.
-use Rattle.std.specs.Prelude.{ℕ, List, Bool, true, false, ◌&&◌, not, Option, Some, None, Result, Ok, Err}
+use Rattle.std.specs.Prelude.{ℕ, List, length, Bool, true, false, ◌&&◌, not, nat_lt, if◌then◌else◌, Option, Some, None, Result, Ok, Err}
 use Rattle.std.specs.List.{list_all, list_any}
 use Rattle.std.specs.Option.{option_map_or}
 use Rattle.serde_json.specs.Data.{Data}
+use Rattle.apply_json.specs.Keeping.{keeping_tree_of}
 use Rattle.apply_json.specs.Tree.{list_of}
+use Rattle.apply_model.specs.declared.script.outcome.Outcome.{Outcome}
 use Rattle.apply_model.specs.Script.Outcome.{has_too_many_provisioners, has_too_much_output, is_too_long}
 use Rattle.apply_model.specs.Plan.SavedPlan.{SavedPlan}
 use Rattle.apply_model.specs.Script.OutcomeMap.{OutcomeMap}
 use Rattle.apply_model.specs.Script.Waits.{has_waits}
+use Rattle.apply_plan.specs.Bytes.{max_bytes}
 use Rattle.apply_plan.specs.declared.plan.plan_error.PlanError.{PlanError}
 use Rattle.apply_plan.specs.declared.script.script_error.ScriptError.{ScriptError}
 use Rattle.apply_plan.specs.Plan.SavedPlan.{plan_of}
-use Rattle.apply_plan.specs.Script.Entry.{EntryStep, entry_of}
+use Rattle.apply_plan.specs.Script.Entry.{EntryStep, entry_of, is_kept}
 use Rattle.apply_plan.specs.Script.OutcomeMap.{elements_of, script_of}
 use Rattle.apply_validate.specs.declared.findings.finding.Finding.{Finding}
 use Rattle.apply_validate.specs.Findings.{is_refusal}
@@ -21,9 +24,12 @@ abbrev pub has_refusal : List Finding → Bool
 has_refusal all = list_any is_refusal all
 
 -- a step is within the limits of one
+abbrev pub is_bounded : Outcome → Bool
+is_bounded outcome = not (is_too_long outcome) && (not (has_too_many_provisioners outcome) && not (has_too_much_output outcome))
+
+-- one that is skipped is
 abbrev pub is_within_limits : EntryStep → Bool
-is_within_limits step =
-    not (is_too_long step.outcome) && (not (has_too_many_provisioners step.outcome) && not (has_too_much_output step.outcome))
+is_within_limits step = option_map_or is_bounded step.outcome true
 
 -- an entry is one, each of whose steps is within the limits
 abbrev pub is_entry : Data → Bool
@@ -32,6 +38,11 @@ is_entry d = option_map_or (λ entry. list_all is_within_limits entry.steps) (en
 -- a tree is a script, as far as it shows without a look at a plan
 abbrev pub is_script : Data → Bool
 is_script d = option_map_or (λ elements. list_all is_entry (list_of elements)) (elements_of d) false
+
+-- bytes are a script, as a run reads them
+abbrev pub are_script : List ℕ → Bool
+are_script bytes =
+    if nat_lt max_bytes (length bytes) then false else option_map_or is_script (keeping_tree_of is_kept bytes) false
 
 -- ---- what a run does
 

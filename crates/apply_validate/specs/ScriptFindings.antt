@@ -1,7 +1,8 @@
 -- What is found in a script, without a look at the plan. All paths are from the value.
-use Rattle.std.specs.Prelude.{ℕ, ◌+◌, List, [], ◌∷◌, ◌++◌, length, sum_by, Bool, ◌&&◌, is_some, nat_lt, if◌then◌else◌, Some, None, option_and_then, unwrap_or}
+use Rattle.std.specs.Prelude.{ℕ, ◌+◌, List, [], ◌∷◌, ◌++◌, length, sum_by, Bool, true, false, ◌&&◌, is_some, nat_lt, if◌then◌else◌, Some, None, option_and_then, unwrap_or}
+use Rattle.std.specs.Option.{option_map_or}
 use Rattle.serde_json.specs.Data.{Data}
-use Rattle.serde_json.specs.Find.{as_number, as_str, as_u64}
+use Rattle.serde_json.specs.Find.{as_bool, as_number, as_str, as_u64}
 use Rattle.apply_json.specs.Tree.{non_empty_text_of}
 use Rattle.apply_model.specs.Script.Limits.{max_outputs, max_provisioners, max_seconds}
 use Rattle.apply_validate.specs.declared.findings.finding.Finding.{Finding}
@@ -13,7 +14,7 @@ use Rattle.apply_validate.specs.declared.findings.what.What.TheVariants as what
 use Rattle.apply_validate.specs.declared.walks.known.Known.{Known}
 use Rattle.apply_validate.specs.declared.walks.mark.Mark.{Mark}
 use Rattle.apply_validate.specs.Names.{name_text}
-use Rattle.apply_validate.specs.Walks.{faults_of, in_list, inside, items_at, marked, member_at, unless_suits, unread, where_suits}
+use Rattle.apply_validate.specs.Walks.{faults_of, in_items, in_list, inside, items_at, marked, member_at, unless_suits, unread, where_suits}
 
 abbrev pub known : Name → Want → Known
 known name wanted = record { name = name; want = wanted }
@@ -21,10 +22,12 @@ known name wanted = record { name = name; want = wanted }
 -- ---- diagnostics
 
 abbrev pub diagnostic_table : List Known
-diagnostic_table = known name.Summary want.Text ∷ known name.Detail want.TextOrAbsent ∷ []
+diagnostic_table =
+    known name.Summary want.Text ∷ known name.Detail want.TextOrAbsent ∷ known name.Range want.ObjectOrAbsent
+    ∷ known name.Snippet want.ObjectOrAbsent ∷ []
 
 abbrev pub diagnostic_names : List Name
-diagnostic_names = name.Summary ∷ name.Detail ∷ []
+diagnostic_names = name.Summary ∷ name.Detail ∷ name.Range ∷ name.Snippet ∷ []
 
 unfoldable pub in_diagnostic : Data → List Finding
 in_diagnostic d = where_suits want.Diagnostic d (faults_of diagnostic_table d ++ unread diagnostic_names d)
@@ -35,7 +38,7 @@ abbrev pub provisioner_table : List Known
 provisioner_table = known name.Provisioner want.NonEmptyText ∷ known name.Seconds want.Seconds ∷ []
 
 abbrev pub provisioner_names : List Name
-provisioner_names = name.Provisioner ∷ name.Seconds ∷ name.Output ∷ name.Failed ∷ []
+provisioner_names = name.Provisioner ∷ name.Seconds ∷ name.Output ∷ name.Failed ∷ name.OnFailure ∷ []
 
 abbrev pub provisioner_mark : Data → Mark
 provisioner_mark d =
@@ -48,6 +51,10 @@ in_provisioner d = where_suits want.Provisioner d
     ++ marked (provisioner_mark d ∷ [])
     ++ inside in_diagnostic name.Failed d
     ++ unread provisioner_names d)
+
+-- what comes of its failure is looked at behind the members that a step and its provisioners have had before
+abbrev pub growth_of_provisioner : Data → List Finding
+growth_of_provisioner d = faults_of (known name.OnFailure want.OnFailure ∷ []) d
 
 -- ---- what a step waits for
 
@@ -64,11 +71,17 @@ in_wait d =
 
 -- ---- steps
 
-abbrev pub step_table : List Known
-step_table = known name.Seconds want.Seconds ∷ known name.Id want.TextOrAbsent ∷ []
+-- the step is skipped
+abbrev pub is_skipped : Data → Bool
+is_skipped d = option_map_or (λ flag. flag) (option_and_then as_bool (member_at name.Skipped d)) false
+
+-- of a step that is skipped it is asked below whether seconds stand there at all
+abbrev pub step_table : (skipped : Bool) → List Known
+step_table true = known name.Id want.TextOrAbsent ∷ []
+step_table false = known name.Seconds want.Seconds ∷ known name.Id want.TextOrAbsent ∷ []
 
 abbrev pub step_names : List Name
-step_names = name.Seconds ∷ name.Id ∷ name.Warning ∷ name.Failed ∷ name.Provisioners ∷ name.After ∷ []
+step_names = name.Seconds ∷ name.Id ∷ name.Warning ∷ name.Failed ∷ name.Provisioners ∷ name.Skipped ∷ name.After ∷ []
 
 abbrev pub has_failed : Data → Bool
 has_failed d = is_some (member_at name.Failed d)
@@ -93,13 +106,29 @@ step_marks d =
     ∷ record { holds = nat_lt max_provisioners (length (items_at name.Provisioners d)); at = Some name.Provisioners; what = what.TooManyProvisioners }
     ∷ []
 
+-- what may not stand beside `skipped`
+abbrev pub beside_skipped : Name → Bool → Data → Mark
+beside_skipped name stands d = record { holds = is_skipped d && stands; at = Some name; what = what.BesideSkipped }
+
+abbrev pub skipped_marks : Data → List Mark
+skipped_marks d =
+    beside_skipped name.Seconds (is_some (member_at name.Seconds d)) d
+    ∷ beside_skipped name.Id (is_some (non_empty_text_of (name_text name.Id) d)) d
+    ∷ beside_skipped name.Warning (is_some (member_at name.Warning d)) d
+    ∷ beside_skipped name.Failed (has_failed d) d
+    ∷ beside_skipped name.Provisioners (nat_lt 0 (length (items_at name.Provisioners d))) d
+    ∷ []
+
 unfoldable pub in_step : Data → List Finding
 in_step d = where_suits want.Step d
-    (faults_of step_table d
+    (faults_of (step_table (is_skipped d)) d
     ++ inside in_diagnostic name.Warning d
     ++ inside in_diagnostic name.Failed d
     ++ in_list (λ number. in_provisioner) (known name.Provisioners want.ArrayOrAbsent) d
     ++ marked (step_marks d)
+    ++ faults_of (known name.Skipped want.FlagOrAbsent ∷ []) d
+    ++ marked (skipped_marks d)
+    ++ inside (in_items (λ number. growth_of_provisioner)) name.Provisioners d
     ++ in_list (λ number. in_wait) (known name.After want.ArrayOrAbsent) d
     ++ unread step_names d)
 

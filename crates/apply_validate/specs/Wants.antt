@@ -3,7 +3,7 @@ use Rattle.std.specs.Prelude.{Bool, true, false, ◌||◌, not, codes, is_some, 
 use Rattle.std.specs.List.{starts_with}
 use Rattle.std.specs.Option.{option_map_or}
 use Rattle.serde_json.specs.Data.{Data}
-use Rattle.serde_json.specs.Find.{as_array, as_number, as_object, as_str, as_u64}
+use Rattle.serde_json.specs.Find.{as_array, as_bool, as_number, as_object, as_str, as_u64}
 use Rattle.apply_json.specs.Tree.{is_empty, is_word}
 use Rattle.apply_plan.specs.Plan.Element.{key_of}
 use Rattle.apply_validate.specs.declared.findings.want.Want.{Want}
@@ -12,7 +12,10 @@ use Rattle.apply_validate.specs.declared.findings.want.Want.TheVariants as want
 -- there may be nothing
 abbrev pub may_be_absent : Want → Bool
 may_be_absent want.ArrayOrAbsent = true
+may_be_absent want.FlagOrAbsent = true
 may_be_absent want.Key = true
+may_be_absent want.ObjectOrAbsent = true
+may_be_absent want.OnFailure = true
 may_be_absent want.StepOrAbsent = true
 may_be_absent want.TextOrAbsent = true
 may_be_absent _ = false
@@ -24,6 +27,10 @@ is_format_version d = option_map_or (λ text. starts_with nat_eq text (codes "1.
 -- `managed` or `data`
 abbrev pub is_mode : Data → Bool
 is_mode d = is_word (codes "managed") d || is_word (codes "data") d
+
+-- `continue` or `fail`
+abbrev pub is_on_failure : Data → Bool
+is_on_failure d = is_word (codes "continue") d || is_word (codes "fail") d
 
 -- a text of one byte at least
 abbrev pub is_text_with_a_byte : Data → Bool
@@ -39,11 +46,14 @@ suits want.Array d = is_some (as_array d)
 suits want.ArrayOrAbsent d = is_some (as_array d)
 suits want.Diagnostic d = is_some (as_object d)
 suits want.Entry d = is_some (as_object d)
+suits want.FlagOrAbsent d = is_some (as_bool d)
 suits want.FormatVersion d = is_format_version d
 suits want.Key d = is_some (key_of (Some d))
 suits want.Mode d = is_mode d
 suits want.NonEmptyText d = is_text_with_a_byte d
 suits want.Object d = is_some (as_object d)
+suits want.ObjectOrAbsent d = is_some (as_object d)
+suits want.OnFailure d = is_on_failure d
 suits want.Plan d = is_some (as_object d)
 suits want.Provisioner d = is_some (as_object d)
 suits want.Seconds d = is_whole d

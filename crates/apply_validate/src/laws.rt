@@ -1,13 +1,11 @@
 //! Laws of findings. Each function does nothing; its contract is the law.
 
 ghost use Rattle.std.specs.Prelude.{◌≡◌, ◌++◌, ◌||◌, ℕ, List, Bool, Err, Ok, Option, Some, false, is_err, not};
-ghost use Rattle.serde_json.specs.Data.{Data};
 ghost use Rattle.apply_model.specs.Plan.SavedPlan.{SavedPlan};
 ghost use Rattle.apply_plan.specs.Plan.SavedPlan.{plan_of};
 ghost use Rattle.apply_plan.specs.Script.OutcomeMap.{script_of};
 ghost use Rattle.apply_plan.specs.declared.script.script_error.ScriptError.{ScriptError};
-ghost use Rattle.apply_validate.specs.Laws.{has_refusal, is_script, run_refuses};
-ghost use Rattle.apply_validate.specs.ScriptFindings.{in_script};
+ghost use Rattle.apply_validate.specs.Laws.{are_script, has_refusal, run_refuses};
 ghost use Rattle.apply_validate.specs.Whole.{given_findings, plan_findings, refused_for, script_findings};
 
 /// Something is found in a plan for which a run refuses, exactly where a run refuses it.
@@ -15,10 +13,10 @@ pub fn findings_of_plans_are_refusals()
     ensures { (bytes : List ℕ) → has_refusal (plan_findings bytes) ≡ is_err (plan_of bytes) }
 {}
 
-/// Something is found in a script for which a run refuses, without a look at a plan, exactly where it is none, one of its
-/// entries is none, or a step goes beyond a limit.
+/// Something is found in a script for which a run refuses, without a look at a plan, exactly where its bytes are too many or
+/// no JSON, it is none, one of its entries is none, or a step goes beyond a limit.
 pub fn findings_of_scripts_are_refusals()
-    ensures { (script : Data) → has_refusal (in_script script) ≡ not (is_script script) }
+    ensures { (bytes : List ℕ) → has_refusal (script_findings bytes) ≡ not (are_script bytes) }
 {}
 
 /// Something is found in a plan, or in a script for it, for which a run refuses, exactly where a run with the same bytes

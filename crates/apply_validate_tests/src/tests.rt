@@ -142,6 +142,124 @@ script .changes[1].steps[1]: takes 90,000 seconds, 86,400 at most\n",
 }
 
 #[test]
+fn skipped_steps_are_told_of_in_their_order(rt: HostRuntime) {
+    let alloc = rt.alloc();
+    of_script(
+        &rt,
+        alloc,
+        r#"{"changes":[{"address":"a.b","steps":[{"skipped":true}]}]}"#,
+        "plan and script are accepted\n",
+        false,
+    );
+    of_script(
+        &rt,
+        alloc,
+        r#"{"changes":[{"address":"a.b","steps":[{"skipped":false,"skiped":true}]}]}"#,
+        "script .changes[0].steps[0].seconds: is missing, and has to be a whole number from 0 to 86400\n\
+warning: script .changes[0].steps[0].skiped: is not read; is \"skipped\" meant?\n",
+        true,
+    );
+    of_script(
+        &rt,
+        alloc,
+        r#"{"changes":[{"address":"a.b","steps":[{"skipped":1,"seconds":1}]},
+{"address":"a.c","steps":[{"skipped":true,"seconds":"x","id":"i","warning":{"summary":"w"},"provisioners":[{"provisioner":"p","seconds":1}]},
+{"skipped":true,"failed":{"summary":"f"}}]}]}"#,
+        "script .changes[0].steps[0].skipped: is 1, and has to be true or false, or absent\n\
+script .changes[1].steps[0].seconds: stands beside `skipped`, and a step that is skipped has none\n\
+script .changes[1].steps[0].id: stands beside `skipped`, and a step that is skipped has none\n\
+script .changes[1].steps[0].warning: stands beside `skipped`, and a step that is skipped has none\n\
+script .changes[1].steps[0].provisioners: stands beside `skipped`, and a step that is skipped has none\n\
+script .changes[1].steps[1].failed: stands beside `skipped`, and a step that is skipped has none\n",
+        true,
+    );
+}
+
+#[test]
+fn what_comes_of_failures_is_told_of_behind_other_members(rt: HostRuntime) {
+    let alloc = rt.alloc();
+    of_script(
+        &rt,
+        alloc,
+        r#"{"changes":[{"address":"a.c","steps":[{"seconds":1,"provisioners":[
+{"provisioner":"p","seconds":1,"on_failure":"continue"},{"provisioner":"p","seconds":1,"on_failure":"fail"},
+{"provisioner":"p","seconds":1,"on_failure":null}]}]}]}"#,
+        "plan and script are accepted\n",
+        false,
+    );
+    of_script(
+        &rt,
+        alloc,
+        r#"{"changes":[{"address":"a.c","steps":[{"seconds":1,"after":1,"provisioners":[
+{"provisioner":"p","seconds":1,"on_failure":"stop"},{"provisioner":"","seconds":1,"on_failur":"fail","on_failure":true}]}]}]}"#,
+        "script .changes[0].steps[0].provisioners[1].provisioner: is \"\", and has to be a text of one byte at least\n\
+warning: script .changes[0].steps[0].provisioners[1].on_failur: is not read; is \"on_failure\" meant?\n\
+script .changes[0].steps[0].provisioners[0].on_failure: is \"stop\", and has to be \"continue\" or \"fail\", or absent\n\
+script .changes[0].steps[0].provisioners[1].on_failure: is true, and has to be \"continue\" or \"fail\", or absent\n\
+script .changes[0].steps[0].after: is 1, and has to be an array, or absent\n",
+        true,
+    );
+}
+
+#[test]
+fn places_of_diagnostics_are_objects(rt: HostRuntime) {
+    let alloc = rt.alloc();
+    of_script(
+        &rt,
+        alloc,
+        r#"{"changes":[{"address":"a.b","steps":[{"seconds":1,"failed":{"summary":"s","range":{"filename":"main.tf"},"snippet":null}}]}]}"#,
+        "plan and script are accepted\n",
+        false,
+    );
+    of_script(
+        &rt,
+        alloc,
+        r#"{"changes":[{"address":"a.b","steps":[{"seconds":1,"failed":{"summary":"s","range":"{","snippet":[{}]},
+"warning":{"summary":"s","range":1e2,"snippet":true}}]}]}"#,
+        "script .changes[0].steps[0].warning.range: is 100.0, and has to be an object, or absent\n\
+script .changes[0].steps[0].warning.snippet: is true, and has to be an object, or absent\n\
+script .changes[0].steps[0].failed.range: is \"{\", and has to be an object, or absent\n\
+script .changes[0].steps[0].failed.snippet: is an array of 1, and has to be an object, or absent\n\
+script .changes[0].steps[0].warning: stands beside `failed`, and a step that failed has none\n",
+        true,
+    );
+}
+
+/// A plan with a delete.
+const DELETED: &str = r#"{"format_version":"1.2","terraform_version":"1.9.0","resource_changes":[
+{"address":"a.d","mode":"managed","type":"a","name":"d","change":{"actions":["delete"]}}]}"#;
+
+#[test]
+fn steps_that_take_provisioners_are_told_apart(rt: HostRuntime) {
+    let alloc = rt.alloc();
+    let (text, refuses) = told(
+        &rt,
+        alloc,
+        DELETED,
+        Some(
+            r#"{"changes":[{"address":"a.d","steps":[{"seconds":1,"provisioners":[{"provisioner":"p","seconds":1}]}]}]}"#,
+        ),
+        false,
+    );
+    assert_eq!(rt; text.as_str(), "plan and script are accepted\n");
+    assert_eq!(rt; refuses, false);
+    of_script(
+        &rt,
+        alloc,
+        r#"{"changes":[{"address":"a.b","deposed":"1f","steps":[{"seconds":1,"provisioners":[{"provisioner":"p","seconds":1}]}]}]}"#,
+        "script .changes[0]: has a provisioner at a step that takes none\n",
+        true,
+    );
+    of_script(
+        &rt,
+        alloc,
+        r#"{"changes":[{"address":"a.c","steps":[{"seconds":1},{"seconds":1,"provisioners":[{"provisioner":"p","seconds":1}]}]}]}"#,
+        "script .changes[0]: has a provisioner at a step that takes none\n",
+        true,
+    );
+}
+
+#[test]
 fn what_a_run_refuses_beside_the_plan_is_told(rt: HostRuntime) {
     let alloc = rt.alloc();
     of_script(

@@ -3,7 +3,7 @@
 ghost use Rattle.std.specs.Prelude.{◌≡◌, is_some, option_map, Some};
 ghost use Rattle.serde_json.specs.View.{view};
 ghost use Rattle.apply_plan.specs.Plan.Element.{key_of};
-ghost use Rattle.apply_validate.specs.Wants.{is_format_version, is_met, is_mode, is_text_with_a_byte, may_be_absent, suits};
+ghost use Rattle.apply_validate.specs.Wants.{is_format_version, is_met, is_mode, is_on_failure, is_text_with_a_byte, may_be_absent, suits};
 
 use apply_json::members::is_text;
 use serde_json::Value;
@@ -19,6 +19,8 @@ pub enum Want {
     Diagnostic,
     /// An object with an `address` and `steps`.
     Entry,
+    /// `true` or `false`, or nothing.
+    FlagOrAbsent,
     /// A text that begins with `1.`.
     FormatVersion,
     /// The key of an instance: a text, a whole number of 64 bits with a sign, or nothing.
@@ -29,6 +31,10 @@ pub enum Want {
     NonEmptyText,
     /// An object.
     Object,
+    /// An object, or nothing.
+    ObjectOrAbsent,
+    /// What comes of the failure of a provisioner: `continue`, `fail`, or nothing.
+    OnFailure,
     /// A plan.
     Plan,
     /// An object with a `provisioner` and `seconds`.
@@ -64,7 +70,13 @@ impl Want {
     {
         matches!(
             self,
-            Want::ArrayOrAbsent | Want::Key | Want::StepOrAbsent | Want::TextOrAbsent
+            Want::ArrayOrAbsent
+                | Want::FlagOrAbsent
+                | Want::Key
+                | Want::ObjectOrAbsent
+                | Want::OnFailure
+                | Want::StepOrAbsent
+                | Want::TextOrAbsent
         )
     }
 
@@ -77,13 +89,16 @@ impl Want {
             Want::Diagnostic
             | Want::Entry
             | Want::Object
+            | Want::ObjectOrAbsent
             | Want::Plan
             | Want::Provisioner
             | Want::Step => value.is_object(),
+            Want::FlagOrAbsent => value.as_bool().is_some(),
             Want::FormatVersion => is_format_version(value),
             Want::Key => is_key(value),
             Want::Mode => is_mode(value),
             Want::NonEmptyText => is_text_with_a_byte(value),
+            Want::OnFailure => is_on_failure(value),
             Want::Seconds | Want::StepOrAbsent => value.as_u64().is_some(),
             Want::Text | Want::TextOrAbsent => value.as_str().is_some(),
             Want::Wait => value.as_str().is_some() || value.is_object(),
@@ -114,6 +129,12 @@ fn is_mode(value: &Value) -> bool
     ensures { result ≡ is_mode (view value.now) }
 {
     is_text(value, "managed") || is_text(value, "data")
+}
+
+fn is_on_failure(value: &Value) -> bool
+    ensures { result ≡ is_on_failure (view value.now) }
+{
+    is_text(value, "continue") || is_text(value, "fail")
 }
 
 fn is_text_with_a_byte(value: &Value) -> bool

@@ -29,6 +29,8 @@ pub enum What {
     NamedBefore(usize),
     /// It stands beside the failure of a step.
     BesideFailed,
+    /// It stands beside `skipped`.
+    BesideSkipped,
     /// The step takes longer than a day.
     TooLong,
     /// The step has more than 8 provisioners.

@@ -16,7 +16,7 @@ use crate::walks::walk::Walk;
 use serde_json::Value;
 use std::alloc::{AllocError, Global};
 
-const TABLE: [Known; 2] = [
+const TABLE: [Known; 4] = [
     Known {
         name: Name::Summary,
         want: Want::Text,
@@ -25,9 +25,17 @@ const TABLE: [Known; 2] = [
         name: Name::Detail,
         want: Want::TextOrAbsent,
     },
+    Known {
+        name: Name::Range,
+        want: Want::ObjectOrAbsent,
+    },
+    Known {
+        name: Name::Snippet,
+        want: Want::ObjectOrAbsent,
+    },
 ];
 
-pub(crate) const NAMES: [Name; 2] = [Name::Summary, Name::Detail];
+pub(crate) const NAMES: [Name; 4] = [Name::Summary, Name::Detail, Name::Range, Name::Snippet];
 
 /// A diagnostic: a step's warning, or why a step or a provisioner fails.
 #[derive(Clone, Copy)]

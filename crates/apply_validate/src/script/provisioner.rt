@@ -2,7 +2,7 @@
 
 ghost use Rattle.std.specs.Prelude.{◌≡◌};
 ghost use Rattle.serde_json.specs.View.{view};
-ghost use Rattle.apply_validate.specs.ScriptFindings.{in_provisioner, provisioner_mark};
+ghost use Rattle.apply_validate.specs.ScriptFindings.{growth_of_provisioner, in_provisioner, provisioner_mark};
 
 use crate::findings::list::Findings;
 use crate::findings::name::Name;
@@ -29,12 +29,23 @@ const TABLE: [Known; 2] = [
     },
 ];
 
-pub(crate) const NAMES: [Name; 4] = [Name::Provisioner, Name::Seconds, Name::Output, Name::Failed];
+pub(crate) const NAMES: [Name; 5] = [
+    Name::Provisioner,
+    Name::Seconds,
+    Name::Output,
+    Name::Failed,
+    Name::OnFailure,
+];
 
 const OUTPUT: Known = Known {
     name: Name::Output,
     want: Want::ArrayOrAbsent,
 };
+
+const GROWTH: [Known; 1] = [Known {
+    name: Name::OnFailure,
+    want: Want::OnFailure,
+}];
 
 /// A provisioner of a step.
 #[derive(Clone, Copy)]
@@ -65,5 +76,17 @@ impl Walk for Provisioner {
         let all = all.then(walk_inside(alloc, &Diagnostic, value, Name::Failed)?)?;
         let all = all.then(walk_unread(alloc, value, &NAMES)?)?;
         Ok(all)
+    }
+}
+
+/// What comes of the failure of a provisioner, which is looked at behind the members that it has had before.
+#[derive(Clone, Copy)]
+pub struct ProvisionerGrowth;
+
+impl Walk for ProvisionerGrowth {
+    ghost found = { λ _ _ d. growth_of_provisioner d };
+
+    fn walk(&self, alloc: Global, _number: usize, value: &Value) -> Result<Findings, AllocError> {
+        faults(alloc, value, &GROWTH)
     }
 }

@@ -3,18 +3,20 @@
 ghost use Rattle.std.specs.Prelude.{◌≡◌, nat_lt};
 ghost use Rattle.serde_json.specs.View.{view};
 ghost use Rattle.apply_model.specs.Script.Limits.{max_seconds};
-ghost use Rattle.apply_validate.specs.ScriptFindings.{beside, in_step, seconds_in, seconds_in_all, step_marks};
+ghost use Rattle.apply_validate.specs.ScriptFindings.{beside, beside_skipped, in_step, is_skipped, seconds_in, seconds_in_all, skipped_marks, step_marks, step_table};
 
 use crate::findings::list::Findings;
 use crate::findings::name::Name;
 use crate::findings::want::Want;
 use crate::findings::what::What;
 use crate::script::diagnostic::Diagnostic;
-use crate::script::provisioner::Provisioner;
+use crate::script::provisioner::{Provisioner, ProvisionerGrowth};
 use crate::script::wait::Wait;
 use crate::walks::known::Known;
 use crate::walks::mark::Mark;
-use crate::walks::members::{count_at, faults, items_at, walk_inside, walk_list, walk_marks};
+use crate::walks::members::{
+    count_at, faults, items_at, walk_inside, walk_items_at, walk_list, walk_marks,
+};
 use crate::walks::unread::walk_unread;
 use crate::walks::walk::Walk;
 use apply_json::members::{member, non_empty_text_member};
@@ -33,12 +35,23 @@ const TABLE: [Known; 2] = [
     },
 ];
 
-pub(crate) const NAMES: [Name; 6] = [
+const TABLE_WHERE_SKIPPED: [Known; 1] = [Known {
+    name: Name::Id,
+    want: Want::TextOrAbsent,
+}];
+
+const GROWTH: [Known; 1] = [Known {
+    name: Name::Skipped,
+    want: Want::FlagOrAbsent,
+}];
+
+pub(crate) const NAMES: [Name; 7] = [
     Name::Seconds,
     Name::Id,
     Name::Warning,
     Name::Failed,
     Name::Provisioners,
+    Name::Skipped,
     Name::After,
 ];
 
@@ -55,6 +68,27 @@ const AFTER: Known = Known {
 /// A step of an entry.
 #[derive(Clone, Copy)]
 pub struct Step;
+
+/// Whether a step is skipped.
+fn is_skipped(value: &Value) -> bool
+    ensures { result ≡ is_skipped (view value.now) }
+{
+    match member(value, Name::Skipped.text()) {
+        Some(found) => found.as_bool().unwrap_or(false),
+        None => false,
+    }
+}
+
+/// Some members of a step, which may be skipped.
+fn table(is_skipped: bool) -> &'static [Known]
+    ensures { result.now ≡ step_table is_skipped }
+{
+    if is_skipped {
+        &TABLE_WHERE_SKIPPED
+    } else {
+        &TABLE
+    }
+}
 
 /// The seconds of a step or of a provisioner, 0 where they are none.
 fn seconds(value: &Value) -> u64
@@ -124,6 +158,50 @@ fn marks(value: &Value) -> [Mark; 5]
     ]
 }
 
+/// What may not stand beside `skipped`.
+fn beside_skipped(value: &Value, name: Name, stands: bool) -> Mark
+    ensures { result ≡ beside_skipped name stands (view value.now) }
+{
+    Mark {
+        holds: is_skipped(value) && stands,
+        at: Some(name),
+        what: What::BesideSkipped,
+    }
+}
+
+/// What is tested of a step that is skipped.
+fn skipped_marks(value: &Value) -> [Mark; 5]
+    ensures { result ≡ skipped_marks (view value.now) }
+{
+    [
+        beside_skipped(
+            value,
+            Name::Seconds,
+            member(value, Name::Seconds.text()).is_some(),
+        ),
+        beside_skipped(
+            value,
+            Name::Id,
+            non_empty_text_member(value, Name::Id.text()).is_some(),
+        ),
+        beside_skipped(
+            value,
+            Name::Warning,
+            member(value, Name::Warning.text()).is_some(),
+        ),
+        beside_skipped(
+            value,
+            Name::Failed,
+            member(value, Name::Failed.text()).is_some(),
+        ),
+        beside_skipped(
+            value,
+            Name::Provisioners,
+            count_at(value, Name::Provisioners) > 0,
+        ),
+    ]
+}
+
 impl Walk for Step {
     ghost found = { λ _ _ d. in_step d };
 
@@ -132,11 +210,14 @@ impl Walk for Step {
         if !Want::Step.suits(value) {
             return Findings::here(alloc, What::IsNot(Want::Step));
         }
-        let all = faults(alloc, value, &TABLE)?;
+        let all = faults(alloc, value, table(is_skipped(value)))?;
         let all = all.then(walk_inside(alloc, &Diagnostic, value, Name::Warning)?)?;
         let all = all.then(walk_inside(alloc, &Diagnostic, value, Name::Failed)?)?;
         let all = all.then(walk_list(alloc, &Provisioner, value, PROVISIONERS)?)?;
         let all = all.then(walk_marks(alloc, &marks(value))?)?;
+        let all = all.then(faults(alloc, value, &GROWTH)?)?;
+        let all = all.then(walk_marks(alloc, &skipped_marks(value))?)?;
+        let all = all.then(walk_items_at(alloc, &ProvisionerGrowth, value, Name::Provisioners)?)?;
         let all = all.then(walk_list(alloc, &Wait, value, AFTER)?)?;
         let all = all.then(walk_unread(alloc, value, &NAMES)?)?;
         Ok(all)

@@ -4,7 +4,7 @@ ghost use Rattle.std.specs.Prelude.{◌≡◌, IfOk, length, option_map};
 ghost use Rattle.serde_json.specs.View.{items_view, view};
 ghost use Rattle.apply_json.specs.Tree.{list_of};
 ghost use Rattle.apply_validate.specs.Findings.{told};
-ghost use Rattle.apply_validate.specs.Walks.{fault_of, faults_of, found_by, in_list, inside, items_at, lack, marked};
+ghost use Rattle.apply_validate.specs.Walks.{fault_of, faults_of, found_by, in_items, in_list, inside, items_at, lack, marked};
 
 use crate::findings::list::Findings;
 use crate::findings::name::Name;
@@ -82,6 +82,18 @@ impl<W: Walk> Walk for Items<'_, W> {
     }
 }
 
+/// What is found in the items of a member that may be absent.
+pub fn walk_items_at<W: Walk>(
+    alloc: Global,
+    walk: &W,
+    value: &Value,
+    name: Name,
+) -> Result<Findings, AllocError>
+    ensures { IfOk result (λ f. f ≡ told (inside (in_items (W.found walk.now)) name (view value.now))) }
+{
+    walk_inside(alloc, &Items(walk), value, name)
+}
+
 /// Whether a member is the array that it has to be, and what is found in its items.
 pub fn walk_list<W: Walk>(
     alloc: Global,
@@ -92,7 +104,7 @@ pub fn walk_list<W: Walk>(
     ensures { IfOk result (λ f. f ≡ told (in_list (W.found walk.now) known (view value.now))) }
 {
     let itself = fault(alloc, value, known)?;
-    let found = walk_inside(alloc, &Items(walk), value, known.name)?;
+    let found = walk_items_at(alloc, walk, value, known.name)?;
     itself.then(found)
 }
 

@@ -103,6 +103,12 @@ fn what_text(alloc: Global, tree: &Value, finding: &Finding) -> Result<String, A
                 "stands beside `failed`, and a step that failed has none",
             )
         }
+        What::BesideSkipped => {
+            String::from_str(
+                alloc,
+                "stands beside `skipped`, and a step that is skipped has none",
+            )
+        }
         What::TooLong => too_long_text(alloc, found),
         What::TooManyProvisioners => {
             let (count, most) = (Count(count_of(found)), Count(MAX_PROVISIONERS as u64));
@@ -124,8 +130,7 @@ fn for_plan_text(refusal: ScriptError) -> &'static str {
         ScriptError::UnknownChange(_) => "names an object that the plan does not change",
         ScriptError::Duplicate(_) => "is about a change that an earlier entry is about",
         ScriptError::TooManySteps(_) => "has more steps than its change",
-        ScriptError::NotACreate(_) =>
-            "has a provisioner at a step that is no create, and only a create has some",
+        ScriptError::NotACreate(_) => "has a provisioner at a step that takes none",
         ScriptError::TooManyWaits(_) => "goes beyond 1,000,000 waits",
         ScriptError::UnknownWait(_) => "waits for an object that the plan does not change",
         ScriptError::NoSuchStep(_) => "waits for a step that its change does not have",
