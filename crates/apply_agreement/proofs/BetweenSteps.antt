@@ -86,11 +86,11 @@ module _ (may : Type 0) (k : Action) where
           rest.0,
           rest.1,
           passes_on may k (under_way k told false) (under_way k before.0 false) (under_way k rest.0 false) (progress d after since) ((since, ProvisionStart i) ∷ (progress d since until ++ ended ++ others)) before.2 (
-              under_way k before.0 true,
-              (refl, runs, refl, refl),
-              passes_on may k (under_way k before.0 true) (under_way k within.0 false) (under_way k rest.0 false) (progress d since until ++ ended) others
-                  (passes_on may k (under_way k before.0 true) (under_way k within.0 true) (under_way k within.0 false) (progress d since until) ended within.2 (results_told within.0 i until p))
-                  rest.2,
+            under_way k before.0 true,
+            (refl, runs, refl, refl),
+            passes_on may k (under_way k before.0 true) (under_way k within.0 false) (under_way k rest.0 false) (progress d since until ++ ended) others
+                (passes_on may k (under_way k before.0 true) (under_way k within.0 true) (under_way k within.0 false) (progress d since until) ended within.2 (results_told within.0 i until p))
+                rest.2,
           ),
         )
 

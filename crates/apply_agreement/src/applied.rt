@@ -54,8 +54,8 @@ pub fn what_was_read_is_within_limits()
     ensures { (given : Given) (work : Work) → IsRead given work.plan work.script → IsWithinLimits work }
 {}
 
-/// A plan that was read names each object once, and of a script that was read only creates have provisioners: all that
-/// is asked of a plan beside is that a deposed object is only deleted.
+/// A plan that was read names each object once, and of a script that was read only steps have provisioners that take them:
+/// all that is asked of a plan beside is that a deposed object is only deleted.
 pub fn a_plan_that_was_read_is_ordinary()
     ensures plan { (given : Given) (plan : SavedPlan) (script : OutcomeMap) → IsRead given plan script
         → DeletesDeposed plan → IsOrdinary plan }

@@ -47,8 +47,9 @@ pub fn an_event_is_heard()
         ≡ Ok (told change.address (action_of kind) what) }
 {}
 
-/// Of a script that was read for a plan no step but a create has provisioners, and so it is of a script that says
-/// nothing: what the laws below ask of a script.
+/// Of a script that was read for a plan no step has provisioners but one that takes them, a create or a delete that is the first
+/// step of a change of an object that is not deposed; and so it is of a script that says nothing: what the laws below ask of a
+/// script.
 pub fn a_script_provisions_creates()
     ensures read { (plan : SavedPlan) (bytes : List ℕ) (script : OutcomeMap)
         → script_of plan bytes ≡ Ok script → ProvisionsCreates plan script }
@@ -77,8 +78,8 @@ pub fn a_time_line_is_of_whole_steps()
 /// Whatever the script and the hooks, whoever applies a step, and in whatever order events of several changes come: a checker
 /// accepts what the messages of whole steps tell, in the order in which they are written, between the version and the
 /// summary. Its totals are theirs, and it tells of an error exactly where a step failed or was halted. Of the plan it is asked
-/// that no object is changed twice and that a deposed object is only deleted, and of the script that only creates have
-/// provisioners.
+/// that no object is changed twice and that a deposed object is only deleted, and of the script that only steps have
+/// provisioners that take them.
 pub fn whole_steps_are_accepted()
     ensures { (plans : Bool) (work : Work) (events : List Event)
         → IsOrdinary work.plan
