@@ -5,14 +5,13 @@ use Rattle.apply_events.specs.Laws.{IsWithinLimits}
 use Rattle.apply_events.specs.Step.{Work, kinds_of}
 use Rattle.apply_run.specs.Bytes.{Given, IsRead}
 use Rattle.apply_run.specs.InForm.{work_of}
-use Rattle.apply_run.specs.Read.{IsTold, Told}
-use Rattle.apply_run.specs.Stream.Terraform.{is_error}
+use Rattle.apply_run.specs.Read.{IsTold, Told, is_unfinished}
 use Rattle.apply_wait_laws.specs.Laws.{HasFewSteps}
 
 pub few_steps : (given : Given) (told : Told) → IsTold given.plan given.script told → ((work : Work) → IsRead given work.plan work.script → IsWithinLimits work) → HasFewSteps (work_of given told)
 few_steps given told read limits =
     let work : Work = record { plan = told.plan; script = told.script; hooks = given.hooks } in
-    of_note (limits work (record { plan_is = read.plan_is; script_is = read.script_is })) (is_error told.details.note)
+    of_note (limits work (record { plan_is = read.plan_is; script_is = read.script_is })) (is_unfinished told.details.note)
   where
     of_note : IsWithinLimits (record { plan = told.plan; script = told.script; hooks = given.hooks }) → (fails : Bool) → (c : ℕ)
         → length (kinds_of (if fails then record { version = told.plan.version; changes = [] } else told.plan) c) ≤ 2

@@ -1,5 +1,5 @@
 -- Which lines of a stream in Terraform's form have the level `error`, and how such a stream ends.
-use Rattle.std.specs.Prelude.{◌≡◌, ◌⊎◌, ℕ, ◌+◌, List, [], ◌∷◌, ◌++◌, Bool, codes, if◌then◌else◌, length, map, nat_eq}
+use Rattle.std.specs.Prelude.{◌≡◌, ◌⊎◌, ℕ, ◌+◌, List, [], ◌++◌, Bool, codes, if◌then◌else◌, length, map, nat_eq}
 use Rattle.std.specs.List.{AllByRecursion, concat, enumerate_from, list_any, starts_with}
 use Rattle.serde_json.specs.Data.{Data}
 use Rattle.apply_events.specs.declared.event.Event.{Event}
