@@ -11,11 +11,12 @@ returns-in_err-read_kept_members-in-Object-clause-err g c =
 
 pub returns-in-Scalar-clause-ok : goal.returns-in-Scalar-clause-ok
 returns-in-Scalar-clause-ok g c =
-    let begun = rw c.in-Scalar.is at c.in_ok-scalar.ensures.ok in
-    (begun.0,
-     scalar_is g.S.KeepingSlots.kept (value c.args.depth c.args.reader.now) begun.0 _ begun.1 begun.3,
-     begun.2,
-     subst (λ ms. g.S.KeepingSlots.holds c.args.slots.now c.args.slots.now ms) (no_members_in begun.0 begun.3) c.requires)
+    let begun = rw c.in-Scalar.is at c.in_ok-scalar.ensures.ok in (
+      begun.0,
+      scalar_is g.S.KeepingSlots.kept (value c.args.depth c.args.reader.now) begun.0 _ begun.1 begun.3,
+      begun.2,
+      subst (λ ms. g.S.KeepingSlots.holds c.args.slots.now c.args.slots.now ms) (no_members_in begun.0 begun.3) c.requires,
+    )
 
 pub returns-in_ok-pass_items-in-Array-clause-ok : goal.returns-in_ok-pass_items-in-Array-clause-ok
 returns-in_ok-pass_items-in-Array-clause-ok g c =
