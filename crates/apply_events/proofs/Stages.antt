@@ -1,8 +1,8 @@
 -- The events of a step, one by one.
-use Rattle.std.proofs.Common.{◌≡◌, ℕ, ◌+◌, ◌-◌, Bool, true, false, not, ◌&&◌, ◌||◌, List, [], ◌∷◌, ◌++◌, drop, length, map, cond, append_assoc, Option, Some, None, refl}
+use Rattle.std.proofs.Common.{◌≡◌, ℕ, ◌+◌, Bool, true, false, not, ◌&&◌, ◌||◌, List, [], ◌∷◌, ◌++◌, drop, map, cond, append_assoc, Option, Some, None, refl}
 use Rattle.std.specs.Prelude.{is_none}
-use Rattle.std.specs.List.{range_with_len}
 use Rattle.apply_model.specs.declared.script.provisioner.Provisioner.{Provisioner}
+use Rattle.apply_model.specs.declared.script.timed_text.TimedText.{TimedText}
 use Rattle.apply_model.specs.Script.Outcome.{has_failed}
 use Rattle.apply_hooks.specs.declared.phase.Phase.{Phase}
 use Rattle.apply_hooks.specs.declared.phase.Phase.TheVariants.{Pre, PostDone}
@@ -11,15 +11,15 @@ use Rattle.apply_events.specs.declared.mid_step.MidStep.{MidStep}
 use Rattle.apply_events.specs.declared.stage.Stage.{Stage}
 use Rattle.apply_events.specs.declared.stage.Stage.TheVariants.{Before, Running, Noting, Halting, Over}
 use Rattle.apply_events.specs.declared.what.What.{What}
-use Rattle.apply_events.specs.declared.what.What.TheVariants.{Start, Progress, Halted, ProvisionOutput, ProvisionStart, ProvisionComplete, ProvisionErrored}
+use Rattle.apply_events.specs.declared.what.What.TheVariants.{Start, Progress, Halted, WarnNote, ProvisionOutput, ProvisionStart, ProvisionComplete, ProvisionErrored}
 use Rattle.apply_events.specs.ChangeEvents.{begun, in_turn}
 use Rattle.apply_events.specs.Course.{beginning_of, is_beginning}
 use Rattle.apply_events.specs.Notes.{note_of}
 use Rattle.apply_events.specs.MidStep.{amid, left_at, left_of, since}
-use Rattle.apply_events.specs.Provisions.{along, progress, provision_end, results, times_within}
+use Rattle.apply_events.specs.Provisions.{along, output_at, provision_end, times_within, told_by}
 use Rattle.apply_events.specs.Stages.{behind, events_from, from_stage, halt_after}
 use Rattle.apply_events.specs.Step.{Step}
-use Rattle.apply_events.specs.StepEvents.{between, end_of, event, notes, phase_after, seconds_of, step_events, step_time}
+use Rattle.apply_events.specs.StepEvents.{between, end_of, endings, event, notes, phase_after, seconds_of, step_events, step_time, tells_end}
 
 -- a hook halts before the step
 pub begin_halts : (w : ℕ) (s : Step) (rest left : List Step) (at hook : ℕ) (stage : Stage)
@@ -55,19 +55,32 @@ no_note true warns h = cc
 no_note false true h = cc
 no_note false false h = refl
 
+-- no end is told, and the note stands in its place
+warning_alone : (fails only_warns : Bool) (seconds : ℕ) (others : List What) → tells_end fails only_warns ≡ false
+    → cond (tells_end fails only_warns) (end_of fails seconds ∷ others) (WarnNote ∷ []) ≡ note_of fails ∷ []
+warning_alone true only_warns seconds others h = cc
+warning_alone false true seconds others h = refl
+warning_alone false false seconds others h = cc
+
+pub running_warns : (w : ℕ) (s : Step) (rest left : List Step) (at : ℕ) (mid : MidStep) (stage : Stage)
+    → left ≡ s ∷ rest → stage ≡ Running mid → left_of (seconds_of s) s.seconds_before s.ran mid ≡ [] → tells_end s.fails s.only_warns ≡ false
+    → from_stage w left at stage ≡ from_stage w left at Noting
+running_warns w s rest left at mid stage first on none untold =
+    rw (first, on, none, warning_alone s.fails s.only_warns (seconds_of s) (notes s.fails s.warns) untold) refl
+
 -- the end is told, and a note follows
 pub running_notes : (w : ℕ) (s : Step) (rest left : List Step) (at : ℕ) (mid : MidStep) (stage : Stage)
-    → left ≡ s ∷ rest → stage ≡ Running mid → left_of (seconds_of s) s.seconds_before s.ran mid ≡ [] → (s.fails || s.warns) ≡ true
+    → left ≡ s ∷ rest → stage ≡ Running mid → left_of (seconds_of s) s.seconds_before s.ran mid ≡ [] → tells_end s.fails s.only_warns ≡ true → (s.fails || s.warns) ≡ true
     → from_stage w left at stage ≡ event w s (at + (seconds_of s)) (end_of s.fails (seconds_of s)) ∷ from_stage w left at Noting
-running_notes w s rest left at mid stage first on none is =
-    rw (first, on, none, one_note s.fails s.warns is) refl
+running_notes w s rest left at mid stage first on none told is =
+    rw (first, on, none, told, one_note s.fails s.warns is) refl
 
 -- the end is told, and no note follows
 pub running_ends : (w : ℕ) (s : Step) (rest left : List Step) (at : ℕ) (mid : MidStep) (stage : Stage)
-    → left ≡ s ∷ rest → stage ≡ Running mid → left_of (seconds_of s) s.seconds_before s.ran mid ≡ [] → (s.fails || s.warns) ≡ false
+    → left ≡ s ∷ rest → stage ≡ Running mid → left_of (seconds_of s) s.seconds_before s.ran mid ≡ [] → tells_end s.fails s.only_warns ≡ true → (s.fails || s.warns) ≡ false
     → from_stage w left at stage ≡ event w s (at + (seconds_of s)) (end_of s.fails (seconds_of s)) ∷ (halt_after w s at ++ behind w s rest at)
-running_ends w s rest left at mid stage first on none is =
-    rw (first, on, none, no_note s.fails s.warns is) refl
+running_ends w s rest left at mid stage first on none told is =
+    rw (first, on, none, told, no_note s.fails s.warns is) refl
 
 -- the note is told
 pub noting_notes : (w : ℕ) (s : Step) (rest left : List Step) (at : ℕ) (stage : Stage)
@@ -125,9 +138,13 @@ end_goes_on : (b : Bool) (i since : ℕ) (xs : List (ℕ × What)) → GoesOn ((
 end_goes_on true i since xs = refl
 end_goes_on false i since xs = refl
 
-results_go_on : (i since : ℕ) (js : List ℕ) (p : Provisioner) (xs : List (ℕ × What)) → GoesOn (map (λ what. (since, what)) (map (λ j. ProvisionOutput i j) js ++ provision_end i p ∷ []) ++ xs)
-results_go_on i since [] p xs = end_goes_on (has_failed p) i since xs
-results_go_on i since (j ∷ js) p xs = refl
+told_goes_on : (d after i j since until : ℕ) (p : Provisioner) (outputs : List TimedText) (xs : List (ℕ × What))
+    → GoesOn (told_by d after i j since until (provision_end i p) outputs ++ xs)
+told_goes_on d after i j since until p [] xs =
+    rw append_assoc (GoesOn-progress (times_within d after until) ((until, provision_end i p) ∷ xs) (end_goes_on (has_failed p) i until xs))
+told_goes_on d after i j since until p (o ∷ os) xs =
+    let at = output_at after since until o in
+    rw append_assoc (GoesOn-progress (times_within d after at) ((at, ProvisionOutput i j) ∷ (told_by d at i (j + 1) since until (provision_end i p) os ++ xs)) refl)
 
 along_goes_on : (d after i since : ℕ) (ps : List Provisioner) → GoesOn (along d after i since ps)
 along_goes_on d after i since [] = only (times_within d after d)
@@ -138,24 +155,29 @@ along_goes_on d after i since [] = only (times_within d after d)
 along_goes_on d after i since (p ∷ ps) =
     let until = since + p.seconds in
     GoesOn-progress (times_within d after since)
-    ((since, ProvisionStart i) ∷ (progress d since until ++ map (λ (what : What). (until, what)) (results i 0 p) ++ along d until (i + 1) until ps)) refl
+    ((since, ProvisionStart i) ∷ (told_by d since i 0 since until (provision_end i p) p.output ++ along d until (i + 1) until ps)) refl
 
 amid_goes_on : (d told i line since : ℕ) (ps : List Provisioner) → GoesOn (amid d told i line since ps)
 amid_goes_on d told i line since [] = tt
 amid_goes_on d told i line since (p ∷ ps) =
     let end = since + p.seconds in
-    let rest = map (λ (what : What). (end, what)) (results i line p) ++ along d end (i + 1) end ps in
-    rw append_assoc (GoesOn-progress (times_within d told end) rest (results_go_on i end (range_with_len line (length p.output - line)) p (along d end (i + 1) end ps)))
+    told_goes_on d told i line since end p (drop line p.output) (along d end (i + 1) end ps)
 
 left_goes_on : (d own : ℕ) (ps : List Provisioner) (told i : ℕ) (outputs : Option ℕ) → GoesOn (left_at d own ps told i outputs)
 left_goes_on d own ps told i None = along_goes_on d told i (since own ps i) (drop i ps)
 left_goes_on d own ps told i (Some line) = amid_goes_on d told i line (since own ps i) (drop i ps)
 
-running_begins : (w : ℕ) (s : Step) (at : ℕ) (xs : List (ℕ × What)) (more halts behind : List Event) → GoesOn xs
-    → beginning_of (map (λ (p : ℕ × What). event w s (at + p.0) p.1) xs ++ event w s (at + (seconds_of s)) (end_of s.fails (seconds_of s)) ∷ more ++ halts ++ behind) ≡ None
-running_begins w s at [] more halts behind none =
-    elim s.fails as (λ b. cond (is_beginning (end_of b (seconds_of s))) (Some s.number) None ≡ None) [ true ↦ refl | false ↦ refl ]
-running_begins w s at (x ∷ xs) more halts behind none = rw none refl
+ending_begins : (w : ℕ) (s : Step) (at seconds : ℕ) (fails warns only_warns : Bool) (more : List Event)
+    → beginning_of (map (λ what. event w s at what) (cond (tells_end fails only_warns) (end_of fails seconds ∷ notes fails warns) (WarnNote ∷ [])) ++ more) ≡ None
+ending_begins w s at seconds true warns only_warns more = refl
+ending_begins w s at seconds false warns true more = refl
+ending_begins w s at seconds false warns false more = refl
+
+running_begins : (w : ℕ) (s : Step) (at : ℕ) (xs : List (ℕ × What)) (halts behind : List Event) → GoesOn xs
+    → beginning_of ((map (λ (p : ℕ × What). event w s (at + p.0) p.1) xs ++ map (λ what. event w s (at + seconds_of s) what) (endings s) ++ halts) ++ behind) ≡ None
+running_begins w s at [] halts behind none =
+    rw append_assoc (ending_begins w s (at + seconds_of s) (seconds_of s) s.fails s.warns s.only_warns (halts ++ behind))
+running_begins w s at (x ∷ xs) halts behind none = rw none refl
 
 note_begins : (b : Bool) → is_beginning (note_of b) ≡ false
 note_begins true = refl
@@ -169,7 +191,7 @@ halt_begins false hook = refl
 pub running_begins_none : (w : ℕ) (left : List Step) (at : ℕ) (mid : MidStep) (stage : Stage) → stage ≡ Running mid → beginning_of (from_stage w left at stage) ≡ None
 running_begins_none w [] at mid stage is = rw is refl
 running_begins_none w (s ∷ rest) at mid stage is =
-    rw is (running_begins w s at (left_of (seconds_of s) s.seconds_before s.ran mid) (map (λ what. event w s (at + (seconds_of s)) what) (notes s.fails s.warns)) (halt_after w s at) (behind w s rest at)
+    rw is (running_begins w s at (left_of (seconds_of s) s.seconds_before s.ran mid) (halt_after w s at) (behind w s rest at)
     (left_goes_on (seconds_of s) s.seconds_before s.ran mid.told mid.provisioner mid.outputs))
 
 pub noting_begins_none : (w : ℕ) (left : List Step) (at : ℕ) (stage : Stage) → stage ≡ Noting → beginning_of (from_stage w left at stage) ≡ None

@@ -13,7 +13,7 @@ pub enum What {
     Errored(u32),
     /// The error is told (`diagnostic`).
     ErrorNote,
-    /// The provider's warning is told (`diagnostic`).
+    /// The provider's warning is told (`diagnostic`), or in place of an end why a read has failed that only warns.
     WarnNote,
     /// A hook halts its change: no further step of it is begun.
     Halted {
@@ -24,7 +24,7 @@ pub enum What {
     },
     /// A provisioner begins (`provision_start`): its number among those of the step, from 0.
     ProvisionStart(u8),
-    /// A provisioner has put something out (`provision_progress`).
+    /// A provisioner puts something out (`provision_progress`).
     ProvisionOutput {
         /// The provisioner's number.
         prov: u8,

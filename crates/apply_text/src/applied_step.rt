@@ -105,7 +105,7 @@ impl<'a> AppliedStep<'a> {
     {
         match &self.outcome?.result {
             Ending::Done { id: Some(id), .. } => Some(id.as_str()),
-            Ending::Done { id: None, .. } | Ending::Failed { .. } => None,
+            Ending::Done { id: None, .. } | Ending::Failed { .. } | Ending::Warned { .. } => None,
         }
     }
 
@@ -119,18 +119,13 @@ impl<'a> AppliedStep<'a> {
         }
     }
 
-    /// What the provider warned of.
+    /// What the provider warned of, or why it failed where that only warns.
     pub fn warning(&self) -> DiagTexts<'a>
         ensures { diag_view result ≡ messages.warning_of (ending_view self.now) }
     {
         match self.outcome {
-            Some(
-                Outcome {
-                    result: Ending::Done { warning, .. },
-                    ..
-                },
-            ) => DiagTexts::of_option(warning.as_ref()),
-            _ => DiagTexts::of_option(None),
+            Some(outcome) => DiagTexts::new(outcome.result.warning()),
+            None => DiagTexts::new(None),
         }
     }
 
@@ -150,7 +145,7 @@ impl<'a> AppliedStep<'a> {
     {
         match self.provisioner(number) {
             Some(provisioner) if line < provisioner.output.len() => {
-                provisioner.output.get(line).as_str()
+                provisioner.output.get(line).text.as_str()
             }
             _ => "",
         }

@@ -1,14 +1,15 @@
 -- What a provider answers to a step, and the provisioners that run with it (the script's own format).
-use Rattle.std.specs.Prelude.{ℕ, ◌+◌, ◌≤◌, List, [], ◌∷◌, All, length, sum_by, Bool, true, false, ◌&&◌, ◌||◌, not, is_some, nat_lt, if◌then◌else◌, Option, Some, None}
+use Rattle.std.specs.Prelude.{ℕ, ◌+◌, ◌≤◌, List, [], ◌∷◌, All, length, sum_by, Bool, true, false, ◌&&◌, ◌||◌, not, is_some, nat_le, nat_lt, if◌then◌else◌, Option, Some, None}
 use Rattle.std.specs.List.{list_any}
 use Rattle.std.specs.Option.{option_or}
 use Rattle.apply_model.specs.declared.plan.step_kind.StepKind.{StepKind}
 use Rattle.apply_model.specs.declared.plan.step_kind.StepKind.TheVariants.{Delete}
 use Rattle.apply_model.specs.declared.script.diag.Diag.{Diag}
 use Rattle.apply_model.specs.declared.script.ending.Ending.{Ending}
-use Rattle.apply_model.specs.declared.script.ending.Ending.TheVariants.{Done, Failed}
+use Rattle.apply_model.specs.declared.script.ending.Ending.TheVariants.{Done, Failed, Warned}
 use Rattle.apply_model.specs.declared.script.outcome.Outcome.{Outcome}
 use Rattle.apply_model.specs.declared.script.provisioner.Provisioner.{Provisioner}
+use Rattle.apply_model.specs.declared.script.timed_text.TimedText.{TimedText}
 use Rattle.apply_model.specs.Plan.StepKind.{is_kind}
 use Rattle.apply_model.specs.Script.Limits.{max_seconds, max_provisioners, max_outputs, max_waits}
 
@@ -33,12 +34,26 @@ ran (provisioner ∷ others) = provisioner ∷ (if makes_fail provisioner then [
 abbrev pub seconds_of_all : List Provisioner → ℕ
 seconds_of_all provisioners = sum_by (λ provisioner. provisioner.seconds) provisioners
 
+-- Texts that a provisioner of so many seconds puts out come in time: none sooner than the one before it, the first after
+-- `low` seconds at least, and none behind the end
+abbrev pub are_in_time : (low seconds : ℕ) → List TimedText → Bool
+are_in_time low seconds [] = true
+are_in_time low seconds (text ∷ texts) =
+    nat_le low text.after && nat_le text.after seconds && are_in_time text.after seconds texts
+
 -- ---- how the step ends
 
--- the provider fails
+-- the provider fails, and with it the step
 abbrev pub is_failed : Ending → Bool
 is_failed (Done id warning) = false
 is_failed (Failed diag) = true
+is_failed (Warned diag) = false
+
+-- it has failed, and that only warns
+abbrev pub is_warned : Ending → Bool
+is_warned (Done id warning) = false
+is_warned (Failed diag) = false
+is_warned (Warned diag) = true
 
 -- the step fails: its provider does, or a provisioner makes it fail
 abbrev pub fails : Outcome → Bool
@@ -62,6 +77,13 @@ took kind outcome =
 abbrev pub diag_of_ending : Ending → Option Diag
 diag_of_ending (Done id warning) = None
 diag_of_ending (Failed diag) = Some diag
+diag_of_ending (Warned diag) = None
+
+-- what is warned of: the provider's warning, or why it has failed where that only warns
+abbrev pub warning_in : Ending → Option Diag
+warning_in (Done id warning) = warning
+warning_in (Failed diag) = None
+warning_in (Warned diag) = Some diag
 
 -- what the first provisioner says that makes the step fail
 abbrev pub first_diag : List Provisioner → Option Diag

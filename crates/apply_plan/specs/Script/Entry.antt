@@ -1,15 +1,16 @@
 -- An entry of a script: its members, each under its rule (the script's own format).
-use Rattle.std.specs.Prelude.{ℕ, List, [], ◌∷◌, codes, length, map, Bool, true, false, not, ◌&&◌, ◌||◌, ◌==◌, nat_lt, slice_index, if◌then◌else◌, Option, Some, None, is_some, option_map}
+use Rattle.std.specs.Prelude.{ℕ, List, [], ◌∷◌, codes, length, map, Bool, true, false, not, ◌&&◌, ◌||◌, ◌==◌, nat_lt, slice_index, if◌then◌else◌, Option, Some, None, is_some, option_map, unwrap_or}
 use Rattle.std.specs.Option.{option_map_or}
 use Rattle.std.specs.Str.{bytes_eq}
 use Rattle.serde_json.specs.Data.{Data}
 use Rattle.serde_json.specs.Find.{as_array, as_bool, as_number, as_str, as_u64}
 use Rattle.apply_model.specs.declared.script.diag.Diag.{Diag}
 use Rattle.apply_model.specs.declared.script.ending.Ending.{Ending}
-use Rattle.apply_model.specs.declared.script.ending.Ending.TheVariants.{Done, Failed}
+use Rattle.apply_model.specs.declared.script.ending.Ending.TheVariants.{Done, Failed, Warned}
 use Rattle.apply_model.specs.declared.script.outcome.Outcome.{Outcome}
 use Rattle.apply_model.specs.declared.script.provisioner.Provisioner.{Provisioner}
-use Rattle.apply_model.specs.Script.Outcome.{is_failed}
+use Rattle.apply_model.specs.declared.script.timed_text.TimedText.{TimedText}
+use Rattle.apply_model.specs.Script.Outcome.{are_in_time, is_failed, is_warned}
 use Rattle.apply_json.specs.Tree.{◌>>=◌, unless_empty, items_or_empty, list_of, member_of, non_empty_text_of, text_of, text_or}
 
 -- an item of `after`: it names a step of the change with that address, and that deposed key or none, by its number or,
@@ -18,6 +19,16 @@ pub record WaitName : Type 0 where
   pub address : List ℕ
   pub deposed : Option (List ℕ)
   pub step : Option ℕ
+
+-- why a step's provider fails, and whether that only warns
+pub record Failure : Type 0 where
+  pub diag : Diag
+  pub only_warns : Bool
+
+-- an item of `output`: a text, and after how many seconds it comes, where that is told
+pub record OutputItem : Type 0 where
+  pub after : Option ℕ
+  pub text : List ℕ
 
 -- a step: what comes of it, but for the steps that it waits for, and the items that name these; one that is skipped has no
 -- outcome
@@ -65,22 +76,48 @@ abbrev pub diag_or_none : Option Data → Option (Option Diag)
 diag_or_none None = Some None
 diag_or_none (Some d) = option_map Some (diag_from d)
 
+-- whether a failure only warns, by the word that says how severe it is
+abbrev pub only_warns_by : List ℕ → Option Bool
+only_warns_by word =
+    if bytes_eq word (codes "warning") then Some true else if bytes_eq word (codes "error") then Some false else None
+
+-- where the word is absent, it does not
+abbrev pub only_warns_or_not : Option Data → Option Bool
+only_warns_or_not None = Some false
+only_warns_or_not (Some d) = as_str d >>= only_warns_by
+
+-- why a step's provider fails: a diagnostic that also tells how severe it is
+abbrev pub failure_from : Data → Option Failure
+failure_from d = do
+  diag ← diag_from d
+  only_warns ← only_warns_or_not (member_of (codes "severity") d)
+  Some (record { diag = diag; only_warns = only_warns })
+
+-- a failure that may be absent
+abbrev pub failure_or_none : Option Data → Option (Option Failure)
+failure_or_none None = Some None
+failure_or_none (Some d) = option_map Some (failure_from d)
+
 -- the seconds: a whole number that fits 64 bits
 abbrev pub seconds_of : Data → Option ℕ
 seconds_of d = member_of (codes "seconds") d >>= as_number >>= as_u64
 
--- how a step ends, by its id, its warning and its failure; a step that failed has neither of the others
-abbrev pub ending_from : (id : Option (List ℕ)) → (warning failed : Option Diag) → Option Ending
+-- how a step ends whose provider fails
+abbrev pub ending_by : Failure → Ending
+ending_by failure = if failure.only_warns then Warned failure.diag else Failed failure.diag
+
+-- how a step ends, by its id, its warning and its failure; a step whose provider fails has neither of the others
+abbrev pub ending_from : (id : Option (List ℕ)) → (warning : Option Diag) → (failed : Option Failure) → Option Ending
 ending_from id warning None = Some (Done id warning)
-ending_from None None (Some diag) = Some (Failed diag)
-ending_from None (Some warning) (Some diag) = None
-ending_from (Some id) warning (Some diag) = None
+ending_from None None (Some failure) = Some (ending_by failure)
+ending_from None (Some warning) (Some failure) = None
+ending_from (Some id) warning (Some failure) = None
 
 unfoldable pub ending_of : Data → Option Ending
 ending_of d = do
   id ← text_or [] (member_of (codes "id") d)
   warning ← diag_or_none (member_of (codes "warning") d)
-  failed ← diag_or_none (member_of (codes "failed") d)
+  failed ← failure_or_none (member_of (codes "failed") d)
   ending_from (unless_empty id) warning failed
 
 -- all values, where each is there
@@ -96,6 +133,31 @@ abbrev pub each_of : {A : Type 0} → (Data → Option A) → Option Data → Op
 each_of part found = do
   items ← items_or_empty found
   all_some (map part (list_of items))
+
+-- a number that may be absent: a whole one that fits 64 bits
+abbrev pub number_or_none : Option Data → Option (Option ℕ)
+number_or_none None = Some None
+number_or_none (Some d) = option_map Some (as_number d >>= as_u64)
+
+-- an item of `output` that is an object
+unfoldable pub output_of_members : Data → Option OutputItem
+output_of_members d = do
+  text ← text_of (codes "text") d
+  after ← number_or_none (member_of (codes "after") d)
+  Some (record { after = after; text = text })
+
+-- an item of `output`: a text is put out when its provisioner ends
+abbrev pub output_from : Data → Option OutputItem
+output_from d = option_map_or (λ text. Some (record { after = None; text = text })) (as_str d) (output_of_members d)
+
+-- an item of a provisioner of so many seconds, with its own: where none are told, those of the provisioner
+abbrev pub timed : (seconds : ℕ) → OutputItem → TimedText
+timed seconds item = record { after = unwrap_or item.after seconds; text = item.text }
+
+-- what a provisioner of so many seconds puts out, where each comes in time
+abbrev pub timed_outputs : (seconds : ℕ) → List OutputItem → Option (List TimedText)
+timed_outputs seconds items =
+    if are_in_time 0 seconds (map (timed seconds) items) then Some (map (timed seconds) items) else None
 
 -- whether a provisioner may fail, by the word that says what comes of its failure
 abbrev pub may_fail_by : List ℕ → Option Bool
@@ -113,21 +175,17 @@ provisioner_from d = do
   name ← non_empty_text_of (codes "provisioner") d
   seconds ← seconds_of d
   failed ← diag_or_none (member_of (codes "failed") d)
-  output ← each_of as_str (member_of (codes "output") d)
+  items ← each_of output_from (member_of (codes "output") d)
+  output ← timed_outputs seconds items
   may_fail ← may_fail_or_not (member_of (codes "on_failure") d)
   Some (record { name = name; seconds = seconds; output = output; failed = failed; may_fail = may_fail })
 
 -- a step with its provisioners; one whose provider fails has none
 abbrev pub with_provisioners : (seconds : ℕ) → Ending → List Provisioner → Option Outcome
 with_provisioners seconds result provisioners =
-    if is_failed result && nat_lt 0 (length provisioners)
+    if (is_failed result || is_warned result) && nat_lt 0 (length provisioners)
     then None
     else Some (record { seconds = seconds; provisioners = provisioners; result = result; after = [] })
-
--- the number of a step, which may be absent: a whole number that fits 64 bits
-abbrev pub number_or_none : Option Data → Option (Option ℕ)
-number_or_none None = Some None
-number_or_none (Some d) = option_map Some (as_number d >>= as_u64)
 
 -- an item of `after` that is an object
 unfoldable pub wait_of_members : Data → Option WaitName
@@ -149,6 +207,7 @@ says_nothing (Done None None) = true
 says_nothing (Done None (Some warning)) = false
 says_nothing (Done (Some id) warning) = false
 says_nothing (Failed diag) = false
+says_nothing (Warned diag) = false
 
 -- a step that is skipped: its seconds are not told, nor is anything else of it
 abbrev pub skipped_with : (told : Bool) → Ending → List Provisioner → Option (Option Outcome)

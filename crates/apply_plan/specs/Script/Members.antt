@@ -2,7 +2,7 @@
 use Rattle.std.specs.Prelude.{◌≡◌, ℕ, List, [], codes, map, Bool, true, false, if◌then◌else◌, Option, Some, None, option_map, String, string_bytes}
 use Rattle.std.specs.declared.alloc.Global.{Global}
 use Rattle.serde_json.specs.Data.{Data, Members}
-use Rattle.serde_json.specs.Find.{as_array, as_str, get_member}
+use Rattle.serde_json.specs.Find.{as_array, get_member}
 use Rattle.apply_model.specs.declared.script.diag.Diag.{Diag}
 use Rattle.apply_model.specs.declared.script.ending.Ending.{Ending}
 use Rattle.apply_model.specs.declared.script.outcome.Outcome.{Outcome}
@@ -12,16 +12,21 @@ use Rattle.apply_json.specs.Tree.{◌>>=◌, list_of, unless_empty, unless_null}
 use Rattle.apply_plan.specs.declared.script.diag_slots.DiagSlots.{DiagSlots}
 use Rattle.apply_plan.specs.declared.script.entry_slots.EntrySlots.{EntrySlots}
 use Rattle.apply_plan.specs.declared.script.provisioner_slots.ProvisionerSlots.{ProvisionerSlots}
+use Rattle.apply_plan.specs.declared.script.output_slots.OutputSlots.{OutputSlots}
 use Rattle.apply_plan.specs.declared.script.step_slots.StepSlots.{StepSlots}
 use Rattle.apply_plan.specs.declared.script.tree_diag.TreeDiag.{TreeDiag}
+use Rattle.apply_plan.specs.declared.script.tree_failure.TreeFailure.{TreeFailure}
 use Rattle.apply_plan.specs.declared.script.wait_slots.WaitSlots.{WaitSlots}
-use Rattle.apply_plan.specs.Script.Entry.{Entry, EntryStep, WaitName, all_some, answered_with, diag_or_none, each_of, ending_from, may_fail_by, object_or_none, provisioner_from, skipped_with, step_from, wait_from}
-use Rattle.apply_plan.specs.Script.TreeView.{diag_view, entry_step_view, provisioner_view, texts_view, waits_view}
+use Rattle.apply_plan.specs.Script.Entry.{Entry, EntryStep, Failure, OutputItem, WaitName, all_some, answered_with, diag_or_none, each_of, ending_from, failure_or_none, may_fail_by, object_or_none, only_warns_by, output_from, provisioner_from, skipped_with, step_from, timed_outputs, wait_from}
+use Rattle.apply_plan.specs.Script.TreeView.{diag_view, entry_step_view, failure_view, outputs_view, provisioner_view, waits_view}
 
 -- ---- members that are no scalars; `null` counts as absent
 
 abbrev pub diag_member : Option Data → Option (Option Diag)
 diag_member found = diag_or_none (found >>= unless_null)
+
+abbrev pub failure_member : Option Data → Option (Option Failure)
+failure_member found = failure_or_none (found >>= unless_null)
 
 -- an object that is kept as its own text
 abbrev pub object_member : Option Data → Option (Option (List ℕ))
@@ -46,20 +51,28 @@ pub record HoldsDiag (slots : DiagSlots) (ms : Members) : Type 0 where
   pub detail : scalar_view slots.detail ≡ seen (get_member (codes "detail") ms)
   pub range : text_found slots.range ≡ object_member (get_member (codes "range") ms)
   pub snippet : text_found slots.snippet ≡ object_member (get_member (codes "snippet") ms)
+  pub severity : scalar_view slots.severity ≡ seen (get_member (codes "severity") ms)
 
 pub record HoldsWait (slots : WaitSlots) (ms : Members) : Type 0 where
   pub address : scalar_view slots.address ≡ seen (get_member (codes "address") ms)
   pub deposed : scalar_view slots.deposed ≡ seen (get_member (codes "deposed") ms)
   pub step : scalar_view slots.step ≡ seen (get_member (codes "step") ms)
 
+pub record HoldsOutput (slots : OutputSlots) (ms : Members) : Type 0 where
+  pub after : scalar_view slots.after ≡ seen (get_member (codes "after") ms)
+  pub text : scalar_view slots.text ≡ seen (get_member (codes "text") ms)
+
 abbrev pub diag_found : Option (Option TreeDiag) → Option (Option Diag)
 diag_found found = option_map (λ diag. option_map diag_view diag) found
+
+abbrev pub failure_found : Option (Option TreeFailure) → Option (Option Failure)
+failure_found found = option_map (λ failure. option_map failure_view failure) found
 
 pub record HoldsProvisioner (slots : ProvisionerSlots) (ms : Members) : Type 0 where
   pub name : scalar_view slots.name ≡ seen (get_member (codes "provisioner") ms)
   pub seconds : scalar_view slots.seconds ≡ seen (get_member (codes "seconds") ms)
   pub failed : diag_found slots.failed ≡ diag_member (get_member (codes "failed") ms)
-  pub output : option_map (λ texts. texts_view texts.items) slots.output ≡ each_member as_str (get_member (codes "output") ms)
+  pub output : option_map (λ outputs. outputs_view outputs.items) slots.output ≡ each_member output_from (get_member (codes "output") ms)
   pub on_failure : scalar_view slots.on_failure ≡ seen (get_member (codes "on_failure") ms)
 
 pub record HoldsStep (slots : StepSlots) (ms : Members) : Type 0 where
@@ -67,7 +80,7 @@ pub record HoldsStep (slots : StepSlots) (ms : Members) : Type 0 where
   pub seconds : scalar_view slots.seconds ≡ seen (get_member (codes "seconds") ms)
   pub id : scalar_view slots.id ≡ seen (get_member (codes "id") ms)
   pub warning : diag_found slots.warning ≡ diag_member (get_member (codes "warning") ms)
-  pub failed : diag_found slots.failed ≡ diag_member (get_member (codes "failed") ms)
+  pub failed : failure_found slots.failed ≡ failure_member (get_member (codes "failed") ms)
   pub provisioners : option_map (λ found. map provisioner_view found.items) slots.provisioners
       ≡ each_member provisioner_from (get_member (codes "provisioners") ms)
   pub after : option_map (λ waits. waits_view waits.items) slots.after ≡ each_member wait_from (get_member (codes "after") ms)
@@ -87,6 +100,20 @@ diag_held slots = do
   snippet ← text_found slots.snippet
   Some (record { summary = summary; detail = detail; range = range; snippet = snippet })
 
+-- whether a failure only warns, by its word
+abbrev pub only_warns_held : Seen → Option Bool
+only_warns_held absent = Some false
+only_warns_held (truth b) = None
+only_warns_held (number n) = None
+only_warns_held (text s) = only_warns_by s
+only_warns_held other = None
+
+abbrev pub failure_held : DiagSlots → Option Failure
+failure_held slots = do
+  diag ← diag_held slots
+  only_warns ← only_warns_held (scalar_view slots.severity)
+  Some (record { diag = diag; only_warns = only_warns })
+
 abbrev pub number_held : Seen → Option (Option ℕ)
 number_held absent = Some None
 number_held (truth b) = None
@@ -101,6 +128,12 @@ wait_held slots = do
   step ← number_held (scalar_view slots.step)
   Some (record { address = address; deposed = unless_empty deposed; step = step })
 
+abbrev pub output_held : OutputSlots → Option OutputItem
+output_held slots = do
+  text ← text_seen (scalar_view slots.text)
+  after ← number_held (scalar_view slots.after)
+  Some (record { after = after; text = text })
+
 -- whether a provisioner may fail, by its word
 abbrev pub may_fail_held : Seen → Option Bool
 may_fail_held absent = Some false
@@ -114,15 +147,16 @@ provisioner_held slots = do
   name ← text_seen (scalar_view slots.name) >>= unless_empty
   seconds ← whole_seen (scalar_view slots.seconds)
   failed ← diag_found slots.failed
-  output ← option_map (λ texts. texts_view texts.items) slots.output
+  items ← option_map (λ outputs. outputs_view outputs.items) slots.output
+  output ← timed_outputs seconds items
   may_fail ← may_fail_held (scalar_view slots.on_failure)
   Some (record { name = name; seconds = seconds; output = output; failed = failed; may_fail = may_fail })
 
-abbrev pub ending_held : Seen → (warning failed : Option (Option TreeDiag)) → Option Ending
+abbrev pub ending_held : Seen → (warning : Option (Option TreeDiag)) → (failed : Option (Option TreeFailure)) → Option Ending
 ending_held id warning failed = do
   id ← text_seen_or [] id
   warning ← diag_found warning
-  failed ← diag_found failed
+  failed ← failure_found failed
   ending_from (unless_empty id) warning failed
 
 -- a flag that may be absent, which is then false

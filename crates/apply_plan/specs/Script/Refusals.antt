@@ -3,14 +3,14 @@ use Rattle.std.specs.Prelude.{ℕ, ◌+◌, ◌==◌, List, length, map, sum_by,
 use Rattle.std.specs.List.{enumerate_from, list_any, zip}
 use Rattle.std.specs.Option.{option_map_or, option_or}
 use Rattle.apply_model.specs.declared.plan.step_kind.StepKind.{StepKind}
-use Rattle.apply_model.specs.declared.plan.step_kind.StepKind.TheVariants.{Create, Delete}
+use Rattle.apply_model.specs.declared.plan.step_kind.StepKind.TheVariants.{Create, Delete, Read}
 use Rattle.apply_model.specs.declared.script.outcome.Outcome.{Outcome}
 use Rattle.apply_plan.specs.declared.script.script_error.ScriptError.{ScriptError}
-use Rattle.apply_plan.specs.declared.script.script_error.ScriptError.TheVariants.{TooManySteps, SecondsRange, TooManyProvisioners, TooMuchOutput, NotACreate, TooManyWaits, UnknownWait, NoSuchStep}
+use Rattle.apply_plan.specs.declared.script.script_error.ScriptError.TheVariants.{TooManySteps, SecondsRange, TooManyProvisioners, TooMuchOutput, NotACreate, WarnsNotARead, TooManyWaits, UnknownWait, NoSuchStep}
 use Rattle.apply_model.specs.Plan.ResourceChange.{ResourceChange}
 use Rattle.apply_model.specs.Plan.StepKind.{is_kind}
 use Rattle.apply_model.specs.Script.Limits.{max_waits}
-use Rattle.apply_model.specs.Script.Outcome.{has_too_many_provisioners, has_too_much_output, is_too_long}
+use Rattle.apply_model.specs.Script.Outcome.{has_too_many_provisioners, has_too_much_output, is_too_long, is_warned}
 use Rattle.apply_plan.specs.Script.Entry.{EntryStep, WaitName}
 use Rattle.apply_plan.specs.Script.WaitedStep.{change_waited}
 
@@ -29,6 +29,14 @@ has_provisioners outcome = nat_lt 0 (length outcome.provisioners)
 abbrev pub misplaces_provisioners : (deposed : Bool) → (ℕ × StepKind) × Option Outcome → Bool
 misplaces_provisioners deposed step = passes has_provisioners step.1 && not (takes_provisioners deposed step.0)
 
+-- the provider of a step fails, and that only warns
+abbrev pub only_warns : Outcome → Bool
+only_warns outcome = is_warned outcome.result
+
+-- the same of a step that is no read
+abbrev pub warns_not_a_read : (ℕ × StepKind) × Option Outcome → Bool
+warns_not_a_read step = passes only_warns step.1 && not (is_kind Read step.0.1)
+
 -- the first fault of the steps of entry n, which belong to the first steps of a change, which may be of a deposed object
 unfoldable pub fault_of_steps : (n : ℕ) → (deposed : Bool) → List StepKind → List (Option Outcome) → Option ScriptError
 fault_of_steps n deposed kinds steps =
@@ -37,6 +45,7 @@ fault_of_steps n deposed kinds steps =
     else if list_any (passes has_too_many_provisioners) steps then Some (TooManyProvisioners n)
     else if list_any (passes has_too_much_output) steps then Some (TooMuchOutput n)
     else if list_any (misplaces_provisioners deposed) (zip (enumerate_from 0 kinds) steps) then Some (NotACreate n)
+    else if list_any warns_not_a_read (zip (enumerate_from 0 kinds) steps) then Some (WarnsNotARead n)
     else None
 
 -- how many items the `after` of some steps have

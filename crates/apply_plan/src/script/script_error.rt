@@ -20,8 +20,8 @@ pub enum ScriptError {
     #[error("the script is not JSON")]
     NotJson,
     /// A member is missing or is not what it has to be, or a step that failed has an id, a warning or a provisioner
-    /// beside it, or a step that is skipped has anything but the steps that it waits for: at the top level, or in the entry
-    /// of that number.
+    /// beside it, or a step that is skipped has anything but the steps that it waits for, or an output of a provisioner comes
+    /// before the one in front of it, or behind the provisioner's end: at the top level, or in the entry of that number.
     #[error("{place} is malformed", place = Place(*.0))]
     BadShape(Option<u32>),
     /// The plan has no change with the entry's `address` and `deposed` key.
@@ -46,6 +46,9 @@ pub enum ScriptError {
     /// an object that is not deposed.
     #[error("script entry {0} has a provisioner on a step that takes none")]
     NotACreate(u32),
+    /// A step of the entry that is not a read has a failure that only warns.
+    #[error("script entry {0} has a failure that only warns on a step that is not a read")]
+    WarnsNotARead(u32),
     /// The `after` of the entry and of those before it have more than 1,000,000 items together.
     #[error("script entry {0} goes beyond 1000000 waits")]
     TooManyWaits(u32),
