@@ -124,8 +124,8 @@ impl<'a> AppliedStep<'a> {
         ensures { diag_view result ≡ messages.warning_of (ending_view self.now) }
     {
         match self.outcome {
-            Some(outcome) => DiagTexts::new(outcome.result.warning()),
-            None => DiagTexts::new(None),
+            Some(outcome) => DiagTexts::of_option(outcome.result.warning()),
+            None => DiagTexts::of_option(None),
         }
     }
 
