@@ -41,6 +41,7 @@ script_status_of (script.SecondsRange n) = 2
 script_status_of (script.TooManyProvisioners n) = 2
 script_status_of (script.TooMuchOutput n) = 2
 script_status_of (script.NotACreate n) = 2
+script_status_of (script.WarnsNotARead n) = 2
 script_status_of (script.TooManyWaits n) = 2
 script_status_of (script.UnknownWait n) = 2
 script_status_of (script.NoSuchStep n) = 2
