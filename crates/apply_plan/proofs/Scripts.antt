@@ -13,6 +13,7 @@ pub mod Read
 pub mod Refusals
 pub mod Rounds
 pub mod Stuck
+pub mod Timed
 pub mod TreeSteps
 pub mod Waited
 pub mod WholeList

@@ -12,6 +12,7 @@ pub mod Marks
 pub mod Members
 pub mod NextEntry
 pub mod OutcomeMap
+pub mod OutputView
 pub mod Placed
 pub mod Refusals
 pub mod TreeView

@@ -9,8 +9,8 @@ mod script;
 
 pub use apply_model::{
     Change, Diag, Ending, Key, MAX_CHANGES, MAX_OUTPUTS, MAX_PROVISIONERS, MAX_SECONDS, MAX_WAITS,
-    Mode, Outcome, Plan, Provisioner, Provisioners, Script, ScriptStep, StepKind, Text, Texts,
-    Wait, Waits,
+    Mode, Outcome, Plan, Provisioner, Provisioners, Script, ScriptStep, StepKind, Text, TimedText,
+    TimedTexts, Wait, Waits,
 };
 pub use bytes::MAX_BYTES;
 pub use plan::plan_error::PlanError;

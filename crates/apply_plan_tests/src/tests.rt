@@ -6,6 +6,7 @@ mod accepted;
 mod elements;
 mod limits;
 mod outcomes;
+mod outputs;
 mod own_texts;
 mod passing;
 mod plain;
@@ -17,6 +18,7 @@ mod scripts;
 mod skipped;
 mod table;
 mod waits;
+mod warned;
 
 use self::table::{compare, named};
 use apply_plan::{Plan, Script, Text, read_plan, read_script};

@@ -1,8 +1,9 @@
 -- The values of a script, by what slots hold of their members.
-use Rattle.std.proofs.Common.{◌≡◌, ℕ, List, [], codes, map, Option, Some, None, is_some, option_map, refl, ap, ◌∙◌}
+use Rattle.std.proofs.Common.{◌≡◌, ℕ, Bool, List, [], codes, map, Option, Some, None, is_some, option_map, refl, ap, ◌∙◌}
 use Rattle.std.specs.Borrow.{Bor}
 use Rattle.serde_json.specs.Data.{Data, null, boolean, number, string, array, object, Items}
-use Rattle.serde_json.specs.Find.{as_array, as_str, get_member}
+use Rattle.serde_json.specs.Find.{as_array, get_member}
+use Rattle.apply_model.specs.declared.script.diag.Diag.{Diag}
 use Rattle.apply_json.specs.declared.scalar.Scalar.{Scalar}
 use Rattle.apply_json.specs.declared.scalar.Scalar.TheVariants as scalar
 use Rattle.apply_json.specs.Seen as s
@@ -11,11 +12,12 @@ use Rattle.apply_json.specs.Tree.{◌>>=◌, list_of, member_of, unless_empty, u
 use Rattle.apply_json.proofs.Held.{member_in, text_in, text_or_in, whole_in}
 use Rattle.apply_plan.specs.declared.script.diag_slots.DiagSlots.{DiagSlots}
 use Rattle.apply_plan.specs.declared.script.entry_slots.EntrySlots.{EntrySlots}
+use Rattle.apply_plan.specs.declared.script.output_slots.OutputSlots.{OutputSlots}
 use Rattle.apply_plan.specs.declared.script.provisioner_slots.ProvisionerSlots.{ProvisionerSlots}
 use Rattle.apply_plan.specs.declared.script.step_slots.StepSlots.{StepSlots}
 use Rattle.apply_plan.specs.declared.script.wait_slots.WaitSlots.{WaitSlots}
-use Rattle.apply_plan.specs.Script.Entry.{Entry, EntryStep, WaitName, all_some, diag_from, diag_or_none, each_of, ending_of, entry_of, flag_or_false, may_fail_or_not, number_or_none, object_or_none, provisioner_from, step_from, wait_from, wait_of_members}
-use Rattle.apply_plan.specs.Script.Members.{HoldsDiag, HoldsEntry, HoldsProvisioner, HoldsStep, HoldsWait, diag_held, diag_member, each_member, ending_held, entry_held, flag_held, is_told, may_fail_held, number_held, object_member, provisioner_held, step_held, steps_member, wait_held}
+use Rattle.apply_plan.specs.Script.Entry.{Entry, EntryStep, Failure, OutputItem, WaitName, all_some, diag_from, diag_or_none, each_of, ending_of, entry_of, failure_from, failure_or_none, flag_or_false, may_fail_or_not, number_or_none, object_or_none, only_warns_or_not, output_from, output_of_members, provisioner_from, step_from, wait_from, wait_of_members}
+use Rattle.apply_plan.specs.Script.Members.{HoldsDiag, HoldsEntry, HoldsOutput, HoldsProvisioner, HoldsStep, HoldsWait, diag_held, diag_member, each_member, ending_held, entry_held, failure_held, failure_member, flag_held, is_told, may_fail_held, number_held, object_member, only_warns_held, output_held, provisioner_held, step_held, steps_member, wait_held}
 
 -- ---- diagnostics
 
@@ -42,7 +44,39 @@ diag_there (string t) is = refl
 diag_there (array ds) is = refl
 diag_there (object ms) is = refl
 
--- ---- items of `after`
+-- ---- failures
+
+only_warns_is : (o : Option Data) → only_warns_or_not (o >>= unless_null) ≡ only_warns_held (seen o)
+only_warns_is None = refl
+only_warns_is (Some null) = refl
+only_warns_is (Some (boolean b)) = refl
+only_warns_is (Some (number n)) = refl
+only_warns_is (Some (string t)) = refl
+only_warns_is (Some (array ds)) = refl
+only_warns_is (Some (object ms)) = refl
+
+only_warns_at : (d : Data) → only_warns_or_not (member_of (codes "severity") d) ≡ only_warns_held (seen (get_member (codes "severity") (members_in d)))
+only_warns_at d = ap only_warns_or_not (member_in (codes "severity") d) ∙ only_warns_is (get_member (codes "severity") (members_in d))
+
+abbrev failing : Diag → Bool → Failure
+failing diag only_warns = record { diag = diag; only_warns = only_warns }
+
+pub failure_is : (slots : DiagSlots) (d : Data) → HoldsDiag slots (members_in d) → failure_held slots ≡ failure_from d
+failure_is slots d holds = rw (only_warns_at d, ← holds.severity) (behind (diag_held slots) (diag_from d) (diag_is slots d holds))
+  where
+    behind : (o p : Option Diag) → o ≡ p → (o >>= λ diag. only_warns_held (scalar_view slots.severity) >>= λ only_warns. Some (failing diag only_warns))
+        ≡ (p >>= λ diag. only_warns_held (scalar_view slots.severity) >>= λ only_warns. Some (failing diag only_warns))
+    behind o p same = ap (λ (q : Option Diag). q >>= λ diag. only_warns_held (scalar_view slots.severity) >>= λ only_warns. Some (failing diag only_warns)) same
+
+pub failure_there : (d : Data) → (s.absent ≡ seen (Some d) → ⊥) → option_map Some (failure_from d) ≡ failure_member (Some d)
+failure_there null is = absurd (is refl)
+failure_there (boolean b) is = refl
+failure_there (number n) is = refl
+failure_there (string t) is = refl
+failure_there (array ds) is = refl
+failure_there (object ms) is = refl
+
+-- ---- items of `after` and of `output`
 
 number_is : (o : Option Data) → number_or_none (o >>= unless_null) ≡ number_held (seen o)
 number_is None = refl
@@ -53,13 +87,13 @@ number_is (Some (string t)) = refl
 number_is (Some (array ds)) = refl
 number_is (Some (object ms)) = refl
 
-number_in : (d : Data) → number_or_none (member_of (codes "step") d) ≡ number_held (seen (get_member (codes "step") (members_in d)))
-number_in d = ap number_or_none (member_in (codes "step") d) ∙ number_is (get_member (codes "step") (members_in d))
+number_in : (name : List ℕ) (d : Data) → number_or_none (member_of name d) ≡ number_held (seen (get_member name (members_in d)))
+number_in name d = ap number_or_none (member_in name d) ∙ number_is (get_member name (members_in d))
 
 wait_of_members_is : (slots : WaitSlots) (d : Data) → HoldsWait slots (members_in d) → wait_held slots ≡ wait_of_members d
 unfolding wait_of_members
 wait_of_members_is slots d holds =
-    rw (text_in (codes "address") d, text_or_in [] (codes "deposed") d, number_in d, ← holds.address, ← holds.deposed, ← holds.step) refl
+    rw (text_in (codes "address") d, text_or_in [] (codes "deposed") d, number_in (codes "step") d, ← holds.address, ← holds.deposed, ← holds.step) refl
 
 pub wait_is : (slots : WaitSlots) (d : Data) → ((t : List ℕ) → s.text t ≡ seen (Some d) → ⊥) → HoldsWait slots (members_in d) → wait_held slots ≡ wait_from d
 wait_is slots null none holds = wait_of_members_is slots null holds
@@ -80,7 +114,33 @@ wait_is_text (string u) t is = ap (option_map named) (ap text_seen is)
 wait_is_text (array ds) t is = absurd cc
 wait_is_text (object ms) t is = absurd cc
 
+output_of_members_is : (slots : OutputSlots) (d : Data) → HoldsOutput slots (members_in d) → output_held slots ≡ output_of_members d
+unfolding output_of_members
+output_of_members_is slots d holds = rw (text_in (codes "text") d, number_in (codes "after") d, ← holds.text, ← holds.after) refl
+
+pub output_is : (slots : OutputSlots) (d : Data) → ((t : List ℕ) → s.text t ≡ seen (Some d) → ⊥) → HoldsOutput slots (members_in d) → output_held slots ≡ output_from d
+output_is slots null none holds = output_of_members_is slots null holds
+output_is slots (boolean b) none holds = output_of_members_is slots (boolean b) holds
+output_is slots (number n) none holds = output_of_members_is slots (number n) holds
+output_is slots (string t) none holds = absurd (none t refl)
+output_is slots (array ds) none holds = output_of_members_is slots (array ds) holds
+output_is slots (object ms) none holds = output_of_members_is slots (object ms) holds
+
+abbrev told : List ℕ → OutputItem
+told text = record { after = None; text = text }
+
+pub output_is_text : (d : Data) (t : List ℕ) → s.text t ≡ seen (Some d) → Some (told t) ≡ output_from d
+output_is_text null t is = absurd cc
+output_is_text (boolean b) t is = absurd cc
+output_is_text (number n) t is = absurd cc
+output_is_text (string u) t is = ap (option_map told) (ap text_seen is)
+output_is_text (array ds) t is = absurd cc
+output_is_text (object ms) t is = absurd cc
+
 -- ---- members that are no scalars
+
+failure_at : (name : List ℕ) (d : Data) → failure_or_none (member_of name d) ≡ failure_member (get_member name (members_in d))
+failure_at name d = ap failure_or_none (member_in name d)
 
 diag_at : (name : List ℕ) (d : Data) → diag_or_none (member_of name d) ≡ diag_member (get_member name (members_in d))
 diag_at name d = ap diag_or_none (member_in name d)
@@ -129,12 +189,12 @@ told_at d = ap (λ (o : Option Data). is_some o) (member_in (codes "seconds") d)
 pub provisioner_is : (slots : ProvisionerSlots) (d : Data) → HoldsProvisioner slots (members_in d) → provisioner_held slots ≡ provisioner_from d
 unfolding provisioner_from
 provisioner_is slots d holds =
-    rw (text_in (codes "provisioner") d, whole_in (codes "seconds") d, diag_at (codes "failed") d, each_at as_str (codes "output") d, may_fail_at d, ← holds.name, ← holds.seconds, ← holds.failed, ← holds.output, ← holds.on_failure) refl
+    rw (text_in (codes "provisioner") d, whole_in (codes "seconds") d, diag_at (codes "failed") d, each_at output_from (codes "output") d, may_fail_at d, ← holds.name, ← holds.seconds, ← holds.failed, ← holds.output, ← holds.on_failure) refl
 
 ending_is : (slots : StepSlots) (d : Data) → HoldsStep slots (members_in d) → ending_held (scalar_view slots.id) slots.warning slots.failed ≡ ending_of d
 unfolding ending_of
 ending_is slots d holds =
-    rw (text_or_in [] (codes "id") d, diag_at (codes "warning") d, diag_at (codes "failed") d, ← holds.id, ← holds.warning, ← holds.failed) refl
+    rw (text_or_in [] (codes "id") d, diag_at (codes "warning") d, failure_at (codes "failed") d, ← holds.id, ← holds.warning, ← holds.failed) refl
 
 pub step_is : (slots : StepSlots) (d : Data) → HoldsStep slots (members_in d) → step_held slots ≡ step_from d
 unfolding step_from
@@ -171,14 +231,6 @@ entry_is slots d holds =
         through (Some list) = inner (as_array list)
 
 -- ---- scalars
-
-pub text_of_seen : (d : Data) → text_seen (seen (Some d)) ≡ as_str d
-text_of_seen null = refl
-text_of_seen (boolean b) = refl
-text_of_seen (number n) = refl
-text_of_seen (string t) = refl
-text_of_seen (array ds) = refl
-text_of_seen (object ms) = refl
 
 pub not_text : (found : Scalar) → ((x : Bor (List ℕ)) → found ≡ scalar.Text x → ⊥) → (t : List ℕ) → s.text t ≡ scalar_view found → ⊥
 not_text scalar.Absent never t is = absurd cc

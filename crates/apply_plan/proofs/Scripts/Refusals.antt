@@ -9,10 +9,10 @@ use Rattle.std.proofs.lemmas.List.Folds.{list_any_at, list_any_more}
 use Rattle.std.proofs.lemmas.Slice.Zip.{get_or-zip, length-zip}
 use Rattle.apply_model.specs.declared.plan.step_kind.StepKind.{StepKind}
 use Rattle.apply_model.specs.declared.script.outcome.Outcome.{Outcome}
-use Rattle.apply_plan.specs.declared.script.script_error.ScriptError.TheVariants.{SecondsRange, TooManyProvisioners, TooMuchOutput, NotACreate}
+use Rattle.apply_plan.specs.declared.script.script_error.ScriptError.TheVariants.{SecondsRange, TooManyProvisioners, TooMuchOutput, NotACreate, WarnsNotARead}
 use Rattle.apply_plan.specs.declared.script.tree_step.TreeStep.{TreeStep}
 use Rattle.apply_model.specs.Script.Outcome.{has_too_many_provisioners, has_too_much_output, is_too_long}
-use Rattle.apply_plan.specs.Script.Refusals.{fault_of_steps, misplaces_provisioners, passes}
+use Rattle.apply_plan.specs.Script.Refusals.{fault_of_steps, misplaces_provisioners, passes, warns_not_a_read}
 use Rattle.apply_plan.specs.Script.TreeView.{step_view}
 
 pub list_any-map : {T A : Type 0} (test : A → Bool) (see : T → A) (xs : List T) → list_any test (map see xs) ≡ list_any (λ x. test (see x)) xs
@@ -20,16 +20,17 @@ list_any-map test see [] = refl
 list_any-map test see (x ∷ xs) = ap (λ b. test (see x) || b) (list_any-map test see xs)
 
 -- the fault, by the answers to the questions
-pub fault_is : (n : ℕ) (deposed : Bool) (kinds : List StepKind) (steps : List TreeStep) (long many loud misplaced : Bool) → length steps ≤ length kinds
+pub fault_is : (n : ℕ) (deposed : Bool) (kinds : List StepKind) (steps : List TreeStep) (long many loud misplaced warned : Bool) → length steps ≤ length kinds
     → long ≡ list_any (λ step. passes is_too_long (step_view step)) steps → many ≡ list_any (λ step. passes has_too_many_provisioners (step_view step)) steps
     → loud ≡ list_any (λ step. passes has_too_much_output (step_view step)) steps → misplaced ≡ list_any (misplaces_provisioners deposed) (zip (enumerate_from 0 kinds) (map step_view steps))
-    → fault_of_steps n deposed kinds (map step_view steps) ≡ cond long (Some (SecondsRange n)) (cond many (Some (TooManyProvisioners n)) (cond loud (Some (TooMuchOutput n)) (cond misplaced (Some (NotACreate n)) None)))
+    → warned ≡ list_any warns_not_a_read (zip (enumerate_from 0 kinds) (map step_view steps))
+    → fault_of_steps n deposed kinds (map step_view steps) ≡ cond long (Some (SecondsRange n)) (cond many (Some (TooManyProvisioners n)) (cond loud (Some (TooMuchOutput n)) (cond misplaced (Some (NotACreate n)) (cond warned (Some (WarnsNotARead n)) None))))
 unfolding fault_of_steps
-fault_is n deposed kinds steps long many loud misplaced few long_is many_is loud_is misplaced_is =
+fault_is n deposed kinds steps long many loud misplaced warned few long_is many_is loud_is misplaced_is warned_is =
     let no_longer : nat_lt (length kinds) (length (map step_view steps)) ≡ false = rw (length-map steps step_view) (le-ltb _ _ few) in
-    rw (no_longer, list_any-map (passes is_too_long) step_view steps, list_any-map (passes has_too_many_provisioners) step_view steps, list_any-map (passes has_too_much_output) step_view steps, ← long_is, ← many_is, ← loud_is, ← misplaced_is) refl
+    rw (no_longer, list_any-map (passes is_too_long) step_view steps, list_any-map (passes has_too_many_provisioners) step_view steps, list_any-map (passes has_too_much_output) step_view steps, ← long_is, ← many_is, ← loud_is, ← misplaced_is, ← warned_is) refl
 
--- ---- provisioners of steps that take none
+-- ---- what is asked of each step with its number and its kind
 
 -- the steps with their numbers and kinds
 abbrev pub numbered : List StepKind → List TreeStep → List ((ℕ × StepKind) × Option Outcome)
@@ -48,22 +49,21 @@ pair_at kinds steps i d step few below is =
     get_or-zip (enumerate_from 0 kinds) (map step_view steps) i ((i, d), step_view step) in_numbers in_steps
     ∙ rw (get_or-enumerate_from 0 kinds i (i, d) in_kinds, get_or-map step_view steps i step (step_view step) below, ← is, place) refl
 
-pub one_misplaced : (deposed : Bool) (kinds : List StepKind) (steps : List TreeStep) (i : ℕ) (d : StepKind) (step : TreeStep) → length steps ≤ length kinds → i < length steps → step ≡ get_or steps i step
-    → true ≡ misplaces_provisioners deposed ((i, get_or kinds i d), step_view step) → true ≡ list_any (misplaces_provisioners deposed) (numbered kinds steps)
-one_misplaced deposed kinds steps i d step few below is misplaced =
-    let within : i < length (numbered kinds steps) = omega (arith, length-numbered kinds steps few) in
-    sym (list_any_at (misplaces_provisioners deposed) (numbered kinds steps) i ((i, d), step_view step) within (ap (misplaces_provisioners deposed) (pair_at kinds steps i d step few below is) ∙ sym misplaced))
+module _ (test : (ℕ × StepKind) × Option Outcome → Bool) (kinds : List StepKind) (steps : List TreeStep) (i : ℕ) where
+  pub one_passes : (d : StepKind) (step : TreeStep) → length steps ≤ length kinds → i < length steps → step ≡ get_or steps i step
+      → true ≡ test ((i, get_or kinds i d), step_view step) → true ≡ list_any test (numbered kinds steps)
+  one_passes d step few below is passed =
+      let within : i < length (numbered kinds steps) = omega (arith, length-numbered kinds steps few) in
+      sym (list_any_at test (numbered kinds steps) i ((i, d), step_view step) within (ap test (pair_at kinds steps i d step few below is) ∙ sym passed))
 
-pub still_none_misplaced : (deposed : Bool) (kinds : List StepKind) (steps : List TreeStep) (i : ℕ) (d : StepKind) (step : TreeStep) → length steps ≤ length kinds → i < length steps → step ≡ get_or steps i step
-    → false ≡ misplaces_provisioners deposed ((i, get_or kinds i d), step_view step) → list_any (misplaces_provisioners deposed) (take i (numbered kinds steps)) ≡ false
-    → list_any (misplaces_provisioners deposed) (take (i + 1) (numbered kinds steps)) ≡ false
-still_none_misplaced deposed kinds steps i d step few below is placed so_far =
-    let within : i < length (numbered kinds steps) = omega (arith, length-numbered kinds steps few) in
-    let here : misplaces_provisioners deposed (get_or (numbered kinds steps) i ((i, d), step_view step)) ≡ false = ap (misplaces_provisioners deposed) (pair_at kinds steps i d step few below is) ∙ sym placed in
-    list_any_more (misplaces_provisioners deposed) (numbered kinds steps) i ((i, d), step_view step) within ∙ rw (so_far, here) refl
+  pub still_none_passes : (d : StepKind) (step : TreeStep) → length steps ≤ length kinds → i < length steps → step ≡ get_or steps i step
+      → false ≡ test ((i, get_or kinds i d), step_view step) → list_any test (take i (numbered kinds steps)) ≡ false → list_any test (take (i + 1) (numbered kinds steps)) ≡ false
+  still_none_passes d step few below is failed so_far =
+      let within : i < length (numbered kinds steps) = omega (arith, length-numbered kinds steps few) in
+      let here : test (get_or (numbered kinds steps) i ((i, d), step_view step)) ≡ false = ap test (pair_at kinds steps i d step few below is) ∙ sym failed in
+      list_any_more test (numbered kinds steps) i ((i, d), step_view step) within ∙ rw (so_far, here) refl
 
-pub none_misplaced : (deposed : Bool) (kinds : List StepKind) (steps : List TreeStep) (i : ℕ) → length steps ≤ length kinds → length steps ≤ i → list_any (misplaces_provisioners deposed) (take i (numbered kinds steps)) ≡ false
-    → false ≡ list_any (misplaces_provisioners deposed) (numbered kinds steps)
-none_misplaced deposed kinds steps i few past so_far =
-    let all : length (numbered kinds steps) ≤ i = omega (arith, length-numbered kinds steps few) in
-    sym so_far ∙ ap (λ xs. list_any (misplaces_provisioners deposed) xs) (take_all i (numbered kinds steps) all)
+  pub none_of_all_passes : length steps ≤ length kinds → length steps ≤ i → list_any test (take i (numbered kinds steps)) ≡ false → false ≡ list_any test (numbered kinds steps)
+  none_of_all_passes few past so_far =
+      let all : length (numbered kinds steps) ≤ i = omega (arith, length-numbered kinds steps few) in
+      sym so_far ∙ ap (λ xs. list_any test xs) (take_all i (numbered kinds steps) all)

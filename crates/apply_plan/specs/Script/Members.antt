@@ -18,7 +18,8 @@ use Rattle.apply_plan.specs.declared.script.tree_diag.TreeDiag.{TreeDiag}
 use Rattle.apply_plan.specs.declared.script.tree_failure.TreeFailure.{TreeFailure}
 use Rattle.apply_plan.specs.declared.script.wait_slots.WaitSlots.{WaitSlots}
 use Rattle.apply_plan.specs.Script.Entry.{Entry, EntryStep, Failure, OutputItem, WaitName, all_some, answered_with, diag_or_none, each_of, ending_from, failure_or_none, may_fail_by, object_or_none, only_warns_by, output_from, provisioner_from, skipped_with, step_from, timed_outputs, wait_from}
-use Rattle.apply_plan.specs.Script.TreeView.{diag_view, entry_step_view, failure_view, outputs_view, provisioner_view, waits_view}
+use Rattle.apply_plan.specs.Script.OutputView.{outputs_view}
+use Rattle.apply_plan.specs.Script.TreeView.{diag_view, entry_step_view, failure_view, provisioner_view, waits_view}
 
 -- ---- members that are no scalars; `null` counts as absent
 
@@ -130,9 +131,9 @@ wait_held slots = do
 
 abbrev pub output_held : OutputSlots → Option OutputItem
 output_held slots = do
-  text ← text_seen (scalar_view slots.text)
+  told ← text_seen (scalar_view slots.text)
   after ← number_held (scalar_view slots.after)
-  Some (record { after = after; text = text })
+  Some (record { after = after; text = told })
 
 -- whether a provisioner may fail, by its word
 abbrev pub may_fail_held : Seen → Option Bool

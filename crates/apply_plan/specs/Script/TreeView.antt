@@ -15,14 +15,14 @@ use Rattle.apply_plan.specs.declared.script.tree_diag.TreeDiag.{TreeDiag}
 use Rattle.apply_plan.specs.declared.script.tree_ending.TreeEnding.{TreeEnding}
 use Rattle.apply_plan.specs.declared.script.tree_ending.TreeEnding.TheVariants as tree
 use Rattle.apply_plan.specs.declared.script.tree_failure.TreeFailure.{TreeFailure}
-use Rattle.apply_plan.specs.declared.script.tree_output.TreeOutput.{TreeOutput}
 use Rattle.apply_plan.specs.declared.script.tree_entry.TreeEntry.{TreeEntry}
 use Rattle.apply_plan.specs.declared.script.tree_outcome.TreeOutcome.{TreeOutcome}
 use Rattle.apply_plan.specs.declared.script.tree_provisioner.TreeProvisioner.{TreeProvisioner}
 use Rattle.apply_plan.specs.declared.script.tree_step.TreeStep.{TreeStep}
 use Rattle.apply_plan.specs.declared.script.tree_wait.TreeWait.{TreeWait}
 use Rattle.apply_json.specs.Tree.{◌>>=◌, member_of, text_of, text_or, unless_empty}
-use Rattle.apply_plan.specs.Script.Entry.{Entry, EntryStep, Failure, OutputItem, WaitName, timed}
+use Rattle.apply_plan.specs.Script.Entry.{Entry, EntryStep, Failure, WaitName, timed}
+use Rattle.apply_plan.specs.Script.OutputView.{outputs_view}
 
 abbrev pub diag_view : TreeDiag → Diag
 diag_view diag = record {
@@ -39,12 +39,6 @@ ending_view (tree.Warned diag) = ending.Warned (diag_view diag)
 
 abbrev pub failure_view : TreeFailure → Failure
 failure_view failure = record { diag = diag_view failure.diag; only_warns = failure.only_warns }
-
-abbrev pub output_view : TreeOutput → OutputItem
-output_view output = record { after = output.after; text = output.text.now }
-
-abbrev pub outputs_view : List TreeOutput → List OutputItem
-outputs_view outputs = map output_view outputs
 
 abbrev pub provisioner_view : TreeProvisioner → Provisioner
 provisioner_view provisioner = record {

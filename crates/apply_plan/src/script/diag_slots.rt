@@ -14,6 +14,7 @@ pub struct DiagSlots<'a> {
     pub detail: Scalar<'a>,
     pub range: Option<Option<String>>,
     pub snippet: Option<Option<String>>,
+    pub severity: Scalar<'a>,
 }
 
 impl<'a> DiagSlots<'a> {
@@ -28,6 +29,7 @@ impl<'a> DiagSlots<'a> {
             detail: Scalar::Absent,
             range: Some(None),
             snippet: Some(None),
+            severity: Scalar::Absent,
         }
     }
 }
@@ -55,6 +57,9 @@ impl<'a> KeepingSlots<'a> for DiagSlots<'a> {
             Ok(())
         } else if name == "snippet" {
             self.snippet = read_object_text(alloc, reader, depth)?;
+            Ok(())
+        } else if name == "severity" {
+            self.severity = read_scalar(reader, depth)?;
             Ok(())
         } else {
             pass(reader, depth)?;

@@ -3,8 +3,9 @@
 ghost use Rattle.apply_plan.specs.Script.Entry.{is_kept};
 ghost use Rattle.apply_plan.specs.Script.Members.{HoldsProvisioner};
 
-use crate::script::found_texts::read_texts;
+use crate::script::found_outputs::read_outputs;
 use crate::script::tree_diag::TreeDiag;
+use crate::script::tree_output::TreeOutput;
 use apply_json::{KeepingSlots, ReadFault, Reader, Scalar, pass, read_scalar};
 use std::alloc::Global;
 
@@ -14,7 +15,7 @@ pub struct ProvisionerSlots<'a> {
     pub name: Scalar<'a>,
     pub seconds: Scalar<'a>,
     pub failed: Option<Option<TreeDiag<'a>>>,
-    pub output: Option<Vec<&'a str>>,
+    pub output: Option<Vec<TreeOutput<'a>>>,
     pub on_failure: Scalar<'a>,
 }
 
@@ -57,7 +58,7 @@ impl<'a> KeepingSlots<'a> for ProvisionerSlots<'a> {
             self.failed = TreeDiag::read(alloc, reader, depth)?;
             Ok(())
         } else if name == "output" {
-            self.output = read_texts(alloc, reader, depth)?;
+            self.output = read_outputs(alloc, reader, depth)?;
             Ok(())
         } else if name == "on_failure" {
             self.on_failure = read_scalar(reader, depth)?;

@@ -6,6 +6,7 @@ ghost use Rattle.apply_plan.specs.Script.Members.{HoldsStep};
 use crate::script::found_provisioners::read_provisioners;
 use crate::script::found_waits::read_waits;
 use crate::script::tree_diag::TreeDiag;
+use crate::script::tree_failure::TreeFailure;
 use crate::script::tree_provisioner::TreeProvisioner;
 use crate::script::tree_wait::TreeWait;
 use apply_json::{KeepingSlots, ReadFault, Reader, Scalar, pass, read_scalar};
@@ -18,7 +19,7 @@ pub struct StepSlots<'a> {
     pub after: Option<Vec<TreeWait<'a>>>,
     pub id: Scalar<'a>,
     pub warning: Option<Option<TreeDiag<'a>>>,
-    pub failed: Option<Option<TreeDiag<'a>>>,
+    pub failed: Option<Option<TreeFailure<'a>>>,
     pub provisioners: Option<Vec<TreeProvisioner<'a>>>,
     pub skipped: Scalar<'a>,
 }
@@ -67,7 +68,7 @@ impl<'a> KeepingSlots<'a> for StepSlots<'a> {
             self.warning = TreeDiag::read(alloc, reader, depth)?;
             Ok(())
         } else if name == "failed" {
-            self.failed = TreeDiag::read(alloc, reader, depth)?;
+            self.failed = TreeFailure::read(alloc, reader, depth)?;
             Ok(())
         } else if name == "provisioners" {
             self.provisioners = read_provisioners(alloc, reader, depth)?;

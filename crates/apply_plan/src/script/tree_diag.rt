@@ -47,8 +47,8 @@ impl<'a> TreeDiag<'a> {
         }
     }
 
-    /// The diagnostic that the members are. `None` where one of them breaks its rule.
-    fn of(slots: DiagSlots<'a>) -> Option<TreeDiag<'a>>
+    /// The diagnostic that the members are, however severe. `None` where one of them breaks its rule.
+    pub fn of(slots: DiagSlots<'a>) -> Option<TreeDiag<'a>>
         ensures { option_map diag_view result ≡ diag_held slots.entry }
     {
         let summary = slots.summary.text()?;

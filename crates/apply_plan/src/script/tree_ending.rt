@@ -3,12 +3,13 @@
 ghost use Rattle.std.specs.Prelude.{◌≡◌, IfOk, option_map};
 ghost use Rattle.std.specs.Option.{option_copied};
 ghost use Rattle.apply_json.specs.Seen.{scalar_view};
-ghost use Rattle.apply_plan.specs.Script.Entry.{ending_from, says_nothing};
+ghost use Rattle.apply_plan.specs.Script.Entry.{ending_by, ending_from, says_nothing};
 ghost use Rattle.apply_plan.specs.Script.Members.{ending_held};
-ghost use Rattle.apply_model.specs.Script.Outcome.{is_failed};
-ghost use Rattle.apply_plan.specs.Script.TreeView.{diag_view, ending_view};
+ghost use Rattle.apply_model.specs.Script.Outcome.{is_failed, is_warned};
+ghost use Rattle.apply_plan.specs.Script.TreeView.{diag_view, ending_view, failure_view};
 
 use crate::script::tree_diag::TreeDiag;
+use crate::script::tree_failure::TreeFailure;
 use apply_json::Scalar;
 use apply_json::members::non_empty;
 use apply_model::{Ending, Text};
@@ -24,6 +25,9 @@ pub enum TreeEnding<'a> {
     Failed {
         diag: TreeDiag<'a>,
     },
+    Warned {
+        diag: TreeDiag<'a>,
+    },
 }
 
 impl<'a> TreeEnding<'a> {
@@ -31,7 +35,7 @@ impl<'a> TreeEnding<'a> {
     pub fn of_members(
         id: Scalar<'a>,
         warning: Option<Option<TreeDiag<'a>>>,
-        failed: Option<Option<TreeDiag<'a>>>,
+        failed: Option<Option<TreeFailure<'a>>>,
     ) -> Option<TreeEnding<'a>>
         ensures { option_map ending_view result ≡ ending_held (scalar_view id.entry) warning.entry failed.entry }
     {
@@ -39,33 +43,55 @@ impl<'a> TreeEnding<'a> {
         TreeEnding::of(non_empty(id), warning?, failed?)
     }
 
-    /// The ending that the members give. `None` where a step that failed has an id or a warning.
+    /// The ending that the members give. `None` where a step whose provider fails has an id or a warning.
     fn of(
         id: Option<&'a str>,
         warning: Option<TreeDiag<'a>>,
-        failed: Option<TreeDiag<'a>>,
+        failed: Option<TreeFailure<'a>>,
     ) -> Option<TreeEnding<'a>>
         ensures { option_map ending_view result ≡ ending_from (option_copied id.entry)
-            (option_map diag_view warning.entry) (option_map diag_view failed.entry) }
+            (option_map diag_view warning.entry) (option_map failure_view failed.entry) }
     {
         match failed {
             None => Some(TreeEnding::Done { id, warning }),
-            Some(diag) => {
+            Some(failure) => {
                 if id.is_some() || warning.is_some() {
                     return None;
                 }
-                Some(TreeEnding::Failed { diag })
+                Some(TreeEnding::by(failure))
             }
         }
     }
 
-    /// Whether the provider fails.
+    /// The ending of a step whose provider fails.
+    fn by(failure: TreeFailure<'a>) -> TreeEnding<'a>
+        ensures { ending_view result ≡ ending_by (failure_view failure.entry) }
+    {
+        let diag = failure.diag;
+        if failure.only_warns {
+            TreeEnding::Warned { diag }
+        } else {
+            TreeEnding::Failed { diag }
+        }
+    }
+
+    /// Whether the provider fails, and with it the step.
     pub fn is_failed(&self) -> bool
         ensures { result ≡ is_failed (ending_view self.now) }
     {
         match self {
-            TreeEnding::Done { .. } => false,
             TreeEnding::Failed { .. } => true,
+            TreeEnding::Done { .. } | TreeEnding::Warned { .. } => false,
+        }
+    }
+
+    /// Whether the provider fails, and that only warns.
+    pub fn is_warned(&self) -> bool
+        ensures { result ≡ is_warned (ending_view self.now) }
+    {
+        match self {
+            TreeEnding::Warned { .. } => true,
+            TreeEnding::Done { .. } | TreeEnding::Failed { .. } => false,
         }
     }
 
@@ -75,7 +101,7 @@ impl<'a> TreeEnding<'a> {
     {
         match self {
             TreeEnding::Done { id, warning } => id.is_none() && warning.is_none(),
-            TreeEnding::Failed { .. } => false,
+            TreeEnding::Failed { .. } | TreeEnding::Warned { .. } => false,
         }
     }
 
@@ -89,6 +115,9 @@ impl<'a> TreeEnding<'a> {
                 warning: TreeDiag::copied_option(alloc, warning)?,
             }),
             TreeEnding::Failed { diag } => Ok(Ending::Failed {
+                diag: diag.copied(alloc)?,
+            }),
+            TreeEnding::Warned { diag } => Ok(Ending::Warned {
                 diag: diag.copied(alloc)?,
             }),
         }

@@ -8,7 +8,7 @@ ghost use Rattle.apply_json.specs.Tokens.{IsNoValue};
 ghost use Rattle.apply_plan.specs.Script.Entry.{entry_of, is_kept};
 ghost use Rattle.apply_plan.specs.Script.Members.{entry_held};
 ghost use Rattle.apply_model.specs.Script.Outcome.{has_too_many_provisioners, has_too_much_output, is_too_long};
-ghost use Rattle.apply_plan.specs.Script.Refusals.{fault_of_steps, misplaces_provisioners, passes};
+ghost use Rattle.apply_plan.specs.Script.Refusals.{fault_of_steps, misplaces_provisioners, passes, warns_not_a_read};
 ghost use Rattle.apply_plan.specs.Script.TreeView.{entry_view, step_view, waits_within};
 
 use crate::script::entry_slots::EntrySlots;
@@ -75,6 +75,8 @@ impl<'a> TreeEntry<'a> {
             Some(ScriptError::TooMuchOutput(number))
         } else if misplaces_any_provisioners(is_deposed, kinds, &self.steps) {
             Some(ScriptError::NotACreate(number))
+        } else if warns_any_not_a_read(kinds, &self.steps) {
+            Some(ScriptError::WarnsNotARead(number))
         } else {
             None
         }
@@ -124,6 +126,19 @@ fn misplaces_any_provisioners(is_deposed: bool, kinds: &[StepKind], steps: &[Tre
 {
     for (number, step) in steps.iter().enumerate() {
         if step.misplaces_provisioners(is_deposed, number, kinds[number]) {
+            return true;
+        }
+    }
+    false
+}
+
+/// Whether the provider of a step that is no read fails, and that only warns.
+fn warns_any_not_a_read(kinds: &[StepKind], steps: &[TreeStep<'_>]) -> bool
+    requires { length steps.now ≤ length kinds.now }
+    ensures { result ≡ list_any warns_not_a_read (zip (enumerate_from 0 kinds.now) (map step_view steps.now)) }
+{
+    for (number, step) in steps.iter().enumerate() {
+        if step.warns_not_a_read(kinds[number]) {
             return true;
         }
     }

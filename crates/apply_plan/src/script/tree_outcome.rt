@@ -1,15 +1,16 @@
 //! What comes of a step of a script that is not skipped, its texts borrowed.
 
-ghost use Rattle.std.specs.Prelude.{◌≡◌, IfOk, map, option_map};
+ghost use Rattle.std.specs.Prelude.{◌≡◌, ◌≤◌, All, IfOk, length, map, option_map};
 ghost use Rattle.std.specs.List.{list_any};
 ghost use Rattle.apply_plan.specs.Script.Entry.{with_provisioners};
-ghost use Rattle.apply_model.specs.Script.Outcome.{IsBounded, has_too_many_provisioners, has_too_much_output, is_too_long, puts_out_too_much};
-ghost use Rattle.apply_plan.specs.Script.Refusals.{has_provisioners};
+ghost use Rattle.apply_model.specs.Script.Outcome.{IsBounded, IsSmall, has_too_many_provisioners, has_too_much_output, is_too_long, puts_out_too_much};
+ghost use Rattle.apply_model.specs.Script.Limits.{max_provisioners};
+ghost use Rattle.apply_plan.specs.Script.Refusals.{has_provisioners, only_warns};
 ghost use Rattle.apply_plan.specs.Script.TreeView.{ending_view, outcome_view, provisioner_view};
 
 use crate::script::tree_ending::TreeEnding;
-use crate::script::tree_provisioner::{TreeProvisioner, copied_provisioners};
-use apply_model::{MAX_PROVISIONERS, MAX_SECONDS, Outcome, Waits};
+use crate::script::tree_provisioner::TreeProvisioner;
+use apply_model::{MAX_PROVISIONERS, MAX_SECONDS, Outcome, Provisioners, Waits};
 use std::alloc::{AllocError, Global};
 
 /// What comes of a step, each of whose members obeys its rule.
@@ -32,7 +33,7 @@ impl<'a> TreeOutcome<'a> {
         ensures { option_map outcome_view result ≡ with_provisioners seconds (ending_view ending.entry)
             (map provisioner_view provisioners.entry.items) }
     {
-        if ending.is_failed() && !provisioners.is_empty() {
+        if (ending.is_failed() || ending.is_warned()) && !provisioners.is_empty() {
             return None;
         }
         Some(TreeOutcome {
@@ -79,6 +80,13 @@ impl<'a> TreeOutcome<'a> {
         !self.provisioners.is_empty()
     }
 
+    /// Whether the provider of the step fails, and that only warns.
+    pub fn only_warns(&self) -> bool
+        ensures { result ≡ only_warns (outcome_view self.now) }
+    {
+        self.result.is_warned()
+    }
+
     /// The outcome, which waits for those steps, with copies of its texts.
     pub fn copied(&self, alloc: Global, after: Waits) -> Result<Outcome, AllocError>
         requires { IsBounded (outcome_view self.now) }
@@ -99,4 +107,20 @@ fn puts_any_out_too_much(provisioners: &[TreeProvisioner<'_>]) -> bool
         ≡ list_any (λ provisioner. puts_out_too_much (provisioner_view provisioner)) provisioners.now }
 {
     provisioners.iter().any(TreeProvisioner::puts_out_too_much)
+}
+
+/// The provisioners, with copies of their texts.
+fn copied_provisioners(
+    alloc: Global,
+    tree: &[TreeProvisioner<'_>],
+) -> Result<Provisioners, AllocError>
+    requires few { length tree.now ≤ max_provisioners }
+    requires small { All IsSmall (map provisioner_view tree.now) }
+    ensures { IfOk result (λ copy. copy ≡ map provisioner_view tree.now) }
+{
+    let mut provisioners = Vec::with_capacity(alloc, tree.len())?;
+    for provisioner in tree {
+        provisioners.push(provisioner.copied(alloc)?)?;
+    }
+    Ok(Provisioners::new(provisioners))
 }

@@ -1,14 +1,15 @@
 //! A step of a script, whose texts are borrowed.
 
-ghost use Rattle.std.specs.Prelude.{◌≡◌, ◌<◌, Err, IfOk, IfSome, OnOk, Some, length, map, option_map};
+ghost use Rattle.std.specs.Prelude.{◌≡◌, ◌<◌, ℕ, Err, IfOk, IfSome, OnOk, Some, length, map, option_map};
 ghost use Rattle.serde_json.specs.Data.{Data};
 ghost use Rattle.apply_json.specs.Keeping.{IsKeptRead};
 ghost use Rattle.apply_json.specs.Seen.{scalar_view};
 ghost use Rattle.apply_json.specs.Tokens.{IsNoValue};
 ghost use Rattle.apply_plan.specs.Script.Entry.{is_kept, step_from};
 ghost use Rattle.apply_plan.specs.Script.Members.{flag_held, is_told, outcome_held, step_held};
+ghost use Rattle.apply_model.specs.Plan.StepKind.{is_kind};
 ghost use Rattle.apply_model.specs.Script.Outcome.{IsBounded, has_too_many_provisioners, has_too_much_output, is_too_long};
-ghost use Rattle.apply_plan.specs.Script.Refusals.{misplaces_provisioners, passes, takes_provisioners};
+ghost use Rattle.apply_plan.specs.Script.Refusals.{misplaces_provisioners, passes, takes_provisioners, warns_not_a_read};
 ghost use Rattle.apply_plan.specs.Script.TreeView.{ending_view, entry_step_view, outcome_view, provisioner_view, step_view};
 ghost use Rattle.apply_plan.specs.Script.WaitedStep.{with_waits};
 
@@ -102,6 +103,16 @@ impl<'a> TreeStep<'a> {
         }
     }
 
+    /// Whether the provider of the step fails, and that only warns, where it is a step of that kind, and no read.
+    pub fn warns_not_a_read(&self, kind: StepKind) -> bool
+        ensures { (number : ℕ) → result ≡ warns_not_a_read ((number, kind), step_view self.now) }
+    {
+        match &self.outcome {
+            Some(outcome) => outcome.only_warns() && !is_read(kind),
+            None => false,
+        }
+    }
+
     /// The step, which waits for those steps, with copies of its texts.
     pub fn copied(&self, alloc: Global, after: Waits) -> Result<ScriptStep, AllocError>
         requires { IfSome (step_view self.now) IsBounded }
@@ -162,4 +173,14 @@ fn takes_provisioners(is_deposed: bool, number: usize, kind: StepKind) -> bool
     ensures { result ≡ takes_provisioners is_deposed (number, kind) }
 {
     kind.is_create() || kind.is_delete() && number == 0 && !is_deposed
+}
+
+/// Whether it is a read.
+fn is_read(kind: StepKind) -> bool
+    ensures { result ≡ is_kind StepKind.Read kind }
+{
+    match kind {
+        StepKind::Read => true,
+        StepKind::Create | StepKind::Update | StepKind::Delete => false,
+    }
 }

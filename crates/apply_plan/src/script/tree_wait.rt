@@ -2,14 +2,14 @@
 
 ghost use Rattle.std.specs.Prelude.{◌≡◌, ◌<◌, ◌≤◌, Err, IfOk, IfSome, None, OnOk, Some, length, nat_lt, option_map, if◌then◌else◌};
 ghost use Rattle.serde_json.specs.Data.{Data};
-ghost use Rattle.apply_json.specs.Seen.{scalar_view};
 ghost use Rattle.apply_json.specs.Keeping.{IsKeptRead};
 ghost use Rattle.apply_json.specs.Tokens.{IsNoValue};
 ghost use Rattle.apply_plan.specs.Script.Entry.{is_kept, wait_from};
-ghost use Rattle.apply_plan.specs.Script.Members.{number_held, wait_held};
+ghost use Rattle.apply_plan.specs.Script.Members.{wait_held};
 ghost use Rattle.apply_plan.specs.Script.TreeView.{wait_view};
 ghost use Rattle.apply_plan.specs.Script.WaitedStep.{number_waited};
 
+use crate::script::number_or_none::number_or_none;
 use crate::script::wait_slots::WaitSlots;
 use apply_json::members::non_empty;
 use apply_json::{ReadFault, Reader, Scalar, read_kept_object};
@@ -74,15 +74,5 @@ impl<'a> TreeWait<'a> {
         } else {
             None
         }
-    }
-}
-
-/// The whole number that a member is, or none where the member is absent. `None` where it is there and is none.
-fn number_or_none(found: Scalar<'_>) -> Option<Option<u64>>
-    ensures { result ≡ number_held (scalar_view found.entry) }
-{
-    match found {
-        Scalar::Absent => Some(None),
-        _ => Some(Some(found.whole()?)),
     }
 }

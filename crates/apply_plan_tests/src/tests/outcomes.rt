@@ -39,8 +39,8 @@ fn push_done(
     }
 }
 
-/// The outcome in one line: `SECONDS done, id "ID", warning "SUMMARY" "DETAIL"` or `SECONDS failed "SUMMARY" "DETAIL"`,
-/// without its provisioners.
+/// The outcome in one line: `SECONDS done, id "ID", warning "SUMMARY" "DETAIL"`, `SECONDS failed "SUMMARY" "DETAIL"`, or the
+/// same with `warned`, without its provisioners.
 pub fn line_of(rt: &impl Abort, alloc: Global, outcome: &Outcome) -> &'static str {
     let mut line = String::new(alloc);
     push(rt, &mut line, shown(rt, alloc, &outcome.seconds));
@@ -49,6 +49,7 @@ pub fn line_of(rt: &impl Abort, alloc: Global, outcome: &Outcome) -> &'static st
             push_done(rt, alloc, &mut line, id.as_ref(), warning.as_ref());
         }
         Ending::Failed { diag } => push_diag(rt, alloc, &mut line, " failed", diag),
+        Ending::Warned { diag } => push_diag(rt, alloc, &mut line, " warned", diag),
     }
     kept_text(rt, alloc, line)
 }
@@ -146,6 +147,8 @@ const STEPS: &str = r#"
 "seconds":0,"warning":{"summary":"slow","detail":null} => 0 done, warning "slow" ""
 "seconds":0,"warning":null => 0 done
 "seconds":0,"id":"","warning":{"summary":"slow"} => 0 done, warning "slow" ""
+"seconds":0,"warning":{"summary":"slow","severity":5} => 0 done, warning "slow" ""
+"seconds":0,"warning":{"summary":"slow","severity":"error"} => 0 done, warning "slow" ""
 "seconds":0,"failed":null,"id":"7" => 0 done, id "7"
 "seconds":4,"failed":{"summary":"boom"} => 4 failed "boom" ""
 "seconds":4,"failed":{"detail":"why","summary":"boom"} => 4 failed "boom" "why"

@@ -87,7 +87,7 @@ fn failure<'a>(rt: &impl Abort, script: &'a Script) -> &'a Diag {
 fn failure_of(ending: &Ending) -> Option<&Diag> {
     match ending {
         Ending::Failed { diag } => Some(diag),
-        Ending::Done { .. } => None,
+        Ending::Done { .. } | Ending::Warned { .. } => None,
     }
 }
 

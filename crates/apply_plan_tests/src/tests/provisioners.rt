@@ -1,6 +1,6 @@
 //! Provisioners in a script: their members, how many there may be, and where they may stand.
 
-use super::table::{put, scripts_are_answered, spelled_rows, times};
+use super::table::{put, scripts_are_answered, spelled_rows, times, with_end};
 use super::*;
 
 /// A plan of one change, which updates `null_resource.a`.
@@ -99,6 +99,10 @@ true => script entry 0 is malformed
 {"detail":"why"} => script entry 0 is malformed
 {"summary":"boom","detail":5} => script entry 0 is malformed
 {"summary":"boom"},"on_failure":"continue" => accepted
+{"summary":"boom","severity":"error"} => accepted
+{"summary":"boom","severity":"warning"} => accepted
+{"summary":"boom","severity":"x"} => accepted
+{"summary":"boom","severity":5} => accepted
 "#;
 
 const ON_FAILURE: &str = r#"
@@ -218,6 +222,19 @@ fn a_provisioner_has_at_most_100_outputs(rt: HostRuntime) {
     let most = step_with(&rt, alloc, "0", 2, loud);
     step_is_answered(&rt, alloc, ONE_CREATE, most, "accepted");
     let louder = times(&rt, alloc, 101, r#""hi""#);
+    let more = step_with(&rt, alloc, "0", 2, louder);
+    step_is_answered(&rt, alloc, ONE_CREATE, more, TOO_MUCH);
+}
+
+/// Items of both kinds count.
+#[test]
+fn a_provisioner_has_at_most_100_outputs_of_both_kinds(rt: HostRuntime) {
+    let alloc = rt.alloc();
+    let both = r#"{"after":0,"text":"hi"},"hi""#;
+    let loud = times(&rt, alloc, 50, both);
+    let most = step_with(&rt, alloc, "0", 2, loud);
+    step_is_answered(&rt, alloc, ONE_CREATE, most, "accepted");
+    let louder = with_end(&rt, alloc, loud, r#",{"text":"hi"}"#);
     let more = step_with(&rt, alloc, "0", 2, louder);
     step_is_answered(&rt, alloc, ONE_CREATE, more, TOO_MUCH);
 }

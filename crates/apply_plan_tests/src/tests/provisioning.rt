@@ -3,16 +3,23 @@
 use super::outcomes::{line_of, push_diag, push_printed};
 use super::table::{cells, compare, push, put, rows, times, with_end};
 use super::*;
-use apply_plan::{Outcome, Provisioner, StepKind};
+use apply_plan::{Outcome, Provisioner, StepKind, TimedText};
 
-/// Adds what the provisioner is and puts out: `; "NAME" SECONDS "OUTPUT" ..`, and why it fails, where it does.
+/// Adds the text and when it comes: ` "TEXT" at SECONDS`.
+fn push_output(rt: &impl Abort, alloc: Global, line: &mut String, output: &TimedText) {
+    push_printed(rt, alloc, line, output.text.as_str());
+    push(rt, line, " at ");
+    push(rt, line, shown(rt, alloc, &output.after));
+}
+
+/// Adds what the provisioner is and puts out: `; "NAME" SECONDS "OUTPUT" at SECONDS ..`, and why it fails, where it does.
 fn push_provisioner(rt: &impl Abort, alloc: Global, line: &mut String, provisioner: &Provisioner) {
     push(rt, line, ";");
     push_printed(rt, alloc, line, provisioner.name.as_str());
     push(rt, line, " ");
     push(rt, line, shown(rt, alloc, &provisioner.seconds));
     for number in 0..provisioner.output.len() {
-        push_printed(rt, alloc, line, provisioner.output.get(number).as_str());
+        push_output(rt, alloc, line, provisioner.output.get(number));
     }
     if let Some(diag) = &provisioner.failed {
         push_diag(rt, alloc, line, " failed", diag);
@@ -63,13 +70,16 @@ const SAID: &str = r#"
 "seconds":1 => 1 done
 "seconds":1,"provisioners":null => 1 done
 "seconds":1,"provisioners":[] => 1 done
-"seconds":4,"id":"7","provisioners":[{"provisioner":"local-exec","seconds":12,"output":["hi"]}] => 4 done, id "7"; "local-exec" 12 "hi"
-"seconds":0,"provisioners":[{"provisioner":"a","seconds":2,"output":null,"failed":{"summary":"boom"}},{"provisioner":"b","seconds":3,"output":["","x\ny","\u00e9\"\\"]}] => 0 done; "a" 2 failed "boom" ""; "b" 3 "" "x\ny" "é\"\\"
+"seconds":4,"id":"7","provisioners":[{"provisioner":"local-exec","seconds":12,"output":["hi"]}] => 4 done, id "7"; "local-exec" 12 "hi" at 12
+"seconds":0,"provisioners":[{"provisioner":"a","seconds":2,"output":null,"failed":{"summary":"boom"}},{"provisioner":"b","seconds":3,"output":["","x\ny","\u00e9\"\\"]}] => 0 done; "a" 2 failed "boom" ""; "b" 3 "" at 3 "x\ny" at 3 "é\"\\" at 3
 "seconds":0,"provisioners":[{"provisioner":"a","seconds":86400,"output":[],"failed":{"summary":"","detail":"why"}}] => 0 done; "a" 86400 failed "" "why"
-"seconds":0,"provisioners":[{"provisioner":"a","provisioner":"b","seconds":1,"seconds":2,"output":["x"],"output":["y"]}] => 0 done; "b" 2 "y"
+"seconds":0,"provisioners":[{"provisioner":"a","provisioner":"b","seconds":1,"seconds":2,"output":["x"],"output":["y"]}] => 0 done; "b" 2 "y" at 2
+"seconds":0,"provisioners":[{"provisioner":"a","seconds":7,"output":[{"after":0,"text":"x"},{"text":"","after":3},{"after":3,"text":"\u00e9"},"y",{"text":"z"},{"text":"","after":null}]}] => 0 done; "a" 7 "x" at 0 "" at 3 "é" at 3 "y" at 7 "z" at 7 "" at 7
+"seconds":0,"provisioners":[{"provisioner":"a","seconds":86400,"output":[{"after":86399,"text":"x"},{"after":86400,"text":"y"}]}] => 0 done; "a" 86400 "x" at 86399 "y" at 86400
 "seconds":0,"provisioners":[{"provisioner":"a","seconds":1,"output":["x"],"output":null,"failed":{"summary":"boom"},"failed":null}] => 0 done; "a" 1
 "seconds":0,"provisioners":[{"provisioner":"a","seconds":1,"on_failure":"continue","failed":{"summary":"boom"}},{"provisioner":"b","seconds":2,"on_failure":"fail"}] => 0 done; "a" 1 failed "boom" "" may fail; "b" 2
 "seconds":0,"provisioners":[{"provisioner":"a","seconds":1,"on_failure":"continue","on_failure":null}] => 0 done; "a" 1
+"seconds":0,"provisioners":[{"provisioner":"a","seconds":1,"failed":{"summary":"boom","severity":"warning"}}] => 0 done; "a" 1 failed "boom" ""
 "#;
 
 /// Steps, and what comes of them.
@@ -138,7 +148,7 @@ fn puts_out(rt: &impl Abort, provisioner: &Provisioner, count: u8, last: &str) {
     let output = &provisioner.output;
     holds(rt, "as many outputs", output.len() == count);
     holds(rt, "some outputs", count > 0);
-    text_is(rt, output.get(count - 1).as_str(), last);
+    text_is(rt, output.get(count - 1).text.as_str(), last);
 }
 
 /// Fails where the only step has not the most provisioners.

@@ -225,12 +225,21 @@ const DIAGNOSTICS: &str = r#"
 {"summary":"boom","detail":{}} => script entry 0 is malformed
 {"summary":"boom","detail":5,"detail":"why"} => accepted
 {"summary":"boom","detail":"why","detail":5} => script entry 0 is malformed
+"#;
+
+/// How severe a warning is, nobody asks.
+const SEVERITIES: &str = r#"
 {"summary":"boom","severity":5} => accepted
+{"summary":"boom","severity":"x"} => accepted
+{"summary":"boom","severity":"error"} => accepted
+{"summary":"boom","severity":"warning"} => accepted
+{"summary":"boom","severity":null} => accepted
 "#;
 
 #[test]
 fn a_diagnostic_has_a_summary(rt: HostRuntime) {
     scripts_are_answered(&rt, rt.alloc(), ONE_CREATE, WARNING, DIAGNOSTICS);
+    scripts_are_answered(&rt, rt.alloc(), ONE_CREATE, WARNING, SEVERITIES);
     scripts_are_answered(&rt, rt.alloc(), ONE_CREATE, FAILED, DIAGNOSTICS);
 }
 

@@ -184,6 +184,7 @@ SecondsRange(7) => script entry 7 has a step over 86400 seconds
 TooManyProvisioners(8) => script entry 8 has a step with more than 8 provisioners
 TooMuchOutput(9) => script entry 9 has a provisioner with more than 100 outputs
 NotACreate(10) => script entry 10 has a provisioner on a step that takes none
+WarnsNotARead(18) => script entry 18 has a failure that only warns on a step that is not a read
 TooManyWaits(13) => script entry 13 goes beyond 1000000 waits
 UnknownWait(14) => script entry 14 waits for an unknown change
 NoSuchStep(15) => script entry 15 waits for a step that its change does not have
@@ -208,6 +209,7 @@ fn script_refusals_have_their_texts(rt: HostRuntime) {
         ScriptError::TooManyProvisioners(8),
         ScriptError::TooMuchOutput(9),
         ScriptError::NotACreate(10),
+        ScriptError::WarnsNotARead(18),
         ScriptError::TooManyWaits(13),
         ScriptError::UnknownWait(14),
         ScriptError::NoSuchStep(15),

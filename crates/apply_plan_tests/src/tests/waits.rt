@@ -100,12 +100,19 @@ const SHORT_NAMES: &str =
 
 /// The first create has so many items of `after` and one more, the second has one.
 const MANY_WAITS: &str =
-    r#"{"address":"a.a","steps":[{"seconds":0,"after":[MORE"a.n"]}]},{"address":"a.b","steps":[{"seconds":0,"after":["a.n"]}]}"#;
+    r#"{"address":"a.a","steps":[{"seconds":0,"after":[MORE"a.n"]}]},{"address":"a.b","steps":[{"seconds":0,"after":["a.n"]LAST}]}"#;
 
-/// Fails where a script with so many items in its first entry, and then one, is answered otherwise.
-fn many_waits_are_answered(rt: &impl Abort, alloc: Global, count: usize, wanted: &str) {
+/// Fails where a script with so many items in its first entry, and then one, beside these members, is answered otherwise.
+fn many_waits_are_answered(
+    rt: &impl Abort,
+    alloc: Global,
+    count: usize,
+    members: &str,
+    wanted: &str,
+) {
     let more = repeated(rt, alloc, r#""a.b","#, count.saturating_sub(1));
-    let entries = put(rt, alloc, MANY_WAITS, "MORE", more);
+    let entries = put(rt, alloc, MANY_WAITS, "LAST", members);
+    let entries = put(rt, alloc, entries, "MORE", more);
     let text = put(rt, alloc, ENTRIES, "CELL", entries);
     script_is_answered(rt, alloc, SHORT_NAMES, text.as_bytes(), wanted);
 }
@@ -113,9 +120,16 @@ fn many_waits_are_answered(rt: &impl Abort, alloc: Global, count: usize, wanted:
 #[test]
 fn a_script_has_at_most_1000000_waits(rt: HostRuntime) {
     let alloc = rt.alloc();
-    many_waits_are_answered(&rt, alloc, 999_999, "accepted");
+    many_waits_are_answered(&rt, alloc, 999_999, "", "accepted");
     let beyond = "script entry 1 goes beyond 1000000 waits";
-    many_waits_are_answered(&rt, alloc, 1_000_000, beyond);
+    many_waits_are_answered(&rt, alloc, 1_000_000, "", beyond);
+}
+
+#[test]
+fn a_step_is_looked_at_before_its_waits_are_counted(rt: HostRuntime) {
+    let warned = r#","failed":{"summary":"boom","severity":"warning"}"#;
+    let no_read = "script entry 1 has a failure that only warns on a step that is not a read";
+    many_waits_are_answered(&rt, rt.alloc(), 1_000_000, warned, no_read);
 }
 
 /// Adds a step as `CHANGE/STEP`.

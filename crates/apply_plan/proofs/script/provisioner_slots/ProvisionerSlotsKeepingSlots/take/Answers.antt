@@ -1,9 +1,9 @@
 use Rattle.std.proofs.Common.{◌≡◌, codes, true, ap, sym, ◌∙◌}
 use Rattle.std.specs.Str.{bytes_eq}
 use Rattle.json.specs.Json.{value}
-use Rattle.serde_json.specs.Find.{as_str}
 use Rattle.apply_json.specs.Seen.{seen}
 use Rattle.apply_json.proofs.Held.{is_name, left, taken}
+use Rattle.apply_plan.specs.Script.Entry.{output_from}
 use Rattle.apply_plan.specs.Script.Members.{diag_member, each_member}
 use Rattle.apply_plan.proofs.Scripts.Kept.{as_that, other_member, passed_member, scalar_member}
 use Rattle.apply_plan.proofs.script.provisioner_slots.ProvisionerSlotsKeepingSlots.take.Goals as goal
@@ -22,7 +22,7 @@ returns-in_ok-self-clause-ok c =
         name = taken (seen) (codes "provisioner") k there.0 ms _ here there.2;
         seconds = left (seen) (codes "seconds") k there.0 ms _ (ap (λ name. bytes_eq name (codes "seconds")) (is_name k (codes "provisioner") here)) holds.seconds;
         failed = left (diag_member) (codes "failed") k there.0 ms _ (ap (λ name. bytes_eq name (codes "failed")) (is_name k (codes "provisioner") here)) holds.failed;
-        output = left (each_member as_str) (codes "output") k there.0 ms _ (ap (λ name. bytes_eq name (codes "output")) (is_name k (codes "provisioner") here)) holds.output;
+        output = left (each_member output_from) (codes "output") k there.0 ms _ (ap (λ name. bytes_eq name (codes "output")) (is_name k (codes "provisioner") here)) holds.output;
         on_failure = left (seen) (codes "on_failure") k there.0 ms _ (ap (λ name. bytes_eq name (codes "on_failure")) (is_name k (codes "provisioner") here)) holds.on_failure;
       },
     )
@@ -41,7 +41,7 @@ returns-in_ok-self-2-clause-ok c =
         name = left (seen) (codes "provisioner") k there.0 ms _ (ap (λ name. bytes_eq name (codes "provisioner")) (is_name k (codes "seconds") here)) holds.name;
         seconds = taken (seen) (codes "seconds") k there.0 ms _ here there.2;
         failed = left (diag_member) (codes "failed") k there.0 ms _ (ap (λ name. bytes_eq name (codes "failed")) (is_name k (codes "seconds") here)) holds.failed;
-        output = left (each_member as_str) (codes "output") k there.0 ms _ (ap (λ name. bytes_eq name (codes "output")) (is_name k (codes "seconds") here)) holds.output;
+        output = left (each_member output_from) (codes "output") k there.0 ms _ (ap (λ name. bytes_eq name (codes "output")) (is_name k (codes "seconds") here)) holds.output;
         on_failure = left (seen) (codes "on_failure") k there.0 ms _ (ap (λ name. bytes_eq name (codes "on_failure")) (is_name k (codes "seconds") here)) holds.on_failure;
       },
     )
@@ -60,7 +60,7 @@ returns-in_ok-self-3-clause-ok c =
         name = left (seen) (codes "provisioner") k done.0 ms _ (ap (λ name. bytes_eq name (codes "provisioner")) (is_name k (codes "failed") here)) holds.name;
         seconds = left (seen) (codes "seconds") k done.0 ms _ (ap (λ name. bytes_eq name (codes "seconds")) (is_name k (codes "failed") here)) holds.seconds;
         failed = taken (diag_member) (codes "failed") k done.0 ms _ here done.2;
-        output = left (each_member as_str) (codes "output") k done.0 ms _ (ap (λ name. bytes_eq name (codes "output")) (is_name k (codes "failed") here)) holds.output;
+        output = left (each_member output_from) (codes "output") k done.0 ms _ (ap (λ name. bytes_eq name (codes "output")) (is_name k (codes "failed") here)) holds.output;
         on_failure = left (seen) (codes "on_failure") k done.0 ms _ (ap (λ name. bytes_eq name (codes "on_failure")) (is_name k (codes "failed") here)) holds.on_failure;
       },
     )
@@ -79,7 +79,7 @@ returns-in_ok-self-4-clause-ok c =
         name = left (seen) (codes "provisioner") k done.0 ms _ (ap (λ name. bytes_eq name (codes "provisioner")) (is_name k (codes "output") here)) holds.name;
         seconds = left (seen) (codes "seconds") k done.0 ms _ (ap (λ name. bytes_eq name (codes "seconds")) (is_name k (codes "output") here)) holds.seconds;
         failed = left (diag_member) (codes "failed") k done.0 ms _ (ap (λ name. bytes_eq name (codes "failed")) (is_name k (codes "output") here)) holds.failed;
-        output = taken (each_member as_str) (codes "output") k done.0 ms _ here done.2;
+        output = taken (each_member output_from) (codes "output") k done.0 ms _ here done.2;
         on_failure = left (seen) (codes "on_failure") k done.0 ms _ (ap (λ name. bytes_eq name (codes "on_failure")) (is_name k (codes "output") here)) holds.on_failure;
       },
     )
@@ -98,7 +98,7 @@ returns-in_ok-self-5-clause-ok c =
         name = left (seen) (codes "provisioner") k there.0 ms _ (ap (λ name. bytes_eq name (codes "provisioner")) (is_name k (codes "on_failure") here)) holds.name;
         seconds = left (seen) (codes "seconds") k there.0 ms _ (ap (λ name. bytes_eq name (codes "seconds")) (is_name k (codes "on_failure") here)) holds.seconds;
         failed = left (diag_member) (codes "failed") k there.0 ms _ (ap (λ name. bytes_eq name (codes "failed")) (is_name k (codes "on_failure") here)) holds.failed;
-        output = left (each_member as_str) (codes "output") k there.0 ms _ (ap (λ name. bytes_eq name (codes "output")) (is_name k (codes "on_failure") here)) holds.output;
+        output = left (each_member output_from) (codes "output") k there.0 ms _ (ap (λ name. bytes_eq name (codes "output")) (is_name k (codes "on_failure") here)) holds.output;
         on_failure = taken (seen) (codes "on_failure") k there.0 ms _ here there.2;
       },
     )
@@ -115,7 +115,7 @@ returns-in_ok-pass-clause-ok c =
         name = left (seen) (codes "provisioner") k there.0 ms _ (sym c.eq.ensures ∙ c.if-eq.false) holds.name;
         seconds = left (seen) (codes "seconds") k there.0 ms _ (sym c.eq-else-eq.ensures ∙ c.if-eq-2.false) holds.seconds;
         failed = left (diag_member) (codes "failed") k there.0 ms _ (sym c.eq-else-eq-2.ensures ∙ c.if-eq-3.false) holds.failed;
-        output = left (each_member as_str) (codes "output") k there.0 ms _ (sym c.eq-else-eq-3.ensures ∙ c.if-eq-4.false) holds.output;
+        output = left (each_member output_from) (codes "output") k there.0 ms _ (sym c.eq-else-eq-3.ensures ∙ c.if-eq-4.false) holds.output;
         on_failure = left (seen) (codes "on_failure") k there.0 ms _ (sym c.eq-else-eq-4.ensures ∙ c.if-eq-5.false) holds.on_failure;
       },
     )

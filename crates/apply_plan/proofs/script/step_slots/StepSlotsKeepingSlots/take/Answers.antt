@@ -4,7 +4,7 @@ use Rattle.json.specs.Json.{value}
 use Rattle.apply_json.specs.Seen.{seen}
 use Rattle.apply_json.proofs.Held.{is_name, left, taken}
 use Rattle.apply_plan.specs.Script.Entry.{provisioner_from, wait_from}
-use Rattle.apply_plan.specs.Script.Members.{diag_member, each_member}
+use Rattle.apply_plan.specs.Script.Members.{diag_member, each_member, failure_member}
 use Rattle.apply_plan.proofs.Scripts.Kept.{as_that, other_member, passed_member, scalar_member}
 use Rattle.apply_plan.proofs.script.step_slots.StepSlotsKeepingSlots.take.Goals as goal
 
@@ -23,7 +23,7 @@ returns-in_ok-self-clause-ok c =
         after = left (each_member wait_from) (codes "after") k there.0 ms _ (ap (λ name. bytes_eq name (codes "after")) (is_name k (codes "seconds") here)) holds.after;
         id = left (seen) (codes "id") k there.0 ms _ (ap (λ name. bytes_eq name (codes "id")) (is_name k (codes "seconds") here)) holds.id;
         warning = left (diag_member) (codes "warning") k there.0 ms _ (ap (λ name. bytes_eq name (codes "warning")) (is_name k (codes "seconds") here)) holds.warning;
-        failed = left (diag_member) (codes "failed") k there.0 ms _ (ap (λ name. bytes_eq name (codes "failed")) (is_name k (codes "seconds") here)) holds.failed;
+        failed = left (failure_member) (codes "failed") k there.0 ms _ (ap (λ name. bytes_eq name (codes "failed")) (is_name k (codes "seconds") here)) holds.failed;
         provisioners = left (each_member provisioner_from) (codes "provisioners") k there.0 ms _ (ap (λ name. bytes_eq name (codes "provisioners")) (is_name k (codes "seconds") here)) holds.provisioners;
         skipped = left (seen) (codes "skipped") k there.0 ms _ (ap (λ name. bytes_eq name (codes "skipped")) (is_name k (codes "seconds") here)) holds.skipped;
       },
@@ -44,7 +44,7 @@ returns-in_ok-self-2-clause-ok c =
         after = taken (each_member wait_from) (codes "after") k done.0 ms _ here done.2;
         id = left (seen) (codes "id") k done.0 ms _ (ap (λ name. bytes_eq name (codes "id")) (is_name k (codes "after") here)) holds.id;
         warning = left (diag_member) (codes "warning") k done.0 ms _ (ap (λ name. bytes_eq name (codes "warning")) (is_name k (codes "after") here)) holds.warning;
-        failed = left (diag_member) (codes "failed") k done.0 ms _ (ap (λ name. bytes_eq name (codes "failed")) (is_name k (codes "after") here)) holds.failed;
+        failed = left (failure_member) (codes "failed") k done.0 ms _ (ap (λ name. bytes_eq name (codes "failed")) (is_name k (codes "after") here)) holds.failed;
         provisioners = left (each_member provisioner_from) (codes "provisioners") k done.0 ms _ (ap (λ name. bytes_eq name (codes "provisioners")) (is_name k (codes "after") here)) holds.provisioners;
         skipped = left (seen) (codes "skipped") k done.0 ms _ (ap (λ name. bytes_eq name (codes "skipped")) (is_name k (codes "after") here)) holds.skipped;
       },
@@ -65,7 +65,7 @@ returns-in_ok-self-3-clause-ok c =
         after = left (each_member wait_from) (codes "after") k there.0 ms _ (ap (λ name. bytes_eq name (codes "after")) (is_name k (codes "id") here)) holds.after;
         id = taken (seen) (codes "id") k there.0 ms _ here there.2;
         warning = left (diag_member) (codes "warning") k there.0 ms _ (ap (λ name. bytes_eq name (codes "warning")) (is_name k (codes "id") here)) holds.warning;
-        failed = left (diag_member) (codes "failed") k there.0 ms _ (ap (λ name. bytes_eq name (codes "failed")) (is_name k (codes "id") here)) holds.failed;
+        failed = left (failure_member) (codes "failed") k there.0 ms _ (ap (λ name. bytes_eq name (codes "failed")) (is_name k (codes "id") here)) holds.failed;
         provisioners = left (each_member provisioner_from) (codes "provisioners") k there.0 ms _ (ap (λ name. bytes_eq name (codes "provisioners")) (is_name k (codes "id") here)) holds.provisioners;
         skipped = left (seen) (codes "skipped") k there.0 ms _ (ap (λ name. bytes_eq name (codes "skipped")) (is_name k (codes "id") here)) holds.skipped;
       },
@@ -86,7 +86,7 @@ returns-in_ok-self-4-clause-ok c =
         after = left (each_member wait_from) (codes "after") k done.0 ms _ (ap (λ name. bytes_eq name (codes "after")) (is_name k (codes "warning") here)) holds.after;
         id = left (seen) (codes "id") k done.0 ms _ (ap (λ name. bytes_eq name (codes "id")) (is_name k (codes "warning") here)) holds.id;
         warning = taken (diag_member) (codes "warning") k done.0 ms _ here done.2;
-        failed = left (diag_member) (codes "failed") k done.0 ms _ (ap (λ name. bytes_eq name (codes "failed")) (is_name k (codes "warning") here)) holds.failed;
+        failed = left (failure_member) (codes "failed") k done.0 ms _ (ap (λ name. bytes_eq name (codes "failed")) (is_name k (codes "warning") here)) holds.failed;
         provisioners = left (each_member provisioner_from) (codes "provisioners") k done.0 ms _ (ap (λ name. bytes_eq name (codes "provisioners")) (is_name k (codes "warning") here)) holds.provisioners;
         skipped = left (seen) (codes "skipped") k done.0 ms _ (ap (λ name. bytes_eq name (codes "skipped")) (is_name k (codes "warning") here)) holds.skipped;
       },
@@ -107,7 +107,7 @@ returns-in_ok-self-5-clause-ok c =
         after = left (each_member wait_from) (codes "after") k done.0 ms _ (ap (λ name. bytes_eq name (codes "after")) (is_name k (codes "failed") here)) holds.after;
         id = left (seen) (codes "id") k done.0 ms _ (ap (λ name. bytes_eq name (codes "id")) (is_name k (codes "failed") here)) holds.id;
         warning = left (diag_member) (codes "warning") k done.0 ms _ (ap (λ name. bytes_eq name (codes "warning")) (is_name k (codes "failed") here)) holds.warning;
-        failed = taken (diag_member) (codes "failed") k done.0 ms _ here done.2;
+        failed = taken (failure_member) (codes "failed") k done.0 ms _ here done.2;
         provisioners = left (each_member provisioner_from) (codes "provisioners") k done.0 ms _ (ap (λ name. bytes_eq name (codes "provisioners")) (is_name k (codes "failed") here)) holds.provisioners;
         skipped = left (seen) (codes "skipped") k done.0 ms _ (ap (λ name. bytes_eq name (codes "skipped")) (is_name k (codes "failed") here)) holds.skipped;
       },
@@ -128,7 +128,7 @@ returns-in_ok-self-6-clause-ok c =
         after = left (each_member wait_from) (codes "after") k done.0 ms _ (ap (λ name. bytes_eq name (codes "after")) (is_name k (codes "provisioners") here)) holds.after;
         id = left (seen) (codes "id") k done.0 ms _ (ap (λ name. bytes_eq name (codes "id")) (is_name k (codes "provisioners") here)) holds.id;
         warning = left (diag_member) (codes "warning") k done.0 ms _ (ap (λ name. bytes_eq name (codes "warning")) (is_name k (codes "provisioners") here)) holds.warning;
-        failed = left (diag_member) (codes "failed") k done.0 ms _ (ap (λ name. bytes_eq name (codes "failed")) (is_name k (codes "provisioners") here)) holds.failed;
+        failed = left (failure_member) (codes "failed") k done.0 ms _ (ap (λ name. bytes_eq name (codes "failed")) (is_name k (codes "provisioners") here)) holds.failed;
         provisioners = taken (each_member provisioner_from) (codes "provisioners") k done.0 ms _ here done.2;
         skipped = left (seen) (codes "skipped") k done.0 ms _ (ap (λ name. bytes_eq name (codes "skipped")) (is_name k (codes "provisioners") here)) holds.skipped;
       },
@@ -149,7 +149,7 @@ returns-in_ok-self-7-clause-ok c =
         after = left (each_member wait_from) (codes "after") k there.0 ms _ (ap (λ name. bytes_eq name (codes "after")) (is_name k (codes "skipped") here)) holds.after;
         id = left (seen) (codes "id") k there.0 ms _ (ap (λ name. bytes_eq name (codes "id")) (is_name k (codes "skipped") here)) holds.id;
         warning = left (diag_member) (codes "warning") k there.0 ms _ (ap (λ name. bytes_eq name (codes "warning")) (is_name k (codes "skipped") here)) holds.warning;
-        failed = left (diag_member) (codes "failed") k there.0 ms _ (ap (λ name. bytes_eq name (codes "failed")) (is_name k (codes "skipped") here)) holds.failed;
+        failed = left (failure_member) (codes "failed") k there.0 ms _ (ap (λ name. bytes_eq name (codes "failed")) (is_name k (codes "skipped") here)) holds.failed;
         provisioners = left (each_member provisioner_from) (codes "provisioners") k there.0 ms _ (ap (λ name. bytes_eq name (codes "provisioners")) (is_name k (codes "skipped") here)) holds.provisioners;
         skipped = taken (seen) (codes "skipped") k there.0 ms _ here there.2;
       },
@@ -168,7 +168,7 @@ returns-in_ok-pass-clause-ok c =
         after = left (each_member wait_from) (codes "after") k there.0 ms _ (sym c.eq-else-eq.ensures ∙ c.if-eq-2.false) holds.after;
         id = left (seen) (codes "id") k there.0 ms _ (sym c.eq-else-eq-2.ensures ∙ c.if-eq-3.false) holds.id;
         warning = left (diag_member) (codes "warning") k there.0 ms _ (sym c.eq-else-eq-3.ensures ∙ c.if-eq-4.false) holds.warning;
-        failed = left (diag_member) (codes "failed") k there.0 ms _ (sym c.eq-else-eq-4.ensures ∙ c.if-eq-5.false) holds.failed;
+        failed = left (failure_member) (codes "failed") k there.0 ms _ (sym c.eq-else-eq-4.ensures ∙ c.if-eq-5.false) holds.failed;
         provisioners = left (each_member provisioner_from) (codes "provisioners") k there.0 ms _ (sym c.eq-else-eq-5.ensures ∙ c.if-eq-6.false) holds.provisioners;
         skipped = left (seen) (codes "skipped") k there.0 ms _ (sym c.eq-else-eq-6.ensures ∙ c.if-eq-7.false) holds.skipped;
       },

@@ -2,7 +2,7 @@ use Rattle.apply_model.specs.Script.Outcome.{IsSmall}
 use Rattle.apply_plan.specs.Script.TreeView.{provisioner_view}
 use Rattle.apply_plan.proofs.Scripts.Limits.{all_seen}
 use Rattle.apply_plan.proofs.Scripts.Parts.{copied_more}
-use Rattle.apply_plan.proofs.script.tree_provisioner.copied_provisioners.Goals as goal
+use Rattle.apply_plan.proofs.script.tree_outcome.copied_provisioners.Goals as goal
 
 pub copied-requires : goal.copied-requires
 copied-requires c = all_seen IsSmall provisioner_view c.args.tree.now c.loop-provisioner.provisioner-index c.provisioner-item.result c.requires.small c.loop-provisioner-test.true c.provisioner-item.is

@@ -1,6 +1,0 @@
-use Rattle.std.proofs.Common.{◌≡◌, take}
-use Rattle.apply_plan.specs.Script.TreeView.{texts_view}
-use Rattle.apply_plan.proofs.script.tree_provisioner.copied_texts.Given as goal
-
-abbrev pub invariant-loop-text : goal.invariant-loop-text
-invariant-loop-text l = l.texts.items ≡ texts_view (take l.text-index l.borrowed)

@@ -1,0 +1,56 @@
+//! Why a step's provider fails, its texts borrowed.
+
+ghost use Rattle.std.specs.Prelude.{◌≡◌, ◌<◌, Err, IfOk, OnOk, Some, length, option_map};
+ghost use Rattle.serde_json.specs.Data.{Data};
+ghost use Rattle.apply_json.specs.Keeping.{IsKeptRead};
+ghost use Rattle.apply_json.specs.Tokens.{IsNoValue};
+ghost use Rattle.apply_plan.specs.Script.Entry.{is_kept};
+ghost use Rattle.apply_plan.specs.Script.Members.{failure_held, failure_member};
+ghost use Rattle.apply_plan.specs.Script.TreeView.{failure_view};
+
+use crate::script::diag_slots::DiagSlots;
+use crate::script::severity::only_warns;
+use crate::script::tree_diag::TreeDiag;
+use apply_json::{ReadFault, Reader, Scalar, read_kept_object};
+use std::alloc::Global;
+
+/// Why a step's provider fails, and whether that only warns.
+#[derive(Drop)]
+pub struct TreeFailure<'a> {
+    pub diag: TreeDiag<'a>,
+    pub only_warns: bool,
+}
+
+impl<'a> TreeFailure<'a> {
+    /// Reads a member that is a failure or `null`, in which arrays and objects nest at most `depth` deep. `None` where it is
+    /// neither.
+    pub fn read(
+        alloc: Global,
+        reader: &mut Reader<'a>,
+        depth: usize,
+    ) -> Result<Option<Option<TreeFailure<'a>>>, ReadFault>
+        ensures ok { IfOk result (λ found. (d : Data) × IsKeptRead is_kept depth reader.old d reader.new
+            × (option_map (λ failure. option_map failure_view failure) found ≡ failure_member (Some d))) }
+        ensures shorter { OnOk result (length reader.new < length reader.old) }
+        ensures err { result ≡ Err ReadFault.NotJson → IsNoValue depth reader.old }
+    {
+        let mut slots = DiagSlots::new();
+        match read_kept_object(alloc, reader, depth, &mut slots)? {
+            Scalar::Absent => Ok(Some(None)),
+            _ => match TreeFailure::of(slots) {
+                Some(failure) => Ok(Some(Some(failure))),
+                None => Ok(None),
+            },
+        }
+    }
+
+    /// The failure that the members are. `None` where one of them breaks its rule.
+    fn of(slots: DiagSlots<'a>) -> Option<TreeFailure<'a>>
+        ensures { option_map failure_view result ≡ failure_held slots.entry }
+    {
+        let severity = slots.severity;
+        let diag = TreeDiag::of(slots)?;
+        let only_warns = only_warns(severity)?;
+        Some(TreeFailure { diag, only_warns })
+    }
+}

@@ -1,0 +1,72 @@
+//! An item of `output` of a script, whose text is borrowed.
+
+ghost use Rattle.std.specs.Prelude.{◌≡◌, ◌<◌, ◌≤◌, Err, IfOk, OnOk, length, option_map};
+ghost use Rattle.serde_json.specs.Data.{Data};
+ghost use Rattle.apply_json.specs.Keeping.{IsKeptRead};
+ghost use Rattle.apply_json.specs.Tokens.{IsNoValue};
+ghost use Rattle.apply_model.specs.Script.Limits.{max_seconds};
+ghost use Rattle.apply_plan.specs.Script.Entry.{is_kept, output_from, timed};
+ghost use Rattle.apply_plan.specs.Script.Members.{output_held};
+ghost use Rattle.apply_plan.specs.Script.OutputView.{output_view};
+
+use crate::script::number_or_none::number_or_none;
+use crate::script::output_slots::OutputSlots;
+use apply_json::{ReadFault, Reader, Scalar, read_kept_object};
+use apply_model::{Text, TimedText};
+use std::alloc::{AllocError, Global};
+
+/// An item of `output`, each of whose members obeys its rule.
+#[derive(Clone, Copy)]
+pub struct TreeOutput<'a> {
+    /// Any number of 64 bits: whether it comes in time is asked later. `None` is the provisioner's end.
+    pub after: Option<u64>,
+    pub text: &'a str,
+}
+
+impl<'a> TreeOutput<'a> {
+    /// Reads an item, in which arrays and objects nest at most `depth` deep. `None` where it is none, or one of its members
+    /// breaks its rule.
+    pub fn read(
+        alloc: Global,
+        reader: &mut Reader<'a>,
+        depth: usize,
+    ) -> Result<Option<TreeOutput<'a>>, ReadFault>
+        ensures ok { IfOk result (λ found. (d : Data) × IsKeptRead is_kept depth reader.old d reader.new
+            × (option_map output_view found ≡ output_from d)) }
+        ensures shorter { OnOk result (length reader.new < length reader.old) }
+        ensures err { result ≡ Err ReadFault.NotJson → IsNoValue depth reader.old }
+    {
+        let mut slots = OutputSlots::new();
+        match read_kept_object(alloc, reader, depth, &mut slots)? {
+            Scalar::Text(text) => Ok(Some(TreeOutput { after: None, text })),
+            _ => Ok(TreeOutput::of(&slots)),
+        }
+    }
+
+    /// The item that the members are. `None` where one of them breaks its rule.
+    fn of(slots: &OutputSlots<'a>) -> Option<TreeOutput<'a>>
+        ensures { option_map output_view result ≡ output_held slots.now }
+    {
+        let text = slots.text.text()?;
+        let after = number_or_none(slots.after)?;
+        Some(TreeOutput { after, text })
+    }
+
+    /// After how many seconds it comes, where its provisioner takes so many.
+    pub fn seconds_of(&self, seconds: u64) -> u64
+        ensures { result ≡ (timed seconds (output_view self.now)).after }
+    {
+        self.after.unwrap_or(seconds)
+    }
+
+    /// The text of a provisioner that takes so many seconds, with a copy of it.
+    pub fn copied(&self, alloc: Global, seconds: u64) -> Result<TimedText, AllocError>
+        requires { (timed seconds (output_view self.now)).after ≤ max_seconds }
+        ensures { IfOk result (λ copy. copy ≡ timed seconds (output_view self.now)) }
+    {
+        Ok(TimedText {
+            after: self.seconds_of(seconds) as u32,
+            text: Text::new(alloc, self.text)?,
+        })
+    }
+}
