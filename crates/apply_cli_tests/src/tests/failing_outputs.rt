@@ -74,61 +74,31 @@ fn takes_so_many<T: Threads + Wait + Sync + Abort>(
     }
 }
 
+/// The most bytes that an output takes with each write: single ones, few, and whole lines.
+const WRITES: [usize; 3] = [1, 7, 4096];
+
 /// Whatever byte is the first that the output does not take: it has all before it and nothing more.
-fn fails_at_each_byte<T: Threads + Wait + Sync + Abort>(
-    rt: &T,
-    alloc: Global,
-    workers: u8,
-    per_write: usize,
-) {
-    for room in 0..=FAILED_DESTROY_STREAM.len() {
-        takes_so_many(rt, alloc, workers, per_write, room);
+fn fails_at_each_byte<T: Threads + Wait + Sync + Abort>(rt: &T, alloc: Global, workers: u8) {
+    for per_write in WRITES {
+        for room in 0..=FAILED_DESTROY_STREAM.len() {
+            takes_so_many(rt, alloc, workers, per_write, room);
+        }
     }
 }
 
 #[test]
-fn an_output_of_single_bytes_fails_under_one_worker(rt: HostRuntime) {
-    fails_at_each_byte(&rt, rt.alloc(), 1, 1);
+fn an_output_fails_under_one_worker(rt: HostRuntime) {
+    fails_at_each_byte(&rt, rt.alloc(), 1);
 }
 
 #[test]
-fn an_output_of_short_writes_fails_under_one_worker(rt: HostRuntime) {
-    fails_at_each_byte(&rt, rt.alloc(), 1, 7);
+fn an_output_fails_under_two_workers(rt: HostRuntime) {
+    fails_at_each_byte(&rt, rt.alloc(), 2);
 }
 
 #[test]
-fn an_output_of_whole_lines_fails_under_one_worker(rt: HostRuntime) {
-    fails_at_each_byte(&rt, rt.alloc(), 1, 4096);
-}
-
-#[test]
-fn an_output_of_single_bytes_fails_under_two_workers(rt: HostRuntime) {
-    fails_at_each_byte(&rt, rt.alloc(), 2, 1);
-}
-
-#[test]
-fn an_output_of_short_writes_fails_under_two_workers(rt: HostRuntime) {
-    fails_at_each_byte(&rt, rt.alloc(), 2, 7);
-}
-
-#[test]
-fn an_output_of_whole_lines_fails_under_two_workers(rt: HostRuntime) {
-    fails_at_each_byte(&rt, rt.alloc(), 2, 4096);
-}
-
-#[test]
-fn an_output_of_single_bytes_fails_under_eight_workers(rt: HostRuntime) {
-    fails_at_each_byte(&rt, rt.alloc(), 8, 1);
-}
-
-#[test]
-fn an_output_of_short_writes_fails_under_eight_workers(rt: HostRuntime) {
-    fails_at_each_byte(&rt, rt.alloc(), 8, 7);
-}
-
-#[test]
-fn an_output_of_whole_lines_fails_under_eight_workers(rt: HostRuntime) {
-    fails_at_each_byte(&rt, rt.alloc(), 8, 4096);
+fn an_output_fails_under_eight_workers(rt: HostRuntime) {
+    fails_at_each_byte(&rt, rt.alloc(), 8);
 }
 
 /// Fails where so many workers do not end so over an output that takes all and fails to flush.
