@@ -31,13 +31,20 @@ fn event(worker: u8, change: u32) -> Event
     }
 }
 
+/// Fails where it is not so. A proof grows by each assertion, and by less where it is a call.
+fn holds(rt: &impl Abort, case: &str, is_so: bool) {
+    assert!(rt; is_so, "{case}");
+}
+
+/// Fails where a number is another.
+fn number_is(rt: &impl Abort, case: &str, found: u32, wanted: u32) {
+    assert!(rt; found == wanted, "{case}: {found}");
+}
+
 /// Fails where a bus of these sizes opens otherwise than with that many closes to come.
 fn opens(rt: &impl Abort, alloc: Global, workers: u8, capacity: u16, wanted: Result<u8, BusError>) {
     let opened = open(alloc, workers, capacity).map(|bus| bus.1.open_left());
-    assert!(rt;
-        opened == wanted,
-        "{workers} workers, capacity {capacity}: {opened:?}"
-    );
+    holds(rt, "a bus", opened == wanted);
 }
 
 /// Fails where claims of these sizes open otherwise than with that many drawers.
@@ -49,32 +56,30 @@ fn claims_open(
     wanted: Result<usize, BusError>,
 ) {
     let opened = Claims::open(alloc, workers, n).map(|opened| opened.1.len());
-    assert!(rt;
-        opened == wanted,
-        "{workers} workers, {n} numbers: {opened:?}"
-    );
+    holds(rt, "claims", opened == wanted);
 }
 
 #[test]
 fn sizes_and_limits(rt: HostRuntime) {
     let alloc = rt.alloc();
-    opens(&rt, alloc, 0, 1, Err(BusError::BadSize));
-    opens(&rt, alloc, 9, 1, Err(BusError::BadSize));
-    opens(&rt, alloc, 1, 0, Err(BusError::BadSize));
-    opens(&rt, alloc, 1, 1025, Err(BusError::BadSize));
+    let bad_size = BusError::BadSize;
+    opens(&rt, alloc, 0, 1, Err(bad_size));
+    opens(&rt, alloc, 9, 1, Err(bad_size));
+    opens(&rt, alloc, 1, 0, Err(bad_size));
+    opens(&rt, alloc, 1, 1025, Err(bad_size));
     opens(&rt, alloc, 1, 1, Ok(1));
     opens(&rt, alloc, 8, 1024, Ok(8));
-    claims_open(&rt, alloc, 0, 3, Err(BusError::BadSize));
-    claims_open(&rt, alloc, 9, 3, Err(BusError::BadSize));
+    claims_open(&rt, alloc, 0, 3, Err(bad_size));
+    claims_open(&rt, alloc, 9, 3, Err(bad_size));
     claims_open(&rt, alloc, 1, 0, Ok(1));
     claims_open(&rt, alloc, 8, u32::MAX, Ok(8));
-    assert!(rt; MAX_TAKEN == 1 << 29, "{MAX_TAKEN}");
+    holds(&rt, "the most that is taken", MAX_TAKEN == 1 << 29);
 }
 
 /// Fails where the error has another text.
 fn says(rt: &impl Abort, alloc: Global, error: &impl Display, wanted: &str) {
     let text = error.to_string(alloc).expect(rt, "memory");
-    assert!(rt; text.as_str() == wanted, "{text}");
+    holds(rt, wanted, text.as_str() == wanted);
 }
 
 #[test]

@@ -1,6 +1,7 @@
 //! The command: its input, its words, and all of it.
 
 use crate::readers::ONE_CREATE;
+use crate::telling::{answer, begin, kept, lines};
 use apply_cli::{Settings, read_all, read_invocation, read_words, run_command, run_in_lanes};
 use apply_hooks::Registry;
 use apply_run::StdSink;
@@ -16,34 +17,40 @@ const WORDS: &str =
 
 /// Reads the input.
 pub fn all_bytes(rt: &impl Print, alloc: Global) -> io::Result<()> {
-    println!(rt; "call")?;
+    begin(rt)?;
     match read_all(alloc, ONE_CREATE.as_bytes()) {
         Ok(bytes) => println!(rt; "Ok {:?}", bytes.as_slice()),
         Err(fault) => println!(rt; "Err({fault:?})"),
     }
 }
 
+/// Adds a word, in a text of its own.
+fn push_word(alloc: Global, words: &mut Vec<String>, word: &str) -> io::Result<()> {
+    words.push(String::from_str(alloc, word)?)?;
+    Ok(())
+}
+
 /// The words, each in a text of its own.
-fn all_words(alloc: Global) -> io::Result<Vec<String>> {
-    let mut words = Vec::new(alloc);
+fn all_words(alloc: Global) -> io::Result<&'static [String]> {
+    let words = kept(alloc, Vec::new(alloc))?;
     for word in WORDS.split_whitespace() {
-        words.push(String::from_str(alloc, word)?)?;
+        push_word(alloc, words, word)?;
     }
-    Ok(words)
+    Ok(words.as_slice())
 }
 
 /// Reads the words.
 pub fn words(rt: &impl Print, alloc: Global) -> io::Result<()> {
     let words = all_words(alloc)?;
-    println!(rt; "call")?;
-    println!(rt; "{:?}", read_invocation(alloc, &words))
+    begin(rt)?;
+    answer(rt, &read_invocation(alloc, words))
 }
 
 /// Reads the words by the options without a parallelism.
 pub fn settings(rt: &impl Print, alloc: Global) -> io::Result<()> {
     let words = all_words(alloc)?;
-    println!(rt; "call")?;
-    println!(rt; "{:?}", read_words(alloc, &words))
+    begin(rt)?;
+    answer(rt, &read_words(alloc, words))
 }
 
 /// What no words say.
@@ -58,49 +65,48 @@ fn defaults(alloc: Global) -> Settings {
     }
 }
 
-/// Prints a status, and what was written.
-fn tell(rt: &impl Print, output: StdSink<Vec<u8>>, status: u8) -> io::Result<()> {
-    println!(rt; "{status}")?;
-    match str::from_utf8(output.into_inner().as_slice()) {
-        Ok(lines) => print!(rt; "{lines}"),
-        Err(_) => println!(rt; "no text"),
-    }
+/// Tells a status, and what was written.
+fn tell(rt: &impl Print, status: u8, written: Vec<u8>) -> io::Result<()> {
+    answer(rt, &status)?;
+    lines(rt, written.as_slice())
 }
 
 /// Runs the command on one create. What it says of faults stands before the answer.
 pub fn whole<R: Print + Threads + Wait + Sync>(rt: &R, alloc: Global) -> io::Result<()> {
-    let settings = defaults(alloc);
-    let registry = Registry::new(alloc);
+    let settings = kept(alloc, defaults(alloc))?;
+    let registry = kept(alloc, Registry::new(alloc))?;
+    begin(rt)?;
     let output = StdSink::new(Vec::new(alloc));
-    println!(rt; "call")?;
+    let (input, mut faults) = (ONE_CREATE.as_bytes(), io::writer(rt));
     let (output, status) = run_command(
         rt,
         alloc,
-        &settings,
-        &registry,
+        settings,
+        registry,
         None,
-        ONE_CREATE.as_bytes(),
+        input,
         output,
-        &mut io::writer(rt),
+        &mut faults,
     );
-    tell(rt, output, status)
+    tell(rt, status, output.into_inner())
 }
 
 /// Runs one create with two changes under way at once. What it says of faults stands before the answer.
 pub fn in_lanes(rt: &impl Print, alloc: Global) -> io::Result<()> {
-    let settings = defaults(alloc);
-    let registry = Registry::new(alloc);
+    let settings = kept(alloc, defaults(alloc))?;
+    let registry = kept(alloc, Registry::new(alloc))?;
+    begin(rt)?;
     let output = StdSink::new(Vec::new(alloc));
-    println!(rt; "call")?;
+    let (input, mut faults) = (ONE_CREATE.as_bytes(), io::writer(rt));
     let (output, status) = run_in_lanes(
         alloc,
-        &settings,
+        settings,
         2,
-        &registry,
+        registry,
         None,
-        ONE_CREATE.as_bytes(),
+        input,
         output,
-        &mut io::writer(rt),
+        &mut faults,
     );
-    tell(rt, output, status)
+    tell(rt, status, output.into_inner())
 }

@@ -1,65 +1,74 @@
 //! Lines, each in a text of its own and behind another.
 
-use crate::readers::ONE_CREATE;
+use crate::readers::{ONE_CREATE, plan_of};
+use crate::telling::{answer, begin, kept};
 use apply_events::{Counts, Runner};
 use apply_hooks::Registry;
-use apply_plan::{Plan, Script, read_plan};
+use apply_plan::{Plan, Script};
 use apply_text::{LineBuffer, Operation, Start, event_line, summary_line, version_line};
 use std::alloc::{AllocError, Global};
 use std::io;
 use std::io::ErrorKind;
 
-/// The plan that lines are of.
-fn plan(alloc: Global) -> io::Result<Plan> {
-    match read_plan(alloc, ONE_CREATE.as_bytes()) {
-        Ok(plan) => Ok(plan),
-        Err(_) => Err(io::Error::from(ErrorKind::OutOfMemory)),
-    }
-}
-
 /// Makes the version line.
 pub fn version(rt: &impl Print, alloc: Global) -> io::Result<()> {
-    let plan = plan(alloc)?;
-    println!(rt; "call")?;
-    println!(rt; "{:?}", version_line(alloc, &plan, Start::zero()))
+    let plan = plan_of(alloc, ONE_CREATE)?;
+    begin(rt)?;
+    answer(rt, &version_line(alloc, plan, Start::zero()))
 }
 
 /// Makes the summary line.
 pub fn summary(rt: &impl Print, alloc: Global) -> io::Result<()> {
-    println!(rt; "call")?;
-    println!(rt;
-        "{:?}",
-        summary_line(alloc, Start::zero(), 0, Operation::Apply, &Counts::new())
-    )
+    begin(rt)?;
+    let counts = Counts::new();
+    let line = summary_line(alloc, Start::zero(), 0, Operation::Apply, &counts);
+    answer(rt, &line)
+}
+
+/// No hooks.
+fn no_hooks(alloc: Global) -> io::Result<&'static Registry> {
+    Ok(kept(alloc, Registry::new(alloc))?)
+}
+
+/// A script without entries.
+fn no_script(alloc: Global) -> io::Result<&'static Script> {
+    Ok(kept(alloc, Script::empty())?)
+}
+
+/// What is answered where the plan has no event.
+fn no_event() -> io::Result<()> {
+    Err(io::Error::from(ErrorKind::InvalidData))
 }
 
 /// Makes the line of the plan's first event.
 pub fn event(rt: &impl Print, alloc: Global) -> io::Result<()> {
-    let plan = plan(alloc)?;
-    let registry = Registry::new(alloc);
-    event_of(rt, alloc, &plan, &registry)
+    let plan = plan_of(alloc, ONE_CREATE)?;
+    event_of(rt, alloc, plan, no_script(alloc)?, no_hooks(alloc)?)
 }
 
 /// Makes the line of the first event of that plan.
-fn event_of(rt: &impl Print, alloc: Global, plan: &Plan, registry: &Registry) -> io::Result<()> {
-    let script = Script::empty();
+fn event_of(
+    rt: &impl Print,
+    alloc: Global,
+    plan: &Plan,
+    script: &Script,
+    registry: &Registry,
+) -> io::Result<()> {
     if plan.len() == 0 {
-        return Err(io::Error::from(ErrorKind::InvalidData));
+        return no_event();
     }
-    let mut runner = Runner::start(plan, &script, registry, 0, 0, 0);
+    let mut runner = Runner::start(plan, script, registry, 0, 0, 0);
     let Some(event) = runner.next() else {
-        return Err(io::Error::from(ErrorKind::InvalidData));
+        return no_event();
     };
-    println!(rt; "call")?;
-    println!(rt;
-        "{:?}",
-        event_line(alloc, plan, &script, Start::zero(), event.at, &event)
-    )
+    begin(rt)?;
+    let line = event_line(alloc, plan, script, Start::zero(), event.at, &event);
+    answer(rt, &line)
 }
 
 /// A buffer with one line.
-fn begun(alloc: Global, plan: &Plan) -> io::Result<LineBuffer> {
-    let mut buffer = LineBuffer::new(alloc);
+fn begun(alloc: Global, plan: &Plan) -> io::Result<&'static mut LineBuffer> {
+    let buffer = kept(alloc, LineBuffer::new(alloc))?;
     buffer.push_version(plan, Start::zero())?;
     Ok(buffer)
 }
@@ -84,13 +93,8 @@ fn tell_pushed(
 
 /// Adds the version line to a buffer.
 pub fn pushed_version(rt: &impl Print, alloc: Global) -> io::Result<()> {
-    let plan = plan(alloc)?;
-    let mut buffer = begun(alloc, &plan)?;
-    push_version_of(rt, &plan, &mut buffer)
-}
-
-/// Adds the version line of that plan.
-fn push_version_of(rt: &impl Print, plan: &Plan, buffer: &mut LineBuffer) -> io::Result<()> {
+    let plan = plan_of(alloc, ONE_CREATE)?;
+    let buffer = begun(alloc, plan)?;
     tell(rt, "call", buffer)?;
     let pushed = buffer.push_version(plan, Start::zero());
     tell_pushed(rt, pushed, buffer)
@@ -98,13 +102,8 @@ fn push_version_of(rt: &impl Print, plan: &Plan, buffer: &mut LineBuffer) -> io:
 
 /// Adds the summary to a buffer.
 pub fn pushed_summary(rt: &impl Print, alloc: Global) -> io::Result<()> {
-    let plan = plan(alloc)?;
-    let mut buffer = begun(alloc, &plan)?;
-    push_summary(rt, &mut buffer)
-}
-
-/// Adds the summary.
-fn push_summary(rt: &impl Print, buffer: &mut LineBuffer) -> io::Result<()> {
+    let plan = plan_of(alloc, ONE_CREATE)?;
+    let buffer = begun(alloc, plan)?;
     tell(rt, "call", buffer)?;
     let pushed = buffer.push_summary(Start::zero(), 0, Operation::Apply, &Counts::new());
     tell_pushed(rt, pushed, buffer)
@@ -112,28 +111,27 @@ fn push_summary(rt: &impl Print, buffer: &mut LineBuffer) -> io::Result<()> {
 
 /// Adds the line of the plan's first event to a buffer.
 pub fn pushed_event(rt: &impl Print, alloc: Global) -> io::Result<()> {
-    let plan = plan(alloc)?;
-    let registry = Registry::new(alloc);
-    let mut buffer = begun(alloc, &plan)?;
-    push_event_of(rt, &plan, &registry, &mut buffer)
+    let plan = plan_of(alloc, ONE_CREATE)?;
+    let buffer = begun(alloc, plan)?;
+    push_event_of(rt, plan, no_script(alloc)?, no_hooks(alloc)?, buffer)
 }
 
 /// Adds the line of the first event of that plan.
 fn push_event_of(
     rt: &impl Print,
     plan: &Plan,
+    script: &Script,
     registry: &Registry,
     buffer: &mut LineBuffer,
 ) -> io::Result<()> {
-    let script = Script::empty();
     if plan.len() == 0 {
-        return Err(io::Error::from(ErrorKind::InvalidData));
+        return no_event();
     }
-    let mut runner = Runner::start(plan, &script, registry, 0, 0, 0);
+    let mut runner = Runner::start(plan, script, registry, 0, 0, 0);
     let Some(event) = runner.next() else {
-        return Err(io::Error::from(ErrorKind::InvalidData));
+        return no_event();
     };
     tell(rt, "call", buffer)?;
-    let pushed = buffer.push_event(plan, &script, Start::zero(), event.at, &event);
+    let pushed = buffer.push_event(plan, script, Start::zero(), event.at, &event);
     tell_pushed(rt, pushed, buffer)
 }

@@ -11,6 +11,7 @@ mod lists;
 mod opening;
 mod readers;
 mod runs;
+mod telling;
 
 use std::alloc::Global;
 use std::io;

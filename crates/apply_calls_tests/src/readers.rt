@@ -1,6 +1,7 @@
 //! The readers of plans and scripts.
 
-use apply_plan::{read_plan, read_script};
+use crate::telling::{answer, begin, kept};
+use apply_plan::{Plan, read_plan, read_script};
 use std::alloc::Global;
 use std::io;
 use std::io::ErrorKind;
@@ -21,23 +22,29 @@ const QUOTED: &str =
 const REPEATED: &str =
     r#"{"format_version":"1.2","resource_changes":[{"address":"a_b.c","mode":"managed","type":"a_b","name":"c","change":{"actions":["create"]}},{"address":"a_b.c","mode":"managed","type":"a_b","name":"c","change":{"actions":["no-op"]}}]}"#;
 
+/// A plan that has to be accepted.
+pub fn plan_of(alloc: Global, text: &str) -> io::Result<&'static Plan> {
+    match read_plan(alloc, text.as_bytes()) {
+        Ok(plan) => Ok(kept(alloc, plan)?),
+        Err(_) => Err(io::Error::from(ErrorKind::OutOfMemory)),
+    }
+}
+
 /// Reads a plan.
 pub fn quoted_plan(rt: &impl Print, alloc: Global) -> io::Result<()> {
-    println!(rt; "call")?;
-    println!(rt; "{:?}", read_plan(alloc, QUOTED.as_bytes()))
+    begin(rt)?;
+    answer(rt, &read_plan(alloc, QUOTED.as_bytes()))
 }
 
 /// Reads a plan that repeats a change.
 pub fn repeated_change(rt: &impl Print, alloc: Global) -> io::Result<()> {
-    println!(rt; "call")?;
-    println!(rt; "{:?}", read_plan(alloc, REPEATED.as_bytes()))
+    begin(rt)?;
+    answer(rt, &read_plan(alloc, REPEATED.as_bytes()))
 }
 
 /// Reads a script.
 pub fn script(rt: &impl Print, alloc: Global) -> io::Result<()> {
-    let Ok(plan) = read_plan(alloc, ONE_CREATE.as_bytes()) else {
-        return Err(io::Error::from(ErrorKind::OutOfMemory));
-    };
-    println!(rt; "call")?;
-    println!(rt; "{:?}", read_script(alloc, ONE_SCRIPT.as_bytes(), &plan))
+    let plan = plan_of(alloc, ONE_CREATE)?;
+    begin(rt)?;
+    answer(rt, &read_script(alloc, ONE_SCRIPT.as_bytes(), plan))
 }

@@ -1,6 +1,7 @@
 //! Runs from bytes.
 
 use crate::readers::{ONE_CREATE, ONE_SCRIPT};
+use crate::telling::{answer, begin, kept, lines};
 use apply_hooks::Registry;
 use apply_run::{Gate, MemorySink, Options, Sink, apply_bytes};
 use apply_text::{Operation, Start};
@@ -58,25 +59,24 @@ fn apply<R: Print + Threads + Wait + Sync>(
         start: Start::zero(),
         operation: Operation::Apply,
     };
-    println!(rt; "call")?;
+    let registry = kept(alloc, Registry::new(alloc))?;
+    begin(rt)?;
     let (sink, result) = apply_bytes(
         rt,
         alloc,
         plan.as_bytes(),
         Some(script.as_bytes()),
-        &Registry::new(alloc),
+        registry,
         options,
         MemorySink::new(alloc, usize::MAX, None),
         &gate,
     );
-    println!(rt; "{result:?}")?;
-    println!(rt;
-        "failed {} asked {}",
-        sink.failures(),
-        gate.asked.load(Ordering::SeqCst)
-    )?;
-    match str::from_utf8(sink.bytes()) {
-        Ok(lines) => print!(rt; "{lines}"),
-        Err(_) => println!(rt; "no text"),
-    }
+    answer(rt, &result)?;
+    tell(rt, &sink, gate.asked.load(Ordering::SeqCst))
+}
+
+/// Tells how many writes failed, how often the gate was asked, and what was written.
+fn tell(rt: &impl Print, sink: &MemorySink, asked: u64) -> io::Result<()> {
+    println!(rt; "failed {} asked {asked}", sink.failures())?;
+    lines(rt, sink.bytes())
 }

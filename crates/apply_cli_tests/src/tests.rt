@@ -26,12 +26,25 @@ use apply_plan::{PlanError, ScriptError, StepKind, Text};
 use apply_run::{MAX_LANES, Options, Refusal, StdSink};
 use apply_text::{MomentError, Operation, Start};
 use std::alloc::Global;
+use std::fmt::Debug;
 use std::io;
 use std::io::{ErrorKind, Read, Write};
 use std::process::Abort;
 use std::rt::Files;
 use std::sync::Wait;
 use std::thread::Threads;
+
+/// Stands where there is no script.
+const NO_SCRIPT: &str = "no script";
+
+/// The bytes of a script, where there is one.
+fn script_bytes(script: &str) -> Option<&[u8]> {
+    if script == NO_SCRIPT {
+        None
+    } else {
+        Some(script.as_bytes())
+    }
+}
 
 /// What no words say.
 fn defaults(alloc: Global) -> Settings {
@@ -50,50 +63,87 @@ fn with_workers(alloc: Global, workers: u8) -> Settings {
     }
 }
 
+/// The value, for as long as the test runs: a proof grows with each place at which something has to be dropped.
+fn kept<'a, T: Drop + 'a>(rt: &impl Abort, alloc: Global, value: T) -> &'a T {
+    let kept = Box::new(alloc, value).expect(rt, "memory");
+    &*Box::leak(kept)
+}
+
+/// No hooks.
+fn no_hooks(rt: &impl Abort, alloc: Global) -> &'static Registry {
+    kept(rt, alloc, Registry::new(alloc))
+}
+
+/// A text, for as long as the test runs.
+fn kept_text(rt: &impl Abort, alloc: Global, text: String) -> &'static str {
+    kept(rt, alloc, text).as_str()
+}
+
+/// Bytes that have to be text, for as long as the test runs.
+fn kept_bytes(rt: &impl Abort, alloc: Global, bytes: Vec<u8>) -> &'static str {
+    text_of(rt, kept(rt, alloc, bytes).as_slice())
+}
+
+/// What `Debug` prints of it.
+fn shown(rt: &impl Abort, alloc: Global, value: &impl Debug) -> &'static str {
+    kept_text(
+        rt,
+        alloc,
+        format!(in alloc; "{value:?}").expect(rt, "memory"),
+    )
+}
+
 /// What the program has done: its exit status, what it printed, and what it said of faults.
-#[derive(Drop)]
+#[derive(Clone, Copy)]
 struct Outcome {
+    status: u8,
+    printed: &'static str,
+    said: &'static str,
+}
+
+/// What was done, where both outputs were memory. Both have to be text.
+fn outcome_of(
+    rt: &impl Abort,
+    alloc: Global,
     status: u8,
     printed: Vec<u8>,
     said: Vec<u8>,
-}
-
-/// Runs the program, with its output in memory.
-fn run_with<R: Read + Drop, T: Threads + Wait + Sync>(
-    rt: &T,
-    alloc: Global,
-    settings: &Settings,
-    registry: &Registry,
-    script: Option<&[u8]>,
-    input: R,
 ) -> Outcome {
-    let mut said = Vec::new(alloc);
-    let (output, status) = run_command(
-        rt,
-        alloc,
-        settings,
-        registry,
-        script,
-        input,
-        empty(alloc),
-        &mut said,
-    );
     Outcome {
         status,
-        printed: output.into_inner(),
-        said,
+        printed: kept_bytes(rt, alloc, printed),
+        said: kept_bytes(rt, alloc, said),
     }
 }
 
+/// Runs the program, with its output in memory.
+fn run_with<R: Read + Drop, T: Threads + Wait + Sync + Abort>(
+    rt: &T,
+    alloc: Global,
+    settings: &Settings,
+    script: Option<&[u8]>,
+    input: R,
+) -> Outcome {
+    let (registry, output) = (no_hooks(rt, alloc), empty(alloc));
+    let mut said = Vec::new(alloc);
+    let (output, status) = run_command(
+        rt, alloc, settings, registry, script, input, output, &mut said,
+    );
+    outcome_of(rt, alloc, status, output.into_inner(), said)
+}
+
 /// Runs the command with the settings that no options give, without hooks and a script.
-fn run<R: Read + Drop, T: Threads + Wait + Sync>(rt: &T, alloc: Global, input: R) -> Outcome {
-    let settings = defaults(alloc);
-    let registry = Registry::new(alloc);
-    run_with(rt, alloc, &settings, &registry, None, input)
+fn run<R: Read + Drop, T: Threads + Wait + Sync + Abort>(
+    rt: &T,
+    alloc: Global,
+    input: R,
+) -> Outcome {
+    let settings = kept(rt, alloc, defaults(alloc));
+    run_with(rt, alloc, settings, None, input)
 }
 
 /// Runs the program as no words say, into any output and any faults: the output and the status.
-fn run_into<W: Write + Drop, E: Write, T: Threads + Wait + Sync>(
+fn run_into<W: Write + Drop, E: Write, T: Threads + Wait + Sync + Abort>(
     rt: &T,
     alloc: Global,
     plan: &str,
@@ -102,83 +152,133 @@ fn run_into<W: Write + Drop, E: Write, T: Threads + Wait + Sync>(
 ) -> (StdSink<W>, u8)
     requires { output.failures < 2 ^ 64 - 1 }
 {
-    let settings = defaults(alloc);
-    let registry = Registry::new(alloc);
-    let input = plan.as_bytes();
-    run_command(rt, alloc, &settings, &registry, None, input, output, said)
+    let settings = kept(rt, alloc, defaults(alloc));
+    let (registry, input) = (no_hooks(rt, alloc), plan.as_bytes());
+    run_command(rt, alloc, settings, registry, None, input, output, said)
+}
+
+/// So many blanks.
+fn blanks_of(rt: &impl Abort, alloc: Global, count: usize) -> &'static [u8] {
+    let blanks = vec![in alloc; b' '; count].expect(rt, "memory");
+    kept(rt, alloc, blanks).as_slice()
 }
 
 /// Bytes that have to be text.
 fn text_of<'a>(rt: &impl Abort, bytes: &'a [u8]) -> &'a str {
-    match str::from_utf8(bytes) {
-        Ok(text) => text,
-        Err(_) => panic!(rt; "the bytes are no text"),
-    }
+    str::from_utf8(bytes).ok().expect(rt, "a text")
+}
+
+/// The first bytes of a text, so many.
+fn front_of<'a>(rt: &impl Abort, text: &'a str, room: usize) -> &'a str {
+    text_of(rt, text.as_bytes().get(..room).expect(rt, "so many bytes"))
+}
+
+/// Fails where it is not so.
+fn holds(rt: &impl Abort, case: &str, is_so: bool) {
+    assert!(rt; is_so, "{case}");
+}
+
+/// Fails where the number is another.
+fn number_is(rt: &impl Abort, case: &str, found: usize, wanted: usize) {
+    assert!(rt; found == wanted, "{case}: {found}, not {wanted}");
+}
+
+/// Fails where the text is another.
+fn text_is(rt: &impl Abort, case: &str, found: &str, wanted: &str) {
+    assert!(rt; found == wanted, "{case}: {found}");
 }
 
 /// Fails where the status is another.
-fn status_is(rt: &impl Abort, case: &str, outcome: &Outcome, status: u8) {
-    assert_eq!(rt; outcome.status, status, "{case}");
+fn status_is(rt: &impl Abort, case: &str, found: u8, wanted: u8) {
+    assert!(rt; found == wanted, "{case}: {found}, not {wanted}");
 }
 
 /// Fails where the status is another, or other texts were printed or said.
 fn outcome_is(
     rt: &impl Abort,
     case: &str,
-    outcome: &Outcome,
+    outcome: Outcome,
     status: u8,
     printed: &str,
     said: &str,
 ) {
-    status_is(rt, case, outcome, status);
-    is_text(rt, case, &outcome.printed, printed);
-    is_text(rt, case, &outcome.said, said);
+    status_is(rt, case, outcome.status, status);
+    text_is(rt, case, outcome.printed, printed);
+    text_is(rt, case, outcome.said, said);
 }
 
 /// Fails where the status is another, anything was printed, or another fault was said.
-fn outcome_fails(rt: &impl Abort, case: &str, outcome: &Outcome, status: u8, fault: &str) {
-    status_is(rt, case, outcome, status);
-    is_text(rt, case, &outcome.printed, "");
-    says(rt, case, &outcome.said, fault);
+fn outcome_fails(rt: &impl Abort, case: &str, outcome: Outcome, status: u8, fault: &str) {
+    status_is(rt, case, outcome.status, status);
+    text_is(rt, case, outcome.printed, "");
+    says(rt, case, outcome.said, fault);
 }
 
 /// Fails where the status is another, what was printed has another end, or any fault was said.
-fn outcome_ends(rt: &impl Abort, case: &str, outcome: &Outcome, status: u8, end: &str) {
-    status_is(rt, case, outcome, status);
-    let printed = text_of(rt, &outcome.printed);
-    assert!(rt; printed.ends_with(end), "{case}: {printed}");
-    is_text(rt, case, &outcome.said, "");
+fn outcome_ends(rt: &impl Abort, case: &str, outcome: Outcome, status: u8, end: &str) {
+    status_is(rt, case, outcome.status, status);
+    holds(rt, outcome.printed, outcome.printed.ends_with(end));
+    text_is(rt, case, outcome.said, "");
 }
 
-/// Fails where the bytes are not this text.
-fn is_text(rt: &impl Abort, case: &str, bytes: &[u8], wanted: &str) {
-    assert_eq!(rt; text_of(rt, bytes), wanted, "{case}");
-}
-
-/// Fails where the bytes are not the line of this fault.
-fn says(rt: &impl Abort, case: &str, said: &[u8], fault: &str) {
-    let found = text_of(rt, said)
-        .strip_prefix("applystream: ")
-        .and_then(|line| line.strip_suffix("\n"));
-    assert_eq!(rt; found, Some(fault), "{case}");
+/// Fails where the text is not the line of this fault.
+fn says(rt: &impl Abort, case: &str, said: &str, fault: &str) {
+    let line = said.strip_prefix("applystream: ").expect(rt, case);
+    let found = line.strip_suffix("\n").expect(rt, case);
+    text_is(rt, case, found, fault);
 }
 
 /// What stands before the first mark, and what behind it.
 fn parted<'a>(rt: &impl Abort, text: &'a str, mark: &str) -> (&'a str, &'a str) {
-    match text.split_once(mark) {
-        Some(parts) => parts,
-        None => panic!(rt; "no {mark:?} in {text}"),
-    }
+    text.split_once(mark).expect(rt, text)
+}
+
+/// Adds a word.
+fn push_word(rt: &impl Abort, words: &mut Vec<String>, word: String) {
+    words.push(word).expect(rt, "memory");
 }
 
 /// The words of a text.
-fn words_of(rt: &impl Abort, alloc: Global, text: &str) -> Vec<String> {
+fn words_of(rt: &impl Abort, alloc: Global, text: &str) -> &'static [String] {
     let mut words = Vec::new(alloc);
     for word in text.split_whitespace() {
         let word = String::from_str(alloc, word).expect(rt, "memory");
-        words.push(word).expect(rt, "memory");
+        push_word(rt, &mut words, word);
     }
-    words
+    kept(rt, alloc, words).as_slice()
+}
+
+/// What the words of a text are answered.
+fn read_of(rt: &impl Abort, alloc: Global, text: &str) -> &'static Result<Invocation, Usage> {
+    let words = words_of(rt, alloc, text);
+    kept(rt, alloc, read_invocation(alloc, words))
+}
+
+/// The name of a usage.
+fn name_of(usage: &Usage) -> &'static str {
+    match usage {
+        Usage::Help(_) => "Help",
+        Usage::Version => "Version",
+        Usage::Words(_) => "Words",
+        Usage::Beside => "Beside",
+        Usage::Moment(_) => "Moment",
+        Usage::Hooks => "Hooks",
+        Usage::Memory => "Memory",
+    }
+}
+
+/// The help.
+fn help_of(rt: &impl Abort, alloc: Global) -> &'static str {
+    match read_of(rt, alloc, "--help") {
+        Err(Usage::Help(help)) => help.as_str(),
+        _ => rt.panic("no help"),
+    }
+}
+
+/// The line of the version.
+fn version_of(rt: &impl Abort, alloc: Global) -> &'static str {
+    let line = format!(in alloc; "applystream {VERSION}\n");
+    kept_text(rt, alloc, line.expect(rt, "memory"))
 }
 
 /// A sink over memory.
@@ -238,6 +338,17 @@ impl Write for FailingWriter {
             return Err(io::Error::from(self.error));
         }
         Ok(())
+    }
+}
+
+/// A writer that takes all.
+fn roomy(alloc: Global) -> FailingWriter {
+    FailingWriter {
+        taken: Vec::new(alloc),
+        per_write: usize::MAX,
+        room: usize::MAX,
+        fails_to_flush: false,
+        error: ErrorKind::StorageFull,
     }
 }
 

@@ -139,8 +139,9 @@ fn halting(
 }
 
 /// A count that a closure may share.
-fn count(rt: &impl Abort, alloc: Global) -> Arc<AtomicU64> {
-    Arc::new(alloc, AtomicU64::new(0)).expect(rt, "memory")
+fn count(rt: &impl Abort, alloc: Global) -> &'static Arc<AtomicU64> {
+    let count = Arc::new(alloc, AtomicU64::new(0)).expect(rt, "memory");
+    &*kept(rt, alloc, count)
 }
 
 /// A second owner of the count.
@@ -148,12 +149,15 @@ fn shared(rt: &impl Abort, count: &Arc<AtomicU64>) -> Arc<AtomicU64> {
     Arc::try_clone(count).expect(rt, "memory")
 }
 
+/// Fails where the error has another text.
+fn says(rt: &impl Abort, alloc: Global, error: HookError, wanted: &str) {
+    let text = error.to_string(alloc).expect(rt, "memory");
+    text_is(rt, wanted, kept(rt, alloc, text).as_str(), wanted);
+}
+
 /// Errors, and their texts.
 #[test]
 fn refusals_have_their_texts(rt: HostRuntime) {
-    let full = HookError::Full.to_string(rt.alloc()).expect(&rt, "memory");
-    text_is(&rt, "full", full.as_str(), "more than 32 hooks");
-    let memory = HookError::Memory.to_string(rt.alloc());
-    let memory = memory.expect(&rt, "memory");
-    text_is(&rt, "memory", memory.as_str(), "out of memory");
+    says(&rt, rt.alloc(), HookError::Full, "more than 32 hooks");
+    says(&rt, rt.alloc(), HookError::Memory, "out of memory");
 }

@@ -30,7 +30,17 @@ fn expect_item<R: Wait + Abort>(rt: &R, rx: &mut Rx, wanted: Item)
     ensures { rx.new.bus ≡ rx.old.bus }
 {
     assert!(rt; rx.open_left() > 0);
-    assert_eq!(rt; rx.take(rt), Ok(wanted));
+    is_taken(rt, rx.take(rt), wanted);
+}
+
+/// Fails where another item was taken.
+fn is_taken(rt: &impl Abort, found: Result<Item, Lost>, wanted: Item) {
+    assert!(rt; found == Ok(wanted));
+}
+
+/// Fails where the event was not delivered.
+fn is_sent(rt: &impl Abort, sent: Result<(), Undelivered>) {
+    holds(rt, "an event that was delivered", sent.is_ok());
 }
 
 /// Settles a bus with one worker.
@@ -56,16 +66,16 @@ fn left_is(rt: &impl Abort, after: &str, rx: &Rx, wanted: u8)
     ensures { wanted + closes rx.now.taken ≡ rx.now.workers }
 {
     let left = rx.open_left();
-    assert!(rt; left == wanted, "after {after}: {left} left");
+    assert!(rt; left == wanted, "after {after}");
 }
 
 #[test]
 fn bus_by_hand(rt: HostRuntime) {
     let alloc = rt.alloc();
     let (mut tx, mut rx) = bus_of_one(&rt, alloc, 8);
-    assert_eq!(rt; tx.worker(), 0);
-    assert_eq!(rt; tx.send(&rt, event(0, 0)), Ok(()));
-    assert_eq!(rt; tx.send(&rt, event(0, 1)), Ok(()));
+    number_is(&rt, "the worker", u32::from(tx.worker()), 0);
+    is_sent(&rt, tx.send(&rt, event(0, 0)));
+    is_sent(&rt, tx.send(&rt, event(0, 1)));
     let closed = tx.close(&rt).ok().expect(&rt, "a closed sender");
     left_is(&rt, "nothing", &rx, 1);
     expect_item(&rt, &mut rx, Item::Event(event(0, 0)));
@@ -79,21 +89,25 @@ fn bus_by_hand(rt: HostRuntime) {
 
 /// Fails where the event was delivered, or another one came back.
 fn is_refused(rt: &impl Abort, sent: Result<(), Undelivered>, event: Event) {
-    assert!(rt; sent == Err(Undelivered(event)), "{sent:?}");
+    holds(
+        rt,
+        "an event that came back",
+        sent == Err(Undelivered(event)),
+    );
 }
 
 #[test]
 fn receiving_ends_early(rt: HostRuntime) {
     let alloc = rt.alloc();
     let (mut first, second, mut rx) = bus_of_two(&rt, alloc, 4);
-    assert_eq!(rt; first.send(&rt, event(0, 0)), Ok(()));
-    assert_eq!(rt; first.send(&rt, event(0, 1)), Ok(()));
+    is_sent(&rt, first.send(&rt, event(0, 0)));
+    is_sent(&rt, first.send(&rt, event(0, 1)));
     expect_item(&rt, &mut rx, Item::Event(event(0, 0)));
     let taken = rx.give_up();
-    assert_eq!(rt; taken.open_left(), 2);
+    number_is(&rt, "left", u32::from(taken.open_left()), 2);
     is_refused(&rt, first.send(&rt, event(0, 2)), event(0, 2));
     let second = second.close(&rt).err().expect(&rt, "the sender");
-    assert_eq!(rt; second.worker(), 1);
+    number_is(&rt, "the second worker", u32::from(second.worker()), 1);
     let salvaged = salvage_two(alloc, taken, first, second);
     salvaged.ok().expect(&rt, "memory");
 }
@@ -101,13 +115,13 @@ fn receiving_ends_early(rt: HostRuntime) {
 /// Fails where something could be taken.
 fn nothing_is_taken<R: Wait + Abort>(rt: &R, rx: &mut Rx) {
     assert!(rt; rx.open_left() == 1);
-    assert!(rt; rx.take(rt) == Err(Lost));
+    holds(rt, "nothing to take", rx.take(rt) == Err(Lost));
 }
 
 #[test]
 fn nothing_comes_from_senders_that_are_gone(rt: HostRuntime) {
     let (mut tx, mut rx) = bus_of_one(&rt, rt.alloc(), 1);
-    assert_eq!(rt; tx.send(&rt, event(0, 0)), Ok(()));
+    is_sent(&rt, tx.send(&rt, event(0, 0)));
     drop(tx);
     expect_item(&rt, &mut rx, Item::Event(event(0, 0)));
     nothing_is_taken(&rt, &mut rx);
@@ -134,14 +148,12 @@ fn note_item(rt: &impl Abort, next: &mut [u32], item: Item, events: u32) {
     match item {
         Item::Event(event) => {
             let next = place_of(rt, next, event.worker);
-            assert_eq!(rt; event.change, *next, "of worker {}", event.worker);
+            number_is(rt, "an event", event.change, *next);
             *next = event.change.wrapping_add(1);
         }
-        Item::Close(worker) => assert_eq!(rt;
-            *place_of(rt, next, worker),
-            events,
-            "of worker {worker}"
-        ),
+        Item::Close(worker) => {
+            number_is(rt, "a close", *place_of(rt, next, worker), events);
+        }
     }
 }
 
@@ -171,7 +183,8 @@ fn takes_from_threads<R: Threads + Wait + Abort + Sync>(
     let (senders, mut rx) = open(alloc, workers, capacity).ok().expect(rt, "a bus");
     thread::scope(thread::scope_env(), rt, |scope| {
         for tx in senders {
-            assert!(rt; scope.spawn(move || send_all(rt, tx, events)).is_ok());
+            let started = scope.spawn(move || send_all(rt, tx, events)).is_ok();
+            holds(rt, "a thread", started);
         }
         take_all(rt, &mut rx, events)
     })
@@ -180,7 +193,7 @@ fn takes_from_threads<R: Threads + Wait + Abort + Sync>(
 #[test]
 fn senders_in_threads(rt: HostRuntime) {
     let takes = takes_from_threads(&rt, rt.alloc(), 2, 2, 3);
-    assert!(rt; takes == 8, "from 2 workers: {takes}");
+    number_is(&rt, "from 2 workers", takes, 8);
     let takes = takes_from_threads(&rt, rt.alloc(), 8, 1, 10);
-    assert!(rt; takes == 88, "from 8 workers: {takes}");
+    number_is(&rt, "from 8 workers", takes, 88);
 }

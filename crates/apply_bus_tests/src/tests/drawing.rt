@@ -26,20 +26,30 @@ fn finish_two(rt: &impl Abort, alloc: Global, claims: Claims, first: Drawer, sec
     let _shared = finish(claims, drawers);
 }
 
+/// Fails where another number was drawn.
+fn is_drawn(rt: &impl Abort, found: Option<u32>, wanted: u32) {
+    holds(rt, "a number", found == Some(wanted));
+}
+
+/// Fails where a number was drawn.
+fn is_none(rt: &impl Abort, found: Option<u32>) {
+    holds(rt, "no number", found.is_none());
+}
+
 #[test]
 fn claims_by_hand(rt: HostRuntime) {
     let alloc = rt.alloc();
     let (claims, mut first, mut second) = claims_of_two(&rt, alloc, 3);
-    assert_eq!(rt; first.worker(), 0);
-    assert_eq!(rt; second.worker(), 1);
-    assert_eq!(rt; claims.draw(&mut first), Some(0));
-    assert_eq!(rt; claims.draw(&mut second), Some(1));
-    assert_eq!(rt; claims.draw(&mut first), Some(2));
-    assert!(rt; !second.met_none());
-    assert_eq!(rt; claims.draw(&mut second), None);
-    assert!(rt; second.met_none());
-    assert_eq!(rt; claims.draw(&mut first), None);
-    assert_eq!(rt; claims.draw(&mut first), None);
+    number_is(&rt, "the first worker", u32::from(first.worker()), 0);
+    number_is(&rt, "the second worker", u32::from(second.worker()), 1);
+    is_drawn(&rt, claims.draw(&mut first), 0);
+    is_drawn(&rt, claims.draw(&mut second), 1);
+    is_drawn(&rt, claims.draw(&mut first), 2);
+    holds(&rt, "not met", !second.met_none());
+    is_none(&rt, claims.draw(&mut second));
+    holds(&rt, "met", second.met_none());
+    is_none(&rt, claims.draw(&mut first));
+    is_none(&rt, claims.draw(&mut first));
     finish_two(&rt, alloc, claims, first, second);
 }
 
@@ -47,8 +57,8 @@ fn claims_by_hand(rt: HostRuntime) {
 fn one_of_two_draws(rt: HostRuntime) {
     let alloc = rt.alloc();
     let (claims, mut first, second) = claims_of_two(&rt, alloc, 3);
-    assert_eq!(rt; claims.draw(&mut first), Some(0));
-    assert_eq!(rt; claims.draw(&mut first), Some(1));
+    is_drawn(&rt, claims.draw(&mut first), 0);
+    is_drawn(&rt, claims.draw(&mut first), 1);
     finish_two(&rt, alloc, claims, first, second);
 }
 
@@ -109,7 +119,7 @@ fn count(rt: &impl Abort, number: u32, times: &mut [u8]) {
 fn note(rt: &impl Abort, drawn: &[u32], times: &mut [u8]) {
     let mut least = 0u32;
     for number in drawn {
-        assert!(rt; *number >= least, "{number} after others");
+        holds(rt, "a number that rises", *number >= least);
         least = number.wrapping_add(1);
         count(rt, *number, times);
     }
@@ -241,7 +251,7 @@ fn drawers_in_threads(rt: HostRuntime) {
 #[test]
 fn nothing_to_draw(rt: HostRuntime) {
     let (claims, mut first, _second) = claims_of_two(&rt, rt.alloc(), 0);
-    assert_eq!(rt; claims.draw(&mut first), None);
+    is_none(&rt, claims.draw(&mut first));
 }
 
 /// Claims with one drawer.
@@ -256,7 +266,7 @@ fn claims_of_one(rt: &impl Abort, alloc: Global, n: u32) -> (Claims, Drawer)
 #[test]
 fn one_drawer_of_no_numbers_draws_none_at_once(rt: HostRuntime) {
     let (claims, mut only) = claims_of_one(&rt, rt.alloc(), 0);
-    assert!(rt; !only.met_none());
-    assert_eq!(rt; claims.draw(&mut only), None);
-    assert!(rt; only.met_none());
+    holds(&rt, "not met", !only.met_none());
+    is_none(&rt, claims.draw(&mut only));
+    holds(&rt, "met", only.met_none());
 }

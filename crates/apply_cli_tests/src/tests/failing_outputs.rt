@@ -25,20 +25,37 @@ const FAILED_DESTROY_STREAM: &str =
 "#;
 
 /// Runs both by so many workers into an output that fails, with a place for faults.
-fn run_to_failure<E: Write, T: Threads + Wait + Sync>(
+fn run_to_failure<E: Write, T: Threads + Wait + Sync + Abort>(
     rt: &T,
     alloc: Global,
     workers: u8,
     output: FailingWriter,
     said: &mut E,
 ) -> (FailingWriter, u8) {
-    let settings = with_workers(alloc, workers);
-    let registry = Registry::new(alloc);
+    let settings = kept(rt, alloc, with_workers(alloc, workers));
+    let (registry, sink) = (no_hooks(rt, alloc), StdSink::new(output));
     let script = Some(FAILED_DESTROY_SCRIPT.as_bytes());
     let plan = FAILED_DESTROY.as_bytes();
-    let sink = StdSink::new(output);
-    let (sink, status) = run_command(rt, alloc, &settings, &registry, script, plan, sink, said);
+    let (sink, status) = run_command(rt, alloc, settings, registry, script, plan, sink, said);
     (sink.into_inner(), status)
+}
+
+/// Fails where so many workers write something else than the first bytes of the stream, so many, or the status or what is
+/// said is another.
+fn fails_so<T: Threads + Wait + Sync + Abort>(
+    rt: &T,
+    alloc: Global,
+    workers: u8,
+    output: FailingWriter,
+    room: usize,
+    status: u8,
+    text: &str,
+) {
+    let mut said = Vec::new(alloc);
+    let (output, found) = run_to_failure(rt, alloc, workers, output, &mut said);
+    let outcome = outcome_of(rt, alloc, found, output.taken, said);
+    let front = front_of(rt, FAILED_DESTROY_STREAM, room);
+    outcome_is(rt, front, outcome, status, front, text);
 }
 
 /// Fails where an output with room for so many bytes gets others, or the status or what is said is another.
@@ -49,110 +66,69 @@ fn takes_so_many<T: Threads + Wait + Sync + Abort>(
     per_write: usize,
     room: usize,
 ) {
-    let mut said = Vec::new(alloc);
     let output = with_room(alloc, per_write, room);
-    let (output, status) = run_to_failure(rt, alloc, workers, output, &mut said);
-    is_cut_off(rt, output.taken.as_slice(), room);
     if room < FAILED_DESTROY_STREAM.len() {
-        fails_so(rt, room, status, 3, &said, UNWRITTEN);
+        fails_so(rt, alloc, workers, output, room, 3, UNWRITTEN);
     } else {
-        fails_so(rt, room, status, 1, &said, "");
+        fails_so(rt, alloc, workers, output, room, 1, "");
     }
 }
 
-/// Fails where the bytes are not the first ones of the stream, so many.
-fn is_cut_off(rt: &impl Abort, found: &[u8], room: usize) {
-    let whole = FAILED_DESTROY_STREAM.as_bytes();
-    assert!(rt; Some(found) == whole.get(..room), "{room} bytes");
-}
-
-/// Fails where the status or what is said is another.
-fn fails_so(rt: &impl Abort, room: usize, found: u8, wanted: u8, said: &[u8], text: &str) {
-    assert_eq!(rt; found, wanted, "{room} bytes");
-    assert_eq!(rt; text_of(rt, said), text, "{room} bytes");
-}
+/// The most bytes that an output takes with each write: single ones, few, and whole lines.
+const WRITES: [usize; 3] = [1, 7, 4096];
 
 /// Whatever byte is the first that the output does not take: it has all before it and nothing more.
-fn fails_at_each_byte<T: Threads + Wait + Sync + Abort>(
-    rt: &T,
-    alloc: Global,
-    workers: u8,
-    per_write: usize,
-) {
-    for room in 0..=FAILED_DESTROY_STREAM.len() {
-        takes_so_many(rt, alloc, workers, per_write, room);
+fn fails_at_each_byte<T: Threads + Wait + Sync + Abort>(rt: &T, alloc: Global, workers: u8) {
+    for per_write in WRITES {
+        for room in 0..=FAILED_DESTROY_STREAM.len() {
+            takes_so_many(rt, alloc, workers, per_write, room);
+        }
     }
 }
 
 #[test]
-fn an_output_of_single_bytes_fails_under_one_worker(rt: HostRuntime) {
-    fails_at_each_byte(&rt, rt.alloc(), 1, 1);
+fn an_output_fails_under_one_worker(rt: HostRuntime) {
+    fails_at_each_byte(&rt, rt.alloc(), 1);
 }
 
 #[test]
-fn an_output_of_short_writes_fails_under_one_worker(rt: HostRuntime) {
-    fails_at_each_byte(&rt, rt.alloc(), 1, 7);
+fn an_output_fails_under_two_workers(rt: HostRuntime) {
+    fails_at_each_byte(&rt, rt.alloc(), 2);
 }
 
 #[test]
-fn an_output_of_whole_lines_fails_under_one_worker(rt: HostRuntime) {
-    fails_at_each_byte(&rt, rt.alloc(), 1, 4096);
-}
-
-#[test]
-fn an_output_of_single_bytes_fails_under_two_workers(rt: HostRuntime) {
-    fails_at_each_byte(&rt, rt.alloc(), 2, 1);
-}
-
-#[test]
-fn an_output_of_short_writes_fails_under_two_workers(rt: HostRuntime) {
-    fails_at_each_byte(&rt, rt.alloc(), 2, 7);
-}
-
-#[test]
-fn an_output_of_whole_lines_fails_under_two_workers(rt: HostRuntime) {
-    fails_at_each_byte(&rt, rt.alloc(), 2, 4096);
-}
-
-#[test]
-fn an_output_of_single_bytes_fails_under_eight_workers(rt: HostRuntime) {
-    fails_at_each_byte(&rt, rt.alloc(), 8, 1);
-}
-
-#[test]
-fn an_output_of_short_writes_fails_under_eight_workers(rt: HostRuntime) {
-    fails_at_each_byte(&rt, rt.alloc(), 8, 7);
-}
-
-#[test]
-fn an_output_of_whole_lines_fails_under_eight_workers(rt: HostRuntime) {
-    fails_at_each_byte(&rt, rt.alloc(), 8, 4096);
+fn an_output_fails_under_eight_workers(rt: HostRuntime) {
+    fails_at_each_byte(&rt, rt.alloc(), 8);
 }
 
 /// Fails where so many workers do not end so over an output that takes all and fails to flush.
 fn fails_to_flush<T: Threads + Wait + Sync + Abort>(rt: &T, alloc: Global, workers: u8) {
-    let mut said = Vec::new(alloc);
     let room = FAILED_DESTROY_STREAM.len();
-    let (output, status) = run_to_failure(rt, alloc, workers, unflushed(alloc, room), &mut said);
-    is_cut_off(rt, output.taken.as_slice(), room);
-    fails_so(rt, room, status, 3, &said, UNWRITTEN);
+    let output = unflushed(alloc, room);
+    fails_so(rt, alloc, workers, output, room, 3, UNWRITTEN);
 }
 
 #[test]
 fn a_flush_that_fails_is_said_so(rt: HostRuntime) {
-    fails_to_flush(&rt, rt.alloc(), 1);
-    fails_to_flush(&rt, rt.alloc(), 2);
-    fails_to_flush(&rt, rt.alloc(), 8);
+    for workers in [1, 2, 8] {
+        fails_to_flush(&rt, rt.alloc(), workers);
+    }
 }
 
 /// Where the place for faults takes nothing either, the status is the same.
 #[test]
 fn an_output_and_the_place_for_faults_fail(rt: HostRuntime) {
     let alloc = rt.alloc();
-    let output = with_room(alloc, 7, 100);
-    let (output, status) = run_to_failure(&rt, alloc, 1, output, &mut full(alloc));
-    is_cut_off(&rt, output.taken.as_slice(), 100);
-    assert_eq!(rt; status, 3);
+    let (output, mut said) = (with_room(alloc, 7, 100), full(alloc));
+    let (output, status) = run_to_failure(&rt, alloc, 1, output, &mut said);
+    let found = kept_bytes(&rt, alloc, output.taken);
+    text_is(
+        &rt,
+        "a front",
+        found,
+        front_of(&rt, FAILED_DESTROY_STREAM, 100),
+    );
+    status_is(&rt, "both fail", status, 3);
 }
 
 /// Keeps what it is given, and counts the writes.
@@ -174,26 +150,26 @@ impl Write for Counting {
     }
 }
 
-/// What is said of a fault, and by how many writes.
-fn said_of<D: Display + Drop>(alloc: Global, fault: D) -> Counting {
+/// Fails where the fault has another text. By how many writes it went out.
+fn goes_out<D: Display + Drop>(rt: &impl Abort, alloc: Global, fault: D, wanted: &str) -> u64 {
     let mut said = Counting {
         taken: Vec::new(alloc),
         writes: 0,
     };
     report(&mut said, fault);
-    said
+    says(rt, wanted, kept_bytes(rt, alloc, said.taken), wanted);
+    said.writes
 }
 
-/// Fails where the fault has another text, or goes out in another number of writes.
+/// Fails where the fault has another text, or goes out in another number of writes than one.
 pub(super) fn goes_out_at_once<D: Display + Drop>(
     rt: &impl Abort,
     alloc: Global,
     fault: D,
     wanted: &str,
 ) {
-    let said = said_of(alloc, fault);
-    says(rt, wanted, &said.taken, wanted);
-    assert_eq!(rt; said.writes, 1, "{wanted}");
+    let writes = goes_out(rt, alloc, fault, wanted);
+    holds(rt, wanted, writes == 1);
 }
 
 #[test]
@@ -209,13 +185,17 @@ fn a_fault_goes_out_in_one_write(rt: HostRuntime) {
     goes_out_at_once(&rt, alloc, "", "");
 }
 
+/// Fails where a text of so many letters is not said whole.
+fn goes_out_whole(rt: &impl Abort, alloc: Global, length: usize) {
+    let text = "a".repeat(alloc, length).expect(rt, "memory");
+    let text = kept_text(rt, alloc, text);
+    let _writes = goes_out(rt, alloc, text, text);
+}
+
 /// A text that is longer than any fault's goes out whole all the same.
 #[test]
 fn a_long_fault_goes_out_whole(rt: HostRuntime) {
-    let alloc = rt.alloc();
     for length in 240..260 {
-        let text = "a".repeat(alloc, length).expect(&rt, "memory");
-        let said = said_of(alloc, text.as_str());
-        says(&rt, "a long text", &said.taken, text.as_str());
+        goes_out_whole(&rt, rt.alloc(), length);
     }
 }

@@ -18,35 +18,39 @@ pub(super) const REFUSED_PLANS: &str = r#" => the plan is not JSON
 {"format_version":"1.0","resource_changes":[{"address":"a.b","mode":"managed","type":"a","name":"b","change":{"actions":["create"]}},{"address":"a.b","mode":"managed","type":"a","name":"b","change":{"actions":["no-op"]}}]} => change 1 repeats an earlier change"#;
 
 /// Fails where the plan is not refused with this fault.
-fn is_refused<T: Threads + Wait + Sync + Abort>(rt: &T, alloc: Global, plan: &str, fault: &str) {
-    let outcome = run(rt, alloc, plan.as_bytes());
-    outcome_fails(rt, plan, &outcome, 2, fault);
+fn is_refused<T: Threads + Wait + Sync + Abort>(rt: &T, alloc: Global, plan: &[u8], fault: &str) {
+    let outcome = run(rt, alloc, plan);
+    outcome_fails(rt, fault, outcome, 2, fault);
 }
 
 #[test]
 fn refused_plans_print_nothing(rt: HostRuntime) {
     for row in REFUSED_PLANS.lines() {
         let (plan, fault) = parted(&rt, row, " => ");
-        is_refused(&rt, rt.alloc(), plan, fault);
+        is_refused(&rt, rt.alloc(), plan.as_bytes(), fault);
     }
+}
+
+/// What is read of an input, which has to be read.
+fn read_of_input<R: Read + Drop>(rt: &impl Abort, alloc: Global, input: R) -> &'static [u8] {
+    let bytes = read_all(alloc, input).ok().expect(rt, "all bytes");
+    kept(rt, alloc, bytes).as_slice()
 }
 
 #[test]
 fn a_plan_that_is_too_large_is_refused(rt: HostRuntime) {
     let alloc = rt.alloc();
-    let blanks = vec![in alloc; b' '; 67_108_866].expect(&rt, "memory");
-    let outcome = run(&rt, alloc, blanks.as_slice());
+    let blanks = blanks_of(&rt, alloc, 67_108_866);
     let fault = "the plan is larger than 67108864 bytes";
-    outcome_fails(&rt, "blanks", &outcome, 2, fault);
-    let front = read_all(alloc, blanks.as_slice()).expect(&rt, "what may be read");
-    assert_eq!(rt; front.len(), 67_108_865);
+    is_refused(&rt, alloc, blanks, fault);
+    let front = read_of_input(&rt, alloc, blanks);
+    number_is(&rt, "what may be read", front.len(), 67_108_865);
 }
 
 #[test]
 fn a_cut_plan_is_refused(rt: HostRuntime) {
-    let bytes = ONE_CREATE.as_bytes();
-    for end in 0..bytes.len() {
-        let plan = text_of(&rt, &bytes[..end]);
+    for end in 0..ONE_CREATE.len() {
+        let plan = front_of(&rt, ONE_CREATE, end).as_bytes();
         is_refused(&rt, rt.alloc(), plan, "the plan is not JSON");
     }
 }
@@ -56,17 +60,17 @@ const UPDATE: &str =
     r#"{"address":"a.b[NUMBER]","mode":"managed","type":"a","name":"b","index":NUMBER,"change":{"actions":["update"]}}"#;
 
 /// A plan of so many updates.
-fn updates(rt: &impl Abort, alloc: Global, count: u32) -> String {
+fn updates(rt: &impl Abort, alloc: Global, count: u32) -> &'static str {
     let start = r#"{"format_version":"1.0","resource_changes":["#;
     let mut plan = String::from_str(alloc, start).expect(rt, "memory");
     for number in 0..count {
         if number > 0 {
             push(rt, &mut plan, ",");
         }
-        push(rt, &mut plan, update(rt, alloc, number).as_str());
+        push(rt, &mut plan, update(rt, alloc, number));
     }
     push(rt, &mut plan, "]}");
-    plan
+    kept_text(rt, alloc, plan)
 }
 
 /// Appends a text.
@@ -75,11 +79,10 @@ fn push(rt: &impl Abort, plan: &mut String, text: &str) {
 }
 
 /// The update of that number, as a text.
-fn update(rt: &impl Abort, alloc: Global, number: u32) -> String {
-    let digits = number.to_string(alloc).expect(rt, "memory");
-    UPDATE
-        .replace(alloc, "NUMBER", digits.as_str())
-        .expect(rt, "memory")
+fn update(rt: &impl Abort, alloc: Global, number: u32) -> &'static str {
+    let digits = shown(rt, alloc, &number);
+    let update = UPDATE.replace(alloc, "NUMBER", digits);
+    kept_text(rt, alloc, update.expect(rt, "memory"))
 }
 
 /// The last line where ten thousand updates were applied.
@@ -88,25 +91,24 @@ const TEN_THOUSAND: &str =
 "#;
 
 /// Fails where ten thousand updates were not applied.
-fn ten_thousand_are_applied(rt: &impl Abort, outcome: &Outcome) {
+fn ten_thousand_are_applied(rt: &impl Abort, outcome: Outcome) {
     outcome_ends(rt, "10,000 updates", outcome, 0, TEN_THOUSAND);
     let lines = outcome
         .printed
-        .iter()
-        .filter(|byte| **byte == b'\n')
+        .bytes()
+        .filter(|byte| *byte == b'\n')
         .count();
-    assert_eq!(rt; lines, 20_002);
+    number_is(rt, "lines", lines, 20_002);
 }
 
 #[test]
 fn ten_thousand_updates_are_the_most(rt: HostRuntime) {
     let alloc = rt.alloc();
     let plan = updates(&rt, alloc, 10_000);
-    ten_thousand_are_applied(&rt, &run(&rt, alloc, plan.as_bytes()));
-    let plan = updates(&rt, alloc, 10_001);
-    let outcome = run(&rt, alloc, plan.as_bytes());
+    ten_thousand_are_applied(&rt, run(&rt, alloc, plan.as_bytes()));
+    let plan = updates(&rt, alloc, 10_001).as_bytes();
     let fault = "the plan has more than 10000 changes";
-    outcome_fails(&rt, "10,001 updates", &outcome, 2, fault);
+    is_refused(&rt, alloc, plan, fault);
 }
 
 /// Fails where a reader that fails so, after so many bytes, is read to an end, or another fault is told of it.
@@ -116,18 +118,15 @@ fn is_unread(rt: &impl Abort, alloc: Global, before: usize, fault: ErrorKind) {
         before,
         fault,
     };
-    assert_eq!(rt;
-        read_all(alloc, failing).err(),
-        Some(InputFault::Read),
-        "{fault:?} after {before}"
-    );
+    let fault = read_all(alloc, failing).err();
+    holds(rt, "a fault", fault == Some(InputFault::Read));
 }
 
 #[test]
 fn all_of_the_input_is_read(rt: HostRuntime) {
     let alloc = rt.alloc();
-    let bytes = read_all(alloc, b"ab".as_slice()).expect(&rt, "all bytes");
-    assert!(rt; bytes.as_slice() == b"ab".as_slice());
+    let bytes = read_of_input(&rt, alloc, b"ab".as_slice());
+    text_is(&rt, "all bytes", text_of(&rt, bytes), "ab");
     for before in 0..3 {
         is_unread(&rt, alloc, before, ErrorKind::Interrupted);
         is_unread(&rt, alloc, before, ErrorKind::OutOfMemory);
@@ -144,7 +143,7 @@ fn a_reader_that_fails_is_said_so(rt: HostRuntime) {
     };
     let outcome = run(&rt, rt.alloc(), input);
     let fault = "the plan could not be read";
-    outcome_fails(&rt, "a reader that fails", &outcome, 2, fault);
+    outcome_fails(&rt, "a reader that fails", outcome, 2, fault);
 }
 
 /// What is said of an output that fails.
@@ -159,16 +158,16 @@ fn is_written<T: Threads + Wait + Sync + Abort>(
     written: &str,
     said: &str,
 ) {
-    let room = output.room;
-    let case = format!(in alloc; "room for {room}").expect(rt, "memory");
     let mut found = Vec::new(alloc);
-    let (output, ended) = run_into(rt, alloc, ONE_CREATE, StdSink::new(output), &mut found);
-    let outcome = Outcome {
-        status: ended,
-        printed: output.into_inner().taken,
-        said: found,
-    };
-    outcome_is(rt, case.as_str(), &outcome, status, written, said);
+    let output = StdSink::new(output);
+    let (output, ended) = run_into(rt, alloc, ONE_CREATE, output, &mut found);
+    let outcome = outcome_of(rt, alloc, ended, output.into_inner().taken, found);
+    outcome_is(rt, written, outcome, status, written, said);
+}
+
+/// What is printed of one create.
+fn printed_of_create<T: Threads + Wait + Sync + Abort>(rt: &T, alloc: Global) -> &'static str {
+    run(rt, alloc, ONE_CREATE.as_bytes()).printed
 }
 
 /// An output that takes so many bytes a call, and has room for so many in all.
@@ -182,20 +181,28 @@ pub(super) fn with_room(alloc: Global, per_write: usize, room: usize) -> Failing
     }
 }
 
+/// Fails where an output with so little room gets no front of the stream, whatever it takes a call.
+fn front_is_written<T: Threads + Wait + Sync + Abort>(
+    rt: &T,
+    alloc: Global,
+    printed: &str,
+    room: usize,
+) {
+    let front = front_of(rt, printed, room);
+    for per_write in [1, 7, 4096] {
+        let output = with_room(alloc, per_write, room);
+        is_written(rt, alloc, output, 3, front, UNWRITTEN);
+    }
+}
+
 #[test]
 fn an_output_that_fails_is_said_so(rt: HostRuntime) {
     let alloc = rt.alloc();
-    let outcome = run(&rt, alloc, ONE_CREATE.as_bytes());
-    let bytes = outcome.printed.as_slice();
-    for room in 0..bytes.len() {
-        let front = text_of(&rt, bytes.get(..room).unwrap_or(&[]));
-        for per_write in [1, 7, 4096] {
-            let output = with_room(alloc, per_write, room);
-            is_written(&rt, alloc, output, 3, front, UNWRITTEN);
-        }
+    let whole = printed_of_create(&rt, alloc);
+    let room = whole.len();
+    for room in 0..room {
+        front_is_written(&rt, alloc, whole, room);
     }
-    let whole = text_of(&rt, bytes);
-    let room = bytes.len();
     is_written(&rt, alloc, with_room(alloc, 7, room), 0, whole, "");
     is_written(&rt, alloc, unflushed(alloc, room), 3, whole, UNWRITTEN);
 }
@@ -211,23 +218,32 @@ pub(super) fn with_reader_gone(alloc: Global, room: usize) -> FailingWriter {
     }
 }
 
+/// Fails where anything is said of an output whose reader is gone then, or it gets no front of the stream.
+fn nothing_is_said<T: Threads + Wait + Sync + Abort>(
+    rt: &T,
+    alloc: Global,
+    printed: &str,
+    room: usize,
+) {
+    let front = front_of(rt, printed, room);
+    is_written(rt, alloc, with_reader_gone(alloc, room), 3, front, "");
+}
+
 #[test]
 fn nothing_is_said_where_the_reader_is_gone(rt: HostRuntime) {
-    let alloc = rt.alloc();
-    let outcome = run(&rt, alloc, ONE_CREATE.as_bytes());
-    let bytes = outcome.printed.as_slice();
-    for room in [0, 1, bytes.len()] {
-        let front = text_of(&rt, bytes.get(..room).unwrap_or(&[]));
-        is_written(&rt, alloc, with_reader_gone(alloc, room), 3, front, "");
+    let whole = printed_of_create(&rt, rt.alloc());
+    for room in [0, 1, whole.len()] {
+        nothing_is_said(&rt, rt.alloc(), whole, room);
     }
 }
 
 #[test]
 fn a_fault_that_cannot_be_said_is_dropped(rt: HostRuntime) {
     let alloc = rt.alloc();
-    let (output, status) = run_into(&rt, alloc, "[]", empty(alloc), &mut full(alloc));
-    assert_eq!(rt; status, 2);
-    assert_eq!(rt; output.into_inner().len(), 0);
+    let (output, mut said) = (empty(alloc), full(alloc));
+    let (output, status) = run_into(&rt, alloc, "[]", output, &mut said);
+    status_is(&rt, "no plan", status, 2);
+    number_is(&rt, "no plan", output.into_inner().len(), 0);
 }
 
 /// Fails where an input that was not read has another status, or another fault is said of it.
@@ -238,29 +254,27 @@ fn input_fails<T: Threads + Wait + Sync + Abort>(
     status: u8,
     fault: &str,
 ) {
+    let settings = kept(rt, alloc, defaults(alloc));
+    let (registry, output) = (no_hooks(rt, alloc), empty(alloc));
     let mut said = Vec::new(alloc);
     let (output, found) = run_input(
         rt,
         alloc,
-        &defaults(alloc),
+        settings,
         Form::Applystream,
-        &Registry::new(alloc),
+        registry,
         None,
         Err(input),
-        empty(alloc),
+        output,
         &mut said,
     );
-    let outcome = Outcome {
-        status: found,
-        printed: output.into_inner(),
-        said,
-    };
-    outcome_fails(rt, fault, &outcome, status, fault);
+    let outcome = outcome_of(rt, alloc, found, output.into_inner(), said);
+    outcome_fails(rt, fault, outcome, status, fault);
 }
 
 /// Fails where the refusal has another status, or another text.
 fn refusal_fails(rt: &impl Abort, alloc: Global, refusal: Refusal, status: u8, fault: &str) {
-    assert_eq!(rt; refusal_status(refusal), status, "{fault}");
+    status_is(rt, fault, refusal_status(refusal), status);
     goes_out_at_once(rt, alloc, refusal, fault);
 }
 
@@ -274,16 +288,21 @@ fn each_answer_of_reading_has_its_status(rt: HostRuntime) {
     refusal_fails(&rt, alloc, change, 2, "change 7 is malformed");
     let memory = Refusal::Plan(PlanError::Memory);
     refusal_fails(&rt, alloc, memory, 3, "out of memory");
+    let memory = Refusal::Script(ScriptError::Memory);
+    refusal_fails(&rt, alloc, memory, 3, "out of memory");
+    let fault = "the sizes are out of range";
+    refusal_fails(&rt, alloc, Refusal::Size, 2, fault);
+}
+
+#[test]
+fn each_refusal_of_a_script_has_its_status(rt: HostRuntime) {
+    let alloc = rt.alloc();
     let unknown = Refusal::Script(ScriptError::UnknownChange(1));
     let fault = "script entry 1 names an unknown change";
     refusal_fails(&rt, alloc, unknown, 2, fault);
-    let memory = Refusal::Script(ScriptError::Memory);
-    refusal_fails(&rt, alloc, memory, 3, "out of memory");
     let never = Refusal::Script(ScriptError::NeverBegins(1));
     let fault = "script entry 1 has a step that could never begin";
     refusal_fails(&rt, alloc, never, 2, fault);
     let fault = "the script says what steps wait for, which takes --parallelism";
     refusal_fails(&rt, alloc, Refusal::Waits, 2, fault);
-    let fault = "the sizes are out of range";
-    refusal_fails(&rt, alloc, Refusal::Size, 2, fault);
 }

@@ -44,117 +44,101 @@ const TABLE: &str = "--workers 2 --halt-before delete => 1 =>
 --at x => 2 => applystream: the moment is not a moment
 --at 1969-12-31T23:59:59Z --script no_such_file.json => 2 => applystream: the moment is out of range";
 
-/// Follows the words, with the plan as the input.
-fn followed<T: Threads + Wait + Sync, F: Files>(
+/// Follows the words over these outputs, with the replacement as the input.
+fn followed<W: Write + Drop, T: Threads + Wait + Sync + Abort + Files>(
     rt: &T,
-    files: &F,
     alloc: Global,
     words: &[String],
-    plan: &str,
-) -> Outcome {
-    let mut said = Vec::new(alloc);
-    let output = Vec::new(alloc);
-    let (output, status) = follow(rt, files, alloc, words, plan.as_bytes(), output, &mut said);
-    Outcome {
-        status,
-        printed: output.into_inner(),
-        said,
-    }
+    output: W,
+    said: &mut Vec<u8>,
+) -> (W, u8) {
+    let input = REPLACEMENT.as_bytes();
+    let (output, status) = follow(rt, rt, alloc, words, input, output, said);
+    (output.into_inner(), status)
 }
 
 /// The words of a row, with blanks.
-fn words_with_blanks(rt: &impl Abort, alloc: Global, text: &str) -> Vec<String> {
+fn words_with_blanks(rt: &impl Abort, alloc: Global, text: &str) -> &'static [String] {
     let mut words = Vec::new(alloc);
     for word in text.split_whitespace() {
         let word = word.replace(alloc, BLANK, " ").expect(rt, "memory");
-        words.push(word).expect(rt, "memory");
+        push_word(rt, &mut words, word);
     }
-    words
+    kept(rt, alloc, words).as_slice()
 }
 
 /// Follows the words of a text, with the replacement as the input.
-fn answered<T: Threads + Wait + Sync + Abort, F: Files>(
+fn answered<T: Threads + Wait + Sync + Abort + Files>(
     rt: &T,
-    files: &F,
     alloc: Global,
     words: &str,
 ) -> Outcome {
     let words = words_with_blanks(rt, alloc, words);
-    followed(rt, files, alloc, &words, REPLACEMENT)
+    let mut said = Vec::new(alloc);
+    let (printed, status) = followed(rt, alloc, words, Vec::new(alloc), &mut said);
+    outcome_of(rt, alloc, status, printed, said)
 }
 
 /// Fails where the number has another text.
 fn is_number(rt: &impl Abort, alloc: Global, row: &str, number: u8, wanted: &str) {
-    let text = format!(in alloc; "{number}").expect(rt, "memory");
-    assert_eq!(rt; text.as_str(), wanted, "{row}");
+    text_is(rt, row, shown(rt, alloc, &number), wanted);
 }
 
 /// Fails where the words of the row have another status, or another fault is said.
-fn row_is<T: Threads + Wait + Sync + Abort, F: Files>(rt: &T, files: &F, alloc: Global, row: &str) {
+fn row_is<T: Threads + Wait + Sync + Abort + Files>(rt: &T, alloc: Global, row: &str) {
     let (words, rest) = parted(rt, row, " => ");
     let (status, said) = parted(rt, rest, " =>");
-    let outcome = answered(rt, files, alloc, words);
+    let outcome = answered(rt, alloc, words);
     is_number(rt, alloc, row, outcome.status, status);
-    assert_eq!(rt; text_of(rt, &outcome.said).trim(), said.trim(), "{row}");
+    text_is(rt, row, outcome.said.trim(), said.trim());
 }
 
 #[test]
 fn words_have_their_statuses(rt: HostRuntime) {
     for row in TABLE.lines() {
-        row_is(&rt, &rt, rt.alloc(), row);
+        row_is(&rt, rt.alloc(), row);
     }
 }
 
-/// Fails where the replacement has another stream by these words.
-fn stream_is<T: Threads + Wait + Sync + Abort, F: Files>(
-    rt: &T,
-    files: &F,
-    alloc: Global,
-    words: &str,
-    status: u8,
-    stream: &str,
-) {
-    let outcome = answered(rt, files, alloc, words);
-    outcome_is(rt, words, &outcome, status, stream, "");
+/// Words by which a hook halts the delete: beside two workers, and in lanes.
+const HALTING: &str = "--workers 2 --halt-before delete
+--workers 2 --halt-in null_resource.a
+--parallelism 2 --halt-before delete
+--halt-in null_resource.a --parallelism 64";
+
+/// Fails where the delete is not halted by these words.
+fn halts<T: Threads + Wait + Sync + Abort + Files>(rt: &T, alloc: Global, words: &str) {
+    let outcome = answered(rt, alloc, words);
+    outcome_is(rt, words, outcome, 1, HALTED, "");
 }
 
 #[test]
-fn a_hook_halts_beside_two_workers(rt: HostRuntime) {
-    let words = "--workers 2 --halt-before delete";
-    stream_is(&rt, &rt, rt.alloc(), words, 1, HALTED);
-    let words = "--workers 2 --halt-in null_resource.a";
-    stream_is(&rt, &rt, rt.alloc(), words, 1, HALTED);
-}
-
-#[test]
-fn a_hook_halts_in_lanes(rt: HostRuntime) {
-    let words = "--parallelism 2 --halt-before delete";
-    stream_is(&rt, &rt, rt.alloc(), words, 1, HALTED);
-    let words = "--halt-in null_resource.a --parallelism 64";
-    stream_is(&rt, &rt, rt.alloc(), words, 1, HALTED);
+fn a_hook_halts(rt: HostRuntime) {
+    for words in HALTING.lines() {
+        halts(&rt, rt.alloc(), words);
+    }
 }
 
 /// Fails where nothing printed has this text.
-fn prints(rt: &impl Abort, outcome: &Outcome, text: &str) {
-    let printed = text_of(rt, &outcome.printed);
-    assert!(rt; printed.contains(text), "{printed}");
+fn prints(rt: &impl Abort, outcome: Outcome, text: &str) {
+    holds(rt, outcome.printed, outcome.printed.contains(text));
 }
 
 /// The hooks of `--halt-before` are asked first, each kind in its order: the third one halts the delete.
 #[test]
 fn hooks_are_asked_in_their_order(rt: HostRuntime) {
     let words = "--halt-in null --halt-before read --halt-before create --halt-before delete";
-    let outcome = answered(&rt, &rt, rt.alloc(), words);
-    status_is(&rt, words, &outcome, 1);
-    prints(&rt, &outcome, "Hook 2 answered Halt before delete.");
+    let outcome = answered(&rt, rt.alloc(), words);
+    status_is(&rt, words, outcome.status, 1);
+    prints(&rt, outcome, "Hook 2 answered Halt before delete.");
 }
 
 #[test]
 fn help_is_printed(rt: HostRuntime) {
-    let outcome = answered(&rt, &rt, rt.alloc(), "--help");
-    status_is(&rt, "help", &outcome, 0);
-    is_text(&rt, "help", &outcome.said, "");
-    prints(&rt, &outcome, "Exit status:");
+    let outcome = answered(&rt, rt.alloc(), "--help");
+    status_is(&rt, "help", outcome.status, 0);
+    text_is(&rt, "help", outcome.said, "");
+    prints(&rt, outcome, "Exit status:");
 }
 
 /// Holds back what it is given until it is flushed.
@@ -177,79 +161,62 @@ impl Write for HoldingBack {
     }
 }
 
-/// What the words of a text bring out.
-fn brought_out<T: Threads + Wait + Sync + Abort, F: Files>(
-    rt: &T,
-    files: &F,
-    alloc: Global,
-    words: &str,
-) -> Outcome {
-    let output = HoldingBack {
+/// An output that holds back what it is given.
+fn holding_back(alloc: Global) -> HoldingBack {
+    HoldingBack {
         held: Vec::new(alloc),
         out: Vec::new(alloc),
-    };
-    let words = words_of(rt, alloc, words);
-    let mut said = Vec::new(alloc);
-    let input = REPLACEMENT.as_bytes();
-    let (output, status) = follow(rt, files, alloc, &words, input, output, &mut said);
-    let output = output.into_inner();
-    assert_eq!(rt; output.held.len(), 0);
-    Outcome {
-        status,
-        printed: output.out,
-        said,
     }
 }
 
-/// Fails where what the words print is not all flushed.
-fn all_is_flushed<T: Threads + Wait + Sync + Abort, F: Files>(
+/// What the words of a text bring out.
+fn brought_out<T: Threads + Wait + Sync + Abort + Files>(
     rt: &T,
-    files: &F,
     alloc: Global,
     words: &str,
-    status: u8,
-) {
-    let wanted = answered(rt, files, alloc, words);
-    let found = brought_out(rt, files, alloc, words);
-    let text = text_of(rt, &wanted.printed);
-    assert!(rt; text.ends_with("\n"), "{words}");
-    outcome_is(rt, words, &found, status, text, "");
+) -> Outcome {
+    let words = words_of(rt, alloc, words);
+    let mut said = Vec::new(alloc);
+    let (output, status) = followed(rt, alloc, words, holding_back(alloc), &mut said);
+    let output = kept(rt, alloc, output);
+    number_is(rt, "held", output.held.len(), 0);
+    Outcome {
+        status,
+        printed: text_of(rt, output.out.as_slice()),
+        said: kept_bytes(rt, alloc, said),
+    }
+}
+
+/// Words whose output is flushed, and their status.
+const FLUSHED: &str = " => 0
+--help => 0
+--version => 0
+--halt-before delete => 1
+--parallelism 2 => 0
+--form terraform => 0
+--form terraform --parallelism 2 => 0";
+
+/// Fails where what the words of the row print is not all flushed.
+fn all_is_flushed<T: Threads + Wait + Sync + Abort + Files>(rt: &T, alloc: Global, row: &str) {
+    let (words, status) = parted(rt, row, " => ");
+    let wanted = answered(rt, alloc, words);
+    let found = brought_out(rt, alloc, words);
+    holds(rt, words, wanted.printed.ends_with("\n"));
+    is_number(rt, alloc, words, found.status, status);
+    text_is(rt, words, found.printed, wanted.printed);
+    text_is(rt, words, found.said, "");
 }
 
 #[test]
 fn what_is_printed_is_flushed(rt: HostRuntime) {
-    all_is_flushed(&rt, &rt, rt.alloc(), "--help", 0);
-    all_is_flushed(&rt, &rt, rt.alloc(), "--version", 0);
-    all_is_flushed(&rt, &rt, rt.alloc(), "", 0);
-    all_is_flushed(&rt, &rt, rt.alloc(), "--halt-before delete", 1);
-    all_is_flushed(&rt, &rt, rt.alloc(), "--parallelism 2", 0);
-    all_is_flushed(&rt, &rt, rt.alloc(), "--form terraform", 0);
-    all_is_flushed(&rt, &rt, rt.alloc(), "--form terraform --parallelism 2", 0);
-}
-
-/// Asks for the version by these words over this output.
-fn versioned<T: Threads + Wait + Sync + Abort, F: Files>(
-    rt: &T,
-    files: &F,
-    alloc: Global,
-    words: &str,
-    output: FailingWriter,
-) -> Outcome {
-    let words = words_with_blanks(rt, alloc, words);
-    let mut said = Vec::new(alloc);
-    let input = b"".as_slice();
-    let (output, status) = follow(rt, files, alloc, &words, input, output, &mut said);
-    Outcome {
-        status,
-        printed: output.into_inner().taken,
-        said,
+    for row in FLUSHED.lines() {
+        all_is_flushed(&rt, rt.alloc(), row);
     }
 }
 
 /// Fails where the version has another status over this output, or other texts are printed or said.
-fn version_is<T: Threads + Wait + Sync + Abort, F: Files>(
+fn version_is<T: Threads + Wait + Sync + Abort + Files>(
     rt: &T,
-    files: &F,
     alloc: Global,
     words: &str,
     output: FailingWriter,
@@ -257,52 +224,59 @@ fn version_is<T: Threads + Wait + Sync + Abort, F: Files>(
     printed: &str,
     said: &str,
 ) {
-    let outcome = versioned(rt, files, alloc, words, output);
-    outcome_is(rt, printed, &outcome, status, printed, said);
+    let words = words_of(rt, alloc, words);
+    let mut found = Vec::new(alloc);
+    let (output, ended) = followed(rt, alloc, words, output, &mut found);
+    let outcome = outcome_of(rt, alloc, ended, output.taken, found);
+    outcome_is(rt, printed, outcome, status, printed, said);
 }
+
+/// Fails where an output with so little room gets no front of the version, or a fault is said where the reader is gone.
+fn front_of_version_is<T: Threads + Wait + Sync + Abort + Files>(
+    rt: &T,
+    alloc: Global,
+    line: &str,
+    room: usize,
+) {
+    let front = front_of(rt, line, room);
+    let output = with_room(alloc, 7, room);
+    version_is(rt, alloc, "--version", output, 3, front, UNWRITTEN);
+    let output = with_reader_gone(alloc, room);
+    version_is(rt, alloc, "-V", output, 3, front, "");
+}
+
+/// Fails where the words do not print the whole version, or a flush that fails is not said.
+fn whole_version_is<T: Threads + Wait + Sync + Abort + Files>(
+    rt: &T,
+    alloc: Global,
+    line: &str,
+    words: &str,
+) {
+    let output = with_room(alloc, 7, line.len());
+    version_is(rt, alloc, words, output, 0, line, "");
+    let output = unflushed(alloc, line.len());
+    version_is(rt, alloc, words, output, 3, line, UNWRITTEN);
+}
+
+/// Words that ask for the version.
+const VERSIONS: &str = "--version
+-V
+--destroy -V";
 
 #[test]
 fn the_version_is_printed(rt: HostRuntime) {
-    let alloc = rt.alloc();
-    let line = format!(in alloc; "applystream {VERSION}\n").expect(&rt, "memory");
-    let bytes = line.as_bytes();
-    for room in 0..bytes.len() {
-        let front = text_of(&rt, &bytes[..room]);
-        let output = with_room(alloc, 7, room);
-        version_is(&rt, &rt, alloc, "--version", output, 3, front, UNWRITTEN);
-        let output = with_reader_gone(alloc, room);
-        version_is(&rt, &rt, alloc, "-V", output, 3, front, "");
+    let line = version_of(&rt, rt.alloc());
+    for room in 0..line.len() {
+        front_of_version_is(&rt, rt.alloc(), line, room);
     }
-    let room = bytes.len();
-    let whole = text_of(&rt, bytes);
-    for words in ["--version", "-V", "--destroy -V"] {
-        version_is(
-            &rt,
-            &rt,
-            alloc,
-            words,
-            with_room(alloc, 7, room),
-            0,
-            whole,
-            "",
-        );
-        version_is(
-            &rt,
-            &rt,
-            alloc,
-            words,
-            unflushed(alloc, room),
-            3,
-            whole,
-            UNWRITTEN,
-        );
+    for words in VERSIONS.lines() {
+        whole_version_is(&rt, rt.alloc(), line, words);
     }
 }
 
 /// Follows settings, with the replacement as the input.
-fn invoked<T: Threads + Wait + Sync, F: Files>(
+fn invoked<T: Threads + Wait + Sync + Abort + Files>(
     rt: &T,
-    files: &F,
     alloc: Global,
     settings: &Settings,
 ) -> Outcome {
@@ -310,28 +284,24 @@ fn invoked<T: Threads + Wait + Sync, F: Files>(
     let (input, output) = (REPLACEMENT.as_bytes(), empty(alloc));
     let form = Form::Applystream;
     let (output, status) = follow_invocation(
-        rt, files, alloc, settings, None, form, input, output, &mut said,
+        rt, rt, alloc, settings, None, form, input, output, &mut said,
     );
-    Outcome {
-        status,
-        printed: output.into_inner(),
-        said,
-    }
+    outcome_of(rt, alloc, status, output.into_inner(), said)
 }
 
 /// Settings that no words say, with a halt more than there may be hooks.
-fn with_33_halts(rt: &impl Abort, alloc: Global) -> Settings {
+fn with_33_halts(rt: &impl Abort, alloc: Global) -> &'static Settings {
     let mut settings = defaults(alloc);
     for _ in 0..33 {
         let halt = Halt::Before(StepKind::Read);
         settings.halts.push(halt).expect(rt, "memory");
     }
-    settings
+    kept(rt, alloc, settings)
 }
 
 #[test]
 fn more_halts_than_hooks_are_refused(rt: HostRuntime) {
     let settings = with_33_halts(&rt, rt.alloc());
-    let outcome = invoked(&rt, &rt, rt.alloc(), &settings);
-    outcome_fails(&rt, "33 halts", &outcome, 2, "more than 32 hooks");
+    let outcome = invoked(&rt, rt.alloc(), settings);
+    outcome_fails(&rt, "33 halts", outcome, 2, "more than 32 hooks");
 }

@@ -3,7 +3,6 @@
 use super::faults::{REFUSED_PLANS, UNWRITTEN, with_reader_gone, with_room};
 use super::*;
 use apply_cli::{run_command_in_form, run_in_form_and_lanes};
-use std::alloc::AllocError;
 
 /// Words, and the form that they say, or the name of the usage.
 const TABLE: &str = " => Applystream
@@ -24,32 +23,19 @@ const TABLE: &str = " => Applystream
 --form terraform --version => Version
 --help --form x => Help";
 
-/// The form, or the name of the usage.
-fn shown(alloc: Global, read: &Result<Invocation, Usage>) -> Result<String, AllocError> {
-    match read {
-        Ok(invocation) => format!(in alloc; "{:?}", invocation.form),
-        Err(Usage::Help(_)) => String::from_str(alloc, "Help"),
-        Err(Usage::Version) => String::from_str(alloc, "Version"),
-        Err(Usage::Words(_)) => String::from_str(alloc, "Words"),
-        Err(Usage::Beside) => String::from_str(alloc, "Beside"),
-        Err(Usage::Moment(_)) => String::from_str(alloc, "Moment"),
-        Err(Usage::Hooks) => String::from_str(alloc, "Hooks"),
-        Err(Usage::Memory) => String::from_str(alloc, "Memory"),
+/// The form that the words say, or the name of the usage.
+fn answer_to(rt: &impl Abort, alloc: Global, text: &str) -> &'static str {
+    match read_of(rt, alloc, text) {
+        Ok(invocation) => shown(rt, alloc, &invocation.form),
+        Err(usage) => name_of(usage),
     }
-}
-
-/// What the words are answered.
-fn answer_to(rt: &impl Abort, alloc: Global, text: &str) -> String {
-    let words = words_of(rt, alloc, text);
-    shown(alloc, &read_invocation(alloc, &words)).expect(rt, "memory")
 }
 
 #[test]
 fn words_say_a_form(rt: HostRuntime) {
     for row in TABLE.lines() {
         let (words, wanted) = parted(&rt, row, " => ");
-        let answer = answer_to(&rt, rt.alloc(), words);
-        assert_eq!(rt; answer.as_str(), wanted, "{words}");
+        text_is(&rt, words, answer_to(&rt, rt.alloc(), words), wanted);
     }
 }
 
@@ -96,85 +82,71 @@ const NOT_APPLIED: &str =
 {"@level":"error","@message":"Error: Cannot apply incomplete plan","@module":"terraform.ui","@timestamp":"1970-01-01T00:00:00.000000Z","diagnostic":{"severity":"error","summary":"Cannot apply incomplete plan","detail":"Terraform encountered an error when generating this plan, so it cannot be applied."},"type":"diagnostic"}
 "#;
 
-/// Runs an input by one worker in Terraform's form, into an output and with a place for faults.
-fn told_by_worker<R: Read + Drop, W: Write + Drop, T: Threads + Wait + Sync>(
-    rt: &T,
-    alloc: Global,
-    script: Option<&[u8]>,
-    input: R,
-    output: W,
-    said: &mut Vec<u8>,
-) -> (W, u8) {
-    let (settings, registry) = (defaults(alloc), Registry::new(alloc));
-    let sink = StdSink::new(output);
-    let (sink, status) = run_command_in_form(
-        rt,
-        alloc,
-        &settings,
-        Form::Terraform,
-        &registry,
-        script,
-        input,
-        sink,
-        said,
-    );
-    (sink.into_inner(), status)
-}
-
-/// Runs it in so many lanes.
-fn told_in_lanes<R: Read + Drop, W: Write + Drop>(
-    alloc: Global,
-    lanes: u8,
-    script: Option<&[u8]>,
-    input: R,
-    output: W,
-    said: &mut Vec<u8>,
-) -> (W, u8) {
-    let (settings, registry) = (defaults(alloc), Registry::new(alloc));
-    let sink = StdSink::new(output);
-    let (sink, status) = run_in_form_and_lanes(
-        alloc,
-        &settings,
-        lanes,
-        Form::Terraform,
-        &registry,
-        script,
-        input,
-        sink,
-        said,
-    );
-    (sink.into_inner(), status)
-}
-
-/// What one worker makes of the texts.
-fn by_worker<T: Threads + Wait + Sync>(
+/// What one worker makes of the texts in Terraform's form, with that output.
+fn told_by_worker<T: Threads + Wait + Sync + Abort>(
     rt: &T,
     alloc: Global,
     plan: &str,
-    script: Option<&str>,
+    script: &str,
+    output: FailingWriter,
 ) -> Outcome {
+    let settings = kept(rt, alloc, defaults(alloc));
+    let (registry, sink) = (no_hooks(rt, alloc), StdSink::new(output));
+    let (input, script) = (plan.as_bytes(), script_bytes(script));
     let mut said = Vec::new(alloc);
-    let (input, output) = (plan.as_bytes(), Vec::new(alloc));
-    let script = script.map(|text| text.as_bytes());
-    let (printed, status) = told_by_worker(rt, alloc, script, input, output, &mut said);
-    Outcome {
-        status,
-        printed,
-        said,
-    }
+    let (sink, status) = run_command_in_form(
+        rt,
+        alloc,
+        settings,
+        Form::Terraform,
+        registry,
+        script,
+        input,
+        sink,
+        &mut said,
+    );
+    outcome_of(rt, alloc, status, sink.into_inner().taken, said)
 }
 
 /// What two lanes make of them.
-fn in_two_lanes(alloc: Global, plan: &str, script: Option<&str>) -> Outcome {
+fn told_in_lanes(
+    rt: &impl Abort,
+    alloc: Global,
+    plan: &str,
+    script: &str,
+    output: FailingWriter,
+) -> Outcome {
+    let settings = kept(rt, alloc, defaults(alloc));
+    let (registry, sink) = (no_hooks(rt, alloc), StdSink::new(output));
+    let (input, script) = (plan.as_bytes(), script_bytes(script));
     let mut said = Vec::new(alloc);
-    let (input, output) = (plan.as_bytes(), Vec::new(alloc));
-    let script = script.map(|text| text.as_bytes());
-    let (printed, status) = told_in_lanes(alloc, 2, script, input, output, &mut said);
-    Outcome {
-        status,
-        printed,
-        said,
-    }
+    let (sink, status) = run_in_form_and_lanes(
+        alloc,
+        settings,
+        2,
+        Form::Terraform,
+        registry,
+        script,
+        input,
+        sink,
+        &mut said,
+    );
+    outcome_of(rt, alloc, status, sink.into_inner().taken, said)
+}
+
+/// The same of one worker, with an output that takes all.
+fn by_worker<T: Threads + Wait + Sync + Abort>(
+    rt: &T,
+    alloc: Global,
+    plan: &str,
+    script: &str,
+) -> Outcome {
+    told_by_worker(rt, alloc, plan, script, roomy(alloc))
+}
+
+/// The same of two lanes.
+fn in_two_lanes(rt: &impl Abort, alloc: Global, plan: &str, script: &str) -> Outcome {
+    told_in_lanes(rt, alloc, plan, script, roomy(alloc))
 }
 
 /// Fails where a worker or two lanes write another stream, or end with another status.
@@ -182,42 +154,57 @@ fn told_is<T: Threads + Wait + Sync + Abort>(
     rt: &T,
     alloc: Global,
     plan: &str,
-    script: Option<&str>,
+    script: &str,
     status: u8,
     stream: &str,
 ) {
     let outcome = by_worker(rt, alloc, plan, script);
-    outcome_is(rt, "a worker", &outcome, status, stream, "");
-    let outcome = in_two_lanes(alloc, plan, script);
-    outcome_is(rt, "two lanes", &outcome, status, stream, "");
+    outcome_is(rt, "a worker", outcome, status, stream, "");
+    let outcome = in_two_lanes(rt, alloc, plan, script);
+    outcome_is(rt, "two lanes", outcome, status, stream, "");
+}
+
+/// Fails where a worker or two lanes do not refuse the texts with this fault.
+fn both_refuse<T: Threads + Wait + Sync + Abort>(
+    rt: &T,
+    alloc: Global,
+    plan: &str,
+    script: &str,
+    fault: &str,
+) {
+    let outcome = by_worker(rt, alloc, plan, script);
+    outcome_fails(rt, plan, outcome, 2, fault);
+    let outcome = in_two_lanes(rt, alloc, plan, script);
+    outcome_fails(rt, plan, outcome, 2, fault);
 }
 
 /// Two texts, one behind the other.
-fn joined(rt: &impl Abort, alloc: Global, first: &str, second: &str) -> String {
-    format!(in alloc; "{first}{second}").expect(rt, "memory")
+fn joined(rt: &impl Abort, alloc: Global, first: &str, second: &str) -> &'static str {
+    let text = format!(in alloc; "{first}{second}");
+    kept_text(rt, alloc, text.expect(rt, "memory"))
 }
 
 #[test]
 fn a_create_is_told_with_its_outputs(rt: HostRuntime) {
     let alloc = rt.alloc();
     let stream = joined(&rt, alloc, HEAD, CREATED);
-    told_is(&rt, alloc, PLAN, Some(SCRIPT), 0, stream.as_str());
+    told_is(&rt, alloc, PLAN, SCRIPT, 0, stream);
 }
 
 #[test]
 fn a_failed_create_has_no_summary(rt: HostRuntime) {
     let alloc = rt.alloc();
     let stream = joined(&rt, alloc, HEAD, FAILED);
-    told_is(&rt, alloc, PLAN, Some(FAILING), 1, stream.as_str());
+    told_is(&rt, alloc, PLAN, FAILING, 1, stream);
 }
 
 /// The plan is told as failed, with status 1, whatever its changes and the script.
 #[test]
 fn an_errored_plan_is_not_applied(rt: HostRuntime) {
     let alloc = rt.alloc();
-    told_is(&rt, alloc, ERRORED, None, 1, NOT_APPLIED);
+    told_is(&rt, alloc, ERRORED, NO_SCRIPT, 1, NOT_APPLIED);
     let script = r#"{"changes":[{"address":"null_resource.a","steps":[{"seconds":9}]}]}"#;
-    told_is(&rt, alloc, ERRORED, Some(script), 1, NOT_APPLIED);
+    told_is(&rt, alloc, ERRORED, script, 1, NOT_APPLIED);
 }
 
 /// Two creates of a plan whose making ended with an error.
@@ -233,10 +220,10 @@ const WAITING: &str =
 fn workers_refuse_waits_of_a_plan_that_is_not_applied(rt: HostRuntime) {
     let alloc = rt.alloc();
     let fault = "the script says what steps wait for, which takes --parallelism";
-    let outcome = by_worker(&rt, alloc, TWO_ERRORED, Some(WAITING));
-    outcome_fails(&rt, "a worker", &outcome, 2, fault);
-    let outcome = in_two_lanes(alloc, TWO_ERRORED, Some(WAITING));
-    outcome_is(&rt, "two lanes", &outcome, 1, NOT_APPLIED, "");
+    let outcome = by_worker(&rt, alloc, TWO_ERRORED, WAITING);
+    outcome_fails(&rt, "a worker", outcome, 2, fault);
+    let outcome = in_two_lanes(&rt, alloc, TWO_ERRORED, WAITING);
+    outcome_is(&rt, "two lanes", outcome, 1, NOT_APPLIED, "");
 }
 
 /// Scripts, and what they are refused with.
@@ -250,27 +237,26 @@ const REFUSED_SCRIPTS: &str = r#"{"changes":[],"outputs":5} => the script is mal
 
 #[test]
 fn outputs_of_a_script_are_refused_in_this_form_alone(rt: HostRuntime) {
-    let alloc = rt.alloc();
     for row in REFUSED_SCRIPTS.lines() {
         let (script, fault) = parted(&rt, row, " => ");
-        let outcome = by_worker(&rt, alloc, PLAN, Some(script));
-        outcome_fails(&rt, script, &outcome, 2, fault);
-        let outcome = in_two_lanes(alloc, PLAN, Some(script));
-        outcome_fails(&rt, script, &outcome, 2, fault);
+        both_refuse(&rt, rt.alloc(), PLAN, script, fault);
     }
+}
+
+/// Fails where the default form does not apply the plan with the script, or anything is said.
+fn is_applied<T: Threads + Wait + Sync + Abort>(rt: &T, alloc: Global, script: &str) {
+    let settings = kept(rt, alloc, defaults(alloc));
+    let (input, bytes) = (PLAN.as_bytes(), script_bytes(script));
+    let outcome = run_with(rt, alloc, settings, bytes, input);
+    status_is(rt, script, outcome.status, 0);
+    text_is(rt, script, outcome.said, "");
 }
 
 /// The default form does not look at them.
 #[test]
 fn the_default_form_looks_at_no_outputs(rt: HostRuntime) {
-    let alloc = rt.alloc();
-    let (settings, registry) = (defaults(alloc), Registry::new(alloc));
     for row in REFUSED_SCRIPTS.lines().take(6) {
-        let (script, _) = parted(&rt, row, " => ");
-        let bytes = Some(script.as_bytes());
-        let outcome = run_with(&rt, alloc, &settings, &registry, bytes, PLAN.as_bytes());
-        status_is(&rt, script, &outcome, 0);
-        is_text(&rt, script, &outcome.said, "");
+        is_applied(&rt, rt.alloc(), parted(&rt, row, " => ").0);
     }
 }
 
@@ -278,39 +264,25 @@ fn the_default_form_looks_at_no_outputs(rt: HostRuntime) {
 fn plans_are_refused_as_in_the_default_form(rt: HostRuntime) {
     for row in REFUSED_PLANS.lines() {
         let (plan, fault) = parted(&rt, row, " => ");
-        let outcome = by_worker(&rt, rt.alloc(), plan, None);
-        outcome_fails(&rt, plan, &outcome, 2, fault);
-        let outcome = in_two_lanes(rt.alloc(), plan, None);
-        outcome_fails(&rt, plan, &outcome, 2, fault);
+        both_refuse(&rt, rt.alloc(), plan, NO_SCRIPT, fault);
     }
 }
 
 /// Fails where an output with so little room gets no front of the stream, or the status is not 3.
 fn front_is<T: Threads + Wait + Sync + Abort>(rt: &T, alloc: Global, room: usize, stream: &str) {
-    let bytes = stream.as_bytes();
-    assert!(rt; room <= bytes.len());
-    let wanted = text_of(rt, &bytes[..room]);
-    let mut said = Vec::new(alloc);
-    let script = Some(SCRIPT.as_bytes());
+    let front = front_of(rt, stream, room);
     let output = with_room(alloc, 7, room);
-    let (output, status) = told_by_worker(rt, alloc, script, PLAN.as_bytes(), output, &mut said);
-    assert_eq!(rt; status, 3, "{room}");
-    is_text(rt, "a worker", &output.taken, wanted);
-    is_text(rt, "a worker", &said, UNWRITTEN);
-    let mut said = Vec::new(alloc);
+    let outcome = told_by_worker(rt, alloc, PLAN, SCRIPT, output);
+    outcome_is(rt, "a worker", outcome, 3, front, UNWRITTEN);
     let output = with_reader_gone(alloc, room);
-    let (output, status) = told_in_lanes(alloc, 2, script, PLAN.as_bytes(), output, &mut said);
-    assert_eq!(rt; status, 3, "{room}");
-    is_text(rt, "two lanes", &output.taken, wanted);
-    is_text(rt, "two lanes", &said, "");
+    let outcome = told_in_lanes(rt, alloc, PLAN, SCRIPT, output);
+    outcome_is(rt, "two lanes", outcome, 3, front, "");
 }
 
 #[test]
 fn an_output_that_fails_has_a_front_of_the_stream(rt: HostRuntime) {
-    let alloc = rt.alloc();
-    let stream = joined(&rt, alloc, HEAD, CREATED);
-    let stream = stream.as_str();
+    let stream = joined(&rt, rt.alloc(), HEAD, CREATED);
     for room in (0..stream.len()).step_by(97) {
-        front_is(&rt, alloc, room, stream);
+        front_is(&rt, rt.alloc(), room, stream);
     }
 }

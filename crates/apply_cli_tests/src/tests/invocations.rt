@@ -1,7 +1,6 @@
 //! Which words ask for how many changes at once.
 
 use super::*;
-use std::alloc::AllocError;
 
 /// Words, and the parallelism that they ask for, if any, or the name of the usage.
 const TABLE: &str = r#" => None
@@ -29,23 +28,11 @@ const TABLE: &str = r#" => None
 -V --parallelism 2 => Version
 --help => Help"#;
 
-/// What the words are answered.
-fn answer_to(rt: &impl Abort, alloc: Global, text: &str) -> String {
-    let words = words_of(rt, alloc, text);
-    shown(alloc, &read_invocation(alloc, &words)).expect(rt, "memory")
-}
-
-/// The parallelism, or the name of the usage.
-fn shown(alloc: Global, read: &Result<Invocation, Usage>) -> Result<String, AllocError> {
-    match read {
-        Ok(invocation) => format!(in alloc; "{:?}", invocation.parallelism),
-        Err(Usage::Help(_)) => String::from_str(alloc, "Help"),
-        Err(Usage::Version) => String::from_str(alloc, "Version"),
-        Err(Usage::Words(_)) => String::from_str(alloc, "Words"),
-        Err(Usage::Beside) => String::from_str(alloc, "Beside"),
-        Err(Usage::Moment(_)) => String::from_str(alloc, "Moment"),
-        Err(Usage::Hooks) => String::from_str(alloc, "Hooks"),
-        Err(Usage::Memory) => String::from_str(alloc, "Memory"),
+/// The parallelism that the words ask for, or the name of the usage.
+fn answer_to(rt: &impl Abort, alloc: Global, text: &str) -> &'static str {
+    match read_of(rt, alloc, text) {
+        Ok(invocation) => shown(rt, alloc, &invocation.parallelism),
+        Err(usage) => name_of(usage),
     }
 }
 
@@ -53,20 +40,16 @@ fn shown(alloc: Global, read: &Result<Invocation, Usage>) -> Result<String, Allo
 fn words_ask_for_a_parallelism(rt: HostRuntime) {
     for row in TABLE.lines() {
         let (words, wanted) = parted(&rt, row, " => ");
-        let answer = answer_to(&rt, rt.alloc(), words);
-        assert_eq!(rt; answer.as_str(), wanted, "{words}");
+        text_is(&rt, words, answer_to(&rt, rt.alloc(), words), wanted);
     }
 }
 
 #[test]
 fn help_says_how_many_at_once(rt: HostRuntime) {
-    let words = words_of(&rt, rt.alloc(), "--help");
-    match read_invocation(rt.alloc(), &words) {
-        Err(Usage::Help(help)) => {
-            assert!(rt; help.as_str().contains("--parallelism <N>"));
-            let most = format!(in rt.alloc(); "1 to {MAX_LANES}").expect(&rt, "memory");
-            assert!(rt; help.as_str().contains(most.as_str()));
-        }
-        _ => panic!(rt; "no help"),
-    }
+    let alloc = rt.alloc();
+    let help = help_of(&rt, alloc);
+    holds(&rt, help, help.contains("--parallelism <N>"));
+    let most = format!(in alloc; "1 to {MAX_LANES}");
+    let most = kept_text(&rt, alloc, most.expect(&rt, "memory"));
+    holds(&rt, help, help.contains(most));
 }

@@ -9,8 +9,8 @@ const CREATES: &str =
     r#"{"format_version":"1.2","terraform_version":"1.9.0","resource_changes":[{"address":"null_resource.a","mode":"managed","type":"null_resource","name":"a","change":{"actions":["create"]}},{"address":"null_resource.b","mode":"managed","type":"null_resource","name":"b","change":{"actions":["create"]}}]}"#;
 
 /// The first one takes longer, and fails.
-const SCRIPT: &[u8] =
-    br#"{"changes":[{"address":"null_resource.a","steps":[{"seconds":4,"failed":{"summary":"boom"}}]},{"address":"null_resource.b","steps":[{"seconds":2,"id":"7"}]}]}"#;
+const SCRIPT: &str =
+    r#"{"changes":[{"address":"null_resource.a","steps":[{"seconds":4,"failed":{"summary":"boom"}}]},{"address":"null_resource.b","steps":[{"seconds":2,"id":"7"}]}]}"#;
 
 /// What is written of both, where both are under way at once.
 const STREAM: &str =
@@ -25,119 +25,113 @@ const STREAM: &str =
 
 /// Runs an input in so many lanes into an output, with a place for faults.
 fn run_at_once<R: Read + Drop, W: Write + Drop>(
+    rt: &impl Abort,
     alloc: Global,
     lanes: u8,
-    script: Option<&[u8]>,
+    script: &str,
     input: R,
     output: W,
     said: &mut Vec<u8>,
 ) -> (W, u8) {
-    let (settings, registry) = (defaults(alloc), Registry::new(alloc));
-    let sink = StdSink::new(output);
-    let (sink, status) = run_in_lanes(
-        alloc, &settings, lanes, &registry, script, input, sink, said,
-    );
+    let settings = kept(rt, alloc, defaults(alloc));
+    let (registry, sink) = (no_hooks(rt, alloc), StdSink::new(output));
+    let script = script_bytes(script);
+    let (sink, status) = run_in_lanes(alloc, settings, lanes, registry, script, input, sink, said);
     (sink.into_inner(), status)
 }
 
 /// Runs an input in so many lanes, with its output in memory.
-fn outcome_of<R: Read + Drop>(
+fn run_lanes<R: Read + Drop>(
+    rt: &impl Abort,
     alloc: Global,
     lanes: u8,
-    script: Option<&[u8]>,
+    script: &str,
     input: R,
 ) -> Outcome {
     let mut said = Vec::new(alloc);
     let output = Vec::new(alloc);
-    let (printed, status) = run_at_once(alloc, lanes, script, input, output, &mut said);
-    Outcome {
-        status,
-        printed,
-        said,
-    }
+    let (printed, status) = run_at_once(rt, alloc, lanes, script, input, output, &mut said);
+    outcome_of(rt, alloc, status, printed, said)
+}
+
+/// What so many lanes make of the texts.
+fn lanes_make(rt: &impl Abort, alloc: Global, lanes: u8, plan: &str, script: &str) -> Outcome {
+    run_lanes(rt, alloc, lanes, script, plan.as_bytes())
 }
 
 #[test]
 fn two_changes_are_under_way_at_once(rt: HostRuntime) {
     for lanes in [2, 3, MAX_LANES] {
-        let outcome = outcome_of(rt.alloc(), lanes, Some(SCRIPT), CREATES.as_bytes());
-        outcome_is(&rt, "two creates", &outcome, 1, STREAM, "");
+        let outcome = lanes_make(&rt, rt.alloc(), lanes, CREATES, SCRIPT);
+        outcome_is(&rt, "two creates", outcome, 1, STREAM, "");
     }
 }
 
-/// What one worker makes of both.
-fn by_one_worker<T: Threads + Wait + Sync>(rt: &T, alloc: Global) -> Outcome {
-    let (settings, registry) = (defaults(alloc), Registry::new(alloc));
-    let input = CREATES.as_bytes();
-    run_with(rt, alloc, &settings, &registry, Some(SCRIPT), input)
+/// What so many workers make of both creates.
+fn workers_make<T: Threads + Wait + Sync + Abort>(
+    rt: &T,
+    alloc: Global,
+    workers: u8,
+    script: &str,
+) -> Outcome {
+    let settings = kept(rt, alloc, with_workers(alloc, workers));
+    let (input, script) = (CREATES.as_bytes(), script_bytes(script));
+    run_with(rt, alloc, settings, script, input)
 }
 
 #[test]
 fn one_lane_does_what_one_worker_does(rt: HostRuntime) {
-    let wanted = by_one_worker(&rt, rt.alloc());
-    let found = outcome_of(rt.alloc(), 1, Some(SCRIPT), CREATES.as_bytes());
-    let stream = text_of(&rt, &wanted.printed);
-    outcome_is(&rt, "one lane", &found, 1, stream, "");
-    status_is(&rt, "one worker", &wanted, 1);
+    let wanted = workers_make(&rt, rt.alloc(), 1, SCRIPT);
+    let found = lanes_make(&rt, rt.alloc(), 1, CREATES, SCRIPT);
+    outcome_is(&rt, "one lane", found, 1, wanted.printed, "");
+    status_is(&rt, "one worker", wanted.status, 1);
 }
 
 /// The second create waits for the first.
-const WAITING: &[u8] =
-    br#"{"changes":[{"address":"null_resource.a","steps":[{"seconds":4}]},{"address":"null_resource.b","steps":[{"seconds":2,"after":["null_resource.a"]}]}]}"#;
+const WAITING: &str =
+    r#"{"changes":[{"address":"null_resource.a","steps":[{"seconds":4}]},{"address":"null_resource.b","steps":[{"seconds":2,"after":["null_resource.a"]}]}]}"#;
 
 /// Workers refuse a script that says what steps wait for, however many they are.
 #[test]
 fn waits_take_lanes(rt: HostRuntime) {
-    let alloc = rt.alloc();
-    let registry = Registry::new(alloc);
     let fault = "the script says what steps wait for, which takes --parallelism";
-    for workers in [1, 2] {
-        let settings = with_workers(alloc, workers);
-        let input = CREATES.as_bytes();
-        let outcome = run_with(&rt, alloc, &settings, &registry, Some(WAITING), input);
-        outcome_fails(&rt, "workers", &outcome, 2, fault);
-    }
-    for lanes in [1, 2] {
-        let outcome = outcome_of(alloc, lanes, Some(WAITING), CREATES.as_bytes());
-        status_is(&rt, "lanes", &outcome, 0);
+    for count in [1, 2] {
+        let outcome = workers_make(&rt, rt.alloc(), count, WAITING);
+        outcome_fails(&rt, "workers", outcome, 2, fault);
+        let outcome = lanes_make(&rt, rt.alloc(), count, CREATES, WAITING);
+        status_is(&rt, "lanes", outcome.status, 0);
     }
 }
 
-/// Fails where so many lanes do not refuse the input with this fault.
-fn is_refused<R: Read + Drop>(
-    rt: &impl Abort,
-    alloc: Global,
-    lanes: u8,
-    script: Option<&[u8]>,
-    input: R,
-    fault: &str,
-) {
-    let outcome = outcome_of(alloc, lanes, script, input);
-    outcome_fails(rt, fault, &outcome, 2, fault);
+/// Fails where so many lanes do not refuse the texts with this fault.
+fn is_refused(rt: &impl Abort, alloc: Global, lanes: u8, plan: &str, script: &str, fault: &str) {
+    let outcome = lanes_make(rt, alloc, lanes, plan, script);
+    outcome_fails(rt, fault, outcome, 2, fault);
 }
 
 #[test]
 fn refused_plans_print_nothing_in_lanes(rt: HostRuntime) {
     for row in REFUSED_PLANS.lines() {
         let (plan, fault) = parted(&rt, row, " => ");
-        is_refused(&rt, rt.alloc(), 2, None, plan.as_bytes(), fault);
+        is_refused(&rt, rt.alloc(), 2, plan, NO_SCRIPT, fault);
     }
+}
+
+/// Numbers of lanes that are out of range are looked at last.
+fn lanes_are_looked_at_last(rt: &impl Abort, alloc: Global, lanes: u8) {
+    let sizes = "the sizes are out of range";
+    is_refused(rt, alloc, lanes, CREATES, NO_SCRIPT, sizes);
+    is_refused(rt, alloc, lanes, CREATES, "{", "the script is not JSON");
+    is_refused(rt, alloc, lanes, "", "{", "the plan is not JSON");
 }
 
 /// The plan is looked at before the script, and both before the lanes.
 #[test]
 fn what_is_refused_in_lanes_is_refused_in_its_order(rt: HostRuntime) {
-    let alloc = rt.alloc();
-    let plan = CREATES.as_bytes();
-    let sizes = "the sizes are out of range";
-    let none = Some(b"{".as_slice());
     for lanes in [0, 65, 255] {
-        is_refused(&rt, alloc, lanes, None, plan, sizes);
-        is_refused(&rt, alloc, lanes, none, plan, "the script is not JSON");
-        let nothing = b"".as_slice();
-        is_refused(&rt, alloc, lanes, none, nothing, "the plan is not JSON");
+        lanes_are_looked_at_last(&rt, rt.alloc(), lanes);
     }
-    is_refused(&rt, alloc, 2, none, plan, "the script is not JSON");
+    is_refused(&rt, rt.alloc(), 2, CREATES, "{", "the script is not JSON");
 }
 
 #[test]
@@ -147,37 +141,35 @@ fn a_reader_that_fails_is_said_so_in_lanes(rt: HostRuntime) {
         before: 100,
         fault: ErrorKind::Other,
     };
+    let outcome = run_lanes(&rt, rt.alloc(), 2, NO_SCRIPT, input);
     let fault = "the plan could not be read";
-    is_refused(&rt, rt.alloc(), 2, None, input, fault);
+    outcome_fails(&rt, fault, outcome, 2, fault);
 }
 
 /// Runs both creates at once into an output that fails.
-fn run_to_failure(alloc: Global, output: FailingWriter) -> Outcome {
+fn run_to_failure(rt: &impl Abort, alloc: Global, output: FailingWriter) -> Outcome {
     let mut said = Vec::new(alloc);
     let input = CREATES.as_bytes();
-    let (output, status) = run_at_once(alloc, 2, Some(SCRIPT), input, output, &mut said);
-    Outcome {
-        status,
-        printed: output.taken,
-        said,
-    }
+    let (output, status) = run_at_once(rt, alloc, 2, SCRIPT, input, output, &mut said);
+    outcome_of(rt, alloc, status, output.taken, said)
+}
+
+/// Fails where an output with so little room gets no front of the stream, or the status is not 3.
+fn front_is(rt: &impl Abort, alloc: Global, room: usize) {
+    let outcome = run_to_failure(rt, alloc, with_room(alloc, 7, room));
+    let front = front_of(rt, STREAM, room);
+    outcome_is(rt, "a front", outcome, 3, front, UNWRITTEN);
 }
 
 /// Whatever the output does not take first, among places of each line: it has all before it and nothing more.
 #[test]
 fn an_output_that_fails_in_lanes_is_said_so(rt: HostRuntime) {
     let alloc = rt.alloc();
-    let bytes = STREAM.as_bytes();
-    for room in 0..bytes.len() {
-        if room % 61 != 0 {
-            continue;
-        }
-        let outcome = run_to_failure(alloc, with_room(alloc, 7, room));
-        let front = text_of(&rt, &bytes[..room]);
-        outcome_is(&rt, "a front", &outcome, 3, front, UNWRITTEN);
+    for room in (0..STREAM.len()).step_by(61) {
+        front_is(&rt, alloc, room);
     }
-    let outcome = run_to_failure(alloc, with_room(alloc, 7, bytes.len()));
-    outcome_is(&rt, "all of it", &outcome, 1, STREAM, "");
-    let outcome = run_to_failure(alloc, unflushed(alloc, bytes.len()));
-    outcome_is(&rt, "no flush", &outcome, 3, STREAM, UNWRITTEN);
+    let outcome = run_to_failure(&rt, alloc, with_room(alloc, 7, STREAM.len()));
+    outcome_is(&rt, "all of it", outcome, 1, STREAM, "");
+    let outcome = run_to_failure(&rt, alloc, unflushed(alloc, STREAM.len()));
+    outcome_is(&rt, "no flush", outcome, 3, STREAM, UNWRITTEN);
 }

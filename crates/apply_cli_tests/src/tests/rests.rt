@@ -51,87 +51,81 @@ fn failing(count: usize, fails_at: Option<usize>, fault: ErrorKind) -> Blanks {
 
 /// Fails where others are left than so many, or the end was not met so often.
 fn left_are(rt: &impl Abort, case: &str, input: &Blanks, left: usize, ends: usize) {
-    assert_eq!(rt; input.left, left, "{case}");
-    assert_eq!(rt; input.ends, ends, "{case}");
+    number_is(rt, case, input.left, left);
+    number_is(rt, case, input.ends, ends);
 }
 
 /// What is said of a plan that is too large.
 const TOO_LARGE: &str = "the plan is larger than 67108864 bytes";
 
 /// Runs blanks in lanes.
-fn run_lanes(alloc: Global, input: &mut Blanks) -> Outcome {
+fn run_lanes(rt: &impl Abort, alloc: Global, input: &mut Blanks) -> Outcome {
+    let settings = kept(rt, alloc, defaults(alloc));
+    let (registry, output) = (no_hooks(rt, alloc), empty(alloc));
     let mut said = Vec::new(alloc);
     let (output, status) = run_in_lanes(
-        alloc,
-        &defaults(alloc),
-        2,
-        &Registry::new(alloc),
-        None,
-        input,
-        empty(alloc),
-        &mut said,
+        alloc, settings, 2, registry, None, input, output, &mut said,
     );
-    Outcome {
-        status,
-        printed: output.into_inner(),
-        said,
-    }
+    outcome_of(rt, alloc, status, output.into_inner(), said)
+}
+
+/// Fails where a worker does not refuse the blanks with this fault, or others are left, or the end was not met so often.
+fn blanks_fail<T: Threads + Wait + Sync + Abort>(
+    rt: &T,
+    alloc: Global,
+    mut input: Blanks,
+    fault: &str,
+    left: usize,
+    ends: usize,
+) {
+    let outcome = run(rt, alloc, &mut input);
+    outcome_fails(rt, "a worker", outcome, 2, fault);
+    left_are(rt, "a worker", &input, left, ends);
 }
 
 #[test]
 fn a_plan_that_is_too_large_is_read_to_its_end(rt: HostRuntime) {
     let alloc = rt.alloc();
+    blanks_fail(&rt, alloc, all_of(MOST + BEHIND), TOO_LARGE, 0, 1);
     let mut input = all_of(MOST + BEHIND);
-    let outcome = run(&rt, alloc, &mut input);
-    outcome_fails(&rt, "workers", &outcome, 2, TOO_LARGE);
-    left_are(&rt, "workers", &input, 0, 1);
-    let mut input = all_of(MOST + BEHIND);
-    let outcome = run_lanes(alloc, &mut input);
-    outcome_fails(&rt, "lanes", &outcome, 2, TOO_LARGE);
+    let outcome = run_lanes(&rt, alloc, &mut input);
+    outcome_fails(&rt, "lanes", outcome, 2, TOO_LARGE);
     left_are(&rt, "lanes", &input, 0, 1);
 }
 
 #[test]
 fn an_interrupted_read_behind_a_plan_is_tried_again(rt: HostRuntime) {
-    let mut input = failing(MOST + BEHIND, Some(BEHIND - 1), ErrorKind::Interrupted);
-    let outcome = run(&rt, rt.alloc(), &mut input);
-    outcome_fails(&rt, "interrupted", &outcome, 2, TOO_LARGE);
-    left_are(&rt, "interrupted", &input, 0, 1);
+    let input = failing(MOST + BEHIND, Some(BEHIND - 1), ErrorKind::Interrupted);
+    blanks_fail(&rt, rt.alloc(), input, TOO_LARGE, 0, 1);
 }
 
 #[test]
 fn a_read_that_fails_behind_a_plan_ends_it(rt: HostRuntime) {
-    let mut input = failing(MOST + BEHIND, Some(BEHIND - 1), ErrorKind::Other);
-    let outcome = run(&rt, rt.alloc(), &mut input);
-    outcome_fails(&rt, "broken", &outcome, 2, TOO_LARGE);
-    left_are(&rt, "broken", &input, BEHIND - 1, 0);
+    let input = failing(MOST + BEHIND, Some(BEHIND - 1), ErrorKind::Other);
+    blanks_fail(&rt, rt.alloc(), input, TOO_LARGE, BEHIND - 1, 0);
 }
 
 #[test]
 fn the_rest_is_read_where_a_read_of_the_plan_failed(rt: HostRuntime) {
-    let mut input = failing(BEHIND, Some(BEHIND), ErrorKind::Interrupted);
-    let outcome = run(&rt, rt.alloc(), &mut input);
+    let input = failing(BEHIND, Some(BEHIND), ErrorKind::Interrupted);
     let fault = "the plan could not be read";
-    outcome_fails(&rt, "a first read that fails", &outcome, 2, fault);
-    left_are(&rt, "a first read that fails", &input, 0, 1);
+    blanks_fail(&rt, rt.alloc(), input, fault, 0, 1);
 }
 
 /// A terminal would have to say its end twice.
 #[test]
 fn a_plan_that_was_read_whole_is_not_read_on(rt: HostRuntime) {
-    let mut input = all_of(BEHIND);
-    let outcome = run(&rt, rt.alloc(), &mut input);
-    outcome_fails(&rt, "blanks", &outcome, 2, "the plan is not JSON");
-    left_are(&rt, "blanks", &input, 0, 1);
+    let fault = "the plan is not JSON";
+    blanks_fail(&rt, rt.alloc(), all_of(BEHIND), fault, 0, 1);
 }
 
 #[test]
 fn a_rest_is_dropped(rt: HostRuntime) {
     let mut input = all_of(BEHIND);
-    assert!(rt; drop_rest(&mut input));
+    holds(&rt, "a rest", drop_rest(&mut input));
     left_are(&rt, "a rest", &input, 0, 1);
-    assert!(rt; drop_rest(&mut input));
+    holds(&rt, "no rest", drop_rest(&mut input));
     let mut input = failing(BEHIND, Some(BEHIND), ErrorKind::WouldBlock);
-    assert!(rt; !drop_rest(&mut input));
+    holds(&rt, "a rest that would wait", !drop_rest(&mut input));
     left_are(&rt, "a rest that would wait", &input, BEHIND, 0);
 }

@@ -10,8 +10,8 @@ const REPLACED: &str =
     r#"{"format_version":"1.2","terraform_version":"1.9.0","resource_changes":[{"address":"null_resource.a","mode":"managed","type":"null_resource","name":"a","change":{"actions":["create","delete"]}}]}"#;
 
 /// Its second step fails.
-const BOOM: &[u8] =
-    br#"{"changes":[{"address":"null_resource.a","steps":[{"seconds":0},{"seconds":4,"failed":{"summary":"boom"}}]}]}"#;
+const BOOM: &str =
+    r#"{"changes":[{"address":"null_resource.a","steps":[{"seconds":0},{"seconds":4,"failed":{"summary":"boom"}}]}]}"#;
 
 /// How the stream of both ends.
 const BOOM_END: &str =
@@ -35,36 +35,33 @@ const DESTROYED: &str =
 "#;
 
 /// The settings of words that say some.
-fn settings_of(rt: &impl Abort, alloc: Global, words: &str) -> Settings {
-    match read_invocation(alloc, &words_of(rt, alloc, words)) {
-        Ok(invocation) => invocation.settings,
-        Err(usage) => panic!(rt; "{usage:?}"),
+fn settings_of(rt: &impl Abort, alloc: Global, words: &str) -> &'static Settings {
+    match read_of(rt, alloc, words) {
+        Ok(invocation) => &invocation.settings,
+        Err(usage) => rt.panic(name_of(usage)),
     }
 }
 
 /// Runs as the settings say, without hooks or a script.
-fn run_as<T: Threads + Wait + Sync>(
+fn run_as<T: Threads + Wait + Sync + Abort>(
     rt: &T,
     alloc: Global,
     settings: &Settings,
     plan: &str,
 ) -> Outcome {
-    let registry = Registry::new(alloc);
-    run_with(rt, alloc, settings, &registry, None, plan.as_bytes())
+    run_with(rt, alloc, settings, None, plan.as_bytes())
 }
 
 /// Runs the replacement that creates first with the script.
-fn run_script<T: Threads + Wait + Sync>(rt: &T, alloc: Global, script: &[u8]) -> Outcome {
-    let settings = defaults(alloc);
-    let registry = Registry::new(alloc);
-    let plan = REPLACED.as_bytes();
-    run_with(rt, alloc, &settings, &registry, Some(script), plan)
+fn run_script<T: Threads + Wait + Sync + Abort>(rt: &T, alloc: Global, script: &[u8]) -> Outcome {
+    let settings = kept(rt, alloc, defaults(alloc));
+    run_with(rt, alloc, settings, Some(script), REPLACED.as_bytes())
 }
 
 #[test]
 fn a_step_that_fails_is_told_by_the_status(rt: HostRuntime) {
-    let outcome = run_script(&rt, rt.alloc(), BOOM);
-    outcome_ends(&rt, "boom", &outcome, 1, BOOM_END);
+    let outcome = run_script(&rt, rt.alloc(), BOOM.as_bytes());
+    outcome_ends(&rt, "boom", outcome, 1, BOOM_END);
 }
 
 /// Scripts that are none for it, and what is said of them.
@@ -76,31 +73,38 @@ const REFUSED: &str = r#"{ => the script is not JSON
 {"changes":[{"address":"null_resource.a","steps":[{"seconds":0},{"seconds":0},{"seconds":0}]}]} => script entry 0 has too many steps
 {"changes":[{"address":"null_resource.a","steps":[{"seconds":86401}]}]} => script entry 0 has a step over 86400 seconds"#;
 
+/// Fails where the script is not refused with this fault.
+fn script_fails<T: Threads + Wait + Sync + Abort>(
+    rt: &T,
+    alloc: Global,
+    script: &[u8],
+    fault: &str,
+) {
+    let outcome = run_script(rt, alloc, script);
+    outcome_fails(rt, fault, outcome, 2, fault);
+}
+
 #[test]
 fn a_script_that_is_none_is_refused(rt: HostRuntime) {
     for row in REFUSED.lines() {
         let (script, fault) = parted(&rt, row, " => ");
-        let outcome = run_script(&rt, rt.alloc(), script.as_bytes());
-        outcome_fails(&rt, script, &outcome, 2, fault);
+        script_fails(&rt, rt.alloc(), script.as_bytes(), fault);
     }
 }
 
 #[test]
 fn a_script_that_is_too_large_is_refused(rt: HostRuntime) {
-    let alloc = rt.alloc();
-    let blanks = vec![in alloc; b' '; 67_108_865].expect(&rt, "memory");
-    let outcome = run_script(&rt, alloc, &blanks);
+    let blanks = blanks_of(&rt, rt.alloc(), 67_108_865);
     let fault = "the script is larger than 67108864 bytes";
-    outcome_fails(&rt, "blanks", &outcome, 2, fault);
+    script_fails(&rt, rt.alloc(), blanks, fault);
 }
 
 #[test]
 fn sizes_out_of_range_are_refused(rt: HostRuntime) {
-    let mut settings = defaults(rt.alloc());
-    settings.workers = 9;
-    let outcome = run_as(&rt, rt.alloc(), &settings, REPLACED);
+    let settings = kept(&rt, rt.alloc(), with_workers(rt.alloc(), 9));
+    let outcome = run_as(&rt, rt.alloc(), settings, REPLACED);
     let fault = "the sizes are out of range";
-    outcome_fails(&rt, "nine workers", &outcome, 2, fault);
+    outcome_fails(&rt, "nine workers", outcome, 2, fault);
 }
 
 /// A moment that is not of UTC.
@@ -109,13 +113,13 @@ const AT: &str = "--at 2021-05-25T13:32:41.275359-04:00";
 #[test]
 fn moments_count_from_the_start(rt: HostRuntime) {
     let settings = settings_of(&rt, rt.alloc(), AT);
-    let outcome = run_as(&rt, rt.alloc(), &settings, EMPTY);
-    outcome_is(&rt, AT, &outcome, 0, STARTED, "");
+    let outcome = run_as(&rt, rt.alloc(), settings, EMPTY);
+    outcome_is(&rt, AT, outcome, 0, STARTED, "");
 }
 
 #[test]
 fn a_destroy_is_said_at_the_end(rt: HostRuntime) {
     let settings = settings_of(&rt, rt.alloc(), "--destroy");
-    let outcome = run_as(&rt, rt.alloc(), &settings, DELETES);
-    outcome_ends(&rt, "--destroy", &outcome, 0, DESTROYED);
+    let outcome = run_as(&rt, rt.alloc(), settings, DELETES);
+    outcome_ends(&rt, "--destroy", outcome, 0, DESTROYED);
 }

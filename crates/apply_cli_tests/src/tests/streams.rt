@@ -108,25 +108,29 @@ const ESCAPED_STREAM: &str =
 
 /// Fails where a run has failed, a fault was said, or other lines were printed, each with its line feed. The last of those
 /// that are wanted has none.
-fn lines_are(rt: &impl Abort, name: &str, outcome: &Outcome, wanted: &str) {
-    status_is(rt, name, outcome, 0);
-    let printed = text_of(rt, &outcome.printed);
-    assert_eq!(rt; printed.strip_suffix("\n"), Some(wanted), "{name}");
-    is_text(rt, name, &outcome.said, "");
+fn lines_are(rt: &impl Abort, name: &str, outcome: Outcome, wanted: &str) {
+    status_is(rt, name, outcome.status, 0);
+    let lines = outcome.printed.strip_suffix("\n").expect(rt, name);
+    text_is(rt, name, lines, wanted);
+    text_is(rt, name, outcome.said, "");
+}
+
+/// Fails where the plan of the case is told by other lines.
+fn case_is_told<T: Threads + Wait + Sync + Abort>(rt: &T, alloc: Global, case: &str) {
+    let (name, rest) = parted(rt, case, "\n");
+    let (plan, wanted) = parted(rt, rest, "\n");
+    lines_are(rt, name, run(rt, alloc, plan.as_bytes()), wanted);
 }
 
 #[test]
 fn streams_are_printed_byte_for_byte(rt: HostRuntime) {
     for case in STREAMS.split("\n\n") {
-        let (name, rest) = parted(&rt, case, "\n");
-        let (plan, wanted) = parted(&rt, rest, "\n");
-        let outcome = run(&rt, rt.alloc(), plan.as_bytes());
-        lines_are(&rt, name, &outcome, wanted);
+        case_is_told(&rt, rt.alloc(), case);
     }
 }
 
 #[test]
 fn texts_are_escaped(rt: HostRuntime) {
     let outcome = run(&rt, rt.alloc(), ESCAPED_PLAN.as_bytes());
-    outcome_is(&rt, "escapes", &outcome, 0, ESCAPED_STREAM, "");
+    outcome_is(&rt, "escapes", outcome, 0, ESCAPED_STREAM, "");
 }

@@ -1,7 +1,6 @@
 //! Which words say which settings.
 
 use super::*;
-use std::alloc::AllocError;
 
 /// Words, and what they say.
 const TABLE: &str =
@@ -69,35 +68,27 @@ plan.json => Words
 --workers 9 --help => Words"#;
 
 /// What the words are answered, by all options.
-fn answer_to(rt: &impl Abort, alloc: Global, text: &str) -> String {
-    let words = words_of(rt, alloc, text);
-    let answer = match read_invocation(alloc, &words) {
-        Ok(invocation) => format!(in alloc; "{:?}", invocation.settings),
-        Err(usage) => shown(alloc, &usage),
-    };
-    answer.expect(rt, "memory")
+fn answer_to(rt: &impl Abort, alloc: Global, text: &str) -> &'static str {
+    match read_of(rt, alloc, text) {
+        Ok(invocation) => shown(rt, alloc, &invocation.settings),
+        Err(usage) => fault_of(rt, alloc, usage),
+    }
 }
 
 /// What they are answered by the options without a parallelism.
-fn settings_answer_to(rt: &impl Abort, alloc: Global, text: &str) -> String {
+fn settings_answer_to(rt: &impl Abort, alloc: Global, text: &str) -> &'static str {
     let words = words_of(rt, alloc, text);
-    let answer = match read_words(alloc, &words) {
-        Ok(settings) => format!(in alloc; "{settings:?}"),
-        Err(usage) => shown(alloc, &usage),
-    };
-    answer.expect(rt, "memory")
+    match kept(rt, alloc, read_words(alloc, words)) {
+        Ok(settings) => shown(rt, alloc, settings),
+        Err(usage) => fault_of(rt, alloc, usage),
+    }
 }
 
 /// The fault of a moment, or the name of any other usage.
-fn shown(alloc: Global, usage: &Usage) -> Result<String, AllocError> {
+fn fault_of(rt: &impl Abort, alloc: Global, usage: &Usage) -> &'static str {
     match usage {
-        Usage::Help(_) => String::from_str(alloc, "Help"),
-        Usage::Version => String::from_str(alloc, "Version"),
-        Usage::Words(_) => String::from_str(alloc, "Words"),
-        Usage::Beside => String::from_str(alloc, "Beside"),
-        Usage::Moment(error) => format!(in alloc; "{error:?}"),
-        Usage::Hooks => String::from_str(alloc, "Hooks"),
-        Usage::Memory => String::from_str(alloc, "Memory"),
+        Usage::Moment(error) => shown(rt, alloc, error),
+        _ => name_of(usage),
     }
 }
 
@@ -105,10 +96,9 @@ fn shown(alloc: Global, usage: &Usage) -> Result<String, AllocError> {
 fn words_say_settings(rt: HostRuntime) {
     for row in TABLE.lines() {
         let (words, wanted) = parted(&rt, row, " => ");
-        let answer = answer_to(&rt, rt.alloc(), words);
-        assert_eq!(rt; answer.as_str(), wanted, "{words}");
+        text_is(&rt, words, answer_to(&rt, rt.alloc(), words), wanted);
         let answer = settings_answer_to(&rt, rt.alloc(), words);
-        assert_eq!(rt; answer.as_str(), wanted, "{words}");
+        text_is(&rt, words, answer, wanted);
     }
 }
 
@@ -127,21 +117,16 @@ fn settings_know_no_parallelism_and_no_form(rt: HostRuntime) {
     for row in OTHERS.lines() {
         let (words, wanted) = parted(&rt, row, " => ");
         let answer = settings_answer_to(&rt, rt.alloc(), words);
-        assert_eq!(rt; answer.as_str(), wanted, "{words}");
+        text_is(&rt, words, answer, wanted);
     }
-}
-
-/// Fails where the words are not taken just where a run takes their numbers.
-fn are_taken(rt: &impl Abort, alloc: Global, words: &str, in_range: bool) {
-    let words = words_of(rt, alloc, words);
-    let taken = read_invocation(alloc, &words).is_ok();
-    assert_eq!(rt; taken, in_range, "{words:?}");
 }
 
 /// Fails where the option takes another number than a run.
 fn number_is_taken(rt: &impl Abort, alloc: Global, option: &str, number: u16, in_range: bool) {
     let words = format!(in alloc; "{option} {number}").expect(rt, "memory");
-    are_taken(rt, alloc, words.as_str(), in_range);
+    let words = kept_text(rt, alloc, words);
+    let taken = read_of(rt, alloc, words).is_ok();
+    holds(rt, words, taken == in_range);
 }
 
 /// Whether a run takes so many workers and such a queue.
@@ -167,7 +152,8 @@ fn options_take_the_numbers_that_a_run_takes(rt: HostRuntime) {
         number_is_taken(&rt, alloc, "--queue", queue, is_size(1, queue));
     }
     let most = u16::from(MAX_LANES);
-    for (lanes, in_range) in [(0, false), (1, true), (most, true), (most + 1, false)] {
+    for lanes in [0, 1, most, most + 1] {
+        let in_range = 0 < lanes && lanes <= most;
         number_is_taken(&rt, alloc, "--parallelism", lanes, in_range);
     }
 }
@@ -181,38 +167,35 @@ const HALTS: &str = "32 0 Settings
 1 32 Hooks
 40 40 Hooks";
 
-/// Appends the words so many times.
-fn repeat(rt: &impl Abort, words: &mut String, word: &str, count: u8) {
-    for _ in 0..count {
-        words.push_str(word).expect(rt, "memory");
-    }
+/// The words, so many times.
+fn repeated(rt: &impl Abort, alloc: Global, words: &str, count: &str) -> &'static str {
+    let count = count.parse::<usize>().ok().expect(rt, count);
+    kept_text(rt, alloc, words.repeat(alloc, count).expect(rt, "memory"))
+}
+
+/// The words of a row.
+fn halts_of(rt: &impl Abort, alloc: Global, before: &str, inside: &str) -> &'static str {
+    let inside = repeated(rt, alloc, "--halt-in a ", inside);
+    let before = repeated(rt, alloc, "--halt-before delete ", before);
+    let words = format!(in alloc; "{inside}{before}");
+    kept_text(rt, alloc, words.expect(rt, "memory"))
+}
+
+/// Fails where the words of a row are answered otherwise.
+fn halts_are_answered(rt: &impl Abort, alloc: Global, row: &str) {
+    let (before, rest) = parted(rt, row, " ");
+    let (inside, wanted) = parted(rt, rest, " ");
+    let words = halts_of(rt, alloc, before, inside);
+    let answer = answer_to(rt, alloc, words);
+    holds(rt, row, answer.starts_with(wanted));
+    let answer = settings_answer_to(rt, alloc, words);
+    holds(rt, row, answer.starts_with(wanted));
 }
 
 #[test]
 fn there_are_32_halts_at_most(rt: HostRuntime) {
     for row in HALTS.lines() {
-        let (before, rest) = parted(&rt, row, " ");
-        let (inside, wanted) = parted(&rt, rest, " ");
-        let mut words = String::new(rt.alloc());
-        repeat(&rt, &mut words, "--halt-in a ", number(&rt, inside));
-        repeat(
-            &rt,
-            &mut words,
-            "--halt-before delete ",
-            number(&rt, before),
-        );
-        let answer = answer_to(&rt, rt.alloc(), words.as_str());
-        assert!(rt; answer.starts_with(wanted), "{row}: {answer}");
-        let answer = settings_answer_to(&rt, rt.alloc(), words.as_str());
-        assert!(rt; answer.starts_with(wanted), "{row}: {answer}");
-    }
-}
-
-/// A number of a table.
-fn number(rt: &impl Abort, text: &str) -> u8 {
-    match text.parse::<u8>() {
-        Ok(number) => number,
-        Err(_) => panic!(rt; "no number: {text}"),
+        halts_are_answered(&rt, rt.alloc(), row);
     }
 }
 
@@ -245,18 +228,10 @@ Exit status:
   2
   3"#;
 
-/// The help.
-fn help(rt: &impl Abort, alloc: Global) -> Text {
-    match read_invocation(alloc, &words_of(rt, alloc, "--help")) {
-        Err(Usage::Help(help)) => help,
-        _ => panic!(rt; "no help"),
-    }
-}
-
 #[test]
 fn help_says_all(rt: HostRuntime) {
-    let help = help(&rt, rt.alloc());
+    let help = help_of(&rt, rt.alloc());
     for line in IN_HELP.lines() {
-        assert!(rt; help.as_str().contains(line), "{line}");
+        holds(&rt, line, help.contains(line));
     }
 }

@@ -75,11 +75,11 @@ fn push_rule(rt: &impl Abort, rules: &mut Rules, rule: Rule) {
 /// Fails where the rule of the row, or a list of it alone, takes other calls.
 fn takes(rt: &impl Abort, alloc: Global, row: &str) {
     let (rule, wanted) = parted(rt, row, " => ");
-    let found = matched(rt, alloc, &rule_of(rt, alloc, rule, Verdict::Halt));
-    text_is(rt, row, found, wanted);
-    let mut rules = Rules::new(alloc);
-    push_rule(rt, &mut rules, rule_of(rt, alloc, rule, Verdict::Halt));
-    text_is(rt, row, halted(rt, alloc, &rules), wanted);
+    let found = kept(rt, alloc, rule_of(rt, alloc, rule, Verdict::Halt));
+    text_is(rt, row, matched(rt, alloc, found), wanted);
+    let rules = kept(rt, alloc, Rules::new(alloc));
+    push_rule(rt, rules, rule_of(rt, alloc, rule, Verdict::Halt));
+    text_is(rt, row, halted(rt, alloc, rules), wanted);
 }
 
 #[test]
@@ -101,11 +101,11 @@ Pre Create b => Continue";
 
 /// Fails where a list of both rules answers otherwise.
 fn decide(rt: &impl Abort, alloc: Global, first: Rule, second: Rule, table: &str) {
-    let mut rules = Rules::new(alloc);
-    push_rule(rt, &mut rules, first);
-    push_rule(rt, &mut rules, second);
+    let rules = kept(rt, alloc, Rules::new(alloc));
+    push_rule(rt, rules, first);
+    push_rule(rt, rules, second);
     for row in table.lines() {
-        is_decided(rt, alloc, &rules, row);
+        is_decided(rt, alloc, rules, row);
     }
 }
 

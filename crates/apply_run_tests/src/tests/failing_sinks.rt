@@ -1,6 +1,6 @@
 //! Streams into sinks that take little at a time, or fail.
 
-ghost use Rattle.std.specs.Prelude.{◌<◌, ◌≤◌, ◌-◌, ◌^◌};
+ghost use Rattle.std.specs.Prelude.{◌<◌, ◌-◌, ◌^◌};
 
 use super::*;
 use std::io;
@@ -146,91 +146,42 @@ fn first_fails() -> Run {
     }
 }
 
+/// The most bytes that a sink takes with each write: single ones, few, and whole lines.
+const WRITES: [usize; 3] = [1, 7, 4096];
+
 /// Whatever byte is the first that the sink does not take: it has all before it and nothing more, and all events are taken.
 fn fails_at_each_byte_of<R: Threads + Wait + Sync + Abort>(
     rt: &R,
     alloc: Global,
     run: &Run,
     workers: u8,
-    per_write: usize,
-)
-    requires { 1 ≤ per_write }
-{
-    for room in 0..=run.stream.len() {
-        takes_so_many(rt, alloc, run, workers, per_write, room);
+) {
+    for per_write in WRITES {
+        for room in 0..=run.stream.len() {
+            takes_so_many(rt, alloc, run, workers, per_write, room);
+        }
     }
-}
-
-/// The same of the failed replacement, whose stream is the same by all numbers of workers.
-fn fails_at_each_byte<R: Threads + Wait + Sync + Abort>(
-    rt: &R,
-    alloc: Global,
-    workers: u8,
-    per_write: usize,
-)
-    requires { 1 ≤ per_write }
-{
-    fails_at_each_byte_of(rt, alloc, &failed_destroy(), workers, per_write);
 }
 
 #[test]
 fn fails_at_each_byte_around_a_diagnostic(rt: HostRuntime) {
-    fails_at_each_byte_of(&rt, rt.alloc(), &first_fails(), 1, 1);
+    fails_at_each_byte_of(&rt, rt.alloc(), &first_fails(), 1);
+}
+
+/// The stream of the failed replacement is the same by all numbers of workers.
+#[test]
+fn fails_at_each_byte(rt: HostRuntime) {
+    fails_at_each_byte_of(&rt, rt.alloc(), &failed_destroy(), 1);
 }
 
 #[test]
-fn fails_at_each_byte_of_short_writes_around_a_diagnostic(rt: HostRuntime) {
-    fails_at_each_byte_of(&rt, rt.alloc(), &first_fails(), 1, 7);
-}
-
-#[test]
-fn fails_at_each_byte_of_whole_lines_around_a_diagnostic(rt: HostRuntime) {
-    fails_at_each_byte_of(&rt, rt.alloc(), &first_fails(), 1, 4096);
-}
-
-#[test]
-fn fails_at_each_byte_of_single_bytes(rt: HostRuntime) {
-    fails_at_each_byte(&rt, rt.alloc(), 1, 1);
-}
-
-#[test]
-fn fails_at_each_byte_of_short_writes(rt: HostRuntime) {
-    fails_at_each_byte(&rt, rt.alloc(), 1, 7);
-}
-
-#[test]
-fn fails_at_each_byte_of_whole_lines(rt: HostRuntime) {
-    fails_at_each_byte(&rt, rt.alloc(), 1, 4096);
-}
-
-#[test]
-fn fails_at_each_byte_of_single_bytes_under_two_workers(rt: HostRuntime) {
-    fails_at_each_byte(&rt, rt.alloc(), 2, 1);
-}
-
-#[test]
-fn fails_at_each_byte_of_short_writes_under_two_workers(rt: HostRuntime) {
-    fails_at_each_byte(&rt, rt.alloc(), 2, 7);
-}
-
-#[test]
-fn fails_at_each_byte_of_whole_lines_under_two_workers(rt: HostRuntime) {
-    fails_at_each_byte(&rt, rt.alloc(), 2, 4096);
-}
-
-#[test]
-fn fails_at_each_byte_of_single_bytes_under_eight_workers(rt: HostRuntime) {
-    fails_at_each_byte(&rt, rt.alloc(), 8, 1);
-}
-
-#[test]
-fn fails_at_each_byte_of_short_writes_under_eight_workers(rt: HostRuntime) {
-    fails_at_each_byte(&rt, rt.alloc(), 8, 7);
+fn fails_at_each_byte_under_two_workers(rt: HostRuntime) {
+    fails_at_each_byte_of(&rt, rt.alloc(), &failed_destroy(), 2);
 }
 
 #[test]
 fn fails_at_each_byte_under_eight_workers(rt: HostRuntime) {
-    fails_at_each_byte(&rt, rt.alloc(), 8, 4096);
+    fails_at_each_byte_of(&rt, rt.alloc(), &failed_destroy(), 8);
 }
 
 /// Fails where a sink with room for so many bytes of the stream gets others, or the run does not end as it has to.
@@ -241,9 +192,8 @@ fn takes_so_many<R: Threads + Wait + Sync + Abort>(
     workers: u8,
     per_write: usize,
     room: usize,
-)
-    requires { 1 ≤ per_write }
-{
+) {
+    assert!(rt; per_write > 0);
     let sink = MemorySink::new(alloc, per_write, Some(room));
     let options = options(workers, 64);
     let (sink, result) = apply_texts(rt, alloc, run.plan, run.script, options, sink, &NoGate);
@@ -262,9 +212,9 @@ fn fails_once_cut_off(
 ) {
     if room < run.stream.len() {
         end_is(rt, room, end, failed(run.counts, run.taken, room));
-        assert!(rt; failures == 1, "{room} bytes, {failures} failed writes");
+        number_is(rt, "failed writes", failures, 1);
     } else {
-        assert!(rt; end.is_ok(), "{room} bytes");
+        holds(rt, "an end that is well", end.is_ok());
         number_is(rt, "failed writes", failures, 0);
     }
 }
