@@ -10,12 +10,12 @@ use Rattle.apply_hooks.specs.declared.phase.Phase.{Phase}
 use Rattle.apply_hooks.specs.declared.phase.Phase.TheVariants.{Pre}
 use Rattle.apply_events.specs.declared.event.Event.{Event}
 use Rattle.apply_events.specs.declared.what.What.{What}
-use Rattle.apply_events.specs.declared.what.What.TheVariants.{Halted, ProvisionComplete, ProvisionErrored, Start}
+use Rattle.apply_events.specs.declared.what.What.TheVariants.{Halted, ProvisionComplete, ProvisionErrored, Start, WarnNote}
 use Rattle.apply_events.specs.ChangeEvents.{begun, change_events, in_turn}
 use Rattle.apply_events.specs.Laws.{ends_step}
 use Rattle.apply_events.specs.Provisions.{provision_end}
 use Rattle.apply_events.specs.Step.{Step, Work, steps_of}
-use Rattle.apply_events.specs.StepEvents.{between, end_of, endings, event, halts, notes, phase_after, seconds_of, started, step_events, step_time}
+use Rattle.apply_events.specs.StepEvents.{between, end_of, endings, event, halts, notes, phase_after, seconds_of, started, step_events, step_time, tells_end}
 use Rattle.apply_events.specs.Totals.{is_complete, is_errored}
 use Rattle.apply_events.proofs.Provisions.{all_along}
 use Rattle.apply_events.proofs.Rising.{Rises, Rises-le}
@@ -53,12 +53,19 @@ notes_end_nothing false true k w s at = rw (and-false (nat_eq s.number k)) refl
 notes_end_nothing false false k w s at = refl
 
 count-endings : (k w : ℕ) (s : Step) (at : ℕ) → count_by (ends_step k) (map (λ what. event w s at what) (endings s)) ≤ 1
-count-endings k w s at =
-    let first : cond (ends_step k (event w s at (end_of s.fails (seconds_of s)))) 1 0 ≤ 1 = at_most_one (ends_step k (event w s at (end_of s.fails (seconds_of s)))) in
-    let rest : count_by (ends_step k) (map (λ what. event w s at what) (notes s.fails s.warns)) ≡ 0 = notes_end_nothing s.fails s.warns k w s at in
-    let e : count_by (ends_step k) (map (λ what. event w s at what) (endings s)) ≡ cond (ends_step k (event w s at (end_of s.fails (seconds_of s)))) 1 0 + count_by (ends_step k) (map (λ what. event w s at what) (notes s.fails s.warns)) =
-    count-cons (ends_step k) (event w s at (end_of s.fails (seconds_of s))) (map (λ what. event w s at what) (notes s.fails s.warns)) in
-    omega arith
+count-endings k w s at = either (tells_end s.fails s.only_warns)
+  where
+    told : count_by (ends_step k) (map (λ what. event w s at what) (end_of s.fails (seconds_of s) ∷ notes s.fails s.warns)) ≤ 1
+    told =
+        let first : cond (ends_step k (event w s at (end_of s.fails (seconds_of s)))) 1 0 ≤ 1 = at_most_one (ends_step k (event w s at (end_of s.fails (seconds_of s)))) in
+        let rest : count_by (ends_step k) (map (λ what. event w s at what) (notes s.fails s.warns)) ≡ 0 = notes_end_nothing s.fails s.warns k w s at in
+        let e : count_by (ends_step k) (map (λ what. event w s at what) (end_of s.fails (seconds_of s) ∷ notes s.fails s.warns)) ≡ cond (ends_step k (event w s at (end_of s.fails (seconds_of s)))) 1 0 + count_by (ends_step k) (map (λ what. event w s at what) (notes s.fails s.warns)) =
+        count-cons (ends_step k) (event w s at (end_of s.fails (seconds_of s))) (map (λ what. event w s at what) (notes s.fails s.warns)) in
+        omega arith
+
+    either : (b : Bool) → count_by (ends_step k) (map (λ what. event w s at what) (cond b (end_of s.fails (seconds_of s) ∷ notes s.fails s.warns) (WarnNote ∷ []))) ≤ 1
+    either true = told
+    either false = let none : count_by (ends_step k) (map (λ what. event w s at what) (WarnNote ∷ [])) ≡ 0 = rw (and-false (nat_eq s.number k)) refl in omega arith
 
 -- what happens before the end is no end
 abbrev EndsNothing : List (ℕ × What) → Type 0

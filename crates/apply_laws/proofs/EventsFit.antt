@@ -8,8 +8,10 @@ use Rattle.std.proofs.lemmas.Bool.Decides.{eqb_tells}
 use Rattle.std.proofs.lemmas.List.Elements.{All-append, All-cons, All-map, All-nil, All-weaker}
 use Rattle.std.proofs.lemmas.List.Quantifiers.{position-Some}
 use Rattle.apply_model.specs.declared.plan.step_kind.StepKind.{StepKind}
+use Rattle.apply_model.specs.declared.script.ending.Ending.{Ending}
+use Rattle.apply_model.specs.declared.script.ending.Ending.TheVariants.{Done, Failed, Warned}
 use Rattle.apply_model.specs.declared.script.outcome.Outcome.{Outcome}
-use Rattle.apply_model.specs.Script.Outcome.{fails, took}
+use Rattle.apply_model.specs.Script.Outcome.{fails, is_warned, took}
 use Rattle.apply_model.specs.Script.OutcomeMap.{outcome_of}
 use Rattle.apply_hooks.specs.HookCall.{Call}
 use Rattle.apply_hooks.specs.Hooks.{first_halting, max_hooks}
@@ -25,7 +27,7 @@ use Rattle.apply_events.specs.ChangeEvents.{begun, change_events, in_turn, span_
 use Rattle.apply_events.specs.Fits.{can_happen, happens, last_moment, max_span, may_be_asked}
 use Rattle.apply_events.specs.Laws.{AllFit, IsWithinLimits, NamesEachOnce}
 use Rattle.apply_events.specs.Step.{Work, address_of, has_warning, kinds_applied, step_of}
-use Rattle.apply_events.specs.StepEvents.{between, end_of, endings, event, goes_on, halts, notes, phase_after, seconds_of, started, step_events, step_time}
+use Rattle.apply_events.specs.StepEvents.{between, end_of, endings, event, goes_on, halts, notes, phase_after, seconds_of, started, step_events, step_time, tells_end}
 use Rattle.apply_events.specs.WorkerEvents.{worker_events}
 use Rattle.apply_events.proofs.Moments.{change_rises, moment_of, span_short, worker_in_time}
 use Rattle.apply_laws.proofs.ProvisionsFit.{CanHappenTo, along_happens, found_at, found_next}
@@ -47,17 +49,30 @@ Suits kind outcome what = IsTrue (can_happen kind outcome what)
 both : (a b : Bool) → a ≡ true → b ≡ true → (a && b) ≡ true
 both a b p q = rw (p, q) refl
 
-all-endings : (kind : StepKind) (outcome : Outcome) → All (Suits kind outcome) (end_of (fails outcome) (took kind outcome) ∷ notes (fails outcome) (has_warning outcome.result))
+-- what only warns has a warning
+warns : (result : Ending) → is_warned result ≡ true → has_warning result ≡ true
+warns (Done id warning) h = absurd cc
+warns (Failed diag) h = absurd cc
+warns (Warned diag) h = refl
+
+all-endings : (kind : StepKind) (outcome : Outcome)
+    → All (Suits kind outcome) (cond (tells_end (fails outcome) (is_warned outcome.result)) (end_of (fails outcome) (took kind outcome) ∷ notes (fails outcome) (has_warning outcome.result)) (WarnNote ∷ []))
 all-endings kind outcome =
     let P = Suits kind outcome in
-    elim (fails outcome) as (λ b. fails outcome ≡ b → All P (end_of b (took kind outcome) ∷ notes b (has_warning outcome.result))) [
+    let ends : (failed warned : Bool) → List What = λ failed warned. cond (tells_end failed warned) (end_of failed (took kind outcome) ∷ notes failed (has_warning outcome.result)) (WarnNote ∷ []) in
+    elim (fails outcome) as (λ b. fails outcome ≡ b → All P (ends b (is_warned outcome.result))) [
       | true ↦ λ fails_so. All-cons P (Errored (took kind outcome)) (ErrorNote ∷ []) (both (fails outcome) (nat_eq (took kind outcome) (took kind outcome)) fails_so (itself (took kind outcome))) (All-cons P ErrorNote [] fails_so (All-nil P))
       | false ↦ λ fails_so.
-          All-cons P (Complete (took kind outcome)) (notes false (has_warning outcome.result)) (both (not (fails outcome)) (nat_eq (took kind outcome) (took kind outcome)) (ap not fails_so) (itself (took kind outcome)))
-          (elim (has_warning outcome.result) as (λ b. has_warning outcome.result ≡ b → All P (notes false b)) [
-            | true ↦ λ warns_so. All-cons P WarnNote [] (both (not (fails outcome)) (has_warning outcome.result) (ap not fails_so) warns_so) (All-nil P)
-            | false ↦ λ warns_so. All-nil P
-          ] refl)
+          elim (is_warned outcome.result) as (λ b. is_warned outcome.result ≡ b → All P (ends false b)) [
+            | true ↦ λ only. All-cons P WarnNote [] (both (not (fails outcome)) (has_warning outcome.result) (ap not fails_so) (warns outcome.result only)) (All-nil P)
+            | false ↦ λ ends_so.
+                All-cons P (Complete (took kind outcome)) (notes false (has_warning outcome.result))
+                (both (not (fails outcome) && not (is_warned outcome.result)) (nat_eq (took kind outcome) (took kind outcome)) (both (not (fails outcome)) (not (is_warned outcome.result)) (ap not fails_so) (ap not ends_so)) (itself (took kind outcome)))
+                (elim (has_warning outcome.result) as (λ b. has_warning outcome.result ≡ b → All P (notes false b)) [
+                  | true ↦ λ warns_so. All-cons P WarnNote [] (both (not (fails outcome)) (has_warning outcome.result) (ap not fails_so) warns_so) (All-nil P)
+                  | false ↦ λ warns_so. All-nil P
+                ] refl)
+          ] refl
     ] refl
 
 asked_after : (fails : Bool) → may_be_asked fails (phase_after fails) ≡ true

@@ -1,19 +1,20 @@
 -- What happens to a step between its start and its end can happen to it.
-use Rattle.std.proofs.Common.{◌≡◌, ℕ, zero, suc, ◌+◌, ◌-◌, ◌≤◌, All, nat_eq, nat_lt, Bool, true, false, not, List, [], ◌∷◌, ◌++◌, cond, drop, get_or, length, map, Some, refl, ap, arith, ⊎_elim, lt-ltb, add-one}
+use Rattle.std.proofs.Common.{◌≡◌, ℕ, zero, suc, ◌+◌, ◌≤◌, All, nat_eq, nat_lt, Bool, true, false, not, List, [], ◌∷◌, ◌++◌, cond, drop, get_or, length, Some, refl, ap, arith, ⊎_elim, lt-ltb, add-one}
 use Rattle.std.specs.Prelude.{IsTrue, slice_get}
-use Rattle.std.specs.List.{list_any, range_with_len}
+use Rattle.std.specs.List.{list_any}
 use Rattle.std.proofs.lemmas.Bool.Decides.{eqb_tells}
 use Rattle.std.proofs.lemmas.List.Elements.{All-append, All-cons, All-filter, All-map, All-nil}
 use Rattle.std.proofs.lemmas.List.Folds.{list_any_at}
 use Rattle.apply_model.specs.declared.plan.step_kind.StepKind.{StepKind}
 use Rattle.apply_model.specs.declared.script.outcome.Outcome.{Outcome}
 use Rattle.apply_model.specs.declared.script.provisioner.Provisioner.{Provisioner}
+use Rattle.apply_model.specs.declared.script.timed_text.TimedText.{TimedText}
 use Rattle.apply_model.specs.Script.Outcome.{has_failed, ran, seconds_before, took}
 use Rattle.apply_events.specs.declared.what.What.{What}
 use Rattle.apply_events.specs.declared.what.What.TheVariants.{Progress, ProvisionComplete, ProvisionErrored, ProvisionOutput, ProvisionStart}
 use Rattle.apply_events.specs.Fits.{can_happen, runs}
 use Rattle.apply_events.specs.ProgressTimes.{progress_times}
-use Rattle.apply_events.specs.Provisions.{along, progress, provision_end, results, times_within}
+use Rattle.apply_events.specs.Provisions.{along, output_at, progress, provision_end, times_within, told_by}
 
 itself : (n : ℕ) → nat_eq n n ≡ true
 itself n = ⊎_elim (λ e. e.0) (λ e. absurd (e.1 refl)) (eqb_tells n n)
@@ -56,13 +57,20 @@ end_happens kind outcome i until p found =
       | false ↦ λ is. passes outcome i p (λ provisioner. not (has_failed provisioner)) found (ap not is)
     ] refl
 
-outputs_happen : (kind : StepKind) (outcome : Outcome) (i until low m : ℕ) (p : Provisioner) → slice_get (ran outcome.provisioners) i ≡ Some p → low + m ≤ length p.output
-    → All (CanHappenTo kind outcome) (map (λ (what : What). (until, what)) (map (λ j. ProvisionOutput i j) (range_with_len low m) ++ provision_end i p ∷ []))
-outputs_happen kind outcome i until low zero p found le = All-cons (CanHappenTo kind outcome) (until, provision_end i p) [] (end_happens kind outcome i until p found) (All-nil (CanHappenTo kind outcome))
-outputs_happen kind outcome i until low (suc m) p found le =
-    All-cons (CanHappenTo kind outcome) (until, ProvisionOutput i low) (map (λ (what : What). (until, what)) (map (λ j. ProvisionOutput i j) (range_with_len (low + 1) m) ++ provision_end i p ∷ []))
-    (passes outcome i p (λ provisioner. nat_lt low (length provisioner.output)) found (lt-ltb low (length p.output) (omega arith)))
-    (outputs_happen kind outcome i until (low + 1) m p found (omega arith))
+-- these outputs are those of provisioner i from one number on
+told_happens : (kind : StepKind) (outcome : Outcome) (after i j since until : ℕ) (p : Provisioner) (outputs : List TimedText) → slice_get (ran outcome.provisioners) i ≡ Some p → j + length outputs ≤ length p.output
+    → All (CanHappenTo kind outcome) (told_by (took kind outcome) after i j since until (provision_end i p) outputs)
+told_happens kind outcome after i j since until p [] found le =
+    let P = CanHappenTo kind outcome in
+    All-append P (progress (took kind outcome) after until) ((until, provision_end i p) ∷ []) (progress_happens kind outcome after until)
+    (All-cons P (until, provision_end i p) [] (end_happens kind outcome i until p found) (All-nil P))
+told_happens kind outcome after i j since until p (o ∷ os) found le =
+    let P = CanHappenTo kind outcome in
+    let at = output_at after since until o in
+    let rest = told_by (took kind outcome) at i (j + 1) since until (provision_end i p) os in
+    All-append P (progress (took kind outcome) after at) ((at, ProvisionOutput i j) ∷ rest) (progress_happens kind outcome after at)
+    (All-cons P (at, ProvisionOutput i j) rest (passes outcome i p (λ provisioner. nat_lt j (length provisioner.output)) found (lt-ltb j (length p.output) (omega arith)))
+    (told_happens kind outcome at i (j + 1) since until p os found (omega arith)))
 
 along_from : (kind : StepKind) (outcome : Outcome) (after i since : ℕ) (ps : List Provisioner) → drop i (ran outcome.provisioners) ≡ ps
     → All (CanHappenTo kind outcome) (along (took kind outcome) after i since ps)
@@ -72,15 +80,13 @@ along_from kind outcome after i since (p ∷ ps) here =
     let d = took kind outcome in
     let found = found_at (ran outcome.provisioners) i p ps here in
     let until = since + p.seconds in
-    let told : List (ℕ × What) = map (λ (what : What). (until, what)) (results i 0 p) in
+    let told : List (ℕ × What) = told_by d since i 0 since until (provision_end i p) p.output in
     let rest = along d until (i + 1) until ps in
-    All-append P (progress d after since) ((since, ProvisionStart i) ∷ (progress d since until ++ told ++ rest))
+    All-append P (progress d after since) ((since, ProvisionStart i) ∷ (told ++ rest))
     (progress_happens kind outcome after since)
-    (All-cons P (since, ProvisionStart i) (progress d since until ++ told ++ rest) (passes outcome i p (λ provisioner. true) found refl)
-    (All-append P (progress d since until ++ told) rest
-    (All-append P (progress d since until) told
-    (progress_happens kind outcome since until)
-    (outputs_happen kind outcome i until 0 (length p.output - 0) p found (omega arith)))
+    (All-cons P (since, ProvisionStart i) (told ++ rest) (passes outcome i p (λ provisioner. true) found refl)
+    (All-append P told rest
+    (told_happens kind outcome since i 0 since until p p.output found (omega arith))
     (along_from kind outcome until (i + 1) until ps (rw add-one (found_next (ran outcome.provisioners) i p ps here)))))
 
 pub along_happens : (kind : StepKind) (outcome : Outcome) → All (CanHappenTo kind outcome) (along (took kind outcome) 0 0 (seconds_before kind outcome) (ran outcome.provisioners))

@@ -1,9 +1,12 @@
 -- Changes that are under way at a place of a list of events, and at a moment.
 use Rattle.std.specs.Prelude.{ℕ, ◌==◌, ◌&&◌, ◌||◌, Bool, true, false, List, count_by, length, nat_le, nat_lt, not}
 use Rattle.std.specs.List.{list_any, range_with_len}
+use Rattle.apply_model.specs.declared.script.outcome.Outcome.{Outcome}
+use Rattle.apply_model.specs.Script.Outcome.{fails, is_warned}
+use Rattle.apply_model.specs.Script.OutcomeMap.{OutcomeMap, outcome_of}
 use Rattle.apply_events.specs.declared.event.Event.{Event}
 use Rattle.apply_events.specs.declared.what.What.{What}
-use Rattle.apply_events.specs.declared.what.What.TheVariants.{Start}
+use Rattle.apply_events.specs.declared.what.What.TheVariants.{Start, WarnNote}
 use Rattle.apply_events.specs.Step.{Work}
 use Rattle.apply_events.specs.Totals.{is_complete, is_errored}
 
@@ -16,21 +19,34 @@ is_start _ = false
 abbrev pub is_end : What → Bool
 is_end what = is_complete what || is_errored what
 
+abbrev pub is_warning : What → Bool
+is_warning WarnNote = true
+is_warning _ = false
+
+-- a step with that outcome only warns: no end of it is told
+abbrev pub only_warns : Outcome → Bool
+only_warns outcome = is_warned outcome.result && not (fails outcome)
+
+-- a step is over with the event: with its end, and where it only warns with its warning
+abbrev pub is_over_with : OutcomeMap → Event → Bool
+is_over_with script event =
+    is_end event.what || (is_warning event.what && only_warns (outcome_of script event.change event.step))
+
 -- how many steps of change c have started
 abbrev pub starts_of : (c : ℕ) → List Event → ℕ
 starts_of c events = count_by (λ event. event.change == c && is_start event.what) events
 
--- how many of them have ended: completed, or failed
-abbrev pub ends_of : (c : ℕ) → List Event → ℕ
-ends_of c events = count_by (λ event. event.change == c && is_end event.what) events
+-- how many of them are over: completed, failed, or warned of where they only warn
+abbrev pub ends_of : Work → (c : ℕ) → List Event → ℕ
+ends_of work c events = count_by (λ event. event.change == c && is_over_with work.script event) events
 
--- a step of change c has started, and has not ended
-abbrev pub is_open_after : List Event → (c : ℕ) → Bool
-is_open_after events c = nat_lt (ends_of c events) (starts_of c events)
+-- a step of change c has started, and is not over
+abbrev pub is_open_after : Work → List Event → (c : ℕ) → Bool
+is_open_after work events c = nat_lt (ends_of work c events) (starts_of c events)
 
--- of how many of the plan's changes a step has started, and has not ended
+-- of how many of the plan's changes a step has started, and is not over
 abbrev pub open_after : Work → List Event → ℕ
-open_after work events = count_by (is_open_after events) (range_with_len 0 (length work.plan.changes))
+open_after work events = count_by (is_open_after work events) (range_with_len 0 (length work.plan.changes))
 
 -- ---- at a moment
 

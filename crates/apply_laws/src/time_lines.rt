@@ -60,7 +60,8 @@ pub fn a_time_line_ends_by_the_sum_of_all_spans()
 {}
 
 /// No more changes are under way at once than there are lanes: at no place of a time line more have a step that has
-/// started and has not ended, and at no moment more have begun whose spans are not over.
+/// started and is not over, and at no moment more have begun whose spans are not over. A step is over with its end, and one
+/// that only warns with its warning.
 pub fn no_more_changes_are_under_way_than_lanes()
     ensures at_a_place { (work : Work) (n : ℕ) (front rest : List Event) → IsTimeLine work n (front ++ rest)
         → open_after work front ≤ n }

@@ -11,12 +11,12 @@ use Rattle.std.proofs.lemmas.List.Sums.{sum_by-cons}
 use Rattle.apply_hooks.specs.declared.phase.Phase.TheVariants.{Pre}
 use Rattle.apply_events.specs.declared.event.Event.{Event}
 use Rattle.apply_events.specs.declared.what.What.{What}
-use Rattle.apply_events.specs.declared.what.What.TheVariants.{Halted, Start}
+use Rattle.apply_events.specs.declared.what.What.TheVariants.{Halted, Start, WarnNote}
 use Rattle.apply_events.specs.ChangeEvents.{begun, change_events, in_turn, span_of}
 use Rattle.apply_events.specs.OfWorker.{of_worker}
 use Rattle.apply_events.specs.Partition.{count_of}
 use Rattle.apply_events.specs.Step.{Step, Work, steps_of}
-use Rattle.apply_events.specs.StepEvents.{between, endings, event, halts, phase_after, seconds_of, started, step_events, step_time}
+use Rattle.apply_events.specs.StepEvents.{between, end_of, endings, event, halts, notes, phase_after, seconds_of, started, step_events, step_time, tells_end}
 use Rattle.apply_events.specs.Lanes.Dealing.{lanes}
 use Rattle.apply_laws.specs.ChangesUnderWay.{has_event_behind, has_event_by, is_under_way_at, waits_at}
 use Rattle.apply_laws.specs.Sharing.{free_before}
@@ -52,12 +52,18 @@ turn_by events time end at (x ∷ xs) each le all =
     let rest = turn_by events time end (at + time x) xs each here (all_behind (By end) (events x at) (in_turn events time xs (at + time x)) all) in
     let sum = sum_by-cons time x xs in omega arith
 
+-- what is told first at the end of a step
+ending_by : (w end at : ℕ) (s : Step) (told : Bool) (last : What) (others : List What) → All (By end) (map (λ what. event w s at what) (cond told (last ∷ others) (WarnNote ∷ []))) → at ≤ end
+ending_by w end at s true last others all = All-head (By end) (event w s at last) (map (λ what. event w s at what) others) all
+ending_by w end at s false last others all = All-head (By end) (event w s at WarnNote) [] all
+
 started_by : (w end at : ℕ) (s : Step) → All (By end) (started w s at) → at + seconds_of s ≤ end
 started_by w end at s all =
     let front = event w s at Start ∷ map (λ (p : ℕ × What). event w s (at + p.0) p.1) (between s) in
     let ends = map (λ what. event w s (at + seconds_of s) what) (endings s) in
     let halt = halts w s (phase_after s.fails) (at + seconds_of s) in
-    All-head (By end) _ _ (all_behind (By end) front ends (all_front (By end) (front ++ ends) halt all))
+    ending_by w end (at + seconds_of s) s (tells_end s.fails s.only_warns) (end_of s.fails (seconds_of s)) (notes s.fails s.warns)
+    (all_behind (By end) front ends (all_front (By end) (front ++ ends) halt all))
 
 step_by : (w end : ℕ) (s : Step) (at : ℕ) → at ≤ end → All (By end) (step_events w s at) → at + step_time s ≤ end
 step_by w end s at le all = with_halt w end s at (s.halts Pre) le all

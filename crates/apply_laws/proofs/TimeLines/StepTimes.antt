@@ -18,7 +18,7 @@ use Rattle.apply_events.specs.Interleaving.{IsInterleaving}
 use Rattle.apply_events.specs.Partition.{IsPartition, count_of, places}
 use Rattle.apply_events.specs.Provisions.{provision_end}
 use Rattle.apply_events.specs.Step.{Step, Work, kinds_applied, step_of, steps_of}
-use Rattle.apply_events.specs.StepEvents.{between, end_of, endings, event, goes_on, halts, notes, phase_after, seconds_of, started, step_events, step_time}
+use Rattle.apply_events.specs.StepEvents.{between, end_of, endings, event, goes_on, halts, notes, phase_after, seconds_of, started, step_events, step_time, tells_end}
 use Rattle.apply_events.specs.WorkerEvents.{worker_events}
 use Rattle.apply_laws.specs.StepTimes.{ComesAsTold, HasOneBegin}
 use Rattle.apply_events.proofs.Dealing.{count_first, count_later}
@@ -49,6 +49,10 @@ end_on_time w at s false warns =
     All-cons (IsOnTime at s) (event w s (at + seconds_of s) (Complete (seconds_of s))) (map (λ what. event w s (at + seconds_of s) what) (notes false warns)) (refl, refl, refl)
     (note_on_time w at s warns)
 
+endings_on_time : (w at : ℕ) (s : Step) (told : Bool) → All (IsOnTime at s) (map (λ what. event w s (at + seconds_of s) what) (cond told (end_of s.fails (seconds_of s) ∷ notes s.fails s.warns) (WarnNote ∷ [])))
+endings_on_time w at s true = end_on_time w at s s.fails s.warns
+endings_on_time w at s false = note_on_time w at s true
+
 -- what happens between the start and the end
 between_on_time : (w at : ℕ) (s : Step) → All (IsOnTime at s) (map (λ (p : ℕ × What). event w s (at + p.0) p.1) (between s))
 between_on_time w at s =
@@ -68,7 +72,7 @@ started_on_time w at s =
     let here : at ≡ at + 0 = omega arith in
     All-cons (IsOnTime at s) (event w s at Start) (told ++ ends ++ halt) (refl, refl, here)
     (All-append (IsOnTime at s) (told ++ ends) halt
-    (All-append (IsOnTime at s) told ends (between_on_time w at s) (end_on_time w at s s.fails s.warns))
+    (All-append (IsOnTime at s) told ends (between_on_time w at s) (endings_on_time w at s (tells_end s.fails s.only_warns)))
     (halt_on_time w at (at + seconds_of s) s (phase_after s.fails) (s.halts (phase_after s.fails))))
 
 pub step_on_time : (w at : ℕ) (s : Step) → All (IsOnTime at s) (step_events w s at)
