@@ -1,17 +1,18 @@
 -- What happens to a step between its start and its end.
-use Rattle.std.proofs.Common.{◌≡◌, ℕ, ◌+◌, ◌-◌, ◌<◌, ◌≤◌, zero, suc, List, [], ◌∷◌, ◌++◌, map, filter, Bool, true, false, cond, refl, sym, subst, arith, nat_le, nat_lt, All, length, ◌⊎◌, ⊎_elim}
+use Rattle.std.proofs.Common.{◌≡◌, ℕ, ◌+◌, ◌-◌, ◌<◌, ◌≤◌, zero, suc, List, [], ◌∷◌, ◌++◌, map, filter, Bool, true, false, cond, refl, sym, subst, arith, nat_le, nat_lt, All, ◌⊎◌, ⊎_elim}
 use Rattle.std.specs.Prelude.{◌&&◌}
 use Rattle.std.specs.List.{range_with_len}
 use Rattle.std.proofs.lemmas.Bool.{and_parts, leb-true, ltb-true}
 use Rattle.std.proofs.lemmas.List.Sums.{sum_by-cons}
 use Rattle.apply_model.specs.declared.script.provisioner.Provisioner.{Provisioner}
+use Rattle.apply_model.specs.declared.script.timed_text.TimedText.{TimedText}
 use Rattle.apply_plan.specs.Script.Outcome.{has_failed, seconds_of_all}
 use Rattle.apply_check.specs.declared.messages.action.Action.{Action}
 use Rattle.apply_events.specs.declared.what.What.{What}
 use Rattle.apply_events.specs.declared.what.What.TheVariants.{Progress, ProvisionStart, ProvisionOutput, ProvisionComplete, ProvisionErrored}
 use Rattle.apply_events.specs.Diagnostics.{is_note}
 use Rattle.apply_events.specs.ProgressTimes.{is_multiple_of_ten}
-use Rattle.apply_events.specs.Provisions.{along, progress, provision_end, results}
+use Rattle.apply_events.specs.Provisions.{along, output_at, progress, provision_end, told_by}
 use Rattle.apply_events.specs.Step.{Step}
 use Rattle.apply_events.specs.StepEvents as told_in
 use Rattle.apply_events.specs.StepEvents.{end_of, endings, event, goes_on, halts, notes, phase_after, seconds_of, started, step_events, step_time}
@@ -60,18 +61,35 @@ module _ (may : Type 0) (k : Action) where
   progress_goes : (b : Bool) (d after until told : ℕ) → told ≤ after → after ≤ until → Goes b told until (progress d after until) b
   progress_goes b d after until told fits order = told_on b after until told 1 (d - 1) (omega arith) (λ p above more. omega arith)
 
-  -- what it tells when a provisioner ends
+  -- what it tells of a provisioner that runs, up to its end
   module _ (runs : MayRun may k) where
-    results_told : (told i until : ℕ) (p : Provisioner) → Passes may k (under_way k told true) (map (λ (what : What). (until, what)) (results i 0 p)) (under_way k told false)
-    results_told told i until p = tells (range_with_len 0 (length p.output - 0))
-      where
-        tells : (js : List ℕ) → Passes may k (under_way k told true) (map (λ (what : What). (until, what)) (map (λ j. ProvisionOutput i j) js ++ provision_end i p ∷ [])) (under_way k told false)
-        tells [] =
-            elim (has_failed p) as (λ f. Passes may k (under_way k told true) ((until, cond f (ProvisionErrored i) (ProvisionComplete i)) ∷ []) (under_way k told false)) [
-              | true ↦ (under_way k told false, (refl, runs, refl, refl), refl)
-              | false ↦ (under_way k told false, (refl, runs, refl, refl), refl)
-            ]
-        tells (j ∷ js) = (under_way k told true, (refl, runs, refl, refl), tells js)
+    provision_ends : (told i until : ℕ) (p : Provisioner) → Passes may k (under_way k told true) ((until, provision_end i p) ∷ []) (under_way k told false)
+    provision_ends told i until p =
+        elim (has_failed p) as (λ f. Passes may k (under_way k told true) ((until, cond f (ProvisionErrored i) (ProvisionComplete i)) ∷ []) (under_way k told false)) [
+          | true ↦ (under_way k told false, (refl, runs, refl, refl), refl)
+          | false ↦ (under_way k told false, (refl, runs, refl, refl), refl)
+        ]
+
+    provisioner_told : (d after i j since until told : ℕ) (p : Provisioner) (outputs : List TimedText) → told ≤ after → after ≤ until
+        → (last : ℕ) × (last ≤ until) × Passes may k (under_way k told true) (told_by d after i j since until (provision_end i p) outputs) (under_way k last false)
+    provisioner_told d after i j since until told p [] low order =
+        let within = progress_goes true d after until told low order in (
+          within.0,
+          within.1,
+          passes_on may k (under_way k told true) (under_way k within.0 true) (under_way k within.0 false) (progress d after until) ((until, provision_end i p) ∷ []) within.2 (provision_ends within.0 i until p),
+        )
+    provisioner_told d after i j since until told p (o ∷ os) low order =
+        let at = output_at after since until o in
+        let first : after ≤ at = omega arith in
+        let last : at ≤ until = omega arith in
+        let within = progress_goes true d after at told low first in
+        let rest = provisioner_told d at i (j + 1) since until within.0 p os within.1 last in
+        let others = told_by d at i (j + 1) since until (provision_end i p) os in (
+          rest.0,
+          rest.1,
+          passes_on may k (under_way k told true) (under_way k within.0 true) (under_way k rest.0 false) (progress d after at) ((at, ProvisionOutput i j) ∷ others) within.2
+              (under_way k within.0 true, (refl, runs, refl, refl), rest.2),
+        )
 
     all_told : (d after i since told : ℕ) (ps : List Provisioner) → told ≤ after → after ≤ since → since + seconds_of_all ps ≤ d → Goes false told d (along d after i since ps) false
     all_told d after i since told [] low order high = progress_goes false d after d told low (let none : seconds_of_all [] ≡ 0 = refl in omega arith)
@@ -79,18 +97,16 @@ module _ (may : Type 0) (k : Action) where
         let until = since + p.seconds in
         let sum = sum_by-cons (λ (q : Provisioner). q.seconds) p ps in
         let before = progress_goes false d after since told low order in
-        let within = progress_goes true d since until before.0 before.1 (omega arith) in
+        let within = provisioner_told d since i 0 since until before.0 p p.output before.1 (omega arith) in
         let rest = all_told d until (i + 1) until within.0 ps within.1 (omega arith) (omega arith) in
-        let ended : List (ℕ × What) = map (λ (what : What). (until, what)) (results i 0 p) in
+        let ended : List (ℕ × What) = told_by d since i 0 since until (provision_end i p) p.output in
         let others = along d until (i + 1) until ps in (
           rest.0,
           rest.1,
-          passes_on may k (under_way k told false) (under_way k before.0 false) (under_way k rest.0 false) (progress d after since) ((since, ProvisionStart i) ∷ (progress d since until ++ ended ++ others)) before.2 (
+          passes_on may k (under_way k told false) (under_way k before.0 false) (under_way k rest.0 false) (progress d after since) ((since, ProvisionStart i) ∷ (ended ++ others)) before.2 (
             under_way k before.0 true,
             (refl, runs, refl, refl),
-            passes_on may k (under_way k before.0 true) (under_way k within.0 false) (under_way k rest.0 false) (progress d since until ++ ended) others
-                (passes_on may k (under_way k before.0 true) (under_way k within.0 true) (under_way k within.0 false) (progress d since until) ended within.2 (results_told within.0 i until p))
-                rest.2,
+            passes_on may k (under_way k before.0 true) (under_way k within.0 false) (under_way k rest.0 false) ended others within.2 rest.2,
           ),
         )
 

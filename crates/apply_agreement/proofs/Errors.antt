@@ -18,7 +18,7 @@ use Rattle.apply_events.specs.declared.what.What.{What}
 use Rattle.apply_events.specs.declared.what.What.TheVariants.{Start, Progress, Complete, Errored, ErrorNote, WarnNote, Halted, ProvisionStart, ProvisionOutput, ProvisionComplete, ProvisionErrored}
 use Rattle.apply_events.specs.Diagnostics.{is_note}
 use Rattle.apply_events.specs.Step.{Step, Work, address_of, kinds_of, steps_of}
-use Rattle.apply_events.specs.StepEvents.{between, end_of, endings, event, goes_on, halts, notes, phase_after, seconds_of, started, step_events}
+use Rattle.apply_events.specs.StepEvents.{between, end_of, endings, event, goes_on, halts, notes, phase_after, seconds_of, started, step_events, tells_end}
 use Rattle.apply_events.specs.Totals.{is_errored, is_halted, totals_of}
 use Rattle.apply_events.proofs.Provisions.{all_along}
 use Rattle.apply_text.specs.Order.{as_written, hook_messages_of, notes_of}
@@ -149,10 +149,11 @@ module _ (w : ℕ) (s : Step) where
       let later = map (λ (y : ℕ × What). event w s (at + y.0) y.1) xs in
       ap (λ (b : Bool). b || list_any noted later) here ∙ ap (λ (b : Bool). is_errored x.1 || b) (between_alike at xs (All-tail FailsNot x xs none))
 
-  ends_alike : (fails warns : Bool) (at end : ℕ) → Alike noted failed (map (λ what. event w s at what) (end_of fails end ∷ notes fails warns))
-  ends_alike true warns at end = refl
-  ends_alike false true at end = refl
-  ends_alike false false at end = refl
+  ends_alike : (told fails warns : Bool) (at end : ℕ) → Alike noted failed (map (λ what. event w s at what) (cond told (end_of fails end ∷ notes fails warns) (WarnNote ∷ [])))
+  ends_alike false fails warns at end = refl
+  ends_alike true true warns at end = refl
+  ends_alike true false true at end = refl
+  ends_alike true false false at end = refl
 
   halts_alike : (phase : asked.Phase) (at : ℕ) (found : Option ℕ) → Alike noted failed (option_to_list (option_map (λ hook. event w s at (Halted phase hook)) found))
   halts_alike phase at None = refl
@@ -170,7 +171,7 @@ module _ (w : ℕ) (s : Step) where
           alike_both noted failed (start ++ middle ++ last) (halts w s (phase_after s.fails) (at + seconds_of s))
           (alike_both noted failed (start ++ middle) last
           (alike_both noted failed start middle refl (between_alike at (between s) (none_fails s)))
-          (ends_alike s.fails s.warns (at + seconds_of s) (seconds_of s)))
+          (ends_alike (tells_end s.fails s.only_warns) s.fails s.warns (at + seconds_of s) (seconds_of s)))
           (halts_alike (phase_after s.fails) (at + seconds_of s) (s.halts (phase_after s.fails)))
 
 steps_alike : (steps : List Step) (es : List Event) → AreOfSteps steps es → Alike noted failed es

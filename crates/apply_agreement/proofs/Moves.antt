@@ -262,16 +262,16 @@ module _ (limit : ℕ) (addresses : ℕ → List ℕ) (Within : List ℕ → Typ
   -- a note changes nothing but the failures at its address
   pub noted : (phases : ℕ → Phase) (ms : List Message) (c : ℕ) (e : Bool) (q : Phase)
       → Agrees limit addresses Within Does Provides phases ms → c < limit → Within (addresses c)
-      → ((l : Action) → seconds_in l q ≡ None) → ((l : Action) → seconds_in l (phases c) ≡ None)
+      → ((l : Action) → seconds_in l q ≡ seconds_in l (phases c))
+      → ((t : ℕ) (l : Action) (b : Bool) → q ≡ under_way l t b → Does c l)
+      → (IsProvisioning (phases c) → IsProvisioning q) → (IsProvisioning q → IsProvisioning (phases c))
       → (e ≡ true) ⊎ (q ≡ phases c)
       → Moves phases ms c q (diagnostic e (Some (addresses c)))
-  noted phases ms c e q agrees less within after_none before_none explains =
+  noted phases ms c e q agrees less within same does on back explains =
       let a = addresses c in
       let s = standing_of a ms in
       let there : standing_of a (diagnostic e (Some a) ∷ ms) ≡ explained e s = diagnostic_there a e ms in
-      let kept = λ (b : List ℕ) (l : Action). shown_kept addresses phases c q b l (after_none l ∙ sym (before_none l)) in
-      let on : IsProvisioning (phases c) → IsProvisioning q = λ p. absurd (let f : None ≡ Some p.0 = sym (before_none p.1) ∙ ap (seconds_in p.1) p.2 ∙ running p.1 p.0 true in cc) in
-      let back : IsProvisioning q → IsProvisioning (phases c) = λ p. absurd (let f : None ≡ Some p.0 = sym (after_none p.1) ∙ ap (seconds_in p.1) p.2 ∙ running p.1 p.0 true in cc) in (
+      let kept = λ (b : List ℕ) (l : Action). shown_kept addresses phases c q b l (same l) in (
         next_diagnostic a e ms agrees.amid,
         record {
           open_steps = λ b l w. by_address (λ b. Within b → MatchesPending limit l (shown addresses (put phases c q) b l) (pending_at l (standing_of b (diagnostic e (Some a) ∷ ms)))) a
@@ -296,7 +296,7 @@ module _ (limit : ℕ) (addresses : ℕ → List ℕ) (Within : List ℕ → Typ
               (λ b no w some.
               let before : is_some (standing_of b ms).failures ≡ true = sym (ap is_some (ap (λ (t : Standing). t.failures) (diagnostic_elsewhere a e ms b no))) ∙ some in
               still_failed phases c q b (agrees.failures b w before) (λ d there u. other_address c d b no there));
-          does = still_does phases c q agrees.does (λ t l b is. absurd (let f : seconds_in l q ≡ Some t = ap (seconds_in l) is ∙ running l t b in let g : None ≡ Some t = sym (after_none l) ∙ f in cc));
+          does = still_does phases c q agrees.does does;
           provides = λ d is. agrees.provides d (had phases c q d back is);
           amid = agrees.amid;
         },

@@ -1,13 +1,13 @@
 -- The course of a change: what may happen to it, one event after another.
 use Rattle.std.proofs.Common.{◌≡◌, ◌≢◌, ℕ, ◌<◌, ◌≤◌, ◌==◌, ◌⊎◌, List, [], ◌∷◌, Bool, true, false, cond, filter, Option, Some, None, refl, ap, bytes_eq, eq-eqb, ne_eqb}
 use Rattle.apply_check.specs.declared.messages.action.Action.{Action}
-use Rattle.apply_check.specs.declared.messages.action.Action.TheVariants.{Create, Delete}
+use Rattle.apply_check.specs.declared.messages.action.Action.TheVariants.{Create, Delete, Read}
 use Rattle.apply_check.specs.Words.{same_action}
 use Rattle.apply_events.specs.declared.what.What.{What}
 use Rattle.apply_events.specs.declared.what.What.TheVariants.{Start, Progress, Complete, Errored, ErrorNote, WarnNote, Halted, ProvisionStart, ProvisionOutput, ProvisionComplete, ProvisionErrored}
 
 -- where a change is: between two steps, in one that told so many seconds last and has a provisioner under way or none,
--- or behind one whose failure no error has explained
+-- or behind one whose failure no error has explained; behind a step that only warns, of which no end is told, it stays in it
 pub data Phase : Type 0 where
   between : Phase
   under_way : Action → (told : ℕ) → (provisions : Bool) → Phase
@@ -35,6 +35,8 @@ Turns may (under_way l t b) k (ProvisionStart i) q = (l ≡ k) × MayRun may k �
 Turns may (under_way l t b) k (ProvisionOutput i line) q = (l ≡ k) × MayRun may k × (b ≡ true) × (q ≡ under_way k t true)
 Turns may (under_way l t b) k (ProvisionComplete i) q = (l ≡ k) × MayRun may k × (b ≡ true) × (q ≡ under_way k t false)
 Turns may (under_way l t b) k (ProvisionErrored i) q = (l ≡ k) × MayRun may k × (b ≡ true) × (q ≡ under_way k t false)
+Turns may (under_way l t b) k WarnNote q = q ≡ under_way l t b
+Turns may (under_way l t b) k (Halted phase hook) q = q ≡ under_way l t b
 Turns may unexplained k ErrorNote q = q ≡ between
 Turns may unexplained k WarnNote q = q ≡ unexplained
 Turns may unexplained k (Halted phase hook) q = q ≡ between
@@ -51,11 +53,11 @@ abbrev pub Follows : (may : Type 0) → Phase → List Deed → Phase → Type 0
 Follows may p [] r = p ≡ r
 Follows may p (d ∷ ds) r = (q : Phase) × Turns may p d.action d.what q × Follows may q ds r
 
--- no step of the change is under way
-abbrev pub IsStill : Phase → Type 0
-IsStill between = Unit {0}
-IsStill (under_way k told b) = ⊥
-IsStill unexplained = Unit {0}
+-- no step of the change is under way, but for a read, which may stay open
+abbrev pub IsAtRest : Phase → Type 0
+IsAtRest between = Unit {0}
+IsAtRest (under_way k told b) = k ≡ Read
+IsAtRest unexplained = ⊥
 
 -- what happens to one change
 abbrev pub of_change : (c : ℕ) → List Deed → List Deed

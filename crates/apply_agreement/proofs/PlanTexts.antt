@@ -1,8 +1,9 @@
 -- The texts of a plan that was read are UTF-8.
-use Rattle.std.proofs.Common.{◌≡◌, ℕ, suc, ◌+◌, ◌≤◌, ◌^◌, ◌==◌, List, [], ◌∷◌, ◌++◌, IsUtf8, append_assoc, append-nil, codes, cond, length, nat_eq, nat_lt, not, take, Bool, true, false, Option, Some, None, Ok, Err, refl, sym, ap, subst, arith}
+use Rattle.std.proofs.Common.{◌≡◌, ℕ, zero, suc, ◌+◌, ◌≤◌, ◌^◌, ◌==◌, List, [], ◌∷◌, ◌++◌, IsUtf8, append_assoc, append-nil, codes, cond, length, nat_eq, nat_lt, not, slice_get, take, Bool, true, false, Option, Some, None, Ok, Err, refl, sym, ap, subst, arith}
 use Rattle.std.specs.Prelude.{◌&&◌, pos, negsuc, IfOk, IfSome}
 use Rattle.std.specs.List.{AllByRecursion, before_first, list_any, position_or_len, starts_with}
 use Rattle.std.proofs.lemmas.Bool.{eqb-true, ltb-false}
+use Rattle.std.proofs.lemmas.Option.{same_Some}
 use Rattle.std.proofs.lemmas.Str.{IsUtf8-nil}
 use Rattle.json.proofs.Printed.Utf8.{IsUtf8-are_ascii}
 use Rattle.serde_json.specs.Data.{Data, Num, unsigned, negative, float, null, boolean, number, string, array, object, Items, no_items, item}
@@ -119,7 +120,17 @@ front_utf8 p (x ∷ xs) h = of_test (x == 95) refl (front_utf8 (p ++ x ∷ []) x
 
 -- ---- a change
 
--- what is read of a change: its texts, and one step or two, or none
+-- a read is the last of these steps
+abbrev pub EndWithReads : List StepKind → Type 0
+EndWithReads [] = Unit {0}
+EndWithReads (kind ∷ kinds) = (kind ≡ Read → kinds ≡ []) × EndWithReads kinds
+
+pub last_of : (kinds : List StepKind) (k : ℕ) → EndWithReads kinds → slice_get kinds k ≡ Some Read → length kinds ≡ k + 1
+last_of [] k h e = absurd cc
+last_of (kind ∷ kinds) zero h e = let none : kinds ≡ [] = h.0 (same_Some kind Read e) in ap (λ (l : List StepKind). suc (length l)) none
+last_of (kind ∷ kinds) (suc k) h e = let rest : length kinds ≡ k + 1 = last_of kinds k h.1 e in omega arith
+
+-- what is read of a change: its texts, and one step or two, or none; a read has no step behind it
 pub record IsReadable (change : ResourceChange) : Type 0 where
   pub address : IsUtf8 change.address
   pub module_address : IsUtf8 change.module_address
@@ -128,6 +139,7 @@ pub record IsReadable (change : ResourceChange) : Type 0 where
   pub key : IsSound (key_data change.key)
   pub prior_id : IfSome change.prior_id IsUtf8
   pub few_steps : length change.steps ≤ 2
+  pub reads_last : EndWithReads change.steps
 
 pub change_texts : (change : ResourceChange) → IsReadable change → HasRelativeAddress change → HasChangeTexts change
 change_texts change has relative = record {
@@ -141,30 +153,38 @@ change_texts change has relative = record {
   prior_id = has.prior_id;
 }
 
-alone : (action : Data) → IfSome (steps_alone action) (λ steps. length steps ≤ 2)
+-- two at most
+abbrev AreFew : List StepKind → Type 0
+AreFew steps = (length steps ≤ 2) × EndWithReads steps
+
+none_few : AreFew []
+none_few = (omega arith, tt)
+
+one_few : (kind : StepKind) → AreFew (kind ∷ [])
+one_few kind = (omega arith, ((λ e. refl), tt))
+
+alone : (action : Data) → IfSome (steps_alone action) AreFew
 alone action = of_tests (is_word (codes "no-op") action) (is_word (codes "create") action) (is_word (codes "read") action) (is_word (codes "update") action) (is_word (codes "delete") action) (is_word (codes "forget") action)
   where
-    Few : Option (List StepKind) → Type 0
-    Few found = IfSome found (λ steps. length steps ≤ 2)
-
-    of_tests : (a b c d e f : Bool) → Few (cond a (Some []) (cond b (Some (Create ∷ [])) (cond c (Some (Read ∷ [])) (cond d (Some (Update ∷ [])) (cond e (Some (Delete ∷ [])) (cond f (Some []) None))))))
-    of_tests true b c d e f = omega arith
-    of_tests false true c d e f = omega arith
-    of_tests false false true d e f = omega arith
-    of_tests false false false true e f = omega arith
-    of_tests false false false false true f = omega arith
-    of_tests false false false false false true = omega arith
+    of_tests : (a b c d e f : Bool)
+        → IfSome (cond a (Some []) (cond b (Some (Create ∷ [])) (cond c (Some (Read ∷ [])) (cond d (Some (Update ∷ [])) (cond e (Some (Delete ∷ [])) (cond f (Some []) None)))))) AreFew
+    of_tests true b c d e f = none_few
+    of_tests false true c d e f = one_few Create
+    of_tests false false true d e f = one_few Read
+    of_tests false false false true e f = one_few Update
+    of_tests false false false false true f = one_few Delete
+    of_tests false false false false false true = none_few
     of_tests false false false false false false = tt
 
-together : (first second : Data) → IfSome (steps_together first second) (λ steps. length steps ≤ 2)
+together : (first second : Data) → IfSome (steps_together first second) AreFew
 together first second = of_tests (is_word (codes "delete") first && is_word (codes "create") second) (is_word (codes "create") first && is_word (codes "delete") second)
   where
-    of_tests : (a b : Bool) → IfSome (cond a (Some (Delete ∷ Create ∷ [])) (cond b (Some (Create ∷ Delete ∷ [])) None)) (λ steps. length steps ≤ 2)
-    of_tests true b = omega arith
-    of_tests false true = omega arith
+    of_tests : (a b : Bool) → IfSome (cond a (Some (Delete ∷ Create ∷ [])) (cond b (Some (Create ∷ Delete ∷ [])) None)) AreFew
+    of_tests true b = (omega arith, ((λ e. absurd cc), ((λ e. refl), tt)))
+    of_tests false true = (omega arith, ((λ e. absurd cc), ((λ e. refl), tt)))
     of_tests false false = tt
 
-at_most_two : (actions : Items) → IfSome (steps_of_actions actions) (λ steps. length steps ≤ 2)
+at_most_two : (actions : Items) → IfSome (steps_of_actions actions) AreFew
 at_most_two no_items = tt
 at_most_two (item action no_items) = alone action
 at_most_two (item first (item second no_items)) = together first second
@@ -174,7 +194,7 @@ planned_readable : (n : ℕ) (d : Data) → IsLegible d → IfOk (planned_at n d
 unfolding planned_at
 planned_readable n d h =
     then_of HasElementTexts IsReadable (or_refuse (BadChange n) (element_of d)) _ (refused_or HasElementTexts (BadChange n) (element_of d) (element_texts d h))
-    (λ e has. then_of (λ steps. length steps ≤ 2) IsReadable (or_refuse (BadActions n) (steps_of_actions e.actions)) _ (refused_or (λ steps. length steps ≤ 2) (BadActions n) (steps_of_actions e.actions) (at_most_two e.actions))
+    (λ e has. then_of AreFew IsReadable (or_refuse (BadActions n) (steps_of_actions e.actions)) _ (refused_or AreFew (BadActions n) (steps_of_actions e.actions) (at_most_two e.actions))
     (λ steps few. then_of (λ _. Unit {0}) IsReadable (or_refuse (BadAddress n) (relative_address e.module_address e.address)) _
     (refused_or (λ _. Unit {0}) (BadAddress n) (relative_address e.module_address e.address) (any_given (relative_address e.module_address e.address)))
     (λ relative u. record {
@@ -184,7 +204,8 @@ planned_readable n d h =
       name = has.name;
       key = has.key;
       prior_id = has.prior_id;
-      few_steps = few;
+      few_steps = few.0;
+      reads_last = few.1;
     })))
 
 change_readable : (before : List Data) (d : Data) → IsLegible d → IfOk (change_at before d) IsReadable

@@ -5,9 +5,10 @@ use Rattle.std.specs.List.{AllByRecursion}
 use Rattle.std.specs.Option.{option_map_or}
 use Rattle.std.proofs.lemmas.Str.{IsUtf8-nil}
 use Rattle.apply_model.specs.declared.script.ending.Ending.{Ending}
-use Rattle.apply_model.specs.declared.script.ending.Ending.TheVariants.{Done, Failed}
+use Rattle.apply_model.specs.declared.script.ending.Ending.TheVariants.{Done, Failed, Warned}
 use Rattle.apply_model.specs.declared.script.outcome.Outcome.{Outcome}
 use Rattle.apply_model.specs.declared.script.provisioner.Provisioner.{Provisioner}
+use Rattle.apply_model.specs.declared.script.timed_text.TimedText.{TimedText}
 use Rattle.apply_laws.specs.Plans.{HasRelativeAddress}
 use Rattle.apply_plan.specs.Plan.SavedPlan.{SavedPlan}
 use Rattle.apply_plan.specs.Script.Outcome.{default_outcome, diag_of_ending, failure_by, failure_of, first_diag}
@@ -16,7 +17,7 @@ use Rattle.apply_text.specs.Message.{no_diag, told_id, warning_of}
 use Rattle.apply_agreement.specs.Texts.{HasDiagTexts, HasOutcomeTexts, HasTexts}
 use Rattle.apply_agreement.proofs.Given.{first_of_two, held_at, is_given, unwrapped}
 use Rattle.apply_agreement.proofs.PlanTexts.{IsReadable, IsReadablePlan, change_texts}
-use Rattle.apply_agreement.proofs.ScriptTexts.{HasEndingTexts, HasProvisionerTexts, HasStepTexts, IsReadableScript, IsSaid, MayHaveDiag}
+use Rattle.apply_agreement.proofs.ScriptTexts.{HasEndingTexts, HasProvisionerTexts, HasStepTexts, HasTimedText, IsReadableScript, IsSaid, MayHaveDiag}
 
 -- ---- a step
 
@@ -26,6 +27,7 @@ nothing = record { summary = IsUtf8-nil; detail = IsUtf8-nil }
 why_it_ended : (result : Ending) → HasEndingTexts result → MayHaveDiag (diag_of_ending result)
 why_it_ended (Done id warning) h = tt
 why_it_ended (Failed diag) h = h
+why_it_ended (Warned diag) h = tt
 
 why_first : (provisioners : List Provisioner) → AllByRecursion HasProvisionerTexts provisioners → MayHaveDiag (first_diag provisioners)
 why_first [] h = tt
@@ -38,18 +40,25 @@ why_first (p ∷ ps) h = first_of_two HasDiagTexts (failure_by p) (first_diag ps
 id_of : (result : Ending) → HasEndingTexts result → IfSome (told_id result) IsUtf8
 id_of (Done id warning) h = h.0
 id_of (Failed diag) h = tt
+id_of (Warned diag) h = tt
 
 warned : (result : Ending) → HasEndingTexts result → HasDiagTexts (warning_of result)
 warned (Done id warning) h = unwrapped HasDiagTexts warning no_diag h.1 nothing
 warned (Failed diag) h = nothing
+warned (Warned diag) h = h
 
 name_at : (found : Option Provisioner) → IfSome found HasProvisionerTexts → IsUtf8 (option_map_or (λ (provisioner : Provisioner). provisioner.name) found [])
 name_at None h = IsUtf8-nil
 name_at (Some provisioner) h = h.name
 
-output_at : (line : ℕ) (found : Option Provisioner) → IfSome found HasProvisionerTexts → IsUtf8 (option_map_or (λ (provisioner : Provisioner). unwrap_or (slice_get provisioner.output line) []) found [])
+text_at : (found : Option TimedText) → IfSome found HasTimedText → IsUtf8 (option_map_or (λ (timed : TimedText). timed.text) found [])
+text_at None h = IsUtf8-nil
+text_at (Some timed) h = h
+
+output_at : (line : ℕ) (found : Option Provisioner) → IfSome found HasProvisionerTexts
+    → IsUtf8 (option_map_or (λ (provisioner : Provisioner). option_map_or (λ (timed : TimedText). timed.text) (slice_get provisioner.output line) []) found [])
 output_at line None h = IsUtf8-nil
-output_at line (Some provisioner) h = unwrapped IsUtf8 (slice_get provisioner.output line) [] (held_at IsUtf8 provisioner.output line h.output) IsUtf8-nil
+output_at line (Some provisioner) h = text_at (slice_get provisioner.output line) (held_at HasTimedText provisioner.output line h.output)
 
 outcome_texts : (outcome : Outcome) → HasStepTexts outcome → HasOutcomeTexts outcome
 outcome_texts outcome has = record {

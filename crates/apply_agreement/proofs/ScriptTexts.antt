@@ -1,6 +1,7 @@
 -- The texts of a script that was read are UTF-8, and its steps are within the limits.
 use Rattle.std.proofs.Common.{◌≡◌, ℕ, zero, suc, ◌+◌, ◌==◌, List, [], ◌∷◌, IsUtf8, codes, cond, find, length, map, nat_lt, slice_get, Bool, true, false, Option, Some, None, Ok, Err, refl}
 use Rattle.std.specs.Prelude.{◌&&◌, ◌||◌, IfOk, IfSome, is_some, not, option_map, sum_by}
+use Rattle.std.specs.Option.{option_map_or}
 use Rattle.std.specs.List.{AllByRecursion, filter_map, list_any, position_from, range_with_len}
 use Rattle.std.proofs.lemmas.Str.{IsUtf8-nil}
 use Rattle.serde_json.specs.Data.{Data}
@@ -8,9 +9,10 @@ use Rattle.serde_json.specs.Find.{as_array, as_str}
 use Rattle.apply_json.specs.Tree.{items_or_empty, list_of, member_of, non_empty_text_of, text_of, text_or, unless_empty}
 use Rattle.apply_model.specs.declared.script.diag.Diag.{Diag}
 use Rattle.apply_model.specs.declared.script.ending.Ending.{Ending}
-use Rattle.apply_model.specs.declared.script.ending.Ending.TheVariants.{Done, Failed}
+use Rattle.apply_model.specs.declared.script.ending.Ending.TheVariants.{Done, Failed, Warned}
 use Rattle.apply_model.specs.declared.script.outcome.Outcome.{Outcome}
 use Rattle.apply_model.specs.declared.script.provisioner.Provisioner.{Provisioner}
+use Rattle.apply_model.specs.declared.script.timed_text.TimedText.{TimedText}
 use Rattle.apply_model.specs.declared.script.script_step.ScriptStep.{ScriptStep}
 use Rattle.apply_model.specs.declared.script.wait.Wait.{Wait}
 use Rattle.apply_model.specs.Script.OutcomeMap.{given_step}
@@ -21,8 +23,8 @@ use Rattle.apply_plan.specs.Plan.ResourceChange.{ResourceChange}
 use Rattle.apply_plan.specs.Plan.SavedPlan.{SavedPlan}
 use Rattle.apply_plan.specs.Results.{all_or_first, each_with_earlier, or_refuse, unless_refused}
 use Rattle.apply_plan.specs.Script.EntriesView.{IsWithin}
-use Rattle.apply_plan.specs.Script.Entry.{Entry, EntryStep, all_some, diag_from, answered_with, diag_or_none, each_of, ending_from, ending_of, entry_of, flag_or_false, is_kept, may_fail_or_not, object_or_none, provisioner_from, says_nothing, seconds_of, skipped_with, step_from, wait_from}
-use Rattle.apply_plan.specs.Script.Outcome.{IsBounded, is_failed}
+use Rattle.apply_plan.specs.Script.Entry.{Entry, EntryStep, Failure, OutputItem, all_some, diag_from, answered_with, diag_or_none, each_of, ending_from, ending_of, entry_of, failure_from, failure_or_none, flag_or_false, is_kept, may_fail_or_not, number_or_none, object_or_none, only_warns_or_not, output_from, output_of_members, provisioner_from, says_nothing, seconds_of, skipped_with, step_from, timed, timed_outputs, wait_from}
+use Rattle.apply_plan.specs.Script.Outcome.{IsBounded, are_in_time, is_failed, is_warned}
 use Rattle.apply_plan.specs.Script.OutcomeMap.{OutcomeMap, Said, by_number, change_of_entry, count_in, elements_of, entry_at, given_outcome, is_stuck, names_change, said_at, said_by, said_of, script_of, script_of_entries, script_of_tree}
 use Rattle.apply_plan.specs.Script.Refusals.{fault_of_entry}
 use Rattle.apply_plan.specs.Script.WaitedStep.{step_said, step_waited, with_waits}
@@ -54,19 +56,38 @@ some_diag (Some d) h = mapped HasDiagTexts MayHaveDiag Some (diag_from d) (λ di
 abbrev pub HasEndingTexts : Ending → Type 0
 HasEndingTexts (Done id warning) = IfSome id IsUtf8 × MayHaveDiag warning
 HasEndingTexts (Failed diag) = HasDiagTexts diag
+HasEndingTexts (Warned diag) = HasDiagTexts diag
 
-ended : (id : Option (List ℕ)) (warning failed : Option Diag) → IfSome id IsUtf8 → MayHaveDiag warning → MayHaveDiag failed → IfSome (ending_from id warning failed) HasEndingTexts
+-- where the provider fails
+abbrev MayHaveFailure : Option Failure → Type 0
+MayHaveFailure failure = IfSome failure (λ failure. HasDiagTexts failure.diag)
+
+failure_texts : (d : Data) → IsLegible d → IfSome (failure_from d) (λ failure. HasDiagTexts failure.diag)
+failure_texts d h =
+    let Q = λ (failure : Failure). HasDiagTexts failure.diag in
+    next_of HasDiagTexts Q (diag_from d) _ (diag_texts d h)
+    (λ diag texts. next_of (λ _. Unit {0}) Q (only_warns_or_not (member_of (codes "severity") d)) _ (any_given (only_warns_or_not (member_of (codes "severity") d))) (λ only_warns u. texts))
+
+some_failure : (found : Option Data) → IfSome found IsLegible → IfSome (failure_or_none found) MayHaveFailure
+some_failure None h = tt
+some_failure (Some d) h = mapped (λ (failure : Failure). HasDiagTexts failure.diag) MayHaveFailure Some (failure_from d) (λ failure texts. texts) (failure_texts d h)
+
+ended : (id : Option (List ℕ)) (warning : Option Diag) (failed : Option Failure) → IfSome id IsUtf8 → MayHaveDiag warning → MayHaveFailure failed → IfSome (ending_from id warning failed) HasEndingTexts
 ended id warning None named warned why = (named, warned)
-ended None None (Some diag) named warned why = why
-ended None (Some warning) (Some diag) named warned why = tt
-ended (Some id) warning (Some diag) named warned why = tt
+ended None None (Some failure) named warned why = either failure.only_warns
+  where
+    either : (b : Bool) → HasEndingTexts (cond b (Warned failure.diag) (Failed failure.diag))
+    either true = why
+    either false = why
+ended None (Some warning) (Some failure) named warned why = tt
+ended (Some id) warning (Some failure) named warned why = tt
 
 ending_texts : (d : Data) → IsLegible d → IfSome (ending_of d) HasEndingTexts
 unfolding ending_of
 ending_texts d h =
     next_of IsUtf8 HasEndingTexts (text_or [] (member_of (codes "id") d)) _ (text_or_utf8 [] (member_of (codes "id") d) IsUtf8-nil (member_legible (codes "id") d h))
     (λ id id_is. next_of MayHaveDiag HasEndingTexts (diag_or_none (member_of (codes "warning") d)) _ (some_diag (member_of (codes "warning") d) (member_legible (codes "warning") d h))
-    (λ warning warned. next_of MayHaveDiag HasEndingTexts (diag_or_none (member_of (codes "failed") d)) _ (some_diag (member_of (codes "failed") d) (member_legible (codes "failed") d h))
+    (λ warning warned. next_of MayHaveFailure HasEndingTexts (failure_or_none (member_of (codes "failed") d)) _ (some_failure (member_of (codes "failed") d) (member_legible (codes "failed") d h))
     (λ failed why. ended (unless_empty id) warning failed (filled_utf8 id id_is) warned why)))
 
 -- ---- provisioners
@@ -75,9 +96,41 @@ each_legible : {A : Type 0} (P : A → Type 0) (part : Data → Option A) (found
 each_legible P part found step h =
     next_of AreLegible (AllByRecursion P) (items_or_empty found) _ (items_legible found h) (λ items legible. all_given IsLegible P part (list_of items) step (list_legible items legible))
 
+-- ---- what a provisioner puts out
+
+abbrev HasItemText : OutputItem → Type 0
+HasItemText item = IsUtf8 item.text
+
+abbrev pub HasTimedText : TimedText → Type 0
+HasTimedText timed = IsUtf8 timed.text
+
+members_texts : (d : Data) → IsLegible d → IfSome (output_of_members d) HasItemText
+unfolding output_of_members
+members_texts d h =
+    next_of IsUtf8 HasItemText (text_of (codes "text") d) _ (text_utf8 (codes "text") d h)
+    (λ text is. next_of (λ _. Unit {0}) HasItemText (number_or_none (member_of (codes "after") d)) _ (any_given (number_or_none (member_of (codes "after") d))) (λ after u. is))
+
+item_texts : (d : Data) → IsLegible d → IfSome (output_from d) HasItemText
+item_texts d h = either (as_str d) (str_utf8 d h)
+  where
+    either : (found : Option (List ℕ)) → IfSome found IsUtf8 → IfSome (option_map_or (λ text. Some (record { after = None; text = text })) found (output_of_members d)) HasItemText
+    either None is = members_texts d h
+    either (Some text) is = is
+
+all_timed : (seconds : ℕ) (items : List OutputItem) → AllByRecursion HasItemText items → AllByRecursion HasTimedText (map (timed seconds) items)
+all_timed seconds [] h = tt
+all_timed seconds (item ∷ items) h = (h.0, all_timed seconds items h.1)
+
+timed_texts : (seconds : ℕ) (items : List OutputItem) → AllByRecursion HasItemText items → IfSome (timed_outputs seconds items) (AllByRecursion HasTimedText)
+timed_texts seconds items h = either (are_in_time 0 seconds (map (timed seconds) items))
+  where
+    either : (b : Bool) → IfSome (cond b (Some (map (timed seconds) items)) None) (AllByRecursion HasTimedText)
+    either true = all_timed seconds items h
+    either false = tt
+
 pub record HasProvisionerTexts (provisioner : Provisioner) : Type 0 where
   pub name : IsUtf8 provisioner.name
-  pub output : AllByRecursion IsUtf8 provisioner.output
+  pub output : AllByRecursion HasTimedText provisioner.output
   pub failed : MayHaveDiag provisioner.failed
 
 provisioner_texts : (d : Data) → IsLegible d → IfSome (provisioner_from d) HasProvisionerTexts
@@ -86,9 +139,10 @@ provisioner_texts d h =
     next_of IsUtf8 HasProvisionerTexts (non_empty_text_of (codes "provisioner") d) _ (non_empty_utf8 (codes "provisioner") d h)
     (λ name name_is. next_of (λ _. Unit {0}) HasProvisionerTexts (seconds_of d) _ (any_given (seconds_of d))
     (λ seconds u. next_of MayHaveDiag HasProvisionerTexts (diag_or_none (member_of (codes "failed") d)) _ (some_diag (member_of (codes "failed") d) (member_legible (codes "failed") d h))
-    (λ failed why. next_of (AllByRecursion IsUtf8) HasProvisionerTexts (each_of as_str (member_of (codes "output") d)) _ (each_legible IsUtf8 as_str (member_of (codes "output") d) str_utf8 (member_legible (codes "output") d h))
+    (λ failed why. next_of (AllByRecursion HasItemText) HasProvisionerTexts (each_of output_from (member_of (codes "output") d)) _ (each_legible HasItemText output_from (member_of (codes "output") d) item_texts (member_legible (codes "output") d h))
+    (λ items items_are. next_of (AllByRecursion HasTimedText) HasProvisionerTexts (timed_outputs seconds items) _ (timed_texts seconds items items_are)
     (λ output output_is. next_of (λ _. Unit {0}) HasProvisionerTexts (may_fail_or_not (member_of (codes "on_failure") d)) _ (any_given (may_fail_or_not (member_of (codes "on_failure") d)))
-    (λ may_fail u'. record { name = name_is; output = output_is; failed = why })))))
+    (λ may_fail u'. record { name = name_is; output = output_is; failed = why }))))))
 
 -- ---- a step
 
@@ -123,7 +177,7 @@ step_texts d h =
     of_kind true told seconds result provisioners ends all = of_none (told || (not (says_nothing result) || nat_lt 0 (length provisioners)))
     of_kind false told None result provisioners ends all = tt
     of_kind false told (Some seconds) result provisioners ends all =
-        of_one (is_failed result && nat_lt 0 (length provisioners)) (record { seconds = seconds; provisioners = provisioners; result = result; after = [] }) (record { result = ends; provisioners = all })
+        of_one ((is_failed result || is_warned result) && nat_lt 0 (length provisioners)) (record { seconds = seconds; provisioners = provisioners; result = result; after = [] }) (record { result = ends; provisioners = all })
 
 entry_texts : (d : Data) → IsLegible d → IfSome (entry_of d) (λ entry. AllByRecursion HasEntryStepTexts entry.steps)
 unfolding entry_of

@@ -1,4 +1,4 @@
--- Of a script that was read only steps have provisioners that take them.
+-- Of a script that was read only steps have provisioners that take them, and only reads only warn.
 use Rattle.std.proofs.Common.{◌≡◌, ◌≢◌, ℕ, zero, suc, ◌+◌, ◌==◌, List, [], ◌∷◌, length, map, find, Bool, true, false, cond, Option, Some, None, Result, Ok, Err, refl, sym, ap, ◌∙◌, subst, ◌⊎◌, inl, inr, ⊎_elim, slice_get, unwrap_or, option_map, take, arith}
 use Rattle.std.specs.Prelude.{◌&&◌, ◌||◌, is_some, not, nat_lt, option_and_then, sum_by}
 use Rattle.std.specs.List.{AllByRecursion, enumerate_from, filter_map, list_any, position_from, range_with_len, zip}
@@ -7,12 +7,14 @@ use Rattle.std.proofs.lemmas.Bool.Decides.{eqb_tells}
 use Rattle.std.proofs.lemmas.Option.{same_Some}
 use Rattle.serde_json.specs.Data.{Data, Items}
 use Rattle.apply_model.specs.declared.plan.step_kind.StepKind.{StepKind}
+use Rattle.apply_model.specs.declared.plan.step_kind.StepKind.TheVariants.{Create, Update, Delete, Read}
+use Rattle.apply_model.specs.Plan.StepKind.{is_kind}
 use Rattle.apply_model.specs.declared.script.outcome.Outcome.{Outcome}
 use Rattle.apply_model.specs.declared.script.provisioner.Provisioner.{Provisioner}
 use Rattle.apply_model.specs.declared.script.script_step.ScriptStep.{ScriptStep}
 use Rattle.apply_model.specs.Script.Step.{answer_to}
 use Rattle.apply_plan.specs.declared.script.script_error.ScriptError.{ScriptError}
-use Rattle.apply_plan.specs.declared.script.script_error.ScriptError.TheVariants.{TooLarge, NotJson, BadShape, UnknownChange, Duplicate, TooManySteps, SecondsRange, TooManyProvisioners, TooMuchOutput, NotACreate, NeverBegins}
+use Rattle.apply_plan.specs.declared.script.script_error.ScriptError.TheVariants.{TooLarge, NotJson, BadShape, UnknownChange, Duplicate, TooManySteps, SecondsRange, TooManyProvisioners, TooMuchOutput, NotACreate, WarnsNotARead, NeverBegins}
 use Rattle.apply_json.specs.Keeping.{keeping_tree_of}
 use Rattle.apply_json.specs.Tree.{list_of}
 use Rattle.apply_plan.specs.Bytes.{max_bytes}
@@ -20,13 +22,13 @@ use Rattle.apply_plan.specs.Plan.ResourceChange.{ResourceChange}
 use Rattle.apply_plan.specs.Plan.SavedPlan.{SavedPlan}
 use Rattle.apply_plan.specs.Results.{◌>>=◌, all_or_first, each_with_earlier, or_refuse, unless_refused}
 use Rattle.apply_plan.specs.Script.Entry.{Entry, EntryStep, entry_of, is_kept}
-use Rattle.apply_plan.specs.Script.Outcome.{default_outcome, has_too_many_provisioners, has_too_much_output, is_too_long}
-use Rattle.apply_plan.specs.Script.OutcomeMap.{OutcomeMap, Said, by_number, change_of_entry, count_in, elements_of, entry_at, is_about, is_stuck, names_change, said_by, said_of, script_of, script_of_entries, script_of_tree, unless_stuck}
-use Rattle.apply_plan.specs.Script.Refusals.{fault_of_entry, fault_of_steps, fault_of_waits, misplaces_provisioners, passes, takes_provisioners}
+use Rattle.apply_plan.specs.Script.Outcome.{default_outcome, has_too_many_provisioners, has_too_much_output, is_too_long, is_warned}
+use Rattle.apply_plan.specs.Script.OutcomeMap.{OutcomeMap, Said, by_number, change_of_entry, count_in, elements_of, entry_at, is_about, is_stuck, names_change, outcome_of, said_by, said_of, script_of, script_of_entries, script_of_tree, unless_stuck}
+use Rattle.apply_plan.specs.Script.Refusals.{fault_of_entry, fault_of_steps, fault_of_waits, misplaces_provisioners, passes, takes_provisioners, warns_not_a_read}
 use Rattle.apply_plan.specs.Script.WaitedStep.{step_said, step_waited, with_waits}
 use Rattle.apply_plan.proofs.Results.{unless_refused_ok}
 use Rattle.apply_plan.proofs.Scripts.Limits.{both_none}
-use Rattle.apply_agreement.specs.Plans.{IsChange, ProvisionsCreates}
+use Rattle.apply_agreement.specs.Plans.{IsChange, ProvisionsCreates, ReadsComeLast, WarnsOfReads}
 
 -- ---- one entry
 
@@ -131,6 +133,16 @@ module _ (deposed : Bool) where
       let loud = not_refused (list_any (passes has_too_much_output) steps) (TooMuchOutput n) _ wide.1 in
       (not_refused (list_any (misplaces_provisioners deposed) (zip (enumerate_from 0 kinds) steps)) (NotACreate n) _ loud.1).0
 
+  none_warns : (n : ℕ) (kinds : List StepKind) (steps : List (Option Outcome)) → fault_of_steps n deposed kinds steps ≡ None → list_any warns_not_a_read (zip (enumerate_from 0 kinds) steps) ≡ false
+  unfolding fault_of_steps
+  none_warns n kinds steps e =
+      let many = not_refused (nat_lt (length kinds) (length steps)) (TooManySteps n) _ e in
+      let long = not_refused (list_any (passes is_too_long) steps) (SecondsRange n) _ many.1 in
+      let wide = not_refused (list_any (passes has_too_many_provisioners) steps) (TooManyProvisioners n) _ long.1 in
+      let loud = not_refused (list_any (passes has_too_much_output) steps) (TooMuchOutput n) _ wide.1 in
+      let placed = not_refused (list_any (misplaces_provisioners deposed) (zip (enumerate_from 0 kinds) steps)) (NotACreate n) _ loud.1 in
+      (not_refused (list_any warns_not_a_read (zip (enumerate_from 0 kinds) steps)) (WarnsNotARead n) _ placed.1).0
+
   are_none : (ps : List Provisioner) → (nat_lt 0 (length ps) && true) ≡ false → ps ≡ []
   are_none [] e = refl
   are_none (p ∷ ps) e = absurd (both_ways (nat_lt 0 (length (p ∷ ps)) && true) e (ap (λ (b : Bool). b && true) (lt-ltb 0 (length (p ∷ ps)) (omega arith))))
@@ -161,6 +173,51 @@ module _ (deposed : Bool) where
       at_number (suc j) fine at takes rest =
           let next : n + 1 + j ≡ n + suc j = omega arith in
           rest j at (ap (λ (z : ℕ). takes_provisioners deposed (z, kind)) next ∙ takes)
+
+-- a step that only warns is a read
+is_read : (kind : StepKind) → is_kind Read kind ≡ true → kind ≡ Read
+is_read Create e = absurd cc
+is_read Update e = absurd cc
+is_read Delete e = absurd cc
+is_read Read e = refl
+
+step_reads : (number : ℕ) (kind : StepKind) (said : Option Outcome) → warns_not_a_read ((number, kind), said) ≡ false → is_warned (unwrap_or said default_outcome).result ≡ true → kind ≡ Read
+step_reads number kind None e warns = absurd cc
+step_reads number kind (Some outcome) e warns = is_read kind (not-false (is_kind Read kind) (sym (ap (λ (b : Bool). b && not (is_kind Read kind)) warns) ∙ e))
+  where
+    not-false : (b : Bool) → (true && not b) ≡ false → b ≡ true
+    not-false true e = refl
+    not-false false e = absurd cc
+
+warning_reads : (n : ℕ) (kinds : List StepKind) (steps : List (Option Outcome)) (k : ℕ) (kind : StepKind) → list_any warns_not_a_read (zip (enumerate_from n kinds) steps) ≡ false → slice_get kinds k ≡ Some kind
+    → is_warned (unwrap_or (option_and_then (λ said. said) (slice_get steps k)) default_outcome).result ≡ true → kind ≡ Read
+warning_reads n kinds [] k kind e at warns = absurd cc
+warning_reads n [] (x ∷ steps) k kind e at warns = absurd cc
+warning_reads n (y ∷ kinds) (x ∷ steps) k kind e at warns =
+    let both = neither (warns_not_a_read ((n, y), x)) (list_any warns_not_a_read (zip (enumerate_from (n + 1) kinds) steps)) e in
+    at_number k both.0 at warns (λ j is only. warning_reads (n + 1) kinds steps j kind both.1 is only)
+  where
+    neither : (a b : Bool) → (a || b) ≡ false → (a ≡ false) × (b ≡ false)
+    neither true b e = absurd cc
+    neither false b e = (refl, e)
+
+    at_number : (k : ℕ) → warns_not_a_read ((n, y), x) ≡ false → slice_get (y ∷ kinds) k ≡ Some kind
+        → is_warned (unwrap_or (option_and_then (λ said. said) (slice_get (x ∷ steps) k)) default_outcome).result ≡ true
+        → ((j : ℕ) → slice_get kinds j ≡ Some kind → is_warned (unwrap_or (option_and_then (λ said. said) (slice_get steps j)) default_outcome).result ≡ true → kind ≡ Read)
+        → kind ≡ Read
+    at_number zero fine at warns rest = sym (same_Some y kind at) ∙ step_reads n y x fine warns
+    at_number (suc j) fine at warns rest = rest j at warns
+
+-- what a step waits for changes nothing of how it ends
+same_result : (changes : List ResourceChange) (steps : List EntryStep) (k : ℕ)
+    → (unwrap_or (option_and_then answer_to (slice_get (map (step_said changes) steps) k)) default_outcome).result ≡ (unwrap_or (option_and_then (λ said. said) (slice_get (map (λ step. step.outcome) steps) k)) default_outcome).result
+same_result changes [] k = refl
+same_result changes (step ∷ steps) zero = of_outcome step.outcome
+  where
+    of_outcome : (said : Option Outcome) → (unwrap_or (answer_to (with_waits said (filter_map (step_waited changes) step.after))) default_outcome).result ≡ (unwrap_or said default_outcome).result
+    of_outcome None = refl
+    of_outcome (Some outcome) = refl
+same_result changes (step ∷ steps) (suc k) = same_result changes steps k
 
 -- what a step waits for changes nothing of its provisioners
 same_provisioners : (changes : List ResourceChange) (steps : List EntryStep) (k : ℕ)
@@ -202,6 +259,33 @@ said_has_none plan entries c k change kind (Some steps) suit is place at takes =
     (subst (λ (one : ResourceChange). slice_get one.steps k ≡ Some kind) same at)
     (subst (λ (one : ResourceChange). takes_provisioners (is_some one.deposed) (0 + k, kind) ≡ false) same (ap (λ (z : ℕ). takes_provisioners (is_some change.deposed) (z, kind)) number ∙ takes))
 
+said_reads : (plan : SavedPlan) (entries : List Said) (c k : ℕ) (change : ResourceChange) (kind : StepKind) (said : Option (List ScriptStep)) → AllByRecursion (Suits plan.changes) entries → said_of entries c ≡ said
+    → IsChange plan c change → slice_get change.steps k ≡ Some kind → is_warned (outcome_at (Some said) k).result ≡ true → kind ≡ Read
+said_reads plan entries c k change kind None suit is place at warns = absurd cc
+said_reads plan entries c k change kind (Some steps) suit is place at warns =
+    let found = said_suits plan.changes entries c steps suit is in
+    let suits = found.1 in
+    let its : slice_get plan.changes c ≡ Some suits.change = ap (slice_get plan.changes) (sym found.2) ∙ suits.place in
+    let same : change ≡ suits.change = same_Some change suits.change (sym place ∙ its) in
+    let bare = map (λ (step : EntryStep). step.outcome) suits.steps in
+    let result : (unwrap_or (option_and_then answer_to (slice_get steps k)) default_outcome).result ≡ (unwrap_or (option_and_then (λ said. said) (slice_get bare k)) default_outcome).result =
+    ap (λ (os : List ScriptStep). (unwrap_or (option_and_then answer_to (slice_get os k)) default_outcome).result) (sym found.3 ∙ suits.said) ∙ same_result plan.changes suits.steps k in
+    warning_reads 0 suits.change.steps bare k kind (none_warns (is_some suits.change.deposed) suits.number suits.change.steps bare suits.fine)
+    (subst (λ (one : ResourceChange). slice_get one.steps k ≡ Some kind) same at) (ap is_warned (sym result) ∙ warns)
+
+-- a step that only warns is a read
+abbrev OnlyReadsWarn : SavedPlan → OutcomeMap → Type 0
+OnlyReadsWarn plan script = (c k : ℕ) (change : ResourceChange) (kind : StepKind) → IsChange plan c change → slice_get change.steps k ≡ Some kind → is_warned (outcome_of script c k).result ≡ true → kind ≡ Read
+
+numbered_reads : (plan : SavedPlan) (entries : List Said) → AllByRecursion (Suits plan.changes) entries → OnlyReadsWarn plan (by_number (length plan.changes) entries)
+numbered_reads plan entries suit c k change kind place at warns = ⊎_elim
+    (λ (none : slice_get (by_number (length plan.changes) entries) c ≡ None). absurd (let never : is_warned default_outcome.result ≡ true = sym (ap (λ (o : Option (Option (List ScriptStep))). is_warned (outcome_at o k).result) none) ∙ warns in cc))
+    (λ (some : slice_get (by_number (length plan.changes) entries) c ≡ Some (said_of entries (0 + c))).
+    let number : 0 + c ≡ c = omega arith in
+    let is : slice_get (by_number (length plan.changes) entries) c ≡ Some (said_of entries c) = some ∙ ap (λ (x : ℕ). Some (said_of entries x)) number in
+    said_reads plan entries c k change kind (said_of entries c) suit refl place at (sym (ap (λ (o : Option (Option (List ScriptStep))). is_warned (outcome_at o k).result) is) ∙ warns))
+    (number_at (said_of entries) 0 (length plan.changes) c)
+
 numbered_has_none : (plan : SavedPlan) (entries : List Said) → AllByRecursion (Suits plan.changes) entries → ProvisionsCreates plan (by_number (length plan.changes) entries)
 numbered_has_none plan entries suit c k change kind place at takes = ⊎_elim
     (λ (none : slice_get (by_number (length plan.changes) entries) c ≡ None). ap (λ (o : Option (Option (List ScriptStep))). (outcome_at o k).provisioners) none)
@@ -211,33 +295,50 @@ numbered_has_none plan entries suit c k change kind place at takes = ⊎_elim
     ∙ said_has_none plan entries c k change kind (said_of entries c) suit refl place at takes)
     (number_at (said_of entries) 0 (length plan.changes) c)
 
-entries_have : (plan : SavedPlan) (elements : List Data) (script : OutcomeMap) → script_of_entries plan elements ≡ Ok script → ProvisionsCreates plan script
+-- what is asked of a script that was read: each of its steps has provisioners only where it takes them, and only warns only
+-- where it is a read
+record Suited (plan : SavedPlan) (script : OutcomeMap) : Type 0 where
+  provisions : ProvisionsCreates plan script
+  reads : OnlyReadsWarn plan script
+
+entries_have : (plan : SavedPlan) (elements : List Data) (script : OutcomeMap) → script_of_entries plan elements ≡ Ok script → Suited plan script
 unfolding script_of_entries
 entries_have plan elements script e =
     of_entries (all_or_first (each_with_earlier (entry_at plan.changes) elements))
     (λ entries is. all_hold (Suits plan.changes) (λ (p : ℕ × Data). entry_at plan.changes (take p.0 elements) p.1) (enumerate_from 0 elements) entries (λ p one. entry_suits plan.changes (take p.0 elements) p.1 one) is) e
   where
     of_entries : (r : Result (List Said) ScriptError) → ((entries : List Said) → r ≡ Ok entries → AllByRecursion (Suits plan.changes) entries)
-        → (r >>= λ entries. unless_stuck entries (by_number (length plan.changes) entries)) ≡ Ok script → ProvisionsCreates plan script
+        → (r >>= λ entries. unless_stuck entries (by_number (length plan.changes) entries)) ≡ Ok script → Suited plan script
     of_entries (Err refusal) suit e = absurd cc
-    of_entries (Ok entries) suit e = subst (ProvisionsCreates plan) (unless_refused_ok (option_map NeverBegins (position_from (is_stuck (by_number (length plan.changes) entries)) 0 entries)) (by_number (length plan.changes) entries) script e).1 (numbered_has_none plan entries (suit entries refl))
+    of_entries (Ok entries) suit e = subst (Suited plan) (unless_refused_ok (option_map NeverBegins (position_from (is_stuck (by_number (length plan.changes) entries)) 0 entries)) (by_number (length plan.changes) entries) script e).1 (record { provisions = numbered_has_none plan entries (suit entries refl); reads = numbered_reads plan entries (suit entries refl) })
 
-tree_has : (plan : SavedPlan) (d : Data) (script : OutcomeMap) → script_of_tree plan d ≡ Ok script → ProvisionsCreates plan script
+tree_has : (plan : SavedPlan) (d : Data) (script : OutcomeMap) → script_of_tree plan d ≡ Ok script → Suited plan script
 unfolding script_of_tree
 tree_has plan d script e = of_elements (elements_of d) e
   where
-    of_elements : (o : Option Items) → (or_refuse (BadShape None) o >>= λ elements. script_of_entries plan (list_of elements)) ≡ Ok script → ProvisionsCreates plan script
+    of_elements : (o : Option Items) → (or_refuse (BadShape None) o >>= λ elements. script_of_entries plan (list_of elements)) ≡ Ok script → Suited plan script
     of_elements None e = absurd cc
     of_elements (Some elements) e = entries_have plan (list_of elements) script e
 
-pub read_has : (plan : SavedPlan) (bytes : List ℕ) (script : OutcomeMap) → script_of plan bytes ≡ Ok script → ProvisionsCreates plan script
+read_suits : (plan : SavedPlan) (bytes : List ℕ) (script : OutcomeMap) → script_of plan bytes ≡ Ok script → Suited plan script
 unfolding script_of
-read_has plan bytes script e = of_size (nat_lt max_bytes (length bytes)) (keeping_tree_of is_kept bytes) e
+read_suits plan bytes script e = of_size (nat_lt max_bytes (length bytes)) (keeping_tree_of is_kept bytes) e
   where
-    of_size : (b : Bool) (o : Option Data) → cond b (Err TooLarge) (or_refuse NotJson o >>= script_of_tree plan) ≡ Ok script → ProvisionsCreates plan script
+    of_size : (b : Bool) (o : Option Data) → cond b (Err TooLarge) (or_refuse NotJson o >>= script_of_tree plan) ≡ Ok script → Suited plan script
     of_size true o e = absurd cc
     of_size false None e = absurd cc
     of_size false (Some d) e = tree_has plan d script e
+
+pub read_has : (plan : SavedPlan) (bytes : List ℕ) (script : OutcomeMap) → script_of plan bytes ≡ Ok script → ProvisionsCreates plan script
+read_has plan bytes script e = (read_suits plan bytes script e).provisions
+
+pub read_warns : (plan : SavedPlan) (bytes : List ℕ) (script : OutcomeMap) → script_of plan bytes ≡ Ok script → ReadsComeLast plan → WarnsOfReads plan script
+read_warns plan bytes script e last c k change kind place at warns =
+    let read : kind ≡ Read = (read_suits plan bytes script e).reads c k change kind place at warns in
+    (read, last c k change place (at ∙ ap (λ (x : StepKind). Some x) read))
+
+pub none_warns_of : (plan : SavedPlan) → WarnsOfReads plan []
+none_warns_of plan c k change kind place at warns = absurd cc
 
 pub none_has : (plan : SavedPlan) → ProvisionsCreates plan []
 none_has plan c k change kind place at takes = refl

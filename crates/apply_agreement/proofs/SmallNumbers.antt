@@ -11,7 +11,7 @@ use Rattle.apply_model.specs.declared.plan.step_kind.StepKind.{StepKind}
 use Rattle.apply_model.specs.declared.plan.step_kind.StepKind.TheVariants.{Create, Update, Delete, Read}
 use Rattle.apply_model.specs.declared.script.outcome.Outcome.{Outcome}
 use Rattle.apply_plan.specs.Plan.SavedPlan.{SavedPlan}
-use Rattle.apply_plan.specs.Script.Outcome.{IsBounded, default_outcome, fails, took}
+use Rattle.apply_plan.specs.Script.Outcome.{IsBounded, default_outcome, fails, is_warned, took}
 use Rattle.apply_plan.specs.Script.OutcomeMap.{IsInRange, OutcomeMap, given_outcome, outcome_of}
 use Rattle.apply_model.proofs.Scripts.Limits.{in_time}
 use Rattle.apply_hooks.specs.Hooks.{max_hooks}
@@ -47,7 +47,7 @@ at_end found s d short e = let is : s ≡ d = same s d (and_parts found (s == d)
 what_small : (kind : StepKind) (outcome : Outcome) (what : What) → took kind outcome ≤ 86400 → can_happen kind outcome what ≡ true → IsSmall what
 what_small kind outcome Start short e = tt
 what_small kind outcome (Progress s) short e = let less : s < 1 + (took kind outcome - 1) = below_end s 1 (took kind outcome - 1) e in omega arith
-what_small kind outcome (Complete s) short e = at_end (not (fails outcome)) s (took kind outcome) short e
+what_small kind outcome (Complete s) short e = at_end (not (fails outcome) && not (is_warned outcome.result)) s (took kind outcome) short e
 what_small kind outcome (Errored s) short e = at_end (fails outcome) s (took kind outcome) short e
 what_small kind outcome ErrorNote short e = tt
 what_small kind outcome WarnNote short e = tt

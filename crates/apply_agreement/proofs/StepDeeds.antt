@@ -9,14 +9,14 @@ use Rattle.apply_hooks.specs.declared.phase.Phase as asked
 use Rattle.apply_hooks.specs.declared.phase.Phase.TheVariants.{Pre, PostDone}
 use Rattle.apply_events.specs.declared.event.Event.{Event}
 use Rattle.apply_events.specs.declared.what.What.{What}
-use Rattle.apply_events.specs.declared.what.What.TheVariants.{Start, Halted}
+use Rattle.apply_events.specs.declared.what.What.TheVariants.{Start, WarnNote, Halted}
 use Rattle.apply_events.specs.Diagnostics.{is_note}
 use Rattle.apply_events.specs.Step.{Step, kinds_of}
 use Rattle.apply_events.specs.StepEvents as told_in
-use Rattle.apply_events.specs.StepEvents.{end_of, endings, event, goes_on, halts, notes, phase_after, seconds_of, started, step_events, step_time}
+use Rattle.apply_events.specs.StepEvents.{end_of, endings, event, goes_on, halts, notes, phase_after, seconds_of, started, step_events, step_time, tells_end}
 use Rattle.apply_text.specs.Order.{hook_messages_of, notes_of}
 use Rattle.apply_agreement.specs.Told.{action_of}
-use Rattle.apply_agreement.proofs.Phases.{IsStill, MayRun, Phase, between, under_way, unexplained}
+use Rattle.apply_agreement.proofs.Phases.{MayRun, Phase, between, under_way, unexplained}
 use Rattle.apply_agreement.proofs.BetweenSteps.{Passes, along_told, no_note}
 use Rattle.apply_agreement.proofs.Deeds.{Leads, leads_on}
 
@@ -98,24 +98,78 @@ module _ (may : Type 0) (plan : SavedPlan) (kind : StepKind) (w : ℕ) (s : Step
   only_halt phase at None = (refl, refl)
   only_halt phase at (Some hook) = (refl, refl)
 
-  started_split : (at : ℕ) → (hook_messages_of (started w s at) ≡ hooks_told at) × (notes_of (started w s at) ≡ notes_told at)
+  -- of a step whose end is told
+  started_split : tells_end s.fails s.only_warns ≡ true → (at : ℕ) → (hook_messages_of (started w s at) ≡ hooks_told at) × (notes_of (started w s at) ≡ notes_told at)
   unfolding hooks_told notes_told events_of
-  started_split at =
+  started_split ends at =
       let start = event w s at Start ∷ [] in
       let middle = map (λ (x : ℕ × What). event w s (at + x.0) x.1) (told_in.between s) in
       let last = map (λ what. event w s (at + seconds_of s) what) (endings s) in
       let halt = halts w s (phase_after s.fails) (at + seconds_of s) in
       let m = no_notes at (told_in.between s) (no_note s) in
-      let l = only_end s.fails s.warns (at + seconds_of s) (seconds_of s) in
+      let all = only_end s.fails s.warns (at + seconds_of s) (seconds_of s) in
+      let are : endings s ≡ end_of s.fails (seconds_of s) ∷ notes s.fails s.warns = ap (λ (b : Bool). cond b (end_of s.fails (seconds_of s) ∷ notes s.fails s.warns) (WarnNote ∷ [])) ends in
+      let end : hook_messages_of last ≡ event w s (at + seconds_of s) (end_of s.fails (seconds_of s)) ∷ [] =
+      ap (λ (x : List What). hook_messages_of (map (λ what. event w s (at + seconds_of s) what) x)) are ∙ all.0 in
+      let note : notes_of last ≡ map (λ what. event w s (at + seconds_of s) what) (notes s.fails s.warns) =
+      ap (λ (x : List What). notes_of (map (λ what. event w s (at + seconds_of s) what) x)) are ∙ all.1 in
       let h = only_halt (phase_after s.fails) (at + seconds_of s) (s.halts (phase_after s.fails)) in (
         kept_both (λ e. not (is_note e.what)) (start ++ middle ++ last) halt
-            ∙ ap (λ (x : List Event). x ++ hook_messages_of halt) (kept_both (λ e. not (is_note e.what)) (start ++ middle) last ∙ ap (λ (x : List Event). (start ++ x) ++ hook_messages_of last) m.0 ∙ ap (λ (x : List Event). (start ++ middle) ++ x) l.0)
+            ∙ ap (λ (x : List Event). x ++ hook_messages_of halt) (kept_both (λ e. not (is_note e.what)) (start ++ middle) last ∙ ap (λ (x : List Event). (start ++ x) ++ hook_messages_of last) m.0 ∙ ap (λ (x : List Event). (start ++ middle) ++ x) end)
             ∙ ap (λ (x : List Event). ((start ++ middle) ++ event w s (at + seconds_of s) (end_of s.fails (seconds_of s)) ∷ []) ++ x) h.0
             ∙ append-nil ((start ++ middle) ++ event w s (at + seconds_of s) (end_of s.fails (seconds_of s)) ∷ []),
         kept_both (λ e. is_note e.what) (start ++ middle ++ last) halt
-            ∙ ap (λ (x : List Event). x ++ notes_of halt) (kept_both (λ e. is_note e.what) (start ++ middle) last ∙ ap (λ (x : List Event). x ++ notes_of last) m.1 ∙ l.1)
+            ∙ ap (λ (x : List Event). x ++ notes_of halt) (kept_both (λ e. is_note e.what) (start ++ middle) last ∙ ap (λ (x : List Event). x ++ notes_of last) m.1 ∙ note)
             ∙ ap (λ (x : List Event). map (λ what. event w s (at + seconds_of s) what) (notes s.fails s.warns) ++ x) h.1,
       )
+
+  -- of a step that only warns nothing is told at its end but the warning
+  left_split : tells_end s.fails s.only_warns ≡ false → (at : ℕ) → (hook_messages_of (started w s at) ≡ event w s at Start ∷ events_of at (told_in.between s))
+      × (notes_of (started w s at) ≡ event w s (at + seconds_of s) WarnNote ∷ halts w s (phase_after s.fails) (at + seconds_of s))
+  unfolding events_of
+  left_split leaves at =
+      let start = event w s at Start ∷ [] in
+      let middle = map (λ (x : ℕ × What). event w s (at + x.0) x.1) (told_in.between s) in
+      let last = map (λ what. event w s (at + seconds_of s) what) (endings s) in
+      let warning = event w s (at + seconds_of s) WarnNote ∷ [] in
+      let halt = halts w s (phase_after s.fails) (at + seconds_of s) in
+      let m = no_notes at (told_in.between s) (no_note s) in
+      let are : endings s ≡ WarnNote ∷ [] = ap (λ (b : Bool). cond b (end_of s.fails (seconds_of s) ∷ notes s.fails s.warns) (WarnNote ∷ [])) leaves in
+      let end : hook_messages_of last ≡ [] = ap (λ (x : List What). hook_messages_of (map (λ what. event w s (at + seconds_of s) what) x)) are in
+      let note : notes_of last ≡ warning = ap (λ (x : List What). notes_of (map (λ what. event w s (at + seconds_of s) what) x)) are in
+      let h = only_halt (phase_after s.fails) (at + seconds_of s) (s.halts (phase_after s.fails)) in (
+        kept_both (λ e. not (is_note e.what)) (start ++ middle ++ last) halt
+            ∙ ap (λ (x : List Event). x ++ hook_messages_of halt) (kept_both (λ e. not (is_note e.what)) (start ++ middle) last ∙ ap (λ (x : List Event). (start ++ x) ++ hook_messages_of last) m.0 ∙ ap (λ (x : List Event). (start ++ middle) ++ x) end)
+            ∙ ap (λ (x : List Event). ((start ++ middle) ++ []) ++ x) h.0
+            ∙ append-nil ((start ++ middle) ++ [])
+            ∙ append-nil (start ++ middle),
+        kept_both (λ e. is_note e.what) (start ++ middle ++ last) halt
+            ∙ ap (λ (x : List Event). x ++ notes_of halt) (kept_both (λ e. is_note e.what) (start ++ middle) last ∙ ap (λ (x : List Event). x ++ notes_of last) m.1 ∙ note)
+            ∙ ap (λ (x : List Event). warning ++ x) h.1,
+      )
+
+  -- it stays under way
+  pub left_hooks : tells_end s.fails s.only_warns ≡ false → (at : ℕ) → (told : ℕ) × Leads may plan between (hook_messages_of (started w s at)) (under_way (action_of kind) told false)
+  left_hooks leaves at =
+      let told = along_told may (action_of kind) (seconds_of s) s.seconds_before s.ran may_provision (omega arith) in
+      let start = event w s at Start ∷ [] in
+      let middle = events_of at (told_in.between s) in (
+        told.0,
+        subst (λ (es : List Event). Leads may plan between es (under_way (action_of kind) told.0 false)) (sym (left_split leaves at).0)
+            (leads_on may plan between (under_way (action_of kind) 0 false) (under_way (action_of kind) told.0 false) start middle (under_way (action_of kind) 0 false, (kind, is, refl), refl)
+            (leads_passed at (under_way (action_of kind) 0 false) (told_in.between s) (under_way (action_of kind) told.0 false) told.2)),
+      )
+
+  pub left_notes : tells_end s.fails s.only_warns ≡ false → (at told : ℕ) → Leads may plan (under_way (action_of kind) told false) (notes_of (started w s at)) (under_way (action_of kind) told false)
+  left_notes leaves at told =
+      subst (λ (es : List Event). Leads may plan p es p) (sym (left_split leaves at).1) (p, (kind, is, refl), halted_there (s.halts (phase_after s.fails)))
+    where
+      p : Phase
+      p = under_way (action_of kind) told false
+
+      halted_there : (found : Option ℕ) → Leads may plan p (option_to_list (option_map (λ hook. event w s (at + seconds_of s) (Halted (phase_after s.fails) hook)) found)) p
+      halted_there None = refl
+      halted_there (Some hook) = (p, (kind, is, refl), refl)
 
   hooks_ran : (at : ℕ) → Leads may plan between (hooks_told at) (phase_then false s.fails)
   unfolding hooks_told
@@ -135,34 +189,34 @@ module _ (may : Type 0) (plan : SavedPlan) (kind : StepKind) (w : ℕ) (s : Step
   noted false false at = refl
 
   -- those of a step behind which the change goes on leave it where it is
-  warned : (warns : Bool) (at : ℕ) (p : Phase) → IsStill p → Leads may plan p (map (λ what. event w s at what) (notes false warns)) p
-  warned false at p still = refl
-  warned true at between still = (between, (kind, is, refl), refl)
-  warned true at unexplained still = (unexplained, (kind, is, refl), refl)
-  warned true at (under_way k t b) still = absurd still
+  warned : (warns : Bool) (at : ℕ) (p : Phase) → Leads may plan p (map (λ what. event w s at what) (notes false warns)) p
+  warned false at p = refl
+  warned true at between = (between, (kind, is, refl), refl)
+  warned true at unexplained = (unexplained, (kind, is, refl), refl)
+  warned true at (under_way k t b) = (under_way k t b, (kind, is, refl), refl)
 
-  pub step_hooks : (at : ℕ) → Leads may plan between (hook_messages_of (step_events w s at)) (phase_then (is_some (s.halts Pre)) s.fails)
-  step_hooks at = either (s.halts Pre)
+  pub step_hooks : tells_end s.fails s.only_warns ≡ true → (at : ℕ) → Leads may plan between (hook_messages_of (step_events w s at)) (phase_then (is_some (s.halts Pre)) s.fails)
+  step_hooks ends at = either (s.halts Pre)
     where
       either : (found : Option ℕ) → Leads may plan between (hook_messages_of (cond (is_some found) (option_to_list (option_map (λ hook. event w s at (Halted Pre hook)) found)) (started w s at))) (phase_then (is_some found) s.fails)
-      either None = subst (λ (es : List Event). Leads may plan between es (phase_then false s.fails)) (sym (started_split at).0) (hooks_ran at)
+      either None = subst (λ (es : List Event). Leads may plan between es (phase_then false s.fails)) (sym (started_split ends at).0) (hooks_ran at)
       either (Some hook) = refl
 
-  pub step_notes : (at : ℕ) → Leads may plan (phase_then (is_some (s.halts Pre)) s.fails) (notes_of (step_events w s at)) between
+  pub step_notes : tells_end s.fails s.only_warns ≡ true → (at : ℕ) → Leads may plan (phase_then (is_some (s.halts Pre)) s.fails) (notes_of (step_events w s at)) between
   unfolding notes_told
-  step_notes at = either (s.halts Pre)
+  step_notes ends at = either (s.halts Pre)
     where
       either : (found : Option ℕ) → Leads may plan (phase_then (is_some found) s.fails) (notes_of (cond (is_some found) (option_to_list (option_map (λ hook. event w s at (Halted Pre hook)) found)) (started w s at))) between
       either None =
-          subst (λ (es : List Event). Leads may plan (phase_then false s.fails) es between) (sym (started_split at).1)
+          subst (λ (es : List Event). Leads may plan (phase_then false s.fails) es between) (sym (started_split ends at).1)
           (leads_on may plan (phase_then false s.fails) between between (map (λ what. event w s (at + seconds_of s) what) (notes s.fails s.warns)) (halts w s (phase_after s.fails) (at + seconds_of s))
           (noted s.fails s.warns (at + seconds_of s)) (halted (phase_after s.fails) (at + seconds_of s) (s.halts (phase_after s.fails))))
       either (Some hook) = halted Pre at (Some hook)
 
   -- a step behind which the change goes on
-  pub step_warns : goes_on s ≡ true → (at : ℕ) (p : Phase) → IsStill p → Leads may plan p (notes_of (step_events w s at)) p
+  pub step_warns : tells_end s.fails s.only_warns ≡ true → goes_on s ≡ true → (at : ℕ) (p : Phase) → Leads may plan p (notes_of (step_events w s at)) p
   unfolding notes_told
-  step_warns on at p still =
+  step_warns ends on at p =
       let all = and_parts (is_none (s.halts Pre) && not s.fails) (is_none (s.halts PostDone)) on in
       let both = and_parts (is_none (s.halts Pre)) (not s.fails) all.0 in
       let pre : is_some (s.halts Pre) ≡ false = ap is_some (is_nothing (s.halts Pre) both.0) in
@@ -170,19 +224,14 @@ module _ (may : Type 0) (plan : SavedPlan) (kind : StepKind) (w : ℕ) (s : Step
       let post : s.halts PostDone ≡ None = is_nothing (s.halts PostDone) all.1 in
       let told : notes_of (step_events w s at) ≡ map (λ what. event w s (at + seconds_of s) what) (notes false s.warns) =
       ap (λ (b : Bool). notes_of (cond b (halts w s Pre at) (started w s at))) pre
-      ∙ (started_split at).1
+      ∙ (started_split ends at).1
       ∙ ap (λ (f : Bool). map (λ what. event w s (at + seconds_of s) what) (notes f s.warns) ++ halts w s (phase_after f) (at + seconds_of s)) fine
       ∙ ap (λ (o : Option ℕ). map (λ what. event w s (at + seconds_of s) what) (notes false s.warns) ++ option_to_list (option_map (λ hook. event w s (at + seconds_of s) (Halted PostDone hook)) o)) post
       ∙ append-nil (map (λ what. event w s (at + seconds_of s) what) (notes false s.warns)) in
-      subst (λ (es : List Event). Leads may plan p es p) (sym told) (warned s.warns (at + seconds_of s) p still)
+      subst (λ (es : List Event). Leads may plan p es p) (sym told) (warned s.warns (at + seconds_of s) p)
 
   pub goes_between : goes_on s ≡ true → phase_then (is_some (s.halts Pre)) s.fails ≡ between
   goes_between on =
       let all = and_parts (is_none (s.halts Pre) && not s.fails) (is_none (s.halts PostDone)) on in
       let both = and_parts (is_none (s.halts Pre)) (not s.fails) all.0 in
       ap (λ (b : Bool). phase_then b s.fails) (ap is_some (is_nothing (s.halts Pre) both.0)) ∙ ap (phase_then false) (not-true s.fails both.1)
-
-  pub phase_is : (b fails : Bool) → IsStill (phase_then b fails)
-  phase_is true fails = tt
-  phase_is false true = tt
-  phase_is false false = tt

@@ -29,7 +29,7 @@ use Rattle.apply_events.specs.Totals.{is_complete}
 use Rattle.apply_text.specs.Order.{as_written, hook_messages_of, notes_of}
 use Rattle.apply_agreement.specs.Accepted.{stream_told, totals_said, whole_stream}
 use Rattle.apply_agreement.specs.Passing.{plain, verdict_on}
-use Rattle.apply_agreement.specs.Plans.{IsOrdinary, ProvisionsCreates}
+use Rattle.apply_agreement.specs.Plans.{IsOrdinary, ProvisionsCreates, WarnsOfReads}
 use Rattle.apply_agreement.specs.Told.{action_of, all_told, told}
 use Rattle.apply_agreement.specs.WholeSteps.{IsOfWholeSteps, events_of_change}
 use Rattle.apply_agreement.proofs.ChangeDeeds.{change_written}
@@ -167,9 +167,9 @@ are_planned plan es planned =
     each_weaker (λ e. HasStep plan e.change e.step) (IsPlanned plan)
     (λ e has. let kinds = kinds_of plan e.change in (get_or kinds e.step Create, slice_get-get_or kinds e.step Create has)) es (each_of_all (λ e. HasStep plan e.change e.step) es planned)
 
-pub whole_steps_accepted : (plans : Bool) (work : Work) (events : List Event) → IsOrdinary work.plan → ProvisionsCreates work.plan work.script → IsOfWholeSteps work events
+pub whole_steps_accepted : (plans : Bool) (work : Work) (events : List Event) → IsOrdinary work.plan → ProvisionsCreates work.plan work.script → WarnsOfReads work.plan work.script → IsOfWholeSteps work events
     → verdict_on (plain plans) (stream_told work.plan events) ≡ Ok (whole_stream work.plan events)
-whole_steps_accepted plans work events ordinary provisioned steps =
+whole_steps_accepted plans work events ordinary provisioned reads steps =
     let plan = work.plan in
     let limit = length plan.changes in
     let addresses = address_of plan in
@@ -180,14 +180,18 @@ whole_steps_accepted plans work events ordinary provisioned steps =
     (known plan (hook_messages_of events)) (known plan (notes_of events))
     (λ c less.
     let part = events_of_change c events in
-    let written = change_written work ordinary provisioned c part (steps.whole c less) in
+    let written = change_written work ordinary provisioned reads c part (steps.whole c less) in
     let first : of_change c hooks ≡ all_deeds plan (hook_messages_of part) =
     of_change_is plan c (hook_messages_of events) ∙ ap (all_deeds plan) (part_of_kept c (λ e. not (is_note e.what)) events) in
     let second : of_change c notes ≡ all_deeds plan (notes_of part) =
     of_change_is plan c (notes_of events) ∙ ap (all_deeds plan) (part_of_kept c (λ e. is_note e.what) events) in (
       written.phase,
       subst (λ (ds : List Deed). Follows (Provides plan c) between ds written.phase) (sym first) (follows (Provides plan c) plan between (hook_messages_of part) written.phase written.hooks),
-      subst (λ (ds : List Deed). Follows (Provides plan c) written.phase ds between) (sym second) (follows (Provides plan c) plan written.phase (notes_of part) between written.notes),
+      (
+        written.last,
+        subst (λ (ds : List Deed). Follows (Provides plan c) written.phase ds written.last) (sym second) (follows (Provides plan c) plan written.phase (notes_of part) written.last written.notes),
+        written.rests,
+      ),
     )) in
     let same : map (said addresses) hooks ++ map (said addresses) notes ≡ all_told plan (as_written events) =
     ap (λ (l : List Message). l ++ map (said addresses) notes) (sym (told_is plan (hook_messages_of events)))

@@ -20,7 +20,7 @@ use Rattle.apply_agreement.specs.Told.{told}
 use Rattle.apply_agreement.proofs.Counting.{counted, none_or_some}
 use Rattle.apply_agreement.proofs.Fitting.{begins, ends, something_open, tells}
 use Rattle.apply_agreement.proofs.Moves.{Agrees, Apart, Has, Moves, Sole, noted, not_running, provisioned, running, shown_here, shown_is, stepped}
-use Rattle.apply_agreement.proofs.Phases.{Deed, Follows, IsProvisioning, MayRun, Phase, between, under_way, unexplained, Turns, of_change, put, put_elsewhere, put_here, seconds_in, shown, shown_same}
+use Rattle.apply_agreement.proofs.Phases.{Deed, Follows, IsAtRest, IsProvisioning, MayRun, Phase, between, under_way, unexplained, Turns, of_change, put, put_elsewhere, put_here, seconds_in, shown, shown_same}
 use Rattle.apply_agreement.proofs.Standings.{may_hold, provision_is}
 
 -- the message of what happens to a change
@@ -73,9 +73,9 @@ module _ (limit : ℕ) (addresses : ℕ → List ℕ) (Within : List ℕ → Typ
   AllKnown [] = Unit {0}
   AllKnown (d ∷ ds) = ((d.change < limit) × Within (addresses d.change) × Does d.change d.action) × AllKnown ds
 
-  -- the messages are accepted, and in the end each change is between two steps
+  -- the messages are accepted, and in the end each change is at rest
   abbrev pub Runs : List Message → List Message → Type 0
-  Runs ms more = (with_all ms more ≡ Ok (behind ms more)) × ((phases : ℕ → Phase) × Agrees limit addresses Within Does Provides phases (behind ms more) × ((c : ℕ) → c < limit → phases c ≡ between))
+  Runs ms more = (with_all ms more ≡ Ok (behind ms more)) × ((phases : ℕ → Phase) × Agrees limit addresses Within Does Provides phases (behind ms more) × ((c : ℕ) → c < limit → IsAtRest (phases c)))
 
 module _ (limit : ℕ) (addresses : ℕ → List ℕ) (Within : List ℕ → Type 0) (Does : ℕ → Action → Type 0) (Provides : ℕ → Type 0) (few : limit ≤ max_overlap) (apart : Apart addresses Does) (sole : Sole addresses Provides) where
   -- one change at one moment
@@ -220,11 +220,18 @@ module _ (limit : ℕ) (addresses : ℕ → List ℕ) (Within : List ℕ → Typ
 
     tells_error : (p : Phase) → phases c ≡ p → ((l : Action) → seconds_in l p ≡ None) → Goes between (diagnostic true (Some (addresses c)))
     tells_error p is none =
-        noted limit addresses Within Does Provides phases ms c true between agrees less within (λ l. refl) (λ l. ap (seconds_in l) is ∙ none l) (inl refl)
+        noted limit addresses Within Does Provides phases ms c true between agrees less within (λ l. sym (ap (seconds_in l) is ∙ none l))
+        (λ t l b e. absurd cc)
+        (λ provisions. absurd (let f : None ≡ Some provisions.0 = sym (none provisions.1) ∙ ap (seconds_in provisions.1) (sym is ∙ provisions.2) ∙ running provisions.1 provisions.0 true in cc))
+        (λ provisions. absurd (let f : between ≡ under_way provisions.1 provisions.0 true = provisions.2 in cc))
+        (inl refl)
 
-    tells_warning : (p : Phase) → phases c ≡ p → ((l : Action) → seconds_in l p ≡ None) → Goes p (diagnostic false (Some (addresses c)))
-    tells_warning p is none =
-        noted limit addresses Within Does Provides phases ms c false p agrees less within none (λ l. ap (seconds_in l) is ∙ none l) (inr (sym is))
+    -- it stays where it is
+    tells_note : (e : Bool) (p : Phase) → phases c ≡ p → Goes p (diagnostic e (Some (addresses c)))
+    tells_note e p is =
+        noted limit addresses Within Does Provides phases ms c e p agrees less within (λ l. sym (ap (seconds_in l) is))
+        (λ t l b same. agrees.does c t l b (is ∙ same)) (λ provisions. subst IsProvisioning is provisions) (λ provisions. subst IsProvisioning (sym is) provisions)
+        (inr (sym is))
 
     exactly : (l : Action) (t : ℕ) (b wanted : Bool) → phases c ≡ under_way l t b → l ≡ k → b ≡ wanted → phases c ≡ under_way k t wanted
     exactly l t b wanted is same flag = is ∙ ap (λ (x : Action). under_way x t b) same ∙ ap (under_way k t) flag
@@ -246,10 +253,10 @@ module _ (limit : ℕ) (addresses : ℕ → List ℕ) (Within : List ℕ → Typ
     turns (under_way l t b) (ProvisionErrored i) q is turn =
         subst (λ (x : Phase). Goes x (provision (addresses c) stage.Errored)) (sym turn.3) (provision_ends turn.1 stage.Errored (λ line x. refl) t (exactly l t b true is turn.0 turn.2))
     turns between ErrorNote q is turn = subst (λ (x : Phase). Goes x (diagnostic true (Some (addresses c)))) (sym turn) (tells_error between is (λ l. refl))
-    turns between WarnNote q is turn = subst (λ (x : Phase). Goes x (diagnostic false (Some (addresses c)))) (sym turn) (tells_warning between is (λ l. refl))
+    turns between WarnNote q is turn = subst (λ (x : Phase). Goes x (diagnostic false (Some (addresses c)))) (sym turn) (tells_note false between is)
     turns between (Halted phase hook) q is turn = subst (λ (x : Phase). Goes x (diagnostic true (Some (addresses c)))) (sym turn) (tells_error between is (λ l. refl))
     turns unexplained ErrorNote q is turn = subst (λ (x : Phase). Goes x (diagnostic true (Some (addresses c)))) (sym turn) (tells_error unexplained is (λ l. refl))
-    turns unexplained WarnNote q is turn = subst (λ (x : Phase). Goes x (diagnostic false (Some (addresses c)))) (sym turn) (tells_warning unexplained is (λ l. refl))
+    turns unexplained WarnNote q is turn = subst (λ (x : Phase). Goes x (diagnostic false (Some (addresses c)))) (sym turn) (tells_note false unexplained is)
     turns unexplained (Halted phase hook) q is turn = subst (λ (x : Phase). Goes x (diagnostic true (Some (addresses c)))) (sym turn) (tells_error unexplained is (λ l. refl))
     turns between (Progress s) q is turn = absurd turn
     turns between (Complete s) q is turn = absurd turn
@@ -268,8 +275,8 @@ module _ (limit : ℕ) (addresses : ℕ → List ℕ) (Within : List ℕ → Typ
     turns unexplained (ProvisionComplete i) q is turn = absurd turn
     turns unexplained (ProvisionErrored i) q is turn = absurd turn
     turns (under_way l t b) ErrorNote q is turn = absurd turn
-    turns (under_way l t b) WarnNote q is turn = absurd turn
-    turns (under_way l t b) (Halted phase hook) q is turn = absurd turn
+    turns (under_way l t b) WarnNote q is turn = subst (λ (x : Phase). Goes x (diagnostic false (Some (addresses c)))) (sym turn) (tells_note false (under_way l t b) is)
+    turns (under_way l t b) (Halted phase hook) q is turn = subst (λ (x : Phase). Goes x (diagnostic true (Some (addresses c)))) (sym turn) (tells_note true (under_way l t b) is)
 
   -- ---- all that happens
 
@@ -316,11 +323,11 @@ module _ (limit : ℕ) (addresses : ℕ → List ℕ) (Within : List ℕ → Typ
       one_more After ms (said addresses d) (map (said addresses) ds) here.0 (all_run After ds (put phases d.change first.0) (said addresses d ∷ ms) here.1 known.1 first.2)
 
   pub both_run : (hs ns : List Deed) (phases : ℕ → Phase) (ms : List Message) → Agrees limit addresses Within Does Provides phases ms → AllKnown limit addresses Within Does Provides hs → AllKnown limit addresses Within Does Provides ns
-      → ((c : ℕ) → c < limit → (q : Phase) × Follows (Provides c) (phases c) (of_change c hs) q × Follows (Provides c) q (of_change c ns) between)
+      → ((c : ℕ) → c < limit → (q : Phase) × Follows (Provides c) (phases c) (of_change c hs) q × ((r : Phase) × Follows (Provides c) q (of_change c ns) r × IsAtRest r))
       → Runs limit addresses Within Does Provides ms (map (said addresses) hs ++ map (said addresses) ns)
   both_run hs ns phases ms agrees known known_too courses =
-      let front = all_run (λ c q. Follows (Provides c) q (of_change c ns) between) hs phases ms agrees known courses in
-      let back = all_run (λ c q. q ≡ between) ns front.1.0 (behind ms (map (said addresses) hs)) front.1.1 known_too (λ c l. (between, front.1.2 c l, refl)) in
+      let front = all_run (λ c q. (r : Phase) × Follows (Provides c) q (of_change c ns) r × IsAtRest r) hs phases ms agrees known courses in
+      let back = all_run (λ c q. IsAtRest q) ns front.1.0 (behind ms (map (said addresses) hs)) front.1.1 known_too (λ c l. front.1.2 c l) in
       let same : behind (behind ms (map (said addresses) hs)) (map (said addresses) ns) ≡ behind ms (map (said addresses) hs ++ map (said addresses) ns) = behind_both ms (map (said addresses) hs) (map (said addresses) ns) in (
         joined ms (behind ms (map (said addresses) hs)) (map (said addresses) hs) (map (said addresses) ns) front.0 ∙ back.0 ∙ ap (λ (l : List Message). fine l) same,
         (back.1.0, subst (λ (l : List Message). Agrees limit addresses Within Does Provides back.1.0 l) same back.1.1, back.1.2),

@@ -10,10 +10,10 @@ use Rattle.apply_plan.specs.Script.OutcomeMap.{OutcomeMap, given_outcome}
 use Rattle.apply_events.specs.Laws.{IsWithinLimits}
 use Rattle.apply_events.specs.Step.{Work}
 use Rattle.apply_run.specs.Bytes.{Given, IsRead, given_script}
-use Rattle.apply_agreement.specs.Plans.{ProvisionsCreates}
-use Rattle.apply_agreement.proofs.Given.{held_at}
-use Rattle.apply_agreement.proofs.PlanTexts.{IsReadable, IsReadablePlan, plan_readable}
-use Rattle.apply_agreement.proofs.Scripts.{none_has, read_has}
+use Rattle.apply_agreement.specs.Plans.{ProvisionsCreates, ReadsComeLast, WarnsOfReads}
+use Rattle.apply_agreement.proofs.Given.{held_at, is_given}
+use Rattle.apply_agreement.proofs.PlanTexts.{IsReadable, IsReadablePlan, last_of, plan_readable}
+use Rattle.apply_agreement.proofs.Scripts.{none_has, none_warns_of, read_has, read_warns}
 use Rattle.apply_agreement.proofs.ScriptTexts.{IsReadableScript, IsSaid, nothing_readable, script_readable}
 
 given_readable : (plan : SavedPlan) (bytes : Option (List ℕ)) (script : OutcomeMap) → given_script plan bytes ≡ Ok script → IsReadableScript script
@@ -23,6 +23,10 @@ given_readable plan (Some bytes) script e = script_readable plan bytes script e
 given_provisions : (plan : SavedPlan) (bytes : Option (List ℕ)) (script : OutcomeMap) → given_script plan bytes ≡ Ok script → ProvisionsCreates plan script
 given_provisions plan None script e = subst (ProvisionsCreates plan) (let same : [] ≡ script = cc in same) (none_has plan)
 given_provisions plan (Some bytes) script e = read_has plan bytes script e
+
+given_warns : (plan : SavedPlan) (bytes : Option (List ℕ)) (script : OutcomeMap) → given_script plan bytes ≡ Ok script → ReadsComeLast plan → WarnsOfReads plan script
+given_warns plan None script e last = subst (WarnsOfReads plan) (let same : [] ≡ script = cc in same) (none_warns_of plan)
+given_warns plan (Some bytes) script e last = read_warns plan bytes script e last
 
 few_kinds : (found : Option ResourceChange) → IfSome found IsReadable → length (option_map_or (λ (change : ResourceChange). change.steps) found []) ≤ 2
 few_kinds None h = omega arith
@@ -41,6 +45,11 @@ module _ (given : Given) (plan : SavedPlan) (script : OutcomeMap) (read : IsRead
 
   pub provisions : ProvisionsCreates plan script
   provisions = given_provisions plan given.script script read.script_is
+
+  pub warnings : WarnsOfReads plan script
+  warnings =
+      given_warns plan given.script script read.script_is (λ c k change place at.
+      last_of change.steps k (is_given IsReadable (slice_get plan.changes c) change (held_at IsReadable plan.changes c the_plan.changes) place).reads_last at)
 
 pub within_limits : (given : Given) (work : Work) → IsRead given work.plan work.script → IsWithinLimits work
 within_limits given work read =

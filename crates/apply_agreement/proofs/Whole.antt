@@ -1,5 +1,5 @@
 -- The whole stream: the version, what happens, and the summary.
-use Rattle.std.proofs.Common.{◌≡◌, ℕ, ◌+◌, ◌<◌, List, [], ◌∷◌, ◌++◌, length, Bool, true, false, cond, Option, Some, None, Result, Ok, Err, refl, sym, ap, ◌∙◌, ⊎_elim, is_some, count_by, arith, eq-eqb}
+use Rattle.std.proofs.Common.{◌≡◌, ◌≢◌, ℕ, ◌+◌, ◌<◌, List, [], ◌∷◌, ◌++◌, length, Bool, true, false, cond, Option, Some, None, Result, Ok, Err, refl, sym, ap, ◌∙◌, subst, ⊎_elim, is_some, count_by, arith, eq-eqb}
 use Rattle.std.specs.Prelude.{◌||◌, ◌&&◌}
 use Rattle.std.specs.List.{list_any}
 use Rattle.std.specs.Option.{option_map_or}
@@ -22,7 +22,7 @@ use Rattle.apply_agreement.proofs.Counting.{counted, none_or_some}
 use Rattle.apply_agreement.proofs.Fitting.{MatchesPending, nothing_fits}
 use Rattle.apply_agreement.proofs.Moves.{Agrees, shown_is}
 use Rattle.apply_agreement.proofs.Ordinary.{Anywhere}
-use Rattle.apply_agreement.proofs.Phases.{Phase, between, under_way, unexplained, shown}
+use Rattle.apply_agreement.proofs.Phases.{IsAtRest, Phase, between, under_way, shown}
 use Rattle.apply_agreement.proofs.Standings.{IsAmid, next_behind}
 use Rattle.apply_agreement.proofs.Turning.{Runs, behind, joined}
 
@@ -34,6 +34,15 @@ none_shown limit addresses phases a k rest =
     (λ none. none)
     (λ found. let seen = shown_is addresses phases a k found.0 found.1 found.3 in
     absurd (let e : between ≡ under_way k found.1 seen.1 = sym (rest found.0 (let less : found.0 < 0 + limit = found.2 in omega arith)) ∙ seen.2 in cc))
+    (none_or_some (shown addresses phases a k) 0 limit)
+
+-- nor is any but a read where the changes are at rest
+none_left : (limit : ℕ) (addresses : ℕ → List ℕ) (phases : ℕ → Phase) (a : List ℕ) (k : Action) → k ≢ Read → ((c : ℕ) → c < limit → IsAtRest (phases c)) → counted (shown addresses phases a k) 0 limit ≡ 0
+none_left limit addresses phases a k other rest =
+    ⊎_elim
+    (λ none. none)
+    (λ found. let seen = shown_is addresses phases a k found.0 found.1 found.3 in
+    absurd (other (subst IsAtRest seen.2 (rest found.0 (let less : found.0 < 0 + limit = found.2 in omega arith)))))
     (none_or_some (shown addresses phases a k) 0 limit)
 
 pub at_begin : (limit : ℕ) (addresses : ℕ → List ℕ) (Does : ℕ → Action → Type 0) (Provides : ℕ → Type 0) → Agrees limit addresses Anywhere Does Provides (λ c. between) (version ∷ [])
@@ -55,7 +64,7 @@ at_begin limit addresses Does Provides = record {
     idle_at a Read none = none
     idle_at a Refresh none = none
 
--- ---- the end: nothing stands open
+-- ---- the end: nothing stands open but reads
 
 closed_from : (r f : Bool) (s : Standing) → s.create ≡ None → s.update ≡ None → s.delete ≡ None → s.refresh ≡ None → s.failures ≡ None → stands_open r f s ≡ false
 closed_from true true s c u d x y = rw (c, u, d, x, y) refl
@@ -67,12 +76,12 @@ nothing : {X : Type 0} (o : Option X) → (is_some o ≡ true → ⊥) → o ≡
 nothing None h = refl
 nothing (Some x) h = absurd (h refl)
 
-closed_at_end : (limit : ℕ) (addresses : ℕ → List ℕ) (Does : ℕ → Action → Type 0) (Provides : ℕ → Type 0) (phases : ℕ → Phase) (ms : List Message) → Agrees limit addresses Anywhere Does Provides phases ms → ((c : ℕ) → c < limit → phases c ≡ between)
+closed_at_end : (limit : ℕ) (addresses : ℕ → List ℕ) (Does : ℕ → Action → Type 0) (Provides : ℕ → Type 0) (phases : ℕ → Phase) (ms : List Message) → Agrees limit addresses Anywhere Does Provides phases ms → ((c : ℕ) → c < limit → IsAtRest (phases c))
     → (r f : Bool) (a : List ℕ) → stands_open r f (standing_of a ms) ≡ false
 closed_at_end limit addresses Does Provides phases ms agrees rest r f a =
-    let none = λ (k : Action). nothing_fits limit k (shown addresses phases a k) (pending_at k (standing_of a ms)) (agrees.open_steps a k tt) (none_shown limit addresses phases a k rest) in
-    closed_from r f (standing_of a ms) (none Create) (none Update) (none Delete) (none Refresh)
-    (nothing (standing_of a ms).failures (λ some. let found = agrees.failures a tt some in let e : between ≡ unexplained = sym (rest found.0 found.1) ∙ found.3 in absurd cc))
+    let none = λ (k : Action) (other : k ≢ Read). nothing_fits limit k (shown addresses phases a k) (pending_at k (standing_of a ms)) (agrees.open_steps a k tt) (none_left limit addresses phases a k other rest) in
+    closed_from r f (standing_of a ms) (none Create (λ e. absurd cc)) (none Update (λ e. absurd cc)) (none Delete (λ e. absurd cc)) (none Refresh (λ e. absurd cc))
+    (nothing (standing_of a ms).failures (λ some. let found = agrees.failures a tt some in subst IsAtRest found.3 (rest found.0 found.1)))
 
 -- ---- the summary
 

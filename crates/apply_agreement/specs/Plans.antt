@@ -1,8 +1,9 @@
 -- Plans as Terraform makes them, and scripts as they are read for them: a deposed object may stand beside the current
--- one of its address, and is only deleted, and only steps have provisioners that take them.
-use Rattle.std.specs.Prelude.{◌≡◌, ◌≤◌, ℕ, All, [], Some, is_some, slice_get, false, true, length}
+-- one of its address, and is only deleted, only steps have provisioners that take them, and only reads only warn.
+use Rattle.std.specs.Prelude.{◌≡◌, ◌≤◌, ◌+◌, ℕ, All, [], Some, is_some, slice_get, false, true, length}
 use Rattle.apply_model.specs.declared.plan.step_kind.StepKind.{StepKind}
-use Rattle.apply_model.specs.declared.plan.step_kind.StepKind.TheVariants.{Delete}
+use Rattle.apply_model.specs.declared.plan.step_kind.StepKind.TheVariants.{Delete, Read}
+use Rattle.apply_model.specs.Script.Outcome.{is_warned}
 use Rattle.apply_laws.specs.Plans.{NamesEachObjectOnce}
 use Rattle.apply_plan.specs.Plan.ResourceChange.{ResourceChange}
 use Rattle.apply_plan.specs.Plan.SavedPlan.{SavedPlan, max_changes}
@@ -31,3 +32,16 @@ abbrev pub ProvisionsCreates : SavedPlan → OutcomeMap → Type 0
 ProvisionsCreates plan script =
     (c k : ℕ) (change : ResourceChange) (kind : StepKind) → IsChange plan c change → slice_get change.steps k ≡ Some kind
     → takes_provisioners (is_some change.deposed) (k, kind) ≡ false → (outcome_of script c k).provisioners ≡ []
+
+-- a step whose provider's failure only warns is a read, and the last of its change: no end of it is told, and nothing of
+-- its object comes behind it
+abbrev pub WarnsOfReads : SavedPlan → OutcomeMap → Type 0
+WarnsOfReads plan script =
+    (c k : ℕ) (change : ResourceChange) (kind : StepKind) → IsChange plan c change → slice_get change.steps k ≡ Some kind
+    → is_warned (outcome_of script c k).result ≡ true → (kind ≡ Read) × (length change.steps ≡ k + 1)
+
+-- a read is the last step of its change, as in each plan that is read
+abbrev pub ReadsComeLast : SavedPlan → Type 0
+ReadsComeLast plan =
+    (c k : ℕ) (change : ResourceChange) → IsChange plan c change → slice_get change.steps k ≡ Some Read
+    → length change.steps ≡ k + 1

@@ -25,7 +25,7 @@ ghost use Rattle.apply_run.specs.Run.{Sight};
 ghost use Rattle.apply_agreement.specs.Accepted.{whole_stream};
 ghost use Rattle.apply_agreement.specs.Applied.{HasShortLines, whole_reported};
 ghost use Rattle.apply_agreement.specs.Passing.{plain};
-ghost use Rattle.apply_agreement.specs.Plans.{DeletesDeposed, IsOrdinary, ProvisionsCreates};
+ghost use Rattle.apply_agreement.specs.Plans.{DeletesDeposed, IsOrdinary, ProvisionsCreates, WarnsOfReads};
 ghost use Rattle.apply_agreement.specs.Texts.{HasTexts};
 ghost use Rattle.apply_agreement.specs.WholeSteps.{IsOfWholeSteps};
 
@@ -54,13 +54,15 @@ pub fn what_was_read_is_within_limits()
     ensures { (given : Given) (work : Work) → IsRead given work.plan work.script → IsWithinLimits work }
 {}
 
-/// A plan that was read names each object once, and of a script that was read only steps have provisioners that take them:
-/// all that is asked of a plan beside is that a deposed object is only deleted.
+/// A plan that was read names each object once, and of a script that was read only steps have provisioners that take them, and
+/// only reads only warn: all that is asked of a plan beside is that a deposed object is only deleted.
 pub fn a_plan_that_was_read_is_ordinary()
     ensures plan { (given : Given) (plan : SavedPlan) (script : OutcomeMap) → IsRead given plan script
         → DeletesDeposed plan → IsOrdinary plan }
     ensures script { (given : Given) (plan : SavedPlan) (script : OutcomeMap) → IsRead given plan script
         → ProvisionsCreates plan script }
+    ensures warnings { (given : Given) (plan : SavedPlan) (script : OutcomeMap) → IsRead given plan script
+        → WarnsOfReads plan script }
 {
     each_object_is_named_once();
 }

@@ -25,7 +25,7 @@ ghost use Rattle.apply_text.specs.Message.{event_message};
 ghost use Rattle.apply_agreement.specs.Accepted.{stream_told, whole_stream};
 ghost use Rattle.apply_agreement.specs.Objects.{object_of, stream_objects};
 ghost use Rattle.apply_agreement.specs.Passing.{plain, verdict_on, verdict_on_objects};
-ghost use Rattle.apply_agreement.specs.Plans.{IsOrdinary, ProvisionsCreates};
+ghost use Rattle.apply_agreement.specs.Plans.{IsOrdinary, ProvisionsCreates, ReadsComeLast, WarnsOfReads};
 ghost use Rattle.apply_agreement.specs.Sound.{CanBeRead, IsShort};
 ghost use Rattle.apply_agreement.specs.Texts.{FitBits, HasTexts};
 ghost use Rattle.apply_agreement.specs.Told.{action_of, told};
@@ -56,6 +56,14 @@ pub fn a_script_provisions_creates()
     ensures empty { (plan : SavedPlan) → ProvisionsCreates plan [] }
 {}
 
+/// Of a script that was read for a plan only reads only warn. Where a read is the last step of its change, as in each plan that
+/// is read, and of a script that says nothing, that is the other thing that the laws below ask of a script.
+pub fn a_script_warns_of_reads()
+    ensures read { (plan : SavedPlan) (bytes : List ℕ) (script : OutcomeMap)
+        → script_of plan bytes ≡ Ok script → ReadsComeLast plan → WarnsOfReads plan script }
+    ensures empty { (plan : SavedPlan) → WarnsOfReads plan [] }
+{}
+
 /// The events of workers to whom all changes are dealt out are those of whole steps, of each change one after another, in
 /// whatever order the workers' events come.
 pub fn a_run_is_of_whole_steps()
@@ -77,13 +85,15 @@ pub fn a_time_line_is_of_whole_steps()
 
 /// Whatever the script and the hooks, whoever applies a step, and in whatever order events of several changes come: a checker
 /// accepts what the messages of whole steps tell, in the order in which they are written, between the version and the
-/// summary. Its totals are theirs, and it tells of an error exactly where a step failed or was halted. Of the plan it is asked
-/// that no object is changed twice and that a deposed object is only deleted, and of the script that only steps have
-/// provisioners that take them.
+/// summary. Its totals are theirs, and it tells of an error exactly where a step failed or was halted. A read that only warns
+/// is started and has no end, and may stay open. Of the plan it is asked that no object is changed twice and that a deposed
+/// object is only deleted, and of the script that only steps have provisioners that take them, and only reads only warn that
+/// are the last of their change.
 pub fn whole_steps_are_accepted()
     ensures { (plans : Bool) (work : Work) (events : List Event)
         → IsOrdinary work.plan
         → ProvisionsCreates work.plan work.script
+        → WarnsOfReads work.plan work.script
         → IsOfWholeSteps work events
         → verdict_on (plain plans) (stream_told work.plan events) ≡ Ok (whole_stream work.plan events) }
 {}
@@ -94,6 +104,7 @@ pub fn every_run_is_accepted()
     ensures { (plans : Bool) (work : Work) (workers : ℕ) (lists : List (List ℕ)) (events : List Event)
         → IsOrdinary work.plan
         → ProvisionsCreates work.plan work.script
+        → WarnsOfReads work.plan work.script
         → IsPartition workers (length work.plan.changes) lists
         → IsInterleaving workers (λ worker. worker_events work worker (slice_index_or lists worker [])) events
         → verdict_on (plain plans) (stream_told work.plan events) ≡ Ok (whole_stream work.plan events) }
@@ -106,6 +117,7 @@ pub fn every_run_is_accepted()
 pub fn every_stream_of_objects_is_accepted()
     ensures { (plans : Bool) (work : Work) (workers start : ℕ) (lists : List (List ℕ)) (events : List Event)
         (operation : Operation) → IsOrdinary work.plan → ProvisionsCreates work.plan work.script
+        → WarnsOfReads work.plan work.script
         → IsPartition workers (length work.plan.changes) lists
         → IsInterleaving workers (λ worker. worker_events work worker (slice_index_or lists worker [])) events
         → verdict_on_objects (plain plans) (stream_objects work.plan work.script start operation events)
@@ -135,7 +147,8 @@ pub fn events_that_can_happen_fit_bits()
 /// beyond 64 bits and no line is longer than 64 MiB.
 pub fn every_stream_of_whole_steps_is_accepted()
     ensures { (plans : Bool) (work : Work) (start : ℕ) (events : List Event) (operation : Operation)
-        → IsOrdinary work.plan → ProvisionsCreates work.plan work.script → IsOfWholeSteps work events
+        → IsOrdinary work.plan → ProvisionsCreates work.plan work.script
+        → WarnsOfReads work.plan work.script → IsOfWholeSteps work events
         → CanBeRead (stream_objects work.plan work.script start operation events)
         → verdict_of (plain plans) (cut_lines (stream_of work.plan work.script start operation events))
         ≡ Ok (whole_stream work.plan events) }
@@ -148,6 +161,7 @@ pub fn every_stream_of_whole_steps_is_accepted()
 pub fn every_stream_is_accepted()
     ensures { (plans : Bool) (work : Work) (workers start : ℕ) (lists : List (List ℕ)) (events : List Event)
         (operation : Operation) → IsOrdinary work.plan → ProvisionsCreates work.plan work.script
+        → WarnsOfReads work.plan work.script
         → IsPartition workers (length work.plan.changes) lists
         → IsInterleaving workers (λ worker. worker_events work worker (slice_index_or lists worker [])) events
         → CanBeRead (stream_objects work.plan work.script start operation events)
@@ -162,12 +176,14 @@ pub fn every_stream_is_accepted()
 /// wait for others, of a plan whose changes have two steps at most.
 pub fn every_stream_in_lanes_is_accepted()
     ensures of_changes { (plans : Bool) (work : Work) (n start : ℕ) (events : List Event) (operation : Operation)
-        → IsOrdinary work.plan → ProvisionsCreates work.plan work.script → 0 < n → IsTimeLine work n events
+        → IsOrdinary work.plan → ProvisionsCreates work.plan work.script
+        → WarnsOfReads work.plan work.script → 0 < n → IsTimeLine work n events
         → CanBeRead (stream_objects work.plan work.script start operation events)
         → verdict_of (plain plans) (cut_lines (stream_of work.plan work.script start operation events))
         ≡ Ok (whole_stream work.plan events) }
     ensures of_steps { (plans : Bool) (work : Work) (n start : ℕ) (events : List Event) (operation : Operation)
-        → IsOrdinary work.plan → ProvisionsCreates work.plan work.script → HasFewSteps work → 0 < n
+        → IsOrdinary work.plan → ProvisionsCreates work.plan work.script
+        → WarnsOfReads work.plan work.script → HasFewSteps work → 0 < n
         → waiting.IsTimeLine work n events
         → CanBeRead (stream_objects work.plan work.script start operation events)
         → verdict_of (plain plans) (cut_lines (stream_of work.plan work.script start operation events))

@@ -15,9 +15,9 @@ pub use applied::{
 };
 pub use forms::{a_stream_has_an_end_or_an_error, no_end_tells_of_an_error};
 pub use laws::{
-    a_run_is_of_whole_steps, a_script_provisions_creates, a_stream_of_texts_can_be_read,
-    a_time_line_is_of_whole_steps, an_event_is_heard, events_that_can_happen_fit_bits,
-    every_run_is_accepted, every_stream_in_lanes_is_accepted, every_stream_is_accepted,
-    every_stream_of_objects_is_accepted, every_stream_of_whole_steps_is_accepted,
-    whole_steps_are_accepted,
+    a_run_is_of_whole_steps, a_script_provisions_creates, a_script_warns_of_reads,
+    a_stream_of_texts_can_be_read, a_time_line_is_of_whole_steps, an_event_is_heard,
+    events_that_can_happen_fit_bits, every_run_is_accepted, every_stream_in_lanes_is_accepted,
+    every_stream_is_accepted, every_stream_of_objects_is_accepted,
+    every_stream_of_whole_steps_is_accepted, whole_steps_are_accepted,
 };

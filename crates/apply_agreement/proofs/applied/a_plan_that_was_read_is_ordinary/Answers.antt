@@ -1,4 +1,4 @@
-use Rattle.apply_agreement.proofs.WhatWasRead.{provisions, the_plan}
+use Rattle.apply_agreement.proofs.WhatWasRead.{provisions, the_plan, warnings}
 use Rattle.apply_agreement.proofs.applied.a_plan_that_was_read_is_ordinary.Goals as goal
 
 pub returns-clause-plan : goal.returns-clause-plan
@@ -7,3 +7,6 @@ returns-clause-plan c given plan script read deleted =
 
 pub returns-clause-script : goal.returns-clause-script
 returns-clause-script c given plan script read = provisions given plan script read
+
+pub returns-clause-warnings : goal.returns-clause-warnings
+returns-clause-warnings c given plan script read = warnings given plan script read

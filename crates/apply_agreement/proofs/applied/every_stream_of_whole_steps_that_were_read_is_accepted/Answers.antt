@@ -12,4 +12,4 @@ returns c plans given work start events operation read deleted most fit steps sh
     let back = c.a_stream_of_texts_can_be_read.ensures plan script start operation events (c.texts_that_were_read_are_utf8.ensures given plan script read) bits
     (short_objects c.a_line_has_one_line_feed.ensures plan script start operation events short) in
     c.every_stream_of_whole_steps_is_accepted.ensures plans work start events operation (c.a_plan_that_was_read_is_ordinary.ensures.plan given plan script read deleted)
-    (c.a_plan_that_was_read_is_ordinary.ensures.script given plan script read) steps back
+    (c.a_plan_that_was_read_is_ordinary.ensures.script given plan script read) (c.a_plan_that_was_read_is_ordinary.ensures.warnings given plan script read) steps back
