@@ -18,7 +18,7 @@ const NOT_HALTED: &str = "Pre Create null_resource.a => Go";
 
 /// Adds a hook that halts steps of that kind in that phase, or in each, and counts its calls by that weight.
 fn add_counting(
-    rt: &impl Abort,
+    rt: &HostRuntime,
     alloc: Global,
     registry: &mut Registry,
     calls: &Arc<AtomicU64>,
@@ -38,7 +38,7 @@ fn add_counting(
 }
 
 /// Adds a hook that halts nothing, and counts its calls.
-fn add_quiet(rt: &impl Abort, alloc: Global, registry: &mut Registry, calls: &Arc<AtomicU64>) {
+fn add_quiet(rt: &HostRuntime, alloc: Global, registry: &mut Registry, calls: &Arc<AtomicU64>) {
     let counted = shared(rt, calls);
     let answer: HookClosure = Box::new(alloc, move |_call: &HookCall<'_>| {
         counted.fetch_add(1, Ordering::SeqCst);
@@ -74,7 +74,7 @@ fn comes_back(rt: &impl Abort, alloc: Global, added: Result<(), (HookError, FnHo
 }
 
 /// Adds a hook that halts nothing.
-fn add_empty(rt: &impl Abort, alloc: Global, registry: &mut Registry) {
+fn add_empty(rt: &HostRuntime, alloc: Global, registry: &mut Registry) {
     let answer: HookClosure = Box::new(alloc, |_call: &HookCall<'_>| Verdict::Continue).expect(
         rt, "memory",
     );
@@ -82,7 +82,7 @@ fn add_empty(rt: &impl Abort, alloc: Global, registry: &mut Registry) {
 }
 
 /// A hook that halts each step.
-fn halting_all(rt: &impl Abort, alloc: Global) -> FnHook {
+fn halting_all(rt: &HostRuntime, alloc: Global) -> FnHook {
     let rules = halting(rt, alloc, None, None, "");
     let answer: HookClosure = Box::new(alloc, |_call: &HookCall<'_>| Verdict::Halt).expect(
         rt, "memory",
@@ -124,9 +124,9 @@ fn all_are_halted(rt: &impl Abort, all: &[Asked]) {
 fn threads_ask_one_registry(rt: HostRuntime) {
     let alloc = rt.alloc();
     let calls = count(&rt, alloc);
-    let registry = kept(&rt, alloc, Registry::new(alloc));
-    add_counting(&rt, alloc, registry, calls, 1, None, StepKind::Create);
-    let registry = &*registry;
+    let mut registry = Registry::new(alloc);
+    add_counting(&rt, alloc, &mut registry, calls, 1, None, StepKind::Create);
+    let registry = &registry;
     let all = thread::map_indices(&rt, alloc, 8, &|_number: usize| { registry.ask(&create()) });
     let all = kept(&rt, alloc, all.expect(&rt, "memory"));
     all_are_halted(&rt, all.as_slice());

@@ -8,7 +8,7 @@ PostDone Delete ab => Continue
 Pre Delete b => Continue";
 
 /// A hook that halts deletes in `a` before they start.
-fn halting_deletes(rt: &impl Abort, alloc: Global) -> FnHook {
+fn halting_deletes(rt: &HostRuntime, alloc: Global) -> FnHook {
     let rules = halting(rt, alloc, Some(Phase::Pre), Some(StepKind::Delete), "a");
     let answer: HookClosure = Box::new(alloc, |call: &HookCall<'_>| {
         if call.phase == Phase::Pre && call.kind == StepKind::Delete && call.address_begins("a") {
@@ -53,7 +53,7 @@ fn halted_kind(rt: &impl Abort, name: &str) -> StepKind {
 }
 
 /// Adds a hook that halts steps of that kind before they start.
-fn add_for_kind(rt: &impl Abort, alloc: Global, registry: &mut Registry, kind: StepKind) {
+fn add_for_kind(rt: &HostRuntime, alloc: Global, registry: &mut Registry, kind: StepKind) {
     let rules = halting(rt, alloc, Some(Phase::Pre), Some(kind), "");
     let answer: HookClosure = Box::new(alloc, move |call: &HookCall<'_>| {
         if call.phase == Phase::Pre && call.kind == kind {
@@ -67,7 +67,7 @@ fn add_for_kind(rt: &impl Abort, alloc: Global, registry: &mut Registry, kind: S
 }
 
 /// Adds a hook that halts steps whose address begins so before they start.
-fn add_for_prefix(rt: &impl Abort, alloc: Global, registry: &mut Registry, prefix: Text) {
+fn add_for_prefix(rt: &HostRuntime, alloc: Global, registry: &mut Registry, prefix: Text) {
     let rules = halting(rt, alloc, Some(Phase::Pre), None, prefix.as_str());
     let answer: HookClosure = Box::new(alloc, move |call: &HookCall<'_>| {
         if call.phase == Phase::Pre && call.address_begins(prefix.as_str()) {
@@ -107,7 +107,7 @@ PostFailed Update a.b => Halt; 2
 PostDone Update a.b => Continue; 3";
 
 /// A hook that halts what has failed, and counts its calls.
-fn counting(rt: &impl Abort, alloc: Global, calls: &Arc<AtomicU64>) -> FnHook {
+fn counting(rt: &HostRuntime, alloc: Global, calls: &Arc<AtomicU64>) -> FnHook {
     let counted = shared(rt, calls);
     let rules = halting(rt, alloc, Some(Phase::PostFailed), None, "");
     let answer: HookClosure = Box::new(alloc, move |call: &HookCall<'_>| {
