@@ -139,9 +139,8 @@ fn halting(
 }
 
 /// A count that a closure may share.
-fn count(rt: &impl Abort, alloc: Global) -> &'static Arc<AtomicU64> {
-    let count = Arc::new(alloc, AtomicU64::new(0)).expect(rt, "memory");
-    &*kept(rt, alloc, count)
+fn count(rt: &impl Abort, alloc: Global) -> Arc<AtomicU64> {
+    Arc::new(alloc, AtomicU64::new(0)).expect(rt, "memory")
 }
 
 /// A second owner of the count.

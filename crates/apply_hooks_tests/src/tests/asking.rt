@@ -16,54 +16,36 @@ const HALTED: &str = "Pre Delete null_resource.a => HaltedBy(1)";
 
 const NOT_HALTED: &str = "Pre Create null_resource.a => Go";
 
-/// Adds a hook that halts steps of that kind in that phase, or in each, and counts its calls by that weight.
-fn add_counting(
-    rt: &impl Abort,
-    alloc: Global,
-    registry: &mut Registry,
-    calls: &Arc<AtomicU64>,
-    weight: u64,
-    phase: Option<Phase>,
-    kind: StepKind,
-) {
-    let counted = shared(rt, calls);
-    let rules = halting(rt, alloc, phase, Some(kind), "");
-    let own = halting(rt, alloc, phase, Some(kind), "");
-    let answer: HookClosure = Box::new(alloc, move |call: &HookCall<'_>| {
-        counted.fetch_add(weight, Ordering::SeqCst);
-        own.decide(call)
-    })
-    .expect(rt, "memory");
-    add(rt, registry, rules, answer);
-}
-
-/// Adds a hook that halts nothing, and counts its calls.
-fn add_quiet(rt: &impl Abort, alloc: Global, registry: &mut Registry, calls: &Arc<AtomicU64>) {
-    let counted = shared(rt, calls);
-    let answer: HookClosure = Box::new(alloc, move |_call: &HookCall<'_>| {
-        counted.fetch_add(1, Ordering::SeqCst);
-        Verdict::Continue
-    })
-    .expect(rt, "memory");
-    add(rt, registry, Rules::new(alloc), answer);
-}
-
 /// A registry that worked out the verdicts from the rules alone would call nothing. The second hook halts, so the third is
 /// not called.
 #[test]
 fn hooks_are_called_up_to_the_first_that_halts(rt: HostRuntime) {
     let alloc = rt.alloc();
     let calls = count(&rt, alloc);
-    let registry = kept(&rt, alloc, Registry::new(alloc));
-    let (phase, kind) = (Some(Phase::Pre), StepKind::Delete);
-    add_quiet(&rt, alloc, registry, calls);
-    add_counting(&rt, alloc, registry, calls, 1000, phase, kind);
-    len_is(&rt, registry, 2);
-    add_counting(&rt, alloc, registry, calls, 1_000_000, phase, kind);
-    len_is(&rt, registry, 3);
-    is_asked(&rt, alloc, registry, HALTED);
-    calls_are(&rt, calls, 1, 1, 0);
-    is_asked(&rt, alloc, registry, NOT_HALTED);
+    let counted = shared(&rt, &calls);
+    let mut registry = Registry::new(alloc);
+    let answer: HookClosure = Box::new(alloc, move |_call: &HookCall<'_>| {
+        counted.fetch_add(1, Ordering::SeqCst);
+        Verdict::Continue
+    })
+    .expect(&rt, "memory");
+    add(&rt, &mut registry, Rules::new(alloc), answer);
+    for number in 1..3 {
+        let weight = 1000_u64.wrapping_pow(number);
+        let counted = shared(&rt, &calls);
+        let rules = halting(&rt, alloc, Some(Phase::Pre), Some(StepKind::Delete), "");
+        let own = halting(&rt, alloc, Some(Phase::Pre), Some(StepKind::Delete), "");
+        let answer: HookClosure = Box::new(alloc, move |call: &HookCall<'_>| {
+            counted.fetch_add(weight, Ordering::SeqCst);
+            own.decide(call)
+        })
+        .expect(&rt, "memory");
+        add(&rt, &mut registry, rules, answer);
+        len_is(&rt, &registry, number as u64 + 1);
+    }
+    is_asked(&rt, alloc, &registry, HALTED);
+    calls_are(&rt, &calls, 1, 1, 0);
+    is_asked(&rt, alloc, &registry, NOT_HALTED);
 }
 
 /// Fails where the hook was added, or another error or another hook came back than the one that halts.
@@ -73,34 +55,24 @@ fn comes_back(rt: &impl Abort, alloc: Global, added: Result<(), (HookError, FnHo
     is_decided(rt, alloc, &hook, "Pre Create null_resource.a => Halt");
 }
 
-/// Adds a hook that halts nothing.
-fn add_empty(rt: &impl Abort, alloc: Global, registry: &mut Registry) {
-    let answer: HookClosure = Box::new(alloc, |_call: &HookCall<'_>| Verdict::Continue).expect(
-        rt, "memory",
-    );
-    add(rt, registry, Rules::new(alloc), answer);
-}
-
-/// A hook that halts each step.
-fn halting_all(rt: &impl Abort, alloc: Global) -> FnHook {
-    let rules = halting(rt, alloc, None, None, "");
-    let answer: HookClosure = Box::new(alloc, |_call: &HookCall<'_>| Verdict::Halt).expect(
-        rt, "memory",
-    );
-    FnHook::new(rules, answer)
-}
-
 #[test]
 fn the_33rd_hook_comes_back(rt: HostRuntime) {
     let alloc = rt.alloc();
-    let registry = kept(&rt, alloc, Registry::new(alloc));
+    let mut registry = Registry::new(alloc);
     for number in 0..MAX_HOOKS {
-        len_is(&rt, registry, number as u64);
-        add_empty(&rt, alloc, registry);
+        len_is(&rt, &registry, number as u64);
+        let answer: HookClosure = Box::new(alloc, |_call: &HookCall<'_>| Verdict::Continue).expect(
+            &rt, "memory",
+        );
+        add(&rt, &mut registry, Rules::new(alloc), answer);
     }
-    comes_back(&rt, alloc, registry.add(halting_all(&rt, alloc)));
-    len_is(&rt, registry, 32);
-    is_asked(&rt, alloc, registry, NOT_HALTED);
+    let rules = halting(&rt, alloc, None, None, "");
+    let answer: HookClosure = Box::new(alloc, |_call: &HookCall<'_>| Verdict::Halt).expect(
+        &rt, "memory",
+    );
+    comes_back(&rt, alloc, registry.add(FnHook::new(rules, answer)));
+    len_is(&rt, &registry, 32);
+    is_asked(&rt, alloc, &registry, NOT_HALTED);
 }
 
 /// The call that the threads ask about.
@@ -124,11 +96,18 @@ fn all_are_halted(rt: &impl Abort, all: &[Asked]) {
 fn threads_ask_one_registry(rt: HostRuntime) {
     let alloc = rt.alloc();
     let calls = count(&rt, alloc);
-    let registry = kept(&rt, alloc, Registry::new(alloc));
-    add_counting(&rt, alloc, registry, calls, 1, None, StepKind::Create);
-    let registry = &*registry;
+    let counted = shared(&rt, &calls);
+    let rules = halting(&rt, alloc, None, Some(StepKind::Create), "");
+    let own = halting(&rt, alloc, None, Some(StepKind::Create), "");
+    let answer: HookClosure = Box::new(alloc, move |call: &HookCall<'_>| {
+        counted.fetch_add(1, Ordering::SeqCst);
+        own.decide(call)
+    })
+    .expect(&rt, "memory");
+    let mut registry = Registry::new(alloc);
+    add(&rt, &mut registry, rules, answer);
+    let registry = &registry;
     let all = thread::map_indices(&rt, alloc, 8, &|_number: usize| { registry.ask(&create()) });
-    let all = kept(&rt, alloc, all.expect(&rt, "memory"));
-    all_are_halted(&rt, all.as_slice());
+    all_are_halted(&rt, &all.expect(&rt, "memory"));
     number_is(&rt, "calls", calls.load(Ordering::SeqCst), 8);
 }

@@ -7,9 +7,10 @@ const ONE_RULE: &str = "Pre Delete ab => Halt
 PostDone Delete ab => Continue
 Pre Delete b => Continue";
 
-/// A hook that halts deletes in `a` before they start.
-fn halting_deletes(rt: &impl Abort, alloc: Global) -> FnHook {
-    let rules = halting(rt, alloc, Some(Phase::Pre), Some(StepKind::Delete), "a");
+#[test]
+fn one_rule(rt: HostRuntime) {
+    let alloc = rt.alloc();
+    let rules = halting(&rt, alloc, Some(Phase::Pre), Some(StepKind::Delete), "a");
     let answer: HookClosure = Box::new(alloc, |call: &HookCall<'_>| {
         if call.phase == Phase::Pre && call.kind == StepKind::Delete && call.address_begins("a") {
             Verdict::Halt
@@ -17,26 +18,15 @@ fn halting_deletes(rt: &impl Abort, alloc: Global) -> FnHook {
             Verdict::Continue
         }
     })
-    .expect(rt, "memory");
-    FnHook::new(rules, answer)
-}
-
-#[test]
-fn one_rule(rt: HostRuntime) {
-    let alloc = rt.alloc();
-    let hook = kept(&rt, alloc, halting_deletes(&rt, alloc));
+    .expect(&rt, "memory");
+    let hook = FnHook::new(rules, answer);
     for row in ONE_RULE.lines() {
-        is_decided(&rt, alloc, hook, row);
+        is_decided(&rt, alloc, &hook, row);
     }
-}
-
-#[test]
-fn one_rule_of_a_registry(rt: HostRuntime) {
-    let alloc = rt.alloc();
-    let registry = kept(&rt, alloc, Registry::new(alloc));
-    is_added(&rt, registry.add(halting_deletes(&rt, alloc)));
-    len_is(&rt, registry, 1);
-    is_asked(&rt, alloc, registry, "Pre Delete ab => HaltedBy(0)");
+    let mut registry = Registry::new(alloc);
+    is_added(&rt, registry.add(hook));
+    len_is(&rt, &registry, 1);
+    is_asked(&rt, alloc, &registry, "Pre Delete ab => HaltedBy(0)");
 }
 
 /// Calls on a registry with a hook that halts reads before they start, one that halts all in a module, and one that halts
@@ -52,23 +42,23 @@ fn halted_kind(rt: &impl Abort, name: &str) -> StepKind {
     kind_of(rt, name).expect(rt, "a kind")
 }
 
-/// Adds a hook that halts steps of that kind before they start.
-fn add_for_kind(rt: &impl Abort, alloc: Global, registry: &mut Registry, kind: StepKind) {
-    let rules = halting(rt, alloc, Some(Phase::Pre), Some(kind), "");
+#[test]
+fn rules_of_values_that_are_known_when_the_program_runs(rt: HostRuntime) {
+    let alloc = rt.alloc();
+    let mut registry = Registry::new(alloc);
+    let read = halted_kind(&rt, "Read");
+    let rules = halting(&rt, alloc, Some(Phase::Pre), Some(read), "");
     let answer: HookClosure = Box::new(alloc, move |call: &HookCall<'_>| {
-        if call.phase == Phase::Pre && call.kind == kind {
+        if call.phase == Phase::Pre && call.kind == read {
             Verdict::Halt
         } else {
             Verdict::Continue
         }
     })
-    .expect(rt, "memory");
-    add(rt, registry, rules, answer);
-}
-
-/// Adds a hook that halts steps whose address begins so before they start.
-fn add_for_prefix(rt: &impl Abort, alloc: Global, registry: &mut Registry, prefix: Text) {
-    let rules = halting(rt, alloc, Some(Phase::Pre), None, prefix.as_str());
+    .expect(&rt, "memory");
+    add(&rt, &mut registry, rules, answer);
+    let prefix = Text::new(alloc, "module.a").expect(&rt, "memory");
+    let rules = halting(&rt, alloc, Some(Phase::Pre), None, prefix.as_str());
     let answer: HookClosure = Box::new(alloc, move |call: &HookCall<'_>| {
         if call.phase == Phase::Pre && call.address_begins(prefix.as_str()) {
             Verdict::Halt
@@ -76,20 +66,21 @@ fn add_for_prefix(rt: &impl Abort, alloc: Global, registry: &mut Registry, prefi
             Verdict::Continue
         }
     })
-    .expect(rt, "memory");
-    add(rt, registry, rules, answer);
-}
-
-#[test]
-fn rules_of_values_that_are_known_when_the_program_runs(rt: HostRuntime) {
-    let alloc = rt.alloc();
-    let registry = kept(&rt, alloc, Registry::new(alloc));
-    add_for_kind(&rt, alloc, registry, halted_kind(&rt, "Read"));
-    let prefix = Text::new(alloc, "module.a").expect(&rt, "memory");
-    add_for_prefix(&rt, alloc, registry, prefix);
-    add_for_kind(&rt, alloc, registry, halted_kind(&rt, "Create"));
+    .expect(&rt, "memory");
+    add(&rt, &mut registry, rules, answer);
+    let create = halted_kind(&rt, "Create");
+    let rules = halting(&rt, alloc, Some(Phase::Pre), Some(create), "");
+    let answer: HookClosure = Box::new(alloc, move |call: &HookCall<'_>| {
+        if call.phase == Phase::Pre && call.kind == create {
+            Verdict::Halt
+        } else {
+            Verdict::Continue
+        }
+    })
+    .expect(&rt, "memory");
+    add(&rt, &mut registry, rules, answer);
     for row in CALLS.lines() {
-        is_asked(&rt, alloc, registry, row);
+        is_asked(&rt, alloc, &registry, row);
     }
 }
 
@@ -106,10 +97,12 @@ const COUNTED: &str = "Pre Update a.b => Continue; 1
 PostFailed Update a.b => Halt; 2
 PostDone Update a.b => Continue; 3";
 
-/// A hook that halts what has failed, and counts its calls.
-fn counting(rt: &impl Abort, alloc: Global, calls: &Arc<AtomicU64>) -> FnHook {
-    let counted = shared(rt, calls);
-    let rules = halting(rt, alloc, Some(Phase::PostFailed), None, "");
+#[test]
+fn a_closure_that_counts_its_calls(rt: HostRuntime) {
+    let alloc = rt.alloc();
+    let calls = count(&rt, alloc);
+    let counted = shared(&rt, &calls);
+    let rules = halting(&rt, alloc, Some(Phase::PostFailed), None, "");
     let answer: HookClosure = Box::new(alloc, move |call: &HookCall<'_>| {
         counted.fetch_add(1, Ordering::SeqCst);
         if call.phase == Phase::PostFailed {
@@ -118,16 +111,9 @@ fn counting(rt: &impl Abort, alloc: Global, calls: &Arc<AtomicU64>) -> FnHook {
             Verdict::Continue
         }
     })
-    .expect(rt, "memory");
-    FnHook::new(rules, answer)
-}
-
-#[test]
-fn a_closure_that_counts_its_calls(rt: HostRuntime) {
-    let alloc = rt.alloc();
-    let calls = count(&rt, alloc);
-    let hook = kept(&rt, alloc, counting(&rt, alloc, calls));
+    .expect(&rt, "memory");
+    let hook = FnHook::new(rules, answer);
     for row in COUNTED.lines() {
-        is_counted(&rt, alloc, hook, calls, row);
+        is_counted(&rt, alloc, &hook, &calls, row);
     }
 }
