@@ -73,6 +73,11 @@ clean-where_suits wanted d xs = by_test (suits wanted d) (finding_here (IsNot wa
 pub clean-unless_suits : (wanted : Want) (d : Data) → clean (unless_suits wanted d) ≡ suits wanted d
 clean-unless_suits wanted d = by_met (suits wanted d) (finding_here (IsNot wanted)) refl
 
+-- what is looked at only where a test holds
+pub clean-where : (b : Bool) (xs : List Finding) (has : Bool) → clean xs ≡ has → clean (if b then xs else []) ≡ (if b then has else true)
+clean-where true xs has is = is
+clean-where false xs has is = refl
+
 -- what is found in a value is clean where the value passes a test
 abbrev pub IsCleanWhere : (Data → List Finding) → (Data → Bool) → Type 0
 IsCleanWhere found test = (d : Data) → clean (found d) ≡ test d

@@ -1,21 +1,21 @@
--- Diagnostics, and items of `after`: nothing is found for which a run refuses, exactly where they are read.
-use Rattle.std.proofs.Common.{◌≡◌, ℕ, List, [], ◌∷◌, ◌++◌, Bool, true, ◌&&◌, is_some, Option, Some, None, refl, sym, ap, ◌∙◌}
+-- Diagnostics, failures and items of `after`: nothing is found for which a run refuses, exactly where they are read.
+use Rattle.std.proofs.Common.{◌≡◌, ℕ, List, [], ◌∷◌, ◌++◌, Bool, true, false, ◌&&◌, is_some, Option, Some, None, refl, sym, ap, ◌∙◌}
 use Rattle.std.specs.Prelude.{codes}
 use Rattle.serde_json.specs.Data.{Data, null, boolean, number, string, array, object}
 use Rattle.serde_json.specs.Find.{as_object, as_str}
 use Rattle.apply_json.specs.Tree.{◌>>=◌, member_of, text_of, text_or, unless_empty}
 use Rattle.apply_model.specs.declared.script.diag.Diag.{Diag}
-use Rattle.apply_plan.specs.Script.Entry.{WaitName, diag_from, diag_or_none, number_or_none, object_or_none, wait_from, wait_of_members}
+use Rattle.apply_plan.specs.Script.Entry.{Failure, WaitName, diag_from, diag_or_none, failure_from, failure_or_none, number_or_none, object_or_none, only_warns_or_not, wait_from, wait_of_members}
 use Rattle.apply_validate.specs.declared.findings.want.Want.TheVariants as want
 use Rattle.apply_validate.specs.declared.walks.known.Known.{Known}
-use Rattle.apply_validate.specs.ScriptFindings.{diagnostic_names, diagnostic_table, in_diagnostic, in_wait, wait_names, wait_table}
+use Rattle.apply_validate.specs.ScriptFindings.{diagnostic_names, diagnostic_table, failure_names, failure_table, in_diagnostic, in_failure, in_wait, wait_names, wait_table}
 use Rattle.apply_validate.specs.Walks.{faults_of, member_at, unread}
 use Rattle.apply_validate.specs.Wants.{is_met}
 use Rattle.apply_validate.proofs.Clean.{clean, clean-faults_of, clean-then_unread, clean-where_suits, is_absent_or}
 use Rattle.apply_validate.proofs.Alike.{Alike, met_own, object_alike}
-use Rattle.apply_validate.proofs.Members.{IsCleanBeside, step_there, text_or_there, text_there}
+use Rattle.apply_validate.proofs.Members.{IsCleanBeside, severity_there, text_or_there, text_there, whole_or_there}
 use Rattle.apply_validate.proofs.Wanted.{needs_object}
-use Rattle.apply_validate.proofs.Options.{and_true, some_map}
+use Rattle.apply_validate.proofs.Options.{and_comm, and_true, some_map}
 
 diag_reads : (s t : Option (List ℕ)) (r n : Option (Option (List ℕ)))
     → is_some (s >>= λ x. t >>= λ y. r >>= λ z. n >>= λ w. Some (let q : Diag = record { summary = x; detail = y; range = z; snippet = w } in q))
@@ -59,6 +59,49 @@ pub absent_or_diagnostic : (o : Option Data) → is_absent_or (λ d. is_some (di
 absent_or_diagnostic None = refl
 absent_or_diagnostic (Some d) = sym (some_map (λ (x : Diag). Some x) (diag_from d))
 
+-- ---- failures
+
+failure_reads : (diag : Option Diag) (warns : Option Bool)
+    → is_some (diag >>= λ x. warns >>= λ y. Some (let f : Failure = record { diag = x; only_warns = y } in f)) ≡ (is_some diag && is_some warns)
+failure_reads None warns = refl
+failure_reads (Some x) None = refl
+failure_reads (Some x) (Some y) = refl
+
+five : {a b c e f a1 b1 c1 e1 f1 : Bool} → a ≡ a1 → b ≡ b1 → c ≡ c1 → e ≡ e1 → f ≡ f1 → (a && (b && (c && (e && (f && true))))) ≡ (a1 && (b1 && (c1 && (e1 && (f1 && true)))))
+five ea eb ec ee ef = cc
+
+-- the third of them last
+third_last : (a b c e f : Bool) → (a && (b && (c && (e && (f && true))))) ≡ ((a && (b && (e && (f && true)))) && c)
+third_last false b c e f = refl
+third_last true false c e f = refl
+third_last true true c e f = and_comm c (e && (f && true))
+
+pub clean_failure : IsCleanBeside in_failure (λ k. is_some (failure_from k))
+unfolding in_failure
+clean_failure d k a =
+    let summary : Option (List ℕ) = text_of (codes "summary") k in
+    let detail : Option (List ℕ) = text_or [] (member_of (codes "detail") k) in
+    let warns : Option Bool = only_warns_or_not (member_of (codes "severity") k) in
+    let range : Option (Option (List ℕ)) = object_or_none (member_of (codes "range") k) in
+    let snippet : Option (Option (List ℕ)) = object_or_none (member_of (codes "snippet") k) in
+    let others : Bool = is_some detail && (is_some range && (is_some snippet && true)) in
+    let wrong : clean (faults_of failure_table d) ≡ ((is_some summary && others) && is_some warns) =
+    clean-faults_of failure_table d
+    ∙ five (text_there (codes "summary") refl d k a) (text_or_there (codes "detail") refl d k a) (severity_there (codes "severity") refl d k a) (met_own (codes "range") refl d k a) (met_own (codes "snippet") refl d k a)
+    ∙ third_last (is_some summary) (is_some detail) (is_some warns) (is_some range) (is_some snippet) in
+    clean-where_suits want.Diagnostic d (faults_of failure_table d ++ unread failure_names d)
+    ∙ ap (λ (b : Bool). is_some (as_object d) && b) (clean-then_unread (faults_of failure_table d) failure_names d ∙ wrong)
+    ∙ ap (λ (b : Bool). b && ((is_some summary && others) && is_some warns)) (object_alike d k a)
+    ∙ needs_object (codes "summary") k ((is_some summary && others) && is_some warns)
+    (λ none. ap (λ (o : Option Data). (is_some (o >>= as_str) && others) && is_some warns) none)
+    ∙ ap (λ (b : Bool). b && is_some warns) (sym (diag_reads summary detail range snippet))
+    ∙ sym (failure_reads (diag_from k) warns)
+
+-- one that may be absent
+pub absent_or_failure : (o : Option Data) → is_absent_or (λ d. is_some (failure_from d)) o ≡ is_some (failure_or_none o)
+absent_or_failure None = refl
+absent_or_failure (Some d) = sym (some_map (λ (x : Failure). Some x) (failure_from d))
+
 -- ---- items of `after`
 
 wait_reads : (a deposed : Option (List ℕ)) (step : Option (Option ℕ))
@@ -77,7 +120,7 @@ unfolding wait_of_members
 members_of_wait d k a =
     clean-then_unread (faults_of wait_table d) wait_names d
     ∙ clean-faults_of wait_table d
-    ∙ three (text_there (codes "address") refl d k a) (text_or_there (codes "deposed") refl d k a) (step_there (codes "step") refl d k a)
+    ∙ three (text_there (codes "address") refl d k a) (text_or_there (codes "deposed") refl d k a) (whole_or_there (codes "step") refl d k a)
     ∙ sym (wait_reads (text_of (codes "address") k) (text_or [] (member_of (codes "deposed") k)) (number_or_none (member_of (codes "step") k)))
 
 pub clean_wait : IsCleanBeside in_wait (λ k. is_some (wait_from k))

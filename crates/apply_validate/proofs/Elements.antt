@@ -26,7 +26,7 @@ use Rattle.apply_validate.specs.PlanFindings.{actions_mark, address_marks, by_it
 use Rattle.apply_validate.specs.ScriptFindings.{known}
 use Rattle.apply_validate.specs.Walks.{faults_of, inside, marked}
 use Rattle.apply_validate.specs.Wants.{is_met}
-use Rattle.apply_validate.proofs.Clean.{clean, clean-append, clean-faults_of, clean-inside, clean-marked, is_absent_or}
+use Rattle.apply_validate.proofs.Clean.{clean, clean-append, clean-faults_of, clean-inside, clean-marked, clean-where, is_absent_or}
 use Rattle.apply_validate.proofs.Options.{and_then_is, and_true, not_not}
 use Rattle.apply_validate.proofs.Wanted.{met_array, met_non_empty, met_text, met_text_or, needs_object}
 
@@ -75,14 +75,10 @@ clean_members_of_change d =
 abbrev is_change : Data → Bool
 is_change d = if is_some (as_object d) then has_steps d else true
 
-by_object : (b : Bool) (xs : List Finding) (has : Bool) → clean xs ≡ has → clean (if b then xs else []) ≡ (if b then has else true)
-by_object true xs has is = is
-by_object false xs has is = refl
-
 clean_change : (d : Data) → clean (in_change d) ≡ is_change d
 unfolding in_change
 clean_change d =
-    by_object (is_some (as_object d)) (faults_of (known name.Actions want.Array ∷ []) d ++ marked (actions_mark d ∷ [])) (has_steps d) (clean_members_of_change d)
+    clean-where (is_some (as_object d)) (faults_of (known name.Actions want.Array ∷ []) d ++ marked (actions_mark d ∷ [])) (has_steps d) (clean_members_of_change d)
 
 -- ---- the address
 

@@ -6,6 +6,7 @@ pub mod Elements
 pub mod Members
 pub mod Named
 pub mod Options
+pub mod Outputs
 pub mod Places
 pub mod Plans
 pub mod Provisioners

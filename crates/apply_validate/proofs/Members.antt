@@ -8,7 +8,7 @@ use Rattle.serde_json.specs.Data.{Data, null, boolean, number, string, array, ob
 use Rattle.serde_json.specs.Find.{as_array, as_bool, as_number, as_str, as_u64}
 use Rattle.apply_json.specs.Seen.{items_in}
 use Rattle.apply_json.specs.Tree.{◌>>=◌, list_of, member_of, non_empty_text_of, text_of, text_or, unless_empty}
-use Rattle.apply_plan.specs.Script.Entry.{flag_or_false, is_kept, may_fail_by, may_fail_or_not, number_or_none}
+use Rattle.apply_plan.specs.Script.Entry.{flag_or_false, is_kept, may_fail_by, may_fail_or_not, number_or_none, only_warns_by, only_warns_or_not}
 use Rattle.apply_validate.specs.declared.findings.finding.Finding.{Finding}
 use Rattle.apply_validate.specs.declared.findings.name.Name.{Name}
 use Rattle.apply_validate.specs.declared.findings.part.Part.TheVariants.{Item, Member}
@@ -22,7 +22,7 @@ use Rattle.apply_validate.specs.Walks.{fault_of, in_items, in_list, inside, item
 use Rattle.apply_validate.specs.Wants.{is_met}
 use Rattle.apply_validate.proofs.Alike.{Alike, AlikeItems, AreAlike, as_bool_alike, as_number_alike, as_str_alike, member_alike}
 use Rattle.apply_validate.proofs.Clean.{all_items, clean, clean-append, clean-fault_of, clean-under, is_absent_or}
-use Rattle.apply_validate.proofs.Wanted.{met_flag, met_non_empty, met_on_failure, met_seconds, met_step, met_text, met_text_or}
+use Rattle.apply_validate.proofs.Wanted.{met_flag, met_non_empty, met_on_failure, met_seconds, met_severity, met_text, met_text_or, met_whole_or}
 
 -- ---- scalars that may be missing
 
@@ -50,6 +50,14 @@ may_fail_alike : (o p : Option Data) → AreAlike o p → may_fail_or_not o ≡ 
 may_fail_alike None p a = rw a refl
 may_fail_alike (Some d) p a = rw (a.1) (ap (λ (text : Option (List ℕ)). text >>= may_fail_by) (as_str_alike d a.0 a.2))
 
+only_warns_alike : (o p : Option Data) → AreAlike o p → only_warns_or_not o ≡ only_warns_or_not p
+only_warns_alike None p a = rw a refl
+only_warns_alike (Some d) p a = rw (a.1) (ap (λ (text : Option (List ℕ)). text >>= only_warns_by) (as_str_alike d a.0 a.2))
+
+whole_alike : (o p : Option Data) → AreAlike o p → option_and_then as_u64 (option_and_then as_number o) ≡ option_and_then as_u64 (option_and_then as_number p)
+whole_alike None p a = rw a refl
+whole_alike (Some d) p a = rw (a.1) (ap (λ n. (let w : Option ℕ = option_and_then as_u64 n in w)) (as_number_alike d a.0 a.2))
+
 is_there_alike : (o p : Option Data) → AreAlike o p → is_some o ≡ is_some p
 is_there_alike None p a = rw a refl
 is_there_alike (Some d) p a = rw (a.1) refl
@@ -75,8 +83,8 @@ module _ (n : List ℕ) (not : is_kept n ≡ false) (d k : Data) (alike : Alike 
   pub non_empty_there : is_met want.NonEmptyText (member_of n d) ≡ is_some (non_empty_text_of n k)
   non_empty_there = met_non_empty (member_of n d) ∙ ap (λ (t : Option (List ℕ)). is_some t) non_empty_same
 
-  pub step_there : is_met want.StepOrAbsent (member_of n d) ≡ is_some (number_or_none (member_of n k))
-  step_there = met_step (member_of n d) ∙ ap (λ (t : Option (Option ℕ)). is_some t) (number_alike (member_of n d) (member_of n k) both)
+  pub whole_or_there : is_met want.WholeOrAbsent (member_of n d) ≡ is_some (number_or_none (member_of n k))
+  whole_or_there = met_whole_or (member_of n d) ∙ ap (λ (t : Option (Option ℕ)). is_some t) (number_alike (member_of n d) (member_of n k) both)
 
   pub flag_there : is_met want.FlagOrAbsent (member_of n d) ≡ is_some (flag_or_false (member_of n k))
   flag_there = met_flag (member_of n d) ∙ ap (λ (t : Option Bool). is_some t) (flag_alike (member_of n d) (member_of n k) both)
@@ -86,6 +94,12 @@ module _ (n : List ℕ) (not : is_kept n ≡ false) (d k : Data) (alike : Alike 
 
   pub on_failure_there : is_met want.OnFailure (member_of n d) ≡ is_some (may_fail_or_not (member_of n k))
   on_failure_there = met_on_failure (member_of n d) ∙ ap (λ (t : Option Bool). is_some t) (may_fail_alike (member_of n d) (member_of n k) both)
+
+  pub severity_there : is_met want.Severity (member_of n d) ≡ is_some (only_warns_or_not (member_of n k))
+  severity_there = met_severity (member_of n d) ∙ ap (λ (t : Option Bool). is_some t) (only_warns_alike (member_of n d) (member_of n k) both)
+
+  pub whole_same : option_and_then as_u64 (option_and_then as_number (member_of n d)) ≡ option_and_then as_u64 (option_and_then as_number (member_of n k))
+  whole_same = whole_alike (member_of n d) (member_of n k) both
 
   numbers_same : (member_of n d >>= as_number) ≡ (member_of n k >>= as_number)
   numbers_same = then_alike as_number as_number_alike (member_of n d) (member_of n k) both
@@ -181,12 +195,8 @@ count_by (Some d) p a = rw (a.1) (count_in d a.0 a.2)
 pub count_same : (name : Name) → is_kept (name_text name) ≡ false → (d k : Data) → Alike d k → length (items_at name d) ≡ length (items_at name k)
 count_same name not d k a = count_by (member_at name d) (member_at name k) (member_alike (name_text name) not d k a)
 
-seconds_by : (o p : Option Data) → AreAlike o p → unwrap_or (option_and_then as_u64 (option_and_then as_number o)) 0 ≡ unwrap_or (option_and_then as_u64 (option_and_then as_number p)) 0
-seconds_by None p a = rw a refl
-seconds_by (Some d) p a = rw (a.1) (ap (λ n. unwrap_or (let w : Option ℕ = option_and_then as_u64 n in w) 0) (as_number_alike d a.0 a.2))
-
 pub seconds_same : (d k : Data) → Alike d k → seconds_in d ≡ seconds_in k
-seconds_same d k a = seconds_by (member_of (codes "seconds") d) (member_of (codes "seconds") k) (member_alike (codes "seconds") refl d k a)
+seconds_same d k a = ap (λ (n : Option ℕ). unwrap_or n 0) (whole_same (codes "seconds") refl d k a)
 
 summed : (ds es : Items) → AlikeItems ds es → sum_by seconds_in (list_of ds) ≡ sum_by seconds_in (list_of es)
 summed no_items es a = rw a refl

@@ -9,21 +9,21 @@ use Rattle.serde_json.specs.Find.{as_bool, as_number, as_object, as_str, as_u64}
 use Rattle.apply_json.specs.Tree.{◌>>=◌, member_of, text_or, unless_empty}
 use Rattle.apply_model.specs.declared.script.diag.Diag.{Diag}
 use Rattle.apply_model.specs.declared.script.ending.Ending.{Ending}
-use Rattle.apply_model.specs.declared.script.ending.Ending.TheVariants.{Done, Failed}
+use Rattle.apply_model.specs.declared.script.ending.Ending.TheVariants.{Done, Failed, Warned}
 use Rattle.apply_model.specs.declared.script.provisioner.Provisioner.{Provisioner}
 use Rattle.apply_model.specs.Script.Limits.{max_provisioners, max_seconds}
-use Rattle.apply_model.specs.Script.Outcome.{puts_out_too_much, seconds_of_all}
-use Rattle.apply_plan.specs.Script.Entry.{EntryStep, WaitName, answered_with, diag_from, diag_or_none, each_of, ending_from, ending_of, flag_or_false, provisioner_from, says_nothing, seconds_of, skipped_with, step_from, wait_from}
+use Rattle.apply_model.specs.Script.Outcome.{is_failed, is_warned, puts_out_too_much, seconds_of_all}
+use Rattle.apply_plan.specs.Script.Entry.{EntryStep, Failure, WaitName, answered_with, diag_from, diag_or_none, each_of, ending_by, ending_from, ending_of, failure_from, failure_or_none, flag_or_false, provisioner_from, says_nothing, seconds_of, skipped_with, step_from, wait_from}
 use Rattle.apply_validate.specs.declared.findings.finding.Finding.{Finding}
 use Rattle.apply_validate.specs.declared.findings.name.Name.TheVariants as name
 use Rattle.apply_validate.specs.declared.findings.want.Want.TheVariants as want
 use Rattle.apply_validate.specs.Laws.{is_within_limits}
-use Rattle.apply_validate.specs.ScriptFindings.{growth_of_provisioner, in_diagnostic, in_provisioner, in_step, in_wait, is_skipped, known, seconds_in, seconds_in_all, skipped_marks, step_marks, step_names, step_table}
+use Rattle.apply_validate.specs.ScriptFindings.{growth_of_provisioner, in_diagnostic, in_failure, in_provisioner, in_step, in_wait, is_skipped, known, seconds_in, seconds_in_all, skipped_marks, step_marks, step_names, step_table}
 use Rattle.apply_validate.specs.Walks.{faults_of, in_items, in_list, inside, items_at, marked, unread}
 use Rattle.apply_validate.specs.Wants.{is_met}
 use Rattle.apply_validate.proofs.Alike.{Alike, object_alike}
 use Rattle.apply_validate.proofs.Clean.{all_items, clean, clean-append, clean-faults_of, clean-marked, clean-then_unread, clean-where_suits, is_absent_or}
-use Rattle.apply_validate.proofs.Diagnostics.{absent_or_diagnostic, clean_diagnostic, clean_wait, two}
+use Rattle.apply_validate.proofs.Diagnostics.{absent_or_diagnostic, absent_or_failure, clean_diagnostic, clean_failure, clean_wait, two}
 use Rattle.apply_validate.proofs.Members.{IsCleanBeside, array_or, count_same, flag_same, flag_there, inside_clean, is_there_same, items_inside, list_clean, non_empty_same, seconds_same, sum_same, text_or_there, whole_there}
 use Rattle.apply_validate.proofs.Options.{and_false, and_true, none_any, nothing_then}
 use Rattle.apply_validate.proofs.Provisioners.{all_seconds_read, clean_growth, clean_provisioner, fits, fits_first, fits_growth, is_provisioner, items_both, length_read, seconds_are}
@@ -51,13 +51,17 @@ some_is x y e = cc
 
 -- ---- what stands there, and what was read
 
-some_read : (r fo : Option Diag) → option_map (λ (x : Diag). Some x) r ≡ Some fo → true ≡ is_some fo
+some_read : {A : Type 0} (r fo : Option A) → option_map (λ (x : A). Some x) r ≡ Some fo → true ≡ is_some fo
 some_read None fo e = absurd cc
-some_read (Some x) fo e = ap (λ (o : Option Diag). is_some o) (some_is (Some x) fo e)
+some_read {A} (Some x) fo e = ap (λ (o : Option A). is_some o) (some_is (Some x) fo e)
 
 diagnostic_there : (o : Option Data) (fo : Option Diag) → diag_or_none o ≡ Some fo → is_some o ≡ is_some fo
 diagnostic_there None fo e = ap (λ (r : Option Diag). is_some r) (some_is None fo e)
 diagnostic_there (Some d) fo e = some_read (diag_from d) fo e
+
+failure_there : (o : Option Data) (fo : Option Failure) → failure_or_none o ≡ Some fo → is_some o ≡ is_some fo
+failure_there None fo e = ap (λ (r : Option Failure). is_some r) (some_is None fo e)
+failure_there (Some d) fo e = some_read (failure_from d) fo e
 
 id_there : (o : Option Data) (t : List ℕ) → text_or [] o ≡ Some t → is_some (o >>= as_str >>= unless_empty) ≡ is_some (unless_empty t)
 id_there None t e = ap (λ (x : List ℕ). is_some (unless_empty x)) (some_is [] t e)
@@ -80,24 +84,34 @@ order false true true = refl
 order false true false = refl
 order false false y = refl
 
--- a failure, beside which stands none or some of the provisioners
-beside_provisioners : (told : Bool) (s : ℕ) (diag : Diag) (ps : List Provisioner) (after : List WaitName)
-    → (little ps && untouched true false false (length ps) (s + seconds_of_all ps)) ≡ ended false told (Some s) after ps (ending_from None None (Some diag))
-unfolding untouched
-beside_provisioners told s diag [] after = refl
-beside_provisioners told s diag (p ∷ ps) after =
-    let some : nat_lt 0 (length (p ∷ ps)) ≡ true = lt-ltb 0 (length (p ∷ ps)) (let l : 0 < suc (length ps) = omega arith in l) in
-    rw some (and_false (little (p ∷ ps)))
+-- the provider has failed, also where that only warns
+provider_fails : (warns : Bool) (diag : Diag)
+    → (is_failed (let r : Ending = if warns then Warned diag else Failed diag in r) || is_warned (let r : Ending = if warns then Warned diag else Failed diag in r)) ≡ true
+provider_fails true diag = refl
+provider_fails false diag = refl
 
-answers : (told : Bool) (s : ℕ) (id : Option (List ℕ)) (warning failed : Option Diag) (ps : List Provisioner) (after : List WaitName)
+says_something : (warns : Bool) (diag : Diag) → says_nothing (let r : Ending = if warns then Warned diag else Failed diag in r) ≡ false
+says_something true diag = refl
+says_something false diag = refl
+
+-- a failure, beside which stands none or some of the provisioners
+beside_provisioners : (told : Bool) (s : ℕ) (r : Ending) (ps : List Provisioner) (after : List WaitName) → (is_failed r || is_warned r) ≡ true
+    → (little ps && untouched true false false (length ps) (s + seconds_of_all ps)) ≡ ended false told (Some s) after ps (Some r)
+unfolding untouched
+beside_provisioners told s r [] after e = rw e refl
+beside_provisioners told s r (p ∷ ps) after e =
+    let some : nat_lt 0 (length (p ∷ ps)) ≡ true = lt-ltb 0 (length (p ∷ ps)) (let l : 0 < suc (length ps) = omega arith in l) in
+    rw (some, e) (and_false (little (p ∷ ps)))
+
+answers : (told : Bool) (s : ℕ) (id : Option (List ℕ)) (warning : Option Diag) (failed : Option Failure) (ps : List Provisioner) (after : List WaitName)
     → (little ps && untouched (is_some failed) (is_some id) (is_some warning) (length ps) (s + seconds_of_all ps)) ≡ ended false told (Some s) after ps (ending_from id warning failed)
 unfolding untouched
 answers told s id warning None ps after =
     order (little ps) (not (nat_lt max_seconds (s + seconds_of_all ps))) (not (nat_lt max_provisioners (length ps)))
     ∙ ap (λ (b : Bool). not (nat_lt max_seconds (s + seconds_of_all ps)) && (not (nat_lt max_provisioners (length ps)) && b)) (none_any puts_out_too_much ps)
-answers told s None None (Some diag) ps after = beside_provisioners told s diag ps after
-answers told s None (Some warning) (Some diag) ps after = and_false (little ps)
-answers told s (Some id) warning (Some diag) ps after = and_false (little ps)
+answers told s None None (Some f) ps after = beside_provisioners told s (ending_by f) ps after (provider_fails f.only_warns f.diag)
+answers told s None (Some warning) (Some f) ps after = and_false (little ps)
+answers told s (Some id) warning (Some f) ps after = and_false (little ps)
 
 -- no seconds
 silent : (told : Bool) (after : List WaitName) (ps : List Provisioner) (result : Option Ending) → false ≡ ended false told None after ps result
@@ -132,7 +146,7 @@ unread_of : (told : Bool) (s : Option ℕ) (r : Ending) (ps : List Provisioner) 
 unread_of true s r ps after e = refl
 unread_of false s r ps after e = rw e refl
 
-skips : (told : Bool) (s : Option ℕ) (id : Option (List ℕ)) (warning failed : Option Diag) (ps : List Provisioner) (after : List WaitName) → (told ≡ false → s ≡ None)
+skips : (told : Bool) (s : Option ℕ) (id : Option (List ℕ)) (warning : Option Diag) (failed : Option Failure) (ps : List Provisioner) (after : List WaitName) → (told ≡ false → s ≡ None)
     → (little ps && (untouched (is_some failed) (is_some id) (is_some warning) (length ps) (given s + seconds_of_all ps) && alone true told (is_some id) (is_some warning) (is_some failed) (length ps)))
     ≡ ended true told s after ps (ending_from id warning failed)
 skips told s None None None ps after none = skips_none told s ps after none
@@ -144,7 +158,7 @@ skips told s None (Some w) None ps after none =
     ∙ sym (unread_of told s (Done None (Some w)) ps after refl)
 skips told s None None (Some f) ps after none =
     none_of (little ps) (untouched true false false (length ps) (given s + seconds_of_all ps)) (alone true told false false true (length ps)) (touched told false false true (length ps) refl)
-    ∙ sym (unread_of told s (Failed f) ps after refl)
+    ∙ sym (unread_of told s (ending_by f) ps after (says_something f.only_warns f.diag))
 skips told s None (Some w) (Some f) ps after none =
     none_of (little ps) (untouched true false true (length ps) (given s + seconds_of_all ps)) (alone true told false true true (length ps)) (touched told false true true (length ps) refl)
 skips told s (Some id) w (Some f) ps after none =
@@ -160,7 +174,7 @@ unfolding alone
 free told id warning failed count = refl
 
 -- how it ends, skipped or not
-ends : (skipped told : Bool) (s : Option ℕ) (id : Option (List ℕ)) (warning failed : Option Diag) (ps : List Provisioner) (after : List WaitName) → (told ≡ false → s ≡ None)
+ends : (skipped told : Bool) (s : Option ℕ) (id : Option (List ℕ)) (warning : Option Diag) (failed : Option Failure) (ps : List Provisioner) (after : List WaitName) → (told ≡ false → s ≡ None)
     → (timed skipped s && (little ps && (untouched (is_some failed) (is_some id) (is_some warning) (length ps) (given s + seconds_of_all ps) && alone skipped told (is_some id) (is_some warning) (is_some failed) (length ps))))
     ≡ ended skipped told s after ps (ending_from id warning failed)
 ends true told s id warning failed ps after none = skips told s id warning failed ps after none
@@ -177,7 +191,7 @@ abbrev parts : (timed id warning failed provisioners tests flag tests_skipped af
 parts timed id warning failed provisioners tests flag tests_skipped after =
     timed && (id && (warning && (failed && (provisioners && (tests && (flag && (tests_skipped && after)))))))
 
-abbrev step_read : (q : Option Bool) (told : Bool) (s : Option ℕ) (id : Option (List ℕ)) (warning failed : Option (Option Diag)) (ps : Option (List Provisioner)) (after : Option (List WaitName)) → Option EntryStep
+abbrev step_read : (q : Option Bool) (told : Bool) (s : Option ℕ) (id : Option (List ℕ)) (warning : Option (Option Diag)) (failed : Option (Option Failure)) (ps : Option (List Provisioner)) (after : Option (List WaitName)) → Option EntryStep
 step_read q told s id warning failed ps after =
     q >>= λ skipped. (id >>= λ t. warning >>= λ w. failed >>= λ f. ending_from (unless_empty t) w f) >>= λ r. ps >>= λ l. after >>= λ a.
     (if skipped then skipped_with told r l else answered_with s r l) >>= λ o. Some (let step : EntryStep = record { outcome = o; after = a } in step)
@@ -200,10 +214,10 @@ last_out true false tests tests_skipped = refl
 last_out true true false tests_skipped = refl
 last_out true true true tests_skipped = and_false tests_skipped
 
-reads : (q : Option Bool) (skipped told : Bool) (s : Option ℕ) (id : Option (List ℕ)) (warning failed : Option (Option Diag)) (ps : Option (List Provisioner)) (after : Option (List WaitName)) (tests tests_skipped : Bool)
+reads : (q : Option Bool) (skipped told : Bool) (s : Option ℕ) (id : Option (List ℕ)) (warning : Option (Option Diag)) (failed : Option (Option Failure)) (ps : Option (List Provisioner)) (after : Option (List WaitName)) (tests tests_skipped : Bool)
     → (told ≡ false → s ≡ None)
     → ((b : Bool) → q ≡ Some b → skipped ≡ b)
-    → ((t : List ℕ) (w f : Option Diag) (l : List Provisioner) → id ≡ Some t → warning ≡ Some w → failed ≡ Some f → ps ≡ Some l
+    → ((t : List ℕ) (w : Option Diag) (f : Option Failure) (l : List Provisioner) → id ≡ Some t → warning ≡ Some w → failed ≡ Some f → ps ≡ Some l
     → (tests ≡ untouched (is_some f) (is_some (unless_empty t)) (is_some w) (length l) (given s + seconds_of_all l))
     × (tests_skipped ≡ alone skipped told (is_some (unless_empty t)) (is_some w) (is_some f) (length l)))
     → parts (timed skipped s) (is_some id) (is_some warning) (is_some failed) (option_map_or (list_all fits) ps false) tests (is_some q) tests_skipped (is_some after)
@@ -240,8 +254,8 @@ flag_read : (o : Option Data) (b : Bool) → flag_or_false o ≡ Some b → opti
 flag_read None b e = some_is false b e
 flag_read (Some d) b e = ap (λ (x : Option Bool). option_map_or (λ flag. flag) x false) e
 
-tests_read : (k : Data) (t : List ℕ) (w f : Option Diag) (l : List Provisioner) → text_or [] (member_of (codes "id") k) ≡ Some t
-    → diag_or_none (member_of (codes "warning") k) ≡ Some w → diag_or_none (member_of (codes "failed") k) ≡ Some f
+tests_read : (k : Data) (t : List ℕ) (w : Option Diag) (f : Option Failure) (l : List Provisioner) → text_or [] (member_of (codes "id") k) ≡ Some t
+    → diag_or_none (member_of (codes "warning") k) ≡ Some w → failure_or_none (member_of (codes "failed") k) ≡ Some f
     → each_of provisioner_from (member_of (codes "provisioners") k) ≡ Some l
     → (list_all (λ mark. not mark.holds) (step_marks k) ≡ untouched (is_some f) (is_some (unless_empty t)) (is_some w) (length l) (given (seconds_of k) + seconds_of_all l))
     × (list_all (λ mark. not mark.holds) (skipped_marks k) ≡ alone (is_skipped k) (is_some (member_of (codes "seconds") k)) (is_some (unless_empty t)) (is_some w) (is_some f) (length l))
@@ -251,7 +265,7 @@ tests_read k t w f l et ew ef el =
     let taken : seconds_in_all k ≡ given (seconds_of k) + seconds_of_all l =
     ap (λ (n : ℕ). n + sum_by seconds_in (items_at name.Provisioners k)) (ap (λ (o : Option ℕ). unwrap_or o 0) (seconds_are (member_of (codes "seconds") k)))
     ∙ ap (λ (n : ℕ). given (seconds_of k) + n) (all_seconds_read (member_of (codes "provisioners") k) l el) in
-    let failed = diagnostic_there (member_of (codes "failed") k) f ef in
+    let failed = failure_there (member_of (codes "failed") k) f ef in
     let id = id_there (member_of (codes "id") k) t et in
     let warning = diagnostic_there (member_of (codes "warning") k) w ew in
     (same_tests _ _ _ _ _ _ _ _ _ _ failed id warning count taken, same_alone (is_skipped k) (is_skipped k) (is_some (member_of (codes "seconds") k)) (is_some (member_of (codes "seconds") k)) _ _ _ _ _ _ _ _ refl refl id warning failed count)
@@ -311,7 +325,7 @@ unfolding in_step step_from ending_of
 clean_step d k alike =
     let wrong : List Finding = faults_of (step_table (is_skipped d)) d in
     let warning : List Finding = inside in_diagnostic name.Warning d in
-    let failed : List Finding = inside in_diagnostic name.Failed d in
+    let failed : List Finding = inside in_failure name.Failed d in
     let provisioners : List Finding = in_list (λ number. in_provisioner) (known name.Provisioners want.ArrayOrAbsent) d in
     let marks : List Finding = marked (step_marks d) in
     let flag : List Finding = faults_of (known name.Skipped want.FlagOrAbsent ∷ []) d in
@@ -323,7 +337,7 @@ clean_step d k alike =
     let s : Option ℕ = seconds_of k in
     let t : Option (List ℕ) = text_or [] (member_of (codes "id") k) in
     let w : Option (Option Diag) = diag_or_none (member_of (codes "warning") k) in
-    let f : Option (Option Diag) = diag_or_none (member_of (codes "failed") k) in
+    let f : Option (Option Failure) = failure_or_none (member_of (codes "failed") k) in
     let o : Option Data = member_of (codes "provisioners") k in
     let l : Option (List Provisioner) = each_of provisioner_from o in
     let a : Option (List WaitName) = each_of wait_from (member_of (codes "after") k) in
@@ -335,7 +349,7 @@ clean_step d k alike =
     let e1 : clean wrong ≡ (timed skipped s && is_some t) =
     table_clean (is_skipped d) d k alike ∙ ap (λ (b : Bool). timed b s && is_some t) (flag_same (codes "skipped") refl d k alike) in
     let e2 : clean warning ≡ is_some w = inside_clean in_diagnostic (λ e. is_some (diag_from e)) clean_diagnostic name.Warning refl d k alike ∙ absent_or_diagnostic (member_of (codes "warning") k) in
-    let e3 : clean failed ≡ is_some f = inside_clean in_diagnostic (λ e. is_some (diag_from e)) clean_diagnostic name.Failed refl d k alike ∙ absent_or_diagnostic (member_of (codes "failed") k) in
+    let e3 : clean failed ≡ is_some f = inside_clean in_failure (λ e. is_some (failure_from e)) clean_failure name.Failed refl d k alike ∙ absent_or_failure (member_of (codes "failed") k) in
     let e4 : clean provisioners ≡ (listed && is_absent_or (all_items fits_first) o) =
     list_clean (λ number. in_provisioner) fits_first (λ number. clean_provisioner) (known name.Provisioners want.ArrayOrAbsent) array_or refl d k alike in
     let e5 : clean marks ≡ tests = clean-marked (step_marks d) refl ∙ same.0 in

@@ -7,7 +7,7 @@ use Rattle.std.specs.Str.{bytes_eq}
 use Rattle.serde_json.specs.Data.{Data, null, boolean, number, string, array, object}
 use Rattle.serde_json.specs.Find.{as_array, as_number, as_object, as_str, as_u64}
 use Rattle.apply_json.specs.Tree.{◌>>=◌, is_empty, items_or_empty, list_of, member_of, text_or, unless_empty}
-use Rattle.apply_plan.specs.Script.Entry.{all_some, each_of, flag_or_false, may_fail_by, may_fail_or_not, number_or_none}
+use Rattle.apply_plan.specs.Script.Entry.{all_some, each_of, flag_or_false, may_fail_by, may_fail_or_not, number_or_none, only_warns_by, only_warns_or_not}
 use Rattle.apply_validate.specs.declared.findings.want.Want.TheVariants as want
 use Rattle.apply_validate.specs.Wants.{is_met}
 use Rattle.apply_validate.proofs.Clean.{all_items, is_absent_or}
@@ -33,9 +33,9 @@ pub met_seconds : (o : Option Data) → is_met want.Seconds o ≡ is_some (o >>=
 met_seconds None = refl
 met_seconds (Some d) = ap (λ (n : Option ℕ). is_some n) (and_then_is as_u64 (as_number d))
 
-pub met_step : (o : Option Data) → is_met want.StepOrAbsent o ≡ is_some (number_or_none o)
-met_step None = refl
-met_step (Some d) =
+pub met_whole_or : (o : Option Data) → is_met want.WholeOrAbsent o ≡ is_some (number_or_none o)
+met_whole_or None = refl
+met_whole_or (Some d) =
     ap (λ (n : Option ℕ). is_some n) (and_then_is as_u64 (as_number d)) ∙ sym (some_map (λ (n : ℕ). Some n) (as_number d >>= as_u64))
 
 pub met_flag : (o : Option Data) → is_met want.FlagOrAbsent o ≡ is_some (flag_or_false o)
@@ -54,6 +54,14 @@ word_text (Some t) = two_words (bytes_eq t (codes "continue")) (bytes_eq t (code
 pub met_on_failure : (o : Option Data) → is_met want.OnFailure o ≡ is_some (may_fail_or_not o)
 met_on_failure None = refl
 met_on_failure (Some d) = word_text (as_str d)
+
+severity_text : (text : Option (List ℕ)) → (option_map_or (λ t. bytes_eq t (codes "warning")) text false || option_map_or (λ t. bytes_eq t (codes "error")) text false) ≡ is_some (text >>= only_warns_by)
+severity_text None = refl
+severity_text (Some t) = two_words (bytes_eq t (codes "warning")) (bytes_eq t (codes "error"))
+
+pub met_severity : (o : Option Data) → is_met want.Severity o ≡ is_some (only_warns_or_not o)
+met_severity None = refl
+met_severity (Some d) = severity_text (as_str d)
 
 some_byte : (text : Option (List ℕ)) → option_map_or (λ t. not (is_empty t)) text false ≡ is_some (text >>= unless_empty)
 some_byte None = refl

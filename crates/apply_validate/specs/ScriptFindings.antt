@@ -1,18 +1,20 @@
 -- What is found in a script, without a look at the plan. All paths are from the value.
-use Rattle.std.specs.Prelude.{ℕ, ◌+◌, List, [], ◌∷◌, ◌++◌, length, sum_by, Bool, true, false, ◌&&◌, is_some, nat_lt, if◌then◌else◌, Some, None, option_and_then, unwrap_or}
+use Rattle.std.specs.Prelude.{ℕ, suc, ◌+◌, List, [], ◌∷◌, ◌++◌, length, map, sum_by, Bool, true, false, ◌&&◌, is_some, nat_lt, if◌then◌else◌, Option, Some, None, option_and_then, unwrap_or}
 use Rattle.std.specs.Option.{option_map_or}
 use Rattle.serde_json.specs.Data.{Data}
-use Rattle.serde_json.specs.Find.{as_bool, as_number, as_str, as_u64}
+use Rattle.serde_json.specs.Find.{as_bool, as_number, as_object, as_str, as_u64}
 use Rattle.apply_json.specs.Tree.{non_empty_text_of}
 use Rattle.apply_model.specs.Script.Limits.{max_outputs, max_provisioners, max_seconds}
 use Rattle.apply_validate.specs.declared.findings.finding.Finding.{Finding}
 use Rattle.apply_validate.specs.declared.findings.name.Name.{Name}
 use Rattle.apply_validate.specs.declared.findings.name.Name.TheVariants as name
+use Rattle.apply_validate.specs.declared.findings.part.Part.TheVariants.{Item, Member}
 use Rattle.apply_validate.specs.declared.findings.want.Want.{Want}
 use Rattle.apply_validate.specs.declared.findings.want.Want.TheVariants as want
 use Rattle.apply_validate.specs.declared.findings.what.What.TheVariants as what
 use Rattle.apply_validate.specs.declared.walks.known.Known.{Known}
 use Rattle.apply_validate.specs.declared.walks.mark.Mark.{Mark}
+use Rattle.apply_validate.specs.Findings.{under}
 use Rattle.apply_validate.specs.Names.{name_text}
 use Rattle.apply_validate.specs.Walks.{faults_of, in_items, in_list, inside, items_at, marked, member_at, unless_suits, unread, where_suits}
 
@@ -32,6 +34,62 @@ diagnostic_names = name.Summary ∷ name.Detail ∷ name.Range ∷ name.Snippet 
 unfoldable pub in_diagnostic : Data → List Finding
 in_diagnostic d = where_suits want.Diagnostic d (faults_of diagnostic_table d ++ unread diagnostic_names d)
 
+-- why a step fails: a diagnostic that also tells how severe it is
+abbrev pub failure_table : List Known
+failure_table =
+    known name.Summary want.Text ∷ known name.Detail want.TextOrAbsent ∷ known name.Severity want.Severity
+    ∷ known name.Range want.ObjectOrAbsent ∷ known name.Snippet want.ObjectOrAbsent ∷ []
+
+abbrev pub failure_names : List Name
+failure_names = name.Summary ∷ name.Detail ∷ name.Severity ∷ name.Range ∷ name.Snippet ∷ []
+
+unfoldable pub in_failure : Data → List Finding
+in_failure d = where_suits want.Diagnostic d (faults_of failure_table d ++ unread failure_names d)
+
+-- ---- what a provisioner puts out
+
+-- a member, where it is a whole number
+abbrev pub whole_at : Name → Data → Option ℕ
+whole_at name d = option_and_then as_u64 (option_and_then as_number (member_at name d))
+
+-- one number is over another, where both are told
+abbrev pub is_over : (most found : Option ℕ) → Bool
+is_over None found = false
+is_over (Some n) None = false
+is_over (Some n) (Some m) = nat_lt n m
+
+abbrev pub output_table : List Known
+output_table = known name.After want.WholeOrAbsent ∷ known name.Text want.Text ∷ []
+
+abbrev pub output_names : List Name
+output_names = name.After ∷ name.Text ∷ []
+
+-- an output comes no later than its provisioner ends, and no sooner than the item in front of it
+abbrev pub output_marks : (seconds before : Option ℕ) → Data → List Mark
+output_marks seconds before d =
+    record { holds = is_over seconds (whole_at name.After d); at = Some name.After; what = what.BehindTheEnd (unwrap_or seconds 0) }
+    ∷ record { holds = is_over (whole_at name.After d) before; at = Some name.After; what = what.OutOfOrder (unwrap_or before 0) }
+    ∷ []
+
+-- what is found in an item of a provisioner of so many seconds, behind one that comes after so many; of a text nothing
+unfoldable pub in_output : (seconds before : Option ℕ) → Data → List Finding
+in_output seconds before d =
+    if is_some (as_object d) then faults_of output_table d ++ marked (output_marks seconds before d) ++ unread output_names d else []
+
+-- when an item comes: where it does not tell, with the end of its provisioner
+abbrev pub comes_after : (seconds : Option ℕ) → Data → Option ℕ
+comes_after seconds d = if is_some (member_at name.After d) then whole_at name.After d else seconds
+
+-- what is found in items, of which the first has that number
+abbrev pub outputs_behind : (seconds before : Option ℕ) → ℕ → List Data → List Finding
+outputs_behind seconds before n [] = []
+outputs_behind seconds before n (d ∷ ds) =
+    map (under (Item n)) (in_output seconds before d) ++ outputs_behind seconds (comes_after seconds d) (suc n) ds
+
+-- what is found in those of a provisioner
+abbrev pub in_outputs : Data → List Finding
+in_outputs d = map (under (Member name.Output)) (outputs_behind (whole_at name.Seconds d) None 0 (items_at name.Output d))
+
 -- ---- provisioners
 
 abbrev pub provisioner_table : List Known
@@ -47,19 +105,20 @@ provisioner_mark d =
 unfoldable pub in_provisioner : Data → List Finding
 in_provisioner d = where_suits want.Provisioner d
     (faults_of provisioner_table d
-    ++ in_list (λ number. unless_suits want.Text) (known name.Output want.ArrayOrAbsent) d
+    ++ in_list (λ number. unless_suits want.Output) (known name.Output want.ArrayOrAbsent) d
     ++ marked (provisioner_mark d ∷ [])
     ++ inside in_diagnostic name.Failed d
     ++ unread provisioner_names d)
 
--- what comes of its failure is looked at behind the members that a step and its provisioners have had before
-abbrev pub growth_of_provisioner : Data → List Finding
-growth_of_provisioner d = faults_of (known name.OnFailure want.OnFailure ∷ []) d
+-- what comes of its failure, and when its outputs come, is looked at behind the members that a step and its provisioners have
+-- had before
+unfoldable pub growth_of_provisioner : Data → List Finding
+growth_of_provisioner d = faults_of (known name.OnFailure want.OnFailure ∷ []) d ++ in_outputs d
 
 -- ---- what a step waits for
 
 abbrev pub wait_table : List Known
-wait_table = known name.Address want.Text ∷ known name.Deposed want.TextOrAbsent ∷ known name.Step want.StepOrAbsent ∷ []
+wait_table = known name.Address want.Text ∷ known name.Deposed want.TextOrAbsent ∷ known name.Step want.WholeOrAbsent ∷ []
 
 abbrev pub wait_names : List Name
 wait_names = name.Address ∷ name.Deposed ∷ name.Step ∷ []
@@ -88,7 +147,7 @@ has_failed d = is_some (member_at name.Failed d)
 
 -- the seconds of a step or of a provisioner, where they are a whole number
 abbrev pub seconds_in : Data → ℕ
-seconds_in d = unwrap_or (option_and_then as_u64 (option_and_then as_number (member_at name.Seconds d))) 0
+seconds_in d = unwrap_or (whole_at name.Seconds d) 0
 
 -- those of a step with all its provisioners
 abbrev pub seconds_in_all : Data → ℕ
@@ -123,7 +182,7 @@ unfoldable pub in_step : Data → List Finding
 in_step d = where_suits want.Step d
     (faults_of (step_table (is_skipped d)) d
     ++ inside in_diagnostic name.Warning d
-    ++ inside in_diagnostic name.Failed d
+    ++ inside in_failure name.Failed d
     ++ in_list (λ number. in_provisioner) (known name.Provisioners want.ArrayOrAbsent) d
     ++ marked (step_marks d)
     ++ faults_of (known name.Skipped want.FlagOrAbsent ∷ []) d

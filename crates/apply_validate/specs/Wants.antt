@@ -16,8 +16,9 @@ may_be_absent want.FlagOrAbsent = true
 may_be_absent want.Key = true
 may_be_absent want.ObjectOrAbsent = true
 may_be_absent want.OnFailure = true
-may_be_absent want.StepOrAbsent = true
+may_be_absent want.Severity = true
 may_be_absent want.TextOrAbsent = true
+may_be_absent want.WholeOrAbsent = true
 may_be_absent _ = false
 
 -- a text that begins with `1.`
@@ -31,6 +32,10 @@ is_mode d = is_word (codes "managed") d || is_word (codes "data") d
 -- `continue` or `fail`
 abbrev pub is_on_failure : Data → Bool
 is_on_failure d = is_word (codes "continue") d || is_word (codes "fail") d
+
+-- `error` or `warning`
+abbrev pub is_severity : Data → Bool
+is_severity d = is_word (codes "warning") d || is_word (codes "error") d
 
 -- a text of one byte at least
 abbrev pub is_text_with_a_byte : Data → Bool
@@ -54,14 +59,16 @@ suits want.NonEmptyText d = is_text_with_a_byte d
 suits want.Object d = is_some (as_object d)
 suits want.ObjectOrAbsent d = is_some (as_object d)
 suits want.OnFailure d = is_on_failure d
+suits want.Output d = is_some (as_str d) || is_some (as_object d)
 suits want.Plan d = is_some (as_object d)
 suits want.Provisioner d = is_some (as_object d)
 suits want.Seconds d = is_whole d
+suits want.Severity d = is_severity d
 suits want.Step d = is_some (as_object d)
-suits want.StepOrAbsent d = is_whole d
 suits want.Text d = is_some (as_str d)
 suits want.TextOrAbsent d = is_some (as_str d)
 suits want.Wait d = is_some (as_str d) || is_some (as_object d)
+suits want.WholeOrAbsent d = is_whole d
 
 -- the value that was found is what it has to be, or there may be nothing
 abbrev pub is_met : Want → Option Data → Bool

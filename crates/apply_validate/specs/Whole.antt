@@ -47,6 +47,7 @@ entry_of_refusal (error.SecondsRange n) = Some n
 entry_of_refusal (error.TooManyProvisioners n) = Some n
 entry_of_refusal (error.TooMuchOutput n) = Some n
 entry_of_refusal (error.NotACreate n) = Some n
+entry_of_refusal (error.WarnsNotARead n) = Some n
 entry_of_refusal (error.TooManyWaits n) = Some n
 entry_of_refusal (error.UnknownWait n) = Some n
 entry_of_refusal (error.NoSuchStep n) = Some n

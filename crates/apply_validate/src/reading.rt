@@ -167,6 +167,7 @@ fn entry_of(refusal: ScriptError) -> Option<usize>
         | ScriptError::TooManyProvisioners(number)
         | ScriptError::TooMuchOutput(number)
         | ScriptError::NotACreate(number)
+        | ScriptError::WarnsNotARead(number)
         | ScriptError::TooManyWaits(number)
         | ScriptError::UnknownWait(number)
         | ScriptError::NoSuchStep(number)

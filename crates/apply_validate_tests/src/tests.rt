@@ -225,6 +225,102 @@ script .changes[0].steps[0].warning: stands beside `failed`, and a step that fai
     );
 }
 
+#[test]
+fn outputs_are_told_of_by_when_they_come(rt: HostRuntime) {
+    let alloc = rt.alloc();
+    of_script(
+        &rt,
+        alloc,
+        r#"{"changes":[{"address":"a.c","steps":[{"seconds":1},{"seconds":3}]},
+{"address":"a.b","steps":[{"seconds":1,"provisioners":[{"provisioner":"p","seconds":12,
+"output":["x",{"after":11,"text":"y"},{"after":13,"text":"z"},{"after":13}]},
+{"provisioner":"p","seconds":12,"output":[{"after":7,"text":""},{"after":5,"text":"b"},{"text":"c"},{"after":12,"text":"d"},null]},
+{"provisioner":"p","seconds":12,"output":[{"after":-1,"text":1,"txt":"e"},7],"on_failure":"x"},
+{"provisioner":"p","seconds":true,"output":[{"after":5,"text":"f"},{"after":4,"text":"g","seconds":1}]}]}]}]}"#,
+        "script .changes[1].steps[0].provisioners[1].output[4]: is null, and has to be a text, or an object as {\"after\":1,\"text\":\"hello\"}\n\
+script .changes[1].steps[0].provisioners[2].output[1]: is 7, and has to be a text, or an object as {\"after\":1,\"text\":\"hello\"}\n\
+script .changes[1].steps[0].provisioners[3].seconds: is true, and has to be a whole number from 0 to 86400\n\
+script .changes[1].steps[0].provisioners[0].output[1].after: is 11, and has to be 12 at least, as the item before it\n\
+script .changes[1].steps[0].provisioners[0].output[2].after: is 13, and has to be 12 at most, the seconds of its provisioner\n\
+script .changes[1].steps[0].provisioners[0].output[3].text: is missing, and has to be a text\n\
+script .changes[1].steps[0].provisioners[0].output[3].after: is 13, and has to be 12 at most, the seconds of its provisioner\n\
+script .changes[1].steps[0].provisioners[1].output[1].after: is 5, and has to be 7 at least, as the item before it\n\
+script .changes[1].steps[0].provisioners[2].on_failure: is \"x\", and has to be \"continue\" or \"fail\", or absent\n\
+script .changes[1].steps[0].provisioners[2].output[0].after: is -1, and has to be a whole number, or absent\n\
+script .changes[1].steps[0].provisioners[2].output[0].text: is 1, and has to be a text\n\
+warning: script .changes[1].steps[0].provisioners[2].output[0].txt: is not read; is \"text\" meant?\n\
+script .changes[1].steps[0].provisioners[3].output[1].after: is 4, and has to be 5 at least, as the item before it\n\
+warning: script .changes[1].steps[0].provisioners[3].output[1].seconds: is not read\n",
+        true,
+    );
+    of_script(
+        &rt,
+        alloc,
+        r#"{"changes":[{"address":"a.c","steps":[{"seconds":3,"provisioners":[{"provisioner":"p","seconds":12,
+"output":[{"after":0,"text":"a"},{"after":7,"text":"b"},{"after":7,"text":"c"},{"after":12,"text":"d"},"e",{"text":"f"},{"after":null,"text":""}]}]}]}]}"#,
+        "plan and script are accepted\n",
+        false,
+    );
+}
+
+#[test]
+fn how_severe_failures_are_is_told_of(rt: HostRuntime) {
+    let alloc = rt.alloc();
+    of_script(
+        &rt,
+        alloc,
+        r#"{"changes":[{"address":"a.b","steps":[{"seconds":1,"failed":{"summary":"s","severity":"error"}}]},
+{"address":"a.b","deposed":"1f","steps":[{"seconds":1,"failed":{"summary":"s","severity":null}}]}]}"#,
+        "plan and script are accepted\n",
+        false,
+    );
+    of_script(
+        &rt,
+        alloc,
+        r#"{"changes":[{"address":"a.b","steps":[{"seconds":1,"warning":{"summary":"w","severity":1},
+"failed":{"summary":"s","detail":1,"severity":"warn","range":2,"severty":"error"},
+"provisioners":[{"provisioner":"p","seconds":1,"failed":{"summary":"s","severity":2}}]}]},
+{"address":"a.c","steps":[{"seconds":1,"failed":{"summary":"s","severity":true}}]}]}"#,
+        "warning: script .changes[0].steps[0].warning.severity: is not read\n\
+script .changes[0].steps[0].failed.detail: is 1, and has to be a text, or absent\n\
+script .changes[0].steps[0].failed.severity: is \"warn\", and has to be \"error\" or \"warning\", or absent\n\
+script .changes[0].steps[0].failed.range: is 2, and has to be an object, or absent\n\
+warning: script .changes[0].steps[0].failed.severty: is not read; is \"severity\" meant?\n\
+warning: script .changes[0].steps[0].provisioners[0].failed.severity: is not read\n\
+script .changes[0].steps[0].warning: stands beside `failed`, and a step that failed has none\n\
+script .changes[0].steps[0].provisioners: stands beside `failed`, and a step that failed has none\n\
+script .changes[1].steps[0].failed.severity: is true, and has to be \"error\" or \"warning\", or absent\n",
+        true,
+    );
+}
+
+/// A plan with a read.
+const READ: &str = r#"{"format_version":"1.2","terraform_version":"1.9.0","resource_changes":[
+{"address":"data.a.d","mode":"data","type":"a","name":"d","change":{"actions":["read"]}}]}"#;
+
+#[test]
+fn a_failure_that_only_warns_is_that_of_a_read(rt: HostRuntime) {
+    let alloc = rt.alloc();
+    let (text, refuses) = told(
+        &rt,
+        alloc,
+        READ,
+        Some(
+            r#"{"changes":[{"address":"data.a.d","steps":[{"seconds":1,"failed":{"summary":"s","severity":"warning"}}]}]}"#,
+        ),
+        false,
+    );
+    assert_eq!(rt; text.as_str(), "plan and script are accepted\n");
+    assert_eq!(rt; refuses, false);
+    of_script(
+        &rt,
+        alloc,
+        r#"{"changes":[{"address":"a.b","steps":[{"seconds":1,"failed":{"summary":"s","severity":"warning"}}]}]}"#,
+        "script .changes[0]: has a failure that only warns at a step that is not a read\n",
+        true,
+    );
+}
+
 /// A plan with a delete.
 const DELETED: &str = r#"{"format_version":"1.2","terraform_version":"1.9.0","resource_changes":[
 {"address":"a.d","mode":"managed","type":"a","name":"d","change":{"actions":["delete"]}}]}"#;

@@ -31,12 +31,14 @@ pub enum Name {
     ResourceChanges,
     Schema,
     Seconds,
+    Severity,
     Skipped,
     Snippet,
     Step,
     Steps,
     Summary,
     TerraformVersion,
+    Text,
     Warning,
 }
 
@@ -71,12 +73,14 @@ impl Name {
             Name::ResourceChanges => "resource_changes",
             Name::Schema => "$schema",
             Name::Seconds => "seconds",
+            Name::Severity => "severity",
             Name::Skipped => "skipped",
             Name::Snippet => "snippet",
             Name::Step => "step",
             Name::Steps => "steps",
             Name::Summary => "summary",
             Name::TerraformVersion => "terraform_version",
+            Name::Text => "text",
             Name::Warning => "warning",
         }
     }

@@ -3,7 +3,7 @@
 ghost use Rattle.std.specs.Prelude.{◌≡◌, is_some, option_map, Some};
 ghost use Rattle.serde_json.specs.View.{view};
 ghost use Rattle.apply_plan.specs.Plan.Element.{key_of};
-ghost use Rattle.apply_validate.specs.Wants.{is_format_version, is_met, is_mode, is_on_failure, is_text_with_a_byte, may_be_absent, suits};
+ghost use Rattle.apply_validate.specs.Wants.{is_format_version, is_met, is_mode, is_on_failure, is_severity, is_text_with_a_byte, may_be_absent, suits};
 
 use apply_json::members::is_text;
 use serde_json::Value;
@@ -35,22 +35,26 @@ pub enum Want {
     ObjectOrAbsent,
     /// What comes of the failure of a provisioner: `continue`, `fail`, or nothing.
     OnFailure,
+    /// A text, or an object with a `text`.
+    Output,
     /// A plan.
     Plan,
     /// An object with a `provisioner` and `seconds`.
     Provisioner,
     /// A whole number of 64 bits, which a limit of its own holds down to a day.
     Seconds,
+    /// How severe a failure is: `error`, `warning`, or nothing.
+    Severity,
     /// An object with `seconds`.
     Step,
-    /// The number of a step, or nothing.
-    StepOrAbsent,
     /// A text.
     Text,
     /// A text, or nothing.
     TextOrAbsent,
     /// A text, or an object with an `address`.
     Wait,
+    /// A whole number of 64 bits, or nothing.
+    WholeOrAbsent,
 }
 
 impl Want {
@@ -75,8 +79,9 @@ impl Want {
                 | Want::Key
                 | Want::ObjectOrAbsent
                 | Want::OnFailure
-                | Want::StepOrAbsent
+                | Want::Severity
                 | Want::TextOrAbsent
+                | Want::WholeOrAbsent
         )
     }
 
@@ -99,9 +104,10 @@ impl Want {
             Want::Mode => is_mode(value),
             Want::NonEmptyText => is_text_with_a_byte(value),
             Want::OnFailure => is_on_failure(value),
-            Want::Seconds | Want::StepOrAbsent => value.as_u64().is_some(),
+            Want::Seconds | Want::WholeOrAbsent => value.as_u64().is_some(),
+            Want::Severity => is_severity(value),
             Want::Text | Want::TextOrAbsent => value.as_str().is_some(),
-            Want::Wait => value.as_str().is_some() || value.is_object(),
+            Want::Output | Want::Wait => value.as_str().is_some() || value.is_object(),
         }
     }
 }
@@ -135,6 +141,12 @@ fn is_on_failure(value: &Value) -> bool
     ensures { result ≡ is_on_failure (view value.now) }
 {
     is_text(value, "continue") || is_text(value, "fail")
+}
+
+fn is_severity(value: &Value) -> bool
+    ensures { result ≡ is_severity (view value.now) }
+{
+    is_text(value, "warning") || is_text(value, "error")
 }
 
 fn is_text_with_a_byte(value: &Value) -> bool

@@ -37,6 +37,10 @@ pub enum What {
     TooManyProvisioners,
     /// The provisioner puts out more than 100 texts.
     TooManyTexts,
+    /// The output comes behind the end of its provisioner, which takes so many seconds.
+    BehindTheEnd(u64),
+    /// The output comes before the item in front of it, which comes after so many seconds.
+    OutOfOrder(u64),
     /// A run refuses it beside the plan.
     ForPlan(ScriptError),
     /// Some step waits for others, which takes lanes.

@@ -37,7 +37,7 @@ const TABLE: [Known; 4] = [
 
 pub(crate) const NAMES: [Name; 4] = [Name::Summary, Name::Detail, Name::Range, Name::Snippet];
 
-/// A diagnostic: a step's warning, or why a step or a provisioner fails.
+/// A diagnostic: a step's warning, or why a provisioner fails.
 #[derive(Clone, Copy)]
 pub struct Diagnostic;
 

@@ -1,18 +1,20 @@
 //! The members that a run reads.
 
 use crate::findings::name::Name;
-use crate::script::{diagnostic, entry, provisioner, step, top_level, wait};
+use crate::script::{diagnostic, entry, failure, output, provisioner, step, top_level, wait};
 
 /// The names of the members that a run reads of an object of a script: of the top level, or of one that stands in the member of
-/// that name, or in its items.
-pub fn known_names(within: Option<Name>) -> &'static [Name] {
-    match within {
-        None => &top_level::NAMES,
-        Some(Name::Changes) => &entry::NAMES,
-        Some(Name::Steps) => &step::NAMES,
-        Some(Name::Provisioners) => &provisioner::NAMES,
-        Some(Name::After) => &wait::NAMES,
-        Some(Name::Failed | Name::Warning) => &diagnostic::NAMES,
-        Some(_) => &[],
+/// the name `within`, or in its items. `around` is the member in which, or in whose items, that member stands.
+pub fn known_names(around: Option<Name>, within: Option<Name>) -> &'static [Name] {
+    match (around, within) {
+        (_, None) => &top_level::NAMES,
+        (_, Some(Name::Changes)) => &entry::NAMES,
+        (_, Some(Name::Steps)) => &step::NAMES,
+        (_, Some(Name::Provisioners)) => &provisioner::NAMES,
+        (_, Some(Name::Output)) => &output::NAMES,
+        (_, Some(Name::After)) => &wait::NAMES,
+        (Some(Name::Steps), Some(Name::Failed)) => &failure::NAMES,
+        (_, Some(Name::Failed | Name::Warning)) => &diagnostic::NAMES,
+        (_, Some(_)) => &[],
     }
 }

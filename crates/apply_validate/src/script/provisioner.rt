@@ -9,6 +9,7 @@ use crate::findings::name::Name;
 use crate::findings::want::Want;
 use crate::findings::what::What;
 use crate::script::diagnostic::Diagnostic;
+use crate::script::output::walk_outputs;
 use crate::walks::known::Known;
 use crate::walks::mark::Mark;
 use crate::walks::members::{count_at, faults, walk_inside, walk_list, walk_marks};
@@ -71,7 +72,7 @@ impl Walk for Provisioner {
             return Findings::here(alloc, What::IsNot(Want::Provisioner));
         }
         let all = faults(alloc, value, &TABLE)?;
-        let all = all.then(walk_list(alloc, &Leaf(Want::Text), value, OUTPUT)?)?;
+        let all = all.then(walk_list(alloc, &Leaf(Want::Output), value, OUTPUT)?)?;
         let all = all.then(walk_marks(alloc, &[mark(value)])?)?;
         let all = all.then(walk_inside(alloc, &Diagnostic, value, Name::Failed)?)?;
         let all = all.then(walk_unread(alloc, value, &NAMES)?)?;
@@ -79,14 +80,18 @@ impl Walk for Provisioner {
     }
 }
 
-/// What comes of the failure of a provisioner, which is looked at behind the members that it has had before.
+/// What comes of the failure of a provisioner, and when its outputs come, which is looked at behind the members that it has had
+/// before.
 #[derive(Clone, Copy)]
 pub struct ProvisionerGrowth;
 
 impl Walk for ProvisionerGrowth {
     ghost found = { λ _ _ d. growth_of_provisioner d };
 
+    #[tactic(auto, unfolding(crate::specs::ScriptFindings::growth_of_provisioner))]
     fn walk(&self, alloc: Global, _number: usize, value: &Value) -> Result<Findings, AllocError> {
-        faults(alloc, value, &GROWTH)
+        let all = faults(alloc, value, &GROWTH)?;
+        let all = all.then(walk_outputs(alloc, value)?)?;
+        Ok(all)
     }
 }

@@ -10,6 +10,8 @@ use crate::findings::name::Name;
 use crate::findings::want::Want;
 use crate::findings::what::What;
 use crate::script::diagnostic::Diagnostic;
+use crate::script::failure::Failure;
+use crate::script::output::whole_at;
 use crate::script::provisioner::{Provisioner, ProvisionerGrowth};
 use crate::script::wait::Wait;
 use crate::walks::known::Known;
@@ -94,10 +96,7 @@ fn table(is_skipped: bool) -> &'static [Known]
 fn seconds(value: &Value) -> u64
     ensures { result ≡ seconds_in (view value.now) }
 {
-    match member(value, Name::Seconds.text()) {
-        Some(found) => found.as_u64().unwrap_or(0),
-        None => 0,
-    }
+    whole_at(value, Name::Seconds).unwrap_or(0)
 }
 
 /// Whether a step takes longer than a day, with all its provisioners.
@@ -212,7 +211,7 @@ impl Walk for Step {
         }
         let all = faults(alloc, value, table(is_skipped(value)))?;
         let all = all.then(walk_inside(alloc, &Diagnostic, value, Name::Warning)?)?;
-        let all = all.then(walk_inside(alloc, &Diagnostic, value, Name::Failed)?)?;
+        let all = all.then(walk_inside(alloc, &Failure, value, Name::Failed)?)?;
         let all = all.then(walk_list(alloc, &Provisioner, value, PROVISIONERS)?)?;
         let all = all.then(walk_marks(alloc, &marks(value))?)?;
         let all = all.then(faults(alloc, value, &GROWTH)?)?;

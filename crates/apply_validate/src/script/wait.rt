@@ -24,7 +24,7 @@ const TABLE: [Known; 3] = [
     },
     Known {
         name: Name::Step,
-        want: Want::StepOrAbsent,
+        want: Want::WholeOrAbsent,
     },
 ];
 

@@ -11,7 +11,8 @@ pub fn not_read_text(alloc: Global, tree: &Value, finding: &Finding) -> Result<S
     let before = finding.path.len().saturating_sub(1);
     if let Some(name) = name_found(tree, finding, before) {
         let mut names = Vec::new(alloc);
-        for known in known_names(last_member(finding, before)) {
+        let (around, within) = last_members(finding, before);
+        for known in known_names(around, within) {
             names.push(known.text())?;
         }
         let reach = (name.chars().count() / 2).max(1);
@@ -32,17 +33,19 @@ fn name_found<'a>(tree: &'a Value, finding: &Finding, before: usize) -> Option<&
     }
 }
 
-/// The last member among the first steps of the path.
-fn last_member(finding: &Finding, before: usize) -> Option<Name> {
-    let mut last = None;
+/// The last two members among the first steps of the path.
+fn last_members(finding: &Finding, before: usize) -> (Option<Name>, Option<Name>) {
+    let mut around = None;
+    let mut within = None;
     for number in 0..finding.path.len() {
         if number < before {
             if let Part::Member(name) = finding.path.get(number) {
-                last = Some(name);
+                around = within;
+                within = Some(name);
             }
         }
     }
-    last
+    (around, within)
 }
 
 /// Adds which names may be meant.

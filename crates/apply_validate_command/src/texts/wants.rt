@@ -17,13 +17,15 @@ pub fn want_text(want: Want) -> &'static str {
         Want::Object => "an object",
         Want::ObjectOrAbsent => "an object, or absent",
         Want::OnFailure => r#""continue" or "fail", or absent"#,
+        Want::Output => r#"a text, or an object as {"after":1,"text":"hello"}"#,
         Want::Plan => r#"an object, as "terraform show -json" prints it of a plan's file"#,
         Want::Provisioner => r#"an object, as {"provisioner":"local-exec","seconds":1}"#,
         Want::Seconds => "a whole number from 0 to 86400",
+        Want::Severity => r#""error" or "warning", or absent"#,
         Want::Step => r#"an object, as {"seconds":1}"#,
-        Want::StepOrAbsent => "a whole number, or absent",
         Want::Text => "a text",
         Want::TextOrAbsent => "a text, or absent",
         Want::Wait => r#"a text, or an object as {"address":"null_resource.a"}"#,
+        Want::WholeOrAbsent => "a whole number, or absent",
     }
 }

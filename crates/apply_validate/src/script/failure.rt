@@ -1,0 +1,63 @@
+//! What is found in why a step fails.
+
+ghost use Rattle.apply_validate.specs.ScriptFindings.{in_failure};
+
+use crate::findings::list::Findings;
+use crate::findings::name::Name;
+use crate::findings::want::Want;
+use crate::findings::what::What;
+use crate::walks::known::Known;
+use crate::walks::members::faults;
+use crate::walks::unread::walk_unread;
+use crate::walks::walk::Walk;
+use serde_json::Value;
+use std::alloc::{AllocError, Global};
+
+const TABLE: [Known; 5] = [
+    Known {
+        name: Name::Summary,
+        want: Want::Text,
+    },
+    Known {
+        name: Name::Detail,
+        want: Want::TextOrAbsent,
+    },
+    Known {
+        name: Name::Severity,
+        want: Want::Severity,
+    },
+    Known {
+        name: Name::Range,
+        want: Want::ObjectOrAbsent,
+    },
+    Known {
+        name: Name::Snippet,
+        want: Want::ObjectOrAbsent,
+    },
+];
+
+pub(crate) const NAMES: [Name; 5] = [
+    Name::Summary,
+    Name::Detail,
+    Name::Severity,
+    Name::Range,
+    Name::Snippet,
+];
+
+/// Why a step fails: a diagnostic that also tells how severe it is.
+#[derive(Clone, Copy)]
+pub struct Failure;
+
+impl Walk for Failure {
+    ghost found = { λ _ _ d. in_failure d };
+
+    #[tactic(auto, unfolding(crate::specs::ScriptFindings::in_failure))]
+    fn walk(&self, alloc: Global, _number: usize, value: &Value) -> Result<Findings, AllocError> {
+        if !Want::Diagnostic.suits(value) {
+            return Findings::here(alloc, What::IsNot(Want::Diagnostic));
+        }
+        let wrong = faults(alloc, value, &TABLE)?;
+        let all = wrong.then(walk_unread(alloc, value, &NAMES)?)?;
+        Ok(all)
+    }
+}
