@@ -5,6 +5,6 @@ mod command;
 mod texts;
 
 pub use command::arguments::read_words;
-pub use command::entry_points::follow;
+pub use command::entry_points::{follow, validate};
 pub use command::settings::Settings;
 pub use command::telling::found_text;

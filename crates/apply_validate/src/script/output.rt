@@ -99,11 +99,7 @@ fn walk_output(
 }
 
 /// What is found in the items of a provisioner of so many seconds.
-fn walk_items(
-    alloc: Global,
-    seconds: Option<u64>,
-    items: &[Value],
-) -> Result<Findings, AllocError>
+fn walk_items(alloc: Global, seconds: Option<u64>, items: &[Value]) -> Result<Findings, AllocError>
     ensures { IfOk result (λ f. f ≡ told (outputs_behind seconds None 0 (list_of (items_view items.now)))) }
 {
     let mut all = Findings::none(alloc);

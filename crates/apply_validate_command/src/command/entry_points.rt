@@ -1,6 +1,8 @@
 //! The command `validate`, from its arguments to its exit status, over any files and streams.
 
-ghost use Rattle.std.specs.Prelude.{◌≤◌};
+ghost use Rattle.std.specs.Prelude.{◌≡◌, ◌≤◌, ◌⊎◌};
+ghost use Rattle.std.specs.Option.{option_copied};
+ghost use Rattle.apply_validate_command.specs.Statuses.{status_by, status_for};
 
 use crate::command::arguments::read_words;
 use crate::command::inputs::{InputFault, read_all, read_script_file};
@@ -34,7 +36,13 @@ pub fn follow<F: Files, R: Read, W: Write, E: Write>(
         Err(usage) => return answer_usage(&usage, out, faults),
     };
     match read_inputs(files, alloc, &settings, input) {
-        Ok((plan, script)) => validate(alloc, settings.lanes, &plan, script.as_ref(), out, faults),
+        Ok((plan, script)) => {
+            let script = match &script {
+                Some(bytes) => Some(bytes.as_slice()),
+                None => None,
+            };
+            validate(alloc, settings.lanes, &plan, script, out, faults)
+        }
         Err(fault) => refuse(faults, fault),
     }
 }
@@ -65,21 +73,19 @@ fn refuse<E: Write>(faults: &mut E, fault: InputFault) -> u8
     }
 }
 
-/// Says what is found, and answers the exit status.
-fn validate<W: Write, E: Write>(
+/// Says what is found in the bytes of a plan, and in those of a script for it, where one is given, and answers the exit status: 2
+/// where something is found for which a run refuses, 1 where only warnings are, 0 where nothing is; but 3 where memory was refused
+/// or `out` could not be written. `lanes` says that the run has `--parallelism`.
+pub fn validate<W: Write, E: Write>(
     alloc: Global,
     lanes: bool,
     plan: &[u8],
-    script: Option<&Vec<u8>>,
+    script: Option<&[u8]>,
     out: &mut W,
     faults: &mut E,
 ) -> u8
-    ensures { result ≤ 3 }
+    ensures { (result ≡ status_for lanes plan.now (option_copied script.entry)) ⊎ (result ≡ 3) }
 {
-    let script = match script {
-        Some(bytes) => Some(bytes.as_slice()),
-        None => None,
-    };
     let Ok(found) = findings_of(alloc, plan, script, lanes) else {
         return refuse_memory(faults);
     };
@@ -99,7 +105,7 @@ fn validate<W: Write, E: Write>(
 
 /// The exit status for what is found.
 fn status_of(found: &Found) -> u8
-    ensures { result ≤ 2 }
+    ensures { result ≡ status_by found.now.plan found.now.script }
 {
     if found.plan.refuses() || found.script.refuses() {
         REFUSED

@@ -120,7 +120,9 @@ fn what_text(alloc: Global, tree: &Value, finding: &Finding) -> Result<String, A
         }
         What::BehindTheEnd(seconds) => {
             let shown = shown_there(alloc, found)?;
-            format!(in alloc; "is {shown}, and has to be {seconds} at most, the seconds of its provisioner")
+            format!(in alloc;
+                "is {shown}, and has to be {seconds} at most, the seconds of its provisioner"
+            )
         }
         What::OutOfOrder(before) => {
             let shown = shown_there(alloc, found)?;
@@ -139,7 +141,8 @@ fn for_plan_text(refusal: ScriptError) -> &'static str {
         ScriptError::Duplicate(_) => "is about a change that an earlier entry is about",
         ScriptError::TooManySteps(_) => "has more steps than its change",
         ScriptError::NotACreate(_) => "has a provisioner at a step that takes none",
-        ScriptError::WarnsNotARead(_) => "has a failure that only warns at a step that is not a read",
+        ScriptError::WarnsNotARead(_) =>
+            "has a failure that only warns at a step that is not a read",
         ScriptError::TooManyWaits(_) => "goes beyond 1,000,000 waits",
         ScriptError::UnknownWait(_) => "waits for an object that the plan does not change",
         ScriptError::NoSuchStep(_) => "waits for a step that its change does not have",
