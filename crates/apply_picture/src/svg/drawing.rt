@@ -9,6 +9,7 @@ use crate::picture::Picture;
 use crate::svg::back::push_back;
 use crate::svg::front::{push_front, push_grid};
 use crate::svg::markup::Markup;
+use crate::svg::part::Part;
 use crate::svg::row::{begin_title, push_row};
 use crate::svg::scale::Scale;
 use crate::svg::sheet::{EDGE, ROW, WIDTH};
@@ -71,13 +72,17 @@ fn draw_head<W: Write>(
 
 /// Adds what stands before the title.
 fn push_opening(markup: &mut Markup, title: &ShownText, height: u64) -> Result<(), AllocError> {
-    markup.own("<svg xmlns=\"http://www.w3.org/2000/svg\"")?;
-    push_size(markup, height)?;
-    markup.own(" viewBox=\"0 0 ")?;
-    markup.number(WIDTH)?;
-    markup.own(" ")?;
-    markup.number(height)?;
-    markup.own("\" role=\"img\" aria-label=\"")?;
+    markup.add(&[
+        Part::Own("<svg xmlns=\"http://www.w3.org/2000/svg\" width=\""),
+        Part::Number(WIDTH),
+        Part::Own("\" height=\""),
+        Part::Number(height),
+        Part::Own("\" viewBox=\"0 0 "),
+        Part::Number(WIDTH),
+        Part::Own(" "),
+        Part::Number(height),
+        Part::Own("\" role=\"img\" aria-label=\""),
+    ])?;
     markup.text(title)?;
     markup.own("\">\n")
 }
@@ -98,20 +103,17 @@ fn push_style(markup: &mut Markup, height: u64) -> Result<(), AllocError> {
     for rules in STYLE {
         markup.own(rules)?;
     }
-    markup.own("</style>\n<defs><pattern id=\"stripes\" width=\"6\" height=\"6\" ")?;
-    markup.own("patternUnits=\"userSpaceOnUse\" patternTransform=\"rotate(45)\">")?;
-    markup.own("<path d=\"M0 0V6\" class=\"stripe\" stroke-width=\"6\"/></pattern></defs>\n<rect")?;
-    push_size(markup, height)?;
-    markup.own(" class=\"ground\"/>\n")
-}
-
-/// Adds the width and the height of the whole.
-fn push_size(markup: &mut Markup, height: u64) -> Result<(), AllocError> {
-    markup.own(" width=\"")?;
-    markup.number(WIDTH)?;
-    markup.own("\" height=\"")?;
-    markup.number(height)?;
-    markup.own("\"")
+    markup.add(&[
+        Part::Own("</style>\n<defs><pattern id=\"stripes\" width=\"6\" height=\"6\" "),
+        Part::Own("patternUnits=\"userSpaceOnUse\" patternTransform=\"rotate(45)\">"),
+        Part::Own(
+            "<path d=\"M0 0V6\" class=\"stripe\" stroke-width=\"6\"/></pattern></defs>\n<rect width=\"",
+        ),
+        Part::Number(WIDTH),
+        Part::Own("\" height=\""),
+        Part::Number(height),
+        Part::Own("\" class=\"ground\"/>\n"),
+    ])
 }
 
 /// Writes what stands behind the rows, between those heights, where there are any.
@@ -225,13 +227,15 @@ fn y_of(top: u64, row: u64) -> u64 {
 
 /// Adds what stands behind every second row.
 fn push_band(markup: &mut Markup, y: u64) -> Result<(), AllocError> {
-    markup.own("<rect x=\"")?;
-    markup.number(EDGE - 6)?;
-    markup.own("\" y=\"")?;
-    markup.number(y)?;
-    markup.own("\" width=\"")?;
-    markup.number(WIDTH - 2 * EDGE + 12)?;
-    markup.own("\" height=\"")?;
-    markup.number(ROW)?;
-    markup.own("\" class=\"band\"/>\n")
+    markup.add(&[
+        Part::Own("<rect x=\""),
+        Part::Number(EDGE - 6),
+        Part::Own("\" y=\""),
+        Part::Number(y),
+        Part::Own("\" width=\""),
+        Part::Number(WIDTH - 2 * EDGE + 12),
+        Part::Own("\" height=\""),
+        Part::Number(ROW),
+        Part::Own("\" class=\"band\"/>\n"),
+    ])
 }
