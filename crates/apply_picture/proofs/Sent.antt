@@ -92,6 +92,7 @@ page_written style a b lines had is fine sent = record {
 pub head_page_written : (style : Style) (picture : Picture) (a b : Option (List ℕ)) (lines : List (List Piece)) (had : Style) → had ≡ style
     → All (IsLine had.width) lines → Appends a b (text_bytes had.has_colour lines) → IsHeadedBy style.width (heading_characters picture) lines
     → HeadLinesWritten style.width style.has_colour picture a b
+unfolding page_written
 head_page_written style picture a b lines had is fine sent headed =
     let page = page_written style a b lines had is fine sent in
     record { lines = lines; headed = headed; fine = page.fine; written = page.written }
@@ -217,10 +218,11 @@ group_if None title rest told = tt
 group_if (Some step) title rest told =
     record { rest = rest; begins = flat_map-append part_bytes title rest ∙ ap (λ bs. bs ++ flat_map part_bytes rest) told }
 
-pub group_sent : (a b c d e : Option (List ℕ)) (G T R E : List ℕ) → Appends a b G → Appends b c T → Appends c d R → Appends d e E
-    → Appends a e (G ++ T ++ R ++ E)
-group_sent a b c d e G T R E begin title rest end =
-    Appends-trans a d e _ _ (Appends-trans a c d _ _ (Appends-trans a b c _ _ begin title) rest) end
+pub group_sent : (a b c d e : Option (List ℕ)) (title rest : List Part) → Appends a b (codes "<g>") → Appends b c (flat_map part_bytes title)
+    → Appends c d (flat_map part_bytes rest) → Appends d e (codes "</g>\n")
+    → Appends a e (codes "<g>" ++ flat_map part_bytes title ++ flat_map part_bytes rest ++ codes "</g>\n")
+group_sent a b c d e title rest begin_sent title_sent rest_sent end_sent =
+    Appends-trans a d e _ _ (Appends-trans a c d _ _ (Appends-trans a b c _ _ begin_sent title_sent) rest_sent) end_sent
 
 pub group_written : (steps : List ToldStep) (place : ℕ) (a b : Option (List ℕ)) (old title rest : List Part) → old ≡ []
     → IfSome (slice_get steps place) (λ step. flat_map part_bytes title ≡ flat_map part_bytes old ++ title_bytes step)

@@ -36,7 +36,7 @@ impl Markup {
         Ok(())
     }
 
-    /// Adds parts: a call for each of them would have to be proved to go well or not.
+    /// Adds parts. One call for many: each call that can fail makes its caller's proof longer.
     pub fn add(&mut self, parts: &[Part]) -> Result<(), AllocError> {
         self.parts.extend_from_slice(parts)
     }
