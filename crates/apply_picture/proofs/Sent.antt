@@ -9,8 +9,8 @@ use Rattle.std.proofs.lemmas.List.{map-append, take_more}
 use Rattle.std.proofs.lemmas.List.Elements.{All-append}
 use Rattle.apply_view.specs.Steps.{ToldStep}
 use Rattle.apply_picture.specs.Heading.{heading_words}
-use Rattle.apply_picture.specs.Lines.{IsHeadedBy, IsLine, IsRowAt, LinesWritten, RowsWritten, TextWritten, heading_characters, line_bytes, text_bytes}
-use Rattle.apply_picture.specs.Markup.{GroupWritten, GroupsWritten, HeadWritten, IsGroupAt, IsGroupOf, MarkupWritten, SvgWritten, escaped, group_bytes, heading_bytes, part_bytes, title_bytes}
+use Rattle.apply_picture.specs.Lines.{HeadLinesWritten, IsHeadedBy, IsLine, IsRowAt, LinesWritten, RowsWritten, TextWritten, heading_characters, line_bytes, text_bytes}
+use Rattle.apply_picture.specs.Markup.{GroupWritten, GroupsWritten, HeadWritten, IsGroupAt, IsGroupOf, MarkupWritten, SvgWritten, TitleWritten, escaped, group_bytes, heading_bytes, part_bytes, title_bytes}
 use Rattle.apply_picture.specs.Shown.{shown_characters}
 use Rattle.apply_picture.specs.declared.picture.Picture.{Picture}
 use Rattle.apply_picture.specs.declared.svg.part.Part.{Part}
@@ -80,31 +80,39 @@ row_more width colour steps places i a b c row below before of_step fine more =
           (Appends-trans a b c _ _ before.written more);
     }
 
--- a head, the rows, and a tail, all of one style
-pub text_written : (style : Style) (picture : Picture) (a b c d : Option (List ℕ)) (head tail : List (List Piece)) (first last : Style)
-    → first ≡ style → last ≡ style → All (IsLine first.width) head → Appends a b (text_bytes first.has_colour head)
-    → IsHeadedBy style.width (heading_characters picture) head
-    → RowsWritten style.width style.has_colour picture.told.now.steps picture.rows.places.items b c
-    → All (IsLine last.width) tail → Appends c d (text_bytes last.has_colour tail)
-    → TextWritten style.width style.has_colour picture a d
-text_written style picture a b c d head tail first last is_first is_last head_fine head_sent headed rows tail_fine tail_sent =
-    let colour = style.has_colour in
-    let fine_head = subst (λ (s : Style). All (IsLine s.width) head) is_first head_fine in
-    let fine_tail = subst (λ (s : Style). All (IsLine s.width) tail) is_last tail_fine in
-    let sent_head = subst (λ (s : Style). Appends a b (text_bytes s.has_colour head)) is_first head_sent in
-    let sent_tail = subst (λ (s : Style). Appends c d (text_bytes s.has_colour tail)) is_last tail_sent in
-    record {
-      head = head;
-      rows = rows.rows;
-      tail = tail;
-      headed = headed;
-      each = rows.each;
-      fine = All-append (IsLine style.width) (head ++ rows.rows) tail (All-append (IsLine style.width) head rows.rows fine_head rows.fine) fine_tail;
-      written = subst (Appends a d)
-          (sym (flat_map-append (line_bytes colour) (head ++ rows.rows) tail
-          ∙ ap (λ bs. bs ++ text_bytes colour tail) (flat_map-append (line_bytes colour) head rows.rows)))
-          (Appends-trans a c d _ _ (Appends-trans a b c _ _ sent_head rows.written) sent_tail);
-    }
+-- lines of a page of that style
+pub page_written : (style : Style) (a b : Option (List ℕ)) (lines : List (List Piece)) (had : Style) → had ≡ style → All (IsLine had.width) lines
+    → Appends a b (text_bytes had.has_colour lines) → LinesWritten style.width style.has_colour a b
+page_written style a b lines had is fine sent = record {
+  lines = lines;
+  fine = subst (λ (s : Style). All (IsLine s.width) lines) is fine;
+  written = subst (λ (s : Style). Appends a b (text_bytes s.has_colour lines)) is sent;
+}
+
+pub head_page_written : (style : Style) (picture : Picture) (a b : Option (List ℕ)) (lines : List (List Piece)) (had : Style) → had ≡ style
+    → All (IsLine had.width) lines → Appends a b (text_bytes had.has_colour lines) → IsHeadedBy style.width (heading_characters picture) lines
+    → HeadLinesWritten style.width style.has_colour picture a b
+unfolding page_written
+head_page_written style picture a b lines had is fine sent headed =
+    let page = page_written style a b lines had is fine sent in
+    record { lines = lines; headed = headed; fine = page.fine; written = page.written }
+
+-- a head, the rows, and a tail
+pub text_written : (width : ℕ) (colour : Bool) (picture : Picture) (a b c d e : Option (List ℕ)) → HeadLinesWritten width colour picture a b
+    → RowsWritten width colour picture.told.now.steps picture.rows.places.items b c → LinesWritten width colour c d → Keeps d e
+    → TextWritten width colour picture a e
+text_written width colour picture a b c d e head rows tail kept = record {
+  head = head.lines;
+  rows = rows.rows;
+  tail = tail.lines;
+  headed = head.headed;
+  each = rows.each;
+  fine = All-append (IsLine width) (head.lines ++ rows.rows) tail.lines (All-append (IsLine width) head.lines rows.rows head.fine rows.fine) tail.fine;
+  written = subst (Appends a e)
+      (sym (flat_map-append (line_bytes colour) (head.lines ++ rows.rows) tail.lines
+      ∙ ap (λ bs. bs ++ text_bytes colour tail.lines) (flat_map-append (line_bytes colour) head.lines rows.rows)))
+      (Appends-kept a d e _ (Appends-trans a c d _ _ (Appends-trans a b c _ _ head.written rows.written) tail.written) kept);
+}
 
 pub as_lines : (width : ℕ) (colour : Bool) (picture : Picture) (a b : Option (List ℕ)) → TextWritten width colour picture a b
     → LinesWritten width colour a b
@@ -166,33 +174,40 @@ svg_written picture a b c d e f g others tail head others_sent grid groups tail_
           (Appends-trans a b d _ _ head.written front.written) groups.written) tail_sent) end) kept);
     }
 
--- what was done stands between two tags, behind what came before
-pub head_written : (picture : Picture) (a b c d : Option (List ℕ)) (front old title style : List Part) (what : List ℕ) → old ≡ []
-    → what ≡ shown_characters (heading_words picture.moments picture.told.now picture.numbers)
+pub title_written : (what : List ℕ) (a b : Option (List ℕ)) (old title : List Part) → old ≡ []
     → flat_map part_bytes title ≡ flat_map part_bytes old ++ codes "<title>" ++ flat_map escaped what ++ codes "</title>"
-    → Appends a b (flat_map part_bytes front) → Appends b c (flat_map part_bytes title) → Appends c d (flat_map part_bytes style)
-    → HeadWritten picture a d
-head_written picture a b c d front old title style what none is told front_sent title_sent style_sent =
-    let F = flat_map part_bytes front in
-    let S = flat_map part_bytes style in
-    let is_title : flat_map part_bytes title ≡ codes "<title>" ++ heading_bytes picture ++ codes "</title>" =
-    told ∙ ap (λ ps. flat_map part_bytes ps ++ codes "<title>" ++ flat_map escaped what ++ codes "</title>") none
-    ∙ ap (λ cs. codes "<title>" ++ flat_map escaped cs ++ codes "</title>") is in
+    → Appends a b (flat_map part_bytes title) → TitleWritten what a b
+title_written what a b old title none told sent = record {
+  parts = title;
+  is = told ∙ ap (λ ps. flat_map part_bytes ps ++ codes "<title>" ++ flat_map escaped what ++ codes "</title>") none;
+  written = sent;
+}
+
+-- what was done stands between two tags, behind what came before
+pub head_written : (picture : Picture) (a b c d : Option (List ℕ)) (what : List ℕ)
+    → what ≡ shown_characters (heading_words picture.moments picture.told.now picture.numbers)
+    → MarkupWritten a b → TitleWritten what b c → MarkupWritten c d → HeadWritten picture a d
+head_written picture a b c d what is opening title style =
+    let F = flat_map part_bytes opening.parts in
+    let S = flat_map part_bytes style.parts in
+    let is_title : flat_map part_bytes title.parts ≡ codes "<title>" ++ heading_bytes picture ++ codes "</title>" =
+    title.is ∙ ap (λ cs. codes "<title>" ++ flat_map escaped cs ++ codes "</title>") is in
     let joined : F ++ (codes "<title>" ++ heading_bytes picture ++ codes "</title>")
     ≡ F ++ codes "<title>" ++ heading_bytes picture ++ codes "</title>" =
     sym (append_assoc F (codes "<title>" ++ heading_bytes picture) (codes "</title>"))
     ∙ ap (λ bs. bs ++ codes "</title>") (sym (append_assoc F (codes "<title>") (heading_bytes picture))) in
     record {
-      parts = front ++ title ++ style;
+      parts = opening.parts ++ title.parts ++ style.parts;
       titled = record {
-        front = front;
-        back = style;
-        is = flat_map-append part_bytes (front ++ title) style
-            ∙ ap (λ bs. bs ++ S) (flat_map-append part_bytes front title ∙ ap (λ bs. F ++ bs) is_title ∙ joined);
+        front = opening.parts;
+        back = style.parts;
+        is = flat_map-append part_bytes (opening.parts ++ title.parts) style.parts
+            ∙ ap (λ bs. bs ++ S) (flat_map-append part_bytes opening.parts title.parts ∙ ap (λ bs. F ++ bs) is_title ∙ joined);
       };
       written = subst (Appends a d)
-          (sym (flat_map-append part_bytes (front ++ title) style ∙ ap (λ bs. bs ++ S) (flat_map-append part_bytes front title)))
-          (Appends-trans a c d _ _ (Appends-trans a b c _ _ front_sent title_sent) style_sent);
+          (sym (flat_map-append part_bytes (opening.parts ++ title.parts) style.parts
+          ∙ ap (λ bs. bs ++ S) (flat_map-append part_bytes opening.parts title.parts)))
+          (Appends-trans a c d _ _ (Appends-trans a b c _ _ opening.written title.written) style.written);
     }
 
 -- ---- the row of a step
@@ -203,16 +218,21 @@ group_if None title rest told = tt
 group_if (Some step) title rest told =
     record { rest = rest; begins = flat_map-append part_bytes title rest ∙ ap (λ bs. bs ++ flat_map part_bytes rest) told }
 
-pub group_written : (steps : List ToldStep) (place : ℕ) (a b c d e : Option (List ℕ)) (old title rest : List Part) → old ≡ []
+pub group_sent : (a b c d e : Option (List ℕ)) (title rest : List Part) → Appends a b (codes "<g>") → Appends b c (flat_map part_bytes title)
+    → Appends c d (flat_map part_bytes rest) → Appends d e (codes "</g>\n")
+    → Appends a e (codes "<g>" ++ flat_map part_bytes title ++ flat_map part_bytes rest ++ codes "</g>\n")
+group_sent a b c d e title rest begin_sent title_sent rest_sent end_sent =
+    Appends-trans a d e _ _ (Appends-trans a c d _ _ (Appends-trans a b c _ _ begin_sent title_sent) rest_sent) end_sent
+
+pub group_written : (steps : List ToldStep) (place : ℕ) (a b : Option (List ℕ)) (old title rest : List Part) → old ≡ []
     → IfSome (slice_get steps place) (λ step. flat_map part_bytes title ≡ flat_map part_bytes old ++ title_bytes step)
-    → Appends a b (codes "<g>") → Appends b c (flat_map part_bytes title) → Appends c d (flat_map part_bytes rest) → Appends d e (codes "</g>\n")
-    → GroupWritten steps place a e
-group_written steps place a b c d e old title rest none told begin_sent title_sent rest_sent end_sent = record {
+    → Appends a b (codes "<g>" ++ flat_map part_bytes title ++ flat_map part_bytes rest ++ codes "</g>\n") → GroupWritten steps place a b
+group_written steps place a b old title rest none told sent = record {
   group = title ++ rest;
   is = group_if (slice_get steps place) title rest
       (subst (λ (ps : List Part). IfSome (slice_get steps place) (λ step. flat_map part_bytes title ≡ flat_map part_bytes ps ++ title_bytes step)) none told);
-  written = subst (λ bs. Appends a e (bs ++ codes "</g>\n"))
+  written = subst (λ bs. Appends a b (bs ++ codes "</g>\n"))
       (append_assoc (codes "<g>") (flat_map part_bytes title) (flat_map part_bytes rest)
       ∙ ap (λ bs. codes "<g>" ++ bs) (sym (flat_map-append part_bytes title rest)))
-      (Appends-trans a d e _ _ (Appends-trans a c d _ _ (Appends-trans a b c _ _ begin_sent title_sent) rest_sent) end_sent);
+      sent;
 }

@@ -127,6 +127,13 @@ abbrev pub IsHeadedBy : (width : ℕ) → (heading : List ℕ) → (lines : List
 IsHeadedBy width heading lines = columns_of heading ≤ width
     → (first : List Piece) × (rest : List (List Piece)) × IsTextLine width 0 (Some paint.Bold) heading first × (lines ≡ first ∷ rest)
 
+-- lines that begin so were written, and nothing else
+pub record HeadLinesWritten (width : ℕ) (has_colour : Bool) (picture : Picture) (before after : Option (List ℕ)) : Type 0 where
+  pub lines : List (List Piece)
+  pub headed : IsHeadedBy width (heading_characters picture) lines
+  pub fine : All (IsLine width) lines
+  pub written : Appends before after (text_bytes has_colour lines)
+
 -- ---- rows
 
 -- red where it failed, else by what it does

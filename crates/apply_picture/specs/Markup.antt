@@ -81,6 +81,12 @@ pub record IsTitledBy (picture : Picture) (parts : List Part) : Type 0 where
   pub is : flat_map part_bytes parts
       ≡ flat_map part_bytes front ++ codes "<title>" ++ heading_bytes picture ++ codes "</title>" ++ flat_map part_bytes back
 
+-- the title of the whole, of those characters
+pub record TitleWritten (characters : List ℕ) (before after : Option (List ℕ)) : Type 0 where
+  pub parts : List Part
+  pub is : flat_map part_bytes parts ≡ codes "<title>" ++ flat_map escaped characters ++ codes "</title>"
+  pub written : Appends before after (flat_map part_bytes parts)
+
 pub record HeadWritten (picture : Picture) (before after : Option (List ℕ)) : Type 0 where
   pub parts : List Part
   pub titled : IsTitledBy picture parts

@@ -6,7 +6,7 @@ ghost use Rattle.apply_picture.specs.Kinds.{kind_of, kind_paint};
 use crate::text::paint::Paint;
 
 /// What a step does, by its action.
-#[derive(Clone, Copy, Debug, PartialEq, Eq)]
+#[derive(Clone, Copy, PartialEq)]
 pub enum Kind {
     Create,
     Update,
@@ -17,16 +17,6 @@ pub enum Kind {
 }
 
 impl Kind {
-    /// All kinds, in the order in which they are explained.
-    pub const ALL: [Kind; 6] = [
-        Kind::Create,
-        Kind::Update,
-        Kind::Delete,
-        Kind::Read,
-        Kind::Refresh,
-        Kind::Other,
-    ];
-
     /// That of an action.
     pub fn of(action: &str) -> Kind
         ensures { result ≡ kind_of action.now }

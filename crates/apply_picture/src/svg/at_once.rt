@@ -2,9 +2,9 @@
 
 use crate::picture::Picture;
 use crate::svg::markup::Markup;
+use crate::svg::part::Part;
 use crate::svg::scale::Scale;
 use crate::words::count::Count;
-use crate::words::shown_text::ShownText;
 use apply_view::levels_of;
 use std::alloc::{AllocError, Global};
 
@@ -20,24 +20,39 @@ pub fn push_at_once(
     y: u64,
 ) -> Result<u64, AllocError> {
     let bottom = y.saturating_add(HIGH);
-    let peak = Count(picture.numbers.peak as u64);
-    let text = format!(in alloc; "at once, at most {peak}")?;
-    let text = ShownText::of(alloc, text.as_str().as_bytes())?;
-    markup.line(
+    push_peak(
+        alloc,
+        markup,
+        picture,
         scale.left.saturating_sub(80),
         bottom,
-        "small soft end",
-        &text,
     )?;
-    markup.own("<path d=\"M")?;
-    markup.tenths(scale.left)?;
-    markup.own(" ")?;
-    markup.number(bottom)?;
+    markup.add(&[
+        Part::Own("<path d=\"M"),
+        Part::Tenths(scale.left),
+        Part::Own(" "),
+        Part::Number(bottom),
+    ])?;
     push_levels(alloc, markup, picture, scale, bottom)?;
-    markup.own("V")?;
-    markup.number(bottom)?;
-    markup.own("Z\" class=\"level\"/>\n")?;
+    markup.add(&[
+        Part::Own("V"),
+        Part::Number(bottom),
+        Part::Own("Z\" class=\"level\"/>\n"),
+    ])?;
     Ok(HIGH + 4)
+}
+
+/// Adds how many there were at most.
+fn push_peak(
+    alloc: Global,
+    markup: &mut Markup,
+    picture: &Picture<'_>,
+    x: u64,
+    y: u64,
+) -> Result<(), AllocError> {
+    let peak = Count(picture.numbers.peak as u64);
+    let text = format!(in alloc; "at once, at most {peak}")?;
+    markup.line_of(alloc, x, y, "small soft end", text.as_str())
 }
 
 /// Adds the line above the area.
@@ -53,20 +68,22 @@ fn push_levels(
     let mut before = 0;
     for (cell, level) in levels.iter().enumerate() {
         if *level != before {
-            push_end(markup, scale, cell as u64)?;
-            markup.own("V")?;
             let high = height_of(*level, picture.numbers.peak);
-            markup.tenths(bottom.saturating_mul(10).saturating_sub(high))?;
+            markup.add(&[
+                Part::Own("H"),
+                Part::Tenths(end_of(scale, cell as u64)),
+                Part::Own("V"),
+                Part::Tenths(bottom.saturating_mul(10).saturating_sub(high)),
+            ])?;
             before = *level;
         }
     }
-    push_end(markup, scale, cells as u64)
+    markup.add(&[Part::Own("H"), Part::Tenths(end_of(scale, cells as u64))])
 }
 
-/// Adds the line to where a pixel begins.
-fn push_end(markup: &mut Markup, scale: Scale, cell: u64) -> Result<(), AllocError> {
-    markup.own("H")?;
-    markup.tenths(scale.left.saturating_add(cell.saturating_mul(10)))
+/// Where a pixel begins, to which the line goes.
+fn end_of(scale: Scale, cell: u64) -> u64 {
+    scale.left.saturating_add(cell.saturating_mul(10))
 }
 
 /// How high a level is, in tenths of a pixel.

@@ -1,14 +1,16 @@
 //! The whole SVG.
 
 ghost use Rattle.std.specs.Prelude.{◌≡◌, ◌++◌, IfSome, OnOk, codes};
+ghost use Rattle.std.specs.Io.KnownBytes.{Appends};
 ghost use Rattle.std.specs.List.{flat_map, slice_get};
-ghost use Rattle.apply_picture.specs.Markup.{GroupWritten, GroupsWritten, HeadWritten, MarkupWritten, SomeSvgWritten, SvgWritten, escaped, part_bytes, title_bytes};
+ghost use Rattle.apply_picture.specs.Markup.{GroupWritten, GroupsWritten, HeadWritten, MarkupWritten, SomeSvgWritten, SvgWritten, TitleWritten, escaped, part_bytes, title_bytes};
 
 use crate::draw_fault::DrawFault;
 use crate::picture::Picture;
 use crate::svg::back::push_back;
 use crate::svg::front::{push_front, push_grid};
 use crate::svg::markup::Markup;
+use crate::svg::part::Part;
 use crate::svg::row::{begin_title, push_row};
 use crate::svg::scale::Scale;
 use crate::svg::sheet::{EDGE, ROW, WIDTH};
@@ -37,14 +39,42 @@ pub fn draw_svg<W: Write>(
     let bottom = top.saturating_add(count.saturating_mul(ROW));
     let mut back = Markup::new(alloc);
     let height = push_back(alloc, &mut back, picture, scale, bottom)?;
-    draw_head(alloc, picture, height, out)?;
+    let heights = Heights {
+        top,
+        bottom,
+        height,
+    };
+    draw_parts(alloc, picture, scale, heights, &mut front, &mut back, out)
+}
+
+/// Writes all of it, with what stands above the rows and below them.
+fn draw_parts<W: Write>(
+    alloc: Global,
+    picture: &Picture<'_>,
+    scale: Scale,
+    heights: Heights,
+    front: &mut Markup,
+    back: &mut Markup,
+    out: &mut W,
+) -> Result<(), DrawFault>
+    ensures { OnOk result (SvgWritten picture.now (W.contents out.old) (W.contents out.new)) }
+{
+    draw_head(alloc, picture, heights.height, out)?;
     front.send(alloc, out)?;
-    draw_grid(alloc, picture, scale, top, bottom, out)?;
-    draw_rows(alloc, picture, scale, top, out)?;
+    draw_grid(alloc, picture, scale, heights.top, heights.bottom, out)?;
+    draw_rows(alloc, picture, scale, heights.top, out)?;
     back.send(alloc, out)?;
     write_text("</svg>\n", out)?;
     flush(out)?;
     Ok(())
+}
+
+/// Where the rows begin and end, and how high the whole is.
+#[derive(Clone, Copy)]
+struct Heights {
+    top: u64,
+    bottom: u64,
+    height: u64,
 }
 
 /// Writes what an SVG begins with, of that height.
@@ -57,27 +87,60 @@ fn draw_head<W: Write>(
     ensures { OnOk result (HeadWritten picture.now (W.contents out.old) (W.contents out.new)) }
 {
     let what = heading(alloc, picture)?;
-    let mut front = Markup::new(alloc);
-    push_opening(&mut front, &what, height)?;
-    front.send(alloc, out)?;
-    let mut title = Markup::new(alloc);
-    push_title(&mut title, &what)?;
-    title.send(alloc, out)?;
-    let mut style = Markup::new(alloc);
-    push_style(&mut style, height)?;
-    style.send(alloc, out)?;
+    draw_opening(alloc, &what, height, out)?;
+    draw_title(alloc, &what, out)?;
+    draw_style(alloc, height, out)?;
+    Ok(())
+}
+
+/// Writes what stands before the title.
+fn draw_opening<W: Write>(
+    alloc: Global,
+    title: &ShownText,
+    height: u64,
+    out: &mut W,
+) -> Result<(), DrawFault>
+    ensures { OnOk result (MarkupWritten (W.contents out.old) (W.contents out.new)) }
+{
+    let mut markup = Markup::new(alloc);
+    push_opening(&mut markup, title, height)?;
+    markup.send(alloc, out)?;
+    Ok(())
+}
+
+/// Writes the title of the whole.
+fn draw_title<W: Write>(alloc: Global, title: &ShownText, out: &mut W) -> Result<(), DrawFault>
+    ensures { OnOk result (TitleWritten title.now.characters.items (W.contents out.old) (W.contents out.new)) }
+{
+    let mut markup = Markup::new(alloc);
+    push_title(&mut markup, title)?;
+    markup.send(alloc, out)?;
+    Ok(())
+}
+
+/// Writes how it looks.
+fn draw_style<W: Write>(alloc: Global, height: u64, out: &mut W) -> Result<(), DrawFault>
+    ensures { OnOk result (MarkupWritten (W.contents out.old) (W.contents out.new)) }
+{
+    let mut markup = Markup::new(alloc);
+    push_style(&mut markup, height)?;
+    markup.send(alloc, out)?;
     Ok(())
 }
 
 /// Adds what stands before the title.
 fn push_opening(markup: &mut Markup, title: &ShownText, height: u64) -> Result<(), AllocError> {
-    markup.own("<svg xmlns=\"http://www.w3.org/2000/svg\"")?;
-    push_size(markup, height)?;
-    markup.own(" viewBox=\"0 0 ")?;
-    markup.number(WIDTH)?;
-    markup.own(" ")?;
-    markup.number(height)?;
-    markup.own("\" role=\"img\" aria-label=\"")?;
+    markup.add(&[
+        Part::Own("<svg xmlns=\"http://www.w3.org/2000/svg\" width=\""),
+        Part::Number(WIDTH),
+        Part::Own("\" height=\""),
+        Part::Number(height),
+        Part::Own("\" viewBox=\"0 0 "),
+        Part::Number(WIDTH),
+        Part::Own(" "),
+        Part::Number(height),
+        Part::Own("\" role=\"img\" aria-label=\""),
+    ])?;
     markup.text(title)?;
     markup.own("\">\n")
 }
@@ -98,20 +161,17 @@ fn push_style(markup: &mut Markup, height: u64) -> Result<(), AllocError> {
     for rules in STYLE {
         markup.own(rules)?;
     }
-    markup.own("</style>\n<defs><pattern id=\"stripes\" width=\"6\" height=\"6\" ")?;
-    markup.own("patternUnits=\"userSpaceOnUse\" patternTransform=\"rotate(45)\">")?;
-    markup.own("<path d=\"M0 0V6\" class=\"stripe\" stroke-width=\"6\"/></pattern></defs>\n<rect")?;
-    push_size(markup, height)?;
-    markup.own(" class=\"ground\"/>\n")
-}
-
-/// Adds the width and the height of the whole.
-fn push_size(markup: &mut Markup, height: u64) -> Result<(), AllocError> {
-    markup.own(" width=\"")?;
-    markup.number(WIDTH)?;
-    markup.own("\" height=\"")?;
-    markup.number(height)?;
-    markup.own("\"")
+    markup.add(&[
+        Part::Own("</style>\n<defs><pattern id=\"stripes\" width=\"6\" height=\"6\" "),
+        Part::Own("patternUnits=\"userSpaceOnUse\" patternTransform=\"rotate(45)\">"),
+        Part::Own(
+            "<path d=\"M0 0V6\" class=\"stripe\" stroke-width=\"6\"/></pattern></defs>\n<rect width=\"",
+        ),
+        Part::Number(WIDTH),
+        Part::Own("\" height=\""),
+        Part::Number(height),
+        Part::Own("\" class=\"ground\"/>\n"),
+    ])
 }
 
 /// Writes what stands behind the rows, between those heights, where there are any.
@@ -168,6 +228,20 @@ fn draw_row<W: Write>(
     begin_row(alloc, &mut title, picture, place)?;
     let mut rest = Markup::new(alloc);
     push_step(alloc, &mut rest, picture, scale, place, y)?;
+    draw_group(alloc, &mut title, &mut rest, out)?;
+    Ok(())
+}
+
+/// Writes a group with a title and what comes behind that.
+fn draw_group<W: Write>(
+    alloc: Global,
+    title: &mut Markup,
+    rest: &mut Markup,
+    out: &mut W,
+) -> Result<(), DrawFault>
+    ensures { OnOk result (Appends (W.contents out.old) (W.contents out.new)
+        (codes "<g>" ++ flat_map part_bytes title.old.parts.items ++ flat_map part_bytes rest.old.parts.items ++ codes "</g>\n")) }
+{
     write_text("<g>", out)?;
     title.send(alloc, out)?;
     rest.send(alloc, out)?;
@@ -225,13 +299,15 @@ fn y_of(top: u64, row: u64) -> u64 {
 
 /// Adds what stands behind every second row.
 fn push_band(markup: &mut Markup, y: u64) -> Result<(), AllocError> {
-    markup.own("<rect x=\"")?;
-    markup.number(EDGE - 6)?;
-    markup.own("\" y=\"")?;
-    markup.number(y)?;
-    markup.own("\" width=\"")?;
-    markup.number(WIDTH - 2 * EDGE + 12)?;
-    markup.own("\" height=\"")?;
-    markup.number(ROW)?;
-    markup.own("\" class=\"band\"/>\n")
+    markup.add(&[
+        Part::Own("<rect x=\""),
+        Part::Number(EDGE - 6),
+        Part::Own("\" y=\""),
+        Part::Number(y),
+        Part::Own("\" width=\""),
+        Part::Number(WIDTH - 2 * EDGE + 12),
+        Part::Own("\" height=\""),
+        Part::Number(ROW),
+        Part::Own("\" class=\"band\"/>\n"),
+    ])
 }

@@ -4,11 +4,11 @@ use crate::picture::Picture;
 use crate::svg::at_once::push_at_once;
 use crate::svg::legend::push_legend;
 use crate::svg::markup::Markup;
+use crate::svg::part::Part;
 use crate::svg::scale::Scale;
 use crate::svg::sheet::EDGE;
 use crate::telling::heading::heading;
 use crate::telling::overlap::overlap;
-use crate::words::shown_text::ShownText;
 use crate::words::tick::Tick;
 use std::alloc::{AllocError, Global};
 
@@ -19,14 +19,7 @@ pub fn push_front(
     picture: &Picture<'_>,
     scale: Scale,
 ) -> Result<u64, AllocError> {
-    let mut y = EDGE;
-    let what = heading(alloc, picture)?;
-    markup.line(EDGE * 10, y + 16, "head ink", &what)?;
-    y += 24;
-    if let Some(how) = overlap(alloc, picture)? {
-        markup.line(EDGE * 10, y + 13, "sub soft", &how)?;
-        y += 20;
-    }
+    let mut y = push_heading(alloc, markup, picture)?;
     y = y
         .saturating_add(push_legend(alloc, markup, picture, y)?)
         .saturating_add(6);
@@ -38,6 +31,20 @@ pub fn push_front(
     }
     push_ticks(alloc, markup, scale, y.saturating_add(12))?;
     Ok(y.saturating_add(18))
+}
+
+/// Adds what was done, and what ran beside what; answers how far down that goes.
+fn push_heading(
+    alloc: Global,
+    markup: &mut Markup,
+    picture: &Picture<'_>,
+) -> Result<u64, AllocError> {
+    markup.line(EDGE * 10, EDGE + 16, "head ink", &heading(alloc, picture)?)?;
+    let Some(how) = overlap(alloc, picture)? else {
+        return Ok(EDGE + 24);
+    };
+    markup.line(EDGE * 10, EDGE + 37, "sub soft", &how)?;
+    Ok(EDGE + 44)
 }
 
 /// Adds the texts of the axis at that height.
@@ -53,13 +60,12 @@ pub fn push_ticks(
             milliseconds: offset / 1_000,
         };
         let text = format!(in alloc; "{tick}")?;
-        let text = ShownText::of(alloc, text.as_str().as_bytes())?;
         let class = if count == 0 {
             "small soft"
         } else {
             "small soft mid"
         };
-        markup.line(scale.x_of(offset), y, class, &text)?;
+        markup.line_of(alloc, scale.x_of(offset), y, class, text.as_str())?;
     }
     Ok(())
 }
@@ -73,12 +79,14 @@ pub fn push_grid(
 ) -> Result<(), AllocError> {
     markup.own("<path d=\"")?;
     for count in 0..scale.ticks() {
-        markup.own("M")?;
-        markup.tenths(scale.x_of(scale.step.saturating_mul(count)))?;
-        markup.own(" ")?;
-        markup.number(top)?;
-        markup.own("V")?;
-        markup.number(bottom)?;
+        markup.add(&[
+            Part::Own("M"),
+            Part::Tenths(scale.x_of(scale.step.saturating_mul(count))),
+            Part::Own(" "),
+            Part::Number(top),
+            Part::Own("V"),
+            Part::Number(bottom),
+        ])?;
     }
     markup.own("\" class=\"grid\"/>\n")
 }

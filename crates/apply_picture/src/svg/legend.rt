@@ -3,12 +3,13 @@
 use crate::kind::Kind;
 use crate::picture::Picture;
 use crate::svg::markup::Markup;
+use crate::svg::part::Part;
 use crate::svg::sheet::{BAR, EDGE};
 use apply_view::Step;
 use std::alloc::{AllocError, Global};
 
 /// What the legend explains.
-#[derive(Clone, Copy, Debug, PartialEq, Eq)]
+#[derive(Clone, Copy)]
 enum Entry {
     Kind(Kind),
     Provisioner,
@@ -17,6 +18,29 @@ enum Entry {
 }
 
 impl Entry {
+    /// All entries, in the order in which they stand.
+    const ALL: [Entry; 9] = [
+        Entry::Kind(Kind::Create),
+        Entry::Kind(Kind::Update),
+        Entry::Kind(Kind::Delete),
+        Entry::Kind(Kind::Read),
+        Entry::Kind(Kind::Refresh),
+        Entry::Kind(Kind::Other),
+        Entry::Provisioner,
+        Entry::Failed,
+        Entry::Open,
+    ];
+
+    /// Whether the row of such a step shows it.
+    fn is_of(self, step: &Step) -> bool {
+        match self {
+            Entry::Kind(kind) => Kind::of(step.action()) == kind,
+            Entry::Provisioner => !step.provisioners().is_empty(),
+            Entry::Failed => step.has_failed(),
+            Entry::Open => step.end().is_none() && !step.has_failed(),
+        }
+    }
+
     /// How many characters its words have.
     fn len(self) -> u64 {
         match self {
@@ -41,10 +65,7 @@ pub fn push_legend(
     };
     let mut x = EDGE * 10;
     for entry in &entries {
-        push_sign(markup, *entry, first, x, y)?;
-        markup.begin_text(x.saturating_add(190), y.saturating_add(13), "small soft")?;
-        push_words(markup, *entry)?;
-        markup.end_text()?;
+        push_entry(markup, *entry, first, x, y)?;
         x = x.saturating_add(entry.len().saturating_mul(66).saturating_add(370));
     }
     Ok(22)
@@ -53,36 +74,39 @@ pub fn push_legend(
 /// What is to be explained of the steps that have a row.
 fn entries(alloc: Global, picture: &Picture<'_>) -> Result<Vec<Entry>, AllocError> {
     let mut entries = Vec::new(alloc);
-    for kind in Kind::ALL {
-        if has_row(picture, |step| Kind::of(step.action()) == kind) {
-            entries.push(Entry::Kind(kind))?;
+    for entry in Entry::ALL {
+        if has_row(picture, entry) {
+            entries.push(entry)?;
         }
-    }
-    if has_row(picture, |step| !step.provisioners().is_empty()) {
-        entries.push(Entry::Provisioner)?;
-    }
-    if has_row(picture, |step| step.has_failed()) {
-        entries.push(Entry::Failed)?;
-    }
-    if has_row(picture, |step| step.end().is_none() && !step.has_failed()) {
-        entries.push(Entry::Open)?;
     }
     Ok(entries)
 }
 
-/// Whether such a step has a row.
-fn has_row<F: Fn(&Step) -> bool>(picture: &Picture<'_>, is_such: F) -> bool
-    requires { F.IsAlwaysCallable is_such }
-{
+/// Whether a step has a row that shows the entry.
+fn has_row(picture: &Picture<'_>, entry: Entry) -> bool {
     let steps = picture.told.steps();
     for place in &picture.rows.places {
         if let Some(step) = steps.get(*place) {
-            if is_such(step) {
+            if entry.is_of(step) {
                 return true;
             }
         }
     }
     false
+}
+
+/// Adds an entry; `first` is the kind that stands for any.
+fn push_entry(
+    markup: &mut Markup,
+    entry: Entry,
+    first: Kind,
+    x: u64,
+    y: u64,
+) -> Result<(), AllocError> {
+    push_sign(markup, entry, first, x, y)?;
+    markup.begin_text(x.saturating_add(190), y.saturating_add(13), "small soft")?;
+    push_words(markup, entry)?;
+    markup.own("</text>\n")
 }
 
 /// Adds what an entry explains; `first` is the kind that stands for any.
@@ -97,48 +121,61 @@ fn push_sign(
         Entry::Kind(kind) => kind,
         _ => first,
     };
-    push_box(markup, x, y)?;
-    markup.own(" class=\"")?;
-    markup.own(kind.name())?;
-    if entry == Entry::Failed || entry == Entry::Open {
-        markup.own(" open")?;
-    }
-    markup.own("\"/>")?;
-    if entry == Entry::Provisioner {
-        markup.own("<rect x=\"")?;
-        markup.tenths(x)?;
-        markup.own("\" y=\"")?;
-        markup.number(y.saturating_add(7))?;
-        markup.own("\" width=\"14\" height=\"4\" class=\"inner\"/>")?;
-    }
-    if entry == Entry::Failed {
-        push_box(markup, x, y)?;
-        markup.own(" fill=\"url(#stripes)\" fill-opacity=\".6\"/>")?;
-        push_box(markup, x, y)?;
-        markup.own(" class=\"edge\"/>")?;
+    let rest = match entry {
+        Entry::Failed | Entry::Open => " open\"/>",
+        _ => "\"/>",
+    };
+    push_box(markup, x, y, [" class=\"", kind.name(), rest])?;
+    match entry {
+        Entry::Provisioner => markup.add(&[
+            Part::Own("<rect x=\""),
+            Part::Tenths(x),
+            Part::Own("\" y=\""),
+            Part::Number(y.saturating_add(7)),
+            Part::Own("\" width=\"14\" height=\"4\" class=\"inner\"/>"),
+        ])?,
+        Entry::Failed => push_stripes(markup, x, y)?,
+        _ => {}
     }
     markup.own("\n")
 }
 
-/// Adds what begins a small bar.
-fn push_box(markup: &mut Markup, x: u64, y: u64) -> Result<(), AllocError> {
-    markup.own("<rect x=\"")?;
-    markup.tenths(x)?;
-    markup.own("\" y=\"")?;
-    markup.number(y.saturating_add(4))?;
-    markup.own("\" width=\"14\" height=\"")?;
-    markup.number(BAR - 2)?;
-    markup.own("\" rx=\"2\"")
+/// Adds the stripes and the edge of a small bar.
+fn push_stripes(markup: &mut Markup, x: u64, y: u64) -> Result<(), AllocError> {
+    push_box(
+        markup,
+        x,
+        y,
+        [" fill=\"url(#stripes)\"", " fill-opacity=\".6\"", "/>"],
+    )?;
+    push_box(markup, x, y, [" class=\"", "edge", "\"/>"])
+}
+
+/// Adds a small bar, which ends so.
+fn push_box(markup: &mut Markup, x: u64, y: u64, end: [&'static str; 3]) -> Result<(), AllocError> {
+    let [first, second, third] = end;
+    markup.add(&[
+        Part::Own("<rect x=\""),
+        Part::Tenths(x),
+        Part::Own("\" y=\""),
+        Part::Number(y.saturating_add(4)),
+        Part::Own("\" width=\"14\" height=\""),
+        Part::Number(BAR - 2),
+        Part::Own("\" rx=\"2\""),
+        Part::Own(first),
+        Part::Own(second),
+        Part::Own(third),
+    ])
 }
 
 /// Adds the words of an entry.
 fn push_words(markup: &mut Markup, entry: Entry) -> Result<(), AllocError> {
     match entry {
-        Entry::Kind(kind) => {
-            markup.character(kind.sign())?;
-            markup.own(" ")?;
-            markup.own(kind.name())
-        }
+        Entry::Kind(kind) => markup.add(&[
+            Part::Character(kind.sign()),
+            Part::Own(" "),
+            Part::Own(kind.name()),
+        ]),
         Entry::Provisioner => markup.own("provisioner"),
         Entry::Failed => markup.own("failed"),
         Entry::Open => markup.own("not ended"),

@@ -36,24 +36,9 @@ impl Markup {
         Ok(())
     }
 
-    /// Adds a number.
-    pub fn number(&mut self, number: u64) -> Result<(), AllocError> {
-        self.parts.push(Part::Number(number))?;
-        Ok(())
-    }
-
-    /// Adds so many tenths.
-    pub fn tenths(&mut self, tenths: u64) -> Result<(), AllocError> {
-        self.parts.push(Part::Tenths(tenths))?;
-        Ok(())
-    }
-
-    /// Adds a character of a text, which is escaped.
-    pub fn character(&mut self, character: char) -> Result<(), AllocError>
-        ensures { OnOk result (flat_map part_bytes self.new.parts.items ≡ flat_map part_bytes self.old.parts.items ++ escaped character) }
-    {
-        self.parts.push(Part::Character(character))?;
-        Ok(())
+    /// Adds parts. One call for many: each call that can fail makes its caller's proof longer.
+    pub fn add(&mut self, parts: &[Part]) -> Result<(), AllocError> {
+        self.parts.extend_from_slice(parts)
     }
 
     /// Adds a text, whose characters are escaped.
@@ -61,7 +46,7 @@ impl Markup {
         ensures { OnOk result (flat_map part_bytes self.new.parts.items ≡ flat_map part_bytes self.old.parts.items ++ flat_map escaped text.now.characters.items) }
     {
         for character in text.characters() {
-            self.character(*character)?;
+            self.parts.push(Part::Character(*character))?;
         }
         Ok(())
     }
@@ -75,18 +60,15 @@ impl Markup {
 
     /// Adds what begins a line of text: where it stands, and of which class it is.
     pub fn begin_text(&mut self, x: u64, y: u64, class: &'static str) -> Result<(), AllocError> {
-        self.own("<text x=\"")?;
-        self.tenths(x)?;
-        self.own("\" y=\"")?;
-        self.number(y)?;
-        self.own("\" class=\"")?;
-        self.own(class)?;
-        self.own("\">")
-    }
-
-    /// Adds what ends it.
-    pub fn end_text(&mut self) -> Result<(), AllocError> {
-        self.own("</text>\n")
+        self.add(&[
+            Part::Own("<text x=\""),
+            Part::Tenths(x),
+            Part::Own("\" y=\""),
+            Part::Number(y),
+            Part::Own("\" class=\""),
+            Part::Own(class),
+            Part::Own("\">"),
+        ])
     }
 
     /// Adds a line of text.
@@ -99,7 +81,19 @@ impl Markup {
     ) -> Result<(), AllocError> {
         self.begin_text(x, y, class)?;
         self.text(text)?;
-        self.end_text()
+        self.own("</text>\n")
+    }
+
+    /// Adds a line of a text that is not shown yet.
+    pub fn line_of(
+        &mut self,
+        alloc: Global,
+        x: u64,
+        y: u64,
+        class: &'static str,
+        text: &str,
+    ) -> Result<(), AllocError> {
+        self.line(x, y, class, &ShownText::of(alloc, text.as_bytes())?)
     }
 
     /// Writes the parts, and forgets them.

@@ -7,6 +7,7 @@ ghost use Rattle.apply_picture.specs.Markup.{part_bytes, title_bytes};
 use crate::kind::Kind;
 use crate::picture::Picture;
 use crate::svg::markup::Markup;
+use crate::svg::part::Part;
 use crate::svg::scale::{Scale, label_of};
 use crate::svg::sheet::{BAR, EDGE, LEAST_BAR, ROW};
 use crate::words::duration::Duration;
@@ -49,13 +50,12 @@ pub fn push_row(
         top: y.saturating_add((ROW - BAR) / 2),
     };
     push_title(alloc, markup, picture, place, step)?;
-    markup.own("</title>")?;
     push_label(alloc, markup, step, y)?;
     push_bar(markup, picture, scale, step, bar)?;
     push_length(alloc, markup, picture, step, bar, y)
 }
 
-/// Adds what is told of a step besides.
+/// Adds what is told of a step besides, and ends the title.
 fn push_title(
     alloc: Global,
     markup: &mut Markup,
@@ -63,38 +63,42 @@ fn push_title(
     place: usize,
     step: &Step,
 ) -> Result<(), AllocError> {
-    markup.own(match (step.has_failed(), step.end()) {
-        (_, Some(_)) => ", ",
-        (true, None) => ", at most ",
-        (false, None) => ", at least ",
-    })?;
-    push_duration(alloc, markup, step.length(picture.moments))?;
-    markup.own(", from ")?;
-    push_duration(alloc, markup, picture.begin_of(step))?;
-    markup.own(" to ")?;
-    push_duration(alloc, markup, picture.until_of(step))?;
+    let (before, behind) = match (step.has_failed(), step.end()) {
+        (true, Some(_)) => (", ", "\nfailed</title>"),
+        (false, Some(_)) => (", ", "</title>"),
+        (true, None) => (", at most ", "\nfailed</title>"),
+        (false, None) => (", at least ", "\nnot ended</title>"),
+    };
+    push_duration(alloc, markup, before, step.length(picture.moments))?;
+    push_duration(alloc, markup, ", from ", picture.begin_of(step))?;
+    push_duration(alloc, markup, " to ", picture.until_of(step))?;
     let alone = picture.alone_of(place);
     if alone > 0 {
-        markup.own("\nalone under way for ")?;
-        push_duration(alloc, markup, alone)?;
+        push_duration(alloc, markup, "\nalone under way for ", alone)?;
     }
     for provisioner in step.provisioners() {
-        markup.own("\nprovisioner ")?;
-        markup.shown(alloc, provisioner.name().as_bytes())?;
-        markup.own(": ")?;
-        let (begin, end) = interval_of(picture, step, provisioner);
-        push_duration(alloc, markup, end.saturating_sub(begin))?;
-        if provisioner.has_failed() {
-            markup.own(", failed")?;
-        }
+        push_provisioner(alloc, markup, picture, step, provisioner)?;
     }
-    if step.has_failed() {
-        markup.own("\nfailed")
-    } else if step.end().is_none() {
-        markup.own("\nnot ended")
+    markup.own(behind)
+}
+
+/// Adds what is told of a provisioner of a step.
+fn push_provisioner(
+    alloc: Global,
+    markup: &mut Markup,
+    picture: &Picture<'_>,
+    step: &Step,
+    provisioner: &Provisioner,
+) -> Result<(), AllocError> {
+    let (begin, end) = interval_of(picture, step, provisioner);
+    markup.own("\nprovisioner ")?;
+    markup.shown(alloc, provisioner.name().as_bytes())?;
+    push_duration(alloc, markup, ": ", end.saturating_sub(begin))?;
+    markup.own(if provisioner.has_failed() {
+        ", failed"
     } else {
-        Ok(())
-    }
+        ""
+    })
 }
 
 /// When a provisioner of a step began and ended, in microseconds since the first moment; where no end is told it ended with
@@ -110,15 +114,17 @@ fn interval_of(picture: &Picture<'_>, step: &Step, provisioner: &Provisioner) ->
 
 /// Adds the sign and the address of a step.
 fn push_label(alloc: Global, markup: &mut Markup, step: &Step, y: u64) -> Result<(), AllocError> {
-    markup.own("<text x=\"")?;
-    markup.number(EDGE)?;
-    markup.own("\" y=\"")?;
-    markup.number(y.saturating_add(14))?;
-    markup.own("\" class=\"")?;
-    markup.own(if step.has_failed() { "fail" } else { "ink" })?;
-    markup.own("\">")?;
-    markup.character(Kind::of(step.action()).sign())?;
-    markup.own(" ")?;
+    markup.add(&[
+        Part::Own("<text x=\""),
+        Part::Number(EDGE),
+        Part::Own("\" y=\""),
+        Part::Number(y.saturating_add(14)),
+        Part::Own("\" class=\""),
+        Part::Own(if step.has_failed() { "fail" } else { "ink" }),
+        Part::Own("\">"),
+        Part::Character(Kind::of(step.action()).sign()),
+        Part::Own(" "),
+    ])?;
     markup.text(&label_of(alloc, step)?)?;
     markup.own("</text>")
 }
@@ -131,18 +137,23 @@ fn push_bar(
     step: &Step,
     bar: Place,
 ) -> Result<(), AllocError> {
-    push_box(markup, bar)?;
-    markup.own(" class=\"")?;
-    markup.own(Kind::of(step.action()).name())?;
-    if step.is_marked() {
-        markup.own(" open")?;
-    }
-    markup.own("\"/>")?;
+    let end = if step.is_marked() {
+        " open\"/>"
+    } else {
+        "\"/>"
+    };
+    push_box(
+        markup,
+        bar,
+        [" class=\"", Kind::of(step.action()).name(), end],
+    )?;
     if step.has_failed() {
-        push_box(markup, bar)?;
-        markup.own(" fill=\"url(#stripes)\" fill-opacity=\".6\"/>")?;
-        push_box(markup, bar)?;
-        return markup.own(" class=\"edge\"/>");
+        push_box(
+            markup,
+            bar,
+            [" fill=\"url(#stripes)\"", " fill-opacity=\".6\"", "/>"],
+        )?;
+        return push_box(markup, bar, [" class=\"", "edge", "\"/>"]);
     }
     for provisioner in step.provisioners() {
         let (begin, end) = interval_of(picture, step, provisioner);
@@ -151,17 +162,23 @@ fn push_bar(
     Ok(())
 }
 
-/// Adds what begins the bar.
-fn push_box(markup: &mut Markup, bar: Place) -> Result<(), AllocError> {
-    markup.own("<rect x=\"")?;
-    markup.tenths(bar.left)?;
-    markup.own("\" y=\"")?;
-    markup.number(bar.top)?;
-    markup.own("\" width=\"")?;
-    markup.tenths(bar.width)?;
-    markup.own("\" height=\"")?;
-    markup.number(BAR)?;
-    markup.own("\" rx=\"2\"")
+/// Adds a box where the bar stands, which ends so.
+fn push_box(markup: &mut Markup, bar: Place, end: [&'static str; 3]) -> Result<(), AllocError> {
+    let [first, second, third] = end;
+    markup.add(&[
+        Part::Own("<rect x=\""),
+        Part::Tenths(bar.left),
+        Part::Own("\" y=\""),
+        Part::Number(bar.top),
+        Part::Own("\" width=\""),
+        Part::Tenths(bar.width),
+        Part::Own("\" height=\""),
+        Part::Number(BAR),
+        Part::Own("\" rx=\"2\""),
+        Part::Own(first),
+        Part::Own(second),
+        Part::Own(third),
+    ])
 }
 
 /// Adds the bar of a provisioner, which has no width of its own.
@@ -169,15 +186,17 @@ fn push_inner(markup: &mut Markup, left: u64, right: u64, top: u64) -> Result<()
     if right <= left {
         return Ok(());
     }
-    markup.own("<rect x=\"")?;
-    markup.tenths(left)?;
-    markup.own("\" y=\"")?;
-    markup.number(top.saturating_add(4))?;
-    markup.own("\" width=\"")?;
-    markup.tenths(right - left)?;
-    markup.own("\" height=\"")?;
-    markup.number(BAR - 8)?;
-    markup.own("\" class=\"inner\"/>")
+    markup.add(&[
+        Part::Own("<rect x=\""),
+        Part::Tenths(left),
+        Part::Own("\" y=\""),
+        Part::Number(top.saturating_add(4)),
+        Part::Own("\" width=\""),
+        Part::Tenths(right - left),
+        Part::Own("\" height=\""),
+        Part::Number(BAR - 8),
+        Part::Own("\" class=\"inner\"/>"),
+    ])
 }
 
 /// Adds how long a step took, behind its bar.
@@ -189,33 +208,26 @@ fn push_length(
     bar: Place,
     y: u64,
 ) -> Result<(), AllocError> {
-    let class = if step.has_failed() {
-        "small fail"
-    } else {
-        "small soft"
+    let (class, before, behind) = match (step.has_failed(), step.end()) {
+        (true, Some(_)) => ("small fail", "", " ✗</text>"),
+        (false, Some(_)) => ("small soft", "", "</text>"),
+        (true, None) => ("small fail", "≤ ", " ✗</text>"),
+        (false, None) => ("small soft", "≥ ", " …</text>"),
     };
     let x = bar.left.saturating_add(bar.width).saturating_add(50);
     markup.begin_text(x, y.saturating_add(14), class)?;
-    markup.own(match (step.has_failed(), step.end()) {
-        (_, Some(_)) => "",
-        (true, None) => "≤ ",
-        (false, None) => "≥ ",
-    })?;
-    push_duration(alloc, markup, step.length(picture.moments))?;
-    markup.own(match (step.has_failed(), step.end()) {
-        (true, _) => " ✗",
-        (false, None) => " …",
-        (false, Some(_)) => "",
-    })?;
-    markup.own("</text>")
+    push_duration(alloc, markup, before, step.length(picture.moments))?;
+    markup.own(behind)
 }
 
-/// Adds a duration.
-pub fn push_duration(
+/// Adds a duration behind a text of ours.
+fn push_duration(
     alloc: Global,
     markup: &mut Markup,
+    before: &'static str,
     microseconds: u64,
 ) -> Result<(), AllocError> {
+    markup.own(before)?;
     let duration = Duration::of(microseconds);
     let text = format!(in alloc; "{duration}")?;
     markup.shown(alloc, text.as_str().as_bytes())

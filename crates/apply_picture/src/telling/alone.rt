@@ -18,10 +18,22 @@ const MOST: usize = 5;
 /// The places of the five steps that were longest alone under way, where two steps were ever at once; of two that were so for
 /// as long, that of the earlier line first. `Err` where memory is refused.
 pub fn alone_places(alloc: Global, picture: &Picture<'_>) -> Result<Vec<usize>, AllocError> {
-    let mut places = Vec::new(alloc);
     if picture.numbers.peak <= 1 {
-        return Ok(places);
+        return Ok(Vec::new(alloc));
     }
+    let found = long_alone(alloc, picture)?;
+    let mut places = Vec::new(alloc);
+    for (_, place) in found.iter().take(MOST) {
+        places.push(*place)?;
+    }
+    Ok(places)
+}
+
+/// How long each step was alone under way that has to be told, the longest first, and its place.
+fn long_alone(
+    alloc: Global,
+    picture: &Picture<'_>,
+) -> Result<Vec<(Reverse<u64>, usize)>, AllocError> {
     let mut found = Vec::new(alloc);
     for (place, alone) in picture.numbers.alone.iter().enumerate() {
         if *alone >= LEAST && *alone as u128 * PARTS >= picture.span() as u128 {
@@ -29,10 +41,7 @@ pub fn alone_places(alloc: Global, picture: &Picture<'_>) -> Result<Vec<usize>, 
         }
     }
     found.sort()?;
-    for (_, place) in found.iter().take(MOST) {
-        places.push(*place)?;
-    }
-    Ok(places)
+    Ok(found)
 }
 
 /// How long a step was alone under way, as it stands before the rest of its line.

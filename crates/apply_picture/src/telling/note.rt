@@ -3,7 +3,7 @@
 use crate::words::shown_text::ShownText;
 
 /// What a line of the diagnostics is.
-#[derive(Clone, Copy, Debug, PartialEq, Eq)]
+#[derive(Clone, Copy)]
 pub enum Voice {
     /// What an error says in short.
     Error,

@@ -33,16 +33,21 @@ pub fn notes(alloc: Global, picture: &Picture<'_>) -> Result<Vec<Note>, AllocErr
         }
     }
     let all = errors.count().saturating_add(warnings.count());
-    let more = all.saturating_sub(told as u64);
-    if more > 0 {
-        let diagnostics = Number {
-            count: more,
-            noun: "diagnostic",
-        };
-        let text = format!(in alloc; "and {diagnostics} more")?;
-        push(alloc, &mut notes, Voice::Rest, text.as_str().as_bytes())?;
-    }
+    push_rest(alloc, &mut notes, all.saturating_sub(told as u64))?;
     Ok(notes)
+}
+
+/// Adds how many diagnostics are not told, where some are not.
+fn push_rest(alloc: Global, notes: &mut Vec<Note>, count: u64) -> Result<(), AllocError> {
+    if count == 0 {
+        return Ok(());
+    }
+    let diagnostics = Number {
+        count,
+        noun: "diagnostic",
+    };
+    let text = format!(in alloc; "and {diagnostics} more")?;
+    push(alloc, notes, Voice::Rest, text.as_str().as_bytes())
 }
 
 /// Adds the lines of a diagnostic.
@@ -52,20 +57,37 @@ fn push_diagnostic(
     voice: Voice,
     diagnostic: &Diagnostic,
 ) -> Result<(), AllocError> {
-    let line = first_line(alloc, voice, diagnostic)?;
-    push(alloc, notes, voice, &line)?;
+    push_first(alloc, notes, voice, diagnostic)?;
     for line in diagnostic.detail() {
         push(alloc, notes, Voice::Detail, line.as_slice())?;
     }
-    if diagnostic.more_lines() > 0 {
-        let lines = Number {
-            count: diagnostic.more_lines(),
-            noun: "line",
-        };
-        let text = format!(in alloc; "… {lines} more")?;
-        push(alloc, notes, Voice::Detail, text.as_str().as_bytes())?;
+    push_more(alloc, notes, diagnostic.more_lines())
+}
+
+/// Adds what it says in short.
+fn push_first(
+    alloc: Global,
+    notes: &mut Vec<Note>,
+    voice: Voice,
+    diagnostic: &Diagnostic,
+) -> Result<(), AllocError> {
+    let mut line = Vec::new(alloc);
+    push_short(&mut line, voice, diagnostic)?;
+    push_place(alloc, &mut line, diagnostic)?;
+    push(alloc, notes, voice, &line)
+}
+
+/// Adds how many lines of it are not told, where some are not.
+fn push_more(alloc: Global, notes: &mut Vec<Note>, count: u64) -> Result<(), AllocError> {
+    if count == 0 {
+        return Ok(());
     }
-    Ok(())
+    let lines = Number {
+        count,
+        noun: "line",
+    };
+    let text = format!(in alloc; "… {lines} more")?;
+    push(alloc, notes, Voice::Detail, text.as_str().as_bytes())
 }
 
 /// Adds a line.
@@ -78,33 +100,34 @@ fn push(alloc: Global, notes: &mut Vec<Note>, voice: Voice, line: &[u8]) -> Resu
     Ok(())
 }
 
-/// What a diagnostic says in short, and of what.
-fn first_line(alloc: Global, voice: Voice, diagnostic: &Diagnostic) -> Result<Vec<u8>, AllocError> {
-    let mut line = Vec::new(alloc);
+/// Adds what a diagnostic says in short.
+fn push_short(line: &mut Vec<u8>, voice: Voice, diagnostic: &Diagnostic) -> Result<(), AllocError> {
     line.extend_from_slice(match voice {
         Voice::Error => b"Error: ".as_slice(),
         _ => b"Warning: ".as_slice(),
     })?;
-    line.extend_from_slice(diagnostic.summary())?;
-    match (diagnostic.address(), diagnostic.file()) {
-        (None, None) => return Ok(line),
-        (Some(address), None) => {
-            line.extend_from_slice(b" (")?;
-            line.extend_from_slice(address)?;
-        }
-        (None, Some(file)) => {
-            line.extend_from_slice(b" (")?;
-            push_file(alloc, &mut line, file, diagnostic.line())?;
-        }
-        (Some(address), Some(file)) => {
-            line.extend_from_slice(b" (")?;
-            line.extend_from_slice(address)?;
-            line.extend_from_slice(b", ")?;
-            push_file(alloc, &mut line, file, diagnostic.line())?;
-        }
+    line.extend_from_slice(diagnostic.summary())
+}
+
+/// Adds of what it says that, where that is known.
+fn push_place(
+    alloc: Global,
+    line: &mut Vec<u8>,
+    diagnostic: &Diagnostic,
+) -> Result<(), AllocError> {
+    let mut before = b" (".as_slice();
+    if let Some(address) = diagnostic.address() {
+        line.extend_from_slice(before)?;
+        line.extend_from_slice(address)?;
+        before = b", ".as_slice();
     }
-    line.extend_from_slice(b")")?;
-    Ok(line)
+    if let Some(file) = diagnostic.file() {
+        line.extend_from_slice(before)?;
+        push_file(alloc, line, file, diagnostic.line())?;
+    } else if diagnostic.address().is_none() {
+        return Ok(());
+    }
+    line.extend_from_slice(b")")
 }
 
 /// Adds the name of a file, and the line in it where one is known.

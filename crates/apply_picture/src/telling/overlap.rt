@@ -14,22 +14,27 @@ const IDLE_PARTS: u128 = 50;
 /// How many steps were under way at once, and for how long none was; none where no step took any time. `Err` where memory is
 /// refused.
 pub fn overlap(alloc: Global, picture: &Picture<'_>) -> Result<Option<ShownText>, AllocError> {
-    let mut text = String::new(alloc);
-    let peak = picture.numbers.peak;
-    let busy = picture.numbers.busy;
-    if peak == 1 {
-        text.push_str("one at a time")?;
-    } else if busy > 0 {
-        push_average(&mut text, picture)?;
-    } else {
+    if picture.numbers.peak != 1 && picture.numbers.busy == 0 {
         return Ok(None);
     }
-    let idle = picture.span().saturating_sub(busy);
+    let mut text = String::new(alloc);
+    push_overlap(&mut text, picture)?;
+    Ok(Some(ShownText::of(alloc, text.as_str().as_bytes())?))
+}
+
+/// Adds how many were under way, and for how long none was.
+fn push_overlap(text: &mut String, picture: &Picture<'_>) -> Result<(), AllocError> {
+    if picture.numbers.peak == 1 {
+        text.push_str("one at a time")?;
+    } else {
+        push_average(text, picture)?;
+    }
+    let idle = picture.span().saturating_sub(picture.numbers.busy);
     if idle >= IDLE && idle as u128 * IDLE_PARTS >= picture.span() as u128 {
         let idle = Duration::of(idle);
         write!(text, "; nothing under way for {idle}")?;
     }
-    Ok(Some(ShownText::of(alloc, text.as_str().as_bytes())?))
+    Ok(())
 }
 
 /// How many were under way at most, and on average.

@@ -28,19 +28,61 @@ pub fn push_at_once(
     if picture.numbers.peak <= 1 {
         return Ok(());
     }
+    let mut line = Line::new(alloc, page.width());
+    push_front(alloc, &mut line, picture, chart)?;
+    push_levels(alloc, &mut line, picture, chart)?;
+    page.push(line)
+}
+
+/// Adds what stands before the cells.
+fn push_front(
+    alloc: Global,
+    line: &mut Line,
+    picture: &Picture<'_>,
+    chart: &Chart,
+) -> Result<(), AllocError>
+    ensures { OnOk result (line.new.width ≡ line.old.width) }
+{
+    line.push_blanks(chart.indent())?;
+    push_name(alloc, line, chart)?;
+    line.push_blanks(2)?;
+    push_peak(alloc, line, picture)?;
+    line.push(' ')
+}
+
+/// Adds what the line is of.
+fn push_name(alloc: Global, line: &mut Line, chart: &Chart) -> Result<(), AllocError>
+    ensures { OnOk result (line.new.width ≡ line.old.width) }
+{
+    let name = ShownText::of(alloc, b"at once")?;
+    line.push_left(&name, chart.label)
+}
+
+/// Adds the peak.
+fn push_peak(alloc: Global, line: &mut Line, picture: &Picture<'_>) -> Result<(), AllocError>
+    ensures { OnOk result (line.new.width ≡ line.old.width) }
+{
+    let peak = peak_text(alloc, picture)?;
+    line.push_right(&fitted(alloc, &peak, DURATION)?, DURATION)
+}
+
+fn peak_text(alloc: Global, picture: &Picture<'_>) -> Result<ShownText, AllocError> {
     let peak = Count(picture.numbers.peak as u64);
     let peak = format!(in alloc; "{peak}")?;
-    let peak = ShownText::of(alloc, peak.as_str().as_bytes())?;
-    let name = ShownText::of(alloc, b"at once")?;
-    let mut line = Line::new(alloc, page.width());
-    line.push_blanks(chart.indent())?;
-    line.push_left(&name, chart.label)?;
-    line.push_blanks(2)?;
-    line.push_right(&fitted(alloc, &peak, DURATION)?, DURATION)?;
-    line.push(' ')?;
+    ShownText::of(alloc, peak.as_str().as_bytes())
+}
+
+/// Adds the cells, without the blanks at their end.
+fn push_levels(
+    alloc: Global,
+    line: &mut Line,
+    picture: &Picture<'_>,
+    chart: &Chart,
+) -> Result<(), AllocError>
+    ensures { OnOk result (line.new.width ≡ line.old.width) }
+{
     let cells = level_cells(alloc, picture, chart)?;
-    line.push_all(without_blanks(&cells))?;
-    page.push(line)
+    line.push_all(without_blanks(&cells))
 }
 
 /// The cells of that line.

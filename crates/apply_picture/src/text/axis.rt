@@ -28,11 +28,18 @@ pub fn push_axis(
         return Ok(());
     }
     page.push_empty(alloc)?;
-    let cells = axis_cells(alloc, chart)?;
     let mut line = Line::new(alloc, page.width());
-    line.push_blanks(chart.front())?;
-    line.push_all(without_blanks(&cells))?;
+    push_cells(alloc, &mut line, chart)?;
     page.push(line)
+}
+
+/// Adds the characters above the bars, without the blanks at their end.
+fn push_cells(alloc: Global, line: &mut Line, chart: &Chart) -> Result<(), AllocError>
+    ensures { OnOk result (line.new.width ≡ line.old.width) }
+{
+    let cells = axis_cells(alloc, chart)?;
+    line.push_blanks(chart.front())?;
+    line.push_all(without_blanks(&cells))
 }
 
 /// The characters above the bars.

@@ -1,7 +1,7 @@
 //! The whole text.
 
 ghost use Rattle.std.specs.Prelude.{◌≡◌, [], IfOk, OnOk, map};
-ghost use Rattle.apply_picture.specs.Lines.{IsHeadedBy, IsRowAt, LinesWritten, RowsWritten, TextWritten, heading_characters};
+ghost use Rattle.apply_picture.specs.Lines.{HeadLinesWritten, IsHeadedBy, IsRowAt, LinesWritten, RowsWritten, TextWritten, heading_characters};
 
 use crate::draw_fault::DrawFault;
 use crate::picture::Picture;
@@ -45,20 +45,60 @@ pub fn draw_text<W: Write>(
         has_colour,
     };
     let chart = Chart::of(alloc, picture, style.width)?;
-    let mut head = Page::new(alloc, style);
-    push_head(alloc, &mut head, picture)?;
-    push_axis(alloc, &mut head, picture, &chart)?;
-    head.send(alloc, out)?;
+    draw_head(alloc, picture, &chart, style, out)?;
     draw_rows(alloc, picture, &chart, style, out)?;
-    let mut tail = Page::new(alloc, style);
-    push_left_out(alloc, &mut tail, picture, &chart)?;
-    push_at_once(alloc, &mut tail, picture, &chart)?;
-    push_alone(alloc, &mut tail, picture)?;
-    push_notes(alloc, &mut tail, picture)?;
-    push_passed(alloc, &mut tail, picture)?;
-    tail.send(alloc, out)?;
+    draw_tail(alloc, picture, &chart, style, out)?;
     flush(out)?;
     Ok(())
+}
+
+/// Writes what stands above the rows.
+fn draw_head<W: Write>(
+    alloc: Global,
+    picture: &Picture<'_>,
+    chart: &Chart,
+    style: Style,
+    out: &mut W,
+) -> Result<(), DrawFault>
+    ensures { OnOk result (HeadLinesWritten style.width style.has_colour picture.now (W.contents out.old) (W.contents out.new)) }
+{
+    let mut page = Page::new(alloc, style);
+    push_head(alloc, &mut page, picture)?;
+    push_axis(alloc, &mut page, picture, chart)?;
+    page.send(alloc, out)?;
+    Ok(())
+}
+
+/// Writes what stands below them.
+fn draw_tail<W: Write>(
+    alloc: Global,
+    picture: &Picture<'_>,
+    chart: &Chart,
+    style: Style,
+    out: &mut W,
+) -> Result<(), DrawFault>
+    ensures { OnOk result (LinesWritten style.width style.has_colour (W.contents out.old) (W.contents out.new)) }
+{
+    let mut page = Page::new(alloc, style);
+    push_tail(alloc, &mut page, picture, chart)?;
+    page.send(alloc, out)?;
+    Ok(())
+}
+
+/// Adds what stands below the rows.
+fn push_tail(
+    alloc: Global,
+    page: &mut Page,
+    picture: &Picture<'_>,
+    chart: &Chart,
+) -> Result<(), AllocError>
+    ensures { OnOk result (page.new.style ≡ page.old.style) }
+{
+    push_left_out(alloc, page, picture, chart)?;
+    push_at_once(alloc, page, picture, chart)?;
+    push_alone(alloc, page, picture)?;
+    push_notes(alloc, page, picture)?;
+    push_passed(alloc, page, picture)
 }
 
 /// Adds what was done, and what ran beside what.

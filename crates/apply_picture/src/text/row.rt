@@ -16,6 +16,26 @@ use crate::words::shown_text::{ShownText, without_blanks};
 use apply_view::{Step, halves_of};
 use std::alloc::{AllocError, Global};
 
+/// The cells of a row: before its bar, covered by it, and behind it.
+#[derive(Drop)]
+struct Cells {
+    before: Vec<char>,
+    covered: Vec<char>,
+    behind: Vec<char>,
+}
+
+impl Cells {
+    /// Adds a cell: its character where the bar covers it, else `tick`.
+    fn push(&mut self, covered: Option<char>, tick: char) -> Result<(), AllocError> {
+        match covered {
+            Some(character) => self.covered.push(character)?,
+            None if self.covered.is_empty() => self.before.push(tick)?,
+            None => self.behind.push(tick)?,
+        }
+        Ok(())
+    }
+}
+
 /// The row of a step: its action, address, mark, duration and bar. `ticks` says which cells have a tick.
 pub fn row_of(
     alloc: Global,
@@ -73,25 +93,40 @@ fn push_duration(
     ensures width { OnOk result (line.new.width ≡ line.old.width) }
     ensures more { OnOk result (HasMore line.old.pieces.items line.new.pieces.items) }
 {
-    let length = Duration::of(step.length(picture.moments));
-    let (mark, bound) = match (step.has_failed(), step.end()) {
-        (true, Some(_)) => ('✗', ""),
-        (true, None) => ('✗', "≤"),
-        (false, Some(_)) => (' ', ""),
-        (false, None) => ('…', "≥"),
-    };
-    let text = format!(in alloc; "{bound}{length}")?;
-    let text = ShownText::of(alloc, text.as_str().as_bytes())?;
+    let text = duration_text(alloc, picture, step)?;
     let text = fitted(alloc, &text, DURATION)?;
     if step.has_failed() {
         line.begin(Paint::Red)?;
-        line.push(mark)?;
-        line.push_right(&text, DURATION)?;
+        push_marked(line, '✗', &text)?;
         line.end()
     } else {
-        line.push(mark)?;
-        line.push_right(&text, DURATION)
+        push_marked(line, if step.end().is_some() { ' ' } else { '…' }, &text)
     }
+}
+
+/// How long a step took, and whether that is a bound.
+fn duration_text(
+    alloc: Global,
+    picture: &Picture<'_>,
+    step: &Step,
+) -> Result<ShownText, AllocError> {
+    let length = Duration::of(step.length(picture.moments));
+    let bound = match (step.has_failed(), step.end()) {
+        (_, Some(_)) => "",
+        (true, None) => "≤",
+        (false, None) => "≥",
+    };
+    let text = format!(in alloc; "{bound}{length}")?;
+    ShownText::of(alloc, text.as_str().as_bytes())
+}
+
+/// Adds a mark and a duration.
+fn push_marked(line: &mut Line, mark: char, text: &ShownText) -> Result<(), AllocError>
+    ensures width { OnOk result (line.new.width ≡ line.old.width) }
+    ensures more { OnOk result (HasMore line.old.pieces.items line.new.pieces.items) }
+{
+    line.push(mark)?;
+    line.push_right(text, DURATION)
 }
 
 /// Adds the bar of a step, and the ticks that it does not cover.
@@ -117,19 +152,23 @@ fn push_bar(
         has_failed: step.has_failed(),
         has_ended: step.end().is_some(),
     };
-    let mut before = Vec::new(alloc);
-    let mut covered = Vec::new(alloc);
-    let mut behind = Vec::new(alloc);
+    let cells = cells_of(alloc, chart, ticks, bar)?;
+    push_dim(line, &cells.before)?;
+    line.push_painted(&cells.covered, paint)?;
+    push_dim(line, without_blanks(&cells.behind))
+}
+
+/// The cells of a row.
+fn cells_of(alloc: Global, chart: &Chart, ticks: &[bool], bar: Bar) -> Result<Cells, AllocError> {
+    let mut cells = Cells {
+        before: Vec::new(alloc),
+        covered: Vec::new(alloc),
+        behind: Vec::new(alloc),
+    };
     for cell in 0..chart.cells {
-        match bar.character(cell) {
-            Some(character) => covered.push(character)?,
-            None if covered.is_empty() => before.push(tick_in(ticks, cell))?,
-            None => behind.push(tick_in(ticks, cell))?,
-        }
+        cells.push(bar.character(cell), tick_in(ticks, cell))?;
     }
-    push_dim(line, &before)?;
-    line.push_painted(&covered, paint)?;
-    push_dim(line, without_blanks(&behind))
+    Ok(cells)
 }
 
 /// Adds cells that no bar covers, where there are any.

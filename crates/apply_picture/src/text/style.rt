@@ -1,7 +1,7 @@
 //! What a text may look like.
 
 /// What a text may look like.
-#[derive(Clone, Copy, Debug, PartialEq, Eq)]
+#[derive(Clone, Copy)]
 pub struct Style {
     /// How many columns a line has at most.
     pub width: usize,
