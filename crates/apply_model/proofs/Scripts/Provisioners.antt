@@ -9,7 +9,7 @@ use Rattle.std.proofs.lemmas.List.Sums.{sum_by-cons}
 use denote.Ref.{Bor}
 use Rattle.apply_model.specs.declared.script.diag.Diag.{Diag}
 use Rattle.apply_model.specs.declared.script.ending.Ending.{Ending}
-use Rattle.apply_model.specs.declared.script.ending.Ending.TheVariants.{Done, Failed}
+use Rattle.apply_model.specs.declared.script.ending.Ending.TheVariants.{Done, Failed, Warned}
 use Rattle.apply_model.specs.declared.script.outcome.Outcome.{Outcome}
 use Rattle.apply_model.specs.declared.script.provisioner.Provisioner.{Provisioner}
 use Rattle.apply_model.specs.Script.Outcome.{diag_of_ending, failure_by, failure_of, fails, first_diag, is_failed, makes_fail, ran, seconds_of_all}
@@ -74,6 +74,7 @@ first_for_cause (p ∷ ps) = one_or (failure_by p) (first_diag ps) ∙ ap (λ b.
 provider_or : (result : Ending) (provisioners : List Provisioner) → is_some (option_or (diag_of_ending result) (first_diag provisioners)) ≡ (is_failed result || list_any makes_fail provisioners)
 provider_or (Done id warning) provisioners = first_for_cause provisioners
 provider_or (Failed diag) provisioners = refl
+provider_or (Warned diag) provisioners = first_for_cause provisioners
 
 -- a step fails just where it has a cause
 pub fails_for_cause : (outcome : Outcome) → is_some (failure_of outcome) ≡ fails outcome

@@ -6,7 +6,7 @@ use Rattle.apply_model.specs.declared.plan.step_kind.StepKind.{StepKind}
 use Rattle.apply_model.specs.declared.plan.step_kind.StepKind.TheVariants.{Delete}
 use Rattle.apply_model.specs.declared.script.diag.Diag.{Diag}
 use Rattle.apply_model.specs.declared.script.ending.Ending.{Ending}
-use Rattle.apply_model.specs.declared.script.ending.Ending.TheVariants.{Done, Failed}
+use Rattle.apply_model.specs.declared.script.ending.Ending.TheVariants.{Done, Failed, Warned}
 use Rattle.apply_model.specs.declared.script.outcome.Outcome.{Outcome}
 use Rattle.apply_model.specs.declared.script.provisioner.Provisioner.{Provisioner}
 use Rattle.apply_model.specs.Plan.StepKind.{is_kind}
@@ -35,10 +35,17 @@ seconds_of_all provisioners = sum_by (λ provisioner. provisioner.seconds) provi
 
 -- ---- how the step ends
 
--- the provider fails
+-- the provider fails, and with it the step
 abbrev pub is_failed : Ending → Bool
 is_failed (Done id warning) = false
 is_failed (Failed diag) = true
+is_failed (Warned diag) = false
+
+-- it has failed, and that only warns
+abbrev pub is_warned : Ending → Bool
+is_warned (Done id warning) = false
+is_warned (Failed diag) = false
+is_warned (Warned diag) = true
 
 -- the step fails: its provider does, or a provisioner makes it fail
 abbrev pub fails : Outcome → Bool
@@ -62,6 +69,13 @@ took kind outcome =
 abbrev pub diag_of_ending : Ending → Option Diag
 diag_of_ending (Done id warning) = None
 diag_of_ending (Failed diag) = Some diag
+diag_of_ending (Warned diag) = None
+
+-- what is warned of: the provider's warning, or why it has failed where that only warns
+abbrev pub warning_in : Ending → Option Diag
+warning_in (Done id warning) = warning
+warning_in (Failed diag) = None
+warning_in (Warned diag) = Some diag
 
 -- what the first provisioner says that makes the step fail
 abbrev pub first_diag : List Provisioner → Option Diag

@@ -1,5 +1,8 @@
 //! How a step ends.
 
+ghost use Rattle.std.specs.Prelude.{◌≡◌};
+ghost use Rattle.std.specs.Option.{option_copied};
+
 use crate::script::diag::Diag;
 use crate::text::Text;
 
@@ -18,4 +21,35 @@ pub enum Ending {
         /// Why.
         diag: Diag,
     },
+    /// The provider of a read has failed, and that only warns, as of a data source of a `check` block: a warning is told in
+    /// place of an end, and the step has not failed. A script says it of reads alone.
+    Warned {
+        /// Why.
+        diag: Diag,
+    },
+}
+
+impl Ending {
+    ghost use Rattle.apply_model.specs.Script.Outcome.{is_warned, warning_in};
+
+    /// What is warned of: the provider's warning, or why a read has failed that only warns.
+    pub fn warning(&self) -> Option<&Diag>
+        ensures { option_copied result ≡ warning_in self.now }
+    {
+        match self {
+            Ending::Done { warning, .. } => warning.as_ref(),
+            Ending::Failed { .. } => None,
+            Ending::Warned { diag } => Some(diag),
+        }
+    }
+
+    /// Whether the provider has failed, and that only warns.
+    pub fn only_warns(&self) -> bool
+        ensures { result ≡ is_warned self.now }
+    {
+        match self {
+            Ending::Done { .. } | Ending::Failed { .. } => false,
+            Ending::Warned { .. } => true,
+        }
+    }
 }

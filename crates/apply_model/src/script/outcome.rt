@@ -73,7 +73,7 @@ impl Outcome {
     {
         match &self.result {
             Ending::Failed { diag } => Some(diag),
-            Ending::Done { .. } => self.provisioners.first_failure(),
+            Ending::Done { .. } | Ending::Warned { .. } => self.provisioners.first_failure(),
         }
     }
 
