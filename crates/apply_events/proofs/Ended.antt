@@ -11,14 +11,14 @@ use Rattle.apply_events.specs.declared.mid_step.MidStep.{MidStep}
 use Rattle.apply_events.specs.declared.stage.Stage.{Stage}
 use Rattle.apply_events.specs.declared.stage.Stage.TheVariants.{Before, Running, Noting, Halting, Over}
 use Rattle.apply_events.specs.declared.what.What.{What}
-use Rattle.apply_events.specs.declared.what.What.TheVariants.{Halted}
+use Rattle.apply_events.specs.declared.what.What.TheVariants.{Halted, WarnNote}
 use Rattle.apply_events.specs.ChangeEvents.{begun, in_turn, span_of}
 use Rattle.apply_events.specs.Course.{Course, ended_of, has_event_in, time_in}
 use Rattle.apply_events.specs.MidStep.{left_of}
 use Rattle.apply_events.specs.Notes.{note_of}
 use Rattle.apply_events.specs.Stages.{behind, events_from, from_stage, halt_after, is_on_course, is_reached, running, time_behind}
 use Rattle.apply_events.specs.Step.{Step, steps_of}
-use Rattle.apply_events.specs.StepEvents.{endings, event, goes_on, halts, phase_after, seconds_of, started, step_events, step_time}
+use Rattle.apply_events.specs.StepEvents.{end_of, endings, event, goes_on, halts, notes, phase_after, seconds_of, started, step_events, step_time, tells_end}
 use Rattle.apply_events.proofs.Begun.{and_first, and_second, begun_from}
 use Rattle.apply_events.proofs.Rising.{Rises}
 use Rattle.apply_events.proofs.StepNumbers.{AreNumbered, AreNumbered-drop, number_of, steps_of-numbered, to_come_rise}
@@ -65,10 +65,16 @@ in_turn_has w (s ∷ steps) at = (
   AllHave-append steps (step_events w s at) (in_turn (step_events w) step_time steps (at + step_time s)) (in_turn_has w steps (at + step_time s)),
 )
 
+ending_has : (w : ℕ) (s : Step) (at seconds : ℕ) (b : Bool) (end : What) (others : List What)
+    → has_event_in (map (λ what. event w s at what) (cond b (end ∷ others) (WarnNote ∷ []))) s ≡ true
+ending_has w s at seconds true end others = rw (itself s.number) refl
+ending_has w s at seconds false end others = rw (itself s.number) refl
+
 running_has : (w : ℕ) (s : Step) (at : ℕ) (mid : MidStep) → has_event_in (running w s at mid) s ≡ true
 running_has w s at mid =
     has-append_first (map (λ (p : ℕ × What). event w s (at + p.0) p.1) (left_of (seconds_of s) s.seconds_before s.ran mid) ++ map (λ what. event w s (at + (seconds_of s)) what) (endings s)) (halts w s (phase_after s.fails) (at + (seconds_of s))) s
-    (has-append_second (map (λ (p : ℕ × What). event w s (at + p.0) p.1) (left_of (seconds_of s) s.seconds_before s.ran mid)) (map (λ what. event w s (at + (seconds_of s)) what) (endings s)) s (rw (itself s.number) refl))
+    (has-append_second (map (λ (p : ℕ × What). event w s (at + p.0) p.1) (left_of (seconds_of s) s.seconds_before s.ran mid)) (map (λ what. event w s (at + (seconds_of s)) what) (endings s)) s
+    (ending_has w s (at + seconds_of s) (seconds_of s) (tells_end s.fails s.only_warns) (end_of s.fails (seconds_of s)) (notes s.fails s.warns)))
 
 none_of : {X : Type 0} (found : Option X) → is_none found ≡ true → found ≡ None
 none_of None h = refl

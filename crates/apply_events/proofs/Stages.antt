@@ -11,7 +11,7 @@ use Rattle.apply_events.specs.declared.mid_step.MidStep.{MidStep}
 use Rattle.apply_events.specs.declared.stage.Stage.{Stage}
 use Rattle.apply_events.specs.declared.stage.Stage.TheVariants.{Before, Running, Noting, Halting, Over}
 use Rattle.apply_events.specs.declared.what.What.{What}
-use Rattle.apply_events.specs.declared.what.What.TheVariants.{Start, Progress, Halted, ProvisionOutput, ProvisionStart, ProvisionComplete, ProvisionErrored}
+use Rattle.apply_events.specs.declared.what.What.TheVariants.{Start, Progress, Halted, WarnNote, ProvisionOutput, ProvisionStart, ProvisionComplete, ProvisionErrored}
 use Rattle.apply_events.specs.ChangeEvents.{begun, in_turn}
 use Rattle.apply_events.specs.Course.{beginning_of, is_beginning}
 use Rattle.apply_events.specs.Notes.{note_of}
@@ -19,7 +19,7 @@ use Rattle.apply_events.specs.MidStep.{amid, left_at, left_of, since}
 use Rattle.apply_events.specs.Provisions.{along, progress, provision_end, results, times_within}
 use Rattle.apply_events.specs.Stages.{behind, events_from, from_stage, halt_after}
 use Rattle.apply_events.specs.Step.{Step}
-use Rattle.apply_events.specs.StepEvents.{between, end_of, event, notes, phase_after, seconds_of, step_events, step_time}
+use Rattle.apply_events.specs.StepEvents.{between, end_of, endings, event, notes, phase_after, seconds_of, step_events, step_time, tells_end}
 
 -- a hook halts before the step
 pub begin_halts : (w : ℕ) (s : Step) (rest left : List Step) (at hook : ℕ) (stage : Stage)
@@ -55,19 +55,32 @@ no_note true warns h = cc
 no_note false true h = cc
 no_note false false h = refl
 
+-- no end is told, and the note stands in its place
+warning_alone : (fails only_warns : Bool) (seconds : ℕ) (others : List What) → tells_end fails only_warns ≡ false
+    → cond (tells_end fails only_warns) (end_of fails seconds ∷ others) (WarnNote ∷ []) ≡ note_of fails ∷ []
+warning_alone true only_warns seconds others h = cc
+warning_alone false true seconds others h = refl
+warning_alone false false seconds others h = cc
+
+pub running_warns : (w : ℕ) (s : Step) (rest left : List Step) (at : ℕ) (mid : MidStep) (stage : Stage)
+    → left ≡ s ∷ rest → stage ≡ Running mid → left_of (seconds_of s) s.seconds_before s.ran mid ≡ [] → tells_end s.fails s.only_warns ≡ false
+    → from_stage w left at stage ≡ from_stage w left at Noting
+running_warns w s rest left at mid stage first on none untold =
+    rw (first, on, none, warning_alone s.fails s.only_warns (seconds_of s) (notes s.fails s.warns) untold) refl
+
 -- the end is told, and a note follows
 pub running_notes : (w : ℕ) (s : Step) (rest left : List Step) (at : ℕ) (mid : MidStep) (stage : Stage)
-    → left ≡ s ∷ rest → stage ≡ Running mid → left_of (seconds_of s) s.seconds_before s.ran mid ≡ [] → (s.fails || s.warns) ≡ true
+    → left ≡ s ∷ rest → stage ≡ Running mid → left_of (seconds_of s) s.seconds_before s.ran mid ≡ [] → tells_end s.fails s.only_warns ≡ true → (s.fails || s.warns) ≡ true
     → from_stage w left at stage ≡ event w s (at + (seconds_of s)) (end_of s.fails (seconds_of s)) ∷ from_stage w left at Noting
-running_notes w s rest left at mid stage first on none is =
-    rw (first, on, none, one_note s.fails s.warns is) refl
+running_notes w s rest left at mid stage first on none told is =
+    rw (first, on, none, told, one_note s.fails s.warns is) refl
 
 -- the end is told, and no note follows
 pub running_ends : (w : ℕ) (s : Step) (rest left : List Step) (at : ℕ) (mid : MidStep) (stage : Stage)
-    → left ≡ s ∷ rest → stage ≡ Running mid → left_of (seconds_of s) s.seconds_before s.ran mid ≡ [] → (s.fails || s.warns) ≡ false
+    → left ≡ s ∷ rest → stage ≡ Running mid → left_of (seconds_of s) s.seconds_before s.ran mid ≡ [] → tells_end s.fails s.only_warns ≡ true → (s.fails || s.warns) ≡ false
     → from_stage w left at stage ≡ event w s (at + (seconds_of s)) (end_of s.fails (seconds_of s)) ∷ (halt_after w s at ++ behind w s rest at)
-running_ends w s rest left at mid stage first on none is =
-    rw (first, on, none, no_note s.fails s.warns is) refl
+running_ends w s rest left at mid stage first on none told is =
+    rw (first, on, none, told, no_note s.fails s.warns is) refl
 
 -- the note is told
 pub noting_notes : (w : ℕ) (s : Step) (rest left : List Step) (at : ℕ) (stage : Stage)
@@ -151,11 +164,17 @@ left_goes_on : (d own : ℕ) (ps : List Provisioner) (told i : ℕ) (outputs : O
 left_goes_on d own ps told i None = along_goes_on d told i (since own ps i) (drop i ps)
 left_goes_on d own ps told i (Some line) = amid_goes_on d told i line (since own ps i) (drop i ps)
 
-running_begins : (w : ℕ) (s : Step) (at : ℕ) (xs : List (ℕ × What)) (more halts behind : List Event) → GoesOn xs
-    → beginning_of (map (λ (p : ℕ × What). event w s (at + p.0) p.1) xs ++ event w s (at + (seconds_of s)) (end_of s.fails (seconds_of s)) ∷ more ++ halts ++ behind) ≡ None
-running_begins w s at [] more halts behind none =
-    elim s.fails as (λ b. cond (is_beginning (end_of b (seconds_of s))) (Some s.number) None ≡ None) [ true ↦ refl | false ↦ refl ]
-running_begins w s at (x ∷ xs) more halts behind none = rw none refl
+ending_begins : (w : ℕ) (s : Step) (at seconds : ℕ) (fails warns only_warns : Bool) (more : List Event)
+    → beginning_of (map (λ what. event w s at what) (cond (tells_end fails only_warns) (end_of fails seconds ∷ notes fails warns) (WarnNote ∷ [])) ++ more) ≡ None
+ending_begins w s at seconds true warns only_warns more = refl
+ending_begins w s at seconds false warns true more = refl
+ending_begins w s at seconds false warns false more = refl
+
+running_begins : (w : ℕ) (s : Step) (at : ℕ) (xs : List (ℕ × What)) (halts behind : List Event) → GoesOn xs
+    → beginning_of ((map (λ (p : ℕ × What). event w s (at + p.0) p.1) xs ++ map (λ what. event w s (at + seconds_of s) what) (endings s) ++ halts) ++ behind) ≡ None
+running_begins w s at [] halts behind none =
+    rw append_assoc (ending_begins w s (at + seconds_of s) (seconds_of s) s.fails s.warns s.only_warns (halts ++ behind))
+running_begins w s at (x ∷ xs) halts behind none = rw none refl
 
 note_begins : (b : Bool) → is_beginning (note_of b) ≡ false
 note_begins true = refl
@@ -169,7 +188,7 @@ halt_begins false hook = refl
 pub running_begins_none : (w : ℕ) (left : List Step) (at : ℕ) (mid : MidStep) (stage : Stage) → stage ≡ Running mid → beginning_of (from_stage w left at stage) ≡ None
 running_begins_none w [] at mid stage is = rw is refl
 running_begins_none w (s ∷ rest) at mid stage is =
-    rw is (running_begins w s at (left_of (seconds_of s) s.seconds_before s.ran mid) (map (λ what. event w s (at + (seconds_of s)) what) (notes s.fails s.warns)) (halt_after w s at) (behind w s rest at)
+    rw is (running_begins w s at (left_of (seconds_of s) s.seconds_before s.ran mid) (halt_after w s at) (behind w s rest at)
     (left_goes_on (seconds_of s) s.seconds_before s.ran mid.told mid.provisioner mid.outputs))
 
 pub noting_begins_none : (w : ℕ) (left : List Step) (at : ℕ) (stage : Stage) → stage ≡ Noting → beginning_of (from_stage w left at stage) ≡ None

@@ -6,7 +6,7 @@ use Rattle.apply_model.specs.declared.plan.step_kind.StepKind.{StepKind}
 use Rattle.apply_model.specs.declared.script.outcome.Outcome.{Outcome}
 use Rattle.apply_model.specs.declared.script.provisioner.Provisioner.{Provisioner}
 use Rattle.apply_model.specs.Plan.SavedPlan.{SavedPlan}
-use Rattle.apply_model.specs.Script.Outcome.{fails, has_failed, ran, took}
+use Rattle.apply_model.specs.Script.Outcome.{fails, has_failed, is_warned, ran, took}
 use Rattle.apply_model.specs.Script.OutcomeMap.{OutcomeMap, outcome_of}
 use Rattle.apply_hooks.specs.declared.phase.Phase.{Phase}
 use Rattle.apply_hooks.specs.declared.phase.Phase.TheVariants.{Pre, PostDone, PostFailed}
@@ -52,7 +52,8 @@ runs outcome i test = option_map_or test (slice_get (ran outcome.provisioners) i
 abbrev pub can_happen : StepKind → Outcome → What → Bool
 can_happen kind outcome Start = true
 can_happen kind outcome (Progress seconds) = list_any (λ time. time == seconds) (progress_times (took kind outcome))
-can_happen kind outcome (Complete seconds) = not (fails outcome) && seconds == took kind outcome
+can_happen kind outcome (Complete seconds) =
+    not (fails outcome) && not (is_warned outcome.result) && seconds == took kind outcome
 can_happen kind outcome (Errored seconds) = fails outcome && seconds == took kind outcome
 can_happen kind outcome ErrorNote = fails outcome
 can_happen kind outcome WarnNote = not (fails outcome) && has_warning outcome.result

@@ -4,10 +4,10 @@ use Rattle.std.specs.List.{enumerate_from}
 use Rattle.std.specs.Option.{option_map_or}
 use Rattle.apply_model.specs.declared.plan.step_kind.StepKind.{StepKind}
 use Rattle.apply_model.specs.declared.script.ending.Ending.{Ending}
-use Rattle.apply_model.specs.declared.script.ending.Ending.TheVariants.{Done, Failed}
+use Rattle.apply_model.specs.declared.script.ending.Ending.TheVariants.{Done, Failed, Warned}
 use Rattle.apply_model.specs.declared.script.provisioner.Provisioner.{Provisioner}
 use Rattle.apply_model.specs.Plan.SavedPlan.{SavedPlan}
-use Rattle.apply_model.specs.Script.Outcome.{fails, ran, seconds_before, seconds_behind}
+use Rattle.apply_model.specs.Script.Outcome.{fails, is_warned, ran, seconds_before, seconds_behind}
 use Rattle.apply_model.specs.Script.OutcomeMap.{OutcomeMap, first_skipped, outcome_of}
 use Rattle.apply_hooks.specs.declared.phase.Phase.{Phase}
 use Rattle.apply_hooks.specs.declared.rule.Rule.{Rule}
@@ -27,9 +27,10 @@ pub record Step : Type 0 where
   pub seconds_before : ℕ
   pub ran : List Provisioner
   pub seconds_behind : ℕ
-  -- it fails, by its provider or as a provisioner makes it fail; its provider warns
+  -- it fails, by its provider or as a provisioner makes it fail; its provider warns; its provider's failure only warns
   pub fails : Bool
   pub warns : Bool
+  pub only_warns : Bool
   -- the first hook that halts it, in each phase
   pub halts : Phase → Option ℕ
 
@@ -37,6 +38,7 @@ abbrev pub has_warning : Ending → Bool
 has_warning (Done id None) = false
 has_warning (Done id (Some diag)) = true
 has_warning (Failed diag) = false
+has_warning (Warned diag) = true
 
 -- the steps that a plan has for change c; none where there is no such change
 abbrev pub kinds_of : SavedPlan → ℕ → List StepKind
@@ -60,6 +62,7 @@ step_of work c k kind = record {
   seconds_behind = seconds_behind kind (outcome_of work.script c k);
   fails = fails (outcome_of work.script c k);
   warns = has_warning (outcome_of work.script c k).result;
+  only_warns = is_warned (outcome_of work.script c k).result;
   halts = λ phase. first_halting work.hooks (record { phase = phase; kind = kind; address = address_of work.plan c });
 }
 

@@ -1,5 +1,5 @@
 -- The events of one step (Machine-Readable UI, "Operation Messages"; hooks before and after each action).
-use Rattle.std.specs.Prelude.{ℕ, ◌+◌, List, [], ◌∷◌, ◌++◌, map, Bool, not, ◌&&◌, is_some, is_none, if◌then◌else◌, option_map, option_to_list}
+use Rattle.std.specs.Prelude.{ℕ, ◌+◌, List, [], ◌∷◌, ◌++◌, map, Bool, not, ◌&&◌, ◌||◌, is_some, is_none, if◌then◌else◌, option_map, option_to_list}
 use Rattle.apply_model.specs.Script.Outcome.{seconds_of_all}
 use Rattle.apply_hooks.specs.declared.phase.Phase.{Phase}
 use Rattle.apply_hooks.specs.declared.phase.Phase.TheVariants.{Pre, PostDone, PostFailed}
@@ -34,9 +34,16 @@ end_of fails seconds = if fails then Errored seconds else Complete seconds
 abbrev pub notes : (fails warns : Bool) → List What
 notes fails warns = if fails then ErrorNote ∷ [] else if warns then WarnNote ∷ [] else []
 
--- what happens at the end, but for a halt
+-- its end is told: of each step but one that only warns, and has not failed
+abbrev pub tells_end : (fails only_warns : Bool) → Bool
+tells_end fails only_warns = fails || not only_warns
+
+-- what happens at the end, but for a halt: of a step whose end is not told, the warning alone
 abbrev pub endings : Step → List What
-endings step = end_of step.fails (seconds_of step) ∷ notes step.fails step.warns
+endings step =
+    if tells_end step.fails step.only_warns
+    then end_of step.fails (seconds_of step) ∷ notes step.fails step.warns
+    else WarnNote ∷ []
 
 -- what happens to a step between its start and its end, and after how many seconds: the provisioners, the first of them
 -- behind what the provider does before them, with the progress before, within and behind them
@@ -59,6 +66,6 @@ step_events worker step at = if is_some (step.halts Pre) then halts worker step 
 abbrev pub step_time : Step → ℕ
 step_time step = if is_some (step.halts Pre) then 0 else seconds_of step
 
--- it completes, and no hook halts
+-- it does not fail, and no hook halts
 abbrev pub goes_on : Step → Bool
 goes_on step = is_none (step.halts Pre) && not step.fails && is_none (step.halts PostDone)

@@ -59,11 +59,12 @@ fn can_happen(script: &Script, kind: StepKind, event: &Event) -> bool
         seconds,
         fails,
         warns,
+        only_warns,
     } = StepFacts::new(script, event.change, event.step, kind);
     match event.what {
         What::Start => true,
         What::Progress(after) => is_progress_time(after, seconds),
-        What::Complete(after) => !fails && after == seconds,
+        What::Complete(after) => !fails && !only_warns && after == seconds,
         What::Errored(after) => fails && after == seconds,
         What::ErrorNote => fails,
         What::WarnNote => !fails && warns,

@@ -57,7 +57,7 @@ pub struct Runner<'a> {
 impl<'a> Runner<'a> {
     ghost use Rattle.std.specs.Prelude.{[], ◌∷◌, ◌++◌, ◌↔◌, Some, IfSome, IfNone, drop, take};
     ghost use Rattle.std.specs.List.{list_all};
-    ghost use Rattle.apply_model.specs.Script.Outcome.{fails};
+    ghost use Rattle.apply_model.specs.Script.Outcome.{fails, is_warned};
     ghost use Rattle.apply_events.specs.ChangeEvents.{change_events, first_time, span_of};
     ghost use Rattle.apply_events.specs.Fits.{HasStep, IsApplied};
     ghost use Rattle.apply_events.specs.Course.{GivesNext, beginning_of, ended_of};
@@ -191,7 +191,7 @@ impl<'a> Runner<'a> {
         }
     }
 
-    /// Tells what happens next before the end, or the end.
+    /// Tells what happens next before the end, or the end; where no end is told, the warning in its place.
     fn report(&mut self, kind: StepKind, mid: MidStep) -> Event
         requires step { left_of self.old ≡ step_at_hand self.old kind ∷ rest_of self.old }
         requires few { self.old.step < 2 }
@@ -208,6 +208,10 @@ impl<'a> Runner<'a> {
             return self.event(self.at + after as u64, what);
         }
         let facts = self.facts(kind);
+        if !facts.tells_end() {
+            self.stage = Stage::Noting;
+            return self.note(kind);
+        }
         let event = self.event(self.at + facts.seconds as u64, facts.end());
         if facts.has_note() {
             self.stage = Stage::Noting;
@@ -228,7 +232,7 @@ impl<'a> Runner<'a> {
         }
     }
 
-    /// Tells the note of the end.
+    /// Tells the note of the end, or in its place.
     fn note(&mut self, kind: StepKind) -> Event
         requires step { left_of self.old ≡ step_at_hand self.old kind ∷ rest_of self.old }
         requires few { self.old.step < 2 }
@@ -336,6 +340,7 @@ impl<'a> Runner<'a> {
         ensures seconds { result.seconds ≡ took kind (outcome_of self.now.script.now self.now.change self.now.step) }
         ensures fails { result.fails ≡ fails (outcome_of self.now.script.now self.now.change self.now.step) }
         ensures warns { result.warns ≡ has_warning (outcome_of self.now.script.now self.now.change self.now.step).result }
+        ensures only_warns { result.only_warns ≡ is_warned (outcome_of self.now.script.now self.now.change self.now.step).result }
         ensures few { result.seconds ≤ max_seconds }
     {
         StepFacts::new(self.script, self.change, self.step, kind)

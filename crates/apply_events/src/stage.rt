@@ -7,7 +7,7 @@ pub enum Stage {
     Before,
     /// It has started, and has not ended.
     Running(MidStep),
-    /// Its end was told. Its note comes next.
+    /// Its end was told, or is not told at all. Its note comes next.
     Noting,
     /// All was told but the halt by that hook.
     Halting(u8),

@@ -2,15 +2,15 @@
 
 ghost use Rattle.std.specs.Prelude.{◌≡◌, ◌≤◌, ◌||◌};
 ghost use Rattle.apply_model.specs.Script.Limits.{max_seconds};
-ghost use Rattle.apply_model.specs.Script.Outcome.{fails, took};
+ghost use Rattle.apply_model.specs.Script.Outcome.{fails, is_warned, took};
 ghost use Rattle.apply_model.specs.Script.OutcomeMap.{outcome_of};
 ghost use Rattle.apply_events.specs.Step.{has_warning};
 ghost use Rattle.apply_events.specs.Notes.{note_of};
-ghost use Rattle.apply_events.specs.StepEvents.{end_of, phase_after};
+ghost use Rattle.apply_events.specs.StepEvents.{end_of, phase_after, tells_end};
 
 use crate::what::What;
 use apply_hooks::Phase;
-use apply_model::{Ending, Script, StepKind};
+use apply_model::{Script, StepKind};
 
 /// What the events of a step take from its outcome, without its texts.
 #[derive(Clone, Copy)]
@@ -21,6 +21,8 @@ pub struct StepFacts {
     pub fails: bool,
     /// Whether the provider warns.
     pub warns: bool,
+    /// Whether the provider has failed, and that only warns.
+    pub only_warns: bool,
 }
 
 impl StepFacts {
@@ -29,20 +31,30 @@ impl StepFacts {
         ensures seconds { result.seconds ≡ took kind (outcome_of script.now change step) }
         ensures fails { result.fails ≡ fails (outcome_of script.now change step) }
         ensures warns { result.warns ≡ has_warning (outcome_of script.now change step).result }
+        ensures only_warns { result.only_warns ≡ is_warned (outcome_of script.now change step).result }
         ensures few { result.seconds ≤ max_seconds }
     {
         match script.outcome(change, step) {
             Some(outcome) => StepFacts {
                 seconds: outcome.took(kind),
                 fails: outcome.fails(),
-                warns: warns(&outcome.result),
+                warns: outcome.result.warning().is_some(),
+                only_warns: outcome.result.only_warns(),
             },
             None => StepFacts {
                 seconds: 0,
                 fails: false,
                 warns: false,
+                only_warns: false,
             },
         }
+    }
+
+    /// Whether the step's end is told: not where it only warns.
+    pub fn tells_end(self) -> bool
+        ensures { result ≡ tells_end self.fails self.only_warns }
+    {
+        self.fails || !self.only_warns
     }
 
     /// How the step ends.
@@ -56,14 +68,14 @@ impl StepFacts {
         }
     }
 
-    /// Whether a note follows the end.
+    /// Whether a note is told of it.
     pub fn has_note(self) -> bool
         ensures { result ≡ (self.fails || self.warns) }
     {
         self.fails || self.warns
     }
 
-    /// The note, where one follows.
+    /// The note, where one is told.
     pub fn note(self) -> What
         ensures { result ≡ note_of self.fails }
     {
@@ -83,14 +95,5 @@ impl StepFacts {
         } else {
             Phase::PostDone
         }
-    }
-}
-
-fn warns(ending: &Ending) -> bool
-    ensures { result ≡ has_warning ending.now }
-{
-    match ending {
-        Ending::Done { warning, .. } => warning.is_some(),
-        Ending::Failed { .. } => false,
     }
 }

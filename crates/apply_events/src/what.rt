@@ -13,7 +13,7 @@ pub enum What {
     Errored(u32),
     /// The error is told (`diagnostic`).
     ErrorNote,
-    /// The provider's warning is told (`diagnostic`).
+    /// The provider's warning is told (`diagnostic`), or in place of an end why a read has failed that only warns.
     WarnNote,
     /// A hook halts its change: no further step of it is begun.
     Halted {

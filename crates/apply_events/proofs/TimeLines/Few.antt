@@ -16,10 +16,10 @@ use Rattle.apply_hooks.specs.declared.phase.Phase.{Phase}
 use Rattle.apply_hooks.specs.declared.phase.Phase.TheVariants.{Pre}
 use Rattle.apply_events.specs.declared.event.Event.{Event}
 use Rattle.apply_events.specs.declared.what.What.{What}
-use Rattle.apply_events.specs.declared.what.What.TheVariants.{Halted, Start}
+use Rattle.apply_events.specs.declared.what.What.TheVariants.{Halted, Start, WarnNote}
 use Rattle.apply_events.specs.ChangeEvents.{begun, change_events, in_turn}
 use Rattle.apply_events.specs.Step.{Step, Work, kinds_applied, kinds_of, step_of}
-use Rattle.apply_events.specs.StepEvents.{between, endings, event, goes_on, halts, notes, phase_after, seconds_of, started, step_events, step_time}
+use Rattle.apply_events.specs.StepEvents.{between, end_of, endings, event, goes_on, halts, notes, phase_after, seconds_of, started, step_events, step_time, tells_end}
 use Rattle.apply_events.proofs.AppliedSteps.{few_applied}
 use Rattle.apply_events.proofs.MidSteps.{ran_all, ran_few, took_short}
 use Rattle.apply_events.proofs.Provisions.{few_along}
@@ -34,6 +34,11 @@ few_notes false false = omega arith
 few_found : (w : ℕ) (s : Step) (phase : Phase) (at : ℕ) (found : Option ℕ) → length (option_to_list (option_map (λ hook. event w s at (Halted phase hook)) found)) ≤ 1
 few_found w s phase at None = omega arith
 few_found w s phase at (Some hook) = omega arith
+
+few_endings : (s : Step) → length (endings s) ≤ 2
+few_endings s =
+    let note : length (notes s.fails s.warns) ≤ 1 = few_notes s.fails s.warns in
+    elim (tells_end s.fails s.only_warns) as (λ b. length (cond b (end_of s.fails (seconds_of s) ∷ notes s.fails s.warns) (WarnNote ∷ [])) ≤ 2) [ true ↦ omega arith | false ↦ omega arith ]
 
 -- a start, what lies between, and what comes at the end
 few_joined : (e : Event) (progress ends halt : List Event) → length progress ≤ 9455 → length ends ≤ 2 → length halt ≤ 1 → length (e ∷ (progress ++ ends ++ halt)) ≤ 9459
@@ -55,7 +60,7 @@ few_started w s at small =
     let inside : length (between s) ≤ 9455 = few_along (seconds_of s) s.seconds_before s.ran small.little small.few (omega arith) small.short in
     let same : length (map beat (between s)) ≡ length (between s) = length-map (between s) beat in
     let last : length (map tell (endings s)) ≡ length (endings s) = length-map (endings s) tell in
-    let note : length (notes s.fails s.warns) ≤ 1 = few_notes s.fails s.warns in
+    let two : length (endings s) ≤ 2 = few_endings s in
     few_joined (event w s at Start) (map beat (between s)) (map tell (endings s)) (halts w s (phase_after s.fails) (at + seconds_of s))
     (omega arith) (omega arith) (few_found w s (phase_after s.fails) (at + seconds_of s) (s.halts (phase_after s.fails)))
 
