@@ -14,7 +14,8 @@ pub mod provisioner;
 pub mod provisioners;
 pub mod script_step;
 pub mod step_outcomes;
-pub mod texts;
+pub mod timed_text;
+pub mod timed_texts;
 pub mod wait;
 pub mod waits;
 

@@ -1,5 +1,5 @@
 -- What a provider answers to a step, and the provisioners that run with it (the script's own format).
-use Rattle.std.specs.Prelude.{ℕ, ◌+◌, ◌≤◌, List, [], ◌∷◌, All, length, sum_by, Bool, true, false, ◌&&◌, ◌||◌, not, is_some, nat_lt, if◌then◌else◌, Option, Some, None}
+use Rattle.std.specs.Prelude.{ℕ, ◌+◌, ◌≤◌, List, [], ◌∷◌, All, length, sum_by, Bool, true, false, ◌&&◌, ◌||◌, not, is_some, nat_le, nat_lt, if◌then◌else◌, Option, Some, None}
 use Rattle.std.specs.List.{list_any}
 use Rattle.std.specs.Option.{option_or}
 use Rattle.apply_model.specs.declared.plan.step_kind.StepKind.{StepKind}
@@ -9,6 +9,7 @@ use Rattle.apply_model.specs.declared.script.ending.Ending.{Ending}
 use Rattle.apply_model.specs.declared.script.ending.Ending.TheVariants.{Done, Failed, Warned}
 use Rattle.apply_model.specs.declared.script.outcome.Outcome.{Outcome}
 use Rattle.apply_model.specs.declared.script.provisioner.Provisioner.{Provisioner}
+use Rattle.apply_model.specs.declared.script.timed_text.TimedText.{TimedText}
 use Rattle.apply_model.specs.Plan.StepKind.{is_kind}
 use Rattle.apply_model.specs.Script.Limits.{max_seconds, max_provisioners, max_outputs, max_waits}
 
@@ -32,6 +33,13 @@ ran (provisioner ∷ others) = provisioner ∷ (if makes_fail provisioner then [
 -- the seconds of some provisioners together
 abbrev pub seconds_of_all : List Provisioner → ℕ
 seconds_of_all provisioners = sum_by (λ provisioner. provisioner.seconds) provisioners
+
+-- Texts that a provisioner of so many seconds puts out come in time: none sooner than the one before it, the first after
+-- `low` seconds at least, and none behind the end
+abbrev pub are_in_time : (low seconds : ℕ) → List TimedText → Bool
+are_in_time low seconds [] = true
+are_in_time low seconds (text ∷ texts) =
+    nat_le low text.after && nat_le text.after seconds && are_in_time text.after seconds texts
 
 -- ---- how the step ends
 

@@ -4,7 +4,7 @@ ghost use Rattle.std.specs.Prelude.{◌≡◌};
 ghost use Rattle.std.specs.Option.{option_copied};
 
 use crate::script::diag::Diag;
-use crate::script::texts::Texts;
+use crate::script::timed_texts::TimedTexts;
 use crate::text::Text;
 
 /// What a provisioner does after the provider's create, or before its delete (Machine-Readable UI, "Operation Messages": `provision_start`,
@@ -15,8 +15,8 @@ pub struct Provisioner {
     pub name: Text,
     /// How long it takes, in seconds. In a script those of a step and of all its provisioners are 86,400 at most.
     pub seconds: u32,
-    /// What it puts out, at its end.
-    pub output: Texts,
+    /// What it puts out, and when.
+    pub output: TimedTexts,
     /// Why it fails, where it does.
     pub failed: Option<Diag>,
     /// Whether it may fail: where it does, the next provisioner runs, and the step goes on.
