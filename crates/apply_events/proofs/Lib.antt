@@ -2,6 +2,7 @@ pub mod AppliedSteps
 pub mod Begun
 pub mod Dealing
 pub mod Ended
+pub mod InTime
 pub mod Interleaved
 pub mod Joined
 pub mod MidSteps

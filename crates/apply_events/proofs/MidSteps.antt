@@ -1,9 +1,9 @@
 -- What is left of a step between its start and its end, one by one.
-use Rattle.std.proofs.Common.{◌≡◌, ℕ, zero, suc, ◌+◌, ◌-◌, ◌<◌, ◌≤◌, All, Bool, Bor, true, false, ◌&&◌, List, [], ◌∷◌, ◌++◌, cond, drop, length, map, Option, Some, None, sym, refl, ap, subst, ◌∙◌, arith}
+use Rattle.std.proofs.Common.{◌≡◌, ℕ, zero, suc, ◌+◌, ◌<◌, ◌≤◌, All, Bool, Bor, true, false, ◌&&◌, List, [], ◌∷◌, ◌++◌, cond, drop, get_or, length, Option, Some, None, sym, refl, ap, subst, ◌∙◌, arith}
 use Rattle.std.specs.Prelude.{IfNone, IfSome, is_some, not, slice_get}
 use Rattle.std.specs.List.{list_any}
 use Rattle.std.specs.Option.{option_copied}
-use Rattle.std.proofs.lemmas.List.{append_assoc, drop_more}
+use Rattle.std.proofs.lemmas.List.{drop_all, drop_more}
 use Rattle.std.proofs.lemmas.List.Sums.{sum_by-cons, sum_by-take-le, sum_by_more, sum_by_more_le}
 use Rattle.std.proofs.lemmas.List.Elements.{All-cons, All-head, All-nil, All-tail}
 use Rattle.std.proofs.lemmas.Option.{get_or_from_slice_get, slice_get_within}
@@ -11,14 +11,15 @@ use Rattle.apply_model.specs.declared.plan.step_kind.StepKind.{StepKind}
 use Rattle.apply_model.specs.declared.plan.step_kind.StepKind.TheVariants.{Delete}
 use Rattle.apply_model.specs.declared.script.outcome.Outcome.{Outcome}
 use Rattle.apply_model.specs.declared.script.provisioner.Provisioner.{Provisioner}
+use Rattle.apply_model.specs.declared.script.timed_text.TimedText.{TimedText}
 use Rattle.apply_model.specs.Plan.StepKind.{is_kind}
 use Rattle.apply_model.specs.Script.Outcome.{makes_fail, ran, seconds_before, seconds_in_all, seconds_of_all, took}
 use Rattle.apply_events.specs.declared.what.What.TheVariants.{ProvisionOutput, ProvisionStart}
 use Rattle.apply_events.specs.Course.{GivesNext}
 use Rattle.apply_events.specs.declared.mid_step.MidStep.{MidStep}
 use Rattle.apply_events.specs.declared.what.What.{What}
-use Rattle.apply_events.specs.MidStep.{left_at, left_of, since}
-use Rattle.apply_events.specs.Provisions.{along, progress, provision_end, results}
+use Rattle.apply_events.specs.MidStep.{due, left_at, left_of, since}
+use Rattle.apply_events.specs.Provisions.{along, output_at, progress, provision_end, told_by}
 
 -- ---- the provisioner at a number
 
@@ -117,74 +118,118 @@ pub run_none : (d own : ℕ) (ps : List Provisioner) (told i line : ℕ) (output
     → left_at d own ps told i outputs ≡ []
 run_none d own ps told i line outputs is past = rw (is, drop_none ps i (sym past)) refl
 
--- what it tells at its end, and what comes behind it
-abbrev ends_with : (d end i line : ℕ) → Provisioner → List Provisioner → List (ℕ × What)
-ends_with d end i line p others = map (λ (what : What). (end, what)) (results i line p) ++ along d end (i + 1) end others
+-- what it tells next, and what comes behind it
+abbrev rest_at : (d at i j since until : ℕ) (end : What) → List TimedText → List (ℕ × What)
+rest_at d at i j since until end [] = (at, end) ∷ []
+rest_at d at i j since until end (o ∷ os) = (at, ProvisionOutput i j) ∷ told_by d at i (j + 1) since until end os
+
+told_is : (d after i j since until : ℕ) (end : What) (outputs : List TimedText)
+    → told_by d after i j since until end outputs ≡ progress d after (due after since until outputs) ++ rest_at d (due after since until outputs) i j since until end outputs
+told_is d after i j since until end [] = refl
+told_is d after i j since until end (o ∷ os) = refl
+
+-- it stays due then while progress is told
+due_kept : (after later since until : ℕ) (outputs : List TimedText) → after ≤ later → later ≤ due after since until outputs → due later since until outputs ≡ due after since until outputs
+due_kept after later since until [] low high = refl
+due_kept after later since until (o ∷ os) low high = omega arith
+
+pub due_in_time : (after since until : ℕ) (outputs : List TimedText) → due after since until outputs ≤ until
+due_in_time after since until [] = omega arith
+due_in_time after since until (o ∷ os) = omega arith
+
+text_found : (outputs : List TimedText) (line : ℕ) (o : TimedText) → Some o ≡ slice_get outputs line → drop line outputs ≡ o ∷ drop (line + 1) outputs
+text_found outputs line o found = drop_more outputs line o (slice_get_within outputs line o (sym found)) ∙ ap (λ q. q ∷ drop (line + 1) outputs) (get_or_from_slice_get outputs line o o (sym found))
+
+pub due_found : (after since until : ℕ) (outputs : List TimedText) (line : ℕ) (o : TimedText) → Some o ≡ slice_get outputs line
+    → due after since until (drop line outputs) ≡ output_at after since until o
+due_found after since until outputs line o found = ap (due after since until) (text_found outputs line o found)
+
+pub due_past : (after since until : ℕ) (outputs : List TimedText) (line : ℕ) → length outputs ≤ line → due after since until (drop line outputs) ≡ until
+due_past after since until outputs line past = ap (due after since until) (drop_all line outputs past)
+
+first_left : (outputs : List TimedText) (line : ℕ) → line < length outputs → (o : TimedText) × (drop line outputs ≡ o ∷ drop (line + 1) outputs)
+first_left [] line less = absurd (omega arith)
+first_left (o ∷ os) line less = (get_or (o ∷ os) line o, drop_more (o ∷ os) line o less)
 
 left_within : (d own : ℕ) (ps : List Provisioner) (told i line begin : ℕ) (outputs : Option ℕ) (p : Provisioner)
     → outputs ≡ Some line → Some p ≡ slice_get ps i → begin ≡ since own ps i
-    → left_at d own ps told i outputs ≡ progress d told (begin + p.seconds) ++ ends_with d (begin + p.seconds) i line p (drop (i + 1) ps)
-left_within d own ps told i line begin outputs p is found same =
-    rw (is, ← same, drop_some ps i p (sym found))
-    (append_assoc (progress d told (begin + p.seconds)) (map (λ (what : What). (begin + p.seconds, what)) (results i line p)) (along d (begin + p.seconds) (i + 1) (begin + p.seconds) (drop (i + 1) ps)))
+    → left_at d own ps told i outputs
+    ≡ told_by d told i line begin (begin + p.seconds) (provision_end i p) (drop line p.output) ++ along d (begin + p.seconds) (i + 1) (begin + p.seconds) (drop (i + 1) ps)
+left_within d own ps told i line begin outputs p is found same = rw (is, ← same, drop_some ps i p (sym found)) refl
 
-pub run_times : (d own : ℕ) (ps : List Provisioner) (old new : MidStep) (line begin : ℕ) (first : ℕ × What) (p : Provisioner)
+pub run_times : (d own : ℕ) (ps : List Provisioner) (old new : MidStep) (line begin when : ℕ) (first : ℕ × What) (p : Provisioner)
     → old.outputs ≡ Some line → new.provisioner ≡ old.provisioner → new.outputs ≡ old.outputs → Some p ≡ slice_get ps old.provisioner → begin ≡ since own ps old.provisioner
-    → progress d old.told (begin + p.seconds) ≡ first ∷ progress d new.told (begin + p.seconds)
+    → when ≡ due old.told begin (begin + p.seconds) (drop line p.output) → old.told ≤ new.told → new.told ≤ when
+    → progress d old.told when ≡ first ∷ progress d new.told when
     → left_of d own ps old ≡ first ∷ left_of d own ps new
-run_times d own ps old new line begin first p is number outputs found same next =
+run_times d own ps old new line begin when first p is number outputs found same at low high next =
     let end = begin + p.seconds in
-    let rest = ends_with d end old.provisioner line p (drop (old.provisioner + 1) ps) in
-    left_within d own ps old.told old.provisioner line begin old.outputs p is found same
-    ∙ ap (λ l. l ++ rest) next
+    let i = old.provisioner in
+    let left = drop line p.output in
+    let more = along d end (i + 1) end (drop (i + 1) ps) in
+    let tells : ℕ → List (ℕ × What) = λ n. rest_at d n i line begin end (provision_end i p) left in
+    let kept : due new.told begin end left ≡ when = due_kept old.told new.told begin end left low (subst (λ n. new.told ≤ n) at high) ∙ sym at in
+    left_within d own ps old.told i line begin old.outputs p is found same
+    ∙ ap (λ l. l ++ more) (told_is d old.told i line begin end (provision_end i p) left ∙ ap (λ n. progress d old.told n ++ tells n) (sym at) ∙ ap (λ l. l ++ tells when) next)
     ∙ ap (λ l. first ∷ l) (sym (
-    ap (λ i. left_at d own ps new.told i new.outputs) number
-    ∙ left_within d own ps new.told old.provisioner line begin new.outputs p (outputs ∙ is) found same))
+    ap (λ n. left_at d own ps new.told n new.outputs) number
+    ∙ left_within d own ps new.told i line begin new.outputs p (outputs ∙ is) found same
+    ∙ ap (λ l. l ++ more) (told_is d new.told i line begin end (provision_end i p) left ∙ ap (λ n. progress d new.told n ++ tells n) kept)))
 
--- the next of some outputs
-results_more : (i line : ℕ) (p : Provisioner) → line < length p.output → results i line p ≡ ProvisionOutput i line ∷ results i (line + 1) p
-results_more i line p less =
-    let count : length p.output - line ≡ suc (length p.output - (line + 1)) = omega arith in
-    rw count refl
-
-results_end : (i line : ℕ) (p : Provisioner) → length p.output ≤ line → results i line p ≡ provision_end i p ∷ []
-results_end i line p all =
-    let count : length p.output - line ≡ 0 = omega arith in
-    rw count refl
-
-run_tells : (d own : ℕ) (ps : List Provisioner) (told i line begin : ℕ) (outputs : Option ℕ) (p : Provisioner)
+-- no progress comes before the next
+left_due : (d own : ℕ) (ps : List Provisioner) (told i line begin when : ℕ) (outputs : Option ℕ) (p : Provisioner)
     → outputs ≡ Some line → Some p ≡ slice_get ps i → begin ≡ since own ps i
-    → progress d told (begin + p.seconds) ≡ [] → line < length p.output
-    → left_at d own ps told i outputs ≡ (begin + p.seconds, ProvisionOutput i line) ∷ left_at d own ps told i (Some (line + 1))
-run_tells d own ps told i line begin outputs p is found same none less =
+    → when ≡ due told begin (begin + p.seconds) (drop line p.output) → progress d told when ≡ []
+    → left_at d own ps told i outputs
+    ≡ rest_at d when i line begin (begin + p.seconds) (provision_end i p) (drop line p.output) ++ along d (begin + p.seconds) (i + 1) (begin + p.seconds) (drop (i + 1) ps)
+left_due d own ps told i line begin when outputs p is found same at none =
+    let end = begin + p.seconds in
+    let left = drop line p.output in
+    let tells : ℕ → List (ℕ × What) = λ n. rest_at d n i line begin end (provision_end i p) left in
     left_within d own ps told i line begin outputs p is found same
-    ∙ rw (none, results_more i line p less) refl
-    ∙ ap (λ l. (begin + p.seconds, ProvisionOutput i line) ∷ l) (sym (
-    left_within d own ps told i (line + 1) begin (Some (line + 1)) p refl found same ∙ ap (λ l. l ++ ends_with d (begin + p.seconds) i (line + 1) p (drop (i + 1) ps)) none))
+    ∙ ap (λ l. l ++ along d end (i + 1) end (drop (i + 1) ps))
+    (told_is d told i line begin end (provision_end i p) left ∙ ap (λ n. progress d told n ++ tells n) (sym at) ∙ ap (λ l. l ++ tells when) none)
 
-run_ends : (d own : ℕ) (ps : List Provisioner) (told i line begin : ℕ) (outputs : Option ℕ) (p : Provisioner)
+run_tells : (d own : ℕ) (ps : List Provisioner) (told i line begin when : ℕ) (outputs : Option ℕ) (p : Provisioner)
     → outputs ≡ Some line → Some p ≡ slice_get ps i → begin ≡ since own ps i
-    → progress d told (begin + p.seconds) ≡ [] → length p.output ≤ line
-    → left_at d own ps told i outputs ≡ (begin + p.seconds, provision_end i p) ∷ left_at d own ps (begin + p.seconds) (i + 1) None
-run_ends d own ps told i line begin outputs p is found same none all =
-    left_within d own ps told i line begin outputs p is found same
-    ∙ rw (none, results_end i line p all, since_more own ps i p (sym found), ← same) refl
+    → when ≡ due told begin (begin + p.seconds) (drop line p.output) → progress d told when ≡ [] → line < length p.output
+    → left_at d own ps told i outputs ≡ (when, ProvisionOutput i line) ∷ left_at d own ps when i (Some (line + 1))
+run_tells d own ps told i line begin when outputs p is found same at none less =
+    let end = begin + p.seconds in
+    let next = first_left p.output line less in
+    let more = along d end (i + 1) end (drop (i + 1) ps) in
+    left_due d own ps told i line begin when outputs p is found same at none
+    ∙ ap (λ left. rest_at d when i line begin end (provision_end i p) left ++ more) next.1
+    ∙ ap (λ l. (when, ProvisionOutput i line) ∷ l) (sym (left_within d own ps when i (line + 1) begin (Some (line + 1)) p refl found same))
 
-pub run_tells_now : (d own : ℕ) (ps : List Provisioner) (old m : MidStep) (line begin : ℕ) (p : Provisioner)
-    → m ≡ old → old.outputs ≡ Some line → Some p ≡ slice_get ps old.provisioner → begin ≡ since own ps old.provisioner
-    → progress d old.told (begin + p.seconds) ≡ [] → line < length p.output
-    → left_of d own ps old ≡ (begin + p.seconds, ProvisionOutput m.provisioner line) ∷ left_at d own ps m.told m.provisioner (Some (line + 1))
-run_tells_now d own ps old m line begin p kept is found same none less =
-    subst (λ (x : MidStep). left_of d own ps old ≡ (begin + p.seconds, ProvisionOutput x.provisioner line) ∷ left_at d own ps x.told x.provisioner (Some (line + 1))) (sym kept)
-    (run_tells d own ps old.told old.provisioner line begin old.outputs p is found same none less)
+run_ends : (d own : ℕ) (ps : List Provisioner) (told i line begin when : ℕ) (outputs : Option ℕ) (p : Provisioner)
+    → outputs ≡ Some line → Some p ≡ slice_get ps i → begin ≡ since own ps i
+    → when ≡ due told begin (begin + p.seconds) (drop line p.output) → progress d told when ≡ [] → length p.output ≤ line
+    → left_at d own ps told i outputs ≡ (when, provision_end i p) ∷ left_at d own ps when (i + 1) None
+run_ends d own ps told i line begin when outputs p is found same at none all =
+    let end = begin + p.seconds in
+    let past : drop line p.output ≡ [] = drop_all line p.output all in
+    let last : when ≡ end = at ∙ ap (λ left. due told begin end left) past in
+    let next : since own ps (i + 1) ≡ end = since_more own ps i p (sym found) ∙ ap (λ n. n + p.seconds) (sym same) in
+    left_due d own ps told i line begin when outputs p is found same at none
+    ∙ ap (λ left. rest_at d when i line begin end (provision_end i p) left ++ along d end (i + 1) end (drop (i + 1) ps)) past
+    ∙ ap (λ l. (when, provision_end i p) ∷ l) (rw (last, next) refl)
 
-pub run_ends_now : (d own : ℕ) (ps : List Provisioner) (old m : MidStep) (line begin : ℕ) (p : Provisioner)
+pub run_tells_now : (d own : ℕ) (ps : List Provisioner) (old m : MidStep) (line begin when : ℕ) (p : Provisioner)
     → m ≡ old → old.outputs ≡ Some line → Some p ≡ slice_get ps old.provisioner → begin ≡ since own ps old.provisioner
-    → progress d old.told (begin + p.seconds) ≡ [] → length p.output ≤ line
-    → left_of d own ps old ≡ (begin + p.seconds, provision_end m.provisioner p) ∷ left_at d own ps (begin + p.seconds) (m.provisioner + 1) None
-run_ends_now d own ps old m line begin p kept is found same none all =
-    subst (λ (x : MidStep). left_of d own ps old ≡ (begin + p.seconds, provision_end x.provisioner p) ∷ left_at d own ps (begin + p.seconds) (x.provisioner + 1) None) (sym kept)
-    (run_ends d own ps old.told old.provisioner line begin old.outputs p is found same none all)
+    → when ≡ due old.told begin (begin + p.seconds) (drop line p.output) → progress d old.told when ≡ [] → line < length p.output
+    → left_of d own ps old ≡ (when, ProvisionOutput m.provisioner line) ∷ left_at d own ps when m.provisioner (Some (line + 1))
+run_tells_now d own ps old m line begin when p kept is found same at none less =
+    subst (λ (x : MidStep). left_of d own ps old ≡ (when, ProvisionOutput x.provisioner line) ∷ left_at d own ps when x.provisioner (Some (line + 1))) (sym kept)
+    (run_tells d own ps old.told old.provisioner line begin when old.outputs p is found same at none less)
+
+pub run_ends_now : (d own : ℕ) (ps : List Provisioner) (old m : MidStep) (line begin when : ℕ) (p : Provisioner)
+    → m ≡ old → old.outputs ≡ Some line → Some p ≡ slice_get ps old.provisioner → begin ≡ since own ps old.provisioner
+    → when ≡ due old.told begin (begin + p.seconds) (drop line p.output) → progress d old.told when ≡ [] → length p.output ≤ line
+    → left_of d own ps old ≡ (when, provision_end m.provisioner p) ∷ left_at d own ps when (m.provisioner + 1) None
+run_ends_now d own ps old m line begin when p kept is found same at none all =
+    subst (λ (x : MidStep). left_of d own ps old ≡ (when, provision_end x.provisioner p) ∷ left_at d own ps when (x.provisioner + 1) None) (sym kept)
+    (run_ends d own ps old.told old.provisioner line begin when old.outputs p is found same at none all)
 
 pub run_in_time : (d own : ℕ) (ps : List Provisioner) (i begin : ℕ) (p : Provisioner)
     → Some p ≡ slice_get ps i → own + seconds_of_all ps ≤ d → begin ≡ since own ps i → begin + p.seconds ≤ d

@@ -1,8 +1,8 @@
 -- The events of a step, one by one.
-use Rattle.std.proofs.Common.{◌≡◌, ℕ, ◌+◌, ◌-◌, Bool, true, false, not, ◌&&◌, ◌||◌, List, [], ◌∷◌, ◌++◌, drop, length, map, cond, append_assoc, Option, Some, None, refl}
+use Rattle.std.proofs.Common.{◌≡◌, ℕ, ◌+◌, Bool, true, false, not, ◌&&◌, ◌||◌, List, [], ◌∷◌, ◌++◌, drop, map, cond, append_assoc, Option, Some, None, refl}
 use Rattle.std.specs.Prelude.{is_none}
-use Rattle.std.specs.List.{range_with_len}
 use Rattle.apply_model.specs.declared.script.provisioner.Provisioner.{Provisioner}
+use Rattle.apply_model.specs.declared.script.timed_text.TimedText.{TimedText}
 use Rattle.apply_model.specs.Script.Outcome.{has_failed}
 use Rattle.apply_hooks.specs.declared.phase.Phase.{Phase}
 use Rattle.apply_hooks.specs.declared.phase.Phase.TheVariants.{Pre, PostDone}
@@ -16,7 +16,7 @@ use Rattle.apply_events.specs.ChangeEvents.{begun, in_turn}
 use Rattle.apply_events.specs.Course.{beginning_of, is_beginning}
 use Rattle.apply_events.specs.Notes.{note_of}
 use Rattle.apply_events.specs.MidStep.{amid, left_at, left_of, since}
-use Rattle.apply_events.specs.Provisions.{along, progress, provision_end, results, times_within}
+use Rattle.apply_events.specs.Provisions.{along, output_at, provision_end, times_within, told_by}
 use Rattle.apply_events.specs.Stages.{behind, events_from, from_stage, halt_after}
 use Rattle.apply_events.specs.Step.{Step}
 use Rattle.apply_events.specs.StepEvents.{between, end_of, endings, event, notes, phase_after, seconds_of, step_events, step_time, tells_end}
@@ -138,9 +138,13 @@ end_goes_on : (b : Bool) (i since : ℕ) (xs : List (ℕ × What)) → GoesOn ((
 end_goes_on true i since xs = refl
 end_goes_on false i since xs = refl
 
-results_go_on : (i since : ℕ) (js : List ℕ) (p : Provisioner) (xs : List (ℕ × What)) → GoesOn (map (λ what. (since, what)) (map (λ j. ProvisionOutput i j) js ++ provision_end i p ∷ []) ++ xs)
-results_go_on i since [] p xs = end_goes_on (has_failed p) i since xs
-results_go_on i since (j ∷ js) p xs = refl
+told_goes_on : (d after i j since until : ℕ) (p : Provisioner) (outputs : List TimedText) (xs : List (ℕ × What))
+    → GoesOn (told_by d after i j since until (provision_end i p) outputs ++ xs)
+told_goes_on d after i j since until p [] xs =
+    rw append_assoc (GoesOn-progress (times_within d after until) ((until, provision_end i p) ∷ xs) (end_goes_on (has_failed p) i until xs))
+told_goes_on d after i j since until p (o ∷ os) xs =
+    let at = output_at after since until o in
+    rw append_assoc (GoesOn-progress (times_within d after at) ((at, ProvisionOutput i j) ∷ (told_by d at i (j + 1) since until (provision_end i p) os ++ xs)) refl)
 
 along_goes_on : (d after i since : ℕ) (ps : List Provisioner) → GoesOn (along d after i since ps)
 along_goes_on d after i since [] = only (times_within d after d)
@@ -151,14 +155,13 @@ along_goes_on d after i since [] = only (times_within d after d)
 along_goes_on d after i since (p ∷ ps) =
     let until = since + p.seconds in
     GoesOn-progress (times_within d after since)
-    ((since, ProvisionStart i) ∷ (progress d since until ++ map (λ (what : What). (until, what)) (results i 0 p) ++ along d until (i + 1) until ps)) refl
+    ((since, ProvisionStart i) ∷ (told_by d since i 0 since until (provision_end i p) p.output ++ along d until (i + 1) until ps)) refl
 
 amid_goes_on : (d told i line since : ℕ) (ps : List Provisioner) → GoesOn (amid d told i line since ps)
 amid_goes_on d told i line since [] = tt
 amid_goes_on d told i line since (p ∷ ps) =
     let end = since + p.seconds in
-    let rest = map (λ (what : What). (end, what)) (results i line p) ++ along d end (i + 1) end ps in
-    rw append_assoc (GoesOn-progress (times_within d told end) rest (results_go_on i end (range_with_len line (length p.output - line)) p (along d end (i + 1) end ps)))
+    told_goes_on d told i line since end p (drop line p.output) (along d end (i + 1) end ps)
 
 left_goes_on : (d own : ℕ) (ps : List Provisioner) (told i : ℕ) (outputs : Option ℕ) → GoesOn (left_at d own ps told i outputs)
 left_goes_on d own ps told i None = along_goes_on d told i (since own ps i) (drop i ps)

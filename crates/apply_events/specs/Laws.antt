@@ -1,10 +1,14 @@
 -- Words of the laws of events.
-use Rattle.std.specs.Prelude.{ℕ, ◌<◌, ◌≤◌, ◌==◌, Bool, ◌&&◌, ◌||◌, List, length, All, nat_eq}
+use Rattle.std.specs.Prelude.{ℕ, ◌+◌, ◌<◌, ◌≤◌, ◌==◌, Bool, ◌&&◌, ◌||◌, List, [], ◌∷◌, ◌++◌, length, All, nat_eq}
 use Rattle.std.specs.List.{IsDistinct}
 use Rattle.apply_model.specs.Plan.SavedPlan.{max_changes}
 use Rattle.apply_model.specs.Script.OutcomeMap.{IsInRange}
+use Rattle.apply_model.specs.declared.script.timed_text.TimedText.{TimedText}
 use Rattle.apply_events.specs.declared.event.Event.{Event}
+use Rattle.apply_events.specs.declared.what.What.{What}
+use Rattle.apply_events.specs.declared.what.What.TheVariants.{ProvisionOutput}
 use Rattle.apply_events.specs.Fits.{Fits}
+use Rattle.apply_events.specs.Provisions.{progress}
 use Rattle.apply_events.specs.Step.{Work, kinds_of}
 use Rattle.apply_events.specs.Totals.{is_complete, is_errored}
 
@@ -26,3 +30,12 @@ pub record NamesEachOnce (work : Work) (changes : List ℕ) : Type 0 where
 -- each of the events can happen, with the plan and the script of the work
 abbrev pub AllFit : Work → List Event → Type 0
 AllFit work events = All (Fits work.plan work.script) events
+
+-- what a provisioner tells whose outputs come in time, of which number j is the first of these: each at its own second since
+-- the begin, with the progress up to then before it, and behind them its end
+abbrev pub told_in_time : (d after i j since until : ℕ) → (end : What) → List TimedText → List (ℕ × What)
+told_in_time d after i j since until end [] = progress d after until ++ (until, end) ∷ []
+told_in_time d after i j since until end (output ∷ outputs) =
+    progress d after (since + output.after)
+    ++ (since + output.after, ProvisionOutput i j)
+    ∷ told_in_time d (since + output.after) i (j + 1) since until end outputs

@@ -28,8 +28,8 @@ pub use lanes::turn::Turn;
 pub use lanes::{Lanes, MAX_LANES};
 pub use laws::{
     a_change_whose_first_step_is_skipped_has_no_event, a_further_change_comes_behind,
-    no_event_is_of_a_skipped_step, totals_of_joined_lists_add_up,
-    where_no_step_is_skipped_all_are_applied,
+    no_event_is_of_a_skipped_step, outputs_in_time_come_at_their_seconds,
+    totals_of_joined_lists_add_up, where_no_step_is_skipped_all_are_applied,
 };
 pub use partition::{
     a_partition_for_one_worker_is_all_numbers_in_order, a_rising_list_fits_below_its_limit,

@@ -1,9 +1,10 @@
 //! How far a step is between its start and its end.
 
-ghost use Rattle.std.specs.Prelude.{◌≡◌, ◌≤◌, ◌∷◌, [], ℕ, List, None, Some, IfNone, IfSome};
+ghost use Rattle.std.specs.Prelude.{◌≡◌, ◌+◌, ◌≤◌, ◌∷◌, [], ℕ, List, None, Some, IfNone, IfSome, drop};
 ghost use Rattle.apply_model.specs.declared.script.provisioner.Provisioner.{Provisioner};
 ghost use Rattle.apply_model.specs.Script.Limits.{max_seconds};
 ghost use Rattle.apply_model.specs.Script.Outcome.{ran, seconds_before, took};
+ghost use Rattle.apply_events.specs.MidStep.{due};
 ghost use Rattle.apply_events.specs.Provisions.{provision_end};
 
 use crate::provisioners_that_run::{begin_of, that_ran};
@@ -76,8 +77,8 @@ impl MidStep {
         Some((begin, What::ProvisionStart(self.provisioner)))
     }
 
-    /// What happens next, where the provisioner at hand has begun and told so many outputs: progress, an output, or that
-    /// it ends.
+    /// What happens next, where the provisioner at hand has begun and told so many outputs: progress, the next output, or that
+    /// it ends. At one moment progress comes first.
     fn run(&mut self, outcome: &Outcome, kind: StepKind, line: u8) -> Option<(u32, What)>
         requires short { took kind outcome.now ≤ max_seconds }
         requires outputs { self.old.outputs ≡ Some line }
@@ -89,20 +90,20 @@ impl MidStep {
         let Some(provisioner) = that_ran(outcome, self.provisioner) else {
             return None;
         };
-        let end = begin_of(outcome, kind, self.provisioner) + provisioner.seconds;
-        if let Some(told) = self.tell_until(outcome.took(kind), end) {
+        let begin = begin_of(outcome, kind, self.provisioner);
+        let due = due_of(self.told, begin, provisioner, line);
+        if let Some(told) = self.tell_until(outcome.took(kind), due) {
             return Some(told);
         }
+        self.told = due;
+        let prov = self.provisioner;
         if line < provisioner.output.len() {
             self.outputs = Some(line + 1);
-            let prov = self.provisioner;
-            return Some((end, What::ProvisionOutput { prov, line }));
+            return Some((due, What::ProvisionOutput { prov, line }));
         }
-        let what = end_of(self.provisioner, provisioner);
-        self.told = end;
         self.provisioner += 1;
         self.outputs = None;
-        Some((end, what))
+        Some((due, end_of(prov, provisioner)))
     }
 
     /// Tells the next progress of a step that takes `whole` seconds, if there is one no later than `until`.
@@ -112,6 +113,7 @@ impl MidStep {
         ensures some { IfSome result (λ told. progress whole self.old.told until ≡ told ∷ progress whole self.new.told until) }
         ensures same { (self.new.provisioner ≡ self.old.provisioner) × (self.new.outputs ≡ self.old.outputs) }
         ensures in_time { IfSome result (λ told. told.0 ≤ until) }
+        ensures on_time { IfSome result (λ told. (self.old.told ≤ self.new.told) × (self.new.told ≤ until)) }
     {
         let time = self.next_time(whole, until)?;
         self.told = time;
@@ -124,7 +126,7 @@ impl MidStep {
         ensures none { IfNone result (times_within whole self.now.told until ≡ []) }
         ensures some { IfSome result
             (λ time. times_within whole self.now.told until ≡ time ∷ times_within whole time until) }
-        ensures in_time { IfSome result (λ time. time ≤ until) }
+        ensures in_time { IfSome result (λ time. (self.now.told ≤ time) × (time ≤ until)) }
     {
         if self.told >= whole {
             return None;
@@ -135,6 +137,21 @@ impl MidStep {
         } else {
             None
         }
+    }
+}
+
+/// After how many seconds a provisioner that began after so many tells the output of that number, or that it ends where it has
+/// none: no sooner than all that was told, and no later than it ends.
+fn due_of(told: u32, begin: u32, provisioner: &Provisioner, line: u8) -> u32
+    requires { begin + provisioner.now.seconds ≤ max_seconds }
+    ensures { result ≡ due told begin (begin + provisioner.now.seconds) (drop line provisioner.now.output) }
+{
+    let end = begin + provisioner.seconds;
+    if line < provisioner.output.len() {
+        let at = begin.saturating_add(provisioner.output.get(line).after);
+        told.max(at).min(end)
+    } else {
+        end
     }
 }
 

@@ -24,7 +24,7 @@ pub enum What {
     },
     /// A provisioner begins (`provision_start`): its number among those of the step, from 0.
     ProvisionStart(u8),
-    /// A provisioner has put something out (`provision_progress`).
+    /// A provisioner puts something out (`provision_progress`).
     ProvisionOutput {
         /// The provisioner's number.
         prov: u8,
