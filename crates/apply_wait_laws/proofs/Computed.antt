@@ -55,3 +55,15 @@ second_is_skipped = refl
 
 pub skipped_is_not_halted : example.SkippedIsNotHalted
 skipped_is_not_halted = refl
+
+pub one_only_warns : example.OneOnlyWarns
+one_only_warns = refl
+
+pub one_goes_on_though_it_warns : example.OneGoesOnThoughItWarns
+one_goes_on_though_it_warns = refl
+
+pub one_warns_and_is_halted : example.OneWarnsAndIsHalted
+one_warns_and_is_halted = refl
+
+pub output_in_its_time : example.OutputInItsTime
+output_in_its_time = refl

@@ -1,5 +1,5 @@
 -- A step that begins has an event no sooner than a chain of waits that ends with it takes.
-use Rattle.std.proofs.Common.{◌≡◌, ℕ, ◌+◌, ◌≤◌, List, [], ◌∷◌, ◌++◌, cond, map, Option, Some, None, true, sym, ap, ◌∙◌, subst, ⊎_elim, arith}
+use Rattle.std.proofs.Common.{◌≡◌, ℕ, ◌+◌, ◌≤◌, Bool, List, [], ◌∷◌, ◌++◌, cond, map, Option, Some, None, true, false, sym, ap, ◌∙◌, subst, ⊎_elim, arith}
 use Rattle.std.specs.Prelude.{is_some, option_map, option_to_list}
 use Rattle.std.specs.List.{Contains}
 use Rattle.std.proofs.lemmas.Bool.{cases_eq}
@@ -9,11 +9,11 @@ use Rattle.apply_model.specs.declared.script.wait.Wait.{Wait}
 use Rattle.apply_events.specs.declared.event.Event.{Event}
 use Rattle.apply_events.specs.declared.lanes.taken.Taken.{Taken}
 use Rattle.apply_events.specs.declared.what.What.{What}
-use Rattle.apply_events.specs.declared.what.What.TheVariants.{Halted, Start}
+use Rattle.apply_events.specs.declared.what.What.TheVariants.{Halted, Start, WarnNote}
 use Rattle.apply_events.specs.ChangeEvents.{in_turn}
 use Rattle.apply_events.specs.Interleaving.{IsInterleaving}
 use Rattle.apply_events.specs.Step.{Step, Work}
-use Rattle.apply_events.specs.StepEvents.{between, end_of, event, halts, notes, phase_after, seconds_of, started, step_events, step_time}
+use Rattle.apply_events.specs.StepEvents.{between, end_of, endings, event, halts, notes, phase_after, seconds_of, started, step_events, step_time, tells_end}
 use Rattle.apply_events.specs.Waits.Moment.{later_by}
 use Rattle.apply_events.specs.Waits.TakenUp.{WereTakenUp}
 use Rattle.apply_events.specs.Waits.TimeLine.{lane_turns, turn_events}
@@ -31,18 +31,24 @@ use Rattle.apply_wait_laws.proofs.WholeSteps.{name_of}
 
 -- ---- the last event of a step
 
+-- what is told first at its end
+ending_found : (lane : ℕ) (s : Step) (at : ℕ) (told : Bool) (end : What) (others : List What)
+    → (e : Event) × Contains (map (λ what. event lane s at what) (cond told (end ∷ others) (WarnNote ∷ []))) e × (at ≤ e.at)
+ending_found lane s at true end others = (event lane s at end, in_head (event lane s at end) (map (λ what. event lane s at what) others), omega arith)
+ending_found lane s at false end others = (event lane s at WarnNote, in_head (event lane s at WarnNote) [], omega arith)
+
 last_found : (lane : ℕ) (s : Step) (at : ℕ) (found : Option ℕ)
     → (e : Event) × Contains (cond (is_some found) (option_to_list (option_map (λ hook. event lane s at (Halted Pre hook)) found)) (started lane s at)) e
     × (at + cond (is_some found) 0 (seconds_of s) ≤ e.at)
 last_found lane s at None =
     let beats = map (λ (p : ℕ × What). event lane s (at + p.0) p.1) (between s) in
-    let tell : What → Event = λ what. event lane s (at + seconds_of s) what in
-    let e = tell (end_of s.fails (seconds_of s)) in
-    let others = map tell (notes s.fails s.warns) in
+    let ends = map (λ what. event lane s (at + seconds_of s) what) (endings s) in
+    let found = ending_found lane s (at + seconds_of s) (tells_end s.fails s.only_warns) (end_of s.fails (seconds_of s)) (notes s.fails s.warns) in
+    let e = found.0 in
     let last = halts lane s (phase_after s.fails) (at + seconds_of s) in (
       e,
-      in_tail (event lane s at Start) ((beats ++ e ∷ others) ++ last) e (Contains-append_left (beats ++ e ∷ others) last e (Contains-append_right beats (e ∷ others) e (in_head e others))),
-      omega arith,
+      in_tail (event lane s at Start) ((beats ++ ends) ++ last) e (Contains-append_left (beats ++ ends) last e (Contains-append_right beats ends e found.1)),
+      found.2,
     )
 last_found lane s at (Some hook) = (event lane s at (Halted Pre hook), in_head (event lane s at (Halted Pre hook)) [], omega arith)
 

@@ -8,7 +8,8 @@ pub mod InVain
 pub mod LastEvents
 mod LeftOut
 pub mod Named
-pub mod Queued
+pub mod OnlyWarning
+mod Queued
 pub mod Skipped
 pub mod UnderWay
 pub mod Waited

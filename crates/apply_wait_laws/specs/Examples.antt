@@ -3,40 +3,70 @@ use Rattle.std.specs.Prelude.{◌≡◌, ℕ, List, [], ◌∷◌, Bool, true, f
 use Rattle.apply_model.specs.declared.plan.key.Key.TheVariants as key
 use Rattle.apply_model.specs.declared.plan.mode.Mode.TheVariants as mode
 use Rattle.apply_model.specs.declared.plan.step_kind.StepKind.{StepKind}
-use Rattle.apply_model.specs.declared.plan.step_kind.StepKind.TheVariants.{Create, Delete, Update}
-use Rattle.apply_model.specs.declared.script.ending.Ending.TheVariants.{Done, Failed}
+use Rattle.apply_model.specs.declared.plan.step_kind.StepKind.TheVariants.{Create, Delete, Read, Update}
+use Rattle.apply_model.specs.declared.script.diag.Diag.{Diag}
+use Rattle.apply_model.specs.declared.script.ending.Ending.{Ending}
+use Rattle.apply_model.specs.declared.script.ending.Ending.TheVariants.{Done, Failed, Warned}
 use Rattle.apply_model.specs.declared.script.outcome.Outcome.{Outcome}
+use Rattle.apply_model.specs.declared.script.provisioner.Provisioner.{Provisioner}
 use Rattle.apply_model.specs.declared.script.script_step.ScriptStep.{ScriptStep}
 use Rattle.apply_model.specs.declared.script.script_step.ScriptStep.TheVariants.{Answered, Skipped}
 use Rattle.apply_model.specs.Plan.ResourceChange.{ResourceChange}
-use Rattle.apply_hooks.specs.declared.phase.Phase.TheVariants.{Pre}
+use Rattle.apply_hooks.specs.declared.phase.Phase.TheVariants.{Pre, PostDone}
 use Rattle.apply_hooks.specs.declared.rule.Rule.{Rule}
 use Rattle.apply_hooks.specs.declared.verdict.Verdict.TheVariants.{Halt}
 use Rattle.apply_events.specs.Step.{Work}
 use Rattle.apply_events.specs.declared.event.Event.{Event}
 use Rattle.apply_events.specs.declared.what.What.{What}
-use Rattle.apply_events.specs.declared.what.What.TheVariants.{Start, Complete, Errored, ErrorNote, Halted}
+use Rattle.apply_events.specs.declared.what.What.TheVariants.{Start, Progress, Complete, Errored, ErrorNote, WarnNote, Halted, ProvisionStart, ProvisionOutput, ProvisionComplete}
 use Rattle.apply_events.specs.Waits.Merging.{time_line}
 use Rattle.apply_model.specs.declared.script.wait.Wait.{Wait}
 
 -- ---- what is applied
 
--- a step, how long it takes, whether it fails, whether it is skipped, and what it waits for
+-- a step, how long it takes, its provisioners, how it ends, whether it is skipped, and what it waits for
 pub record Planned : Type 0 where
   pub kind : StepKind
   pub seconds : ℕ
-  pub fails : Bool
+  pub provisioners : List Provisioner
+  pub ending : Ending
   pub skipped : Bool
   pub waits : List Wait
 
+abbrev pub why : Diag
+why = record { summary = []; detail = [] }
+
 abbrev pub goes : StepKind → (seconds : ℕ) → List Wait → Planned
-goes kind seconds waits = record { kind = kind; seconds = seconds; fails = false; skipped = false; waits = waits }
+goes kind seconds waits =
+    record { kind = kind; seconds = seconds; provisioners = []; ending = Done None None; skipped = false; waits = waits }
 
 abbrev pub failing : StepKind → (seconds : ℕ) → List Wait → Planned
-failing kind seconds waits = record { kind = kind; seconds = seconds; fails = true; skipped = false; waits = waits }
+failing kind seconds waits =
+    record { kind = kind; seconds = seconds; provisioners = []; ending = Failed why; skipped = false; waits = waits }
+
+-- a read whose failure only warns
+abbrev pub warning : (seconds : ℕ) → List Wait → Planned
+warning seconds waits =
+    record { kind = Read; seconds = seconds; provisioners = []; ending = Warned why; skipped = false; waits = waits }
 
 abbrev pub skipped : StepKind → List Wait → Planned
-skipped kind waits = record { kind = kind; seconds = 0; fails = false; skipped = true; waits = waits }
+skipped kind waits =
+    record { kind = kind; seconds = 0; provisioners = []; ending = Done None None; skipped = true; waits = waits }
+
+-- a create with provisioners
+abbrev pub provisioned : (seconds : ℕ) → List Provisioner → Planned
+provisioned seconds provisioners =
+    record { kind = Create; seconds = seconds; provisioners = provisioners; ending = Done None None; skipped = false; waits = [] }
+
+-- a provisioner that puts something out after each of these seconds
+abbrev pub putting_out : (seconds : ℕ) → List ℕ → Provisioner
+putting_out seconds times = record {
+  name = [];
+  seconds = seconds;
+  output = map (λ after. record { after = after; text = [] }) times;
+  failed = None;
+  may_fail = false;
+}
 
 abbrev pub step : (c k : ℕ) → Wait
 step c k = record { change = c; step = k }
@@ -57,8 +87,8 @@ change_of steps = record {
 abbrev pub outcome_of_planned : Planned → Outcome
 outcome_of_planned planned = record {
   seconds = planned.seconds;
-  provisioners = [];
-  result = if planned.fails then Failed (record { summary = []; detail = [] }) else Done None None;
+  provisioners = planned.provisioners;
+  result = planned.ending;
   after = planned.waits;
 }
 
@@ -215,3 +245,33 @@ SecondIsSkipped = Happens 1
 abbrev pub SkippedIsNotHalted : Type 0
 SkippedIsNotHalted = map told (time_line (work no_updates ((skipped Update [] ∷ []) ∷ (goes Create 1 [] ∷ []) ∷ [])) 2)
     ≡ tell 0 b Start ∷ tell 1 b (Complete 1) ∷ []
+
+-- ---- reads that only warn
+
+-- a read that only warns has no end, and a warning in its place; it is done for what waits for it
+abbrev pub OneOnlyWarns : Type 0
+OneOnlyWarns = Happens 2 ((goes Create 2 [] ∷ []) ∷ (warning 11 [] ∷ []) ∷ (goes Create 1 (b ∷ []) ∷ []) ∷ [])
+    (tell 0 a Start ∷ tell 0 b Start ∷ tell 2 a (Complete 2) ∷ tell 10 b (Progress 10) ∷ tell 11 b WarnNote
+    ∷ tell 11 c Start ∷ tell 12 c (Complete 1) ∷ [])
+
+-- its change goes on
+abbrev pub OneGoesOnThoughItWarns : Type 0
+OneGoesOnThoughItWarns = Happens 1 ((warning 1 [] ∷ goes Create 2 [] ∷ []) ∷ [])
+    (tell 0 a Start ∷ tell 1 a WarnNote ∷ tell 1 (step 0 1) Start ∷ tell 3 (step 0 1) (Complete 2) ∷ [])
+
+-- a hook that halts reads that are done
+abbrev pub no_more_reads : List (List Rule)
+no_more_reads = (record { phase = Some PostDone; kind = Some Read; address_begins = []; verdict = Halt } ∷ []) ∷ []
+
+-- it is asked as behind a step that is done, and where it halts what waits is left out
+abbrev pub OneWarnsAndIsHalted : Type 0
+OneWarnsAndIsHalted = map told (time_line (work no_more_reads ((warning 1 [] ∷ []) ∷ (goes Create 1 (a ∷ []) ∷ []) ∷ [])) 1)
+    ≡ tell 0 a Start ∷ tell 1 a WarnNote ∷ tell 1 a (Halted PostDone 0) ∷ []
+
+-- ---- output in its time
+
+-- each output stands at its own second, at one moment behind the progress
+abbrev pub OutputInItsTime : Type 0
+OutputInItsTime = Happens 1 ((provisioned 3 (putting_out 12 (0 ∷ 7 ∷ 12 ∷ 12 ∷ []) ∷ []) ∷ []) ∷ [])
+    (tell 0 a Start ∷ tell 3 a (ProvisionStart 0) ∷ tell 3 a (ProvisionOutput 0 0) ∷ tell 10 a (Progress 10) ∷ tell 10 a (ProvisionOutput 0 1)
+    ∷ tell 15 a (ProvisionOutput 0 2) ∷ tell 15 a (ProvisionOutput 0 3) ∷ tell 15 a (ProvisionComplete 0) ∷ tell 15 a (Complete 15) ∷ [])

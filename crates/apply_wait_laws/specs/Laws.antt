@@ -1,7 +1,8 @@
 -- Words of the laws of waits.
-use Rattle.std.specs.Prelude.{◌≡◌, ◌<◌, ◌≤◌, ◌↔◌, ◌⊎◌, ℕ, ◌+◌, ◌++◌, ◌==◌, ◌&&◌, ◌∷◌, All, Bool, true, false, List, Some, get_or, length, not, slice_get, sum_by}
+use Rattle.std.specs.Prelude.{◌≡◌, ◌<◌, ◌≤◌, ◌↔◌, ◌⊎◌, ℕ, ◌+◌, ◌++◌, ◌==◌, ◌&&◌, ◌∷◌, All, Bool, true, false, List, None, Some, get_or, length, not, slice_get, sum_by}
 use Rattle.std.specs.List.{Contains, filter, list_all, list_any}
 use Rattle.std.specs.Option.{option_map_or}
+use Rattle.apply_hooks.specs.declared.phase.Phase.TheVariants.{Pre, PostDone}
 use Rattle.apply_events.specs.declared.event.Event.{Event}
 use Rattle.apply_events.specs.declared.lanes.taken.Taken.{Taken}
 use Rattle.apply_events.specs.Fits.{HasStep, IsApplied}
@@ -57,6 +58,13 @@ goes_on_if_begun work name = option_map_or goes_on (slice_get (steps_of work nam
 -- along some events a step is done: it has some, and goes on
 abbrev pub is_done_along : Work → List Event → Wait → Bool
 is_done_along work events name = has_events events name && goes_on_if_begun work name
+
+-- a step only warns, and no hook halts it
+pub record OnlyWarns (step : Step) : Type 0 where
+  pub only_warns : step.only_warns ≡ true
+  pub has_not_failed : step.fails ≡ false
+  pub begins : step.halts Pre ≡ None
+  pub is_not_halted : step.halts PostDone ≡ None
 
 -- it has stopped: it has some, and has failed or was halted
 abbrev pub has_stopped : Work → List Event → Wait → Bool

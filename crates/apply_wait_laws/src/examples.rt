@@ -22,4 +22,8 @@ pub fn worked_examples()
     ensures first_is_skipped { example.FirstIsSkipped }
     ensures second_is_skipped { example.SecondIsSkipped }
     ensures skipped_is_not_halted { example.SkippedIsNotHalted }
+    ensures one_only_warns { example.OneOnlyWarns }
+    ensures one_goes_on_though_it_warns { example.OneGoesOnThoughItWarns }
+    ensures one_warns_and_is_halted { example.OneWarnsAndIsHalted }
+    ensures output_in_its_time { example.OutputInItsTime }
 {}

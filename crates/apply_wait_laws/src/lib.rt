@@ -4,11 +4,11 @@
 
 mod examples;
 
-ghost use Rattle.std.specs.Prelude.{◌≡◌, ◌<◌, ◌≤◌, ◌↔◌, ◌++◌, ◌∷◌, ℕ, All, List, Some, count_by, false, length, true};
+ghost use Rattle.std.specs.Prelude.{◌≡◌, ◌<◌, ◌≤◌, ◌↔◌, ◌++◌, ◌∷◌, ℕ, All, List, Some, count_by, false, length, slice_get, true};
 ghost use Rattle.std.specs.List.{Contains};
 ghost use Rattle.std.specs.List.Sorted.{IsNonDecreasingBy};
 ghost use Rattle.apply_model.specs.declared.script.wait.Wait.{Wait};
-ghost use Rattle.apply_events.specs.Step.{Work};
+ghost use Rattle.apply_events.specs.Step.{Step, Work, steps_of};
 ghost use Rattle.apply_model.specs.Script.Waits.{has_waits};
 ghost use Rattle.apply_events.specs.declared.event.Event.{Event};
 ghost use Rattle.apply_events.specs.declared.lanes.moment.Moment.{Moment};
@@ -22,7 +22,7 @@ ghost use Rattle.apply_events.specs.Waits.Merging.{time_line};
 ghost use Rattle.apply_events.specs.Waits.Schedule.{schedule};
 ghost use Rattle.apply_events.specs.Waits.TakenUp.{IsAppliedInTurns, WereTakenUp};
 ghost use Rattle.apply_events.specs.Waits.TimeLine.{IsTimeLine};
-ghost use Rattle.apply_wait_laws.specs.Laws.{AreWhole, BeginWhereAllIsDone, HasFewSteps, IsNext, LeaveOutNoneWithoutNeed, LeaveOutWhatWaitsInVain, NamesSteps, StandBehindWhatTheyWaitFor, TakesAsLong, has_events, is_of_step, is_under_way, time_of_all};
+ghost use Rattle.apply_wait_laws.specs.Laws.{AreWhole, BeginWhereAllIsDone, HasFewSteps, IsNext, LeaveOutNoneWithoutNeed, LeaveOutWhatWaitsInVain, NamesSteps, OnlyWarns, StandBehindWhatTheyWaitFor, TakesAsLong, has_events, is_done_along, is_of_step, is_under_way, time_of_all};
 
 pub use examples::worked_examples;
 
@@ -72,6 +72,13 @@ pub fn a_step_begins_where_all_that_it_waits_for_is_done()
         → BeginWhereAllIsDone work events }
     ensures applied { (work : Work) (n : ℕ) (events : List Event) → 0 < n → IsTimeLine work n events
         → All (λ event. IsApplied work.plan work.script event.change event.step) events }
+{}
+
+/// A step that only warns, and that no hook halts, is done where it has events: what waits for it begins.
+pub fn a_step_that_only_warns_is_done()
+    ensures { (work : Work) (events : List Event) (name : Wait) (step : Step)
+        → slice_get (steps_of work name.change) name.step ≡ Some step → OnlyWarns step
+        → is_done_along work events name ≡ has_events events name }
 {}
 
 /// Of a script that was read, a step has no events exactly where it is skipped, or waits, directly or through others, for a

@@ -21,4 +21,8 @@ returns c = record {
   first_is_skipped = computed.first_is_skipped;
   second_is_skipped = computed.second_is_skipped;
   skipped_is_not_halted = computed.skipped_is_not_halted;
+  one_only_warns = computed.one_only_warns;
+  one_goes_on_though_it_warns = computed.one_goes_on_though_it_warns;
+  one_warns_and_is_halted = computed.one_warns_and_is_halted;
+  output_in_its_time = computed.output_in_its_time;
 }
