@@ -14,11 +14,14 @@ mod deletes;
 mod fitting;
 mod lanes;
 mod notes;
+mod outputs;
 mod provisioners;
 mod skipped;
+mod warned;
 
 use apply_events::{Counts, Event, LATEST, Lanes, Runner, What, fits, is_of_plan};
 use apply_hooks::{FnHook, HookCall, HookClosure, Phase, Registry, Rules, Verdict};
+use apply_model::{Diag, Text};
 use apply_plan::{Plan, Script, StepKind, read_plan, read_script};
 use std::alloc::Global;
 use std::fmt::Debug;
@@ -94,6 +97,19 @@ fn parted<'a>(rt: &impl Abort, row: &'a str) -> (&'a str, &'a str) {
 fn put(rt: &impl Abort, alloc: Global, text: &str, cell: &str) -> &'static str {
     let text = text.replace(alloc, "CELL", cell).expect(rt, "memory");
     kept(rt, alloc, text).as_str()
+}
+
+/// A copy of a text.
+fn copied(rt: &impl Abort, alloc: Global, text: &str) -> Text {
+    Text::new(alloc, text).ok().expect(rt, "memory")
+}
+
+/// A diagnostic with that summary.
+fn diag(rt: &impl Abort, alloc: Global, summary: &str) -> Diag {
+    Diag {
+        summary: copied(rt, alloc, summary),
+        detail: copied(rt, alloc, ""),
+    }
 }
 
 /// The plan of that text.

@@ -13,7 +13,7 @@ fn counts(added: u64, changed: u64, removed: u64, failed: u64, halted: u64) -> C
 }
 
 /// Nothing is counted.
-const NOTHING: Counts = Counts {
+pub(super) const NOTHING: Counts = Counts {
     added: 0,
     changed: 0,
     removed: 0,
@@ -54,9 +54,22 @@ fn counts_are(
     between: Counts,
     wanted: Counts,
 ) {
-    let registry = Registry::new(alloc);
     let plan = plan_of(rt, alloc, actions);
     let script = script_of(rt, alloc, plan, steps);
+    counts_by(rt, alloc, actions, script, between, wanted);
+}
+
+/// Fails where the change with those actions is counted otherwise under the script.
+pub(super) fn counts_by(
+    rt: &impl Abort,
+    alloc: Global,
+    actions: &str,
+    script: &Script,
+    between: Counts,
+    wanted: Counts,
+) {
+    let registry = Registry::new(alloc);
+    let plan = plan_of(rt, alloc, actions);
     holds(rt, "one change", plan.len() == 1);
     let mut counted = Counts::new();
     counted_is(rt, "at first", &counted, &NOTHING);

@@ -5,13 +5,9 @@ ghost use Rattle.apply_events_tests.specs.Scripts.{IsSmall};
 
 use super::*;
 use apply_model::{
-    Diag, Ending, Outcome, Provisioner, Provisioners, ScriptStep, StepOutcomes, Text, Texts, Waits,
+    Ending, Outcome, Provisioner, Provisioners, ScriptStep, StepOutcomes, TimedText, TimedTexts,
+    Waits,
 };
-
-/// A copy of a text.
-fn copied(rt: &impl Abort, alloc: Global, text: &str) -> Text {
-    Text::new(alloc, text).ok().expect(rt, "memory")
-}
 
 /// A provisioner that takes so many seconds, and puts out one line. It fails or not, and may fail or may not.
 fn provisioner(
@@ -27,21 +23,21 @@ fn provisioner(
 {
     let mut output = Vec::new(alloc);
     output
-        .push(copied(rt, alloc, "bye"))
+        .push(TimedText {
+            after: seconds,
+            text: copied(rt, alloc, "bye"),
+        })
         .ok()
         .expect(rt, "memory");
     let failed = if fails {
-        Some(Diag {
-            summary: copied(rt, alloc, "boom"),
-            detail: copied(rt, alloc, ""),
-        })
+        Some(diag(rt, alloc, "boom"))
     } else {
         None
     };
     Provisioner {
         name: copied(rt, alloc, "local-exec"),
         seconds,
-        output: Texts::new(output),
+        output: TimedTexts::new(output),
         failed,
         may_fail,
     }

@@ -90,7 +90,7 @@ fn planned(rt: &impl Abort, alloc: Global, changes: &str) -> &'static str {
 }
 
 /// A plan of them.
-fn plan_of_all(rt: &impl Abort, alloc: Global, changes: &str) -> &'static Plan {
+pub(super) fn plan_of_all(rt: &impl Abort, alloc: Global, changes: &str) -> &'static Plan {
     let planned = planned(rt, alloc, changes);
     plan_in(rt, alloc, put(rt, alloc, CHANGES, planned))
 }
@@ -159,6 +159,21 @@ fn text_of(rt: &impl Abort, alloc: Global, events: &[Event]) -> &'static str {
         push_event(rt, alloc, &mut text, event);
     }
     kept(rt, alloc, text).as_str()
+}
+
+/// Fails where so many lanes report something else of the plan under the script.
+pub(super) fn lanes_tell(
+    rt: &impl Abort,
+    alloc: Global,
+    plan: &Plan,
+    script: &Script,
+    count: u8,
+    wanted: &str,
+) {
+    holds(rt, "some lanes", 0 < count);
+    holds(rt, "64 lanes at most", count <= 64);
+    let events = lane_events(rt, alloc, plan, script, &Registry::new(alloc), count);
+    text_is(rt, "lanes", text_of(rt, alloc, events).trim_end(), wanted);
 }
 
 /// Fails where so many lanes report something else than the plain body, and otherwise gives that as text.

@@ -17,7 +17,7 @@ fn skipped(alloc: Global) -> ScriptStep
 }
 
 /// A step that is done after so many seconds.
-fn done(alloc: Global, seconds: u32) -> ScriptStep
+pub(super) fn done(alloc: Global, seconds: u32) -> ScriptStep
     requires { seconds ≤ max_seconds }
     ensures { IsSmall result }
 {
@@ -33,7 +33,7 @@ fn done(alloc: Global, seconds: u32) -> ScriptStep
 }
 
 /// The script that says this of the first change.
-fn script_with(
+pub(super) fn script_with(
     rt: &impl Abort,
     alloc: Global,
     first: ScriptStep,
