@@ -6,10 +6,10 @@ use Rattle.apply_model.specs.declared.plan.step_kind.StepKind.{StepKind}
 use Rattle.apply_model.specs.declared.plan.step_kind.StepKind.TheVariants.{Create, Update, Delete, Read}
 use Rattle.apply_model.specs.declared.script.diag.Diag.{Diag}
 use Rattle.apply_model.specs.declared.script.ending.Ending.{Ending}
-use Rattle.apply_model.specs.declared.script.ending.Ending.TheVariants.{Done, Failed}
+use Rattle.apply_model.specs.declared.script.ending.Ending.TheVariants.{Done, Failed, Warned}
 use Rattle.apply_model.specs.declared.script.outcome.Outcome.{Outcome}
 use Rattle.apply_model.specs.Plan.ResourceChange.{ResourceChange}
-use Rattle.apply_model.specs.Script.Outcome.{failure_of}
+use Rattle.apply_model.specs.Script.Outcome.{failure_of, warning_in}
 use Rattle.apply_hooks.specs.declared.phase.Phase.{Phase}
 use Rattle.apply_events.specs.declared.counts.Counts.{Counts}
 use Rattle.apply_events.specs.declared.what.What.{What}
@@ -41,6 +41,7 @@ start_id Read change = change.prior_id
 abbrev pub told_id : Ending → Option (List ℕ)
 told_id (Done id warning) = id
 told_id (Failed diag) = None
+told_id (Warned diag) = None
 
 -- the id that is told when a step completes: the provider's, but for a delete
 abbrev pub end_id : StepKind → Ending → Option (List ℕ)
@@ -132,7 +133,7 @@ name_of outcome i = option_map_or (λ provisioner. provisioner.name) (slice_get 
 -- its output of that number
 abbrev pub output_of : Outcome → (i line : ℕ) → List ℕ
 output_of outcome i line =
-    option_map_or (λ provisioner. unwrap_or (slice_get provisioner.output line) [])
+    option_map_or (λ provisioner. option_map_or (λ timed. timed.text) (slice_get provisioner.output line) [])
     (slice_get outcome.provisioners i) []
 
 -- ---- diagnostics
@@ -162,10 +163,9 @@ no_diag = record { summary = []; detail = [] }
 abbrev pub told_failure : Outcome → Diag
 told_failure outcome = unwrap_or (failure_of outcome) no_diag
 
--- what the provider warned of
+-- what the provider warned of, or why it failed where that only warns
 abbrev pub warning_of : Ending → Diag
-warning_of (Done id warning) = unwrap_or warning no_diag
-warning_of (Failed diag) = no_diag
+warning_of ending = unwrap_or (warning_in ending) no_diag
 
 -- that a hook halted the change
 abbrev pub halt_of : StepKind → Phase → (hook : ℕ) → Diag

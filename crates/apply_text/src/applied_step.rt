@@ -68,7 +68,7 @@ impl<'a> AppliedStep<'a> {
     {
         match &self.outcome?.result {
             Ending::Done { id: Some(id), .. } => Some(id.as_str()),
-            Ending::Done { id: None, .. } | Ending::Failed { .. } => None,
+            Ending::Done { id: None, .. } | Ending::Failed { .. } | Ending::Warned { .. } => None,
         }
     }
 
@@ -82,18 +82,13 @@ impl<'a> AppliedStep<'a> {
         }
     }
 
-    /// What the provider warned of.
+    /// What the provider warned of, or why it failed where that only warns.
     pub fn warning(&self) -> DiagTexts<'a>
         ensures { diag_view result ≡ messages.warning_of (ending_view self.now) }
     {
         match self.outcome {
-            Some(
-                Outcome {
-                    result: Ending::Done { warning, .. },
-                    ..
-                },
-            ) => DiagTexts::new(warning.as_ref()),
-            _ => DiagTexts::new(None),
+            Some(outcome) => DiagTexts::new(outcome.result.warning()),
+            None => DiagTexts::new(None),
         }
     }
 
@@ -113,7 +108,7 @@ impl<'a> AppliedStep<'a> {
     {
         match self.provisioner(number) {
             Some(provisioner) if line < provisioner.output.len() => {
-                provisioner.output.get(line).as_str()
+                provisioner.output.get(line).text.as_str()
             }
             _ => "",
         }
