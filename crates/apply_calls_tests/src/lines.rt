@@ -25,11 +25,6 @@ pub fn summary(rt: &impl Print, alloc: Global) -> io::Result<()> {
     answer(rt, &line)
 }
 
-/// No hooks.
-fn no_hooks(alloc: Global) -> io::Result<&'static Registry> {
-    Ok(kept(alloc, Registry::new(alloc))?)
-}
-
 /// A script without entries.
 fn no_script(alloc: Global) -> io::Result<&'static Script> {
     Ok(kept(alloc, Script::empty())?)
@@ -43,7 +38,8 @@ fn no_event() -> io::Result<()> {
 /// Makes the line of the plan's first event.
 pub fn event(rt: &impl Print, alloc: Global) -> io::Result<()> {
     let plan = plan_of(alloc, ONE_CREATE)?;
-    event_of(rt, alloc, plan, no_script(alloc)?, no_hooks(alloc)?)
+    let registry = kept(alloc, Registry::new(alloc))?;
+    event_of(rt, alloc, plan, no_script(alloc)?, registry)
 }
 
 /// Makes the line of the first event of that plan.
@@ -113,7 +109,8 @@ pub fn pushed_summary(rt: &impl Print, alloc: Global) -> io::Result<()> {
 pub fn pushed_event(rt: &impl Print, alloc: Global) -> io::Result<()> {
     let plan = plan_of(alloc, ONE_CREATE)?;
     let buffer = begun(alloc, plan)?;
-    push_event_of(rt, plan, no_script(alloc)?, no_hooks(alloc)?, buffer)
+    let registry = kept(alloc, Registry::new(alloc))?;
+    push_event_of(rt, plan, no_script(alloc)?, registry, buffer)
 }
 
 /// Adds the line of the first event of that plan.
