@@ -77,12 +77,23 @@ fn takes_so_many<T: Threads + Wait + Sync + Abort>(
 /// The most bytes that an output takes with each write: single ones, few, and whole lines.
 const WRITES: [usize; 3] = [1, 7, 4096];
 
-/// Whatever byte is the first that the output does not take: it has all before it and nothing more.
+/// Whatever byte is the first that an output which takes so many with each write does not take: it has all before it and
+/// nothing more.
+fn fails_with_each_write<T: Threads + Wait + Sync + Abort>(
+    rt: &T,
+    alloc: Global,
+    workers: u8,
+    per_write: usize,
+) {
+    for room in 0..=FAILED_DESTROY_STREAM.len() {
+        takes_so_many(rt, alloc, workers, per_write, room);
+    }
+}
+
+/// The same, by however many it takes.
 fn fails_at_each_byte<T: Threads + Wait + Sync + Abort>(rt: &T, alloc: Global, workers: u8) {
     for per_write in WRITES {
-        for room in 0..=FAILED_DESTROY_STREAM.len() {
-            takes_so_many(rt, alloc, workers, per_write, room);
-        }
+        fails_with_each_write(rt, alloc, workers, per_write);
     }
 }
 
@@ -96,9 +107,20 @@ fn an_output_fails_under_two_workers(rt: HostRuntime) {
     fails_at_each_byte(&rt, rt.alloc(), 2);
 }
 
+/// Eight threads for each byte take their time, so these are apart.
 #[test]
-fn an_output_fails_under_eight_workers(rt: HostRuntime) {
-    fails_at_each_byte(&rt, rt.alloc(), 8);
+fn an_output_of_single_bytes_fails_under_eight_workers(rt: HostRuntime) {
+    fails_with_each_write(&rt, rt.alloc(), 8, 1);
+}
+
+#[test]
+fn an_output_of_few_bytes_fails_under_eight_workers(rt: HostRuntime) {
+    fails_with_each_write(&rt, rt.alloc(), 8, 7);
+}
+
+#[test]
+fn an_output_of_whole_lines_fails_under_eight_workers(rt: HostRuntime) {
+    fails_with_each_write(&rt, rt.alloc(), 8, 4096);
 }
 
 /// Fails where so many workers do not end so over an output that takes all and fails to flush.

@@ -149,7 +149,21 @@ fn first_fails() -> Run {
 /// The most bytes that a sink takes with each write: single ones, few, and whole lines.
 const WRITES: [usize; 3] = [1, 7, 4096];
 
-/// Whatever byte is the first that the sink does not take: it has all before it and nothing more, and all events are taken.
+/// Whatever byte is the first that a sink which takes so many with each write does not take: it has all before it and nothing
+/// more, and all events are taken.
+fn fails_with_each_write<R: Threads + Wait + Sync + Abort>(
+    rt: &R,
+    alloc: Global,
+    run: &Run,
+    workers: u8,
+    per_write: usize,
+) {
+    for room in 0..=run.stream.len() {
+        takes_so_many(rt, alloc, run, workers, per_write, room);
+    }
+}
+
+/// The same, by however many it takes.
 fn fails_at_each_byte_of<R: Threads + Wait + Sync + Abort>(
     rt: &R,
     alloc: Global,
@@ -157,9 +171,7 @@ fn fails_at_each_byte_of<R: Threads + Wait + Sync + Abort>(
     workers: u8,
 ) {
     for per_write in WRITES {
-        for room in 0..=run.stream.len() {
-            takes_so_many(rt, alloc, run, workers, per_write, room);
-        }
+        fails_with_each_write(rt, alloc, run, workers, per_write);
     }
 }
 
@@ -179,9 +191,20 @@ fn fails_at_each_byte_under_two_workers(rt: HostRuntime) {
     fails_at_each_byte_of(&rt, rt.alloc(), &failed_destroy(), 2);
 }
 
+/// Eight threads for each byte take their time, so these are apart.
 #[test]
-fn fails_at_each_byte_under_eight_workers(rt: HostRuntime) {
-    fails_at_each_byte_of(&rt, rt.alloc(), &failed_destroy(), 8);
+fn single_bytes_fail_under_eight_workers(rt: HostRuntime) {
+    fails_with_each_write(&rt, rt.alloc(), &failed_destroy(), 8, 1);
+}
+
+#[test]
+fn few_bytes_fail_under_eight_workers(rt: HostRuntime) {
+    fails_with_each_write(&rt, rt.alloc(), &failed_destroy(), 8, 7);
+}
+
+#[test]
+fn whole_lines_fail_under_eight_workers(rt: HostRuntime) {
+    fails_with_each_write(&rt, rt.alloc(), &failed_destroy(), 8, 4096);
 }
 
 /// Fails where a sink with room for so many bytes of the stream gets others, or the run does not end as it has to.
