@@ -11,6 +11,8 @@ pub mod Delivered
 pub mod EndedLines
 pub mod ErrorLevels
 pub mod Errors
+pub mod EscapedTokens
+pub mod EscapedTrees
 pub mod Fitting
 pub mod Given
 pub mod Heard
@@ -24,6 +26,7 @@ pub mod Ordinary
 pub mod OwnTexts
 pub mod Parts
 pub mod Phases
+pub mod PlainNumbers
 pub mod PlanTexts
 pub mod ReadBack
 pub mod ReadBytes

@@ -1,0 +1,45 @@
+-- A printed value is read as the same tree with its escapes.
+use Rattle.std.proofs.Common.{◌≡◌, ◌≤◌, ℕ, List, [], ◌++◌, IsUtf8, cond, Bool, true, Option, Some, None, refl, sym, ap, ◌∙◌, append-nil}
+use Rattle.std.specs.Prelude.{option_and_then}
+use Rattle.std.proofs.lemmas.Str.{is_utf8-from_IsUtf8}
+use Rattle.json.specs.Json as json
+use Rattle.json.specs.Json.{Json}
+use Rattle.json.specs.Lex.{tokens}
+use Rattle.json.specs.Tree.{HasNumbers, depth, json_tokens}
+use Rattle.json.proofs.Printed.Tokens.{tokens-print}
+use Rattle.json.proofs.Printed.Trees.{ArePrintable-json_tokens, value-json_tokens}
+use Rattle.serde_json.specs.Data.{Data}
+use Rattle.serde_json.specs.Read.{max_depth, of_json, read}
+use Rattle.apply_json.specs.Keeping.{own_text}
+use Rattle.apply_json.specs.Tree.{tree_of}
+use Rattle.apply_form.specs.Escapes.{escaped}
+use Rattle.apply_form.proofs.Utf8.{still_utf8}
+use Rattle.apply_agreement.proofs.EscapedTokens.{tokens_escaped}
+
+-- what is read of a text of these tokens
+read_of : (text : List ℕ) (j : Json) → tokens text ≡ json_tokens j → depth j ≤ max_depth → read text ≡ of_json j
+read_of text j are shallow =
+    ap (λ o. option_and_then of_json (option_and_then (λ p. json.if_last p.0 p.1) o))
+    (ap (json.value max_depth) (are ∙ sym (append-nil (json_tokens j))) ∙ value-json_tokens j max_depth [] shallow)
+
+tree_of_read : (text : List ℕ) → IsUtf8 text → tree_of text ≡ read text
+tree_of_read text utf8 = ap (λ (b : Bool). cond b (read text) None) (is_utf8-from_IsUtf8 text utf8)
+
+-- a printed value is read as the value
+pub own_tree : (j : Json) → HasNumbers j → IsUtf8 (own_text j) → depth j ≤ max_depth → tree_of (own_text j) ≡ of_json j
+own_tree j numbers utf8 shallow =
+    tree_of_read (own_text j) utf8 ∙ read_of (own_text j) j (tokens-print (json_tokens j) (ArePrintable-json_tokens j numbers)) shallow
+
+-- so it is with its escapes
+pub escaped_tree : (j : Json) → HasNumbers j → IsUtf8 (own_text j) → depth j ≤ max_depth → tree_of (escaped (own_text j)) ≡ of_json j
+escaped_tree j numbers utf8 shallow =
+    tree_of_read (escaped (own_text j)) (still_utf8 (own_text j) utf8)
+    ∙ read_of (escaped (own_text j)) j (tokens_escaped (json_tokens j) (ArePrintable-json_tokens j numbers)) shallow
+
+pub same_tree : (j : Json) → HasNumbers j → IsUtf8 (own_text j) → tree_of (escaped (own_text j)) ≡ tree_of (own_text j)
+same_tree j numbers utf8 =
+    let printable = ArePrintable-json_tokens j numbers in
+    tree_of_read (escaped (own_text j)) (still_utf8 (own_text j) utf8)
+    ∙ ap (λ ts. option_and_then of_json (option_and_then (λ p. json.if_last p.0 p.1) (json.value max_depth ts)))
+    (tokens_escaped (json_tokens j) printable ∙ sym (tokens-print (json_tokens j) printable))
+    ∙ sym (tree_of_read (own_text j) utf8)
