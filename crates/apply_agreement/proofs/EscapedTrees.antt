@@ -1,5 +1,5 @@
 -- A printed value is read as the same tree with its escapes.
-use Rattle.std.proofs.Common.{◌≡◌, ◌≤◌, ℕ, List, [], ◌++◌, IsUtf8, cond, Bool, true, Option, Some, None, refl, sym, ap, ◌∙◌, append-nil}
+use Rattle.std.proofs.Common.{◌≡◌, ◌≤◌, ℕ, List, [], ◌++◌, IsUtf8, cond, Bool, true, Option, Some, None, refl, sym, ap, ◌∙◌, subst, append-nil, arith}
 use Rattle.std.specs.Prelude.{option_and_then}
 use Rattle.std.proofs.lemmas.Str.{is_utf8-from_IsUtf8}
 use Rattle.json.specs.Json as json
@@ -10,11 +10,19 @@ use Rattle.json.proofs.Printed.Tokens.{tokens-print}
 use Rattle.json.proofs.Printed.Trees.{ArePrintable-json_tokens, value-json_tokens}
 use Rattle.serde_json.specs.Data.{Data}
 use Rattle.serde_json.specs.Read.{max_depth, of_json, read}
+use Rattle.serde_json.specs.Written.{compact_text, outline}
+use Rattle.serde_json.proofs.Texts.{print-outline}
 use Rattle.apply_json.specs.Keeping.{own_text}
 use Rattle.apply_json.specs.Tree.{tree_of}
+use Rattle.apply_text.specs.Laws.{line_feeds}
 use Rattle.apply_form.specs.Escapes.{escaped}
+use Rattle.apply_form.specs.Lines.{line_of}
 use Rattle.apply_form.proofs.Utf8.{still_utf8}
+use Rattle.apply_agreement.specs.Forms.{IsReadAs}
+use Rattle.apply_agreement.specs.Sound.{IsSound}
 use Rattle.apply_agreement.proofs.EscapedTokens.{tokens_escaped}
+use Rattle.apply_agreement.proofs.FormFeeds.{escaped_feeds, own_feeds}
+use Rattle.apply_agreement.proofs.ReadBack.{has_numbers, text_utf8}
 
 -- what is read of a text of these tokens
 read_of : (text : List ℕ) (j : Json) → tokens text ≡ json_tokens j → depth j ≤ max_depth → read text ≡ of_json j
@@ -43,3 +51,18 @@ same_tree j numbers utf8 =
     ∙ ap (λ ts. option_and_then of_json (option_and_then (λ p. json.if_last p.0 p.1) (json.value max_depth ts)))
     (tokens_escaped (json_tokens j) printable ∙ sym (tokens-print (json_tokens j) printable))
     ∙ sym (tree_of_read (own_text j) utf8)
+
+-- ---- a line of one object
+
+-- a sound object is read from its line as what its members in their order are read as
+pub line_read : (d found : Data) → IsSound d → (of_json (outline d) ≡ Some found) × (depth (outline d) ≤ 3) → IsReadAs (line_of d) found
+line_read d found sound is =
+    let same = print-outline d in
+    record {
+      text = escaped (compact_text d);
+      line_is = refl;
+      no_feed = escaped_feeds (compact_text d) (ap line_feeds (sym same) ∙ own_feeds (outline d) (has_numbers d sound));
+      tree_is = ap (λ t. tree_of (escaped t)) (sym same)
+          ∙ escaped_tree (outline d) (has_numbers d sound) (subst IsUtf8 (sym same) (text_utf8 d sound)) (omega (arith, is.1))
+          ∙ is.0;
+    }

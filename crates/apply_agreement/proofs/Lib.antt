@@ -14,8 +14,14 @@ pub mod Errors
 pub mod EscapedTokens
 pub mod EscapedTrees
 pub mod Fitting
+pub mod FormFeeds
+pub mod FormHeard
+pub mod FormLines
+pub mod FormNotes
+pub mod FormObjects
 pub mod Given
 pub mod Heard
+pub mod JsonTexts
 pub mod Legible
 pub mod LookUps
 pub mod Moves

@@ -32,10 +32,10 @@ use Rattle.apply_agreement.specs.Sound.{IsSound}
 use Rattle.apply_agreement.proofs.ReadBack.{tree_is}
 
 -- it is read in its own order, and is so deep at most
-abbrev IsInPlace : (deep : ℕ) → Data → Type 0
+abbrev pub IsInPlace : (deep : ℕ) → Data → Type 0
 IsInPlace deep d = (of_json (outline d) ≡ Some d) × (tree.depth (outline d) ≤ deep)
 
-key_back : (k : Key) → IsSound (key_data k) → IsInPlace 0 (key_data k)
+pub key_back : (k : Key) → IsSound (key_data k) → IsInPlace 0 (key_data k)
 key_back key.None h = (refl, omega arith)
 key_back (key.Name s) h = (refl, omega arith)
 key_back (key.Number (pos n)) h = (rw (number_of-decimal n h) refl, omega arith)
@@ -124,6 +124,10 @@ IsBack d = tree_of (compact_text d) ≡ Some d
 
 pub in_place_back : (d : Data) → IsSound d → IsInPlace 3 d → IsBack d
 in_place_back d sound is = tree_is d sound is.0 (omega (arith, is.1))
+
+-- the object of an event
+pub event_back : (change : ResourceChange) (kind : StepKind) (outcome : Outcome) (what : What) (seconds : ℕ) → IsSound (object_of seconds (event_message change kind outcome what)) → IsBack (object_of seconds (event_message change kind outcome what))
+event_back change kind outcome what seconds sound = in_place_back _ sound (event_in_place change kind outcome what seconds sound)
 
 one_back : (script : OutcomeMap) (seconds : ℕ) (e : Event) (found : Option ResourceChange) (ds : List Data) → (AllByRecursion IsSound ds → AllByRecursion IsBack ds)
     → AllByRecursion IsSound (option_map_or (λ (change : ResourceChange). option_map_or (λ step. object_of seconds (event_message change step (outcome_of script e.change e.step) e.what) ∷ []) (slice_get change.steps e.step) []) found [] ++ ds)

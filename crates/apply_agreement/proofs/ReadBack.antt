@@ -29,12 +29,12 @@ number_utf8 (negative (pos n)) h = absurd h
 number_utf8 (negative (negsuc n)) less = IsUtf8-append (45 ∷ []) (decimal (suc n)) (IsUtf8-are_ascii (45 ∷ []) refl) (decimal_utf8 (suc n) (omega arith))
 number_utf8 (float x) h = absurd h
 
-comma_utf8 : (later : Bool) → IsUtf8 (comma_if later)
+pub comma_utf8 : (later : Bool) → IsUtf8 (comma_if later)
 comma_utf8 true = IsUtf8-are_ascii (44 ∷ []) refl
 comma_utf8 false = IsUtf8-are_ascii [] refl
 
 mutual
-  text_utf8 : (d : Data) → IsSound d → IsUtf8 (compact_text d)
+  pub text_utf8 : (d : Data) → IsSound d → IsUtf8 (compact_text d)
   text_utf8 null h = IsUtf8-are_ascii (compact_text null) refl
   text_utf8 (boolean true) h = IsUtf8-are_ascii (compact_text (boolean true)) refl
   text_utf8 (boolean false) h = IsUtf8-are_ascii (compact_text (boolean false)) refl
@@ -64,7 +64,7 @@ numbers_of (negative (negsuc n)) less = IsNumber-signed_decimal (negsuc n) (omeg
 numbers_of (float x) h = absurd h
 
 mutual
-  has_numbers : (d : Data) → IsSound d → tree.HasNumbers (outline d)
+  pub has_numbers : (d : Data) → IsSound d → tree.HasNumbers (outline d)
   has_numbers null h = tt
   has_numbers (boolean b) h = tt
   has_numbers (number n) h = numbers_of n h

@@ -24,7 +24,7 @@ use Rattle.apply_text.specs.declared.operation.Operation.TheVariants.{Apply, Des
 use Rattle.apply_text.specs.Elapsed.{elapsed_of}
 use Rattle.apply_text.specs.Latest.{latest_of}
 use Rattle.apply_text.specs.Lines.{message_object, typed}
-use Rattle.apply_text.specs.Message.{diagnostic_message, end_id, event_message, halt_of, hook_message, id_note, name_of, output_of, provision_message, start_id, summary_message, told_failure, totals_text, warning_of}
+use Rattle.apply_text.specs.Message.{complete_message, diagnostic_message, end_id, event_message, halt_of, hook_message, id_note, name_of, output_of, provision_message, start_id, summary_message, told_failure, totals_text, warning_of}
 use Rattle.apply_text.specs.Moment.{moment_text}
 use Rattle.apply_text.specs.Objects.{changes_object, diagnostic_object, hook_object, provisioner_object}
 use Rattle.apply_text.specs.Order.{as_written, hook_messages_of, notes_of}
@@ -97,7 +97,7 @@ module _ (change : ResourceChange) (has : HasChangeTexts change) (seconds : ℕ)
   id_at_end Delete outcome texts = tt
   id_at_end Read outcome texts = texts.id
 
-  halt_texts : (kind : StepKind) (phase : Phase) (hook : ℕ) → hook < 2 ^ 64 → HasDiagTexts (halt_of kind phase hook)
+  pub halt_texts : (kind : StepKind) (phase : Phase) (hook : ℕ) → hook < 2 ^ 64 → HasDiagTexts (halt_of kind phase hook)
   halt_texts kind phase hook small = record {
     summary = IsUtf8-are_ascii (codes "execution halted") refl;
     detail = two (codes "Hook " ++ decimal hook ++ codes " answered Halt " ++ phase_words phase ++ codes " " ++ action_word kind) (codes ".")
@@ -112,6 +112,15 @@ module _ (change : ResourceChange) (has : HasChangeTexts change) (seconds : ℕ)
   named_text : (before name behind : List ℕ) → IsUtf8 before → IsUtf8 name → IsUtf8 behind → IsUtf8 (before ++ name ++ behind)
   named_text before name behind first named last = three before name behind first named last
 
+  -- a completion with any id
+  pub complete_sound : (kind : StepKind) (s : ℕ) (id : Option (List ℕ)) → s < 2 ^ 64 → IfSome id IsUtf8 → IsSound (object_of seconds (complete_message change kind s id))
+  complete_sound kind s id small named =
+      hook_line kind (noun_word kind ++ codes " complete after " ++ elapsed_of s ++ id_note id) (Some s) id (codes "apply_complete")
+      (two (noun_word kind ++ codes " complete after " ++ elapsed_of s) (id_note id)
+      (three (noun_word kind) (codes " complete after ") (elapsed_of s) (noun_utf8 kind) (IsUtf8-are_ascii (codes " complete after ") refl) (elapsed_utf8 s small))
+      (note_utf8 id named))
+      small named (IsUtf8-are_ascii (codes "apply_complete") refl)
+
   pub event_sound : (kind : StepKind) (outcome : Outcome) (what : What) → HasOutcomeTexts outcome → IsSmall what → IsSound (object_of seconds (event_message change kind outcome what))
   event_sound kind outcome Start texts small =
       hook_line kind (start_word kind ++ codes "..." ++ id_note (start_id kind change)) None (start_id kind change) (codes "apply_start")
@@ -123,12 +132,7 @@ module _ (change : ResourceChange) (has : HasChangeTexts change) (seconds : ℕ)
       (three (codes "Still ") (still_word kind) (codes "... [") (IsUtf8-are_ascii (codes "Still ") refl) (still_utf8 kind) (IsUtf8-are_ascii (codes "... [") refl))
       (elapsed_utf8 s small) (IsUtf8-are_ascii (codes " elapsed]") refl))
       small tt (IsUtf8-are_ascii (codes "apply_progress") refl)
-  event_sound kind outcome (Complete s) texts small =
-      hook_line kind (noun_word kind ++ codes " complete after " ++ elapsed_of s ++ id_note (end_id kind outcome.result)) (Some s) (end_id kind outcome.result) (codes "apply_complete")
-      (two (noun_word kind ++ codes " complete after " ++ elapsed_of s) (id_note (end_id kind outcome.result))
-      (three (noun_word kind) (codes " complete after ") (elapsed_of s) (noun_utf8 kind) (IsUtf8-are_ascii (codes " complete after ") refl) (elapsed_utf8 s small))
-      (note_utf8 (end_id kind outcome.result) (id_at_end kind outcome texts)))
-      small (id_at_end kind outcome texts) (IsUtf8-are_ascii (codes "apply_complete") refl)
+  event_sound kind outcome (Complete s) texts small = complete_sound kind s (end_id kind outcome.result) small (id_at_end kind outcome texts)
   event_sound kind outcome (Errored s) texts small =
       hook_line kind (noun_word kind ++ codes " errored after " ++ elapsed_of s) (Some s) None (codes "apply_errored")
       (three (noun_word kind) (codes " errored after ") (elapsed_of s) (noun_utf8 kind) (IsUtf8-are_ascii (codes " errored after ") refl) (elapsed_utf8 s small))

@@ -10,6 +10,7 @@ use Rattle.apply_text.specs.Calendar.{CivilDate, date_of_day, dates}
 use Rattle.apply_text.specs.Elapsed.{elapsed_of, minutes_text, seconds_text}
 use Rattle.apply_text.specs.Moment.{date_text, moment_text, time_text, two_digits}
 use Rattle.apply_text.proofs.ShortDates.{IsShort, dates_short}
+use Rattle.apply_form.specs.Moment.{fine_text}
 
 two : (n : ℕ) → n < 800 → IsUtf8 (two_digits n)
 two n less =
@@ -43,15 +44,24 @@ time_utf8 second less =
     (IsUtf8-are_ascii (codes ":") refl))
     (two (second % 60) (omega arith))
 
+second_utf8 : (seconds : ℕ) → IsUtf8 (option_map_or date_text (date_of_day (seconds / 86400)) [] ++ codes "T" ++ time_text (seconds % 86400))
+second_utf8 seconds =
+    let date = option_map_or date_text (date_of_day (seconds / 86400)) [] in
+    IsUtf8-append (date ++ codes "T") (time_text (seconds % 86400))
+    (IsUtf8-append date (codes "T") (short_at dates (seconds / 86400) dates_short) (IsUtf8-are_ascii (codes "T") refl))
+    (time_utf8 (seconds % 86400) (omega arith))
+
 pub moment_utf8 : (seconds : ℕ) → IsUtf8 (moment_text seconds)
 unfolding moment_text
 moment_utf8 seconds =
-    let date = option_map_or date_text (date_of_day (seconds / 86400)) [] in
-    IsUtf8-append (date ++ codes "T" ++ time_text (seconds % 86400)) (codes "Z")
-    (IsUtf8-append (date ++ codes "T") (time_text (seconds % 86400))
-    (IsUtf8-append date (codes "T") (short_at dates (seconds / 86400) dates_short) (IsUtf8-are_ascii (codes "T") refl))
-    (time_utf8 (seconds % 86400) (omega arith)))
-    (IsUtf8-are_ascii (codes "Z") refl)
+    IsUtf8-append (option_map_or date_text (date_of_day (seconds / 86400)) [] ++ codes "T" ++ time_text (seconds % 86400)) (codes "Z") (second_utf8 seconds) (IsUtf8-are_ascii (codes "Z") refl)
+
+-- a moment with its decimals
+pub fine_utf8 : (seconds : ℕ) → IsUtf8 (fine_text seconds)
+unfolding fine_text
+fine_utf8 seconds =
+    IsUtf8-append (option_map_or date_text (date_of_day (seconds / 86400)) [] ++ codes "T" ++ time_text (seconds % 86400)) (codes ".000000Z") (second_utf8 seconds)
+    (IsUtf8-are_ascii (codes ".000000Z") refl)
 
 -- ---- how long something took
 

@@ -1,5 +1,6 @@
 pub mod Accepted
 pub mod Applied
+pub mod Forms
 pub mod Levels
 pub mod Objects
 pub mod Passing
@@ -7,4 +8,5 @@ pub mod Plans
 pub mod Sound
 pub mod Texts
 pub mod Told
+pub mod ToldInForm
 pub mod WholeSteps

@@ -14,11 +14,14 @@ use Rattle.apply_text.specs.Message.{Message, event_message, summary_message}
 use Rattle.apply_text.specs.Moment.{moment_text}
 use Rattle.apply_text.specs.Order.{as_written}
 
--- the object of a message, so many seconds after the start of 1970
+-- the object of a message at a moment
+abbrev pub object_at : (moment : List ℕ) → Message → Data
+object_at moment message =
+    message_object message.level message.text moment (typed message.name message.body message.type_name)
+
+-- the same, so many seconds after the start of 1970
 abbrev pub object_of : (seconds : ℕ) → Message → Data
-object_of seconds message =
-    message_object message.level message.text (moment_text seconds)
-    (typed message.name message.body message.type_name)
+object_of seconds message = object_at (moment_text seconds) message
 
 abbrev pub version_object : SavedPlan → (start : ℕ) → Data
 version_object plan start =
