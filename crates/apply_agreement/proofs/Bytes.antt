@@ -78,7 +78,7 @@ stream_is plan script start operation taken =
 
 -- ---- its lines
 
-cut_off : (xs rest : List ℕ) → line_feeds xs ≡ 0 → cut.cut_lines (xs ++ 10 ∷ rest) ≡ xs ∷ cut.cut_lines rest
+pub cut_off : (xs rest : List ℕ) → line_feeds xs ≡ 0 → cut.cut_lines (xs ++ 10 ∷ rest) ≡ xs ∷ cut.cut_lines rest
 cut_off [] rest none = refl
 cut_off (x ∷ xs) rest none =
     let count = sum_by-cons (λ byte. cond (byte == 10) 1 0) x xs in

@@ -54,15 +54,15 @@ same_tree j numbers utf8 =
 
 -- ---- a line of one object
 
--- a sound object is read from its line as what its members in their order are read as
+-- the text of a sound object is read from its line as its members in their order, and has no line feed
+pub own_line : (d : Data) → IsSound d → depth (outline d) ≤ 3 → (tree_of (escaped (compact_text d)) ≡ of_json (outline d)) × (line_feeds (escaped (compact_text d)) ≡ 0)
+own_line d sound shallow =
+    let same = print-outline d in (
+      ap (λ t. tree_of (escaped t)) (sym same) ∙ escaped_tree (outline d) (has_numbers d sound) (subst IsUtf8 (sym same) (text_utf8 d sound)) (omega (arith, shallow)),
+      escaped_feeds (compact_text d) (ap line_feeds (sym same) ∙ own_feeds (outline d) (has_numbers d sound)),
+    )
+
 pub line_read : (d found : Data) → IsSound d → (of_json (outline d) ≡ Some found) × (depth (outline d) ≤ 3) → IsReadAs (line_of d) found
 line_read d found sound is =
-    let same = print-outline d in
-    record {
-      text = escaped (compact_text d);
-      line_is = refl;
-      no_feed = escaped_feeds (compact_text d) (ap line_feeds (sym same) ∙ own_feeds (outline d) (has_numbers d sound));
-      tree_is = ap (λ t. tree_of (escaped t)) (sym same)
-          ∙ escaped_tree (outline d) (has_numbers d sound) (subst IsUtf8 (sym same) (text_utf8 d sound)) (omega (arith, is.1))
-          ∙ is.0;
-    }
+    let line = own_line d sound is.1 in
+    record { text = escaped (compact_text d); line_is = refl; no_feed = line.1; tree_is = line.0 ∙ is.0 }

@@ -1,6 +1,9 @@
 -- What a checker hears of the lines of events and of diagnostics in Terraform's form.
-use Rattle.std.proofs.Common.{◌≡◌, ℕ, List, codes, bytes_eq, Bool, false, Option, Some, None, Ok, refl, ap, ◌∙◌}
+use Rattle.std.proofs.Common.{◌≡◌, ◌≤◌, ℕ, List, codes, bytes_eq, Bool, false, Option, Some, None, Ok, refl, ap, ◌∙◌}
+use Rattle.json.specs.Tree.{depth}
 use Rattle.serde_json.specs.Data.{Data}
+use Rattle.serde_json.specs.Read.{of_json}
+use Rattle.serde_json.specs.Written.{compact_text, outline}
 use Rattle.apply_model.specs.declared.plan.step_kind.StepKind.{StepKind}
 use Rattle.apply_model.specs.declared.script.diag.Diag.{Diag}
 use Rattle.apply_model.specs.declared.script.outcome.Outcome.{Outcome}
@@ -13,10 +16,14 @@ use Rattle.apply_events.specs.declared.what.What.{What}
 use Rattle.apply_events.specs.declared.what.What.TheVariants.{Start, Progress, Complete, Errored, ErrorNote, WarnNote, Halted, ProvisionStart, ProvisionOutput, ProvisionComplete, ProvisionErrored}
 use Rattle.apply_text.specs.Lines.{message_object}
 use Rattle.apply_text.specs.Message.{told_failure, warning_of}
+use Rattle.apply_form.specs.Escapes.{escaped}
+use Rattle.apply_form.specs.Lines.{line_of}
 use Rattle.apply_form.specs.Message.{end_id, noted_address}
 use Rattle.apply_agreement.specs.Forms.{IsReadAs, diagnostic_tree, said_in_form}
 use Rattle.apply_agreement.specs.Objects.{object_at}
+use Rattle.apply_agreement.specs.Sound.{IsSound}
 use Rattle.apply_agreement.specs.ToldInForm.{SaysAlone, heard_in_form}
+use Rattle.apply_agreement.proofs.EscapedTrees.{own_line}
 use Rattle.apply_agreement.proofs.Heard.{complete_heard, heard_at}
 
 -- what is read of a line is what it says
@@ -27,6 +34,17 @@ says line tree message read heard = record {
   no_feed = read.no_feed;
   says = ap (λ (o : Option Data). or_refuse NotJson o >>= tree_message false) read.tree_is ∙ heard;
 }
+
+-- the line of a sound object says what is heard of the object as it is read
+pub line_says : (d : Data) (message : Message) → IsSound d → depth (outline d) ≤ 3 → (or_refuse NotJson (of_json (outline d)) >>= tree_message false) ≡ Ok message → SaysAlone (line_of d) message
+line_says d message sound shallow heard =
+    let line = own_line d sound shallow in
+    record {
+      text = escaped (compact_text d);
+      line_is = refl;
+      no_feed = line.1;
+      says = ap (λ (o : Option Data). or_refuse NotJson o >>= tree_message false) line.0 ∙ heard;
+    }
 
 pub note_heard : (find : Bool) (moment level says : List ℕ) (address : Option (List ℕ)) (severity : List ℕ) (diag : Diag) (range snippet : Option Data)
     → tree_message find (object_at moment (record { level = level; text = says; name = codes "diagnostic"; body = diagnostic_tree address severity diag range snippet; type_name = codes "diagnostic" }))

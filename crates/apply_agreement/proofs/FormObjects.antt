@@ -20,7 +20,7 @@ use Rattle.apply_agreement.proofs.ObjectsBack.{key_back}
 
 -- ---- sound, in another order
 
-resource_moved : (change : ResourceChange) → IsSound (plain_resource change) → IsSound (resource_object change)
+pub resource_moved : (change : ResourceChange) → IsSound (plain_resource change) → IsSound (resource_object change)
 unfolding plain_resource resource_object
 resource_moved change h = (
   h.0,
@@ -80,7 +80,7 @@ body_of level text moment name type_name body h = h.2.2.2.2.1
 abbrev pub IsReadOf : (deep : ℕ) → Data → Data → Type 0
 IsReadOf deep d found = (of_json (outline d) ≡ Some found) × (tree.depth (outline d) ≤ deep)
 
-key_of : (change : ResourceChange) → IsSound (plain_resource change) → IsReadOf 1 (resource_object change) (plain_resource change)
+pub key_of : (change : ResourceChange) → IsSound (plain_resource change) → IsReadOf 1 (resource_object change) (plain_resource change)
 unfolding plain_resource resource_object
 key_of change h =
     let k = key_back change.key h.2.2.2.2.1 in

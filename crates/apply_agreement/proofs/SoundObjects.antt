@@ -185,7 +185,7 @@ version_sound plan start text = (
   ),
 )
 
-totals_utf8 : (operation : Operation) (counts : Counts) → AreSmall counts → IsUtf8 (totals_text operation counts)
+pub totals_utf8 : (operation : Operation) (counts : Counts) → AreSmall counts → IsUtf8 (totals_text operation counts)
 totals_utf8 Apply counts small =
     three (codes "Apply complete! Resources: " ++ decimal counts.added ++ codes " added, " ++ decimal counts.changed ++ codes " changed, ") (decimal counts.removed) (codes " destroyed.")
     (three (codes "Apply complete! Resources: " ++ decimal counts.added ++ codes " added, ") (decimal counts.changed) (codes " changed, ")

@@ -62,7 +62,7 @@ note_utf8 (Some id) h = three (codes " [id=") id (codes "]") (IsUtf8-are_ascii (
 
 -- ---- the objects in messages
 
-resource_sound : (change : ResourceChange) → HasChangeTexts change → IsSound (resource_object change)
+pub resource_sound : (change : ResourceChange) → HasChangeTexts change → IsSound (resource_object change)
 unfolding resource_object
 resource_sound change has = (
   IsUtf8-are_ascii (codes "addr") refl,
@@ -144,7 +144,7 @@ diagnostic_sound address severity diag where_is how has = (
   ),
 )
 
-operation_utf8 : (operation : Operation) → IsUtf8 (operation_word operation)
+pub operation_utf8 : (operation : Operation) → IsUtf8 (operation_word operation)
 operation_utf8 Apply = IsUtf8-are_ascii (operation_word Apply) refl
 operation_utf8 Destroy = IsUtf8-are_ascii (operation_word Destroy) refl
 

@@ -1,25 +1,41 @@
 //! Laws of what a checker reads in a stream in Terraform's form. Each function does nothing or only calls the laws that its own
 //! follows from; its contract is the law.
 
-ghost use Rattle.std.specs.Prelude.{◌≡◌, ℕ, List, Option, None, IfSome, IsUtf8};
+ghost use Rattle.std.specs.Prelude.{◌≡◌, ◌<◌, ◌^◌, ℕ, Bool, List, [], ◌∷◌, Option, None, Ok, IfSome, IsUtf8};
+ghost use Rattle.std.specs.List.{concat};
 ghost use Rattle.json.specs.Json.{Json};
 ghost use Rattle.json.specs.Tree.{HasNumbers};
 ghost use Rattle.serde_json.specs.Data.{Data};
 ghost use Rattle.apply_json.specs.Keeping.{own_text};
 ghost use Rattle.apply_json.specs.Tree.{tree_of};
+ghost use Rattle.apply_model.specs.declared.details.change_details.ChangeDetails.{ChangeDetails};
+ghost use Rattle.apply_model.specs.declared.details.note.Note.{Note};
 ghost use Rattle.apply_model.specs.declared.plan.step_kind.StepKind.{StepKind};
 ghost use Rattle.apply_model.specs.declared.script.outcome.Outcome.{Outcome};
 ghost use Rattle.apply_model.specs.Plan.ResourceChange.{ResourceChange};
+ghost use Rattle.apply_model.specs.Plan.SavedPlan.{SavedPlan};
+ghost use Rattle.apply_lines.specs.Cut.{cut_lines};
+ghost use Rattle.apply_check.specs.declared.verdict.whole.Whole.{Whole};
+ghost use Rattle.apply_check.specs.Lines.{verdict_of};
+ghost use Rattle.apply_check.specs.Message.{Message, summary, version};
+ghost use Rattle.apply_events.specs.declared.counts.Counts.{Counts};
 ghost use Rattle.apply_events.specs.declared.what.What.{What};
-ghost use Rattle.apply_text.specs.Lines as plain;
+ghost use Rattle.apply_text.specs.declared.operation.Operation.{Operation};
+ghost use Rattle.apply_text.specs.Lines as default;
 ghost use Rattle.apply_text.specs.Message.{event_message};
 ghost use Rattle.apply_text.specs.Moment.{moment_text};
 ghost use Rattle.apply_form.specs.Escapes.{escaped};
-ghost use Rattle.apply_form.specs.Lines.{event_line};
+ghost use Rattle.apply_form.specs.Lines.{event_line, note_text, planned_text, summary_text, version_text};
 ghost use Rattle.apply_form.specs.Moment.{fine_text};
+ghost use Rattle.apply_agreement.specs.Accepted.{totals_said};
+ghost use Rattle.apply_agreement.specs.Applied.{HasShortLines};
 ghost use Rattle.apply_agreement.specs.Forms.{AreKept, IsReadAs, TellsTheSame, said_in_form, told_diag};
 ghost use Rattle.apply_agreement.specs.Objects.{object_at};
-ghost use Rattle.apply_agreement.specs.Texts.{HasChangeTexts, HasOutcomeTexts, IsSmall};
+ghost use Rattle.apply_agreement.specs.Passing.{plain, verdict_on};
+ghost use Rattle.apply_agreement.specs.Texts.{AreSmall, HasChangeTexts, HasOutcomeTexts, IsSmall};
+ghost use Rattle.apply_agreement.specs.ToldInForm.{
+    AllSay, HasDetailTexts, HasNoteTexts, SaysAlone, heard_in_form, planned_told, told_of_note
+};
 
 /// A value that is printed is read as the same tree with its escapes: each stands for the character that it is an escape of.
 pub fn an_escaped_text_is_read_as_the_text()
@@ -33,7 +49,7 @@ pub fn an_escaped_text_is_read_as_the_text()
 pub fn both_forms_say_the_same_of_an_event()
     ensures applystream { (change : ResourceChange) (step : StepKind) (outcome : Outcome) (what : What) (seconds : ℕ)
         → HasChangeTexts change → HasOutcomeTexts outcome → IsSmall what
-        → IsReadAs (plain.message_line seconds (event_message change step outcome what))
+        → IsReadAs (default.message_line seconds (event_message change step outcome what))
         (object_at (moment_text seconds) (event_message change step outcome what)) }
     ensures terraform { (change : ResourceChange) (step : StepKind) (outcome : Outcome) (planned : Option (List ℕ))
         (range snippet : Option Data) (what : What) (seconds : ℕ)
@@ -44,4 +60,36 @@ pub fn both_forms_say_the_same_of_an_event()
     ensures same { (change : ResourceChange) (step : StepKind) (outcome : Outcome) (planned : Option (List ℕ)) (what : What)
         → TellsTheSame change step outcome planned what
         → said_in_form change step outcome planned None None what ≡ event_message change step outcome what }
+{}
+
+/// A checker hears of the line of an event in Terraform's form what it hears of the default form's: the address, the action, the
+/// seconds, and what becomes of a provisioner. Of what a provider says of a delete it hears no address.
+pub fn every_line_of_an_event_is_heard()
+    ensures { (change : ResourceChange) (step : StepKind) (outcome : Outcome) (planned : Option (List ℕ))
+        (range snippet : Option Data) (what : What) (seconds : ℕ)
+        → HasChangeTexts change → HasOutcomeTexts outcome → IsSmall what → IfSome planned IsUtf8
+        → AreKept (told_diag outcome what) range snippet
+        → SaysAlone (event_line seconds change step outcome planned what) (heard_in_form change step outcome what) }
+{
+    both_forms_say_the_same_of_an_event();
+}
+
+/// So it hears of the first line the version, of the line of a planned change what its word plans, of a diagnostic of no step
+/// whether it is an error and of which address, and of the summary the totals.
+pub fn every_line_beside_the_events_is_heard()
+    ensures version { (plan : SavedPlan) (start : ℕ) → IsUtf8 plan.version → SaysAlone (version_text plan start) version }
+    ensures planned { (change : ResourceChange) (details : ChangeDetails) (start : ℕ) → HasChangeTexts change → HasDetailTexts details
+        → AllSay (planned_text start change details ∷ []) (planned_told change details) }
+    ensures note { (note : Note) (start latest : ℕ) → HasNoteTexts note
+        → SaysAlone (note_text start latest note) (told_of_note note) }
+    ensures summary { (start latest : ℕ) (operation : Operation) (counts : Counts) (imported : ℕ)
+        → AreSmall counts → imported < 2 ^ 64
+        → SaysAlone (summary_text start latest operation counts imported) (summary (totals_said counts)) }
+{}
+
+/// To lines that say messages, each its own, a checker answers as to the messages, where none is longer than 64 MiB.
+pub fn lines_are_judged_by_what_they_say()
+    ensures { (plans : Bool) (lines : List (List ℕ)) (messages : List Message) (whole : Whole) → AllSay lines messages
+        → HasShortLines (concat lines) → verdict_on (plain plans) messages ≡ Ok whole
+        → verdict_of (plain plans) (cut_lines (concat lines)) ≡ Ok whole }
 {}
