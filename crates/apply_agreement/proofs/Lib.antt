@@ -18,9 +18,14 @@ pub mod FormEnds
 pub mod FormFeeds
 pub mod FormHeard
 pub mod FormLines
+pub mod FormMatches
 pub mod FormNotes
 pub mod FormObjects
+pub mod FormPendings
 pub mod FormPlanned
+mod FormCounts
+mod FormRuns
+mod FormSums
 pub mod Given
 pub mod Heard
 pub mod JsonTexts

@@ -68,8 +68,9 @@ module _ (plans : Bool) where
 
 pub all_say_both : (xs ys : List (List ℕ)) (ms ns : List Message) → AllSay xs ms → AllSay ys ns → AllSay (xs ++ ys) (ms ++ ns)
 all_say_both [] ys ms ns none others = subst (λ (l : List Message). AllSay ys (l ++ ns)) (sym none) others
-all_say_both (x ∷ xs) ys ms ns say others = either say
-  where
-    either : ((x ≡ []) × AllSay xs ms) ⊎ ((message : Message) × (later : List Message) × (ms ≡ message ∷ later) × SaysAlone x message × AllSay xs later) → AllSay ((x ∷ xs) ++ ys) (ms ++ ns)
-    either (inl empty) = inl (empty.0, all_say_both xs ys ms ns empty.1 others)
-    either (inr one) = inr (one.0, one.1 ++ ns, ap (λ (l : List Message). l ++ ns) one.2, one.3, all_say_both xs ys one.1 ns one.4 others)
+all_say_both (x ∷ xs) ys ms ns say others =
+    ⊎_elim
+    (λ (empty : (x ≡ []) × AllSay xs ms). inl (empty.0, all_say_both xs ys ms ns empty.1 others))
+    (λ (one : (message : Message) × (later : List Message) × (ms ≡ message ∷ later) × SaysAlone x message × AllSay xs later).
+    inr (one.0, one.1 ++ ns, ap (λ (l : List Message). l ++ ns) one.2, one.3, all_say_both xs ys one.1 ns one.4 others))
+    say

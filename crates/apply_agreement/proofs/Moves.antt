@@ -40,7 +40,7 @@ Sole addresses Provides = (b c : ℕ) → addresses b ≡ addresses c → Provid
 
 -- ---- words of phases
 
-by_address : (Q : List ℕ → Type 0) (a : List ℕ) → Q a → ((b : List ℕ) → bytes_eq a b ≡ false → Q b) → (b : List ℕ) → Q b
+pub by_address : (Q : List ℕ → Type 0) (a : List ℕ) → Q a → ((b : List ℕ) → bytes_eq a b ≡ false → Q b) → (b : List ℕ) → Q b
 by_address Q a here elsewhere b = ⊎_elim (λ yes. subst Q ((bytes_eq-Decides a b).0 yes) here) (λ no. elsewhere b no) (cases_Bool (bytes_eq a b))
 
 pub running : (k : Action) (t : ℕ) (p : Bool) → seconds_in k (under_way k t p) ≡ Some t

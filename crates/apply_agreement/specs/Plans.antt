@@ -1,8 +1,8 @@
 -- Plans as Terraform makes them, and scripts as they are read for them: a deposed object may stand beside the current
 -- one of its address, and is only deleted, only steps have provisioners that take them, and only reads only warn.
-use Rattle.std.specs.Prelude.{◌≡◌, ◌≤◌, ◌+◌, ℕ, All, [], Some, is_some, slice_get, false, true, length}
+use Rattle.std.specs.Prelude.{◌≡◌, ◌≤◌, ◌+◌, ℕ, All, List, [], ◌∷◌, ⊤, Some, is_some, slice_get, false, true, length}
 use Rattle.apply_model.specs.declared.plan.step_kind.StepKind.{StepKind}
-use Rattle.apply_model.specs.declared.plan.step_kind.StepKind.TheVariants.{Delete, Read}
+use Rattle.apply_model.specs.declared.plan.step_kind.StepKind.TheVariants.{Create, Delete, Read}
 use Rattle.apply_model.specs.Script.Outcome.{is_warned}
 use Rattle.apply_laws.specs.Plans.{NamesEachObjectOnce}
 use Rattle.apply_plan.specs.Plan.ResourceChange.{ResourceChange}
@@ -45,3 +45,15 @@ abbrev pub ReadsComeLast : SavedPlan → Type 0
 ReadsComeLast plan =
     (c k : ℕ) (change : ResourceChange) → IsChange plan c change → slice_get change.steps k ≡ Some Read
     → length change.steps ≡ k + 1
+
+-- what is done to an object: nothing, one thing, or it is replaced, by a create and a delete in either order
+abbrev pub AreStepsOfOne : List StepKind → Type 0
+AreStepsOfOne [] = ⊤
+AreStepsOfOne (kind ∷ []) = ⊤
+AreStepsOfOne (Create ∷ Delete ∷ []) = ⊤
+AreStepsOfOne (Delete ∷ Create ∷ []) = ⊤
+AreStepsOfOne _ = ⊥
+
+-- so it is of each change, as in each plan that is read
+abbrev pub ChangesAreWhole : SavedPlan → Type 0
+ChangesAreWhole plan = (c : ℕ) (change : ResourceChange) → IsChange plan c change → AreStepsOfOne change.steps
