@@ -23,9 +23,11 @@ pub mod FormNotes
 pub mod FormObjects
 pub mod FormPendings
 pub mod FormPlanned
+mod FormPlans
 mod FormCounts
 mod FormRuns
 mod FormSums
+mod FormWhole
 pub mod Given
 pub mod Heard
 pub mod JsonTexts

@@ -127,7 +127,7 @@ all_lines plan (e ∷ es) h =
 
 -- ---- as they are written
 
-count_written : (p : Event → Bool) (es : List Event) → count_by p (as_written es) ≡ count_by p es
+pub count_written : (p : Event → Bool) (es : List Event) → count_by p (as_written es) ≡ count_by p es
 count_written p es =
     let both = sum_by-append (λ e. cond (p e) 1 0) (hook_messages_of es) (notes_of es) in
     let split = sum_by-filter_both (λ (e : Event). is_note e.what) (λ e. not (is_note e.what)) (λ e. refl) (λ e. cond (p e) 1 0) es in
