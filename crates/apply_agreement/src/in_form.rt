@@ -34,7 +34,13 @@ ghost use Rattle.apply_agreement.specs.Objects.{object_at};
 ghost use Rattle.apply_agreement.specs.Passing.{plain, verdict_on};
 ghost use Rattle.apply_agreement.specs.Texts.{AreSmall, HasChangeTexts, HasOutcomeTexts, IsSmall};
 ghost use Rattle.apply_agreement.specs.ToldInForm.{
-    AllSay, HasDetailTexts, HasNoteTexts, SaysAlone, heard_in_form, planned_told, told_of_note
+  AllSay,
+  HasDetailTexts,
+  HasNoteTexts,
+  SaysAlone,
+  heard_in_form,
+  planned_told,
+  told_of_note,
 };
 
 /// A value that is printed is read as the same tree with its escapes: each stands for the character that it is an escape of.
