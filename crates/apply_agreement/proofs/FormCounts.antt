@@ -6,11 +6,12 @@ use Rattle.std.specs.Option.{option_map_or}
 use Rattle.std.proofs.lemmas.List.Elements.{All-head, All-tail}
 use Rattle.std.proofs.lemmas.List.Sums.{sum_by-append, sum_by-cons}
 use Rattle.apply_model.specs.declared.plan.step_kind.StepKind.{StepKind}
+use Rattle.apply_model.specs.declared.script.outcome.Outcome.{Outcome}
 use Rattle.apply_model.specs.declared.script.provisioner.Provisioner.{Provisioner}
 use Rattle.apply_model.specs.Plan.ResourceChange.{ResourceChange}
 use Rattle.apply_model.specs.Plan.SavedPlan.{SavedPlan}
 use Rattle.apply_model.specs.Script.Outcome.{has_failed}
-use Rattle.apply_model.specs.Script.OutcomeMap.{OutcomeMap, first_skipped}
+use Rattle.apply_model.specs.Script.OutcomeMap.{OutcomeMap, first_skipped, outcome_of}
 use Rattle.apply_check.specs.declared.messages.action.Action.{Action}
 use Rattle.apply_check.specs.Message.{Message}
 use Rattle.apply_check.specs.Tally.{begins}
@@ -50,7 +51,7 @@ starts_as plan k e = starts e.what && option_map_or (λ does. same_action (actio
 
 -- ---- what is told of starts
 
-told_starts : (k : Action) (change : ResourceChange) (does : StepKind) (outcome : _) (what : What)
+told_starts : (k : Action) (change : ResourceChange) (does : StepKind) (outcome : Outcome) (what : What)
     → count_by (begins k) (cond (is_silent does what) [] (heard_in_form change does outcome what ∷ [])) ≤ cond (starts what && same_action (action_of does) k) 1 0
 told_starts k change does outcome what = of_test (is_silent does what) what
   where
@@ -72,13 +73,13 @@ one_told : (plan : SavedPlan) (script : OutcomeMap) (k : Action) (e : Event) →
 one_told plan script k e = of_change (slice_get plan.changes e.change)
   where
     of_step : (change : ResourceChange) (o : Option StepKind)
-        → count_by (begins k) (option_map_or (λ does. cond (is_silent does e.what) [] (heard_in_form change does _ e.what ∷ [])) o [])
+        → count_by (begins k) (option_map_or (λ does. cond (is_silent does e.what) [] (heard_in_form change does (outcome_of script e.change e.step) e.what ∷ [])) o [])
         ≤ cond (starts e.what && option_map_or (λ does. same_action (action_of does) k) o false) 1 0
     of_step change None = omega arith
-    of_step change (Some does) = told_starts k change does _ e.what
+    of_step change (Some does) = told_starts k change does (outcome_of script e.change e.step) e.what
 
     of_change : (o : Option ResourceChange)
-        → count_by (begins k) (option_map_or (λ (change : ResourceChange). option_map_or (λ does. cond (is_silent does e.what) [] (heard_in_form change does _ e.what ∷ [])) (slice_get change.steps e.step) []) o [])
+        → count_by (begins k) (option_map_or (λ (change : ResourceChange). option_map_or (λ does. cond (is_silent does e.what) [] (heard_in_form change does (outcome_of script e.change e.step) e.what ∷ [])) (slice_get change.steps e.step) []) o [])
         ≤ cond (starts e.what && option_map_or (λ does. same_action (action_of does) k) (slice_get (option_map_or (λ (change : ResourceChange). change.steps) o []) e.step) false) 1 0
     of_change None = omega arith
     of_change (Some change) = of_step change (slice_get change.steps e.step)
@@ -102,9 +103,9 @@ module _ (plan : SavedPlan) (k : Action) where
   quiet_both es fs one other = let both = sum_by-append (λ e. cond (starts_as plan k e) 1 0) es fs in omega arith
 
   quiet_before : (e : Event) (es : List Event) → starts e.what ≡ false → quiet es → quiet (e ∷ es)
-  quiet_before e es no rest =
+  quiet_before e es other rest =
       let first = sum_by-cons (λ x. cond (starts_as plan k x) 1 0) e es in
-      let here : cond {A = ℕ} (starts_as plan k e) 1 0 ≡ 0 = ap (λ (b : Bool). cond (b && option_map_or (λ does. same_action (action_of does) k) (slice_get (kinds_of plan e.change) e.step) false) 1 0) no in
+      let here : cond {A = ℕ} (starts_as plan k e) 1 0 ≡ 0 = ap (λ (b : Bool). cond (b && option_map_or (λ does. same_action (action_of does) k) (slice_get (kinds_of plan e.change) e.step) false) 1 0) other in
       omega arith
 
   module _ (w : ℕ) (s : Step) where
@@ -181,16 +182,16 @@ steps_start work k c n (does ∷ kinds) at es are =
     let first = step_starts work.plan k some.0 (step_of work c n does) does lookup some.1 in
     let split : count_by (starts_as work.plan k) es ≡ count_by (starts_as work.plan k) (step_events some.0 (step_of work c n does) some.1) + count_by (starts_as work.plan k) some.2 =
     ap (count_by (starts_as work.plan k)) some.3 ∙ sum_by-append (λ e. cond (starts_as work.plan k e) 1 0) (step_events some.0 (step_of work c n does) some.1) some.2 in
-    let others = behind (goes_on (step_of work c n does)) refl some.2 some.4 some.5 in
+    let others = behind (goes_on (step_of work c n does)) refl some.2 (λ on. steps_start work k c (n + 1) kinds next some.2 (some.4 on)) some.5 in
     omega arith)
     are
   where
     next : (i : ℕ) (x : StepKind) → slice_get kinds i ≡ Some x → slice_get (kinds_of work.plan c) (n + 1 + i) ≡ Some x
     next i x is = subst (λ (m : ℕ). slice_get (kinds_of work.plan c) m ≡ Some x) (let e : n + suc i ≡ n + 1 + i = omega arith in e) (at (suc i) x is)
 
-    behind : (b : Bool) → goes_on (step_of work c n does) ≡ b → (rest : List Event) → (goes_on (step_of work c n does) ≡ true → AreOfSteps (map (λ p. step_of work c p.0 p.1) (enumerate_from (n + 1) kinds)) rest)
+    behind : (b : Bool) → goes_on (step_of work c n does) ≡ b → (rest : List Event) → (goes_on (step_of work c n does) ≡ true → count_by (starts_as work.plan k) rest ≤ count_by (does_so k) kinds)
         → (goes_on (step_of work c n does) ≡ false → rest ≡ []) → count_by (starts_as work.plan k) rest ≤ count_by (does_so k) kinds
-    behind true is rest on off = steps_start work k c (n + 1) kinds next rest (on is)
+    behind true is rest on off = on is
     behind false is rest on off = let none : count_by (starts_as work.plan k) rest ≡ 0 = ap (count_by (starts_as work.plan k)) (off is) in omega arith
 
 fewer : (p : StepKind → Bool) (m : ℕ) (kinds : List StepKind) → count_by p (take m kinds) ≤ count_by p kinds

@@ -102,9 +102,9 @@ both_counts p xs ys = sum_by-append (λ m. cond (p m) 1 0) xs ys
 still_within : (cap : Action → ℕ) (ns told rest : List Message) → IsWithin cap ns (told ++ rest) → PlansNothing told → IsWithin cap (behind ns told) rest
 still_within cap ns told rest within none = record {
   begun = λ k. let all = within.begun k in let now = counts_behind (begins k) ns told in let split = both_counts (begins k) told rest in omega arith;
-  creates = let now = counts_behind plans_create ns told in let old = within.creates in let no = none.creates in omega arith;
-  updates = let now = counts_behind plans_update ns told in let old = within.updates in let no = none.updates in omega arith;
-  deletes = let now = counts_behind plans_delete ns told in let old = within.deletes in let no = none.deletes in omega arith;
+  creates = let now = counts_behind plans_create ns told in let old = within.creates in let other = none.creates in omega arith;
+  updates = let now = counts_behind plans_update ns told in let old = within.updates in let other = none.updates in omega arith;
+  deletes = let now = counts_behind plans_delete ns told in let old = within.deletes in let other = none.deletes in omega arith;
   reads = within.reads;
 }
 
@@ -129,9 +129,9 @@ module _ (cap : Action → ℕ) where
         omega arith
 
   fits_plan : (a : List ℕ) (k : Action) (ns rest : List Message) → IsWithin cap ns (step a k heard.Start ∷ rest) → is_beyond_plan k heard.Start ns ≡ false
-  fits_plan a Create ns rest within = and_right (list_any is_planned ns) _ (lt-leb (count_by (begins Create) ns) (count_by plans_create ns) (let low = less a Create ns rest within refl in let same = within.creates in omega arith))
-  fits_plan a Update ns rest within = and_right (list_any is_planned ns) _ (lt-leb (count_by (begins Update) ns) (count_by plans_update ns) (let low = less a Update ns rest within refl in let same = within.updates in omega arith))
-  fits_plan a Delete ns rest within = and_right (list_any is_planned ns) _ (lt-leb (count_by (begins Delete) ns) (count_by plans_delete ns) (let low = less a Delete ns rest within refl in let same = within.deletes in omega arith))
+  fits_plan a Create ns rest within = and_right (list_any is_planned ns) _ (lt-leb (count_by plans_create ns) (count_by (begins Create) ns) (let low = less a Create ns rest within refl in let same = within.creates in omega arith))
+  fits_plan a Update ns rest within = and_right (list_any is_planned ns) _ (lt-leb (count_by plans_update ns) (count_by (begins Update) ns) (let low = less a Update ns rest within refl in let same = within.updates in omega arith))
+  fits_plan a Delete ns rest within = and_right (list_any is_planned ns) _ (lt-leb (count_by plans_delete ns) (count_by (begins Delete) ns) (let low = less a Delete ns rest within refl in let same = within.deletes in omega arith))
   fits_plan a Read ns rest within = and_right (list_any is_planned ns) false refl
   fits_plan a Refresh ns rest within = and_right (list_any is_planned ns) false refl
 
@@ -159,35 +159,35 @@ module _ (cap : Action → ℕ) where
   module _ (change : ResourceChange) (does : StepKind) (outcome : Outcome) (ms ns later rest : List Message) (alike : AreAlike ms ns) where
     later_step : (stage : TimedStage) → is_begin stage ≡ false → is_beyond_plan (action_of does) stage ns ≡ false → next ms (step change.address (action_of does) stage) ≡ Ok later
         → Went (step change.address (action_of does) stage) (step change.address (action_of does) stage ∷ []) ms ns
-    later_step stage no fits e =
+    later_step stage other fits e =
         went_one (step change.address (action_of does) stage) (step change.address (action_of does) stage) ms ns
-        (both_step change.address (action_of does) stage ms ns alike (was_stepped change.address (action_of does) stage ms later e) (room_later (action_of does) stage (pending_at (action_of does) (standing_of change.address ns)) no) fits)
+        (both_step change.address (action_of does) stage ms ns alike (was_stepped change.address (action_of does) stage ms later e) (room_later (action_of does) stage (pending_at (action_of does) (standing_of change.address ns)) other) fits)
 
     -- of an event that has a line
     says : (what : What) → is_end_of_failure what ≡ false → next ms (told change.address (action_of does) what) ≡ Ok later → IsWithin cap ns (heard_in_form change does outcome what ∷ rest)
         → Went (told change.address (action_of does) what) (heard_in_form change does outcome what ∷ []) ms ns
-    says Start no e within =
+    says Start other e within =
         went_one _ _ ms ns
         (both_step change.address (action_of does) heard.Start ms ns alike (was_stepped change.address (action_of does) heard.Start ms later e) (room_for change.address (action_of does) ms ns rest alike within)
         (fits_plan change.address (action_of does) ns rest within))
-    says (Progress s) no e within = later_step (heard.Progress s) refl refl e
-    says (Complete s) no e within = later_step (heard.Complete s) refl refl e
-    says (Errored s) no e within = absurd cc
-    says ErrorNote no e within = went_one _ _ ms ns (both_diagnostic change.address true (noted_address change does outcome) ms ns alike)
-    says WarnNote no e within = went_one _ _ ms ns (both_diagnostic change.address false (noted_address change does outcome) ms ns alike)
-    says (Halted phase hook) no e within = went_one _ _ ms ns (both_diagnostic change.address true (Some change.address) ms ns alike)
-    says (ProvisionStart i) no e within = went_one _ _ ms ns (both_provision change.address stage.Start ms ns alike (was_provisioned change.address stage.Start ms later e))
-    says (ProvisionOutput i line) no e within = went_one _ _ ms ns (both_provision change.address stage.Progress ms ns alike (was_provisioned change.address stage.Progress ms later e))
-    says (ProvisionComplete i) no e within = went_one _ _ ms ns (both_provision change.address stage.Complete ms ns alike (was_provisioned change.address stage.Complete ms later e))
-    says (ProvisionErrored i) no e within = went_one _ _ ms ns (both_provision change.address stage.Errored ms ns alike (was_provisioned change.address stage.Errored ms later e))
+    says (Progress s) other e within = later_step (heard.Progress s) refl refl e
+    says (Complete s) other e within = later_step (heard.Complete s) refl refl e
+    says (Errored s) other e within = absurd cc
+    says ErrorNote other e within = went_one _ _ ms ns (both_diagnostic change.address true (noted_address change does outcome) ms ns alike)
+    says WarnNote other e within = went_one _ _ ms ns (both_diagnostic change.address false (noted_address change does outcome) ms ns alike)
+    says (Halted phase hook) other e within = went_one _ _ ms ns (both_diagnostic change.address true (Some change.address) ms ns alike)
+    says (ProvisionStart i) other e within = went_one _ _ ms ns (both_provision change.address stage.Start ms ns alike (was_provisioned change.address stage.Start ms later e))
+    says (ProvisionOutput i line) other e within = went_one _ _ ms ns (both_provision change.address stage.Progress ms ns alike (was_provisioned change.address stage.Progress ms later e))
+    says (ProvisionComplete i) other e within = went_one _ _ ms ns (both_provision change.address stage.Complete ms ns alike (was_provisioned change.address stage.Complete ms later e))
+    says (ProvisionErrored i) other e within = went_one _ _ ms ns (both_provision change.address stage.Errored ms ns alike (was_provisioned change.address stage.Errored ms later e))
 
     abbrev told_here : What → List Message
     told_here what = cond (is_silent does what) [] (heard_in_form change does outcome what ∷ [])
 
     by_words : (what : What) → is_end_of_failure what ≡ false → next ms (told change.address (action_of does) what) ≡ Ok later → IsWithin cap ns (told_here what ++ rest) → Went (told change.address (action_of does) what) (told_here what) ms ns
-    by_words what no e within =
-        let has : told_here what ≡ heard_in_form change does outcome what ∷ [] = ap (λ (b : Bool). cond b [] (heard_in_form change does outcome what ∷ [])) (spoken does what no) in
-        subst (λ (l : List Message). Went (told change.address (action_of does) what) l ms ns) (sym has) (says what no e (subst (λ (l : List Message). IsWithin cap ns (l ++ rest)) has within))
+    by_words what other e within =
+        let has : told_here what ≡ heard_in_form change does outcome what ∷ [] = ap (λ (b : Bool). cond b [] (heard_in_form change does outcome what ∷ [])) (spoken does what other) in
+        subst (λ (l : List Message). Went (told change.address (action_of does) what) l ms ns) (sym has) (says what other e (subst (λ (l : List Message). IsWithin cap ns (l ++ rest)) has within))
 
   -- the end of a failure
   fails : (change : ResourceChange) (does : StepKind) (outcome : Outcome) (seconds : ℕ) (ms ns later : List Message) → AreAlike ms ns → next ms (told change.address (action_of does) (Errored seconds)) ≡ Ok later

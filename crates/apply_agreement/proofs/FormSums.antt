@@ -24,6 +24,12 @@ none_at_all : (low n : ℕ) (g : ℕ → ℕ) → ((c : ℕ) → g c ≡ 0) → 
 none_at_all low zero g each = refl
 none_at_all low (suc n) g each = let first = each low in let rest = none_at_all (low + 1) n g each in omega arith
 
+next_above : (b low : ℕ) → low ≤ b → b ≢ low → low + 1 ≤ b
+next_above zero zero above apart = absurd (apart refl)
+next_above zero (suc low) above apart = absurd (omega arith)
+next_above (suc b) zero above apart = omega arith
+next_above (suc b) (suc low) above apart = let rest = next_above b low (omega arith) (λ e. apart (ap suc e)) in omega arith
+
 -- one of them has more
 one_more : (low n b x : ℕ) (g h : ℕ → ℕ) → ((c : ℕ) → h c ≡ cond (b == c) x 0 + g c) → (b < low → total low n h ≡ total low n g) × (low ≤ b → b < low + n → total low n h ≡ x + total low n g)
 one_more low zero b x g h is = (λ below. refl, λ above below. absurd (omega arith))
@@ -41,18 +47,9 @@ one_more low (suc n) b x g h is =
     let here : cond {A = ℕ} (b == low) x 0 ≡ 0 = ap (λ (t : Bool). cond t x 0) apart.0 in
     let other = apart.1 in (
       λ below. let others = rest.0 (omega arith) in omega arith,
-      λ above below. let higher : low + 1 ≤ b = above_next above other in let others = rest.1 higher (omega arith) in omega arith,
+      λ above below. let higher : low + 1 ≤ b = next_above b low above other in let others = rest.1 higher (omega arith) in omega arith,
     ))
     (eqb_tells b low)
-  where
-    above_next : low ≤ b → b ≢ low → low + 1 ≤ b
-    above_next above apart = higher b low above apart
-
-    higher : (b low : ℕ) → low ≤ b → b ≢ low → low + 1 ≤ b
-    higher zero zero above apart = absurd (apart refl)
-    higher zero (suc low) above apart = absurd (omega arith)
-    higher (suc b) zero above apart = omega arith
-    higher (suc b) (suc low) above apart = let rest = higher b low (omega arith) (λ e. apart (ap suc e)) in omega arith
 
 count_here : (p : Event → Bool) (c : ℕ) (e : Event) (es : List Event) → count_by p (events_of_change c (e ∷ es)) ≡ cond (e.change == c) (cond (p e) 1 0) 0 + count_by p (events_of_change c es)
 count_here p c e es = either (e.change == c)
