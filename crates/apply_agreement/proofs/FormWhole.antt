@@ -1,6 +1,6 @@
 -- The whole stream in Terraform's form: the version, what is planned, what happens, diagnostics of no step, and the end.
 use Rattle.std.proofs.Common.{All, ◌≡◌, ℕ, zero, suc, ◌+◌, ◌<◌, ◌≤◌, List, [], ◌∷◌, ◌++◌, append_assoc, append-nil, cond, count_by, flat_map, length, map, Bool, true, false, Option, Some, None, Result, Ok, Err, is_some, refl, sym, ap, ap₂, ◌∙◌, subst, slice_get, arith}
-use Rattle.std.specs.Prelude.{◌&&◌, ◌||◌, not}
+use Rattle.std.specs.Prelude.{is_ok}
 use Rattle.std.specs.List.{AllByRecursion, enumerate_from, list_any}
 use Rattle.std.specs.Option.{option_map_or}
 use Rattle.std.proofs.lemmas.List.Sums.{sum_by-cons}
@@ -26,10 +26,10 @@ use Rattle.apply_events.specs.Step.{Work, kinds_of, steps_of}
 use Rattle.apply_text.specs.Order.{as_written}
 use Rattle.apply_form.specs.Details.{planned_word}
 use Rattle.apply_run.specs.Stream.Terraform.{Besides, is_error}
-use Rattle.apply_agreement.specs.Passing.{plain, verdict_on, with_all}
+use Rattle.apply_agreement.specs.Passing.{with_all}
 use Rattle.apply_agreement.specs.Plans.{ChangesAreWhole, IsOrdinary, ProvisionsCreates, WarnsOfReads}
 use Rattle.apply_agreement.specs.Told.{all_told}
-use Rattle.apply_agreement.specs.ToldInForm.{planned_told, planned_told_at, told_of_event, told_of_note}
+use Rattle.apply_agreement.specs.ToldInForm.{planned_told, planned_told_at, told_before_end, told_of_event, told_of_note}
 use Rattle.apply_agreement.specs.WholeSteps.{AreOfSteps, IsOfWholeSteps, events_of_change}
 use Rattle.apply_agreement.proofs.Errors.{AreParts, IsPlanned}
 use Rattle.apply_agreement.proofs.FormCounts.{all_told_starts, change_starts, does_so, starts_as}
@@ -40,7 +40,7 @@ use Rattle.apply_agreement.proofs.FormRuns.{IsWithin, Ran, all_ran, behind_all}
 use Rattle.apply_agreement.proofs.FormSums.{by_changes, total_most}
 use Rattle.apply_agreement.proofs.Parts.{Each, each_weaker, part_of_kept}
 use Rattle.apply_agreement.proofs.Standings.{next_behind}
-use Rattle.apply_agreement.proofs.Tallies.{are_planned, count_written, is_within as event_within}
+use Rattle.apply_agreement.proofs.Tallies.{are_planned, count_written, is_within as event_within, whole_steps_run}
 use Rattle.apply_agreement.proofs.Turning.{behind, joined}
 use Rattle.apply_agreement.proofs.Whole.{counts_behind}
 
@@ -119,11 +119,6 @@ notes_taken (note ∷ notes) ns begun =
 
 -- ---- up to the end
 
--- the messages before the end
-abbrev pub front : SavedPlan → OutcomeMap → Besides → List Event → List Message
-front plan script besides events =
-    flat_map (planned_told_at besides.details) (enumerate_from 0 plan.changes) ++ (flat_map (told_of_event plan script) (as_written events) ++ map told_of_note besides.notes)
-
 module _ (work : Work) (besides : Besides) (events : List Event) (few : length work.plan.changes ≤ max_overlap) (whole : ChangesAreWhole work.plan) (as_many : length besides.details ≡ length work.plan.changes)
     (within : Each (λ e. e.change < length work.plan.changes) events) (parts : AreParts work (length work.plan.changes) events) where
   -- no more begins than the plan has
@@ -154,7 +149,7 @@ module _ (work : Work) (besides : Besides) (events : List Event) (few : length w
 
   -- all of it is taken, and what stands open matches what does in the default form
   pub taken : (later : List Message) → with_all (version ∷ []) (all_told work.plan (as_written events)) ≡ Ok later
-      → (with_all (version ∷ []) (front work.plan work.script besides events) ≡ Ok (behind (version ∷ []) (front work.plan work.script besides events)))
+      → (with_all (version ∷ []) (told_before_end work.plan work.script besides events) ≡ Ok (behind (version ∷ []) (told_before_end work.plan work.script besides events)))
       × AreAlike (behind (version ∷ []) (all_told work.plan (as_written events))) (behind (behind (version ∷ []) (flat_map (planned_told_at besides.details) (enumerate_from 0 work.plan.changes))) (flat_map (told_of_event work.plan work.script) (as_written events)))
   taken later is =
       let ps = flat_map (planned_told_at besides.details) (enumerate_from 0 work.plan.changes) in
@@ -169,9 +164,10 @@ module _ (work : Work) (besides : Besides) (events : List Event) (few : length w
       )
 
 -- the messages before the end are taken
-pub front_taken : (work : Work) (besides : Besides) (events : List Event) → IsOrdinary work.plan → ChangesAreWhole work.plan → length besides.details ≡ length work.plan.changes → IsOfWholeSteps work events
-    → (later : List Message) → with_all (version ∷ []) (all_told work.plan (as_written events)) ≡ Ok later
-    → with_all [] (version ∷ front work.plan work.script besides events) ≡ Ok (behind (version ∷ []) (front work.plan work.script besides events))
-front_taken work besides events ordinary whole as_many steps later is =
+pub front_taken : (work : Work) (besides : Besides) (events : List Event) → IsOrdinary work.plan → ChangesAreWhole work.plan → length besides.details ≡ length work.plan.changes → ProvisionsCreates work.plan work.script → WarnsOfReads work.plan work.script
+    → IsOfWholeSteps work events → is_ok (with_all [] (version ∷ told_before_end work.plan work.script besides events)) ≡ true
+front_taken work besides events ordinary whole as_many provisioned reads steps =
     let planned_events = are_planned work.plan events steps.planned in
-    (taken work besides events (omega (arith, ordinary.few)) whole as_many (each_weaker (IsPlanned work.plan) (λ e. e.change < length work.plan.changes) (event_within work.plan) events planned_events) steps.whole later is).0
+    let runs = whole_steps_run work events ordinary provisioned reads steps in
+    ap is_ok (taken work besides events (omega (arith, ordinary.few)) whole as_many (each_weaker (IsPlanned work.plan) (λ e. e.change < length work.plan.changes) (event_within work.plan) events planned_events) steps.whole
+    (behind (version ∷ []) (all_told work.plan (as_written events))) runs.0).0
