@@ -2,14 +2,13 @@
 -- escape of.
 use Rattle.std.proofs.Common.{◌≡◌, ℕ, zero, suc, ◌+◌, ◌<◌, ◌≤◌, Bool, true, false, cond, ◌==◌, List, [], ◌∷◌, ◌++◌, codes, drop, Option, Some, None, inl, inr, ◌⊎◌, refl, sym, ap, ap₂, ◌∙◌, subst, arith, append_assoc}
 use Rattle.std.specs.Prelude.{◌&&◌}
-use Rattle.std.specs.List.{list_all}
 use Rattle.std.proofs.lemmas.Bool.{and_parts, cases_eq, cases_lt, eqb-true, le-ltb, ne_eqb}
 use lib.Utf8.{encode}
 use Rattle.json.specs.Token.{Token, begin_object, end_object, begin_array, end_array, key, string, number, boolean, null, bad}
 use Rattle.json.specs.Text.{content, plain, prepend, code_unit, short_escape}
 use Rattle.json.specs.Word.{ends_word, is_operator, is_space, word}
 use Rattle.json.specs.Lex.{Lexeme, Mode, colon, comma, fresh, lex, lex_byte, between, in_string, operator, punctuate, space, other, string_token, token, tokens}
-use Rattle.json.specs.Print.{ArePrintable, IsPrintable, begins, ends, escape, escape_byte, print, print_from, quoted, separator, token_text}
+use Rattle.json.specs.Print.{ArePrintable, IsPrintable, begins, ends, escape, escape_byte, print, print_from, quoted, token_text}
 use Rattle.json.proofs.Printed.Numbers.{in_word-ended, lex-number}
 use Rattle.json.proofs.Printed.Strings.{content-escape, escape_byte_plain, lex-escape}
 use Rattle.json.proofs.Printed.Tokens.{tokens-print}

@@ -1,5 +1,5 @@
 -- A printed value is read as the same tree with its escapes.
-use Rattle.std.proofs.Common.{◌≡◌, ◌≤◌, ℕ, List, [], ◌++◌, IsUtf8, cond, Bool, true, Option, Some, None, refl, sym, ap, ◌∙◌, subst, append-nil, arith}
+use Rattle.std.proofs.Common.{◌≡◌, ◌≤◌, ℕ, List, [], IsUtf8, cond, Bool, Some, None, refl, sym, ap, ◌∙◌, subst, append-nil, arith}
 use Rattle.std.specs.Prelude.{option_and_then}
 use Rattle.std.proofs.lemmas.Str.{is_utf8-from_IsUtf8}
 use Rattle.json.specs.Json as json

@@ -1,7 +1,7 @@
 -- What a checker hears of the first line in Terraform's form, of diagnostics of no step, and of the summary.
-use Rattle.std.proofs.Common.{◌≡◌, ℕ, ◌+◌, ◌<◌, ◌≤◌, ◌^◌, ◌==◌, List, [], ◌∷◌, ◌++◌, codes, cond, decimal, IsUtf8, Bool, true, false, Option, Some, None, Ok, refl, sym, ap, ◌∙◌, subst, arith}
+use Rattle.std.proofs.Common.{◌≡◌, ℕ, ◌+◌, ◌<◌, ◌≤◌, ◌^◌, ◌==◌, List, [], ◌++◌, codes, cond, decimal, IsUtf8, Bool, true, false, Option, Ok, refl, arith}
 use Rattle.std.specs.Prelude.{IfSome}
-use Rattle.std.proofs.lemmas.Str.{IsUtf8-append, IsUtf8-nil}
+use Rattle.std.proofs.lemmas.Str.{IsUtf8-nil}
 use Rattle.json.specs.Tree as tree
 use Rattle.json.proofs.Printed.Utf8.{IsUtf8-are_ascii}
 use Rattle.serde_json.specs.Data.{Data}
@@ -15,14 +15,14 @@ use Rattle.apply_model.specs.declared.script.diag.Diag.{Diag}
 use Rattle.apply_model.specs.Plan.SavedPlan.{SavedPlan}
 use Rattle.apply_check.specs.declared.rules.fault.Fault.TheVariants.{NotJson}
 use Rattle.apply_check.specs.Lines.{tree_message}
-use Rattle.apply_check.specs.Message.{Message, diagnostic, summary, summary_of, typed_message, version}
+use Rattle.apply_check.specs.Message.{diagnostic, summary, summary_of, typed_message, version}
 use Rattle.apply_check.specs.Results.{◌>>=◌, or_refuse}
 use Rattle.apply_events.specs.declared.counts.Counts.{Counts}
 use Rattle.apply_text.specs.declared.operation.Operation.{Operation}
 use Rattle.apply_text.specs.declared.operation.Operation.TheVariants.{Apply, Destroy}
 use Rattle.apply_text.specs.Lines.{message_object, typed}
-use Rattle.apply_form.specs.Lines.{message_line, note_text, summary_text, version_members, version_text}
-use Rattle.apply_form.specs.Message.{imported_text, note_message, summary_message, summary_words}
+use Rattle.apply_form.specs.Lines.{note_text, summary_text, version_members, version_text}
+use Rattle.apply_form.specs.Message.{imported_text, summary_message, summary_words}
 use Rattle.apply_form.specs.Moment.{fine_text}
 use Rattle.apply_form.specs.Objects.{changes_object}
 use Rattle.apply_run.specs.Stream.Terraform.{is_severe}

@@ -1,20 +1,20 @@
 -- What is read of a diagnostic with members that are kept as texts.
 use Rattle.std.proofs.Common.{◌≡◌, ℕ, ◌≤◌, List, [], ◌∷◌, ◌++◌, codes, IsUtf8, Bool, true, false, Option, Some, None, refl, sym, ap, ◌∙◌, subst, append_assoc, append-nil, arith}
-use Rattle.std.specs.Prelude.{IfSome, max}
+use Rattle.std.specs.Prelude.{IfSome}
 use Rattle.std.proofs.lemmas.Str.{IsUtf8-append, IsUtf8-nil}
 use Rattle.json.specs.Json as json
 use Rattle.json.specs.Json.{Json}
 use Rattle.json.specs.Print.{escape_byte, quoted}
 use Rattle.json.specs.Tree as tree
 use Rattle.json.proofs.Printed.Utf8.{IsUtf8-are_ascii, IsUtf8-quoted}
-use Rattle.serde_json.specs.Data.{Data, Members, no_members, member, object, string}
+use Rattle.serde_json.specs.Data.{Data, Members, no_members, member, string}
 use Rattle.serde_json.specs.Read.{max_depth, of_json}
 use Rattle.serde_json.specs.Written.{comma_if, compact_text}
 use Rattle.apply_json.specs.Keeping.{own_text}
 use Rattle.apply_json.specs.Tree.{tree_of}
 use Rattle.apply_model.specs.declared.script.diag.Diag.{Diag}
 use Rattle.apply_text.specs.Laws.{line_feeds}
-use Rattle.apply_text.specs.Lines.{message_object, typed}
+use Rattle.apply_text.specs.Lines.{message_object}
 use Rattle.apply_text.specs.Message.{Message}
 use Rattle.apply_form.specs.Escapes.{escaped}
 use Rattle.apply_form.specs.Kept.{kept_member, kept_members, note_with, open_members}
@@ -28,7 +28,7 @@ use Rattle.apply_agreement.specs.Texts.{HasDiagTexts}
 use Rattle.apply_agreement.proofs.EscapedTrees.{escaped_tree, line_read}
 use Rattle.apply_agreement.proofs.FormFeeds.{escaped_feeds, own_feeds}
 use Rattle.apply_agreement.proofs.FormObjects.{diagnostic_message_read, diagnostic_read, diagnostic_sound}
-use Rattle.apply_agreement.proofs.JsonTexts.{goes_on, json_text, members_text, onto, onto_text, own_is}
+use Rattle.apply_agreement.proofs.JsonTexts.{json_text, members_text, onto, onto_text, own_is}
 use Rattle.apply_agreement.proofs.ReadBack.{comma_utf8, text_utf8}
 use Rattle.apply_agreement.proofs.Sounds.{fine_utf8}
 

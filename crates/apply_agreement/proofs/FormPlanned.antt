@@ -1,5 +1,5 @@
 -- What a checker hears of the lines of planned changes.
-use Rattle.std.proofs.Common.{◌≡◌, ℕ, ◌≤◌, inl, inr, List, [], ◌∷◌, ◌++◌, codes, IsUtf8, Bool, true, false, Option, Some, None, Ok, refl, sym, ap, ◌∙◌, subst, option_map, arith}
+use Rattle.std.proofs.Common.{◌≡◌, ℕ, ◌≤◌, inl, inr, List, [], ◌∷◌, ◌++◌, codes, IsUtf8, Bool, true, false, Option, Some, None, Ok, refl, sym, ap, subst, option_map, arith}
 use Rattle.std.specs.Prelude.{IfSome}
 use Rattle.std.specs.Option.{option_map_or}
 use Rattle.json.specs.Tree as tree
@@ -22,7 +22,6 @@ use Rattle.apply_check.specs.Message.{intent_named, planned, planned_of, typed_m
 use Rattle.apply_check.specs.Results.{◌>>=◌, or_refuse}
 use Rattle.apply_text.specs.Lines.{message_object, typed}
 use Rattle.apply_text.specs.Objects.{key_data, resource_object as plain_resource}
-use Rattle.apply_text.specs.Words.{action_word}
 use Rattle.apply_form.specs.Details.{planned_word}
 use Rattle.apply_form.specs.Lines.{message_line, planned_text}
 use Rattle.apply_form.specs.Message.{planned_message}

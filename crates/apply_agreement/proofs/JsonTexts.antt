@@ -5,7 +5,7 @@ use Rattle.json.specs.Json.{Json, null, boolean, number, string, array, object, 
 use Rattle.json.specs.Print.{print, print_from, quoted, token_text}
 use Rattle.json.specs.Tree.{items_tokens, json_tokens, members_tokens}
 use Rattle.serde_json.specs.Data as tree
-use Rattle.serde_json.specs.Written.{comma_if, compact_text, members_outline, outline}
+use Rattle.serde_json.specs.Written.{comma_if, compact_text, outline}
 use Rattle.serde_json.proofs.Texts.{print-outline}
 use Rattle.apply_json.specs.Keeping.{own_text}
 use Rattle.apply_form.specs.Kept.{open_members}

@@ -1,5 +1,5 @@
 -- A checker answers to lines that say messages as to the messages.
-use Rattle.std.proofs.Common.{◌≡◌, ℕ, ◌+◌, ◌≤◌, ◌⊎◌, inl, inr, List, [], ◌∷◌, ◌++◌, append_assoc, cond, length, Bool, false, Result, Ok, Err, refl, sym, ap, ◌∙◌, subst, ⊎_elim, le-ltb}
+use Rattle.std.proofs.Common.{◌≡◌, ℕ, ◌+◌, ◌≤◌, ◌⊎◌, inl, inr, List, [], ◌∷◌, ◌++◌, append_assoc, cond, length, Bool, false, Result, Ok, Err, sym, ap, ◌∙◌, subst, ⊎_elim, le-ltb}
 use Rattle.std.specs.List.{AllByRecursion, concat}
 use Rattle.apply_lines.specs.Cut.{cut_lines}
 use Rattle.apply_lines.specs.Limits.{max_bytes}
