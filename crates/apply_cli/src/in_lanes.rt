@@ -12,7 +12,7 @@ ghost use Rattle.apply_cli.specs.Status.{input_status_of};
 
 use crate::input::read_input;
 use crate::input_fault::InputFault;
-use crate::run::{finish_reading, flush_unless_failed, report_unless_gone};
+use crate::run::{finish_reading, flush_unless_failed, report_refusal, report_unless_gone};
 use crate::status::{FAILED, input_status, refusal_status, told_status};
 use apply_form::Form;
 use apply_hooks::Registry;
@@ -193,7 +193,7 @@ fn run_bytes_in_lanes<W: Write + Drop, E: Write>(
             (output, FAILED)
         }
         Err(refusal) => {
-            report_unless_gone(&output, faults, refusal);
+            report_refusal(&output, faults, refusal);
             (output, refusal_status(refusal))
         }
     }

@@ -13,7 +13,7 @@ ghost use Rattle.apply_cli.specs.Status.{input_status_of};
 use crate::input::{drop_rest, read_input};
 use crate::input_fault::InputFault;
 use crate::options::run_options;
-use crate::status::{FAILED, input_status, refusal_status, told_status};
+use crate::status::{FAILED, REFUSED, input_status, refusal_status, told_status};
 use apply_form::Form;
 use apply_hooks::Registry;
 use apply_run::{
@@ -26,6 +26,9 @@ use std::fmt::Display;
 use std::io::{Cursor, Read, Write};
 use std::sync::Wait;
 use std::thread::Threads;
+
+/// Said behind the refusal of a plan or a script.
+const WHERE_AND_WHAT: &str = "applystream validate says where and what";
 
 /// How many bytes of a fault's line go out in one write.
 const LINE_ROOM: usize = 256;
@@ -235,7 +238,7 @@ pub fn run_bytes<W: Write + Drop, E: Write, T: Threads + Wait + Sync>(
             (output, FAILED)
         }
         Err(refusal) => {
-            report_unless_gone(&output, faults, refusal);
+            report_refusal(&output, faults, refusal);
             (output, refusal_status(refusal))
         }
     }
@@ -262,6 +265,21 @@ pub(crate) fn report_unless_gone<W: Write + Drop, E: Write, D: Display + Drop>(
 {
     if !output.is_reader_gone() {
         report(faults, fault);
+    }
+}
+
+/// Says why a plan was not applied, unless the reader of the output is gone. Behind what `applystream validate` finds too, which tells
+/// the place and all that is wrong at once, it says so.
+pub(crate) fn report_refusal<W: Write + Drop, E: Write>(
+    output: &StdSink<W>,
+    faults: &mut E,
+    refusal: Refusal,
+)
+    ensures { output.now.is_reader_gone ≡ true → Keeps (E.contents faults.old) (E.contents faults.new) }
+{
+    report_unless_gone(output, faults, refusal);
+    if refusal != Refusal::Size && refusal_status(refusal) == REFUSED {
+        report_unless_gone(output, faults, WHERE_AND_WHAT);
     }
 }
 

@@ -221,11 +221,31 @@ fn outcome_ends(rt: &impl Abort, case: &str, outcome: Outcome, status: u8, end: 
     text_is(rt, case, outcome.said, "");
 }
 
-/// Fails where the text is not the line of this fault.
+/// How what `validate` finds too begins.
+const OF_PLAN_OR_SCRIPT: [&str; 6] = [
+    "the plan is ",
+    "the plan has ",
+    "change ",
+    "the script is ",
+    "the script says ",
+    "script ",
+];
+
+/// Fails where the text is not the line of this fault, and behind that of a plan or a script the line that names `validate`.
 fn says(rt: &impl Abort, case: &str, said: &str, fault: &str) {
     let line = said.strip_prefix("applystream: ").expect(rt, case);
-    let found = line.strip_suffix("\n").expect(rt, case);
+    let found = line.strip_suffix(end_of(fault)).expect(rt, case);
     text_is(rt, case, found, fault);
+}
+
+/// What is said behind the fault.
+fn end_of(fault: &str) -> &'static str {
+    for start in OF_PLAN_OR_SCRIPT {
+        if fault.starts_with(start) {
+            return "\napplystream: applystream validate says where and what\n";
+        }
+    }
+    "\n"
 }
 
 /// What stands before the first mark, and what behind it.

@@ -39,7 +39,8 @@ Standard error: what went wrong, if anything did.
 
 `applystream check` says whether a stream that was written is whole: applystream check --help explains it.
 `applystream play` writes such a stream in its own time: applystream play --help explains it.
-`applystream view` draws such a stream, as a text or an SVG: applystream view --help explains it.";
+`applystream view` draws such a stream, as a text or an SVG: applystream view --help explains it.
+`applystream validate` tells all that is wrong with a plan and a script: applystream validate --help explains it.";
 
 const AFTER: &str = r#"Example, with two workers, a start, and no deletes:
   terraform show -json tfplan | applystream --workers 2 --at 2024-05-01T12:00:00Z --halt-before delete
@@ -55,7 +56,12 @@ Exit status:
   3  memory or a thread was refused, or the output could not be written: a part of the messages may have been written"#;
 
 /// Said behind the fault of a word that is no option: mostly it is the file of a plan.
-const TIP: &str = "\n  tip: a plan is read from standard input, as in: applystream < plan.json\n";
+const PLAN_TIP: &str =
+    "\n  tip: a plan is read from standard input, as in: applystream < plan.json\n";
+
+/// Said behind the fault of an option with one dash, as Terraform takes it.
+const DASH_TIP: &str =
+    "\n  tip: options have two dashes here, as in: applystream --parallelism=10\n";
 
 /// The settings that the words behind the program's name say, by the options without a parallelism and a form: the
 /// part of `read_invocation` that knows workers alone.
@@ -345,13 +351,18 @@ pub(crate) fn usage_of(alloc: Global, error: &clap::Error) -> Result<Usage, Allo
     if error.kind() == ErrorKind::DisplayHelp {
         return Ok(Usage::Help(Text::new(alloc, text.as_str())?));
     }
-    if is_stray(error.kind(), text.as_str()) {
-        text.push_str(TIP)?;
-    }
+    let tip = tip_behind(error.kind(), text.as_str());
+    text.push_str(tip)?;
     Ok(Usage::Words(Text::new(alloc, text.as_str())?))
 }
 
-/// Whether the parser refuses a word that is no option. Its own text alone tells which word it is.
-fn is_stray(kind: ErrorKind, text: &str) -> bool {
-    kind == ErrorKind::UnknownArgument && !text.starts_with("error: unexpected argument '-")
+/// What is said behind what the parser says of a word that it does not know. Its own text alone tells which word that is.
+fn tip_behind(kind: ErrorKind, text: &str) -> &'static str {
+    if kind != ErrorKind::UnknownArgument || text.starts_with("error: unexpected argument '--") {
+        ""
+    } else if text.starts_with("error: unexpected argument '-") {
+        DASH_TIP
+    } else {
+        PLAN_TIP
+    }
 }

@@ -88,7 +88,17 @@ fn a_word_that_is_no_option_gets_a_tip(rt: HostRuntime) {
     for word in ["--plan", "--at"] {
         let said = refusal_of(&rt, alloc, word);
         holds(&rt, said, !said.contains("tip: a plan"));
+        holds(&rt, said, !said.contains("tip: options"));
     }
+}
+
+#[test]
+fn an_option_with_one_dash_gets_a_tip(rt: HostRuntime) {
+    let alloc = rt.alloc();
+    let tip = "\n  tip: options have two dashes here, as in: applystream --parallelism=10\n";
+    let said = refusal_of(&rt, alloc, "-parallelism=10");
+    holds(&rt, said, said.ends_with(tip));
+    holds(&rt, said, !said.contains("tip: a plan"));
 }
 
 /// What is said of a word that is refused.

@@ -90,7 +90,10 @@ fn row_is<T: Threads + Wait + Sync + Abort + Files>(rt: &T, alloc: Global, row: 
     let (status, said) = parted(rt, rest, " =>");
     let outcome = answered(rt, alloc, words);
     is_number(rt, alloc, row, outcome.status, status);
-    text_is(rt, row, outcome.said.trim(), said.trim());
+    match said.strip_prefix(" applystream: ") {
+        Some(fault) => says(rt, row, outcome.said, fault),
+        None => text_is(rt, row, outcome.said, said),
+    }
 }
 
 #[test]
