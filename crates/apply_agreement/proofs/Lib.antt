@@ -18,9 +18,16 @@ pub mod FormEnds
 pub mod FormFeeds
 pub mod FormHeard
 pub mod FormLines
+pub mod FormMatches
 pub mod FormNotes
 pub mod FormObjects
+pub mod FormPendings
 pub mod FormPlanned
+mod FormPlans
+mod FormCounts
+mod FormRuns
+mod FormSums
+mod FormWhole
 pub mod Given
 pub mod Heard
 pub mod JsonTexts
