@@ -21,12 +21,10 @@ use Rattle.apply_check.specs.Lines.{behind, is_beyond_plan, next, within_plan}
 use Rattle.apply_check.specs.Message.{Message, diagnostic, provision, step}
 use Rattle.apply_check.specs.Results.{◌>>=◌}
 use Rattle.apply_check.specs.Standing.{explained, may_provision, pending_at, provision_on, provisioned, standing_of, step_on, unless_left, failed_by, with_pending}
-use Rattle.apply_check.specs.Tally.{begins, is_begin, is_summary, is_version, line_of}
+use Rattle.apply_check.specs.Tally.{begins, is_begin, is_plan_summary, is_summary, is_version, line_of}
 use Rattle.apply_check.specs.Words.{same_action}
 use Rattle.apply_check.proofs.Actions.{same_is}
-use Rattle.apply_events.specs.declared.what.What.{What}
-use Rattle.apply_events.specs.declared.what.What.TheVariants as what
-use Rattle.apply_agreement.specs.Told.{told}
+use Rattle.apply_check.proofs.WholeStream.{bind_ok}
 use Rattle.apply_agreement.proofs.FormPendings.{BothOk, Covers, HasRoom, IsCovered, IsSame, Matches, held, left_covered, matches_after}
 use Rattle.apply_agreement.proofs.Moves.{by_address}
 use Rattle.apply_agreement.proofs.Standings.{diagnostic_elsewhere, diagnostic_there, explained_keeps, next_behind, pending_other, pending_same, pending_still, provision_elsewhere, provision_is, provision_there, provisioner_in, provisioner_kept, provisioner_same, step_elsewhere, step_in, step_is, step_there}
@@ -40,9 +38,9 @@ pub record AreMatched (s t : Standing) : Type 0 where
 
 -- its course was
 pub record WasStepped (k : Action) (stage : TimedStage) (line : ℕ) (s : Standing) : Type 0 where
-  pending : Option Pending
-  is : after k stage line (pending_at k s) ≡ Ok pending
-  within : is_some s.provisioner ≡ true → may_provision (step_in k stage line pending s) ≡ true
+  pub pending : Option Pending
+  pub is : after k stage line (pending_at k s) ≡ Ok pending
+  pub within : is_some s.provisioner ≡ true → may_provision (step_in k stage line pending s) ≡ true
 
 stepped_by : (k : Action) (stage : TimedStage) (line : ℕ) (s t : Standing) → step_on k stage line s ≡ Ok t → WasStepped k stage line s
 stepped_by k stage line s t e = of_after (after k stage line (pending_at k s)) refl e
@@ -68,69 +66,17 @@ before_end : (o : Option ℕ) (answer : Result (List Message) Fault) (later : Li
 before_end None answer later e = e
 before_end (Some line) answer later e = absurd cc
 
-ok_first : {A B : Type 0} (r : Result A Fault) (f : A → Result B Fault) (y : B) → (r >>= f) ≡ Ok y → (x : A) × (r ≡ Ok x) × (f x ≡ Ok y)
-ok_first (Ok x) f y e = (x, refl, e)
-ok_first (Err fault) f y e = absurd cc
-
 -- a step's message that was accepted
 pub was_stepped : (a : List ℕ) (k : Action) (stage : TimedStage) (ms later : List Message) → next ms (step a k stage) ≡ Ok later → WasStepped k stage (length ms + 1) (standing_of a ms)
 was_stepped a k stage ms later e =
     let s = standing_of a ms in
     let there = behind_version (line_of is_version ms) (λ first. behind ms first (step a k stage)) NoVersion later e in
     let answer = before_end (line_of is_summary ms) (step_on k stage (length ms + 1) s >>= λ standing. within_plan k stage ms (fine (step a k stage ∷ ms))) later there.1 in
-    let stood = ok_first (step_on k stage (length ms + 1) s) (λ standing. within_plan k stage ms (fine (step a k stage ∷ ms))) later answer in
+    let stood = bind_ok (step_on k stage (length ms + 1) s) (λ standing. within_plan k stage ms (fine (step a k stage ∷ ms))) later answer in
     stepped_by k stage (length ms + 1) s stood.0 stood.1
   where
     fine : List Message → Result (List Message) Fault
     fine l = Ok l
-
-same_ok : {A : Type 0} (x y : A) → (let r : Result A Fault = Ok x in r) ≡ Ok y → y ≡ x
-same_ok x y e = cc
-
-step_added : (a : List ℕ) (k : Action) (stage : TimedStage) (ms later : List Message) → next ms (step a k stage) ≡ Ok later → later ≡ step a k stage ∷ ms
-step_added a k stage ms later e =
-    let s = standing_of a ms in
-    let there = behind_version (line_of is_version ms) (λ first. behind ms first (step a k stage)) NoVersion later e in
-    let answer = before_end (line_of is_summary ms) (step_on k stage (length ms + 1) s >>= λ standing. within_plan k stage ms (fine (step a k stage ∷ ms))) later there.1 in
-    let stood = ok_first (step_on k stage (length ms + 1) s) (λ standing. within_plan k stage ms (fine (step a k stage ∷ ms))) later answer in
-    of_test (is_beyond_plan k stage ms) stood.2
-  where
-    fine : List Message → Result (List Message) Fault
-    fine l = Ok l
-
-    of_test : (b : Bool) → cond b (Err NotPlanned) (fine (step a k stage ∷ ms)) ≡ Ok later → later ≡ step a k stage ∷ ms
-    of_test true f = absurd cc
-    of_test false f = same_ok (step a k stage ∷ ms) later f
-
-provision_added : (a : List ℕ) (given : Stage) (ms later : List Message) → next ms (provision a given) ≡ Ok later → later ≡ provision a given ∷ ms
-provision_added a given ms later e =
-    let s = standing_of a ms in
-    let there = behind_version (line_of is_version ms) (λ first. behind ms first (provision a given)) NoVersion later e in
-    let answer = before_end (line_of is_summary ms) (provision_on given (length ms + 1) s >>= λ standing. fine (provision a given ∷ ms)) later there.1 in
-    let stood = ok_first (provision_on given (length ms + 1) s) (λ standing. fine (provision a given ∷ ms)) later answer in
-    same_ok (provision a given ∷ ms) later stood.2
-  where
-    fine : List Message → Result (List Message) Fault
-    fine l = Ok l
-
-diagnostic_added : (b : Bool) (a : Option (List ℕ)) (ms later : List Message) → next ms (diagnostic b a) ≡ Ok later → later ≡ diagnostic b a ∷ ms
-diagnostic_added b a ms later e =
-    let there = behind_version (line_of is_version ms) (λ first. behind ms first (diagnostic b a)) NoVersion later e in
-    same_ok (diagnostic b a ∷ ms) later there.1
-
--- a message that was accepted stands before the others
-pub told_added : (a : List ℕ) (k : Action) (w : What) (ms later : List Message) → next ms (told a k w) ≡ Ok later → later ≡ told a k w ∷ ms
-told_added a k what.Start ms later e = step_added a k Start ms later e
-told_added a k (what.Progress s) ms later e = step_added a k (Progress s) ms later e
-told_added a k (what.Complete s) ms later e = step_added a k (Complete s) ms later e
-told_added a k (what.Errored s) ms later e = step_added a k (Errored s) ms later e
-told_added a k what.ErrorNote ms later e = diagnostic_added true (Some a) ms later e
-told_added a k what.WarnNote ms later e = diagnostic_added false (Some a) ms later e
-told_added a k (what.Halted phase hook) ms later e = diagnostic_added true (Some a) ms later e
-told_added a k (what.ProvisionStart i) ms later e = provision_added a stage.Start ms later e
-told_added a k (what.ProvisionOutput i line) ms later e = provision_added a stage.Progress ms later e
-told_added a k (what.ProvisionComplete i) ms later e = provision_added a stage.Complete ms later e
-told_added a k (what.ProvisionErrored i) ms later e = provision_added a stage.Errored ms later e
 
 -- ---- the messages so far
 
@@ -138,6 +84,7 @@ told_added a k (what.ProvisionErrored i) ms later e = provision_added a stage.Er
 pub record AreAlike (ms ns : List Message) : Type 0 where
   pub begun : is_some (line_of is_version ns) ≡ true
   pub unsummed : line_of is_summary ns ≡ None
+  pub unforeseen : line_of is_plan_summary ns ≡ None
   pub standing : (a : List ℕ) → AreMatched (standing_of a ms) (standing_of a ns)
   pub reads : (a : List ℕ) → held (standing_of a ns).read ≤ count_by (begins Read) ns
 
@@ -302,7 +249,7 @@ module _ (a : List ℕ) (k : Action) (stage : TimedStage) (ms ns : List Message)
   both_step fits =
       let too = stepped_too in (
         next_step fits too.0 too.1 too.2,
-        record { begun = alike.begun; unsummed = alike.unsummed; standing = stands too.0 too.1 too.2; reads = reads_here too.0 too.1 too.2 },
+        record { begun = alike.begun; unsummed = alike.unsummed; unforeseen = alike.unforeseen; standing = stands too.0 too.1 too.2; reads = reads_here too.0 too.1 too.2 },
       )
 
 -- ---- a read that failed: the default form alone tells its end
@@ -311,6 +258,7 @@ pub silent_step : (a : List ℕ) (seconds : ℕ) (ms ns : List Message) → AreA
 silent_step a seconds ms ns alike was = record {
   begun = alike.begun;
   unsummed = alike.unsummed;
+  unforeseen = alike.unforeseen;
   reads = alike.reads;
   standing = by_address (λ b. AreMatched (standing_of b (step a Read (Errored seconds) ∷ ms)) (standing_of b ns)) a
       (subst (λ (x : Standing). AreMatched x (standing_of a ns)) (sym (step_there a Read (Errored seconds) new ms (step_is Read (Errored seconds) (length ms + 1) was.pending (standing_of a ms) was.within was.is)))
@@ -346,6 +294,7 @@ both_diagnostic a e noted ms ns alike = (
   record {
     begun = alike.begun;
     unsummed = alike.unsummed;
+    unforeseen = alike.unforeseen;
     standing = λ b. explained_both b (seen_default b) (seen_form noted b);
     reads = λ b. let before = alike.reads b in let same = read_same noted b in let all = sum_by-cons (λ m. cond (begins Read m) 1 0) (diagnostic e noted) ns in omega arith;
   },
@@ -391,7 +340,7 @@ provisioned_by : (stage : Stage) (line : ℕ) (s t : Standing) → provision_on 
 provisioned_by stage line s t e = of_test (may_provision s) refl e
   where
     of_test : (b : Bool) → may_provision s ≡ b → cond b (provisioned stage line s.provisioner >>= λ running. Ok (provisioner_in running s)) (Err NoStep) ≡ Ok t → WasProvisioned stage line s
-    of_test true is f = let first = ok_first (provisioned stage line s.provisioner) (λ running. Ok (provisioner_in running s)) t f in record { running = first.0; may = is; is = first.1 }
+    of_test true is f = let first = bind_ok (provisioned stage line s.provisioner) (λ running. Ok (provisioner_in running s)) t f in record { running = first.0; may = is; is = first.1 }
     of_test false is f = absurd cc
 
 pub was_provisioned : (a : List ℕ) (stage : Stage) (ms later : List Message) → next ms (provision a stage) ≡ Ok later → WasProvisioned stage (length ms + 1) (standing_of a ms)
@@ -399,7 +348,7 @@ was_provisioned a stage ms later e =
     let s = standing_of a ms in
     let there = behind_version (line_of is_version ms) (λ first. behind ms first (provision a stage)) NoVersion later e in
     let answer = before_end (line_of is_summary ms) (provision_on stage (length ms + 1) s >>= λ standing. fine (provision a stage ∷ ms)) later there.1 in
-    let stood = ok_first (provision_on stage (length ms + 1) s) (λ standing. fine (provision a stage ∷ ms)) later answer in
+    let stood = bind_ok (provision_on stage (length ms + 1) s) (λ standing. fine (provision a stage ∷ ms)) later answer in
     provisioned_by stage (length ms + 1) s stood.0 stood.1
   where
     fine : List Message → Result (List Message) Fault
@@ -437,6 +386,7 @@ both_provision a given ms ns alike was =
       record {
         begun = alike.begun;
         unsummed = alike.unsummed;
+        unforeseen = alike.unforeseen;
         standing = by_address (λ b. AreMatched (standing_of b (provision a given ∷ ms)) (standing_of b (provision a given ∷ ns))) a
             (subst (λ (x : Standing). AreMatched x (standing_of a (provision a given ∷ ns))) (sym one)
             (subst (λ (x : Standing). AreMatched (provisioner_in was.running s) x) (sym other)

@@ -17,7 +17,7 @@ use Rattle.apply_form.specs.Details.{planned_word}
 use Rattle.apply_agreement.specs.Plans.{AreStepsOfOne, ChangesAreWhole, IsChange}
 use Rattle.apply_agreement.specs.ToldInForm.{planned_told, planned_told_at}
 use Rattle.apply_agreement.proofs.FormCounts.{does_so}
-use Rattle.apply_agreement.proofs.FormSums.{by_elements, total, total_most}
+use Rattle.apply_agreement.proofs.ChangeSums.{by_elements, ones, total, total_most}
 
 -- how many steps of that action the plan has
 abbrev pub cap_of : SavedPlan → Action → ℕ
@@ -28,10 +28,10 @@ cap_of plan k = total 0 (length plan.changes) (λ c. count_by (does_so k) (kinds
 abbrev told_word : List StepKind → Bool → List Message
 told_word steps forgets = option_map_or (λ word. planned (intent_named word) ∷ []) (planned_word steps forgets) []
 
-record ArePlanned (steps : List StepKind) (ms : List Message) : Type 0 where
-  creates : count_by plans_create ms ≡ count_by (does_so action.Create) steps
-  updates : count_by plans_update ms ≡ count_by (does_so action.Update) steps
-  deletes : count_by plans_delete ms ≡ count_by (does_so action.Delete) steps
+pub record ArePlanned (steps : List StepKind) (ms : List Message) : Type 0 where
+  pub creates : count_by plans_create ms ≡ count_by (does_so action.Create) steps
+  pub updates : count_by plans_update ms ≡ count_by (does_so action.Update) steps
+  pub deletes : count_by plans_delete ms ≡ count_by (does_so action.Delete) steps
 
 plans_are : (steps : List StepKind) (forgets : Bool) → AreStepsOfOne steps → ArePlanned steps (told_word steps forgets)
 plans_are [] true h = record { creates = refl; updates = refl; deletes = refl }
@@ -142,10 +142,6 @@ module _ (plan : SavedPlan) (details : List ChangeDetails) (whole : ChangesAreWh
 
   pub deletes_planned : count_by plans_delete (flat_map (planned_told_at details) (enumerate_from 0 plan.changes)) ≡ cap_of plan action.Delete
   deletes_planned = planned_share plans_delete action.Delete (λ steps ms are. are.deletes)
-
-ones : (low n : ℕ) → total low n (λ c. 1) ≡ n
-ones low zero = refl
-ones low (suc n) = let rest = ones (low + 1) n in omega arith
 
 pub few_reads : (plan : SavedPlan) → ChangesAreWhole plan → cap_of plan action.Read ≤ length plan.changes
 few_reads plan whole =

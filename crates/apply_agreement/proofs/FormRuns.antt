@@ -24,6 +24,7 @@ use Rattle.apply_check.specs.Message.{Message, step}
 use Rattle.apply_check.specs.Results.{◌>>=◌}
 use Rattle.apply_check.specs.Standing.{pending_at, standing_of}
 use Rattle.apply_check.specs.Tally.{begins, is_begin, is_planned, plans_create, plans_delete, plans_update}
+use Rattle.apply_check.proofs.WholeStream.{one_next}
 use Rattle.apply_events.specs.declared.event.Event.{Event}
 use Rattle.apply_events.specs.declared.what.What.{What}
 use Rattle.apply_events.specs.declared.what.What.TheVariants.{Start, Progress, Complete, Errored, ErrorNote, WarnNote, Halted, ProvisionStart, ProvisionOutput, ProvisionComplete, ProvisionErrored}
@@ -31,14 +32,14 @@ use Rattle.apply_form.specs.Message.{is_silent, noted_address}
 use Rattle.apply_agreement.specs.Passing.{with_all}
 use Rattle.apply_agreement.specs.Told.{action_of, all_told, told, told_of}
 use Rattle.apply_agreement.specs.ToldInForm.{heard_in_form, told_of_event}
-use Rattle.apply_agreement.proofs.FormMatches.{AreAlike, both_diagnostic, both_provision, both_step, silent_step, told_added, was_provisioned, was_stepped}
+use Rattle.apply_agreement.proofs.FormMatches.{AreAlike, both_diagnostic, both_provision, both_step, silent_step, was_provisioned, was_stepped}
 use Rattle.apply_agreement.proofs.FormPendings.{HasRoom, held}
-use Rattle.apply_agreement.proofs.Turning.{behind, joined}
+use Rattle.apply_agreement.proofs.Turning.{behind, behind_both, joined}
 use Rattle.apply_agreement.proofs.Whole.{counts_behind}
 
 -- ---- which events have a line
 
-abbrev is_end_of_failure : What → Bool
+abbrev pub is_end_of_failure : What → Bool
 is_end_of_failure (Errored s) = true
 is_end_of_failure Start = false
 is_end_of_failure (Progress s) = false
@@ -51,7 +52,7 @@ is_end_of_failure (ProvisionOutput i line) = false
 is_end_of_failure (ProvisionComplete i) = false
 is_end_of_failure (ProvisionErrored i) = false
 
-spoken : (does : StepKind) (what : What) → is_end_of_failure what ≡ false → is_silent does what ≡ false
+pub spoken : (does : StepKind) (what : What) → is_end_of_failure what ≡ false → is_silent does what ≡ false
 spoken kind.Create what h = refl
 spoken kind.Update what h = refl
 spoken kind.Delete what h = refl
@@ -221,21 +222,17 @@ still_none does change outcome what = of_test (is_silent does what)
     of_test true = record { creates = refl; updates = refl; deletes = refl }
     of_test false = heard_plans change does outcome what
 
-abbrev told_if : OutcomeMap → Event → Option ResourceChange → List Message
+abbrev pub told_if : OutcomeMap → Event → Option ResourceChange → List Message
 told_if script e found =
     option_map_or (λ (change : ResourceChange). option_map_or (λ does. cond (is_silent does e.what) [] (heard_in_form change does (outcome_of script e.change e.step) e.what ∷ [])) (slice_get change.steps e.step) []) found []
 
-abbrev plainly_if : Event → Option ResourceChange → List Message
+abbrev pub plainly_if : Event → Option ResourceChange → List Message
 plainly_if e found =
     option_map_or (λ does. told (option_map_or (λ (change : ResourceChange). change.address) found []) (action_of does) e.what ∷ [])
     (slice_get (option_map_or (λ (change : ResourceChange). change.steps) found []) e.step) []
 
 with_both : (ns xs ys : List Message) → with_all ns xs ≡ Ok (behind ns xs) → with_all (behind ns xs) ys ≡ Ok (behind (behind ns xs) ys) → with_all ns (xs ++ ys) ≡ Ok (behind (behind ns xs) ys)
 with_both ns xs ys one other = joined ns (behind ns xs) xs ys one ∙ other
-
-pub behind_all : (ns xs ys : List Message) → behind (behind ns xs) ys ≡ behind ns (xs ++ ys)
-behind_all ns [] ys = refl
-behind_all ns (x ∷ xs) ys = behind_all (x ∷ ns) xs ys
 
 module _ (script : OutcomeMap) (cap : Action → ℕ) where
   -- what both forms tell of some events, behind what they told before
@@ -245,7 +242,7 @@ module _ (script : OutcomeMap) (cap : Action → ℕ) where
 
   then_ran : (m : Message) (xs plainly ys ms ns : List Message) → Went m xs ms ns → Ran plainly ys (m ∷ ms) (behind ns xs) → Ran (m ∷ plainly) (xs ++ ys) ms ns
   then_ran m xs plainly ys ms ns one others =
-      let same = behind_all ns xs ys in
+      let same = behind_both ns xs ys in
       record {
         accepted = with_both ns xs ys one.accepted others.accepted ∙ ap (λ (l : List Message). fine l) same;
         alike = subst (AreAlike (behind (m ∷ ms) plainly)) same others.alike;
@@ -272,7 +269,7 @@ module _ (script : OutcomeMap) (cap : Action → ℕ) where
           let here = cond (is_silent does e.what) [] (heard_in_form change does (outcome_of script e.change e.step) e.what ∷ []) in
           let m = told change.address (action_of does) e.what in
           let one = went cap change does (outcome_of script e.change e.step) e.what ms ns now ys alike same within in
-          let added : now ≡ m ∷ ms = told_added change.address (action_of does) e.what ms now same in
+          let added : now ≡ m ∷ ms = sym (one_next ms m now same) in
           then_ran m here plainly ys ms ns one
           (rest (m ∷ ms) (behind ns here) later one.alike (subst (λ (l : List Message). with_all l plainly ≡ Ok later) added f)
           (still_within cap ns here ys within (still_none does change (outcome_of script e.change e.step) e.what)))

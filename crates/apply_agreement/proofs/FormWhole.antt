@@ -19,7 +19,7 @@ use Rattle.apply_check.specs.Course.{max_overlap}
 use Rattle.apply_check.specs.Lines.{next}
 use Rattle.apply_check.specs.Message.{Message, diagnostic, intent_named, planned, version}
 use Rattle.apply_check.specs.Results.{◌>>=◌}
-use Rattle.apply_check.specs.Standing.{pending_at, standing_of}
+use Rattle.apply_check.specs.Standing.{idle, pending_at, standing_of}
 use Rattle.apply_check.specs.Tally.{begins, is_version, line_of, plans_create, plans_delete, plans_update}
 use Rattle.apply_events.specs.declared.event.Event.{Event}
 use Rattle.apply_events.specs.Step.{Work, kinds_of, steps_of}
@@ -36,24 +36,24 @@ use Rattle.apply_agreement.proofs.FormCounts.{all_told_starts, change_starts, do
 use Rattle.apply_agreement.proofs.FormMatches.{AreAlike, AreMatched}
 use Rattle.apply_agreement.proofs.FormPendings.{Matches}
 use Rattle.apply_agreement.proofs.FormPlans.{cap_of, creates_planned, deletes_planned, few_reads, updates_planned}
-use Rattle.apply_agreement.proofs.FormRuns.{IsWithin, Ran, all_ran, behind_all}
-use Rattle.apply_agreement.proofs.FormSums.{by_changes, total_most}
+use Rattle.apply_agreement.proofs.FormRuns.{IsWithin, Ran, all_ran}
+use Rattle.apply_agreement.proofs.ChangeSums.{by_changes, total_most}
 use Rattle.apply_agreement.proofs.Parts.{Each, each_weaker, part_of_kept}
 use Rattle.apply_agreement.proofs.Standings.{next_behind}
 use Rattle.apply_agreement.proofs.Tallies.{are_planned, count_written, is_within as event_within, whole_steps_run}
-use Rattle.apply_agreement.proofs.Turning.{behind, joined}
+use Rattle.apply_agreement.proofs.Turning.{behind, behind_both, joined}
 use Rattle.apply_agreement.proofs.Whole.{counts_behind}
 
-fine : List Message → Result (List Message) Fault
+abbrev fine : List Message → Result (List Message) Fault
 fine l = Ok l
 
 -- ---- the begin
 
 at_first : AreAlike (version ∷ []) (version ∷ [])
 unfolding standing_of
-at_first = record { begun = refl; unsummed = refl; standing = λ a. record { pending = none_open; provisioner = refl }; reads = λ a. omega arith }
+at_first = record { begun = refl; unsummed = refl; unforeseen = refl; standing = λ a. record { pending = none_open; provisioner = refl }; reads = λ a. omega arith }
   where
-    none_open : (k : Action) → Matches k (pending_at k _) (pending_at k _)
+    none_open : (k : Action) → Matches k (pending_at k idle) (pending_at k idle)
     none_open Create = tt
     none_open Update = tt
     none_open Delete = tt
@@ -62,7 +62,7 @@ at_first = record { begun = refl; unsummed = refl; standing = λ a. record { pen
 
 -- ---- what is planned
 
-abbrev AreIntents : List Message → Type 0
+abbrev pub AreIntents : List Message → Type 0
 AreIntents [] = Unit {0}
 AreIntents (m ∷ ms) = ((intent : Intent) × (m ≡ planned intent)) × AreIntents ms
 
@@ -78,7 +78,7 @@ planned_intents change (Some details) = of_word (planned_word change.steps detai
     of_word None = tt
     of_word (Some word) = ((intent_named word, refl), tt)
 
-all_intents : (details : List ChangeDetails) (ps : List (ℕ × ResourceChange)) → AreIntents (flat_map (planned_told_at details) ps)
+pub all_intents : (details : List ChangeDetails) (ps : List (ℕ × ResourceChange)) → AreIntents (flat_map (planned_told_at details) ps)
 all_intents details [] = tt
 all_intents details (p ∷ ps) = intents_both (planned_told_at details p) (flat_map (planned_told_at details) ps) (planned_intents p.1 (slice_get details p.0)) (all_intents details ps)
 
@@ -89,6 +89,7 @@ one_planned intent ms ns alike = (
   record {
     begun = alike.begun;
     unsummed = alike.unsummed;
+    unforeseen = alike.unforeseen;
     standing = alike.standing;
     reads = λ a. let before = alike.reads a in let all = sum_by-cons (λ m. cond (begins Read m) 1 0) (planned intent) ns in omega arith;
   },
@@ -101,12 +102,12 @@ all_planned (p ∷ ps) ms ns intents alike =
     let rest = all_planned ps ms (p ∷ ns) intents.1 here.1 in
     (ap (λ (r : Result (List Message) Fault). r >>= λ later. with_all later ps) here.0 ∙ rest.0, rest.1)
 
-begins_none : (k : Action) (ps : List Message) → AreIntents ps → count_by (begins k) ps ≡ 0
-begins_none k [] h = refl
-begins_none k (p ∷ ps) h =
-    let first = sum_by-cons (λ m. cond (begins k m) 1 0) p ps in
-    let here : cond {A = ℕ} (begins k p) 1 0 ≡ 0 = ap (λ (m : Message). cond (begins k m) 1 0) h.0.1 in
-    let rest = begins_none k ps h.1 in
+pub none_planned : (q : Message → Bool) → ((intent : Intent) → q (planned intent) ≡ false) → (ps : List Message) → AreIntents ps → count_by q ps ≡ 0
+none_planned q none [] h = refl
+none_planned q none (p ∷ ps) h =
+    let first = sum_by-cons (λ m. cond (q m) 1 0) p ps in
+    let here : cond {A = ℕ} (q p) 1 0 ≡ 0 = ap (λ (b : Bool). cond b 1 0) (ap q h.0.1 ∙ none h.0.0) in
+    let rest = none_planned q none ps h.1 in
     omega arith
 
 -- ---- diagnostics of no step
@@ -138,7 +139,7 @@ module _ (work : Work) (besides : Besides) (events : List Event) (few : length w
         begun = λ k.
             let most = begun_most k in
             let now = counts_behind (begins k) (version ∷ []) ps in
-            let none = begins_none k ps (all_intents besides.details (enumerate_from 0 work.plan.changes)) in
+            let none = none_planned (begins k) (λ intent. refl) ps (all_intents besides.details (enumerate_from 0 work.plan.changes)) in
             let first : count_by (begins k) (version ∷ []) ≡ 0 = refl in
             omega arith;
         creates = let now = counts_behind plans_create (version ∷ []) ps in let first : count_by plans_create (version ∷ []) ≡ 0 = refl in let share = creates_planned work.plan besides.details whole as_many in omega arith;
@@ -159,7 +160,7 @@ module _ (work : Work) (besides : Besides) (events : List Event) (few : length w
       let ran = all_ran work.script (cap_of work.plan) work.plan (as_written events) (version ∷ []) (behind (version ∷ []) ps) later first.1 is is_within in
       let last = notes_taken besides.notes (behind (behind (version ∷ []) ps) hs) ran.alike.begun in (
         joined (version ∷ []) (behind (version ∷ []) ps) ps (hs ++ ns) first.0 ∙ joined (behind (version ∷ []) ps) (behind (behind (version ∷ []) ps) hs) hs ns ran.accepted ∙ last
-            ∙ ap (λ (l : List Message). fine l) (behind_all (behind (version ∷ []) ps) hs ns ∙ behind_all (version ∷ []) ps (hs ++ ns)),
+            ∙ ap (λ (l : List Message). fine l) (behind_both (behind (version ∷ []) ps) hs ns ∙ behind_both (version ∷ []) ps (hs ++ ns)),
         ran.alike,
       )
 

@@ -139,14 +139,14 @@ length_written es =
     let split = length-filter_both (λ (e : Event). is_note e.what) (λ e. not (is_note e.what)) (λ e. refl) es in
     omega arith
 
-totals_written : (plan : SavedPlan) (es : List Event) → totals_said (events_are.totals_of plan es) ≡ completed_totals (behind (version ∷ []) (all_told plan (as_written es)))
+pub totals_written : (plan : SavedPlan) (es : List Event) → totals_said (events_are.totals_of plan es) ≡ completed_totals (behind (version ∷ []) (all_told plan (as_written es)))
 totals_written plan es =
     same_counts (sym (count_written (events_are.completes plan Create) es)) (sym (count_written (events_are.completes plan Update) es)) (sym (count_written (events_are.completes plan Delete) es))
     ∙ totals_are plan (as_written es)
 
 -- ---- a run
 
-same_whole : {t u : Totals} {a b : Bool} {m n : ℕ} → t ≡ u → a ≡ b → m ≡ n
+pub same_whole : {t u : Totals} {a b : Bool} {m n : ℕ} → t ≡ u → a ≡ b → m ≡ n
     → (let one : Whole = record { totals = t; has_errors = a; lines = m; is_plan = false; passed = None } in one) ≡ (let other : Whole = record { totals = u; has_errors = b; lines = n; is_plan = false; passed = None } in other)
 same_whole p q r = cc
 

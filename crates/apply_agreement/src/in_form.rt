@@ -38,7 +38,8 @@ ghost use Rattle.apply_agreement.specs.Passing.{plain, verdict_on, with_all};
 ghost use Rattle.apply_agreement.specs.Plans.{ChangesAreWhole, IsOrdinary, ProvisionsCreates, WarnsOfReads};
 ghost use Rattle.apply_agreement.specs.Texts.{AreSmall, HasChangeTexts, HasOutcomeTexts, IsSmall};
 ghost use Rattle.apply_agreement.specs.ToldInForm.{
-    AllSay, HasDetailTexts, HasNoteTexts, SaysAlone, heard_in_form, planned_told, told_before_end, told_of_note
+    AllSay, HasDetailTexts, HasNoteTexts, SaysAlone, form_told, heard_in_form, planned_told, told_before_end, told_of_note,
+    whole_in_form
 };
 ghost use Rattle.apply_agreement.specs.WholeSteps.{IsOfWholeSteps};
 
@@ -109,4 +110,16 @@ pub fn every_message_before_the_end_is_taken()
         → ProvisionsCreates work.plan work.script → WarnsOfReads work.plan work.script
         → IsOfWholeSteps work events
         → is_ok (with_all [] (version ∷ told_before_end work.plan work.script besides events)) ≡ true }
+{}
+
+/// And what they tell in all it accepts: with the totals of the events, and errors exactly where a step failed or was halted or a
+/// diagnostic of no step is an error. No failure is left without an error: where the error of a delete names no address, there are
+/// as many errors that name none as failures of addresses that no error names. Where none is told, the summary closes all of it, and
+/// of an apply the outputs stand behind it.
+pub fn whole_steps_are_accepted_in_terraforms_form()
+    ensures { (plans : Bool) (work : Work) (besides : Besides) (operation : Operation) (events : List Event)
+        → IsOrdinary work.plan → ChangesAreWhole work.plan → length besides.details ≡ length work.plan.changes
+        → ProvisionsCreates work.plan work.script → WarnsOfReads work.plan work.script → IsOfWholeSteps work events
+        → verdict_on (plain plans) (form_told work.plan work.script besides operation events)
+        ≡ Ok (whole_in_form work.plan work.script besides operation events) }
 {}

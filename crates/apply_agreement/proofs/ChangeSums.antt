@@ -1,5 +1,6 @@
 -- Sums over changes: of their events, and of what is planned of them.
 use Rattle.std.proofs.Common.{◌≡◌, ◌≢◌, ℕ, zero, suc, ◌+◌, ◌<◌, ◌≤◌, ◌==◌, List, [], ◌∷◌, ◌++◌, cond, count_by, filter, flat_map, length, Bool, true, false, Option, Some, None, refl, sym, ap, ◌∙◌, subst, ⊎_elim, slice_get, arith, eq-eqb, ne_eqb}
+use Rattle.std.specs.Prelude.{◌&&◌}
 use Rattle.std.specs.List.{enumerate_from}
 use Rattle.std.specs.Option.{option_map_or}
 use Rattle.std.proofs.lemmas.Bool.Decides.{eqb_tells}
@@ -19,6 +20,10 @@ total_most low (suc n) g h each =
     let first = each low (omega arith) (omega arith) in
     let rest = total_most (low + 1) n g h (λ c above below. each c (omega arith) (omega arith)) in
     omega arith
+
+pub ones : (low n : ℕ) → total low n (λ c. 1) ≡ n
+ones low zero = refl
+ones low (suc n) = let rest = ones (low + 1) n in omega arith
 
 none_at_all : (low n : ℕ) (g : ℕ → ℕ) → ((c : ℕ) → g c ≡ 0) → total low n g ≡ 0
 none_at_all low zero g each = refl
@@ -66,6 +71,46 @@ by_changes p limit (e ∷ es) within =
     let less : e.change < limit = within.0 in
     let all = (one_more 0 limit e.change (cond (p e) 1 0) (λ c. count_by p (events_of_change c es)) (λ c. count_by p (events_of_change c (e ∷ es))) (λ c. count_here p c e es)).1 (omega arith) (omega arith) in
     let first = sum_by-cons (λ x. cond (p x) 1 0) e es in
+    omega arith
+
+-- a test of the change keeps all events of a change, or none
+module _ (keep : ℕ → Bool) (c : ℕ) (p : Event → Bool) where
+  kept_or_none : (es : List Event) → count_by (λ e. keep e.change && p e) (events_of_change c es) ≡ cond (keep c) (count_by p (events_of_change c es)) 0
+  kept_or_none [] = none (keep c)
+    where
+      none : (b : Bool) → 0 ≡ cond {A = ℕ} b 0 0
+      none true = refl
+      none false = refl
+  kept_or_none (e ∷ es) =
+      ⊎_elim (λ (same : ((e.change == c) ≡ true) × (e.change ≡ c)). of_this (kept_or_none es) (e.change == c) (λ yes. same.1))
+      (λ (apart : ((e.change == c) ≡ false) × (e.change ≢ c)). of_this (kept_or_none es) (e.change == c) (λ yes. absurd (let both : true ≡ false = sym yes ∙ apart.0 in cc)))
+      (eqb_tells e.change c)
+    where
+      of_one : (k b : Bool) (x y : ℕ) → x ≡ cond k y 0 → cond {A = ℕ} (k && b) 1 0 + x ≡ cond k (cond b 1 0 + y) 0
+      of_one true b x y is = omega arith
+      of_one false b x y is = omega arith
+
+      of_this : count_by (λ e. keep e.change && p e) (events_of_change c es) ≡ cond (keep c) (count_by p (events_of_change c es)) 0 → (b : Bool) → (b ≡ true → e.change ≡ c)
+          → count_by (λ e. keep e.change && p e) (cond b (e ∷ events_of_change c es) (events_of_change c es)) ≡ cond (keep c) (count_by p (cond b (e ∷ events_of_change c es) (events_of_change c es))) 0
+      of_this rest true same =
+          let one = of_one (keep c) (p e) (count_by (λ e. keep e.change && p e) (events_of_change c es)) (count_by p (events_of_change c es)) rest in
+          let here : cond {A = ℕ} (keep e.change && p e) 1 0 ≡ cond (keep c && p e) 1 0 = ap (λ (d : ℕ). cond (keep d && p e) 1 0) (same refl) in
+          let left = sum_by-cons (λ e. cond (keep e.change && p e) 1 0) e (events_of_change c es) in
+          let right = sum_by-cons (λ x. cond (p x) 1 0) e (events_of_change c es) in
+          let first : count_by (λ e. keep e.change && p e) (e ∷ events_of_change c es) ≡ cond (keep c) (cond (p e) 1 0 + count_by p (events_of_change c es)) 0 = omega arith in
+          first ∙ ap (λ (n : ℕ). cond (keep c) n 0) (sym right)
+      of_this rest false same = rest
+
+-- where of each change as many events pass one test as the other, so it is of the events of some changes
+pub as_many_kept : (keep : ℕ → Bool) (p q : Event → Bool) (limit : ℕ) (es : List Event) → Each (λ e. e.change < limit) es → ((c : ℕ) → c < limit → count_by p (events_of_change c es) ≡ count_by q (events_of_change c es))
+    → count_by (λ e. keep e.change && p e) es ≡ count_by (λ e. keep e.change && q e) es
+as_many_kept keep p q limit es within same =
+    let one = by_changes (λ e. keep e.change && p e) limit es within in
+    let other = by_changes (λ e. keep e.change && q e) limit es within in
+    let alike : (c : ℕ) → c < 0 + limit → count_by (λ e. keep e.change && p e) (events_of_change c es) ≡ count_by (λ e. keep e.change && q e) (events_of_change c es) =
+    λ c less. kept_or_none keep c p es ∙ ap (λ (n : ℕ). cond (keep c) n 0) (same c (omega arith)) ∙ sym (kept_or_none keep c q es) in
+    let most = total_most 0 limit (λ c. count_by (λ e. keep e.change && p e) (events_of_change c es)) (λ c. count_by (λ e. keep e.change && q e) (events_of_change c es)) (λ c above below. let e = alike c below in omega arith) in
+    let least = total_most 0 limit (λ c. count_by (λ e. keep e.change && q e) (events_of_change c es)) (λ c. count_by (λ e. keep e.change && p e) (events_of_change c es)) (λ c above below. let e = alike c below in omega arith) in
     omega arith
 
 -- what is made of elements with their numbers is the sum of what is made of each
