@@ -3,6 +3,7 @@ mod AppliedSteps
 pub mod BetweenSteps
 pub mod Bytes
 pub mod ChangeDeeds
+mod ChangeSums
 pub mod Content
 pub mod Counting
 pub mod Cuts
@@ -14,13 +15,22 @@ pub mod Errors
 pub mod EscapedTokens
 pub mod EscapedTrees
 pub mod Fitting
+mod FormCounts
 pub mod FormEnds
+mod FormFailures
 pub mod FormFeeds
 pub mod FormHeard
 pub mod FormLines
+pub mod FormMatches
 pub mod FormNotes
 pub mod FormObjects
+pub mod FormPendings
 pub mod FormPlanned
+mod FormPlans
+mod FormRuns
+mod FormTold
+mod FormVerdict
+mod FormWhole
 pub mod Given
 pub mod Heard
 pub mod JsonTexts
