@@ -1,5 +1,6 @@
 pub mod AppliedKinds
 mod AppliedSteps
+pub mod BareTexts
 pub mod BetweenSteps
 pub mod Bytes
 pub mod ChangeDeeds
@@ -20,10 +21,14 @@ pub mod FormHeard
 pub mod FormLines
 pub mod FormNotes
 pub mod FormObjects
+pub mod FormOutputs
 pub mod FormPlanned
+pub mod FormStream
 pub mod Given
 pub mod Heard
 pub mod JsonTexts
+pub mod KeptDiags
+pub mod KeptValues
 pub mod Legible
 pub mod LinesAccepted
 pub mod LookUps
@@ -32,14 +37,19 @@ pub mod NumberTexts
 pub mod ObjectsBack
 pub mod ObjectsHeard
 pub mod Ordinary
+pub mod OwnMembers
 pub mod OwnTexts
 pub mod Parts
 pub mod Phases
 pub mod PlainNumbers
 pub mod PlanTexts
+pub mod PreviousTexts
 pub mod ReadBack
 pub mod ReadBytes
+pub mod ReadDetails
+pub mod ReadNotes
 pub mod ReadNumbers
+pub mod ReadOutputs
 pub mod ReadTexts
 pub mod RunEvents
 pub mod ScriptTexts

@@ -1,6 +1,7 @@
 pub mod Accepted
 pub mod Applied
 pub mod Forms
+pub mod FormTexts
 pub mod Levels
 pub mod Objects
 pub mod Passing
