@@ -1,6 +1,6 @@
 pub mod AppliedKinds
 mod AppliedSteps
-pub mod BareTexts
+mod BareTexts
 pub mod BetweenSteps
 pub mod Bytes
 pub mod ChangeDeeds
@@ -15,20 +15,22 @@ pub mod Errors
 pub mod EscapedTokens
 pub mod EscapedTrees
 pub mod Fitting
+mod FormAccepted
 pub mod FormEnds
 pub mod FormFeeds
 pub mod FormHeard
 pub mod FormLines
 pub mod FormNotes
 pub mod FormObjects
-pub mod FormOutputs
+mod FormOutputs
 pub mod FormPlanned
-pub mod FormStream
+mod FormRead
+mod FormStream
 pub mod Given
 pub mod Heard
 pub mod JsonTexts
-pub mod KeptDiags
-pub mod KeptValues
+mod KeptDiags
+mod KeptValues
 pub mod Legible
 pub mod LinesAccepted
 pub mod LookUps
@@ -37,19 +39,19 @@ pub mod NumberTexts
 pub mod ObjectsBack
 pub mod ObjectsHeard
 pub mod Ordinary
-pub mod OwnMembers
+mod OwnMembers
 pub mod OwnTexts
 pub mod Parts
 pub mod Phases
 pub mod PlainNumbers
 pub mod PlanTexts
-pub mod PreviousTexts
+mod PreviousTexts
 pub mod ReadBack
 pub mod ReadBytes
-pub mod ReadDetails
-pub mod ReadNotes
+mod ReadDetails
+mod ReadNotes
 pub mod ReadNumbers
-pub mod ReadOutputs
+mod ReadOutputs
 pub mod ReadTexts
 pub mod RunEvents
 pub mod ScriptTexts
