@@ -4,6 +4,7 @@ mod BareTexts
 pub mod BetweenSteps
 pub mod Bytes
 pub mod ChangeDeeds
+mod ChangeSums
 pub mod Content
 pub mod Counting
 pub mod Cuts
@@ -16,16 +17,25 @@ pub mod EscapedTokens
 pub mod EscapedTrees
 pub mod Fitting
 mod FormAccepted
+mod FormCounts
 pub mod FormEnds
+mod FormFailures
 pub mod FormFeeds
 pub mod FormHeard
 pub mod FormLines
+pub mod FormMatches
 pub mod FormNotes
 pub mod FormObjects
 mod FormOutputs
+pub mod FormPendings
 pub mod FormPlanned
+mod FormPlans
 mod FormRead
+mod FormRuns
 mod FormStream
+mod FormTold
+mod FormVerdict
+mod FormWhole
 pub mod Given
 pub mod Heard
 pub mod JsonTexts

@@ -139,14 +139,14 @@ length_written es =
     let split = length-filter_both (λ (e : Event). is_note e.what) (λ e. not (is_note e.what)) (λ e. refl) es in
     omega arith
 
-totals_written : (plan : SavedPlan) (es : List Event) → totals_said (events_are.totals_of plan es) ≡ completed_totals (behind (version ∷ []) (all_told plan (as_written es)))
+pub totals_written : (plan : SavedPlan) (es : List Event) → totals_said (events_are.totals_of plan es) ≡ completed_totals (behind (version ∷ []) (all_told plan (as_written es)))
 totals_written plan es =
     same_counts (sym (count_written (events_are.completes plan Create) es)) (sym (count_written (events_are.completes plan Update) es)) (sym (count_written (events_are.completes plan Delete) es))
     ∙ totals_are plan (as_written es)
 
 -- ---- a run
 
-same_whole : {t u : Totals} {a b : Bool} {m n : ℕ} → t ≡ u → a ≡ b → m ≡ n
+pub same_whole : {t u : Totals} {a b : Bool} {m n : ℕ} → t ≡ u → a ≡ b → m ≡ n
     → (let one : Whole = record { totals = t; has_errors = a; lines = m; is_plan = false; passed = None } in one) ≡ (let other : Whole = record { totals = u; has_errors = b; lines = n; is_plan = false; passed = None } in other)
 same_whole p q r = cc
 
@@ -167,9 +167,10 @@ are_planned plan es planned =
     each_weaker (λ e. HasStep plan e.change e.step) (IsPlanned plan)
     (λ e has. let kinds = kinds_of plan e.change in (get_or kinds e.step Create, slice_get-get_or kinds e.step Create has)) es (each_of_all (λ e. HasStep plan e.change e.step) es planned)
 
-pub whole_steps_accepted : (plans : Bool) (work : Work) (events : List Event) → IsOrdinary work.plan → ProvisionsCreates work.plan work.script → WarnsOfReads work.plan work.script → IsOfWholeSteps work events
-    → verdict_on (plain plans) (stream_told work.plan events) ≡ Ok (whole_stream work.plan events)
-whole_steps_accepted plans work events ordinary provisioned reads steps =
+-- the messages are accepted, and in the end each change is at rest
+pub whole_steps_run : (work : Work) (events : List Event) → IsOrdinary work.plan → ProvisionsCreates work.plan work.script → WarnsOfReads work.plan work.script → IsOfWholeSteps work events
+    → Runs (length work.plan.changes) (address_of work.plan) Anywhere (Does work.plan) (Provides work.plan) (version ∷ []) (all_told work.plan (as_written events))
+whole_steps_run work events ordinary provisioned reads steps =
     let plan = work.plan in
     let limit = length plan.changes in
     let addresses = address_of plan in
@@ -197,7 +198,15 @@ whole_steps_accepted plans work events ordinary provisioned reads steps =
     ap (λ (l : List Message). l ++ map (said addresses) notes) (sym (told_is plan (hook_messages_of events)))
     ∙ ap (λ (l : List Message). all_told plan (hook_messages_of events) ++ l) (sym (told_is plan (notes_of events)))
     ∙ sym (all_told_both plan (hook_messages_of events) (notes_of events)) in
-    let ran_so : Runs limit addresses Anywhere (Does plan) (Provides plan) (version ∷ []) (all_told plan (as_written events)) = subst (Runs limit addresses Anywhere (Does plan) (Provides plan) (version ∷ [])) same ran in
+    subst (Runs limit addresses Anywhere (Does plan) (Provides plan) (version ∷ [])) same ran
+
+pub whole_steps_accepted : (plans : Bool) (work : Work) (events : List Event) → IsOrdinary work.plan → ProvisionsCreates work.plan work.script → WarnsOfReads work.plan work.script → IsOfWholeSteps work events
+    → verdict_on (plain plans) (stream_told work.plan events) ≡ Ok (whole_stream work.plan events)
+whole_steps_accepted plans work events ordinary provisioned reads steps =
+    let plan = work.plan in
+    let limit = length plan.changes in
+    let addresses = address_of plan in
+    let ran_so = whole_steps_run work events ordinary provisioned reads steps in
     let planned = are_planned plan events steps.planned in
     let lines = all_lines plan (as_written events) (each_written (IsPlanned plan) events planned) in
     let errors = errors_told work limit events (each_written (IsPlanned plan) events planned) (each_weaker (IsPlanned plan) (λ e. e.change < limit) (is_within plan) events planned) steps.whole in

@@ -44,7 +44,7 @@ joined ms later (x ∷ xs) ys e = first (next ms x) (λ now. joined now later xs
     first (Ok now) rest e = rest now e
     first (Err fault) rest e = absurd cc
 
-behind_both : (ms xs ys : List Message) → behind (behind ms xs) ys ≡ behind ms (xs ++ ys)
+pub behind_both : (ms xs ys : List Message) → behind (behind ms xs) ys ≡ behind ms (xs ++ ys)
 behind_both ms [] ys = refl
 behind_both ms (x ∷ xs) ys = behind_both (x ∷ ms) xs ys
 

@@ -1,8 +1,9 @@
 -- The whole stream: the version, what happens, and the summary.
 use Rattle.std.proofs.Common.{◌≡◌, ◌≢◌, ℕ, ◌+◌, ◌<◌, List, [], ◌∷◌, ◌++◌, length, Bool, true, false, cond, Option, Some, None, Result, Ok, Err, refl, sym, ap, ◌∙◌, subst, ⊎_elim, is_some, count_by, arith, eq-eqb}
-use Rattle.std.specs.Prelude.{◌||◌, ◌&&◌}
+use Rattle.std.specs.Prelude.{◌||◌}
 use Rattle.std.specs.List.{list_any}
 use Rattle.std.specs.Option.{option_map_or}
+use Rattle.std.proofs.Math.Bool.{and-false}
 use Rattle.std.proofs.lemmas.List.Sums.{sum_by-cons}
 use Rattle.apply_check.specs.declared.messages.action.Action.{Action}
 use Rattle.apply_check.specs.declared.messages.action.Action.TheVariants.{Create, Update, Delete, Read, Refresh}
@@ -10,12 +11,12 @@ use Rattle.apply_check.specs.declared.messages.totals.Totals.{Totals}
 use Rattle.apply_check.specs.declared.rules.fault.Fault.{Fault}
 use Rattle.apply_check.specs.declared.rules.fault.Fault.TheVariants.{AfterSummary}
 use Rattle.apply_check.specs.declared.rules.standing.Standing.{Standing}
-use Rattle.apply_check.specs.Lines.{end_of, next, summed, whole_of}
+use Rattle.apply_check.specs.Lines.{end_of, is_plan_stream, next, summed, whole_of}
 use Rattle.apply_check.specs.Message.{Message, version, summary}
 use Rattle.apply_check.specs.Open.{any_open, stands_open}
 use Rattle.apply_check.specs.Results.{◌>>=◌}
 use Rattle.apply_check.specs.Standing.{pending_at, standing_of}
-use Rattle.apply_check.specs.Tally.{completed_totals, is_plan_summary, line_of, same_totals}
+use Rattle.apply_check.specs.Tally.{completed_totals, is_error, is_plan_summary, is_summary, is_version, line_of, same_totals}
 use Rattle.apply_check.proofs.OpenSteps.{not_any_open}
 use Rattle.apply_agreement.specs.Passing.{plain, verdict_on, with_all}
 use Rattle.apply_agreement.proofs.Counting.{counted, none_or_some}
@@ -23,7 +24,7 @@ use Rattle.apply_agreement.proofs.Fitting.{MatchesPending, nothing_fits}
 use Rattle.apply_agreement.proofs.Moves.{Agrees, shown_is}
 use Rattle.apply_agreement.proofs.Ordinary.{Anywhere}
 use Rattle.apply_agreement.proofs.Phases.{IsAtRest, Phase, between, under_way, shown}
-use Rattle.apply_agreement.proofs.Standings.{IsAmid, next_behind}
+use Rattle.apply_agreement.proofs.Standings.{next_behind}
 use Rattle.apply_agreement.proofs.Turning.{Runs, behind, joined}
 
 -- ---- the begin
@@ -66,20 +67,28 @@ at_begin limit addresses Does Provides = record {
 
 -- ---- the end: nothing stands open but reads
 
+-- of failures it is no matter
+pub closed_but : (r : Bool) (s : Standing) → s.create ≡ None → s.update ≡ None → s.delete ≡ None → s.refresh ≡ None → stands_open r false s ≡ false
+closed_but true s c u d x = rw (c, u, d, x) refl
+closed_but false s c u d x = rw (c, u, d) refl
+
 closed_from : (r f : Bool) (s : Standing) → s.create ≡ None → s.update ≡ None → s.delete ≡ None → s.refresh ≡ None → s.failures ≡ None → stands_open r f s ≡ false
+closed_from r false s c u d x y = closed_but r s c u d x
 closed_from true true s c u d x y = rw (c, u, d, x, y) refl
-closed_from true false s c u d x y = rw (c, u, d, x) refl
 closed_from false true s c u d x y = rw (c, u, d, y) refl
-closed_from false false s c u d x y = rw (c, u, d) refl
 
 nothing : {X : Type 0} (o : Option X) → (is_some o ≡ true → ⊥) → o ≡ None
 nothing None h = refl
 nothing (Some x) h = absurd (h refl)
 
+pub none_stands : (limit : ℕ) (addresses : ℕ → List ℕ) (Does : ℕ → Action → Type 0) (Provides : ℕ → Type 0) (phases : ℕ → Phase) (ms : List Message) → Agrees limit addresses Anywhere Does Provides phases ms → ((c : ℕ) → c < limit → IsAtRest (phases c))
+    → (k : Action) → k ≢ Read → (a : List ℕ) → pending_at k (standing_of a ms) ≡ None
+none_stands limit addresses Does Provides phases ms agrees rest k other a = nothing_fits limit k (shown addresses phases a k) (pending_at k (standing_of a ms)) (agrees.open_steps a k tt) (none_left limit addresses phases a k other rest)
+
 closed_at_end : (limit : ℕ) (addresses : ℕ → List ℕ) (Does : ℕ → Action → Type 0) (Provides : ℕ → Type 0) (phases : ℕ → Phase) (ms : List Message) → Agrees limit addresses Anywhere Does Provides phases ms → ((c : ℕ) → c < limit → IsAtRest (phases c))
     → (r f : Bool) (a : List ℕ) → stands_open r f (standing_of a ms) ≡ false
 closed_at_end limit addresses Does Provides phases ms agrees rest r f a =
-    let none = λ (k : Action) (other : k ≢ Read). nothing_fits limit k (shown addresses phases a k) (pending_at k (standing_of a ms)) (agrees.open_steps a k tt) (none_left limit addresses phases a k other rest) in
+    let none = λ (k : Action) (other : k ≢ Read). none_stands limit addresses Does Provides phases ms agrees rest k other a in
     closed_from r f (standing_of a ms) (none Create (λ e. absurd cc)) (none Update (λ e. absurd cc)) (none Delete (λ e. absurd cc)) (none Refresh (λ e. absurd cc))
     (nothing (standing_of a ms).failures (λ some. let found = agrees.failures a tt some in subst IsAtRest found.3 (rest found.0 found.1)))
 
@@ -88,24 +97,24 @@ closed_at_end limit addresses Does Provides phases ms agrees rest r f a =
 agree : (t : Totals) → same_totals t t ≡ true
 agree t = rw (eq-eqb t.added t.added refl, eq-eqb t.changed t.changed refl, eq-eqb t.removed t.removed refl) refl
 
-next_summary : (t : Totals) (ms : List Message) → IsAmid ms → any_open ms ≡ false → t ≡ completed_totals ms → next ms (summary t) ≡ Ok (summary t ∷ ms)
-next_summary t ms amid closed same =
+pub next_summary : (t : Totals) (ms : List Message) → is_some (line_of is_version ms) ≡ true → line_of is_summary ms ≡ None → any_open ms ≡ false → t ≡ completed_totals ms → next ms (summary t) ≡ Ok (summary t ∷ ms)
+next_summary t ms begun unsummed closed same =
     let agrees : same_totals t (completed_totals ms) ≡ true = ap (same_totals t) (sym same) ∙ agree t in
-    next_behind ms (summary t) amid.0 (λ first. ap (λ (o : Option ℕ). option_map_or (λ line. Err (AfterSummary line)) o (summed t ms)) amid.1 ∙ rw (closed, agrees) refl)
+    next_behind ms (summary t) begun (λ first. ap (λ (o : Option ℕ). option_map_or (λ line. Err (AfterSummary line)) o (summed t ms)) unsummed ∙ rw (closed, agrees) refl)
 
 still_closed : (t : Totals) (ms : List Message) (a : List ℕ) → standing_of a (summary t ∷ ms) ≡ standing_of a ms
 unfolding standing_of
 still_closed t ms a = refl
 
--- where an apply is summed up, it is no matter whether a plan may be
-whole_end : (plans : Bool) (t : Totals) (ms : List Message) → any_open (summary t ∷ ms) ≡ false → end_of (plain plans) (summary t ∷ ms) ≡ Ok (whole_of (plain plans) (summary t ∷ ms))
+-- a stream that is no plan's, and has a summary or an error
+pub whole_end : (plans : Bool) (ms : List Message) → any_open ms ≡ false → is_plan_stream ms ≡ false → (list_any is_summary ms || list_any is_error ms) ≡ true → end_of (plain plans) ms ≡ Ok (whole_of (plain plans) ms)
 unfolding end_of
-whole_end plans t ms closed = rw (closed, no_plan plans (is_some (line_of is_plan_summary ms))) refl
-  where
-    no_plan : (b c : Bool) → (b && (c && false)) ≡ false
-    no_plan true true = refl
-    no_plan true false = refl
-    no_plan false c = refl
+whole_end true ms closed no_plan ends = rw (closed, no_plan, ends) refl
+whole_end false ms closed no_plan ends = rw (closed, ends) refl
+
+-- where an apply is summed up, the stream is no plan's
+pub summed_up : (t : Totals) (ms : List Message) → is_plan_stream (summary t ∷ ms) ≡ false
+summed_up t ms = and-false (is_some (line_of is_plan_summary ms))
 
 -- ---- all messages
 
@@ -115,11 +124,11 @@ accepted plans limit addresses Does Provides ms t runs totals =
     let later = behind (version ∷ []) ms in
     let agrees = runs.1.1 in
     let closed = closed_at_end limit addresses Does Provides runs.1.0 later agrees runs.1.2 in
-    let last : next later (summary t) ≡ Ok (summary t ∷ later) = next_summary t later agrees.amid (not_any_open later (closed _ _)) totals in
+    let last : next later (summary t) ≡ Ok (summary t ∷ later) = next_summary t later agrees.amid.0 agrees.amid.1 (not_any_open later (closed _ _)) totals in
     let all = summary t ∷ later in
     let none : any_open all ≡ false = not_any_open all (λ a. ap (stands_open _ _) (still_closed t later a) ∙ closed _ _ a) in
     ap (λ (r : Result (List Message) Fault). r >>= end_of (plain plans)) (joined (version ∷ []) later ms (summary t ∷ []) runs.0 ∙ ap (λ (r : Result (List Message) Fault). r >>= λ all. with_all all []) last)
-    ∙ whole_end plans t later none
+    ∙ whole_end plans all none (summed_up t later) refl
 
 -- ---- what they tell
 

@@ -123,6 +123,12 @@ pub record HasNoteTexts (note : Note) : Type 0 where
 
 -- ---- all of it
 
+-- what is planned, what happens, and the diagnostics of no step
+abbrev pub told_before_end : SavedPlan → OutcomeMap → Besides → (taken : List Event) → List Message
+told_before_end plan script besides taken =
+    flat_map (planned_told_at besides.details) (enumerate_from 0 plan.changes)
+    ++ (flat_map (told_of_event plan script) (as_written taken) ++ map told_of_note besides.notes)
+
 abbrev pub form_told : SavedPlan → OutcomeMap → Besides → Operation → (taken : List Event) → List Message
 form_told plan script besides operation taken =
     version ∷ (flat_map (planned_told_at besides.details) (enumerate_from 0 plan.changes)

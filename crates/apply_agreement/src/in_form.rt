@@ -1,7 +1,7 @@
 //! Laws of what a checker reads in a stream in Terraform's form. Each function does nothing or only calls the laws that its own
 //! follows from; its contract is the law.
 
-ghost use Rattle.std.specs.Prelude.{◌≡◌, ◌<◌, ◌^◌, ℕ, Bool, List, [], ◌∷◌, Option, None, Ok, IfSome, IsUtf8};
+ghost use Rattle.std.specs.Prelude.{◌≡◌, ◌<◌, ◌^◌, ℕ, Bool, List, [], ◌∷◌, is_ok, length, true, Option, None, Ok, IfSome, IsUtf8};
 ghost use Rattle.std.specs.List.{concat};
 ghost use Rattle.json.specs.Json.{Json};
 ghost use Rattle.json.specs.Tree.{HasNumbers};
@@ -19,7 +19,9 @@ ghost use Rattle.apply_check.specs.declared.verdict.whole.Whole.{Whole};
 ghost use Rattle.apply_check.specs.Lines.{verdict_of};
 ghost use Rattle.apply_check.specs.Message.{Message, summary, version};
 ghost use Rattle.apply_events.specs.declared.counts.Counts.{Counts};
+ghost use Rattle.apply_events.specs.declared.event.Event.{Event};
 ghost use Rattle.apply_events.specs.declared.what.What.{What};
+ghost use Rattle.apply_events.specs.Step.{Work};
 ghost use Rattle.apply_text.specs.declared.operation.Operation.{Operation};
 ghost use Rattle.apply_text.specs.Lines as default;
 ghost use Rattle.apply_text.specs.Message.{event_message};
@@ -27,21 +29,19 @@ ghost use Rattle.apply_text.specs.Moment.{moment_text};
 ghost use Rattle.apply_form.specs.Escapes.{escaped};
 ghost use Rattle.apply_form.specs.Lines.{event_line, note_text, planned_text, summary_text, version_text};
 ghost use Rattle.apply_form.specs.Moment.{fine_text};
+ghost use Rattle.apply_run.specs.Stream.Terraform.{Besides};
 ghost use Rattle.apply_agreement.specs.Accepted.{totals_said};
 ghost use Rattle.apply_agreement.specs.Applied.{HasShortLines};
 ghost use Rattle.apply_agreement.specs.Forms.{AreKept, IsReadAs, TellsTheSame, said_in_form, told_diag};
 ghost use Rattle.apply_agreement.specs.Objects.{object_at};
-ghost use Rattle.apply_agreement.specs.Passing.{plain, verdict_on};
+ghost use Rattle.apply_agreement.specs.Passing.{plain, verdict_on, with_all};
+ghost use Rattle.apply_agreement.specs.Plans.{ChangesAreWhole, IsOrdinary, ProvisionsCreates, WarnsOfReads};
 ghost use Rattle.apply_agreement.specs.Texts.{AreSmall, HasChangeTexts, HasOutcomeTexts, IsSmall};
 ghost use Rattle.apply_agreement.specs.ToldInForm.{
-  AllSay,
-  HasDetailTexts,
-  HasNoteTexts,
-  SaysAlone,
-  heard_in_form,
-  planned_told,
-  told_of_note,
+    AllSay, HasDetailTexts, HasNoteTexts, SaysAlone, form_told, heard_in_form, planned_told, told_before_end, told_of_note,
+    whole_in_form
 };
+ghost use Rattle.apply_agreement.specs.WholeSteps.{IsOfWholeSteps};
 
 /// A value that is printed is read as the same tree with its escapes: each stands for the character that it is an escape of.
 pub fn an_escaped_text_is_read_as_the_text()
@@ -98,4 +98,28 @@ pub fn lines_are_judged_by_what_they_say()
     ensures { (plans : Bool) (lines : List (List ℕ)) (messages : List Message) (whole : Whole) → AllSay lines messages
         → HasShortLines (concat lines) → verdict_on (plain plans) messages ≡ Ok whole
         → verdict_of (plain plans) (cut_lines (concat lines)) ≡ Ok whole }
+{}
+
+/// What the messages of whole steps tell in Terraform's form before its end a checker takes: what is planned, then what happens, in
+/// the order in which it is written, then the diagnostics of no step. No more begins than is planned, and a read that failed, whose
+/// end is not told, stands open beside others. Of the plan it is asked besides that each change is planned, and does one thing to
+/// its object or replaces it.
+pub fn every_message_before_the_end_is_taken()
+    ensures { (work : Work) (besides : Besides) (events : List Event)
+        → IsOrdinary work.plan → ChangesAreWhole work.plan → length besides.details ≡ length work.plan.changes
+        → ProvisionsCreates work.plan work.script → WarnsOfReads work.plan work.script
+        → IsOfWholeSteps work events
+        → is_ok (with_all [] (version ∷ told_before_end work.plan work.script besides events)) ≡ true }
+{}
+
+/// And what they tell in all it accepts: with the totals of the events, and errors exactly where a step failed or was halted or a
+/// diagnostic of no step is an error. No failure is left without an error: where the error of a delete names no address, there are
+/// as many errors that name none as failures of addresses that no error names. Where none is told, the summary closes all of it, and
+/// of an apply the outputs stand behind it.
+pub fn whole_steps_are_accepted_in_terraforms_form()
+    ensures { (plans : Bool) (work : Work) (besides : Besides) (operation : Operation) (events : List Event)
+        → IsOrdinary work.plan → ChangesAreWhole work.plan → length besides.details ≡ length work.plan.changes
+        → ProvisionsCreates work.plan work.script → WarnsOfReads work.plan work.script → IsOfWholeSteps work events
+        → verdict_on (plain plans) (form_told work.plan work.script besides operation events)
+        ≡ Ok (whole_in_form work.plan work.script besides operation events) }
 {}

@@ -27,7 +27,8 @@ pub use forms::{a_stream_has_an_end_or_an_error, no_end_tells_of_an_error};
 pub use in_form::{
     an_escaped_text_is_read_as_the_text, both_forms_say_the_same_of_an_event,
     every_line_beside_the_events_is_heard, every_line_of_an_event_is_heard,
-    lines_are_judged_by_what_they_say,
+    every_message_before_the_end_is_taken, lines_are_judged_by_what_they_say,
+    whole_steps_are_accepted_in_terraforms_form,
 };
 pub use laws::{
     a_run_is_of_whole_steps, a_script_provisions_creates, a_script_warns_of_reads,
