@@ -1,5 +1,5 @@
 -- A stream in Terraform's form of whole steps of what was read is accepted, and has a line for each message.
-use Rattle.std.proofs.Common.{◌≡◌, ℕ, suc, ◌+◌, List, [], ◌∷◌, ◌++◌, append_assoc, cond, length, Bool, true, false, Option, Some, None, Ok, refl, sym, ap, ◌∙◌, subst, ⊎_elim}
+use Rattle.std.proofs.Common.{◌≡◌, ℕ, suc, List, [], ◌∷◌, ◌++◌, append_assoc, cond, length, Bool, true, false, Option, Some, None, Ok, refl, sym, ap, ◌∙◌, subst, ⊎_elim}
 use Rattle.std.specs.List.{concat}
 use Rattle.std.specs.Io.KnownBytes.{Appends}
 use Rattle.apply_lines.specs.Cut.{cut_lines}
@@ -86,28 +86,28 @@ module _ (told : Told) (operation : Operation) (events : List Event) (stream : L
     (delivered : IsDelivered (applied_plan told) events stream report.run before after) (error : report.tells_error ≡ tells_error (besides_of told).notes report.run.counts)
     (counted : length (cut_lines stream) ≡ length (form_told (applied_plan told) (applied_script told) (besides_of told) operation events))
   where
-  reported : whole_in_form (applied_plan told) (applied_script told) (besides_of told) operation events ≡ whole_told report (length (cut_lines stream))
-  reported =
-      let counts = totals_of (applied_plan told) events in
-      let notes = (besides_of told).notes in
-      let lines = length (form_told (applied_plan told) (applied_script told) (besides_of told) operation events) in
-      sym (ap (as_said report.run.counts report.tells_error) counted
-      ∙ ap (λ (b : Bool). as_said report.run.counts b lines) error
-      ∙ ap (λ (c : Counts). as_said c (tells_error notes c) lines) delivered.counts)
+    reported : whole_in_form (applied_plan told) (applied_script told) (besides_of told) operation events ≡ whole_told report (length (cut_lines stream))
+    reported =
+        let counts = totals_of (applied_plan told) events in
+        let notes = (besides_of told).notes in
+        let lines = length (form_told (applied_plan told) (applied_script told) (besides_of told) operation events) in
+        sym (ap (as_said report.run.counts report.tells_error) counted
+        ∙ ap (λ (b : Bool). as_said report.run.counts b lines) error
+        ∙ ap (λ (c : Counts). as_said c (tells_error notes c) lines) delivered.counts)
 
-  pub stream_reported : (plans : Bool) → verdict_of (plain plans) (cut_lines stream) ≡ Ok (whole_in_form (applied_plan told) (applied_script told) (besides_of told) operation events)
-      → verdict_of (plain plans) (cut_lines stream) ≡ Ok (whole_told report (length (cut_lines stream)))
-  stream_reported plans verdict = verdict ∙ ap Ok reported
+    pub stream_reported : (plans : Bool) → verdict_of (plain plans) (cut_lines stream) ≡ Ok (whole_in_form (applied_plan told) (applied_script told) (besides_of told) operation events)
+        → verdict_of (plain plans) (cut_lines stream) ≡ Ok (whole_told report (length (cut_lines stream)))
+    stream_reported plans verdict = verdict ∙ ap Ok reported
 
-  -- a sink that had nothing and tells its bytes has the stream
-  pub stream_is : (bytes : List ℕ) → before ≡ Some [] → after ≡ Some bytes → stream ≡ bytes
-  stream_is bytes none all =
-      sym (subst (λ (o : Option (List ℕ)). Appends o (Some bytes) stream) none (subst (λ (o : Option (List ℕ)). Appends before o stream) all delivered.appended))
+    -- a sink that had nothing and tells its bytes has the stream
+    pub stream_is : (bytes : List ℕ) → before ≡ Some [] → after ≡ Some bytes → stream ≡ bytes
+    stream_is bytes none all =
+        sym (subst (λ (o : Option (List ℕ)). Appends o (Some bytes) stream) none (subst (λ (o : Option (List ℕ)). Appends before o stream) all delivered.appended))
 
-  pub bytes_reported : (plans : Bool) (bytes : List ℕ) → before ≡ Some [] → after ≡ Some bytes → HasShortLines bytes
-      → (HasShortLines stream → verdict_of (plain plans) (cut_lines stream) ≡ Ok (whole_in_form (applied_plan told) (applied_script told) (besides_of told) operation events))
-      → verdict_of (plain plans) (cut_lines bytes) ≡ Ok (whole_told report (length (cut_lines bytes)))
-  bytes_reported plans bytes none all short verdict =
-      let same = stream_is bytes none all in
-      subst (λ (b : List ℕ). verdict_of (plain plans) (cut_lines b) ≡ Ok (whole_told report (length (cut_lines b)))) same
-      (stream_reported plans (verdict (subst HasShortLines (sym same) short)))
+    pub bytes_reported : (plans : Bool) (bytes : List ℕ) → before ≡ Some [] → after ≡ Some bytes → HasShortLines bytes
+        → (HasShortLines stream → verdict_of (plain plans) (cut_lines stream) ≡ Ok (whole_in_form (applied_plan told) (applied_script told) (besides_of told) operation events))
+        → verdict_of (plain plans) (cut_lines bytes) ≡ Ok (whole_told report (length (cut_lines bytes)))
+    bytes_reported plans bytes none all short verdict =
+        let same = stream_is bytes none all in
+        subst (λ (b : List ℕ). verdict_of (plain plans) (cut_lines b) ≡ Ok (whole_told report (length (cut_lines b)))) same
+        (stream_reported plans (verdict (subst HasShortLines (sym same) short)))

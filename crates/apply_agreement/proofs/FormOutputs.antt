@@ -22,7 +22,7 @@ use Rattle.apply_form.specs.Escapes.{escaped}
 use Rattle.apply_form.specs.Lines.{outputs_text}
 use Rattle.apply_form.specs.Moment.{fine_text}
 use Rattle.apply_form.specs.Outputs.{output_text, outputs_from, outputs_message}
-use Rattle.apply_agreement.specs.Forms.{IsKept, max_kept}
+use Rattle.apply_agreement.specs.Forms.{max_kept}
 use Rattle.apply_agreement.specs.FormTexts.{HasOutputTexts, IsKeptText}
 use Rattle.apply_agreement.specs.ToldInForm.{SaysAlone}
 use Rattle.apply_agreement.proofs.BareTexts.{decimal_escaped, decimal_utf8, moment_escaped}

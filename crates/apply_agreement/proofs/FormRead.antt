@@ -1,6 +1,6 @@
 -- What was read for Terraform's form, as it is applied and told.
-use Rattle.std.proofs.Common.{◌≡◌, ℕ, ◌<◌, ◌≤◌, ◌^◌, List, [], ◌∷◌, codes, cond, length, nat_lt, slice_get, IsUtf8, Bool, true, false, Option, Some, None, option_map, Result, Ok, Err, refl, sym, ap, ◌∙◌, subst, arith}
-use Rattle.std.specs.Prelude.{IfOk, IfSome, is_some, option_and_then}
+use Rattle.std.proofs.Common.{◌≡◌, ℕ, ◌<◌, ◌^◌, List, [], codes, cond, length, nat_lt, slice_get, Bool, true, false, Option, Some, None, option_map, Ok, Err, refl, sym, ap, ◌∙◌, subst, arith}
+use Rattle.std.specs.Prelude.{IfOk, is_some, option_and_then}
 use Rattle.std.specs.List.{AllByRecursion}
 use Rattle.std.specs.Str.{is_utf8}
 use Rattle.std.proofs.lemmas.List.Sums.{count_by-le-length}
@@ -14,22 +14,18 @@ use Rattle.apply_json.specs.Keeping.{keeping, keeping_tree_of}
 use Rattle.apply_json.specs.Tree.{◌>>=◌}
 use Rattle.apply_json.proofs.Keeping.{no_item}
 use Rattle.apply_model.specs.declared.details.change_details.ChangeDetails.{ChangeDetails}
-use Rattle.apply_model.specs.Plan.ResourceChange.{ResourceChange}
 use Rattle.apply_model.specs.Plan.SavedPlan.{SavedPlan}
 use Rattle.apply_model.specs.Script.OutcomeMap.{OutcomeMap}
 use Rattle.apply_laws.specs.Plans.{HasRelativeAddress, NamesEachObjectOnce}
-use Rattle.apply_plan.specs.declared.script.script_error.ScriptError.{ScriptError}
 use Rattle.apply_plan.specs.declared.script.script_error.ScriptError.TheVariants.{NotJson, TooLarge}
 use Rattle.apply_plan.specs.Bytes.{max_bytes}
 use Rattle.apply_plan.specs.Results as results
 use Rattle.apply_plan.specs.Script.Entry.{is_kept}
 use Rattle.apply_plan.specs.Script.OutcomeMap.{script_of, script_of_tree}
-use Rattle.apply_form_plan.specs.declared.texts.part.Part.TheVariants.{Plan, Script}
-use Rattle.apply_form_plan.specs.Changes.{changes_of}
+use Rattle.apply_form_plan.specs.declared.texts.part.Part.TheVariants.{Script}
 use Rattle.apply_form_plan.specs.Extras.{ExtrasOfScript, extras_of_json}
 use Rattle.apply_form_plan.specs.Notes.{notes_in_script}
-use Rattle.apply_form_plan.specs.Outputs.{OutputsOfPlan, outputs_in_script, outputs_of_plan, unless_faulty}
-use Rattle.apply_form_plan.specs.Plan.{note_of}
+use Rattle.apply_form_plan.specs.Outputs.{OutputsOfPlan, outputs_in_script, unless_faulty}
 use Rattle.apply_form_plan.specs.Texts.{json_of, json_of_text, with_texts}
 use Rattle.apply_form_plan.specs.Told.{DetailsOfPlan, details_of}
 use Rattle.apply_events.specs.Laws.{IsWithinLimits}
@@ -41,7 +37,7 @@ use Rattle.apply_agreement.specs.FormTexts.{HasFormTexts}
 use Rattle.apply_agreement.specs.Plans.{ChangesAreWhole, DeletesDeposed, IsOrdinary, ProvisionsCreates, WarnsOfReads}
 use Rattle.apply_agreement.specs.ToldInForm.{HasDetailTexts, HasNoteTexts}
 use Rattle.apply_agreement.proofs.Given.{held_at, is_answered, is_given, then_of}
-use Rattle.apply_agreement.proofs.KeptValues.{Comes, IsParsed, IsWhole, of_bytes, whole_of}
+use Rattle.apply_agreement.proofs.KeptValues.{IsWhole, of_bytes, whole_of}
 use Rattle.apply_agreement.proofs.Legible.{IsLegible, data_legible}
 use Rattle.apply_agreement.proofs.PlanTexts.{IsReadable, IsReadablePlan}
 use Rattle.apply_agreement.proofs.ReadDetails.{details_told}

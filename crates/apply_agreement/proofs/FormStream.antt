@@ -1,5 +1,5 @@
 -- A stream in Terraform's form is lines that say what is told, each its own.
-use Rattle.std.proofs.Common.{◌≡◌, ℕ, zero, suc, ◌+◌, ◌<◌, ◌^◌, inl, inr, List, [], ◌∷◌, ◌++◌, append-nil, append_assoc, cond, flat_map, length, map, IsUtf8, Bool, true, false, not, Option, Some, None, refl, sym, ap, ap₂, ◌∙◌, slice_get}
+use Rattle.std.proofs.Common.{◌≡◌, ℕ, zero, suc, ◌+◌, inl, inr, List, [], ◌∷◌, ◌++◌, append-nil, append_assoc, cond, flat_map, length, map, IsUtf8, Bool, true, false, not, Option, Some, None, refl, sym, ap, ap₂, ◌∙◌, slice_get}
 use Rattle.std.specs.Prelude.{IfSome}
 use Rattle.std.specs.List.{AllByRecursion, concat, enumerate_from}
 use Rattle.std.specs.Option.{option_map_or}
@@ -23,7 +23,7 @@ use Rattle.apply_text.specs.declared.operation.Operation.TheVariants.{Apply, Des
 use Rattle.apply_text.specs.Latest.{latest_of}
 use Rattle.apply_text.specs.Message.{no_diag}
 use Rattle.apply_text.specs.Order.{as_written, hook_messages_of, notes_of}
-use Rattle.apply_form.specs.Lines.{event_line, note_text, outputs_text, planned_text, summary_text, version_text}
+use Rattle.apply_form.specs.Lines.{event_line, note_text, outputs_text, planned_text, summary_text}
 use Rattle.apply_form.specs.Message.{is_silent}
 use Rattle.apply_form.specs.Moment.{fine_text}
 use Rattle.apply_run.specs.Stream.Form.{stream_in}

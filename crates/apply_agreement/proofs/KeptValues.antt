@@ -21,7 +21,6 @@ use Rattle.serde_json.specs.Data.{Data, null, boolean, number, string, array, ob
 use Rattle.serde_json.specs.Find.{as_object, as_str, get, get_member}
 use Rattle.serde_json.specs.Read.{max_depth, of_items, of_json, of_members}
 use Rattle.apply_json.specs.Keeping.{own_text}
-use Rattle.apply_json.specs.Tree.{◌>>=◌}
 use Rattle.apply_form_plan.specs.declared.texts.part.Part.{Part}
 use Rattle.apply_form_plan.specs.declared.texts.part.Part.TheVariants.{Text}
 use Rattle.apply_form_plan.specs.Outputs.{text_at}

@@ -1,5 +1,5 @@
 -- The parts of an address in UTF-8 are UTF-8.
-use Rattle.std.proofs.Common.{◌≡◌, ◌≢◌, ℕ, ◌+◌, ◌-◌, ◌<◌, ◌^◌, ◌==◌, ◌⊎◌, inl, inr, List, [], ◌∷◌, ◌++◌, append_assoc, append-nil, codes, cond, length, length-append, take, IsUtf8, Bool, true, false, Option, Some, None, option_map, refl, sym, ap, ◌∙◌, subst, ⊎_elim, arith}
+use Rattle.std.proofs.Common.{◌≡◌, ℕ, ◌-◌, ◌<◌, ◌^◌, ◌==◌, ◌⊎◌, inl, inr, List, [], ◌∷◌, ◌++◌, append_assoc, append-nil, codes, cond, length, length-append, take, IsUtf8, Bool, true, false, Option, Some, None, option_map, refl, sym, ap, ◌∙◌, subst, ⊎_elim, arith}
 use Rattle.std.specs.Prelude.{◌||◌, IfSome, flat_map, is_some, negsuc, pos, unwrap_or, ℤ, FitsSigned}
 use Rattle.std.specs.Char.{IsScalar, encode_utf8}
 use Rattle.std.specs.Int.{w64}
@@ -8,10 +8,10 @@ use Rattle.std.proofs.Math.Seq.{take-append_seam}
 use Rattle.std.proofs.Math.Utf8.{low_scalar}
 use Rattle.std.proofs.lemmas.Bool.{eqb-true, or_cases}
 use Rattle.std.proofs.lemmas.Str.{IsUtf8-append, IsUtf8-encode, IsUtf8-nil}
-use Rattle.apply_address.specs.Address.{Address, IsAddress, IsNamed, Named, parts_of, written, written_module, written_modules, written_named, written_resource}
+use Rattle.apply_address.specs.Address.{Address, Named, written_module, written_modules, written_named, written_resource}
 use Rattle.apply_address.specs.Keys.{IsKey, WrittenKey, no_key, number_key, said_key, text_key, written_key}
 use Rattle.apply_address.specs.Parts.{Parts}
-use Rattle.apply_address.specs.Pieces.{IsPiece, Piece, character_of, escape, escaped_character, is_doubled, long, plain, said_text, short, written_text}
+use Rattle.apply_address.specs.Pieces.{IsPiece, Piece, character_of, escape, is_doubled, long, plain, said_text, short, written_text}
 use Rattle.apply_address.specs.Reading.{parts_in}
 use Rattle.apply_address.proofs.FoundAddresses.{address_found}
 use Rattle.apply_form_plan.specs.Details.{previous_at, with_parts}

@@ -1,5 +1,5 @@
 -- What is told of planned changes in Terraform's form alone is UTF-8.
-use Rattle.std.proofs.Common.{◌≡◌, ℕ, List, [], ◌∷◌, codes, cond, map, IsUtf8, Bool, true, false, Option, Some, None}
+use Rattle.std.proofs.Common.{List, [], ◌∷◌, codes, cond, map, IsUtf8, Bool, true, false, Option, Some, None}
 use Rattle.std.specs.Prelude.{IfSome}
 use Rattle.std.specs.List.{AllByRecursion}
 use Rattle.std.specs.Option.{option_map_or}

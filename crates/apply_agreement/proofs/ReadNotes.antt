@@ -1,6 +1,6 @@
 -- Diagnostics of no step that were read of a script, and that of a plan: their texts are UTF-8, and what is kept of them are texts of
 -- values.
-use Rattle.std.proofs.Common.{◌≡◌, ℕ, suc, List, [], ◌∷◌, ◌++◌, codes, cond, IsUtf8, Bool, true, false, Option, Some, None, Ok, refl, sym, ap, subst, arith}
+use Rattle.std.proofs.Common.{◌≡◌, ℕ, suc, List, [], ◌∷◌, codes, cond, IsUtf8, Bool, true, false, Option, Some, None, Ok, refl, sym, subst, arith}
 use Rattle.std.specs.Prelude.{IfOk, IfSome}
 use Rattle.std.specs.List.{AllByRecursion}
 use Rattle.std.proofs.lemmas.Str.{IsUtf8-nil}
@@ -11,9 +11,8 @@ use Rattle.serde_json.specs.Data.{Data}
 use Rattle.serde_json.specs.Find.{as_str, get}
 use Rattle.serde_json.specs.Read.{read}
 use Rattle.apply_json.specs.Keeping.{own_text}
-use Rattle.apply_json.specs.Tree.{◌>>=◌, unless_empty}
+use Rattle.apply_json.specs.Tree.{◌>>=◌}
 use Rattle.apply_model.specs.declared.details.note.Note.{Note}
-use Rattle.apply_plan.specs.declared.script.script_error.ScriptError.{ScriptError}
 use Rattle.apply_plan.specs.declared.script.script_error.ScriptError.TheVariants.{BadDiagnostic, BadShape}
 use Rattle.apply_plan.specs.Results as results
 use Rattle.apply_form_plan.specs.declared.told_of_plan.PlanNote.{PlanNote}

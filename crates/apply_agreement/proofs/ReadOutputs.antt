@@ -1,8 +1,7 @@
 -- The outputs that are told of a plan and a script that were read: their names are UTF-8, and what is kept of them are texts of values.
-use Rattle.std.proofs.Common.{◌≡◌, ℕ, ◌≤◌, List, [], ◌∷◌, codes, cond, IsUtf8, Bool, true, false, Option, Some, None, Result, Ok, Err, refl, subst, arith}
+use Rattle.std.proofs.Common.{ℕ, List, codes, cond, IsUtf8, Bool, true, false, Option, Some, None, Result, Ok, Err, refl, arith}
 use Rattle.std.specs.Prelude.{IfOk, IfSome, ◌&&◌, is_some, not}
 use Rattle.std.specs.List.{AllByRecursion}
-use Rattle.std.specs.Option.{unwrap_or}
 use Rattle.json.specs.Json as json
 use Rattle.json.specs.Json.{Json}
 use Rattle.json.specs.Print.{print_from}
@@ -13,15 +12,12 @@ use Rattle.apply_json.specs.Tree.{◌>>=◌}
 use Rattle.apply_plan.specs.declared.script.script_error.ScriptError.{ScriptError}
 use Rattle.apply_plan.specs.declared.script.script_error.ScriptError.TheVariants.{BadShape}
 use Rattle.apply_plan.specs.Results as results
-use Rattle.apply_form_plan.specs.declared.texts.part.Part.{Part}
-use Rattle.apply_form_plan.specs.declared.texts.part.Part.TheVariants.{Plan, State, Values, Script, Outputs, Output, Text}
-use Rattle.apply_form_plan.specs.Outputs.{OutputsOfPlan, as_outputs, beside, fault_of, is_null, is_told, members_or_none, or_null, output_of, outputs_in_script, outputs_of_plan, text_at, told_outputs, unless_faulty}
+use Rattle.apply_form_plan.specs.declared.texts.part.Part.TheVariants.{Plan, State, Values, Script, Outputs, Output}
+use Rattle.apply_form_plan.specs.Outputs.{OutputsOfPlan, as_outputs, beside, fault_of, is_null, is_told, output_of, outputs_in_script, outputs_of_plan, text_at, told_outputs, unless_faulty}
 use Rattle.apply_form_plan.specs.Texts.{with_texts}
-use Rattle.apply_agreement.specs.Forms.{max_kept}
 use Rattle.apply_agreement.specs.FormTexts.{HasOutputTexts, IsKeptText}
 use Rattle.apply_agreement.proofs.Given.{next_of, refused_or, unwrapped}
-use Rattle.apply_agreement.proofs.KeptValues.{AllCome, Comes, IsNamed, IsWhole, is_part, members_of, named, put_comes, text_kept}
-
+use Rattle.apply_agreement.proofs.KeptValues.{AllCome, Comes, IsWhole, is_part, members_of, named, put_comes, text_kept}
 
 abbrev pub AreOutputs : Members → Type 0
 AreOutputs ms = AllCome 125 Outputs ms

@@ -1,4 +1,3 @@
-use Rattle.std.proofs.Common.{arith}
 use Rattle.apply_run.specs.InForm.{form_of, work_of}
 use Rattle.apply_run.specs.Stream.Form.{stream_in}
 use Rattle.apply_agreement.proofs.FormAccepted.{bytes_reported, stream_reported}

@@ -1,4 +1,4 @@
-use Rattle.std.proofs.Common.{◌<◌, ◌^◌, length, sym, arith}
+use Rattle.std.proofs.Common.{◌<◌, ◌^◌, length, arith}
 use Rattle.apply_run.specs.InForm.{form_of, work_of}
 use Rattle.apply_run.specs.Read.{applied_plan, applied_script, besides_of}
 use Rattle.apply_run.specs.Stream.Form.{stream_in}
