@@ -11,15 +11,15 @@ use Rattle.std.proofs.lemmas.Str.Ascii.{IsAscii-cons, IsAscii-nil}
 use Rattle.json.specs.Print.{escape}
 use Rattle.json.proofs.Printed.Strings.{escape_byte_plain}
 use Rattle.apply_text.specs.Calendar.{CivilDate, date_of_day, dates}
-use Rattle.apply_text.specs.Moment.{date_text, time_text, two_digits}
+use Rattle.apply_text.specs.Moment.{date_text, moment_text, time_text, two_digits}
 use Rattle.apply_text.proofs.ShortDates.{IsShort, dates_short}
 use Rattle.apply_form.specs.Moment.{fine_text}
 
 -- a dash, a dot, a digit, a colon or a capital letter
-abbrev is_bare : ℕ → Bool
+abbrev pub is_bare : ℕ → Bool
 is_bare byte = nat_le 45 byte && nat_lt byte 92
 
-abbrev IsBare : List ℕ → Type 0
+abbrev pub IsBare : List ℕ → Type 0
 IsBare text = list_all is_bare text ≡ true
 
 both_bare : (xs ys : List ℕ) → IsBare xs → IsBare ys → IsBare (xs ++ ys)
@@ -39,7 +39,7 @@ escaped_bare (byte ∷ text) bare =
     let most : byte < 92 = ltb-true byte 92 ends.1 in
     ap₂ (λ (a b : List ℕ). a ++ b) (escape_byte_plain byte (λ e. omega (arith, e, least)) (λ e. omega (arith, e, most)) (omega (arith, least))) (escaped_bare text parts.1)
 
-bare_utf8 : (text : List ℕ) → IsBare text → IsUtf8 text
+pub bare_utf8 : (text : List ℕ) → IsBare text → IsUtf8 text
 bare_utf8 [] bare = IsUtf8-nil
 bare_utf8 (byte ∷ text) bare =
     let parts = and_parts (is_bare byte) (list_all is_bare text) bare in
@@ -109,11 +109,19 @@ time_bare second few =
     refl)
     (two_bare (second % 60) (omega arith))
 
-pub moment_escaped : (seconds : ℕ) → escape (fine_text seconds) ≡ fine_text seconds
-unfolding fine_text
-moment_escaped seconds =
+second_bare : (seconds : ℕ) → IsBare (option_map_or date_text (date_of_day (seconds / 86400)) [] ++ codes "T" ++ time_text (seconds % 86400))
+second_bare seconds =
     let date = option_map_or date_text (date_of_day (seconds / 86400)) [] in
-    escaped_bare (fine_text seconds)
-    (both_bare (date ++ codes "T" ++ time_text (seconds % 86400)) (codes ".000000Z")
-    (both_bare (date ++ codes "T") (time_text (seconds % 86400)) (both_bare date (codes "T") (at_day dates (seconds / 86400) dates_short) refl) (time_bare (seconds % 86400) (omega arith)))
-    refl)
+    both_bare (date ++ codes "T") (time_text (seconds % 86400)) (both_bare date (codes "T") (at_day dates (seconds / 86400) dates_short) refl) (time_bare (seconds % 86400) (omega arith))
+
+pub moment_bare : (seconds : ℕ) → IsBare (moment_text seconds)
+unfolding moment_text
+moment_bare seconds = both_bare (option_map_or date_text (date_of_day (seconds / 86400)) [] ++ codes "T" ++ time_text (seconds % 86400)) (codes "Z") (second_bare seconds) refl
+
+-- a moment with its decimals
+pub fine_bare : (seconds : ℕ) → IsBare (fine_text seconds)
+unfolding fine_text
+fine_bare seconds = both_bare (option_map_or date_text (date_of_day (seconds / 86400)) [] ++ codes "T" ++ time_text (seconds % 86400)) (codes ".000000Z") (second_bare seconds) refl
+
+pub moment_escaped : (seconds : ℕ) → escape (fine_text seconds) ≡ fine_text seconds
+moment_escaped seconds = escaped_bare (fine_text seconds) (fine_bare seconds)

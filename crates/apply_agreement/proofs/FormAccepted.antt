@@ -1,7 +1,6 @@
 -- A stream in Terraform's form of whole steps of what was read is accepted, and has a line for each message.
 use Rattle.std.proofs.Common.{◌≡◌, ℕ, suc, List, [], ◌∷◌, ◌++◌, append_assoc, cond, length, Bool, true, false, Option, Some, None, Ok, refl, sym, ap, ◌∙◌, subst, ⊎_elim}
 use Rattle.std.specs.List.{concat}
-use Rattle.std.specs.Io.KnownBytes.{Appends}
 use Rattle.apply_lines.specs.Cut.{cut_lines}
 use Rattle.apply_model.specs.declared.details.change_details.ChangeDetails.{ChangeDetails}
 use Rattle.apply_model.specs.declared.details.note.Note.{Note}
@@ -20,15 +19,17 @@ use Rattle.apply_run.specs.Read.{Told, applied_plan, applied_script, besides_of,
 use Rattle.apply_run.specs.Stream.Delivered.{IsDelivered}
 use Rattle.apply_run.specs.Stream.Terraform.{Besides, tells_error}
 use Rattle.apply_agreement.specs.Accepted.{totals_said}
+use Rattle.apply_agreement.specs.AcceptedInForm.{AreAcceptedInForm}
 use Rattle.apply_agreement.specs.Applied.{HasShortLines}
 use Rattle.apply_agreement.specs.FormTexts.{SayInLines}
 use Rattle.apply_agreement.specs.Passing.{plain, verdict_on}
 use Rattle.apply_agreement.specs.ToldInForm.{AllSay, SaysAlone, form_told, whole_in_form, whole_told}
 use Rattle.apply_agreement.proofs.Bytes.{cut_off}
+use Rattle.apply_agreement.proofs.Delivered.{stream_is}
 
 -- ---- a line for each message
 
-pub as_many_lines : (lines : List (List ℕ)) (ms : List Message) → AllSay lines ms → length (cut_lines (concat lines)) ≡ length ms
+as_many_lines : (lines : List (List ℕ)) (ms : List Message) → AllSay lines ms → length (cut_lines (concat lines)) ≡ length ms
 as_many_lines [] ms none = sym (ap (λ (l : List Message). length l) none)
 as_many_lines (line ∷ lines) ms say =
     ⊎_elim
@@ -64,50 +65,35 @@ taken_as_told plans told operation events as_many law = of_note (is_unfinished t
 
 -- ---- the bytes
 
--- what a checker is to say of the bytes of these events
-abbrev Accepts : (plans : Bool) → SavedPlan → OutcomeMap → Besides → Operation → List Event → List ℕ → Type 0
-Accepts plans plan script besides operation events bytes = verdict_of (plain plans) (cut_lines bytes) ≡ Ok (whole_in_form plan script besides operation events)
-
-pub bytes_accepted : (plans : Bool) (plan : SavedPlan) (script : OutcomeMap) (besides : Besides) (operation : Operation) (events : List Event) (bytes : List ℕ) → (lines : SayInLines bytes (form_told plan script besides operation events))
-    → (HasShortLines (concat lines.lines) → verdict_of (plain plans) (cut_lines (concat lines.lines)) ≡ Ok (whole_in_form plan script besides operation events))
-    → HasShortLines bytes → Accepts plans plan script besides operation events bytes
-bytes_accepted plans plan script besides operation events bytes lines judged short =
-    ap (λ (b : List ℕ). verdict_of (plain plans) (cut_lines b)) lines.joined ∙ judged (subst HasShortLines lines.joined short)
-
-pub lines_counted : (bytes : List ℕ) (ms : List Message) → (lines : SayInLines bytes ms) → length (cut_lines bytes) ≡ length ms
-lines_counted bytes ms lines = ap (λ (b : List ℕ). length (cut_lines b)) lines.joined ∙ as_many_lines lines.lines ms lines.say
+pub are_accepted : (plans : Bool) (told : Told) (operation : Operation) (events : List Event) (bytes : List ℕ) → (lines : SayInLines bytes (form_told (applied_plan told) (applied_script told) (besides_of told) operation events))
+    → (HasShortLines (concat lines.lines) → verdict_of (plain plans) (cut_lines (concat lines.lines)) ≡ Ok (whole_in_form (applied_plan told) (applied_script told) (besides_of told) operation events))
+    → AreAcceptedInForm plans told operation events bytes
+are_accepted plans told operation events bytes lines judged = record {
+  verdict = λ short. ap (λ (b : List ℕ). verdict_of (plain plans) (cut_lines b)) lines.joined ∙ judged (subst HasShortLines lines.joined short);
+  as_many = ap (λ (b : List ℕ). length (cut_lines b)) lines.joined ∙ as_many_lines lines.lines (form_told (applied_plan told) (applied_script told) (besides_of told) operation events) lines.say;
+}
 
 -- ---- what is reported
 
 abbrev as_said : Counts → (has_errors : Bool) → (lines : ℕ) → Whole
 as_said counts has_errors lines = record { totals = totals_said counts; has_errors = has_errors; lines = lines; is_plan = false; passed = None }
 
-module _ (told : Told) (operation : Operation) (events : List Event) (stream : List ℕ) (report : FormReport) (before after : Option (List ℕ))
-    (delivered : IsDelivered (applied_plan told) events stream report.run before after) (error : report.tells_error ≡ tells_error (besides_of told).notes report.run.counts)
-    (counted : length (cut_lines stream) ≡ length (form_told (applied_plan told) (applied_script told) (besides_of told) operation events))
+module _ (plans : Bool) (told : Told) (operation : Operation) (events : List Event) (stream : List ℕ) (report : FormReport) (before after : Option (List ℕ))
+    (delivered : IsDelivered (applied_plan told) events stream report.run before after) (error : report.tells_error ≡ tells_error (besides_of told).notes report.run.counts) (accepted : AreAcceptedInForm plans told operation events stream)
   where
-    reported : whole_in_form (applied_plan told) (applied_script told) (besides_of told) operation events ≡ whole_told report (length (cut_lines stream))
-    reported =
-        let counts = totals_of (applied_plan told) events in
-        let notes = (besides_of told).notes in
-        let lines = length (form_told (applied_plan told) (applied_script told) (besides_of told) operation events) in
-        sym (ap (as_said report.run.counts report.tells_error) counted
-        ∙ ap (λ (b : Bool). as_said report.run.counts b lines) error
-        ∙ ap (λ (c : Counts). as_said c (tells_error notes c) lines) delivered.counts)
+  reported : whole_in_form (applied_plan told) (applied_script told) (besides_of told) operation events ≡ whole_told report (length (cut_lines stream))
+  reported =
+      let notes = (besides_of told).notes in
+      let lines = length (form_told (applied_plan told) (applied_script told) (besides_of told) operation events) in
+      sym (ap (as_said report.run.counts report.tells_error) accepted.as_many
+      ∙ ap (λ (b : Bool). as_said report.run.counts b lines) error
+      ∙ ap (λ (c : Counts). as_said c (tells_error notes c) lines) delivered.counts)
 
-    pub stream_reported : (plans : Bool) → verdict_of (plain plans) (cut_lines stream) ≡ Ok (whole_in_form (applied_plan told) (applied_script told) (besides_of told) operation events)
-        → verdict_of (plain plans) (cut_lines stream) ≡ Ok (whole_told report (length (cut_lines stream)))
-    stream_reported plans verdict = verdict ∙ ap Ok reported
+  pub stream_reported : HasShortLines stream → verdict_of (plain plans) (cut_lines stream) ≡ Ok (whole_told report (length (cut_lines stream)))
+  stream_reported short = accepted.verdict short ∙ ap Ok reported
 
-    -- a sink that had nothing and tells its bytes has the stream
-    pub stream_is : (bytes : List ℕ) → before ≡ Some [] → after ≡ Some bytes → stream ≡ bytes
-    stream_is bytes none all =
-        sym (subst (λ (o : Option (List ℕ)). Appends o (Some bytes) stream) none (subst (λ (o : Option (List ℕ)). Appends before o stream) all delivered.appended))
-
-    pub bytes_reported : (plans : Bool) (bytes : List ℕ) → before ≡ Some [] → after ≡ Some bytes → HasShortLines bytes
-        → (HasShortLines stream → verdict_of (plain plans) (cut_lines stream) ≡ Ok (whole_in_form (applied_plan told) (applied_script told) (besides_of told) operation events))
-        → verdict_of (plain plans) (cut_lines bytes) ≡ Ok (whole_told report (length (cut_lines bytes)))
-    bytes_reported plans bytes none all short verdict =
-        let same = stream_is bytes none all in
-        subst (λ (b : List ℕ). verdict_of (plain plans) (cut_lines b) ≡ Ok (whole_told report (length (cut_lines b)))) same
-        (stream_reported plans (verdict (subst HasShortLines (sym same) short)))
+  -- a sink that had nothing and tells its bytes has the stream
+  pub bytes_reported : (bytes : List ℕ) → before ≡ Some [] → after ≡ Some bytes → HasShortLines bytes → verdict_of (plain plans) (cut_lines bytes) ≡ Ok (whole_told report (length (cut_lines bytes)))
+  bytes_reported bytes none all short =
+      let same = stream_is (applied_plan told) events stream report.run before after delivered bytes none all in
+      subst (λ (b : List ℕ). verdict_of (plain plans) (cut_lines b) ≡ Ok (whole_told report (length (cut_lines b)))) same (stream_reported (subst HasShortLines (sym same) short))

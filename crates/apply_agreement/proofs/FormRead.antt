@@ -28,13 +28,13 @@ use Rattle.apply_form_plan.specs.Notes.{notes_in_script}
 use Rattle.apply_form_plan.specs.Outputs.{OutputsOfPlan, outputs_in_script, unless_faulty}
 use Rattle.apply_form_plan.specs.Texts.{json_of, json_of_text, with_texts}
 use Rattle.apply_form_plan.specs.Told.{DetailsOfPlan, details_of}
-use Rattle.apply_events.specs.Laws.{IsWithinLimits}
 use Rattle.apply_run.specs.Bytes.{Given, IsRead, given_script}
 use Rattle.apply_run.specs.InForm.{work_of}
 use Rattle.apply_run.specs.Read.{IsTold, Told, applied_plan, applied_script, besides_of, given_extras, is_unfinished}
 use Rattle.apply_run.specs.Stream.Terraform.{imported_in}
+use Rattle.apply_agreement.specs.AcceptedInForm.{MayBeApplied}
 use Rattle.apply_agreement.specs.FormTexts.{HasFormTexts}
-use Rattle.apply_agreement.specs.Plans.{ChangesAreWhole, DeletesDeposed, IsOrdinary, ProvisionsCreates, WarnsOfReads}
+use Rattle.apply_agreement.specs.Plans.{ProvisionsCreates, WarnsOfReads}
 use Rattle.apply_agreement.specs.ToldInForm.{HasDetailTexts, HasNoteTexts}
 use Rattle.apply_agreement.proofs.Given.{held_at, is_answered, is_given, then_of}
 use Rattle.apply_agreement.proofs.KeptValues.{IsWhole, of_bytes, whole_of}
@@ -121,7 +121,7 @@ script_extras plan known (Some bytes) script extras read e = of_value (json_of b
 
 -- ---- a plan and a script that may be applied
 
-record MayBeApplied (plan : SavedPlan) (script : OutcomeMap) : Type 0 where
+record IsUsable (plan : SavedPlan) (script : OutcomeMap) : Type 0 where
   readable : IsReadablePlan plan
   relative : AllByRecursion HasRelativeAddress plan.changes
   once : NamesEachObjectOnce plan.changes
@@ -132,7 +132,7 @@ record MayBeApplied (plan : SavedPlan) (script : OutcomeMap) : Type 0 where
 abbrev without_changes : SavedPlan → SavedPlan
 without_changes plan = record { version = plan.version; changes = [] }
 
-nothing_applied : (plan : SavedPlan) → IsReadablePlan plan → MayBeApplied (without_changes plan) []
+nothing_applied : (plan : SavedPlan) → IsReadablePlan plan → IsUsable (without_changes plan) []
 nothing_applied plan readable = record {
   readable = record { version = readable.version; changes = tt; few = omega arith };
   relative = tt;
@@ -147,10 +147,10 @@ module _ (given : Given) (told : Told) (is : IsTold given.plan given.script told
   read = record { plan_is = is.plan_is; script_is = is.script_is }
 
   -- as it is applied
-  applied : MayBeApplied (applied_plan told) (applied_script told)
+  applied : IsUsable (applied_plan told) (applied_script told)
   applied = of_note (is_unfinished told.details.note)
     where
-      of_note : (b : Bool) → MayBeApplied (cond b (without_changes told.plan) told.plan) (cond b [] told.script)
+      of_note : (b : Bool) → IsUsable (cond b (without_changes told.plan) told.plan) (cond b [] told.script)
       of_note true = nothing_applied told.plan (the_plan given told.plan told.script read)
       of_note false = record {
         readable = the_plan given told.plan told.script read;
@@ -161,21 +161,15 @@ module _ (given : Given) (told : Told) (is : IsTold given.plan given.script told
         warnings = warnings given told.plan told.script read;
       }
 
-  pub ordinary : DeletesDeposed (applied_plan told) → IsOrdinary (applied_plan told)
-  ordinary deleted = record { few = applied.readable.few; once = applied.once; deleted = deleted }
-
-  pub whole_changes : ChangesAreWhole (applied_plan told)
-  whole_changes c change place =
-      (is_given IsReadable (slice_get (applied_plan told).changes c) change (held_at IsReadable (applied_plan told).changes c applied.readable.changes) place).of_one
-
-  pub limits : IsWithinLimits (work_of given told)
-  limits = limits_of (work_of given told) applied.readable applied.said
-
-  pub takes_provisioners : ProvisionsCreates (applied_plan told) (applied_script told)
-  takes_provisioners = applied.provisions
-
-  pub only_reads_warn : WarnsOfReads (applied_plan told) (applied_script told)
-  only_reads_warn = applied.warnings
+  pub may_be_applied : MayBeApplied given told
+  may_be_applied = record {
+    limits = limits_of (work_of given told) applied.readable applied.said;
+    whole = λ c change place.
+        (is_given IsReadable (slice_get (applied_plan told).changes c) change (held_at IsReadable (applied_plan told).changes c applied.readable.changes) place).of_one;
+    ordinary = λ deleted. record { few = applied.readable.few; once = applied.once; deleted = deleted };
+    provisions = applied.provisions;
+    warnings = applied.warnings;
+  }
 
   pub texts : HasFormTexts (applied_plan told) (applied_script told) (besides_of told)
   texts =

@@ -1,11 +1,8 @@
 -- Values of JSON that were read, whose own texts may be kept, and trees in which some values are such texts.
-use Rattle.std.proofs.Common.{◌≡◌, ℕ, suc, ◌≤◌, List, [], ◌∷◌, IsUtf8, cond, Bool, true, false, Option, Some, None, option_map, option_and_then, Ordering, Less, Equal, Greater, refl, sym, ap, ◌∙◌, subst, arith, append-nil}
+use Rattle.std.proofs.Common.{◌≡◌, ℕ, suc, ◌≤◌, List, [], ◌∷◌, IsUtf8, cond, Bool, true, false, Option, Some, None, option_map, option_and_then, refl, sym, ap, ◌∙◌, subst, arith, append-nil}
 use Rattle.std.specs.Prelude.{⊤, IfSome}
-use Rattle.std.specs.Cmp.Lexicographic.{slice_cmp}
 use Rattle.std.specs.Option.{option_map_or}
-use Rattle.std.specs.Ordering.{nat_cmp, match_ordering}
 use Rattle.std.specs.Str.{is_utf8}
-use Rattle.std.proofs.lemmas.Map.Lookups.{exact_bytes}
 use Rattle.std.proofs.lemmas.Option.{same_Some}
 use Rattle.std.proofs.lemmas.Str.{IsUtf8-from_is_utf8}
 use Rattle.json.specs.Json as json
@@ -29,6 +26,7 @@ use Rattle.apply_agreement.specs.Forms.{max_kept}
 use Rattle.apply_agreement.specs.FormTexts.{IsKeptText}
 use Rattle.apply_agreement.proofs.Given.{is_given, next_of}
 use Rattle.apply_agreement.proofs.Legible.{AreClear, HaveClear, IsClear, text_clear, value_spelt}
+use Rattle.apply_agreement.proofs.MemberLists.{AllMembers, found_in, put_one, weaker}
 use Rattle.apply_agreement.proofs.OwnTexts.{printed_utf8}
 
 -- the value that another was made of
@@ -147,19 +145,16 @@ Comes n part d = (j : Json) × IsWhole n j × (d ≡ with_texts part j)
 abbrev pub IsNamed : (n : ℕ) → Part → List ℕ → Data → Type 0
 IsNamed n part k d = (inner : Part) × (part_named part k ≡ Some inner) × Comes n inner d
 
+-- a member of such a part
+abbrev IsMember : (n : ℕ) → Part → List ℕ → Data → Type 0
+IsMember n part k d = IsUtf8 k × IsNamed n part k d
+
 abbrev pub AllCome : (n : ℕ) → Part → Members → Type 0
-AllCome n part no_members = ⊤
-AllCome n part (member k d ms) = IsUtf8 k × IsNamed n part k d × AllCome n part ms
+AllCome n part ms = AllMembers (IsMember n part) ms
 
 module _ (n : ℕ) (part : Part) where
   pub put_comes : (k : List ℕ) (d : Data) (ms : Members) → IsUtf8 k → IsNamed n part k d → AllCome n part ms → AllCome n part (put k d ms)
-  put_comes k d no_members utf8 one others = (utf8, one, tt)
-  put_comes k d (member l e ms) utf8 one others = by_order (slice_cmp nat_cmp k l) (exact_bytes k l) (put_comes k d ms utf8 one others.2)
-    where
-      by_order : (o : Ordering) → (o ≡ Equal → k ≡ l) → AllCome n part (put k d ms) → AllCome n part (match_ordering o (member k d (member l e ms)) (member l d ms) (member l e (put k d ms)))
-      by_order Less same rest = (utf8, one, others)
-      by_order Equal same rest = (others.0, subst (λ (name : List ℕ). IsNamed n part name d) (same refl) one, others.2)
-      by_order Greater same rest = (others.0, others.1, rest)
+  put_comes k d ms utf8 one others = put_one (IsMember n part) k d ms (utf8, one) others
 
   members_come : (ms : json.Members) (found : Members) → AreWhole n ms → AllCome n part found → AllCome n part (members_with_texts part ms found)
   members_come json.no_members found whole come = come
@@ -186,33 +181,12 @@ module _ (n : ℕ) (part : Part) where
   pub members_of : (d : Data) → Comes (suc n) part d → IfSome (as_object d) (AllCome n part)
   members_of d comes = subst (λ (x : Data). IfSome (as_object x) (AllCome n part)) (sym comes.2) (object_of comes.0 comes.1)
 
-  among : (k : List ℕ) (ms : Members) → AllCome n part ms → IfSome (get_member k ms) (IsNamed n part k)
-  among k no_members come = tt
-  among k (member l e ms) come = by_order (slice_cmp nat_cmp k l) (exact_bytes k l) (get_member k ms) (among k ms come.2)
-    where
-      by_order : (o : Ordering) → (o ≡ Equal → k ≡ l) → (found : Option Data) → IfSome found (IsNamed n part k) → IfSome (match_ordering o found (Some e) found) (IsNamed n part k)
-      by_order Less same found rest = rest
-      by_order Equal same found rest = subst (λ (name : List ℕ). IsNamed n part name e) (sym (same refl)) come.1
-      by_order Greater same found rest = rest
-
-  got : (d : Data) (k : List ℕ) → IfSome (as_object d) (AllCome n part) → IfSome (get k d) (IsNamed n part k)
-  got null k come = tt
-  got (boolean b) k come = tt
-  got (number s) k come = tt
-  got (string s) k come = tt
-  got (array ds) k come = tt
-  got (object ms) k come = among k ms come
-
   pub is_part : (inner : Part) (k : List ℕ) (d : Data) → part_named part k ≡ Some inner → IsNamed n part k d → Comes n inner d
   is_part inner k d named is = subst (λ (p : Part). Comes n p d) (same_Some is.0 inner (sym is.1 ∙ named)) is.2
 
   -- what stands by a name of which it is known what part it is
   pub named : (inner : Part) (k : List ℕ) → part_named part k ≡ Some inner → (d : Data) → Comes (suc n) part d → IfSome (get k d) (Comes n inner)
-  named inner k is d comes = weaker (get k d) (got d k (members_of d comes))
-    where
-      weaker : (o : Option Data) → IfSome o (IsNamed n part k) → IfSome o (Comes n inner)
-      weaker None h = tt
-      weaker (Some e) h = is_part inner k e is h
+  named inner k is d comes = weaker (IsMember n part k) (Comes n inner) (get k d) (λ e there. is_part inner k e is there.1) (found_in (IsMember n part) k d (members_of d comes))
 
 kept_text : (j : Json) → with_texts Text j ≡ string (own_text j)
 kept_text json.null = refl

@@ -44,6 +44,7 @@ mod KeptValues
 pub mod Legible
 pub mod LinesAccepted
 pub mod LookUps
+mod MemberLists
 pub mod Moves
 pub mod NumberTexts
 pub mod ObjectsBack

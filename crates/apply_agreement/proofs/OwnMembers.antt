@@ -1,17 +1,14 @@
 -- In the tree of a script each member that is kept as its own text is the text of a value.
-use Rattle.std.proofs.Common.{◌≡◌, ℕ, ◌≤◌, List, IsUtf8, cond, Bool, true, false, Option, Some, None, option_map, Ordering, Less, Equal, Greater, refl, sym, ap, ◌∙◌, subst, arith}
+use Rattle.std.proofs.Common.{◌≡◌, ℕ, ◌≤◌, List, IsUtf8, cond, Bool, true, false, Option, Some, None, option_map, refl, sym, ap, ◌∙◌, subst, arith}
 use Rattle.std.specs.Prelude.{⊤, IfSome, codes, option_and_then}
-use Rattle.std.specs.Cmp.Lexicographic.{slice_cmp}
 use Rattle.std.specs.List.{AllByRecursion}
-use Rattle.std.specs.Ordering.{nat_cmp, match_ordering}
 use Rattle.std.specs.Str.{bytes_eq, is_utf8}
-use Rattle.std.proofs.lemmas.Map.Lookups.{exact_bytes}
 use Rattle.std.proofs.lemmas.Str.{IsUtf8-from_is_utf8}
 use Rattle.json.specs.Json as json
 use Rattle.json.specs.Json.{Json}
 use Rattle.json.specs.Tree.{HasNumbers, ItemsHaveNumbers, MembersHaveNumbers, depth, items_depth, members_depth}
 use Rattle.serde_json.specs.Data.{Data, null, boolean, number, string, array, object, Items, no_items, item, Members, no_members, member, put}
-use Rattle.serde_json.specs.Find.{as_array, as_str, get, get_member}
+use Rattle.serde_json.specs.Find.{as_array, as_object, as_str, get}
 use Rattle.serde_json.specs.Read.{number_of, of_json}
 use Rattle.apply_json.specs.Keeping.{as_own_text, keeping, keeping_items, keeping_members, keeping_tree_of, own_text}
 use Rattle.apply_json.specs.Tree.{◌>>=◌, items_or_empty, list_of, member_of, unless_null}
@@ -22,6 +19,7 @@ use Rattle.apply_agreement.proofs.Given.{any_given, both_given, gone_on, mapped,
 use Rattle.apply_agreement.proofs.KeptValues.{kept, of_text}
 use Rattle.apply_agreement.proofs.Legible.{AreClear, AreLegible, HaveClear, IsClear, IsLegible, kept_tree_legible}
 use Rattle.apply_agreement.proofs.LookUps.{array_legible, member_legible}
+use Rattle.apply_agreement.proofs.MemberLists.{AllMembers, found_in, not_null, put_one, weaker}
 
 -- the value is the text of one
 abbrev pub IsOwnText : Data → Type 0
@@ -48,14 +46,16 @@ abbrev mutual
 abbrev OwnAt : List ℕ → Data → Type 0
 OwnAt k d = (is_kept k ≡ true → IsOwnText d) × HasOwn d
 
+each_own : (ms : Members) → MembersOwn ms → AllMembers OwnAt ms
+each_own no_members own = tt
+each_own (member k d ms) own = ((own.0, own.1), each_own ms own.2)
+
+own_each : (ms : Members) → AllMembers OwnAt ms → MembersOwn ms
+own_each no_members own = tt
+own_each (member k d ms) own = (own.0.0, own.0.1, own_each ms own.1)
+
 put_own : (k : List ℕ) (d : Data) (ms : Members) → OwnAt k d → MembersOwn ms → MembersOwn (put k d ms)
-put_own k d no_members one others = (one.0, one.1, tt)
-put_own k d (member l e ms) one others = by_order (slice_cmp nat_cmp k l) (exact_bytes k l) (put_own k d ms one others.2)
-  where
-    by_order : (o : Ordering) → (o ≡ Equal → k ≡ l) → MembersOwn (put k d ms) → MembersOwn (match_ordering o (member k d (member l e ms)) (member l d ms) (member l e (put k d ms)))
-    by_order Less same rest = (one.0, one.1, others)
-    by_order Equal same rest = ((λ is. one.0 (ap is_kept (same refl) ∙ is)), one.1, others.2)
-    by_order Greater same rest = (others.0, others.1, rest)
+put_own k d ms one others = own_each (put k d ms) (put_one OwnAt k d ms one (each_own ms others))
 
 -- ---- a value that nests at most so deep that a member of it may be kept
 
@@ -107,8 +107,7 @@ ArrayOwn (array ds) = ItemsOwn ds
 ArrayOwn (object ms) = ⊤
 
 abbrev ArraysOwn : Members → Type 0
-ArraysOwn no_members = ⊤
-ArraysOwn (member k d ms) = ArrayOwn d × ArraysOwn ms
+ArraysOwn ms = AllMembers (λ k d. ArrayOwn d) ms
 
 abbrev TopOwn : Data → Type 0
 TopOwn null = ⊤
@@ -126,15 +125,6 @@ array_own (json.string s) clear numbers shallow = tt
 array_own (json.array js) clear numbers shallow = mapped ItemsOwn ArrayOwn array (keeping_items is_kept js) (λ ds own. own) (items_own js clear numbers (omega (arith, shallow)))
 array_own (json.object ms) clear numbers shallow = mapped (λ _. Unit {0}) ArrayOwn object (keeping_members is_kept ms no_members) (λ found u. tt) (any_given (keeping_members is_kept ms no_members))
 
-put_array : (k : List ℕ) (d : Data) (ms : Members) → ArrayOwn d → ArraysOwn ms → ArraysOwn (put k d ms)
-put_array k d no_members one others = (one, tt)
-put_array k d (member l e ms) one others = by_order (slice_cmp nat_cmp k l) (put_array k d ms one others.1)
-  where
-    by_order : (o : Ordering) → ArraysOwn (put k d ms) → ArraysOwn (match_ordering o (member k d (member l e ms)) (member l d ms) (member l e (put k d ms)))
-    by_order Less rest = (one, others)
-    by_order Equal rest = (one, others.1)
-    by_order Greater rest = (others.0, rest)
-
 array_at : (b : Bool) (v : Json) → IfSome (keeping is_kept v) ArrayOwn → IfSome (cond b (as_own_text v) (keeping is_kept v)) ArrayOwn
 array_at true v own = mapped (λ _. Unit {0}) ArrayOwn (λ tree. string (own_text v)) (of_json v) (λ tree u. tt) (any_given (of_json v))
 array_at false v own = own
@@ -143,7 +133,7 @@ arrays_own : (ms : json.Members) (found : Members) → HaveClear ms → MembersH
 arrays_own json.no_members found clear numbers shallow own = own
 arrays_own (json.member k v ms) found clear numbers shallow own =
     gone_on ArrayOwn ArraysOwn (λ d. keeping_members is_kept ms (put k d found)) (cond (is_kept k) (as_own_text v) (keeping is_kept v))
-    (λ d one. arrays_own ms (put k d found) clear.2 numbers.1 (omega (arith, shallow)) (put_array k d found one own))
+    (λ d one. arrays_own ms (put k d found) clear.2 numbers.1 (omega (arith, shallow)) (put_one (λ k d. ArrayOwn d) k d found one own))
     (array_at (is_kept k) v (array_own v clear.1 numbers.0 (omega (arith, shallow))))
 
 top_own : (v : Json) → IsClear v → HasNumbers v → depth v ≤ 127 → IfSome (keeping is_kept v) TopOwn
@@ -176,44 +166,23 @@ script_tree bytes = both_given IsLegible TopOwn (keeping_tree_of is_kept bytes) 
     of_test true utf8 = of_value (json_of_text bytes) (IsUtf8-from_is_utf8 bytes utf8) refl
     of_test false other = tt
 
-among : (k : List ℕ) (ms : Members) → MembersOwn ms → IfSome (get_member k ms) (OwnAt k)
-among k no_members own = tt
-among k (member l e ms) own = by_order (slice_cmp nat_cmp k l) (exact_bytes k l) (get_member k ms) (among k ms own.2)
-  where
-    by_order : (o : Ordering) → (o ≡ Equal → k ≡ l) → (found : Option Data) → IfSome found (OwnAt k) → IfSome (match_ordering o found (Some e) found) (OwnAt k)
-    by_order Less same found rest = rest
-    by_order Equal same found rest = ((λ is. own.0 (sym (ap is_kept (same refl)) ∙ is)), own.1)
-    by_order Greater same found rest = rest
-
-got : (k : List ℕ) (d : Data) → HasOwn d → IfSome (get k d) (OwnAt k)
-got k null own = tt
-got k (boolean b) own = tt
-got k (number n) own = tt
-got k (string s) own = tt
-got k (array ds) own = tt
-got k (object ms) own = among k ms own
-
-not_null : (k : List ℕ) (d : Data) → OwnAt k d → IfSome (unless_null d) (OwnAt k)
-not_null k null own = tt
-not_null k (boolean b) own = own
-not_null k (number n) own = own
-not_null k (string s) own = own
-not_null k (array ds) own = own
-not_null k (object ms) own = own
+object_own_members : (d : Data) → HasOwn d → IfSome (as_object d) (AllMembers OwnAt)
+object_own_members null own = tt
+object_own_members (boolean b) own = tt
+object_own_members (number n) own = tt
+object_own_members (string s) own = tt
+object_own_members (array ds) own = tt
+object_own_members (object ms) own = each_own ms own
 
 member_own : (k : List ℕ) (d : Data) → HasOwn d → IfSome (member_of k d) (OwnAt k)
-member_own k d own = next_of (OwnAt k) (OwnAt k) (get k d) unless_null (got k d own) (not_null k)
-
-weaker : {P Q : Data → Type 0} (o : Option Data) → ((d : Data) → P d → Q d) → IfSome o P → IfSome o Q
-weaker None f h = tt
-weaker (Some d) f h = f d h
+member_own k d own = next_of (OwnAt k) (OwnAt k) (get k d) unless_null (found_in OwnAt k d (object_own_members d own)) (not_null (OwnAt k))
 
 pub member_held : (name : List ℕ) (d : Data) → IsHeld d → IfSome (member_of name d) IsHeld
-member_held name d held = both_given IsLegible HasOwn (member_of name d) (member_legible name d held.0) (weaker (member_of name d) (λ e own. own.1) (member_own name d held.1))
+member_held name d held = both_given IsLegible HasOwn (member_of name d) (member_legible name d held.0) (weaker (OwnAt name) HasOwn (member_of name d) (λ e own. own.1) (member_own name d held.1))
 
 -- an object that is kept as its own text
 pub object_own : (name : List ℕ) (d : Data) → is_kept name ≡ true → IsHeld d → IfSome (object_or_none (member_of name d)) (λ text. IfSome text IsKeptText)
-object_own name d is held = of_member (member_of name d) (weaker (member_of name d) (λ e own. own.0 is) (member_own name d held.1))
+object_own name d is held = of_member (member_of name d) (weaker (OwnAt name) IsOwnText (member_of name d) (λ e own. own.0 is) (member_own name d held.1))
   where
     of_tests : (text : List ℕ) → IsKeptText text → (a b : Bool) → IfSome (cond a (Some None) (cond b (Some (Some text)) None)) (λ (text : Option (List ℕ)). IfSome text IsKeptText)
     of_tests text kept true b = tt
@@ -248,22 +217,13 @@ list_held (item d ds) held = ((held.0.0, held.1.0), list_held ds (held.0.1, held
 
 -- ---- the arrays of a whole script
 
-top_among : (k : List ℕ) (ms : Members) → ArraysOwn ms → IfSome (get_member k ms) ArrayOwn
-top_among k no_members own = tt
-top_among k (member l e ms) own = by_order (slice_cmp nat_cmp k l) (get_member k ms) (top_among k ms own.1)
-  where
-    by_order : (o : Ordering) (found : Option Data) → IfSome found ArrayOwn → IfSome (match_ordering o found (Some e) found) ArrayOwn
-    by_order Less found rest = rest
-    by_order Equal found rest = own.0
-    by_order Greater found rest = rest
-
-top_got : (k : List ℕ) (d : Data) → TopOwn d → IfSome (get k d) ArrayOwn
-top_got k null own = tt
-top_got k (boolean b) own = tt
-top_got k (number n) own = tt
-top_got k (string s) own = tt
-top_got k (array ds) own = tt
-top_got k (object ms) own = top_among k ms own
+top_members : (d : Data) → TopOwn d → IfSome (as_object d) ArraysOwn
+top_members null own = tt
+top_members (boolean b) own = tt
+top_members (number n) own = tt
+top_members (string s) own = tt
+top_members (array ds) own = tt
+top_members (object ms) own = own
 
 top_array : (d : Data) → ArrayOwn d → IfSome (unless_null d >>= as_array) ItemsOwn
 top_array null own = tt
@@ -280,4 +240,4 @@ regroup (Some d) own = top_array d own
 -- the elements of an array in it
 pub elements_held : (name : List ℕ) (d : Data) → IsScriptTree d → IfSome (member_of name d >>= as_array) AreHeld
 elements_held name d tree =
-    both_given AreLegible ItemsOwn (member_of name d >>= as_array) (next_of IsLegible AreLegible (member_of name d) as_array (member_legible name d tree.0) array_legible) (regroup (get name d) (top_got name d tree.1))
+    both_given AreLegible ItemsOwn (member_of name d >>= as_array) (next_of IsLegible AreLegible (member_of name d) as_array (member_legible name d tree.0) array_legible) (regroup (get name d) (found_in (λ k d. ArrayOwn d) name d (top_members d tree.1)))

@@ -71,15 +71,15 @@ one_output name d utf8 comes = record {
 
 each_output : (ms : Members) → AreOutputs ms → AllByRecursion HasOutputTexts (as_outputs ms)
 each_output no_members come = tt
-each_output (member name d ms) come = (one_output name d come.0 (is_part 125 Outputs Output name d refl come.1), each_output ms come.2)
+each_output (member name d ms) come = (one_output name d come.0.0 (is_part 125 Outputs Output name d refl come.0.1), each_output ms come.1)
 
 both_come : (changes : Option Data) (known found : Members) → AreOutputs known → AreOutputs found → AreOutputs (beside changes known found)
 both_come changes no_members found come others = others
 both_come changes (member name d ms) found come others =
-    both_come changes ms (cond (is_told changes name d && not (is_some (get_member name found))) (put name d found) found) come.2 (of_test (is_told changes name d && not (is_some (get_member name found))))
+    both_come changes ms (cond (is_told changes name d && not (is_some (get_member name found))) (put name d found) found) come.1 (of_test (is_told changes name d && not (is_some (get_member name found))))
   where
     of_test : (b : Bool) → AreOutputs (cond b (put name d found) found)
-    of_test true = put_comes 125 Outputs name d found come.0 come.1 others
+    of_test true = put_comes 125 Outputs name d found come.0.0 come.0.1 others
     of_test false = others
 
 pub outputs_told : (plan : OutputsOfPlan) (script : Members) → AreOutputs plan.known → AreOutputs script → AllByRecursion HasOutputTexts (told_outputs plan script)

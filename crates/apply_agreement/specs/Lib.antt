@@ -1,4 +1,5 @@
 pub mod Accepted
+pub mod AcceptedInForm
 pub mod Applied
 pub mod Forms
 pub mod FormTexts

@@ -8,7 +8,7 @@ ghost use Rattle.apply_lines.specs.Cut.{cut_lines};
 ghost use Rattle.apply_check.specs.Lines.{verdict_of};
 ghost use Rattle.apply_events.specs.declared.event.Event.{Event};
 ghost use Rattle.apply_events.specs.Lanes.ToCome.{max_events};
-ghost use Rattle.apply_events.specs.Laws.{AllFit, IsWithinLimits};
+ghost use Rattle.apply_events.specs.Laws.{AllFit};
 ghost use Rattle.apply_text.specs.declared.operation.Operation.{Operation};
 ghost use Rattle.apply_run.specs.declared.form_report.FormReport.{FormReport};
 ghost use Rattle.apply_run.specs.declared.options.Options.{Options};
@@ -17,17 +17,12 @@ ghost use Rattle.apply_run.specs.InForm.{WasAppliedAsTold, WasAppliedAsToldInLan
 ghost use Rattle.apply_run.specs.Read.{IsTold, Told, applied_plan, applied_script, besides_of};
 ghost use Rattle.apply_run.specs.Run.{Sight};
 ghost use Rattle.apply_run.specs.Stream.Form.{stream_in};
+ghost use Rattle.apply_agreement.specs.AcceptedInForm.{AreAcceptedInForm, MayBeApplied};
 ghost use Rattle.apply_agreement.specs.Applied.{HasShortLines};
 ghost use Rattle.apply_agreement.specs.FormTexts.{HasFormTexts};
 ghost use Rattle.apply_agreement.specs.Passing.{plain};
-ghost use Rattle.apply_agreement.specs.Plans.{
-  ChangesAreWhole,
-  DeletesDeposed,
-  IsOrdinary,
-  ProvisionsCreates,
-  WarnsOfReads,
-};
-ghost use Rattle.apply_agreement.specs.ToldInForm.{form_told, whole_in_form, whole_told};
+ghost use Rattle.apply_agreement.specs.Plans.{DeletesDeposed};
+ghost use Rattle.apply_agreement.specs.ToldInForm.{whole_told};
 ghost use Rattle.apply_agreement.specs.WholeSteps.{IsOfWholeSteps};
 
 use crate::applied::{a_run_has_few_events, every_event_of_a_run_fits};
@@ -55,17 +50,10 @@ pub fn what_was_read_for_the_form_can_be_heard()
     relative_addresses_join_their_module();
 }
 
-/// As it is applied, such a plan names each object once and does one thing to it or replaces it, and is within the limits of each
-/// plan that was read; only steps have provisioners that take them, and only reads only warn.
+/// As it is applied, it is within the limits of what is read, names each object once, and does one thing to it or replaces it; only
+/// steps have provisioners that take them, and only reads only warn. That deposed objects are only deleted is asked of the plan.
 pub fn what_was_read_for_the_form_may_be_applied()
-    ensures limits { (given : Given) (told : Told) → IsTold given.plan given.script told → IsWithinLimits (work_of given told) }
-    ensures ordinary { (given : Given) (told : Told) → IsTold given.plan given.script told
-        → DeletesDeposed (applied_plan told) → IsOrdinary (applied_plan told) }
-    ensures whole { (given : Given) (told : Told) → IsTold given.plan given.script told → ChangesAreWhole (applied_plan told) }
-    ensures script { (given : Given) (told : Told) → IsTold given.plan given.script told
-        → ProvisionsCreates (applied_plan told) (applied_script told) }
-    ensures warnings { (given : Given) (told : Told) → IsTold given.plan given.script told
-        → WarnsOfReads (applied_plan told) (applied_script told) }
+    ensures { (given : Given) (told : Told) → IsTold given.plan given.script told → MayBeApplied given told }
 {
     all_but_no_ops_are_planned();
     each_object_is_named_once();
@@ -76,16 +64,10 @@ pub fn what_was_read_for_the_form_may_be_applied()
 /// event can happen and there are few: no more is asked than that deposed objects are only deleted and that no line of the stream is
 /// longer than 64 MiB. The stream has a line for each message.
 pub fn every_stream_of_whole_steps_in_terraforms_form_is_accepted()
-    ensures verdict { (plans : Bool) (given : Given) (told : Told) (start : ℕ) (operation : Operation) (events : List Event)
+    ensures { (plans : Bool) (given : Given) (told : Told) (start : ℕ) (operation : Operation) (events : List Event)
         → IsTold given.plan given.script told → DeletesDeposed (applied_plan told)
         → length events ≤ max_events → AllFit (work_of given told) events → IsOfWholeSteps (work_of given told) events
-        → HasShortLines (stream_in (form_of told start operation) events)
-        → verdict_of (plain plans) (cut_lines (stream_in (form_of told start operation) events))
-        ≡ Ok (whole_in_form (applied_plan told) (applied_script told) (besides_of told) operation events) }
-    ensures lines { (given : Given) (told : Told) (start : ℕ) (operation : Operation) (events : List Event)
-        → IsTold given.plan given.script told → length events ≤ max_events → AllFit (work_of given told) events
-        → length (cut_lines (stream_in (form_of told start operation) events))
-        ≡ length (form_told (applied_plan told) (applied_script told) (besides_of told) operation events) }
+        → AreAcceptedInForm plans told operation events (stream_in (form_of told start operation) events) }
 {
     all_but_no_ops_are_planned();
     what_was_read_for_the_form_can_be_heard();
@@ -94,6 +76,29 @@ pub fn every_stream_of_whole_steps_in_terraforms_form_is_accepted()
     every_line_in_terraforms_form_is_heard();
     whole_steps_are_accepted_in_terraforms_form();
     lines_are_judged_by_what_they_say();
+}
+
+/// So it accepts those of each run of what was read, by workers and in lanes, with as many hooks as a registry holds.
+pub fn every_run_told_in_terraforms_form_is_accepted()
+    ensures workers { (plans : Bool) (given : Given) (options : Options) (report : FormReport) (before after : Sight)
+        (applied : WasAppliedAsTold given options report before after)
+        → DeletesDeposed (applied_plan applied.told) → length given.hooks ≤ max_hooks
+        → AreAcceptedInForm plans applied.told options.operation applied.streamed.events
+        (stream_in (form_of applied.told options.start options.operation) applied.streamed.events) }
+    ensures lanes { (plans : Bool) (given : Given) (lanes start : ℕ) (operation : Operation) (report : FormReport)
+        (before after : Sight) (applied : WasAppliedAsToldInLanes given lanes start operation report before after)
+        → DeletesDeposed (applied_plan applied.told) → length given.hooks ≤ max_hooks
+        → AreAcceptedInForm plans applied.told operation applied.streamed.events
+        (stream_in (form_of applied.told start operation) applied.streamed.events) }
+{
+    what_was_read_for_the_form_may_be_applied();
+    a_run_has_few_events();
+    every_event_of_a_run_fits();
+    a_run_is_of_whole_steps();
+    a_time_line_has_few_events();
+    every_event_of_a_time_line_fits();
+    a_time_line_is_of_whole_steps();
+    every_stream_of_whole_steps_in_terraforms_form_is_accepted();
 }
 
 /// What `apply_bytes_in_form` of `apply_run` writes in Terraform's form a checker accepts, and says of it what the report says: the
@@ -115,11 +120,7 @@ pub fn every_stream_in_terraforms_form_is_accepted()
         → before.bytes ≡ Some [] → after.bytes ≡ Some bytes → HasShortLines bytes
         → verdict_of (plain plans) (cut_lines bytes) ≡ Ok (whole_told report (length (cut_lines bytes))) }
 {
-    what_was_read_for_the_form_may_be_applied();
-    a_run_has_few_events();
-    every_event_of_a_run_fits();
-    a_run_is_of_whole_steps();
-    every_stream_of_whole_steps_in_terraforms_form_is_accepted();
+    every_run_told_in_terraforms_form_is_accepted();
 }
 
 /// What `apply_bytes_in_form_and_lanes` of `apply_run` writes in Terraform's form a checker accepts as well, on the same three
@@ -138,9 +139,5 @@ pub fn every_stream_in_terraforms_form_in_lanes_is_accepted()
         → before.bytes ≡ Some [] → after.bytes ≡ Some bytes → HasShortLines bytes
         → verdict_of (plain plans) (cut_lines bytes) ≡ Ok (whole_told report (length (cut_lines bytes))) }
 {
-    what_was_read_for_the_form_may_be_applied();
-    a_time_line_has_few_events();
-    every_event_of_a_time_line_fits();
-    a_time_line_is_of_whole_steps();
-    every_stream_of_whole_steps_in_terraforms_form_is_accepted();
+    every_run_told_in_terraforms_form_is_accepted();
 }

@@ -17,6 +17,7 @@ pub use applied::{
     what_was_read_is_within_limits,
 };
 pub use applied_in_form::{
+    every_run_told_in_terraforms_form_is_accepted,
     every_stream_in_terraforms_form_in_lanes_is_accepted,
     every_stream_in_terraforms_form_is_accepted,
     every_stream_of_whole_steps_in_terraforms_form_is_accepted,
