@@ -75,24 +75,19 @@ decimal_utf8 n = bare_utf8 (decimal n) (decimal_bare n)
 
 -- ---- moments
 
-two_bare : (n : ℕ) → n < 100 → IsBare (two_digits n)
-two_bare n few = one_bare (48 + n / 10) (omega arith) (omega arith) ((48 + n % 10) ∷ []) (one_bare (48 + n % 10) (omega arith) (omega arith) [] refl)
+-- two digits before others; a dash and a colon say nothing of themselves
+two_bare : (n : ℕ) → n < 100 → (rest : List ℕ) → IsBare rest → IsBare (two_digits n ++ rest)
+two_bare n few rest bare = one_bare (48 + n / 10) (omega arith) (omega arith) ((48 + n % 10) ∷ rest) (one_bare (48 + n % 10) (omega arith) (omega arith) rest bare)
 
 date_bare : (date : CivilDate) → IsShort date → IsBare (date_text date)
 date_bare date short =
     let year : date.year < 10000 = short.year in
     let month : date.month ≤ 12 = short.month in
     let day : date.day ≤ 31 = short.day in
-    let years = two_digits (date.year / 100) ++ two_digits (date.year % 100) in
-    both_bare (years ++ codes "-" ++ two_digits date.month ++ codes "-") (two_digits date.day)
-    (both_bare (years ++ codes "-" ++ two_digits date.month) (codes "-")
-    (both_bare (years ++ codes "-") (two_digits date.month)
-    (both_bare years (codes "-")
-    (both_bare (two_digits (date.year / 100)) (two_digits (date.year % 100)) (two_bare (date.year / 100) (omega arith)) (two_bare (date.year % 100) (omega arith)))
-    refl)
-    (two_bare date.month (omega arith)))
-    refl)
-    (two_bare date.day (omega arith))
+    let days = codes "-" ++ two_digits date.day in
+    let months = codes "-" ++ (two_digits date.month ++ days) in
+    two_bare (date.year / 100) (omega arith) (two_digits (date.year % 100) ++ months)
+    (two_bare (date.year % 100) (omega arith) months (two_bare date.month (omega arith) days (two_bare date.day (omega arith) [] refl)))
 
 at_day : (ds : List CivilDate) (n : ℕ) → AllByRecursion IsShort ds → IsBare (option_map_or date_text (slice_get ds n) [])
 at_day [] n h = refl
@@ -101,13 +96,9 @@ at_day (d ∷ ds) (suc n) h = at_day ds n h.1
 
 time_bare : (second : ℕ) → second < 86400 → IsBare (time_text second)
 time_bare second few =
-    let hours = two_digits (second / 3600) in
-    let minutes = two_digits (second / 60 % 60) in
-    both_bare (hours ++ codes ":" ++ minutes ++ codes ":") (two_digits (second % 60))
-    (both_bare (hours ++ codes ":" ++ minutes) (codes ":")
-    (both_bare (hours ++ codes ":") minutes (both_bare hours (codes ":") (two_bare (second / 3600) (omega arith)) refl) (two_bare (second / 60 % 60) (omega arith)))
-    refl)
-    (two_bare (second % 60) (omega arith))
+    let seconds = codes ":" ++ two_digits (second % 60) in
+    let minutes = codes ":" ++ (two_digits (second / 60 % 60) ++ seconds) in
+    two_bare (second / 3600) (omega arith) minutes (two_bare (second / 60 % 60) (omega arith) seconds (two_bare (second % 60) (omega arith) [] refl))
 
 second_bare : (seconds : ℕ) → IsBare (option_map_or date_text (date_of_day (seconds / 86400)) [] ++ codes "T" ++ time_text (seconds % 86400))
 second_bare seconds =

@@ -12,7 +12,6 @@ use Rattle.apply_check.specs.Lines.{verdict_of}
 use Rattle.apply_check.specs.Message.{Message}
 use Rattle.apply_events.specs.declared.counts.Counts.{Counts}
 use Rattle.apply_events.specs.declared.event.Event.{Event}
-use Rattle.apply_events.specs.Totals.{totals_of}
 use Rattle.apply_text.specs.declared.operation.Operation.{Operation}
 use Rattle.apply_run.specs.declared.form_report.FormReport.{FormReport}
 use Rattle.apply_run.specs.Read.{Told, applied_plan, applied_script, besides_of, is_unfinished}

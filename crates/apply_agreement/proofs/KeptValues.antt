@@ -14,8 +14,8 @@ use Rattle.json.proofs.Nesting.{value-depth}
 use Rattle.json.proofs.Numbered.{ArePrintableOrBad-tokens, value-HasNumbers}
 use Rattle.json.proofs.Printed.Tokens.{tokens-print}
 use Rattle.json.proofs.Printed.Trees.{ArePrintable-json_tokens, value-json_tokens}
-use Rattle.serde_json.specs.Data.{Data, null, boolean, number, string, array, object, Items, item, Members, no_members, member, put}
-use Rattle.serde_json.specs.Find.{as_object, as_str, get, get_member}
+use Rattle.serde_json.specs.Data.{Data, string, array, object, Items, item, Members, no_members, put}
+use Rattle.serde_json.specs.Find.{as_object, as_str, get}
 use Rattle.serde_json.specs.Read.{max_depth, of_items, of_json, of_members}
 use Rattle.apply_json.specs.Keeping.{own_text}
 use Rattle.apply_form_plan.specs.declared.texts.part.Part.{Part}

@@ -1,5 +1,5 @@
 -- In the tree of a script each member that is kept as its own text is the text of a value.
-use Rattle.std.proofs.Common.{◌≡◌, ℕ, ◌≤◌, List, IsUtf8, cond, Bool, true, false, Option, Some, None, option_map, refl, sym, ap, ◌∙◌, subst, arith}
+use Rattle.std.proofs.Common.{◌≡◌, ℕ, ◌≤◌, List, IsUtf8, cond, Bool, true, false, Option, Some, None, option_map, refl, sym, ◌∙◌, subst, arith}
 use Rattle.std.specs.Prelude.{⊤, IfSome, codes, option_and_then}
 use Rattle.std.specs.List.{AllByRecursion}
 use Rattle.std.specs.Str.{bytes_eq, is_utf8}

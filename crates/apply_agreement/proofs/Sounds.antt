@@ -1,5 +1,5 @@
 -- The texts of moments and of seconds are ASCII.
-use Rattle.std.proofs.Common.{ℕ, ◌/◌, ◌%◌, ◌<◌, ◌^◌, List, ◌++◌, codes, cond, decimal, IsUtf8, nat_lt, Bool, true, false, refl, arith}
+use Rattle.std.proofs.Common.{ℕ, ◌/◌, ◌%◌, ◌<◌, ◌^◌, ◌++◌, codes, cond, decimal, IsUtf8, nat_lt, Bool, true, false, refl, arith}
 use Rattle.std.proofs.lemmas.Fmt.{IsAscii-decimal}
 use Rattle.std.proofs.lemmas.Str.{IsUtf8-append, IsUtf8-from_ascii}
 use Rattle.json.proofs.Printed.Utf8.{IsUtf8-are_ascii}
