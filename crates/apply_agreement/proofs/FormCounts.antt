@@ -1,19 +1,17 @@
 -- No more begins than is planned.
-use Rattle.std.proofs.Common.{All, ◌≡◌, ◌≢◌, ℕ, zero, suc, ◌+◌, ◌<◌, ◌≤◌, ◌⊎◌, List, [], ◌∷◌, ◌++◌, append_assoc, cond, count_by, flat_map, length, map, take, Bool, true, false, Option, Some, None, option_map, option_to_list, refl, sym, ap, ◌∙◌, subst, ⊎_elim, slice_get, arith}
-use Rattle.std.specs.Prelude.{◌&&◌, is_some, not}
+use Rattle.std.proofs.Common.{All, ◌≡◌, ℕ, zero, suc, ◌+◌, ◌≤◌, List, [], ◌∷◌, ◌++◌, cond, count_by, flat_map, map, take, Bool, true, false, Option, Some, None, option_map, option_to_list, refl, ap, ◌∙◌, subst, ⊎_elim, slice_get, arith}
+use Rattle.std.specs.Prelude.{◌&&◌, is_some}
 use Rattle.std.specs.List.{enumerate_from}
 use Rattle.std.specs.Option.{option_map_or}
 use Rattle.std.proofs.lemmas.List.Elements.{All-head, All-tail}
 use Rattle.std.proofs.lemmas.List.Sums.{sum_by-append, sum_by-cons}
 use Rattle.apply_model.specs.declared.plan.step_kind.StepKind.{StepKind}
 use Rattle.apply_model.specs.declared.script.outcome.Outcome.{Outcome}
-use Rattle.apply_model.specs.declared.script.provisioner.Provisioner.{Provisioner}
 use Rattle.apply_model.specs.Plan.ResourceChange.{ResourceChange}
 use Rattle.apply_model.specs.Plan.SavedPlan.{SavedPlan}
 use Rattle.apply_model.specs.Script.Outcome.{has_failed}
 use Rattle.apply_model.specs.Script.OutcomeMap.{OutcomeMap, first_skipped, outcome_of}
 use Rattle.apply_check.specs.declared.messages.action.Action.{Action}
-use Rattle.apply_check.specs.Message.{Message}
 use Rattle.apply_check.specs.Tally.{begins}
 use Rattle.apply_check.specs.Words.{same_action}
 use Rattle.apply_hooks.specs.declared.phase.Phase as asked
@@ -176,7 +174,7 @@ steps_start work k c n (does ∷ kinds) at es are =
     ⊎_elim
     (λ (empty : es ≡ []). let none : count_by (starts_as work.plan k) es ≡ 0 = ap (count_by (starts_as work.plan k)) empty in omega arith)
     (λ (some : (w : ℕ) × (begin : ℕ) × (rest : List Event) × (es ≡ step_events w (step_of work c n does) begin ++ rest)
-        × (goes_on (step_of work c n does) ≡ true → AreOfSteps (map (λ p. step_of work c p.0 p.1) (enumerate_from (n + 1) kinds)) rest) × (goes_on (step_of work c n does) ≡ false → rest ≡ [])).
+    × (goes_on (step_of work c n does) ≡ true → AreOfSteps (map (λ p. step_of work c p.0 p.1) (enumerate_from (n + 1) kinds)) rest) × (goes_on (step_of work c n does) ≡ false → rest ≡ [])).
     let here : n + 0 ≡ n = omega arith in
     let lookup : slice_get (kinds_of work.plan c) n ≡ Some does = subst (λ (x : ℕ). slice_get (kinds_of work.plan c) x ≡ Some does) here (at 0 does refl) in
     let first = step_starts work.plan k some.0 (step_of work c n does) does lookup some.1 in

@@ -1,6 +1,6 @@
 -- Which failures are left behind messages: those of addresses that no error named since.
-use Rattle.std.proofs.Common.{◌≡◌, ℕ, ◌+◌, ◌-◌, ◌<◌, ◌≤◌, List, [], ◌∷◌, ◌++◌, length, cond, count_by, Bool, true, false, Option, Some, None, Result, Ok, Err, refl, sym, ap, ap₂, ◌∙◌, subst, bytes_eq, arith, lt-ltb}
-use Rattle.std.specs.Prelude.{◌&&◌, ◌||◌, nat_lt, not}
+use Rattle.std.proofs.Common.{◌≡◌, ℕ, ◌+◌, ◌-◌, ◌≤◌, List, [], ◌∷◌, ◌++◌, length, cond, count_by, Bool, true, false, Option, Some, None, Result, Ok, Err, refl, sym, ap, ap₂, ◌∙◌, subst, bytes_eq, arith, lt-ltb}
+use Rattle.std.specs.Prelude.{◌||◌, not}
 use Rattle.std.specs.List.{list_any}
 use Rattle.std.specs.Option.{option_map_or}
 use Rattle.std.proofs.lemmas.Bool.{or_parts}
@@ -25,7 +25,7 @@ use Rattle.apply_check.proofs.WholeStream.{bind_ok, one_next}
 use Rattle.apply_agreement.specs.Passing.{with_all}
 use Rattle.apply_agreement.proofs.FormMatches.{was_stepped}
 use Rattle.apply_agreement.proofs.Moves.{by_address}
-use Rattle.apply_agreement.proofs.Standings.{IsNoFailure, diagnostic_elsewhere, diagnostic_there, explained_keeps, failures_same, same_text, step_elsewhere, step_in, step_is, step_there}
+use Rattle.apply_agreement.proofs.Standings.{IsNoFailure, diagnostic_elsewhere, explained_keeps, failures_same, same_text, step_elsewhere, step_in, step_is, step_there}
 use Rattle.apply_agreement.proofs.Turning.{behind}
 
 -- ---- counts

@@ -1,12 +1,11 @@
 -- What is accepted in the default form is accepted in Terraform's, where what stands open matches.
-use Rattle.std.proofs.Common.{◌≡◌, ℕ, ◌+◌, ◌-◌, ◌<◌, ◌≤◌, ◌∙◌, List, [], ◌∷◌, length, Bool, true, false, cond, Option, Some, None, Result, Ok, Err, refl, sym, ap, ap₂, subst, ◌⊎◌, inl, inr, ⊎_elim, bytes_eq, is_some, count_by, nat_lt, arith}
+use Rattle.std.proofs.Common.{◌≡◌, ℕ, ◌+◌, ◌-◌, ◌≤◌, ◌∙◌, List, ◌∷◌, length, Bool, true, false, cond, Option, Some, None, Result, Ok, Err, refl, sym, ap, ap₂, subst, ◌⊎◌, inl, inr, ⊎_elim, is_some, count_by, nat_lt, arith}
 use Rattle.std.specs.Prelude.{◌||◌, ◌&&◌}
-use Rattle.std.specs.List.{list_any}
 use Rattle.std.specs.Option.{option_map_or}
 use Rattle.std.proofs.lemmas.Bool.{cases_Bool}
 use Rattle.std.proofs.lemmas.List.Sums.{sum_by-cons}
 use Rattle.apply_check.specs.declared.messages.action.Action.{Action}
-use Rattle.apply_check.specs.declared.messages.action.Action.TheVariants.{Create, Update, Delete, Read, Refresh}
+use Rattle.apply_check.specs.declared.messages.action.Action.TheVariants.{Create, Delete, Read}
 use Rattle.apply_check.specs.declared.messages.stage.Stage.{Stage}
 use Rattle.apply_check.specs.declared.messages.stage.Stage.TheVariants as stage
 use Rattle.apply_check.specs.declared.messages.timed_stage.TimedStage.{TimedStage}
@@ -381,8 +380,8 @@ both_provision a given ms ns alike was =
     let one = provision_there a given (provisioner_in was.running s) ms was_on in
     let other = provision_there a given (provisioner_in too.0 t) ns on in (
       next_behind ns (provision a given) alike.begun (λ first.
-      ap (λ (o : Option ℕ). option_map_or (λ line. Err (AfterSummary line)) o (provision_on given (length ns + 1) t >>= λ standing. fine (provision a given ∷ ns))) alike.unsummed
-      ∙ ap (λ (r : Result Standing Fault). r >>= λ standing. fine (provision a given ∷ ns)) on),
+          ap (λ (o : Option ℕ). option_map_or (λ line. Err (AfterSummary line)) o (provision_on given (length ns + 1) t >>= λ standing. fine (provision a given ∷ ns))) alike.unsummed
+          ∙ ap (λ (r : Result Standing Fault). r >>= λ standing. fine (provision a given ∷ ns)) on),
       record {
         begun = alike.begun;
         unsummed = alike.unsummed;

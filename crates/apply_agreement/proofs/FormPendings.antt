@@ -1,6 +1,6 @@
 -- What stands open of one action behind messages in the default form, and behind those in Terraform's: the same, whatever lines
 -- they name, but that more reads may stand open, as no end is told of one that failed.
-use Rattle.std.proofs.Common.{◌≡◌, ℕ, ◌+◌, ◌-◌, ◌<◌, ◌≤◌, Bool, true, false, cond, Option, Some, None, Result, Ok, Err, refl, sym, ap, subst, arith, nat_lt}
+use Rattle.std.proofs.Common.{◌≡◌, ℕ, ◌+◌, ◌-◌, ◌<◌, ◌≤◌, Bool, true, false, cond, Option, Some, None, Result, Ok, Err, refl, sym, subst, arith, nat_lt}
 use Rattle.std.proofs.lemmas.Bool.{lt-ltb, ltb-true}
 use Rattle.apply_check.specs.declared.messages.action.Action.{Action}
 use Rattle.apply_check.specs.declared.messages.action.Action.TheVariants.{Create, Update, Delete, Read, Refresh}

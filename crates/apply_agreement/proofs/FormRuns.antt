@@ -1,6 +1,5 @@
 -- What happens is accepted in Terraform's form where it is in the default form, and no more begins than was planned.
-use Rattle.std.proofs.Common.{append_assoc, ◌≡◌, ℕ, ◌+◌, ◌<◌, ◌≤◌, List, [], ◌∷◌, ◌++◌, cond, count_by, flat_map, Bool, true, false, Option, Some, None, Result, Ok, Err, refl, sym, ap, ◌∙◌, subst, slice_get, arith}
-use Rattle.std.specs.Prelude.{◌&&◌}
+use Rattle.std.proofs.Common.{◌≡◌, ℕ, ◌+◌, ◌<◌, ◌≤◌, List, [], ◌∷◌, ◌++◌, cond, count_by, flat_map, Bool, true, false, Option, Some, None, Result, Ok, Err, refl, sym, ap, ◌∙◌, subst, slice_get, arith}
 use Rattle.std.specs.List.{list_any}
 use Rattle.std.specs.Option.{option_map_or}
 use Rattle.std.proofs.lemmas.Bool.{and_right, lt-leb}
@@ -30,7 +29,7 @@ use Rattle.apply_events.specs.declared.what.What.{What}
 use Rattle.apply_events.specs.declared.what.What.TheVariants.{Start, Progress, Complete, Errored, ErrorNote, WarnNote, Halted, ProvisionStart, ProvisionOutput, ProvisionComplete, ProvisionErrored}
 use Rattle.apply_form.specs.Message.{is_silent, noted_address}
 use Rattle.apply_agreement.specs.Passing.{with_all}
-use Rattle.apply_agreement.specs.Told.{action_of, all_told, told, told_of}
+use Rattle.apply_agreement.specs.Told.{action_of, all_told, told}
 use Rattle.apply_agreement.specs.ToldInForm.{heard_in_form, told_of_event}
 use Rattle.apply_agreement.proofs.FormMatches.{AreAlike, both_diagnostic, both_provision, both_step, silent_step, was_provisioned, was_stepped}
 use Rattle.apply_agreement.proofs.FormPendings.{HasRoom, held}

@@ -1,6 +1,6 @@
 -- What the messages of events tell in Terraform's form: as much as in the default form, and which failures have errors that name no
 -- address.
-use Rattle.std.proofs.Common.{◌≡◌, ℕ, ◌+◌, ◌<◌, ◌≤◌, List, [], ◌∷◌, ◌++◌, cond, count_by, flat_map, Bool, true, false, Option, Some, None, refl, sym, ap, ap₂, ◌∙◌, subst, bytes_eq, slice_get, arith}
+use Rattle.std.proofs.Common.{◌≡◌, ℕ, ◌≤◌, List, [], ◌∷◌, cond, count_by, flat_map, Bool, true, false, Option, Some, None, refl, sym, ap, ap₂, ◌∙◌, subst, bytes_eq, slice_get, arith}
 use Rattle.std.specs.Prelude.{◌&&◌, ◌||◌, is_some, nat_lt, not}
 use Rattle.std.specs.List.{list_any}
 use Rattle.std.specs.Option.{option_map_or}
@@ -15,13 +15,13 @@ use Rattle.apply_model.specs.Plan.StepKind.{is_kind}
 use Rattle.apply_model.specs.Script.Outcome.{first_diag}
 use Rattle.apply_model.specs.Script.OutcomeMap.{OutcomeMap, outcome_of}
 use Rattle.apply_check.specs.declared.messages.action.Action.{Action}
-use Rattle.apply_check.specs.Message.{Message, diagnostic, step}
-use Rattle.apply_check.specs.Tally.{completes, is_error, is_error_alone, is_plan_summary}
+use Rattle.apply_check.specs.Message.{Message, diagnostic}
+use Rattle.apply_check.specs.Tally.{completes, is_error, is_error_alone}
 use Rattle.apply_events.specs.declared.event.Event.{Event}
 use Rattle.apply_events.specs.declared.what.What.{What}
 use Rattle.apply_events.specs.declared.what.What.TheVariants.{Start, Progress, Complete, Errored, ErrorNote, WarnNote, Halted, ProvisionStart, ProvisionOutput, ProvisionComplete, ProvisionErrored}
 use Rattle.apply_events.specs.Diagnostics.{is_note}
-use Rattle.apply_events.specs.Step.{address_of, kinds_of}
+use Rattle.apply_events.specs.Step.{address_of}
 use Rattle.apply_events.specs.Totals.{is_errored}
 use Rattle.apply_form.specs.Message.{is_silent, noted_address}
 use Rattle.apply_agreement.specs.Told.{action_of, all_told, told, told_of}

@@ -1,22 +1,19 @@
 -- The verdict on a whole stream in Terraform's form.
-use Rattle.std.proofs.Common.{◌≡◌, ◌≢◌, ℕ, ◌+◌, ◌<◌, ◌≤◌, List, [], ◌∷◌, ◌++◌, append_assoc, cond, count_by, filter, flat_map, length, length-append, map, suc, Bool, true, false, Option, Some, None, Result, Ok, Err, is_some, refl, sym, ap, ap₂, ◌∙◌, subst, arith, le-ltb}
+use Rattle.std.proofs.Common.{◌≡◌, ◌≢◌, ℕ, ◌<◌, ◌≤◌, List, [], ◌∷◌, ◌++◌, append_assoc, cond, count_by, filter, flat_map, length, length-append, map, suc, Bool, true, false, Option, Some, None, Result, Ok, is_some, refl, sym, ap, ap₂, ◌∙◌, subst, arith, le-ltb}
 use Rattle.std.specs.Prelude.{◌&&◌, ◌||◌, nat_lt, not}
 use Rattle.std.specs.List.{enumerate_from, list_any}
-use Rattle.std.specs.Option.{option_map_or}
 use Rattle.std.proofs.Math.Bool.{and-false, or-true}
 use Rattle.std.proofs.lemmas.Bool.{or_parts}
 use Rattle.std.proofs.lemmas.Grind.{flat_map-append}
 use Rattle.std.proofs.lemmas.List.Sums.{sum_by-append, sum_by-cons}
 use Rattle.apply_model.specs.declared.details.note.Note.{Note}
-use Rattle.apply_model.specs.Plan.SavedPlan.{SavedPlan}
 use Rattle.apply_check.specs.declared.messages.action.Action.{Action}
 use Rattle.apply_check.specs.declared.messages.action.Action.TheVariants.{Create, Update, Delete, Read, Refresh}
 use Rattle.apply_check.specs.declared.messages.totals.Totals.{Totals}
 use Rattle.apply_check.specs.declared.rules.fault.Fault.{Fault}
 use Rattle.apply_check.specs.declared.rules.pending.Pending.{Pending}
 use Rattle.apply_check.specs.declared.verdict.whole.Whole.{Whole}
-use Rattle.apply_check.specs.Limits.{max_lines}
-use Rattle.apply_check.specs.Lines.{end_of, is_plan_stream, next, whole_of}
+use Rattle.apply_check.specs.Lines.{end_of, is_plan_stream, next}
 use Rattle.apply_check.specs.Message.{Message, diagnostic, outputs, summary, version}
 use Rattle.apply_check.specs.Open.{any_open, refreshes_matter, stands_open}
 use Rattle.apply_check.specs.Results.{◌>>=◌}
@@ -24,7 +21,6 @@ use Rattle.apply_check.specs.Standing.{pending_at, standing_of}
 use Rattle.apply_check.specs.Tally.{begun_totals, completed_totals, completes, failures_left, failures_stand, is_error, is_error_alone, is_plan_summary, is_summary, is_version, line_of, no_totals, same_totals}
 use Rattle.apply_check.proofs.Counting.{same_counts, uncounted}
 use Rattle.apply_check.proofs.OpenSteps.{not_any_open}
-use Rattle.apply_events.specs.declared.counts.Counts.{Counts}
 use Rattle.apply_events.specs.declared.event.Event.{Event}
 use Rattle.apply_events.specs.Diagnostics.{is_note}
 use Rattle.apply_events.specs.Step.{Work, address_of}

@@ -1,15 +1,12 @@
 -- The whole stream in Terraform's form: the version, what is planned, what happens, diagnostics of no step, and the end.
-use Rattle.std.proofs.Common.{All, ◌≡◌, ℕ, zero, suc, ◌+◌, ◌<◌, ◌≤◌, List, [], ◌∷◌, ◌++◌, append_assoc, append-nil, cond, count_by, flat_map, length, map, Bool, true, false, Option, Some, None, Result, Ok, Err, is_some, refl, sym, ap, ap₂, ◌∙◌, subst, slice_get, arith}
+use Rattle.std.proofs.Common.{◌≡◌, ℕ, ◌<◌, ◌≤◌, List, [], ◌∷◌, ◌++◌, cond, count_by, flat_map, length, map, Bool, true, false, Option, Some, None, Result, Ok, Err, is_some, refl, sym, ap, ◌∙◌, subst, slice_get, arith}
 use Rattle.std.specs.Prelude.{is_ok}
-use Rattle.std.specs.List.{AllByRecursion, enumerate_from, list_any}
+use Rattle.std.specs.List.{enumerate_from}
 use Rattle.std.specs.Option.{option_map_or}
 use Rattle.std.proofs.lemmas.List.Sums.{sum_by-cons}
 use Rattle.apply_model.specs.declared.details.change_details.ChangeDetails.{ChangeDetails}
 use Rattle.apply_model.specs.declared.details.note.Note.{Note}
-use Rattle.apply_model.specs.declared.plan.step_kind.StepKind.{StepKind}
 use Rattle.apply_model.specs.Plan.ResourceChange.{ResourceChange}
-use Rattle.apply_model.specs.Plan.SavedPlan.{SavedPlan}
-use Rattle.apply_model.specs.Script.OutcomeMap.{OutcomeMap}
 use Rattle.apply_check.specs.declared.messages.action.Action.{Action}
 use Rattle.apply_check.specs.declared.messages.action.Action.TheVariants.{Create, Update, Delete, Read, Refresh}
 use Rattle.apply_check.specs.declared.messages.intent.Intent.{Intent}
@@ -17,28 +14,28 @@ use Rattle.apply_check.specs.declared.rules.fault.Fault.{Fault}
 use Rattle.apply_check.specs.declared.rules.fault.Fault.TheVariants.{AfterSummary}
 use Rattle.apply_check.specs.Course.{max_overlap}
 use Rattle.apply_check.specs.Lines.{next}
-use Rattle.apply_check.specs.Message.{Message, diagnostic, intent_named, planned, version}
+use Rattle.apply_check.specs.Message.{Message, intent_named, planned, version}
 use Rattle.apply_check.specs.Results.{◌>>=◌}
 use Rattle.apply_check.specs.Standing.{idle, pending_at, standing_of}
 use Rattle.apply_check.specs.Tally.{begins, is_version, line_of, plans_create, plans_delete, plans_update}
 use Rattle.apply_events.specs.declared.event.Event.{Event}
-use Rattle.apply_events.specs.Step.{Work, kinds_of, steps_of}
+use Rattle.apply_events.specs.Step.{Work, kinds_of}
 use Rattle.apply_text.specs.Order.{as_written}
 use Rattle.apply_form.specs.Details.{planned_word}
-use Rattle.apply_run.specs.Stream.Terraform.{Besides, is_error}
+use Rattle.apply_run.specs.Stream.Terraform.{Besides}
 use Rattle.apply_agreement.specs.Passing.{with_all}
 use Rattle.apply_agreement.specs.Plans.{ChangesAreWhole, IsOrdinary, ProvisionsCreates, WarnsOfReads}
 use Rattle.apply_agreement.specs.Told.{all_told}
 use Rattle.apply_agreement.specs.ToldInForm.{planned_told, planned_told_at, told_before_end, told_of_event, told_of_note}
-use Rattle.apply_agreement.specs.WholeSteps.{AreOfSteps, IsOfWholeSteps, events_of_change}
+use Rattle.apply_agreement.specs.WholeSteps.{IsOfWholeSteps, events_of_change}
 use Rattle.apply_agreement.proofs.Errors.{AreParts, IsPlanned}
 use Rattle.apply_agreement.proofs.FormCounts.{all_told_starts, change_starts, does_so, starts_as}
-use Rattle.apply_agreement.proofs.FormMatches.{AreAlike, AreMatched}
+use Rattle.apply_agreement.proofs.FormMatches.{AreAlike}
 use Rattle.apply_agreement.proofs.FormPendings.{Matches}
 use Rattle.apply_agreement.proofs.FormPlans.{cap_of, creates_planned, deletes_planned, few_reads, updates_planned}
-use Rattle.apply_agreement.proofs.FormRuns.{IsWithin, Ran, all_ran}
+use Rattle.apply_agreement.proofs.FormRuns.{IsWithin, all_ran}
 use Rattle.apply_agreement.proofs.ChangeSums.{by_changes, total_most}
-use Rattle.apply_agreement.proofs.Parts.{Each, each_weaker, part_of_kept}
+use Rattle.apply_agreement.proofs.Parts.{Each, each_weaker}
 use Rattle.apply_agreement.proofs.Standings.{next_behind}
 use Rattle.apply_agreement.proofs.Tallies.{are_planned, count_written, is_within as event_within, whole_steps_run}
 use Rattle.apply_agreement.proofs.Turning.{behind, behind_both, joined}
@@ -129,7 +126,7 @@ module _ (work : Work) (besides : Besides) (events : List Event) (few : length w
       let same = count_written (starts_as work.plan k) events in
       let split = by_changes (starts_as work.plan k) (length work.plan.changes) events within in
       let each = total_most 0 (length work.plan.changes) (λ c. count_by (starts_as work.plan k) (events_of_change c events)) (λ c. count_by (does_so k) (kinds_of work.plan c))
-          (λ c above below. change_starts work k c (events_of_change c events) (parts c (omega arith))) in
+      (λ c above below. change_starts work k c (events_of_change c events) (parts c (omega arith))) in
       omega arith
 
   is_within : IsWithin (cap_of work.plan) (behind (version ∷ []) (flat_map (planned_told_at besides.details) (enumerate_from 0 work.plan.changes))) (flat_map (told_of_event work.plan work.script) (as_written events))

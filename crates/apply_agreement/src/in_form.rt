@@ -38,8 +38,16 @@ ghost use Rattle.apply_agreement.specs.Passing.{plain, verdict_on, with_all};
 ghost use Rattle.apply_agreement.specs.Plans.{ChangesAreWhole, IsOrdinary, ProvisionsCreates, WarnsOfReads};
 ghost use Rattle.apply_agreement.specs.Texts.{AreSmall, HasChangeTexts, HasOutcomeTexts, IsSmall};
 ghost use Rattle.apply_agreement.specs.ToldInForm.{
-    AllSay, HasDetailTexts, HasNoteTexts, SaysAlone, form_told, heard_in_form, planned_told, told_before_end, told_of_note,
-    whole_in_form
+  AllSay,
+  HasDetailTexts,
+  HasNoteTexts,
+  SaysAlone,
+  form_told,
+  heard_in_form,
+  planned_told,
+  told_before_end,
+  told_of_note,
+  whole_in_form,
 };
 ghost use Rattle.apply_agreement.specs.WholeSteps.{IsOfWholeSteps};
 
@@ -112,10 +120,9 @@ pub fn every_message_before_the_end_is_taken()
         → is_ok (with_all [] (version ∷ told_before_end work.plan work.script besides events)) ≡ true }
 {}
 
-/// And what they tell in all it accepts: with the totals of the events, and errors exactly where a step failed or was halted or a
-/// diagnostic of no step is an error. No failure is left without an error: where the error of a delete names no address, there are
-/// as many errors that name none as failures of addresses that no error names. Where none is told, the summary closes all of it, and
-/// of an apply the outputs stand behind it.
+/// And all that they tell it accepts, with their totals, and as one with errors exactly where a step failed or was halted or a
+/// diagnostic of no step is an error. The error of a failed delete may name no address; no fewer errors name none than steps failed
+/// at addresses that no error names, so that no failure is left without one.
 pub fn whole_steps_are_accepted_in_terraforms_form()
     ensures { (plans : Bool) (work : Work) (besides : Besides) (operation : Operation) (events : List Event)
         → IsOrdinary work.plan → ChangesAreWhole work.plan → length besides.details ≡ length work.plan.changes
