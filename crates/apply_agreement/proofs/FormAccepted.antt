@@ -80,19 +80,19 @@ as_said counts has_errors lines = record { totals = totals_said counts; has_erro
 module _ (plans : Bool) (told : Told) (operation : Operation) (events : List Event) (stream : List ℕ) (report : FormReport) (before after : Option (List ℕ))
     (delivered : IsDelivered (applied_plan told) events stream report.run before after) (error : report.tells_error ≡ tells_error (besides_of told).notes report.run.counts) (accepted : AreAcceptedInForm plans told operation events stream)
   where
-  reported : whole_in_form (applied_plan told) (applied_script told) (besides_of told) operation events ≡ whole_told report (length (cut_lines stream))
-  reported =
-      let notes = (besides_of told).notes in
-      let lines = length (form_told (applied_plan told) (applied_script told) (besides_of told) operation events) in
-      sym (ap (as_said report.run.counts report.tells_error) accepted.as_many
-      ∙ ap (λ (b : Bool). as_said report.run.counts b lines) error
-      ∙ ap (λ (c : Counts). as_said c (tells_error notes c) lines) delivered.counts)
+    reported : whole_in_form (applied_plan told) (applied_script told) (besides_of told) operation events ≡ whole_told report (length (cut_lines stream))
+    reported =
+        let notes = (besides_of told).notes in
+        let lines = length (form_told (applied_plan told) (applied_script told) (besides_of told) operation events) in
+        sym (ap (as_said report.run.counts report.tells_error) accepted.as_many
+        ∙ ap (λ (b : Bool). as_said report.run.counts b lines) error
+        ∙ ap (λ (c : Counts). as_said c (tells_error notes c) lines) delivered.counts)
 
-  pub stream_reported : HasShortLines stream → verdict_of (plain plans) (cut_lines stream) ≡ Ok (whole_told report (length (cut_lines stream)))
-  stream_reported short = accepted.verdict short ∙ ap Ok reported
+    pub stream_reported : HasShortLines stream → verdict_of (plain plans) (cut_lines stream) ≡ Ok (whole_told report (length (cut_lines stream)))
+    stream_reported short = accepted.verdict short ∙ ap Ok reported
 
-  -- a sink that had nothing and tells its bytes has the stream
-  pub bytes_reported : (bytes : List ℕ) → before ≡ Some [] → after ≡ Some bytes → HasShortLines bytes → verdict_of (plain plans) (cut_lines bytes) ≡ Ok (whole_told report (length (cut_lines bytes)))
-  bytes_reported bytes none all short =
-      let same = stream_is (applied_plan told) events stream report.run before after delivered bytes none all in
-      subst (λ (b : List ℕ). verdict_of (plain plans) (cut_lines b) ≡ Ok (whole_told report (length (cut_lines b)))) same (stream_reported (subst HasShortLines (sym same) short))
+    -- a sink that had nothing and tells its bytes has the stream
+    pub bytes_reported : (bytes : List ℕ) → before ≡ Some [] → after ≡ Some bytes → HasShortLines bytes → verdict_of (plain plans) (cut_lines bytes) ≡ Ok (whole_told report (length (cut_lines bytes)))
+    bytes_reported bytes none all short =
+        let same = stream_is (applied_plan told) events stream report.run before after delivered bytes none all in
+        subst (λ (b : List ℕ). verdict_of (plain plans) (cut_lines b) ≡ Ok (whole_told report (length (cut_lines b)))) same (stream_reported (subst HasShortLines (sym same) short))

@@ -25,5 +25,6 @@ pub record MayBeApplied (given : Given) (told : Told) : Type 0 where
 -- the bytes are those of a whole stream of these events, where no line is too long, and have a line for each message
 pub record AreAcceptedInForm (plans : Bool) (told : Told) (operation : Operation) (events : List Event) (bytes : List ℕ) : Type 0 where
   pub verdict : HasShortLines bytes
-      → verdict_of (plain plans) (cut_lines bytes) ≡ Ok (whole_in_form (applied_plan told) (applied_script told) (besides_of told) operation events)
+      → verdict_of (plain plans) (cut_lines bytes)
+      ≡ Ok (whole_in_form (applied_plan told) (applied_script told) (besides_of told) operation events)
   pub as_many : length (cut_lines bytes) ≡ length (form_told (applied_plan told) (applied_script told) (besides_of told) operation events)

@@ -39,8 +39,8 @@ use apply_laws::{
 };
 use apply_wait_laws::a_time_line_has_few_events;
 
-/// What was read for Terraform's form can be told in it and heard: each text is UTF-8, and what is kept as text is the text of a
-/// value, of outputs, of diagnostics of no step, and of those that a step may tell. Sensitive values are told nowhere.
+/// What was read for Terraform's form can be told in it and heard: each text is UTF-8, and what is kept as text, of outputs, of
+/// diagnostics of no step and of those that a step may tell, is the text of a value.
 pub fn what_was_read_for_the_form_can_be_heard()
     ensures { (given : Given) (told : Told) → IsTold given.plan given.script told
         → HasFormTexts (applied_plan told) (applied_script told) (besides_of told) }

@@ -25,8 +25,8 @@ pub fn the_line_of_outputs_is_heard()
 /// event but the end of a read that failed, each diagnostic of no step, and the summary and the outputs where nothing tells of an
 /// error.
 pub fn every_line_in_terraforms_form_is_heard()
-    ensures { (plan : SavedPlan) (script : OutcomeMap) (besides : Besides) (start : ℕ) (operation : Operation) → HasFormTexts plan script besides
-        → (taken : List Event) → FitBits plan taken
+    ensures { (plan : SavedPlan) (script : OutcomeMap) (besides : Besides) (start : ℕ) (operation : Operation)
+        → HasFormTexts plan script besides → (taken : List Event) → FitBits plan taken
         → SayInLines (stream_in (terraform_form plan script besides start operation) taken)
         (form_told plan script besides operation taken) }
 {}
