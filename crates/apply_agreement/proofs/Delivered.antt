@@ -22,7 +22,7 @@ module _ (plan : SavedPlan) (events : List Event) (stream : List ℕ) (report : 
   stream_reported plans verdict = verdict ∙ ap Ok reported
 
   -- a sink that had nothing and tells its bytes has the stream
-  stream_is : (bytes : List ℕ) → before ≡ Some [] → after ≡ Some bytes → stream ≡ bytes
+  pub stream_is : (bytes : List ℕ) → before ≡ Some [] → after ≡ Some bytes → stream ≡ bytes
   stream_is bytes none all =
       sym (subst (λ (o : Option (List ℕ)). Appends o (Some bytes) stream) none (subst (λ (o : Option (List ℕ)). Appends before o stream) all delivered.appended))
 

@@ -184,7 +184,7 @@ module _ (told : Told) (start : ℕ) (operation : Operation) where
 
 -- ---- the stream
 
-joined : {X : Type 0} (f : X → List ℕ) (xs : List X) → concat (map f xs) ≡ flat_map f xs
+pub joined : {X : Type 0} (f : X → List ℕ) (xs : List X) → concat (map f xs) ≡ flat_map f xs
 joined f [] = refl
 joined f (x ∷ xs) = ap (λ (l : List ℕ). f x ++ l) (joined f xs)
 

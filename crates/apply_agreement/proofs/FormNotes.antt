@@ -99,7 +99,7 @@ regroup_one a t e = sym (append_assoc a t e) ∙ ap (λ s. s ++ e) (sym (append-
 regroup_two : (a t b u e : List ℕ) → a ++ (t ++ (b ++ (u ++ e))) ≡ ((a ++ t) ++ (b ++ u)) ++ e
 regroup_two a t b u e = simp append_assoc
 
-own_kept : (text : List ℕ) (value : Data) → (k : IsKept text value) → json_text k.json ≡ text
+pub own_kept : (text : List ℕ) (value : Data) → (k : IsKept text value) → json_text k.json ≡ text
 own_kept text value k = sym (own_is k.json) ∙ sym k.text_is
 
 named_utf8 : (name text : List ℕ) → IsUtf8 name → IsUtf8 text → IsUtf8 (name ++ text)

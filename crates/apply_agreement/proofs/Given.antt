@@ -51,6 +51,10 @@ pub first_of_two : {A : Type 0} (P : A → Type 0) (o p : Option A) → IfSome o
 first_of_two P None p h other = other
 first_of_two P (Some x) p h other = h
 
+pub both_given : {A : Type 0} (P Q : A → Type 0) (o : Option A) → IfSome o P → IfSome o Q → IfSome o (λ x. P x × Q x)
+both_given P Q None h other = tt
+both_given P Q (Some x) h other = (h, other)
+
 -- ---- lists
 
 pub held_at : {A : Type 0} (P : A → Type 0) (xs : List A) (k : ℕ) → AllByRecursion P xs → IfSome (slice_get xs k) P

@@ -39,7 +39,7 @@ abbrev mutual
 
 -- the same of a value of the grammar
 abbrev mutual
-  IsClear : Json → Type 0
+  pub IsClear : Json → Type 0
   IsClear j.null = ⊤
   IsClear (j.boolean b) = ⊤
   IsClear (j.number s) = IsUtf8 s
@@ -47,11 +47,11 @@ abbrev mutual
   IsClear (j.array js) = AreClear js
   IsClear (j.object ms) = HaveClear ms
 
-  AreClear : j.Items → Type 0
+  pub AreClear : j.Items → Type 0
   AreClear j.no_items = ⊤
   AreClear (j.item v js) = IsClear v × AreClear js
 
-  HaveClear : j.Members → Type 0
+  pub HaveClear : j.Members → Type 0
   HaveClear j.no_members = ⊤
   HaveClear (j.member k v ms) = IsUtf8 k × IsClear v × HaveClear ms
 
@@ -159,7 +159,7 @@ put_legible k d (member l e ms) one others =
     by_order Greater a b c first second third = third
 
 mutual
-  data_legible : (v : Json) → IsClear v → IfSome (of_json v) IsLegible
+  pub data_legible : (v : Json) → IsClear v → IfSome (of_json v) IsLegible
   data_legible j.null h = tt
   data_legible (j.boolean b) h = tt
   data_legible (j.number s) h = mapped IsOfBits IsLegible number (number_of s) (λ n fits. fits) (number_fits s)
@@ -184,7 +184,7 @@ spelt_both [] us h k = k
 spelt_both (t ∷ ts) us h k = (h.0, spelt_both ts us h.1 k)
 
 mutual
-  value_spelt : (v : Json) → IsClear v → AreSpelt (json_tokens v)
+  pub value_spelt : (v : Json) → IsClear v → AreSpelt (json_tokens v)
   value_spelt j.null h = (tt, tt)
   value_spelt (j.boolean b) h = (tt, tt)
   value_spelt (j.number s) h = (h, tt)
@@ -229,10 +229,10 @@ mutual
 
 -- ---- the value of a whole text
 
-text_clear : (text : List ℕ) → IsUtf8 text → IfSome (option_and_then (λ p. if_last p.0 p.1) (value max_depth (tokens text))) IsClear
+pub text_clear : (text : List ℕ) → IsUtf8 text → IfSome (option_and_then (λ p. if_last p.0 p.1) (value max_depth (tokens text))) IsClear
 text_clear text utf8 = gone_on (Leaves IsClear) IsClear (λ p. if_last p.0 p.1) (value max_depth (tokens text)) (λ p left. last_clear p.0 p.1 left.0) (value_clear max_depth (tokens text) (tokens_spelt text utf8))
 
-read_legible : (text : List ℕ) → IsUtf8 text → IfSome (read text) IsLegible
+pub read_legible : (text : List ℕ) → IsUtf8 text → IfSome (read text) IsLegible
 read_legible text utf8 = gone_on IsClear IsLegible of_json (option_and_then (λ p. if_last p.0 p.1) (value max_depth (tokens text))) data_legible (text_clear text utf8)
 
 pub tree_legible : (bytes : List ℕ) → IfSome (tree_of bytes) IsLegible

@@ -1,5 +1,6 @@
 pub mod AppliedKinds
 mod AppliedSteps
+mod BareTexts
 pub mod BetweenSteps
 pub mod Bytes
 pub mod ChangeDeeds
@@ -15,6 +16,7 @@ pub mod Errors
 pub mod EscapedTokens
 pub mod EscapedTrees
 pub mod Fitting
+mod FormAccepted
 mod FormCounts
 pub mod FormEnds
 mod FormFailures
@@ -24,32 +26,43 @@ pub mod FormLines
 pub mod FormMatches
 pub mod FormNotes
 pub mod FormObjects
+mod FormOutputs
 pub mod FormPendings
 pub mod FormPlanned
 mod FormPlans
+mod FormRead
 mod FormRuns
+mod FormStream
 mod FormTold
 mod FormVerdict
 mod FormWhole
 pub mod Given
 pub mod Heard
 pub mod JsonTexts
+mod KeptDiags
+mod KeptValues
 pub mod Legible
 pub mod LinesAccepted
 pub mod LookUps
+mod MemberLists
 pub mod Moves
 pub mod NumberTexts
 pub mod ObjectsBack
 pub mod ObjectsHeard
 pub mod Ordinary
+mod OwnMembers
 pub mod OwnTexts
 pub mod Parts
 pub mod Phases
 pub mod PlainNumbers
 pub mod PlanTexts
+mod PreviousTexts
 pub mod ReadBack
 pub mod ReadBytes
+mod ReadDetails
+mod ReadNotes
 pub mod ReadNumbers
+mod ReadOutputs
 pub mod ReadTexts
 pub mod RunEvents
 pub mod ScriptTexts

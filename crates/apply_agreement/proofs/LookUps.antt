@@ -1,42 +1,29 @@
 -- What is found in a legible tree is legible.
-use Rattle.std.proofs.Common.{ℕ, List, [], ◌∷◌, IsUtf8, Option, Some, None, Ordering, Less, Equal, Greater}
+use Rattle.std.proofs.Common.{ℕ, List, [], ◌∷◌, IsUtf8, Option, Some, None}
 use Rattle.std.specs.Prelude.{IfSome}
 use Rattle.std.specs.List.{AllByRecursion}
-use Rattle.std.specs.Ordering.{nat_cmp, match_ordering}
-use Rattle.std.specs.Cmp.Lexicographic.{slice_cmp}
 use Rattle.serde_json.specs.Data.{Data, null, boolean, number, string, array, object, Items, no_items, item, Members, no_members, member}
-use Rattle.serde_json.specs.Find.{as_array, as_str, get, get_member}
+use Rattle.serde_json.specs.Find.{as_array, as_object, as_str, get}
 use Rattle.apply_json.specs.Tree.{items_or_empty, list_of, member_of, non_empty_text_of, text_of, text_or, unless_empty, unless_null}
 use Rattle.apply_agreement.proofs.Given.{next_of}
 use Rattle.apply_agreement.proofs.Legible.{AreLegible, HaveLegible, IsLegible}
+use Rattle.apply_agreement.proofs.MemberLists.{AllMembers, found_in, not_null}
 
-among : (k : List ℕ) (ms : Members) → HaveLegible ms → IfSome (get_member k ms) IsLegible
-among k no_members h = tt
-among k (member l e ms) h = by_order (slice_cmp nat_cmp k l) (get_member k ms) (among k ms h.1)
-  where
-    by_order : (o : Ordering) (found : Option Data) → IfSome found IsLegible → IfSome (match_ordering o found (Some e) found) IsLegible
-    by_order Less found rest = rest
-    by_order Equal found rest = h.0
-    by_order Greater found rest = rest
+-- the members of a value, where it is an object
+members_legible : (ms : Members) → HaveLegible ms → AllMembers (λ k d. IsLegible d) ms
+members_legible no_members h = tt
+members_legible (member k d ms) h = (h.0, members_legible ms h.1)
 
-got : (k : List ℕ) (d : Data) → IsLegible d → IfSome (get k d) IsLegible
-got k null h = tt
-got k (boolean b) h = tt
-got k (number n) h = tt
-got k (string s) h = tt
-got k (array ds) h = tt
-got k (object ms) h = among k ms h
-
-not_null : (d : Data) → IsLegible d → IfSome (unless_null d) IsLegible
-not_null null h = tt
-not_null (boolean b) h = h
-not_null (number n) h = h
-not_null (string s) h = h
-not_null (array ds) h = h
-not_null (object ms) h = h
+object_legible : (d : Data) → IsLegible d → IfSome (as_object d) (AllMembers (λ k d. IsLegible d))
+object_legible null h = tt
+object_legible (boolean b) h = tt
+object_legible (number n) h = tt
+object_legible (string s) h = tt
+object_legible (array ds) h = tt
+object_legible (object ms) h = members_legible ms h
 
 pub member_legible : (name : List ℕ) (d : Data) → IsLegible d → IfSome (member_of name d) IsLegible
-member_legible name d h = next_of IsLegible IsLegible (get name d) unless_null (got name d h) not_null
+member_legible name d h = next_of IsLegible IsLegible (get name d) unless_null (found_in (λ k d. IsLegible d) name d (object_legible d h)) (not_null IsLegible)
 
 -- ---- texts
 

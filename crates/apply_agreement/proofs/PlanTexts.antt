@@ -25,6 +25,7 @@ use Rattle.apply_plan.specs.Plan.SavedPlan.{SavedPlan, change_at, changes_of, ma
 use Rattle.apply_plan.specs.Plan.Steps.{steps_alone, steps_of_actions, steps_together}
 use Rattle.apply_plan.specs.Results.{◌>>=◌, all_or_first, each_with_earlier, or_refuse}
 use Rattle.apply_text.specs.Objects.{key_data}
+use Rattle.apply_agreement.specs.Plans.{AreStepsOfOne}
 use Rattle.apply_agreement.specs.Sound.{IsSound}
 use Rattle.apply_agreement.specs.Texts.{HasChangeTexts}
 use Rattle.apply_agreement.proofs.Cuts.{before, behind}
@@ -105,7 +106,7 @@ joined_utf8 [] relative address h is = subst IsUtf8 is h
 joined_utf8 (byte ∷ bytes) relative address h is = behind (byte ∷ bytes) 46 relative (subst IsUtf8 is h) (omega arith)
 
 -- what stands before the first underscore, behind a part of the text
-front_utf8 : (p xs : List ℕ) → IsUtf8 (p ++ xs) → IsUtf8 (p ++ before_first (λ byte. byte == 95) xs)
+pub front_utf8 : (p xs : List ℕ) → IsUtf8 (p ++ xs) → IsUtf8 (p ++ before_first (λ byte. byte == 95) xs)
 front_utf8 p [] h = h
 front_utf8 p (x ∷ xs) h = of_test (x == 95) refl (front_utf8 (p ++ x ∷ []) xs (subst IsUtf8 (sym (append_assoc p (x ∷ []) xs)) h))
   where
@@ -130,7 +131,7 @@ last_of [] k h e = absurd cc
 last_of (kind ∷ kinds) zero h e = let none : kinds ≡ [] = h.0 (same_Some kind Read e) in ap (λ (l : List StepKind). suc (length l)) none
 last_of (kind ∷ kinds) (suc k) h e = let rest : length kinds ≡ k + 1 = last_of kinds k h.1 e in omega arith
 
--- what is read of a change: its texts, and one step or two, or none; a read has no step behind it
+-- what is read of a change: its texts, and one step or two for one object, or none; a read has no step behind it
 pub record IsReadable (change : ResourceChange) : Type 0 where
   pub address : IsUtf8 change.address
   pub module_address : IsUtf8 change.module_address
@@ -140,6 +141,7 @@ pub record IsReadable (change : ResourceChange) : Type 0 where
   pub prior_id : IfSome change.prior_id IsUtf8
   pub few_steps : length change.steps ≤ 2
   pub reads_last : EndWithReads change.steps
+  pub of_one : AreStepsOfOne change.steps
 
 pub change_texts : (change : ResourceChange) → IsReadable change → HasRelativeAddress change → HasChangeTexts change
 change_texts change has relative = record {
@@ -153,15 +155,15 @@ change_texts change has relative = record {
   prior_id = has.prior_id;
 }
 
--- two at most
+-- two at most, for one object
 abbrev AreFew : List StepKind → Type 0
-AreFew steps = (length steps ≤ 2) × EndWithReads steps
+AreFew steps = (length steps ≤ 2) × EndWithReads steps × AreStepsOfOne steps
 
 none_few : AreFew []
-none_few = (omega arith, tt)
+none_few = (omega arith, tt, tt)
 
 one_few : (kind : StepKind) → AreFew (kind ∷ [])
-one_few kind = (omega arith, ((λ e. refl), tt))
+one_few kind = (omega arith, ((λ e. refl), tt), tt)
 
 alone : (action : Data) → IfSome (steps_alone action) AreFew
 alone action = of_tests (is_word (codes "no-op") action) (is_word (codes "create") action) (is_word (codes "read") action) (is_word (codes "update") action) (is_word (codes "delete") action) (is_word (codes "forget") action)
@@ -180,8 +182,8 @@ together : (first second : Data) → IfSome (steps_together first second) AreFew
 together first second = of_tests (is_word (codes "delete") first && is_word (codes "create") second) (is_word (codes "create") first && is_word (codes "delete") second)
   where
     of_tests : (a b : Bool) → IfSome (cond a (Some (Delete ∷ Create ∷ [])) (cond b (Some (Create ∷ Delete ∷ [])) None)) AreFew
-    of_tests true b = (omega arith, ((λ e. absurd cc), ((λ e. refl), tt)))
-    of_tests false true = (omega arith, ((λ e. absurd cc), ((λ e. refl), tt)))
+    of_tests true b = (omega arith, ((λ e. absurd cc), ((λ e. refl), tt)), tt)
+    of_tests false true = (omega arith, ((λ e. absurd cc), ((λ e. refl), tt)), tt)
     of_tests false false = tt
 
 at_most_two : (actions : Items) → IfSome (steps_of_actions actions) AreFew
@@ -206,6 +208,7 @@ planned_readable n d h =
       prior_id = has.prior_id;
       few_steps = few.0;
       reads_last = few.1;
+      of_one = few.2;
     })))
 
 change_readable : (before : List Data) (d : Data) → IsLegible d → IfOk (change_at before d) IsReadable

@@ -12,17 +12,19 @@ use Rattle.apply_model.specs.declared.script.timed_text.TimedText.{TimedText}
 use Rattle.apply_laws.specs.Plans.{HasRelativeAddress}
 use Rattle.apply_plan.specs.Plan.SavedPlan.{SavedPlan}
 use Rattle.apply_plan.specs.Script.Outcome.{default_outcome, diag_of_ending, failure_by, failure_of, first_diag}
-use Rattle.apply_plan.specs.Script.OutcomeMap.{OutcomeMap, given_outcome}
-use Rattle.apply_text.specs.Message.{no_diag, told_id, warning_of}
-use Rattle.apply_agreement.specs.Texts.{HasDiagTexts, HasOutcomeTexts, HasTexts}
+use Rattle.apply_plan.specs.Script.OutcomeMap.{OutcomeMap, given_outcome, outcome_of}
+use Rattle.apply_text.specs.Message.{no_diag, told_failure, told_id, warning_of}
+use Rattle.apply_agreement.specs.FormTexts.{HasKeptDiags}
+use Rattle.apply_agreement.specs.Texts.{HasOutcomeTexts, HasTexts}
 use Rattle.apply_agreement.proofs.Given.{first_of_two, held_at, is_given, unwrapped}
+use Rattle.apply_agreement.proofs.KeptDiags.{IsToldDiag, has_kept}
 use Rattle.apply_agreement.proofs.PlanTexts.{IsReadable, IsReadablePlan, change_texts}
 use Rattle.apply_agreement.proofs.ScriptTexts.{HasEndingTexts, HasProvisionerTexts, HasStepTexts, HasTimedText, IsReadableScript, IsSaid, MayHaveDiag}
 
 -- ---- a step
 
-nothing : HasDiagTexts no_diag
-nothing = record { summary = IsUtf8-nil; detail = IsUtf8-nil }
+nothing : IsToldDiag no_diag
+nothing = (record { summary = IsUtf8-nil; detail = IsUtf8-nil }, has_kept [] [] None None tt tt)
 
 why_it_ended : (result : Ending) → HasEndingTexts result → MayHaveDiag (diag_of_ending result)
 why_it_ended (Done id warning) h = tt
@@ -31,7 +33,7 @@ why_it_ended (Warned diag) h = tt
 
 why_first : (provisioners : List Provisioner) → AllByRecursion HasProvisionerTexts provisioners → MayHaveDiag (first_diag provisioners)
 why_first [] h = tt
-why_first (p ∷ ps) h = first_of_two HasDiagTexts (failure_by p) (first_diag ps) (unless p.may_fail h.0.failed) (why_first ps h.1)
+why_first (p ∷ ps) h = first_of_two IsToldDiag (failure_by p) (first_diag ps) (unless p.may_fail h.0.failed) (why_first ps h.1)
   where
     unless : (b : Bool) → MayHaveDiag p.failed → MayHaveDiag (cond b None p.failed)
     unless true why = tt
@@ -42,8 +44,8 @@ id_of (Done id warning) h = h.0
 id_of (Failed diag) h = tt
 id_of (Warned diag) h = tt
 
-warned : (result : Ending) → HasEndingTexts result → HasDiagTexts (warning_of result)
-warned (Done id warning) h = unwrapped HasDiagTexts warning no_diag h.1 nothing
+warned : (result : Ending) → HasEndingTexts result → IsToldDiag (warning_of result)
+warned (Done id warning) h = unwrapped IsToldDiag warning no_diag h.1 nothing
 warned (Failed diag) h = nothing
 warned (Warned diag) h = h
 
@@ -60,12 +62,16 @@ output_at : (line : ℕ) (found : Option Provisioner) → IfSome found HasProvis
 output_at line None h = IsUtf8-nil
 output_at line (Some provisioner) h = text_at (slice_get provisioner.output line) (held_at HasTimedText provisioner.output line h.output)
 
+failed : (outcome : Outcome) → HasStepTexts outcome → IsToldDiag (told_failure outcome)
+failed outcome has =
+    unwrapped IsToldDiag (failure_of outcome) no_diag
+    (first_of_two IsToldDiag (diag_of_ending outcome.result) (first_diag outcome.provisioners) (why_it_ended outcome.result has.result) (why_first outcome.provisioners has.provisioners)) nothing
+
 outcome_texts : (outcome : Outcome) → HasStepTexts outcome → HasOutcomeTexts outcome
 outcome_texts outcome has = record {
   id = id_of outcome.result has.result;
-  failure = unwrapped HasDiagTexts (failure_of outcome) no_diag
-      (first_of_two HasDiagTexts (diag_of_ending outcome.result) (first_diag outcome.provisioners) (why_it_ended outcome.result has.result) (why_first outcome.provisioners has.provisioners)) nothing;
-  warning = warned outcome.result has.result;
+  failure = (failed outcome has).0;
+  warning = (warned outcome.result has.result).0;
   names = λ i. name_at (slice_get outcome.provisioners i) (held_at HasProvisionerTexts outcome.provisioners i has.provisioners);
   outputs = λ i line. output_at line (slice_get outcome.provisioners i) (held_at HasProvisionerTexts outcome.provisioners i has.provisioners);
 }
@@ -73,9 +79,16 @@ outcome_texts outcome has = record {
 default_texts : HasStepTexts default_outcome
 default_texts = record { result = (tt, tt); provisioners = tt }
 
+outcome_kept : (outcome : Outcome) → HasStepTexts outcome → HasKeptDiags outcome
+outcome_kept outcome has = record { failure = (failed outcome has).1; warning = (warned outcome.result has.result).1 }
+
 given_texts : (found : Option Outcome) → IfSome found IsSaid → HasOutcomeTexts (unwrap_or found default_outcome)
 given_texts None h = outcome_texts default_outcome default_texts
 given_texts (Some outcome) h = outcome_texts outcome h.texts
+
+given_kept : (found : Option Outcome) → IfSome found IsSaid → HasKeptDiags (unwrap_or found default_outcome)
+given_kept None h = outcome_kept default_outcome default_texts
+given_kept (Some outcome) h = outcome_kept outcome h.texts
 
 -- ---- the plan and the script
 
@@ -87,3 +100,7 @@ read_texts plan script readable relative said = record {
       (is_given HasRelativeAddress (slice_get plan.changes c) change (held_at HasRelativeAddress plan.changes c relative) is);
   outcomes = λ c k. given_texts (given_outcome script c k) (said c k);
 }
+
+-- what is kept of the diagnostics of a script are texts of values
+pub read_kept : (script : OutcomeMap) → IsReadableScript script → (c k : ℕ) → HasKeptDiags (outcome_of script c k)
+read_kept script said c k = given_kept (given_outcome script c k) (said c k)

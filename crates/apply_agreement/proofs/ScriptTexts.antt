@@ -1,4 +1,4 @@
--- The texts of a script that was read are UTF-8, and its steps are within the limits.
+-- The texts of a script that was read are UTF-8, what is kept of its diagnostics are texts of values, and its steps are within the limits.
 use Rattle.std.proofs.Common.{◌≡◌, ℕ, zero, suc, ◌+◌, ◌==◌, List, [], ◌∷◌, IsUtf8, codes, cond, find, length, map, nat_lt, slice_get, Bool, true, false, Option, Some, None, Ok, Err, refl}
 use Rattle.std.specs.Prelude.{◌&&◌, ◌||◌, IfOk, IfSome, is_some, not, option_map, sum_by}
 use Rattle.std.specs.Option.{option_map_or}
@@ -29,48 +29,48 @@ use Rattle.apply_plan.specs.Script.OutcomeMap.{OutcomeMap, Said, by_number, chan
 use Rattle.apply_plan.specs.Script.Refusals.{fault_of_entry}
 use Rattle.apply_plan.specs.Script.WaitedStep.{step_said, step_waited, with_waits}
 use Rattle.apply_plan.proofs.Scripts.Limits.{said_is_within}
-use Rattle.apply_agreement.specs.Texts.{HasDiagTexts}
 use Rattle.apply_agreement.proofs.Given.{AreAnswers, all_given, any_given, each_answered, each_held, gone_on, held_at, is_answered, mapped, next_of, refused_or, then_of}
-use Rattle.apply_agreement.proofs.Legible.{AreLegible, IsLegible}
-use Rattle.apply_agreement.proofs.LookUps.{array_legible, filled_utf8, items_legible, list_legible, member_legible, non_empty_utf8, str_utf8, text_or_utf8, text_utf8}
+use Rattle.apply_agreement.proofs.KeptDiags.{IsToldDiag, MayKeep, has_kept}
+use Rattle.apply_agreement.proofs.LookUps.{filled_utf8, member_legible, non_empty_utf8, str_utf8, text_or_utf8, text_utf8}
+use Rattle.apply_agreement.proofs.OwnMembers.{AreHeld, IsHeld, IsScriptTree, array_held, elements_held, items_held, list_held, member_held, object_own, script_tree}
 use Rattle.apply_agreement.proofs.ReadBytes.{made_of_kept}
 
 -- ---- how a step ends
 
-diag_texts : (d : Data) → IsLegible d → IfSome (diag_from d) HasDiagTexts
+diag_texts : (d : Data) → IsHeld d → IfSome (diag_from d) IsToldDiag
 diag_texts d h =
-    next_of IsUtf8 HasDiagTexts (text_of (codes "summary") d) _ (text_utf8 (codes "summary") d h)
-    (λ summary summary_is. next_of IsUtf8 HasDiagTexts (text_or [] (member_of (codes "detail") d)) _ (text_or_utf8 [] (member_of (codes "detail") d) IsUtf8-nil (member_legible (codes "detail") d h))
-    (λ detail detail_is. next_of (λ _. Unit {0}) HasDiagTexts (object_or_none (member_of (codes "range") d)) _ (any_given (object_or_none (member_of (codes "range") d)))
-    (λ range u. next_of (λ _. Unit {0}) HasDiagTexts (object_or_none (member_of (codes "snippet") d)) _ (any_given (object_or_none (member_of (codes "snippet") d)))
-    (λ snippet u'. record { summary = summary_is; detail = detail_is }))))
+    next_of IsUtf8 IsToldDiag (text_of (codes "summary") d) _ (text_utf8 (codes "summary") d h.0)
+    (λ summary summary_is. next_of IsUtf8 IsToldDiag (text_or [] (member_of (codes "detail") d)) _ (text_or_utf8 [] (member_of (codes "detail") d) IsUtf8-nil (member_legible (codes "detail") d h.0))
+    (λ detail detail_is. next_of MayKeep IsToldDiag (object_or_none (member_of (codes "range") d)) _ (object_own (codes "range") d refl h)
+    (λ range range_is. next_of MayKeep IsToldDiag (object_or_none (member_of (codes "snippet") d)) _ (object_own (codes "snippet") d refl h)
+    (λ snippet snippet_is. (record { summary = summary_is; detail = detail_is }, has_kept summary detail range snippet range_is snippet_is)))))
 
 -- where there is a diagnostic
 abbrev pub MayHaveDiag : Option Diag → Type 0
-MayHaveDiag diag = IfSome diag HasDiagTexts
+MayHaveDiag diag = IfSome diag IsToldDiag
 
-some_diag : (found : Option Data) → IfSome found IsLegible → IfSome (diag_or_none found) MayHaveDiag
+some_diag : (found : Option Data) → IfSome found IsHeld → IfSome (diag_or_none found) MayHaveDiag
 some_diag None h = tt
-some_diag (Some d) h = mapped HasDiagTexts MayHaveDiag Some (diag_from d) (λ diag texts. texts) (diag_texts d h)
+some_diag (Some d) h = mapped IsToldDiag MayHaveDiag Some (diag_from d) (λ diag texts. texts) (diag_texts d h)
 
 abbrev pub HasEndingTexts : Ending → Type 0
 HasEndingTexts (Done id warning) = IfSome id IsUtf8 × MayHaveDiag warning
-HasEndingTexts (Failed diag) = HasDiagTexts diag
-HasEndingTexts (Warned diag) = HasDiagTexts diag
+HasEndingTexts (Failed diag) = IsToldDiag diag
+HasEndingTexts (Warned diag) = IsToldDiag diag
 
 -- where the provider fails
 abbrev MayHaveFailure : Option Failure → Type 0
-MayHaveFailure failure = IfSome failure (λ failure. HasDiagTexts failure.diag)
+MayHaveFailure failure = IfSome failure (λ failure. IsToldDiag failure.diag)
 
-failure_texts : (d : Data) → IsLegible d → IfSome (failure_from d) (λ failure. HasDiagTexts failure.diag)
+failure_texts : (d : Data) → IsHeld d → IfSome (failure_from d) (λ failure. IsToldDiag failure.diag)
 failure_texts d h =
-    let Q = λ (failure : Failure). HasDiagTexts failure.diag in
-    next_of HasDiagTexts Q (diag_from d) _ (diag_texts d h)
+    let Q = λ (failure : Failure). IsToldDiag failure.diag in
+    next_of IsToldDiag Q (diag_from d) _ (diag_texts d h)
     (λ diag texts. next_of (λ _. Unit {0}) Q (only_warns_or_not (member_of (codes "severity") d)) _ (any_given (only_warns_or_not (member_of (codes "severity") d))) (λ only_warns u. texts))
 
-some_failure : (found : Option Data) → IfSome found IsLegible → IfSome (failure_or_none found) MayHaveFailure
+some_failure : (found : Option Data) → IfSome found IsHeld → IfSome (failure_or_none found) MayHaveFailure
 some_failure None h = tt
-some_failure (Some d) h = mapped (λ (failure : Failure). HasDiagTexts failure.diag) MayHaveFailure Some (failure_from d) (λ failure texts. texts) (failure_texts d h)
+some_failure (Some d) h = mapped (λ (failure : Failure). IsToldDiag failure.diag) MayHaveFailure Some (failure_from d) (λ failure texts. texts) (failure_texts d h)
 
 ended : (id : Option (List ℕ)) (warning : Option Diag) (failed : Option Failure) → IfSome id IsUtf8 → MayHaveDiag warning → MayHaveFailure failed → IfSome (ending_from id warning failed) HasEndingTexts
 ended id warning None named warned why = (named, warned)
@@ -82,19 +82,19 @@ ended None None (Some failure) named warned why = either failure.only_warns
 ended None (Some warning) (Some failure) named warned why = tt
 ended (Some id) warning (Some failure) named warned why = tt
 
-ending_texts : (d : Data) → IsLegible d → IfSome (ending_of d) HasEndingTexts
+ending_texts : (d : Data) → IsHeld d → IfSome (ending_of d) HasEndingTexts
 unfolding ending_of
 ending_texts d h =
-    next_of IsUtf8 HasEndingTexts (text_or [] (member_of (codes "id") d)) _ (text_or_utf8 [] (member_of (codes "id") d) IsUtf8-nil (member_legible (codes "id") d h))
-    (λ id id_is. next_of MayHaveDiag HasEndingTexts (diag_or_none (member_of (codes "warning") d)) _ (some_diag (member_of (codes "warning") d) (member_legible (codes "warning") d h))
-    (λ warning warned. next_of MayHaveFailure HasEndingTexts (failure_or_none (member_of (codes "failed") d)) _ (some_failure (member_of (codes "failed") d) (member_legible (codes "failed") d h))
+    next_of IsUtf8 HasEndingTexts (text_or [] (member_of (codes "id") d)) _ (text_or_utf8 [] (member_of (codes "id") d) IsUtf8-nil (member_legible (codes "id") d h.0))
+    (λ id id_is. next_of MayHaveDiag HasEndingTexts (diag_or_none (member_of (codes "warning") d)) _ (some_diag (member_of (codes "warning") d) (member_held (codes "warning") d h))
+    (λ warning warned. next_of MayHaveFailure HasEndingTexts (failure_or_none (member_of (codes "failed") d)) _ (some_failure (member_of (codes "failed") d) (member_held (codes "failed") d h))
     (λ failed why. ended (unless_empty id) warning failed (filled_utf8 id id_is) warned why)))
 
 -- ---- provisioners
 
-each_legible : {A : Type 0} (P : A → Type 0) (part : Data → Option A) (found : Option Data) → ((d : Data) → IsLegible d → IfSome (part d) P) → IfSome found IsLegible → IfSome (each_of part found) (AllByRecursion P)
+each_legible : {A : Type 0} (P : A → Type 0) (part : Data → Option A) (found : Option Data) → ((d : Data) → IsHeld d → IfSome (part d) P) → IfSome found IsHeld → IfSome (each_of part found) (AllByRecursion P)
 each_legible P part found step h =
-    next_of AreLegible (AllByRecursion P) (items_or_empty found) _ (items_legible found h) (λ items legible. all_given IsLegible P part (list_of items) step (list_legible items legible))
+    next_of AreHeld (AllByRecursion P) (items_or_empty found) _ (items_held found h) (λ items legible. all_given IsHeld P part (list_of items) step (list_held items legible))
 
 -- ---- what a provisioner puts out
 
@@ -104,14 +104,14 @@ HasItemText item = IsUtf8 item.text
 abbrev pub HasTimedText : TimedText → Type 0
 HasTimedText timed = IsUtf8 timed.text
 
-members_texts : (d : Data) → IsLegible d → IfSome (output_of_members d) HasItemText
+members_texts : (d : Data) → IsHeld d → IfSome (output_of_members d) HasItemText
 unfolding output_of_members
 members_texts d h =
-    next_of IsUtf8 HasItemText (text_of (codes "text") d) _ (text_utf8 (codes "text") d h)
+    next_of IsUtf8 HasItemText (text_of (codes "text") d) _ (text_utf8 (codes "text") d h.0)
     (λ text is. next_of (λ _. Unit {0}) HasItemText (number_or_none (member_of (codes "after") d)) _ (any_given (number_or_none (member_of (codes "after") d))) (λ after u. is))
 
-item_texts : (d : Data) → IsLegible d → IfSome (output_from d) HasItemText
-item_texts d h = either (as_str d) (str_utf8 d h)
+item_texts : (d : Data) → IsHeld d → IfSome (output_from d) HasItemText
+item_texts d h = either (as_str d) (str_utf8 d h.0)
   where
     either : (found : Option (List ℕ)) → IfSome found IsUtf8 → IfSome (option_map_or (λ text. Some (record { after = None; text = text })) found (output_of_members d)) HasItemText
     either None is = members_texts d h
@@ -133,13 +133,13 @@ pub record HasProvisionerTexts (provisioner : Provisioner) : Type 0 where
   pub output : AllByRecursion HasTimedText provisioner.output
   pub failed : MayHaveDiag provisioner.failed
 
-provisioner_texts : (d : Data) → IsLegible d → IfSome (provisioner_from d) HasProvisionerTexts
+provisioner_texts : (d : Data) → IsHeld d → IfSome (provisioner_from d) HasProvisionerTexts
 unfolding provisioner_from
 provisioner_texts d h =
-    next_of IsUtf8 HasProvisionerTexts (non_empty_text_of (codes "provisioner") d) _ (non_empty_utf8 (codes "provisioner") d h)
+    next_of IsUtf8 HasProvisionerTexts (non_empty_text_of (codes "provisioner") d) _ (non_empty_utf8 (codes "provisioner") d h.0)
     (λ name name_is. next_of (λ _. Unit {0}) HasProvisionerTexts (seconds_of d) _ (any_given (seconds_of d))
-    (λ seconds u. next_of MayHaveDiag HasProvisionerTexts (diag_or_none (member_of (codes "failed") d)) _ (some_diag (member_of (codes "failed") d) (member_legible (codes "failed") d h))
-    (λ failed why. next_of (AllByRecursion HasItemText) HasProvisionerTexts (each_of output_from (member_of (codes "output") d)) _ (each_legible HasItemText output_from (member_of (codes "output") d) item_texts (member_legible (codes "output") d h))
+    (λ seconds u. next_of MayHaveDiag HasProvisionerTexts (diag_or_none (member_of (codes "failed") d)) _ (some_diag (member_of (codes "failed") d) (member_held (codes "failed") d h))
+    (λ failed why. next_of (AllByRecursion HasItemText) HasProvisionerTexts (each_of output_from (member_of (codes "output") d)) _ (each_legible HasItemText output_from (member_of (codes "output") d) item_texts (member_held (codes "output") d h))
     (λ items items_are. next_of (AllByRecursion HasTimedText) HasProvisionerTexts (timed_outputs seconds items) _ (timed_texts seconds items items_are)
     (λ output output_is. next_of (λ _. Unit {0}) HasProvisionerTexts (may_fail_or_not (member_of (codes "on_failure") d)) _ (any_given (may_fail_or_not (member_of (codes "on_failure") d)))
     (λ may_fail u'. record { name = name_is; output = output_is; failed = why }))))))
@@ -154,13 +154,13 @@ pub record HasStepTexts (outcome : Outcome) : Type 0 where
 abbrev pub HasEntryStepTexts : EntryStep → Type 0
 HasEntryStepTexts step = IfSome step.outcome HasStepTexts
 
-step_texts : (d : Data) → IsLegible d → IfSome (step_from d) HasEntryStepTexts
+step_texts : (d : Data) → IsHeld d → IfSome (step_from d) HasEntryStepTexts
 unfolding step_from
 step_texts d h =
     next_of (λ _. Unit {0}) HasEntryStepTexts (flag_or_false (member_of (codes "skipped") d)) _ (any_given (flag_or_false (member_of (codes "skipped") d)))
     (λ skipped u. next_of HasEndingTexts HasEntryStepTexts (ending_of d) _ (ending_texts d h)
     (λ result ends. next_of (AllByRecursion HasProvisionerTexts) HasEntryStepTexts (each_of provisioner_from (member_of (codes "provisioners") d)) _
-    (each_legible HasProvisionerTexts provisioner_from (member_of (codes "provisioners") d) provisioner_texts (member_legible (codes "provisioners") d h))
+    (each_legible HasProvisionerTexts provisioner_from (member_of (codes "provisioners") d) provisioner_texts (member_held (codes "provisioners") d h))
     (λ provisioners all. next_of (λ _. Unit {0}) HasEntryStepTexts (each_of wait_from (member_of (codes "after") d)) _ (any_given (each_of wait_from (member_of (codes "after") d)))
     (λ after u'. next_of (λ outcome. IfSome outcome HasStepTexts) HasEntryStepTexts _ _ (of_kind skipped (is_some (member_of (codes "seconds") d)) (seconds_of d) result provisioners ends all) (λ outcome has. has)))))
   where
@@ -179,15 +179,15 @@ step_texts d h =
     of_kind false told (Some seconds) result provisioners ends all =
         of_one ((is_failed result || is_warned result) && nat_lt 0 (length provisioners)) (record { seconds = seconds; provisioners = provisioners; result = result; after = [] }) (record { result = ends; provisioners = all })
 
-entry_texts : (d : Data) → IsLegible d → IfSome (entry_of d) (λ entry. AllByRecursion HasEntryStepTexts entry.steps)
+entry_texts : (d : Data) → IsHeld d → IfSome (entry_of d) (λ entry. AllByRecursion HasEntryStepTexts entry.steps)
 unfolding entry_of
 entry_texts d h =
     let Q = λ (entry : Entry). AllByRecursion HasEntryStepTexts entry.steps in
     next_of (λ _. Unit {0}) Q (text_of (codes "address") d) _ (any_given (text_of (codes "address") d))
     (λ address u. next_of (λ _. Unit {0}) Q (text_or [] (member_of (codes "deposed") d)) _ (any_given (text_or [] (member_of (codes "deposed") d)))
-    (λ deposed u. next_of IsLegible Q (member_of (codes "steps") d) _ (member_legible (codes "steps") d h)
-    (λ list legible. next_of AreLegible Q (as_array list) _ (array_legible list legible)
-    (λ items all. next_of (AllByRecursion HasEntryStepTexts) Q (all_some (map step_from (list_of items))) _ (all_given IsLegible HasEntryStepTexts step_from (list_of items) step_texts (list_legible items all)) (λ steps has. has)))))
+    (λ deposed u. next_of IsHeld Q (member_of (codes "steps") d) _ (member_held (codes "steps") d h)
+    (λ list legible. next_of AreHeld Q (as_array list) _ (array_held list legible)
+    (λ items all. next_of (AllByRecursion HasEntryStepTexts) Q (all_some (map step_from (list_of items))) _ (all_given IsHeld HasEntryStepTexts step_from (list_of items) step_texts (list_held items all)) (λ steps has. has)))))
 
 -- ---- the entries
 
@@ -213,7 +213,7 @@ both_held : (changes : List ResourceChange) (steps : List EntryStep) → AllByRe
 both_held changes [] has within = tt
 both_held changes (step ∷ steps) has within = (told_so step.outcome (filter_map (step_waited changes) step.after) has.0 within.0, both_held changes steps has.1 within.1)
 
-entry_said : (changes : List ResourceChange) (before : List Data) (d : Data) → IsLegible d → IfOk (entry_at changes before d) AreSaid
+entry_said : (changes : List ResourceChange) (before : List Data) (d : Data) → IsHeld d → IfOk (entry_at changes before d) AreSaid
 unfolding entry_at
 entry_said changes before d h =
     then_of (λ entry. AllByRecursion HasEntryStepTexts entry.steps) AreSaid (or_refuse (BadShape (Some n)) (entry_of d)) _
@@ -262,24 +262,24 @@ unless_held : (P : OutcomeMap → Type 0) (o : Option ScriptError) (script : Out
 unless_held P None script h = h
 unless_held P (Some refusal) script h = tt
 
-all_entries : (plan : SavedPlan) (elements : List Data) → AllByRecursion IsLegible elements → IfOk (script_of_entries plan elements) IsReadableScript
+all_entries : (plan : SavedPlan) (elements : List Data) → AllByRecursion IsHeld elements → IfOk (script_of_entries plan elements) IsReadableScript
 unfolding script_of_entries
 all_entries plan elements h =
-    then_of (AreAnswers AreSaid elements) IsReadableScript (all_or_first (each_with_earlier (entry_at plan.changes) elements)) _ (each_answered IsLegible AreSaid (entry_at plan.changes) elements (entry_said plan.changes) h)
+    then_of (AreAnswers AreSaid elements) IsReadableScript (all_or_first (each_with_earlier (entry_at plan.changes) elements)) _ (each_answered IsHeld AreSaid (entry_at plan.changes) elements (entry_said plan.changes) h)
     (λ entries said. unless_held IsReadableScript (option_map NeverBegins (position_from (is_stuck (by_number (length plan.changes) entries)) 0 entries)) (by_number (length plan.changes) entries)
     (entries_readable (length plan.changes) entries said.0))
 
-tree_readable : (plan : SavedPlan) (d : Data) → IsLegible d → IfOk (script_of_tree plan d) IsReadableScript
+tree_readable : (plan : SavedPlan) (d : Data) → IsScriptTree d → IfOk (script_of_tree plan d) IsReadableScript
 unfolding script_of_tree
 tree_readable plan d h =
-    then_of AreLegible IsReadableScript (or_refuse (BadShape None) (elements_of d)) (λ elements. script_of_entries plan (list_of elements))
-    (refused_or AreLegible (BadShape None) (elements_of d) (next_of IsLegible AreLegible (member_of (codes "changes") d) as_array (member_legible (codes "changes") d h) array_legible))
-    (λ elements legible. all_entries plan (list_of elements) (list_legible elements legible))
+    then_of AreHeld IsReadableScript (or_refuse (BadShape None) (elements_of d)) (λ elements. script_of_entries plan (list_of elements))
+    (refused_or AreHeld (BadShape None) (elements_of d) (elements_held (codes "changes") d h))
+    (λ elements held. all_entries plan (list_of elements) (list_held elements held))
 
 pub script_readable : (plan : SavedPlan) (bytes : List ℕ) (script : OutcomeMap) → script_of plan bytes ≡ Ok script → IsReadableScript script
 unfolding script_of
 script_readable plan bytes script e =
-    is_answered IsReadableScript _ script (made_of_kept IsReadableScript is_kept TooLarge NotJson (script_of_tree plan) bytes (tree_readable plan)) e
+    is_answered IsReadableScript _ script (made_of_kept IsScriptTree IsReadableScript is_kept TooLarge NotJson (script_of_tree plan) bytes (script_tree bytes) (tree_readable plan)) e
 
 -- a script that says nothing
 pub nothing_readable : IsReadableScript []

@@ -51,12 +51,12 @@ module _ (given : Given) (plan : SavedPlan) (script : OutcomeMap) (read : IsRead
       given_warns plan given.script script read.script_is (λ c k change place at.
       last_of change.steps k (is_given IsReadable (slice_get plan.changes c) change (held_at IsReadable plan.changes c the_plan.changes) place).reads_last at)
 
+pub limits_of : (work : Work) → IsReadablePlan work.plan → IsReadableScript work.script → IsWithinLimits work
+limits_of work readable said = record {
+  few_changes = readable.few;
+  few_steps = λ c. few_kinds (slice_get work.plan.changes c) (held_at IsReadable work.plan.changes c readable.changes);
+  short_steps = λ c k. bounded (given_outcome work.script c k) (said c k);
+}
+
 pub within_limits : (given : Given) (work : Work) → IsRead given work.plan work.script → IsWithinLimits work
-within_limits given work read =
-    let readable = the_plan given work.plan work.script read in
-    let said = the_script given work.plan work.script read in
-    record {
-      few_changes = readable.few;
-      few_steps = λ c. few_kinds (slice_get work.plan.changes c) (held_at IsReadable work.plan.changes c readable.changes);
-      short_steps = λ c k. bounded (given_outcome work.script c k) (said c k);
-    }
+within_limits given work read = limits_of work (the_plan given work.plan work.script read) (the_script given work.plan work.script read)

@@ -1,6 +1,8 @@
 pub mod Accepted
+pub mod AcceptedInForm
 pub mod Applied
 pub mod Forms
+pub mod FormTexts
 pub mod Levels
 pub mod Objects
 pub mod Passing

@@ -3,6 +3,8 @@
 #![tactic(auto)]
 
 mod applied;
+mod applied_in_form;
+mod form_streams;
 mod forms;
 mod in_form;
 mod laws;
@@ -14,6 +16,14 @@ pub use applied::{
     every_stream_of_whole_steps_that_were_read_is_accepted, texts_that_were_read_are_utf8,
     what_was_read_is_within_limits,
 };
+pub use applied_in_form::{
+    every_run_told_in_terraforms_form_is_accepted,
+    every_stream_in_terraforms_form_in_lanes_is_accepted,
+    every_stream_in_terraforms_form_is_accepted,
+    every_stream_of_whole_steps_in_terraforms_form_is_accepted,
+    what_was_read_for_the_form_can_be_heard, what_was_read_for_the_form_may_be_applied,
+};
+pub use form_streams::{every_line_in_terraforms_form_is_heard, the_line_of_outputs_is_heard};
 pub use forms::{a_stream_has_an_end_or_an_error, no_end_tells_of_an_error};
 pub use in_form::{
     an_escaped_text_is_read_as_the_text, both_forms_say_the_same_of_an_event,
