@@ -12,6 +12,7 @@ pub mod Parts
 pub mod Read
 pub mod Refusals
 pub mod Rounds
+pub mod Slots
 pub mod Stuck
 pub mod Timed
 pub mod TreeSteps

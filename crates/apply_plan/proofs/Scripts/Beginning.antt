@@ -28,10 +28,6 @@ all_last : {X : Type 0} (P : X → Type 0) (front : List X) (last : X) → AllBy
 all_last P [] last all = all.0
 all_last P (x ∷ front) last all = all_last P front last all.1
 
-all_push : {X : Type 0} (P : X → Type 0) (front : List X) (last : X) → AllByRecursion P front → P last → AllByRecursion P (front ++ last ∷ [])
-all_push P [] last all holds = (holds, tt)
-all_push P (x ∷ front) last all holds = (all.0, all_push P front last all.1 holds)
-
 all_also : {X : Type 0} (P Q : X → Type 0) → ((x : X) → P x → Q x) → (xs : List X) → AllByRecursion P xs → AllByRecursion Q xs
 all_also P Q also [] all = tt
 all_also P Q also (x ∷ xs) all = (also x all.0, all_also P Q also xs all.1)
@@ -57,16 +53,10 @@ mark_after marks wait other mark below = ⊎_elim
     (λ (no : ((index_of other == index_of wait) ≡ false) × (index_of other ≡ index_of wait → ⊥)). inr (no.1, get_or-set_other marks (index_of wait) (index_of other) mark Unseen no.1))
     (eqb_tells (index_of other) (index_of wait))
 
-abbrev count_begun : List Mark → ℕ
-count_begun marks = count_by has_begun marks
-
 abbrev is_unseen : Mark → Bool
 is_unseen Unseen = true
 is_unseen OnPath = false
 is_unseen Begins = false
-
-abbrev pub count_unseen : List Mark → ℕ
-count_unseen marks = count_by is_unseen marks
 
 abbrev one_where : Bool → ℕ
 one_where b = cond b 1 0
@@ -117,10 +107,6 @@ steps-push path visit = map-append (λ (v : Visit). v.step) path (visit ∷ [])
 first_front : (front : List Wait) (last root : Wait) → unwrap_or (slice_get (front ++ last ∷ []) 0) root ≡ root → unwrap_or (slice_get front 0) root ≡ root
 first_front [] last root first = refl
 first_front (wait ∷ front) last root first = first
-
-first_more : (front : List Wait) (last next root : Wait) → unwrap_or (slice_get (front ++ last ∷ []) 0) root ≡ root → unwrap_or (slice_get ((front ++ last ∷ []) ++ next ∷ []) 0) root ≡ root
-first_more [] last next root first = first
-first_more (wait ∷ front) last next root first = first
 
 -- ---- a search begins
 

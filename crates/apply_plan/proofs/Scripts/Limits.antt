@@ -113,15 +113,6 @@ said_is_within n changes earlier change steps e =
     (none_passes (λ (s : EntryStep). passes has_too_much_output s.outcome) steps (sym (list_any-map (passes has_too_much_output) outcome steps) ∙ loud.0) k d below)
     few)
 
--- each provisioner of a step within the limits is within its own
-pub few_are_small : (outcome : Outcome) → IsBounded outcome → All IsSmall outcome.provisioners
-few_are_small outcome bounded k d below =
-    let ps = outcome.provisioners in
-    record {
-      short = omega (arith, sum_by_more_le (λ (p : Provisioner). p.seconds) ps k d below, bounded.short);
-      little_output = bounded.little_output k d below;
-    }
-
 -- what holds of each of a list as it is seen, holds of one
 pub all_seen : {T A : Type 0} (P : A → Type 0) (see : T → A) (xs : List T) (k : ℕ) (x : T) → All P (map see xs) → k < length xs → x ≡ get_or xs k x → P (see x)
 all_seen P see xs k x all below is =

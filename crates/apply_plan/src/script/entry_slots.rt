@@ -3,7 +3,7 @@
 ghost use Rattle.apply_plan.specs.Script.Entry.{is_kept};
 ghost use Rattle.apply_plan.specs.Script.Members.{HoldsEntry};
 
-use crate::script::found_steps::read_steps;
+use crate::script::found_items::read_items;
 use crate::script::tree_step::TreeStep;
 use apply_json::{KeepingSlots, ReadFault, Reader, Scalar, pass, read_scalar};
 use std::alloc::Global;
@@ -50,7 +50,7 @@ impl<'a> KeepingSlots<'a> for EntrySlots<'a> {
             self.deposed = read_scalar(reader, depth)?;
             Ok(())
         } else if name == "steps" {
-            self.steps = read_steps(alloc, reader, depth)?;
+            self.steps = read_items(alloc, reader, depth, true)?;
             Ok(())
         } else {
             pass(reader, depth)?;

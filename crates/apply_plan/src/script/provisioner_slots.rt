@@ -3,7 +3,7 @@
 ghost use Rattle.apply_plan.specs.Script.Entry.{is_kept};
 ghost use Rattle.apply_plan.specs.Script.Members.{HoldsProvisioner};
 
-use crate::script::found_outputs::read_outputs;
+use crate::script::found_items::read_items;
 use crate::script::tree_diag::TreeDiag;
 use crate::script::tree_output::TreeOutput;
 use apply_json::{KeepingSlots, ReadFault, Reader, Scalar, pass, read_scalar};
@@ -58,7 +58,7 @@ impl<'a> KeepingSlots<'a> for ProvisionerSlots<'a> {
             self.failed = TreeDiag::read(alloc, reader, depth)?;
             Ok(())
         } else if name == "output" {
-            self.output = read_outputs(alloc, reader, depth)?;
+            self.output = read_items(alloc, reader, depth, false)?;
             Ok(())
         } else if name == "on_failure" {
             self.on_failure = read_scalar(reader, depth)?;

@@ -3,8 +3,7 @@
 ghost use Rattle.apply_plan.specs.Script.Entry.{is_kept};
 ghost use Rattle.apply_plan.specs.Script.Members.{HoldsStep};
 
-use crate::script::found_provisioners::read_provisioners;
-use crate::script::found_waits::read_waits;
+use crate::script::found_items::read_items;
 use crate::script::tree_diag::TreeDiag;
 use crate::script::tree_failure::TreeFailure;
 use crate::script::tree_provisioner::TreeProvisioner;
@@ -59,7 +58,7 @@ impl<'a> KeepingSlots<'a> for StepSlots<'a> {
             self.seconds = read_scalar(reader, depth)?;
             Ok(())
         } else if name == "after" {
-            self.after = read_waits(alloc, reader, depth)?;
+            self.after = read_items(alloc, reader, depth, false)?;
             Ok(())
         } else if name == "id" {
             self.id = read_scalar(reader, depth)?;
@@ -71,7 +70,7 @@ impl<'a> KeepingSlots<'a> for StepSlots<'a> {
             self.failed = TreeFailure::read(alloc, reader, depth)?;
             Ok(())
         } else if name == "provisioners" {
-            self.provisioners = read_provisioners(alloc, reader, depth)?;
+            self.provisioners = read_items(alloc, reader, depth, false)?;
             Ok(())
         } else if name == "skipped" {
             self.skipped = read_scalar(reader, depth)?;
