@@ -32,7 +32,6 @@ module _ (k : List ℕ) (o : Option (json.Json × List Token)) (d : Data) (r : L
   passed_member read = kept.passed is_kept o k d r read
 
 module _ (o : Option (json.Json × List Token)) (d : Data) (r : List Token) where
-
   -- an item that nobody looks at
   pub passed_item : converted of_json o ≡ Some (d, r) → (e : Data) × (converted (keeping is_kept) o ≡ Some (e, r))
   passed_item read = let e = kept.scalar_kept is_kept o d r read in (e.0, e.1)

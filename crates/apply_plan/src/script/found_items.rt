@@ -45,7 +45,7 @@ pub fn read_items<'a, T: ListItem<'a>>(
 ) -> Result<Option<Vec<T>>, ReadFault>
     ensures ok { IfOk result (λ found. (d : Data) × IsKeptRead is_kept depth reader.old d reader.new
         × (option_map (λ made. map T.see made.items) found
-            ≡ (if are_needed then needed_member T.part (Some d) else each_member T.part (Some d)))) }
+        ≡ (if are_needed then needed_member T.part (Some d) else each_member T.part (Some d)))) }
     ensures shorter { OnOk result (length reader.new < length reader.old) }
     ensures err { result ≡ Err ReadFault.NotJson → IsNoValue depth reader.old }
 {

@@ -22,11 +22,7 @@ pub trait ListItem<'a>: Drop {
 
     /// Reads an item, in which arrays and objects nest at most `depth` deep. `None` where it is none, or one of its members
     /// breaks its rule.
-    fn read(
-        alloc: Global,
-        reader: &mut Reader<'a>,
-        depth: usize,
-    ) -> Result<Option<Self>, ReadFault>
+    fn read(alloc: Global, reader: &mut Reader<'a>, depth: usize) -> Result<Option<Self>, ReadFault>
         ensures ok { IfOk result (λ found. (d : Data) × IsKeptRead is_kept depth reader.old d reader.new
             × (option_map Self.see found ≡ Self.part d)) }
         ensures shorter { OnOk result (length reader.new < length reader.old) }

@@ -30,10 +30,10 @@ impl<'a> Model for TreeDiag<'a> {
     ghost Value = { Diag };
 
     ghost view = { λ diag. record {
-        summary = diag.summary.now;
-        detail = diag.detail.now;
-        range = option_map string_bytes diag.range;
-        snippet = option_map string_bytes diag.snippet;
+      summary = diag.summary.now;
+      detail = diag.detail.now;
+      range = option_map string_bytes diag.range;
+      snippet = option_map string_bytes diag.snippet;
     } };
 }
 

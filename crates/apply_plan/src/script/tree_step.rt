@@ -133,7 +133,7 @@ fn outcome_of<'a>(
 ) -> Option<Option<TreeOutcome<'a>>>
     ensures { option_map (λ outcome. option_map outcome_view outcome) result
         ≡ outcome_by skipped (scalar_view seconds.entry) (option_map ending_view ending.entry)
-            (option_map (λ found. map provisioner_view found.items) provisioners.entry) }
+        (option_map (λ found. map provisioner_view found.items) provisioners.entry) }
 {
     let provisioners = provisioners?;
     let ending = ending?;
