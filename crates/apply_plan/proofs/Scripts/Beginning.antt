@@ -28,6 +28,10 @@ all_last : {X : Type 0} (P : X → Type 0) (front : List X) (last : X) → AllBy
 all_last P [] last all = all.0
 all_last P (x ∷ front) last all = all_last P front last all.1
 
+all_push : {X : Type 0} (P : X → Type 0) (front : List X) (last : X) → AllByRecursion P front → P last → AllByRecursion P (front ++ last ∷ [])
+all_push P [] last all holds = (holds, tt)
+all_push P (x ∷ front) last all holds = (all.0, all_push P front last all.1 holds)
+
 all_also : {X : Type 0} (P Q : X → Type 0) → ((x : X) → P x → Q x) → (xs : List X) → AllByRecursion P xs → AllByRecursion Q xs
 all_also P Q also [] all = tt
 all_also P Q also (x ∷ xs) all = (also x all.0, all_also P Q also xs all.1)
@@ -107,6 +111,10 @@ steps-push path visit = map-append (λ (v : Visit). v.step) path (visit ∷ [])
 first_front : (front : List Wait) (last root : Wait) → unwrap_or (slice_get (front ++ last ∷ []) 0) root ≡ root → unwrap_or (slice_get front 0) root ≡ root
 first_front [] last root first = refl
 first_front (wait ∷ front) last root first = first
+
+first_more : (front : List Wait) (last next root : Wait) → unwrap_or (slice_get (front ++ last ∷ []) 0) root ≡ root → unwrap_or (slice_get ((front ++ last ∷ []) ++ next ∷ []) 0) root ≡ root
+first_more [] last next root first = first
+first_more (wait ∷ front) last next root first = first
 
 -- ---- a search begins
 

@@ -17,9 +17,18 @@ both_true false b e = absurd cc
 and_true : (a b : Bool) → a ≡ true → b ≡ true → (a && b) ≡ true
 and_true a b one other = rw (one, other) refl
 
+one_false : (a b : Bool) → (b ≡ false) → (a && b) ≡ false
+one_false true b none = none
+one_false false b none = refl
+
 all_more : {X : Type 0} (p q : X → Bool) → ((x : X) → p x ≡ true → q x ≡ true) → (xs : List X) → list_all p xs ≡ true → list_all q xs ≡ true
 all_more p q more [] e = refl
 all_more p q more (x ∷ xs) e = let both = both_true (p x) (list_all p xs) e in and_true (q x) (list_all q xs) (more x both.0) (all_more p q more xs both.1)
+
+not_all : {X : Type 0} (p : X → Bool) (xs : List X) (k : ℕ) (x : X) → slice_get xs k ≡ Some x → p x ≡ false → list_all p xs ≡ false
+not_all p [] k x at none = absurd cc
+not_all p (y ∷ xs) zero x at none = let same : y ≡ x = cc in rw (same, none) refl
+not_all p (y ∷ xs) (suc k) x at none = one_false (p y) (list_all p xs) (not_all p xs k x at none)
 
 -- ---- rounds
 
@@ -30,6 +39,14 @@ begins_at script rounds wait = begins_within script rounds wait.change wait.step
 pub one_round_more : (script : OutcomeMap) (rounds : ℕ) (wait : Wait) → list_all (begins_at script rounds) (waits_told script wait.change wait.step) ≡ true → begins_at script (suc rounds) wait ≡ true
 unfolding begins_within
 one_round_more script rounds wait all = all
+
+waits_for_one : (script : OutcomeMap) (rounds : ℕ) (wait : Wait) (k : ℕ) (other : Wait) → slice_get (waits_told script wait.change wait.step) k ≡ Some other → begins_at script rounds other ≡ false → begins_at script (suc rounds) wait ≡ false
+unfolding begins_within
+waits_for_one script rounds wait k other at none = not_all (begins_at script rounds) (waits_told script wait.change wait.step) k other at none
+
+never_at_first : (script : OutcomeMap) (wait : Wait) → begins_at script 0 wait ≡ false
+unfolding begins_within
+never_at_first script wait = refl
 
 next_round : (script : OutcomeMap) (rounds : ℕ) (wait : Wait) → begins_at script rounds wait ≡ true → begins_at script (suc rounds) wait ≡ true
 unfolding begins_within
@@ -83,3 +100,49 @@ pub chain_front : (script : OutcomeMap) (front : List Wait) (last : Wait) → Is
 chain_front script [] last chain = tt
 chain_front script (wait ∷ []) last chain = tt
 chain_front script (wait ∷ (other ∷ others)) last chain = (chain.0, chain_front script (other ∷ others) last chain.1)
+
+pub chain_more : (script : OutcomeMap) (front : List Wait) (last next : Wait) → IsChain script (front ++ last ∷ []) → WaitsFor script last next → IsChain script ((front ++ last ∷ []) ++ next ∷ [])
+chain_more script [] last next chain waits = (waits, tt)
+chain_more script (wait ∷ []) last next chain waits = (chain.0, (waits, tt))
+chain_more script (wait ∷ (other ∷ others)) last next chain waits = (chain.0, chain_more script (other ∷ others) last next chain.1 waits)
+
+-- none of the steps begins within so many rounds
+abbrev NoneBegins : OutcomeMap → ℕ → List Wait → Type 0
+NoneBegins script rounds waits = AllByRecursion (λ wait. begins_at script rounds wait ≡ false) waits
+
+none_at_first : (script : OutcomeMap) (waits : List Wait) → NoneBegins script 0 waits
+none_at_first script [] = tt
+none_at_first script (wait ∷ waits) = (never_at_first script wait, none_at_first script waits)
+
+-- nor within one more, where the last of them waits for one that does not
+one_more : (script : OutcomeMap) (rounds : ℕ) (front : List Wait) (last other : Wait) → IsChain script (front ++ last ∷ []) → NoneBegins script rounds (front ++ last ∷ []) → WaitsFor script last other → begins_at script rounds other ≡ false
+    → NoneBegins script (suc rounds) (front ++ last ∷ [])
+one_more script rounds [] last other chain none waits not = (waits_for_one script rounds last waits.0 other waits.1 not, tt)
+one_more script rounds (wait ∷ []) last other chain none waits not =
+    (waits_for_one script rounds wait chain.0.0 last chain.0.1 none.1.0, one_more script rounds [] last other tt none.1 waits not)
+one_more script rounds (wait ∷ (next ∷ rest)) last other chain none waits not =
+    (waits_for_one script rounds wait chain.0.0 next chain.0.1 none.1.0, one_more script rounds (next ∷ rest) last other chain.1 none.1 waits not)
+
+or_either : (a b : Bool) → (a || b) ≡ true → (a ≡ false) → b ≡ true
+or_either true b e none = absurd cc
+or_either false b e none = e
+
+among_none : (script : OutcomeMap) (rounds : ℕ) (waits : List Wait) (other : Wait) → NoneBegins script rounds waits → list_any (is_step other) waits ≡ true → begins_at script rounds other ≡ false
+among_none script rounds [] other none among = absurd cc
+among_none script rounds (wait ∷ waits) other none among = ⊎_elim
+    (λ (same : is_step other wait ≡ true). let equal = steps_equal other wait same in rw (equal.0, equal.1) none.0)
+    (λ (apart : is_step other wait ≡ false). among_none script rounds waits other none.1 (or_either (is_step other wait) (list_any (is_step other) waits) among apart))
+    (cases_Bool (is_step other wait))
+
+-- on a chain whose last step waits for one of it, no step ever begins
+circle : (script : OutcomeMap) (rounds : ℕ) (front : List Wait) (last other : Wait) → IsChain script (front ++ last ∷ []) → WaitsFor script last other → list_any (is_step other) (front ++ last ∷ []) ≡ true
+    → NoneBegins script rounds (front ++ last ∷ [])
+circle script zero front last other chain waits among = none_at_first script (front ++ last ∷ [])
+circle script (suc rounds) front last other chain waits among =
+    let none = circle script rounds front last other chain waits among in
+    one_more script rounds front last other chain none waits (among_none script rounds (front ++ last ∷ []) other none among)
+
+pub none_of_circle : (script : OutcomeMap) (rounds : ℕ) (front : List Wait) (last other one : Wait) → IsChain script (front ++ last ∷ []) → WaitsFor script last other → list_any (is_step other) (front ++ last ∷ []) ≡ true
+    → list_any (is_step one) (front ++ last ∷ []) ≡ true → begins_at script rounds one ≡ false
+none_of_circle script rounds front last other one chain waits among here =
+    among_none script rounds (front ++ last ∷ []) one (circle script rounds front last other chain waits among) here

@@ -1,11 +1,6 @@
 -- What contracts see of a script's entry that stands in the tree, for the private types that read one.
-use Rattle.std.specs.Prelude.{ℕ, List, [], codes, length, map, nat_lt, sum_by, if◌then◌else◌, Option, Some, None, option_map}
+use Rattle.std.specs.Prelude.{ℕ, List, [], length, map, nat_lt, sum_by, if◌then◌else◌, Option, Some, None, option_map}
 use Rattle.std.specs.Option.{option_copied}
-use denote.Ref.{Bor}
-use Rattle.serde_json.specs.Data.{Data, Items}
-use Rattle.serde_json.specs.Find.{as_array}
-use Rattle.serde_json.specs.View.{items_view}
-use Rattle.serde_json.specs.declared.value.Value.{Value}
 use Rattle.apply_model.specs.declared.script.ending.Ending.{Ending}
 use Rattle.apply_model.specs.declared.script.ending.Ending.TheVariants as ending
 use Rattle.apply_model.specs.declared.script.outcome.Outcome.{Outcome}
@@ -18,7 +13,6 @@ use Rattle.apply_plan.specs.declared.script.tree_outcome.TreeOutcome.{TreeOutcom
 use Rattle.apply_plan.specs.declared.script.tree_provisioner.TreeProvisioner.{TreeProvisioner}
 use Rattle.apply_plan.specs.declared.script.tree_step.TreeStep.{TreeStep}
 use Rattle.apply_plan.specs.declared.script.tree_wait.TreeWait.{TreeWait}
-use Rattle.apply_json.specs.Tree.{◌>>=◌, member_of, text_of, text_or, unless_empty}
 use Rattle.apply_plan.specs.Script.Entry.{Entry, EntryStep, Failure, WaitName, timed}
 use Rattle.apply_plan.specs.Script.OutputView.{outputs_view}
 
@@ -67,18 +61,6 @@ entry_view entry = record {
   deposed = option_copied entry.deposed;
   steps = map entry_step_view entry.steps.items;
 }
-
--- the members of an entry, with its steps still as values
-abbrev pub members_view : Bor (List ℕ) × Option (Bor (List ℕ)) × Bor (List Value) → List ℕ × Option (List ℕ) × Items
-members_view members = (members.0.now, option_copied members.1, items_view members.2.now)
-
-abbrev pub members_of : Data → Option (List ℕ × Option (List ℕ) × Items)
-members_of d = do
-  address ← text_of (codes "address") d
-  deposed ← text_or [] (member_of (codes "deposed") d)
-  list ← member_of (codes "steps") d
-  items ← as_array list
-  Some (address, unless_empty deposed, items)
 
 -- how many items the `after` of some steps have
 abbrev pub tree_waits : List TreeStep → ℕ

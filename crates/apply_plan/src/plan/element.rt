@@ -7,6 +7,7 @@ ghost use Rattle.apply_plan.specs.Plan.ElementView.{element_view, key_view};
 ghost use Rattle.apply_plan.specs.Plan.Members.{element_held, key_seen};
 
 use crate::plan::element_slots::ElementSlots;
+use crate::text_test::is_text;
 use apply_json::Scalar;
 use apply_json::members::non_empty;
 use apply_model::{Action, Key, Mode, Text};
@@ -78,9 +79,9 @@ impl<'a> Element<'a> {
 fn mode_of(word: &str) -> Option<Mode>
     ensures { result ≡ mode_named word.now }
 {
-    if word == "managed" {
+    if is_text(word, "managed") {
         Some(Mode::Managed)
-    } else if word == "data" {
+    } else if is_text(word, "data") {
         Some(Mode::DataSource)
     } else {
         None

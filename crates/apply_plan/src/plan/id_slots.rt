@@ -7,8 +7,9 @@ ghost use Rattle.apply_json.specs.Seen.{scalar_view};
 ghost use Rattle.apply_json.specs.Tokens.{IsNoValue, IsRead};
 ghost use Rattle.apply_plan.specs.Plan.Members.{HoldsId, id_held, id_member, sensitive_member, truth_seen};
 
+use crate::members::take_member;
 use apply_json::members::non_empty;
-use apply_json::{ReadFault, Reader, Scalar, Slots, pass, read_object, read_scalar};
+use apply_json::{ReadFault, Reader, Scalar, Slots, read_object, read_scalar};
 use std::alloc::Global;
 
 /// The members of `before` or of `before_sensitive`.
@@ -45,12 +46,9 @@ impl<'a> Slots<'a> for IdSlots<'a> {
         reader: &mut Reader<'a>,
         depth: usize,
     ) -> Result<(), ReadFault> {
-        if name == "id" {
-            self.id = read_scalar(reader, depth)?;
-            Ok(())
-        } else {
-            pass(reader, depth)?;
-            Ok(())
+        take_member! {
+            self, name, reader, depth,
+            "id" => id: read_scalar(reader, depth)?,
         }
     }
 }

@@ -4,6 +4,7 @@ ghost use Rattle.std.specs.Prelude.{◌≡◌};
 ghost use Rattle.apply_json.specs.Seen.{scalar_view};
 ghost use Rattle.apply_plan.specs.Script.Members.{flag_by, flag_said};
 
+use crate::text_test::is_text;
 use apply_json::Scalar;
 
 /// The flag that a member says by one word or the other: where it is absent, it is not set. `None` where it is no such word.
@@ -21,9 +22,9 @@ pub fn flag_of_word(found: Scalar<'_>, set: &str, unset: &str) -> Option<bool>
 fn flag_by(word: &str, set: &str, unset: &str) -> Option<bool>
     ensures { result ≡ flag_by set.now unset.now word.now }
 {
-    if word == set {
+    if is_text(word, set) {
         Some(true)
-    } else if word == unset {
+    } else if is_text(word, unset) {
         Some(false)
     } else {
         None

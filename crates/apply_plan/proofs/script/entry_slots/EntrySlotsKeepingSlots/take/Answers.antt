@@ -11,21 +11,21 @@ use Rattle.apply_plan.proofs.script.entry_slots.EntrySlotsKeepingSlots.take.Goal
 pub returns-in_ok-self-clause-ok : goal.returns-in_ok-self-clause-ok
 returns-in_ok-self-clause-ok c =
     let done = c.in_ok-self.ensures.ok in
-    let here : bytes_eq c.args.name.now (codes "address") ≡ true = sym c.eq.ensures ∙ c.if-eq.true in
+    let here : bytes_eq c.args.name.now (codes "address") ≡ true = sym c.is_text.ensures ∙ c.if-is_text.true in
     let there = scalar_member c.args.name.now (value c.args.depth c.args.reader.now) done.0 _ _ (as_that c.args.name.now (codes "address") here) done.1 done.2 in
     (there.0, there.1, λ start ms holds. entry_behind c.args.name.now (codes "address") there.0 ms here _ there.2 holds.deposed holds.steps)
 
 pub returns-in_ok-self-2-clause-ok : goal.returns-in_ok-self-2-clause-ok
 returns-in_ok-self-2-clause-ok c =
     let done = c.in_ok-self-2.ensures.ok in
-    let here : bytes_eq c.args.name.now (codes "deposed") ≡ true = sym c.eq-else-eq.ensures ∙ c.if-eq-2.true in
+    let here : bytes_eq c.args.name.now (codes "deposed") ≡ true = sym c.is_text-else-is_text.ensures ∙ c.if-is_text-2.true in
     let there = scalar_member c.args.name.now (value c.args.depth c.args.reader.now) done.0 _ _ (as_that c.args.name.now (codes "deposed") here) done.1 done.2 in
     (there.0, there.1, λ start ms holds. entry_behind c.args.name.now (codes "deposed") there.0 ms here _ holds.address there.2 holds.steps)
 
 pub returns-in_ok-self-3-clause-ok : goal.returns-in_ok-self-3-clause-ok
 returns-in_ok-self-3-clause-ok c =
     let done = c.in_ok-self-3.ensures.ok in
-    let here : bytes_eq c.args.name.now (codes "steps") ≡ true = sym c.eq-else-eq-2.ensures ∙ c.if-eq-3.true in
+    let here : bytes_eq c.args.name.now (codes "steps") ≡ true = sym c.is_text-else-is_text-2.ensures ∙ c.if-is_text-3.true in
     let there = other_member c.args.name.now (value c.args.depth c.args.reader.now) done.0 _ (as_that c.args.name.now (codes "steps") here) done.1 in
     (done.0, there, λ start ms holds. entry_behind c.args.name.now (codes "steps") done.0 ms here _ holds.address holds.deposed done.2)
 
@@ -37,8 +37,8 @@ returns-in_ok-pass-clause-ok c =
       there.0,
       there.1,
       λ start ms holds. record {
-        address = left seen (codes "address") k there.0 ms _ (sym c.eq.ensures ∙ c.if-eq.false) holds.address;
-        deposed = left seen (codes "deposed") k there.0 ms _ (sym c.eq-else-eq.ensures ∙ c.if-eq-2.false) holds.deposed;
-        steps = left steps_member (codes "steps") k there.0 ms _ (sym c.eq-else-eq-2.ensures ∙ c.if-eq-3.false) holds.steps;
+        address = left seen (codes "address") k there.0 ms _ (sym c.is_text.ensures ∙ c.if-is_text.false) holds.address;
+        deposed = left seen (codes "deposed") k there.0 ms _ (sym c.is_text-else-is_text.ensures ∙ c.if-is_text-2.false) holds.deposed;
+        steps = left steps_member (codes "steps") k there.0 ms _ (sym c.is_text-else-is_text-2.ensures ∙ c.if-is_text-3.false) holds.steps;
       },
     )
