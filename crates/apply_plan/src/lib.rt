@@ -3,6 +3,7 @@
 #![tactic(auto)]
 
 mod bytes;
+mod filled_text;
 mod found;
 mod members;
 mod plan;

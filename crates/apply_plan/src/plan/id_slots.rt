@@ -5,10 +5,10 @@ ghost use Rattle.std.specs.Option.{option_copied};
 ghost use Rattle.serde_json.specs.Data.{Data};
 ghost use Rattle.apply_json.specs.Seen.{scalar_view};
 ghost use Rattle.apply_json.specs.Tokens.{IsNoValue, IsRead};
-ghost use Rattle.apply_plan.specs.Plan.Members.{HoldsId, id_held, id_member, sensitive_member, truth_seen};
+ghost use Rattle.apply_plan.specs.Plan.Members.{HoldsId, id_member, sensitive_member, truth_seen};
 
+use crate::filled_text::filled_text;
 use crate::members::take_member;
-use apply_json::members::non_empty;
 use apply_json::{ReadFault, Reader, Scalar, Slots, read_object, read_scalar};
 use std::alloc::Global;
 
@@ -26,13 +26,6 @@ impl<'a> IdSlots<'a> {
         ensures { HoldsId result no_members }
     {
         IdSlots { id: Scalar::Absent }
-    }
-
-    /// The id, where it is a text that is not empty.
-    fn text(&self) -> Option<&'a str>
-        ensures { option_copied result ≡ id_held self.now }
-    {
-        non_empty(self.id.text()?)
     }
 }
 
@@ -66,7 +59,7 @@ pub fn read_id<'a>(
 {
     let mut slots = IdSlots::new();
     read_object(alloc, reader, depth, &mut slots)?;
-    Ok(slots.text())
+    Ok(filled_text(slots.id))
 }
 
 /// Reads `before_sensitive`: whether it hides the id. Arrays and objects nest at most `depth` deep there.

@@ -5,13 +5,13 @@ ghost use Rattle.apply_model.specs.Script.Outcome.{are_in_time};
 ghost use Rattle.apply_plan.specs.Script.Entry.{timed};
 ghost use Rattle.apply_plan.specs.Script.OutputView.{outputs_view};
 
+use crate::filled_text::filled_text;
 use crate::script::flag_of_word::flag_of_word;
 use crate::script::list_item::ListItem;
 use crate::script::provisioner_slots::ProvisionerSlots;
 use crate::script::tree_diag::TreeDiag;
 use crate::script::tree_output::TreeOutput;
 use crate::script::tree_outputs::{are_in_time, copied_outputs};
-use apply_json::members::non_empty;
 use apply_json::{ReadFault, Reader, read_kept_object};
 use apply_model::{MAX_OUTPUTS, Provisioner, Text};
 use std::alloc::{AllocError, Global};
@@ -61,7 +61,7 @@ impl<'a> TreeProvisioner<'a> {
     fn of(slots: ProvisionerSlots<'a>) -> Option<TreeProvisioner<'a>>
         ensures { option_map provisioner_view result ≡ provisioner_held slots.entry }
     {
-        let name = non_empty(slots.name.text()?)?;
+        let name = filled_text(slots.name)?;
         let seconds = slots.seconds.whole()?;
         let failed = slots.failed?;
         let output = slots.output?;
