@@ -8,7 +8,6 @@ pub mod Kept
 pub mod Limits
 pub mod Numbers
 pub mod OneEntry
-pub mod Parts
 pub mod Read
 pub mod Refusals
 pub mod Rounds

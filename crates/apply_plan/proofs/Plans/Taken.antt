@@ -1,5 +1,5 @@
 -- The slots of an element, and those of its change, with one member more.
-use Rattle.std.proofs.Common.{◌≡◌, ℕ, List, codes, true, false, Bool, Option, Some, option_map}
+use Rattle.std.proofs.Common.{◌≡◌, ℕ, List, codes, true, false, Some, option_map}
 use Rattle.std.specs.Option.{option_copied}
 use Rattle.std.specs.Str.{bytes_eq}
 use Rattle.serde_json.specs.Data.{Data, Members, put}

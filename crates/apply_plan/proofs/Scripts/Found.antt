@@ -1,6 +1,6 @@
 -- Lists of a script, as they are found item by item.
-use Rattle.std.proofs.Common.{◌≡◌, Global, List, [], ◌∷◌, ◌++◌, map, Option, Some, None, option_map, Vec, refl, sym, ap, ◌∙◌}
-use Rattle.std.proofs.lemmas.List.{map-append}
+use Rattle.std.proofs.Common.{◌≡◌, ℕ, ◌+◌, ◌<◌, Global, List, [], ◌∷◌, ◌++◌, length, map, take, get_or, Option, Some, None, option_map, Vec, refl, sym, ap, ◌∙◌}
+use Rattle.std.proofs.lemmas.List.{map-append, take_more}
 use Rattle.serde_json.specs.Data.{Data}
 use Rattle.apply_json.specs.Tree.{◌>>=◌}
 use Rattle.apply_plan.specs.Found.{added}
@@ -41,3 +41,10 @@ found_more see part old new last ds d more is so_far =
     seen_list see new ∙ ap (option_map (map see)) more ∙ seen_more see (option_map (λ (v : Vec _ Global). v.items) old) last
     ∙ ap (λ list. added list (option_map see last)) (sym (seen_list see old) ∙ so_far) ∙ ap (added (all_some (map part ds))) is
     ∙ sym (all_some_more part ds d)
+
+-- ---- copies of what a list holds
+
+-- one copy more
+pub copied_more : {T A : Type 0} (see : T → A) (made : List A) (xs : List T) (i : ℕ) (x : T) → i < length xs → x ≡ get_or xs i x → made ≡ map see (take i xs) → made ++ see x ∷ [] ≡ map see (take (i + 1) xs)
+copied_more see made xs i x below is so_far =
+    rw (take_more xs i x below, ← is, map-append see (take i xs) (x ∷ []), so_far) refl

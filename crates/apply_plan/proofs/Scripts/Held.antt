@@ -7,7 +7,7 @@ use Rattle.apply_model.specs.declared.script.diag.Diag.{Diag}
 use Rattle.apply_json.specs.declared.scalar.Scalar.{Scalar}
 use Rattle.apply_json.specs.declared.scalar.Scalar.TheVariants as scalar
 use Rattle.apply_json.specs.Seen as s
-use Rattle.apply_json.specs.Seen.{Seen, members_in, scalar_view, seen, text_seen, text_seen_or}
+use Rattle.apply_json.specs.Seen.{members_in, scalar_view, seen, text_seen, text_seen_or}
 use Rattle.apply_json.specs.Tree.{◌>>=◌, list_of, member_of, unless_empty, unless_null}
 use Rattle.apply_json.proofs.Held.{member_in, text_in, text_or_in, whole_in}
 use Rattle.apply_plan.specs.declared.script.diag_slots.DiagSlots.{DiagSlots}
@@ -16,7 +16,7 @@ use Rattle.apply_plan.specs.declared.script.output_slots.OutputSlots.{OutputSlot
 use Rattle.apply_plan.specs.declared.script.provisioner_slots.ProvisionerSlots.{ProvisionerSlots}
 use Rattle.apply_plan.specs.declared.script.step_slots.StepSlots.{StepSlots}
 use Rattle.apply_plan.specs.declared.script.wait_slots.WaitSlots.{WaitSlots}
-use Rattle.apply_plan.specs.Script.Entry.{Entry, EntryStep, Failure, OutputItem, WaitName, all_some, diag_from, diag_or_none, each_of, ending_of, entry_of, failure_from, failure_or_none, flag_or_false, may_fail_or_not, number_or_none, object_or_none, only_warns_or_not, output_from, output_of_members, provisioner_from, step_from, wait_from, wait_of_members}
+use Rattle.apply_plan.specs.Script.Entry.{Entry, EntryStep, Failure, all_some, diag_from, diag_or_none, each_of, ending_of, entry_of, failure_from, failure_or_none, flag_or_false, may_fail_or_not, number_or_none, object_or_none, only_warns_or_not, output_from, output_of_members, provisioner_from, step_from, wait_from, wait_of_members}
 use Rattle.apply_plan.specs.Script.Members.{HoldsDiag, HoldsEntry, HoldsOutput, HoldsProvisioner, HoldsStep, HoldsWait, diag_held, diag_member, each_member, ending_held, entry_held, failure_held, failure_member, flag_held, is_told, may_fail_held, number_held, object_member, only_warns_held, output_held, provisioner_held, step_held, steps_member, wait_held}
 
 -- ---- diagnostics
