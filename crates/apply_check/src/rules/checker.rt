@@ -8,6 +8,7 @@ ghost use Rattle.apply_check.specs.Small.{IsSmall};
 
 use crate::lines::found::piece_of;
 use crate::messages::line_shape::LineShape;
+use crate::messages::line_slots::message_in;
 use crate::messages::message::Message;
 use crate::rules::fault::Fault;
 use crate::rules::limits::{MAX_BYTES, MAX_LINES};
@@ -17,6 +18,7 @@ use crate::rules::tally::Tally;
 use apply_json::{JsonFault, Scratch, parse_trimmed};
 use serde_json::Value;
 use std::alloc::Global;
+use std::mem::replace;
 
 /// What is needed of the lines so far: it grows only with the number of addresses at which something stands open, and
 /// with the longest line.
@@ -77,7 +79,44 @@ impl Checker {
         requires bytes { length text.now ≤ max_bytes }
         ensures { Continues self.old self.new (λ messages. read_text find messages text.now) result }
     {
-        match parse_trimmed(alloc, &mut self.scratch, text, MAX_BYTES, LineShape::Line) {
+        // The message borrows from what it is read with.
+        let mut scratch = replace(&mut self.scratch, Scratch::new(alloc));
+        let answer = self.text_with(alloc, &mut scratch, find, text);
+        self.scratch = scratch;
+        answer
+    }
+
+    /// Does what `text` does, with a scratch of its own.
+    fn text_with(
+        &mut self,
+        alloc: Global,
+        scratch: &mut Scratch,
+        find: bool,
+        text: &[u8],
+    ) -> Result<(), Fault>
+        requires lines { lines_read self.old < 2 ^ 32 }
+        requires bytes { length text.now ≤ max_bytes }
+        ensures { Continues self.old self.new (λ messages. read_text find messages text.now) result }
+    {
+        match message_in(alloc, scratch, find, text) {
+            Some(message) => self.message(alloc, message),
+            None => self.text_as_tree(alloc, scratch, find, text),
+        }
+    }
+
+    /// Takes a text by its tree, which tells what slots do not.
+    fn text_as_tree(
+        &mut self,
+        alloc: Global,
+        scratch: &mut Scratch,
+        find: bool,
+        text: &[u8],
+    ) -> Result<(), Fault>
+        requires lines { lines_read self.old < 2 ^ 32 }
+        requires bytes { length text.now ≤ max_bytes }
+        ensures { Continues self.old self.new (λ messages. read_text find messages text.now) result }
+    {
+        match parse_trimmed(alloc, scratch, text, MAX_BYTES, LineShape::Line) {
             Ok(tree) => self.tree(alloc, find, &tree),
             Err(JsonFault::TooLarge) => Err(Fault::TooLong),
             Err(JsonFault::NotJson) => Err(Fault::NotJson),
