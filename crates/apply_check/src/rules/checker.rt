@@ -17,8 +17,7 @@ use crate::rules::open_steps::OpenSteps;
 use crate::rules::tally::Tally;
 use apply_json::{JsonFault, Scratch, parse_trimmed};
 use serde_json::Value;
-use std::alloc::Global;
-use std::mem::replace;
+use std::alloc::{AllocError, Global};
 
 /// What is needed of the lines so far: it grows only with the number of addresses at which something stands open, and
 /// with the longest line.
@@ -26,8 +25,8 @@ use std::mem::replace;
 pub struct Checker {
     pub(crate) tally: Tally,
     pub(crate) pending: OpenSteps,
-    // Kept from line to line, so that reading one takes no memory of its own.
-    scratch: Scratch,
+    // Kept from line to line, so that reading one takes no memory of its own. It is boxed, since a line takes it out.
+    scratch: Option<Box<Scratch>>,
     ghost small: { IsSmall tally },
 }
 
@@ -44,7 +43,7 @@ impl Checker {
         Checker {
             tally: Tally::new(),
             pending: OpenSteps::new(alloc),
-            scratch: Scratch::new(alloc),
+            scratch: None,
         }
     }
 
@@ -79,10 +78,10 @@ impl Checker {
         requires bytes { length text.now ≤ max_bytes }
         ensures { Continues self.old self.new (λ messages. read_text find messages text.now) result }
     {
-        // The message borrows from what it is read with.
-        let mut scratch = replace(&mut self.scratch, Scratch::new(alloc));
-        let answer = self.text_with(alloc, &mut scratch, find, text);
-        self.scratch = scratch;
+        // The message borrows from the scratch while the checker changes.
+        let mut scratch = taken(alloc, &mut self.scratch)?;
+        let answer = self.text_with(alloc, &mut *scratch, find, text);
+        self.scratch = Some(scratch);
         answer
     }
 
@@ -165,5 +164,13 @@ impl Checker {
         } else {
             None
         }
+    }
+}
+
+/// Takes the scratch that is kept, or makes one.
+fn taken(alloc: Global, kept: &mut Option<Box<Scratch>>) -> Result<Box<Scratch>, AllocError> {
+    match kept.take() {
+        Some(scratch) => Ok(scratch),
+        None => Ok(Box::new(alloc, Scratch::new(alloc))?),
     }
 }
