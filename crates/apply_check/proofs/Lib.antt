@@ -8,8 +8,10 @@ pub mod Doubling
 pub mod Floats
 pub mod FromReader
 pub mod Held
+pub mod Kept
 pub mod Listed
 pub mod Marks
+pub mod MessageKinds
 pub mod OneLine
 pub mod OpenSteps
 pub mod Parsed

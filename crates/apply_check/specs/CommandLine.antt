@@ -18,24 +18,16 @@ use Rattle.apply_check.specs.declared.verdict.whole.Whole.{Whole}
 
 -- ---- the options
 
--- `--json`
-abbrev pub json_rule : Rule
-json_rule = record (new_rule (codes "json")) { long = Some (codes "json"); action = Some SetTrue }
-
--- `--find`
-abbrev pub find_rule : Rule
-find_rule = record (new_rule (codes "find")) { long = Some (codes "find"); action = Some SetTrue }
-
--- `--plan`
-abbrev pub plan_rule : Rule
-plan_rule = record (new_rule (codes "plan")) { long = Some (codes "plan"); action = Some SetTrue }
+-- an option that is given or not
+abbrev pub flag_rule : (name : List ℕ) → Rule
+flag_rule name = record (new_rule name) { long = Some name; action = Some SetTrue }
 
 -- the command, whose words are those behind `check`
 abbrev pub command_line : App
 command_line = record {
   top = record (new_shape (codes "applystream check")) {
     no_binary_name = true;
-    rules = json_rule ∷ find_rule ∷ plan_rule ∷ file_rule ∷ [];
+    rules = flag_rule (codes "json") ∷ flag_rule (codes "find") ∷ flag_rule (codes "plan") ∷ file_rule ∷ [];
   };
   subs = [];
 }

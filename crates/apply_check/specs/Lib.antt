@@ -8,12 +8,14 @@ pub mod Faults
 pub mod Found
 pub mod Intents
 pub mod Judged
+pub mod Kept
 pub mod Laws
 pub mod Limits
 pub mod Lines
 pub mod Malformed
 pub mod Members
 pub mod Message
+pub mod MessageKinds
 pub mod MessageView
 pub mod Objects
 pub mod Open

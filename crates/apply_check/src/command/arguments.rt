@@ -5,7 +5,7 @@ ghost use Rattle.clap.specs.Matches.{found_of};
 ghost use Rattle.clap.specs.Simple.{app_of};
 ghost use Rattle.clap.specs.Walk.{one_of, rows_of, rule_of};
 ghost use Rattle.apply_words.specs.Words.{WereRefused};
-ghost use Rattle.apply_check.specs.CommandLine.{AreSaid, HaveSaid, command_line, find_rule, json_rule, plan_rule};
+ghost use Rattle.apply_check.specs.CommandLine.{AreSaid, HaveSaid, command_line, flag_rule};
 ghost use Rattle.apply_check.specs.declared.command.form.Form.TheVariants as forms;
 
 use crate::command::form::Form;
@@ -40,6 +40,13 @@ Exit status:
   3  memory was refused, or the output could not be written
   4  the stream is not whole"#;
 
+const JSON: &str = "Says the verdict as a JSON object, on standard output";
+
+const FIND: &str = "Finds the messages in the lines of a log, and passes other lines over";
+
+const PLAN: &str =
+    "Takes a stream of `terraform plan -json` too, which ends with the plan's summary";
+
 /// The settings that the words behind `check` say. `Err` with `Usage::Help` where they ask for help, with
 /// `Usage::Words` where they are none of this command, and with `Usage::Memory` where memory is refused.
 pub fn read_words(alloc: Global, words: &[String]) -> Result<Settings, Usage>
@@ -61,37 +68,20 @@ fn command<'a>(alloc: Global) -> Result<Command<'a>, AllocError>
         .no_binary_name(true)
         .about(ABOUT)
         .after_help(AFTER)
-        .arg(json(alloc))?
-        .arg(find(alloc))?
-        .arg(plan(alloc))?
+        .arg(flag(alloc, "json", JSON))?
+        .arg(flag(alloc, "find", FIND))?
+        .arg(flag(alloc, "plan", PLAN))?
         .arg(file(alloc))
 }
 
-fn json<'a>(alloc: Global) -> Arg<'a>
-    ensures { (rule_of result ≡ json_rule) × (result.global ≡ false) }
+/// An option that is given or not.
+fn flag<'a>(alloc: Global, name: &'a str, help: &'a str) -> Arg<'a>
+    ensures { (rule_of result ≡ flag_rule name.now) × (result.global ≡ false) }
 {
-    Arg::new(alloc, "json")
-        .long("json")
+    Arg::new(alloc, name)
+        .long(name)
         .action(ArgAction::SetTrue)
-        .help("Says the verdict as a JSON object, on standard output")
-}
-
-fn find<'a>(alloc: Global) -> Arg<'a>
-    ensures { (rule_of result ≡ find_rule) × (result.global ≡ false) }
-{
-    Arg::new(alloc, "find")
-        .long("find")
-        .action(ArgAction::SetTrue)
-        .help("Finds the messages in the lines of a log, and passes other lines over")
-}
-
-fn plan<'a>(alloc: Global) -> Arg<'a>
-    ensures { (rule_of result ≡ plan_rule) × (result.global ≡ false) }
-{
-    Arg::new(alloc, "plan")
-        .long("plan")
-        .action(ArgAction::SetTrue)
-        .help("Takes a stream of `terraform plan -json` too, which ends with the plan's summary")
+        .help(help)
 }
 
 /// What the matches say.

@@ -5,10 +5,12 @@ ghost use Rattle.std.specs.Option.{option_copied};
 ghost use Rattle.serde_json.specs.View.{view};
 ghost use Rattle.apply_check.specs.Lines.{tree_message};
 ghost use Rattle.apply_check.specs.Results.{mapped};
-ghost use Rattle.apply_check.specs.Message.{diagnostic_of, general_message, hook_address_of, planned_of, provision_of, refresh_of, start_of, step_or_other, stepless_message, subject_of, summary_named, summary_of, timed_of, timed_stage_of, totals_said, typed_message};
+ghost use Rattle.apply_check.specs.MessageKinds.{kind_message};
+ghost use Rattle.apply_check.specs.Message.{diagnostic_of, hook_address_of, planned_of, provision_of, refresh_of, start_of, step_or_other, subject_of, summary_named, summary_of, timed_of, timed_stage_of, totals_said, typed_message};
 
 use crate::messages::action::Action;
 use crate::messages::intent::Intent;
+use crate::messages::kind::Kind;
 use crate::messages::members::{count_at, object_at, text_at};
 use crate::messages::path::Path;
 use crate::messages::stage::Stage;
@@ -82,7 +84,7 @@ impl<'a> Message<'a> {
     ghost use Rattle.apply_check.specs.MessageView.{message_view};
 
     /// A message about a step; one with an action that is not known is passed over.
-    fn of_step(subject: Subject<'a>, stage: TimedStage) -> Message<'a>
+    pub fn of_step(subject: Subject<'a>, stage: TimedStage) -> Message<'a>
         ensures { message_view result ≡ step_or_other (subject.entry.address.now, subject.entry.word.now) stage }
     {
         match Action::named(subject.word) {
@@ -204,60 +206,27 @@ impl<'a> Message<'a> {
     }
 
     /// The message of that type. An `Err` says which member a type that is known lacks.
-    #[tactic(auto, unfolding(crate::specs::Message::typed_message))]
     pub fn of(name: &str, tree: &'a Value) -> Result<Message<'a>, Fault>
         ensures { mapped message_view result ≡ typed_message name.now (view tree.now) }
     {
-        if name == "version" {
-            Ok(Message::Version)
-        } else if name == "apply_start" {
-            Message::of_start(tree)
-        } else if name == "apply_progress" {
-            Message::of_timed(Stage::Progress, tree)
-        } else if name == "apply_complete" {
-            Message::of_timed(Stage::Complete, tree)
-        } else if name == "apply_errored" {
-            Message::of_timed(Stage::Errored, tree)
-        } else {
-            Message::of_no_step(name, tree)
-        }
+        Message::of_kind(Kind::named(name), tree)
     }
 
-    /// The message of a type that is about a refresh, or about no step.
-    fn of_no_step(name: &str, tree: &'a Value) -> Result<Message<'a>, Fault>
-        ensures { mapped message_view result ≡ stepless_message name.now (view tree.now) }
+    /// The message of a type that tells of that.
+    fn of_kind(kind: Kind, tree: &'a Value) -> Result<Message<'a>, Fault>
+        ensures { mapped message_view result ≡ kind_message kind (view tree.now) }
     {
-        if name == "refresh_start" {
-            Message::of_refresh(TimedStage::Start, tree)
-        } else if name == "refresh_complete" {
-            Message::of_refresh(TimedStage::Complete(0), tree)
-        } else if name == "provision_start" {
-            Message::of_provision(Stage::Start, tree)
-        } else if name == "provision_progress" {
-            Message::of_provision(Stage::Progress, tree)
-        } else if name == "provision_complete" {
-            Message::of_provision(Stage::Complete, tree)
-        } else if name == "provision_errored" {
-            Message::of_provision(Stage::Errored, tree)
-        } else {
-            Message::of_no_object(name, tree)
-        }
-    }
-
-    /// The message of a type that is about no step and no provisioner.
-    fn of_no_object(name: &str, tree: &'a Value) -> Result<Message<'a>, Fault>
-        ensures { mapped message_view result ≡ general_message name.now (view tree.now) }
-    {
-        if name == "planned_change" {
-            Message::of_planned(tree)
-        } else if name == "change_summary" {
-            Message::of_summary(tree)
-        } else if name == "diagnostic" {
-            Message::of_diagnostic(tree)
-        } else if name == "outputs" {
-            Ok(Message::Outputs)
-        } else {
-            Ok(Message::Other)
+        match kind {
+            Kind::Version => Ok(Message::Version),
+            Kind::Start => Message::of_start(tree),
+            Kind::Timed(stage) => Message::of_timed(stage, tree),
+            Kind::Refresh(stage) => Message::of_refresh(TimedStage::of(stage, 0), tree),
+            Kind::Provision(stage) => Message::of_provision(stage, tree),
+            Kind::Planned => Message::of_planned(tree),
+            Kind::Summary => Message::of_summary(tree),
+            Kind::Diagnostic => Message::of_diagnostic(tree),
+            Kind::Outputs => Ok(Message::Outputs),
+            Kind::Other => Ok(Message::Other),
         }
     }
 }

@@ -8,6 +8,7 @@ ghost use Rattle.apply_check.specs.Small.{IsSmall};
 
 use crate::lines::found::piece_of;
 use crate::messages::line_shape::LineShape;
+use crate::messages::line_slots::message_in;
 use crate::messages::message::Message;
 use crate::rules::fault::Fault;
 use crate::rules::limits::{MAX_BYTES, MAX_LINES};
@@ -16,7 +17,7 @@ use crate::rules::open_steps::OpenSteps;
 use crate::rules::tally::Tally;
 use apply_json::{JsonFault, Scratch, parse_trimmed};
 use serde_json::Value;
-use std::alloc::Global;
+use std::alloc::{AllocError, Global};
 
 /// What is needed of the lines so far: it grows only with the number of addresses at which something stands open, and
 /// with the longest line.
@@ -24,8 +25,8 @@ use std::alloc::Global;
 pub struct Checker {
     pub(crate) tally: Tally,
     pub(crate) pending: OpenSteps,
-    // Kept from line to line, so that reading one takes no memory of its own.
-    scratch: Scratch,
+    // Kept from line to line, so that reading one takes no memory of its own. It is boxed, since a line takes it out.
+    scratch: Option<Box<Scratch>>,
     ghost small: { IsSmall tally },
 }
 
@@ -42,7 +43,7 @@ impl Checker {
         Checker {
             tally: Tally::new(),
             pending: OpenSteps::new(alloc),
-            scratch: Scratch::new(alloc),
+            scratch: None,
         }
     }
 
@@ -77,7 +78,44 @@ impl Checker {
         requires bytes { length text.now ≤ max_bytes }
         ensures { Continues self.old self.new (λ messages. read_text find messages text.now) result }
     {
-        match parse_trimmed(alloc, &mut self.scratch, text, MAX_BYTES, LineShape::Line) {
+        // The message borrows from the scratch while the checker changes.
+        let mut scratch = taken(alloc, &mut self.scratch)?;
+        let answer = self.text_with(alloc, &mut *scratch, find, text);
+        self.scratch = Some(scratch);
+        answer
+    }
+
+    /// Does what `text` does, with a scratch of its own.
+    fn text_with(
+        &mut self,
+        alloc: Global,
+        scratch: &mut Scratch,
+        find: bool,
+        text: &[u8],
+    ) -> Result<(), Fault>
+        requires lines { lines_read self.old < 2 ^ 32 }
+        requires bytes { length text.now ≤ max_bytes }
+        ensures { Continues self.old self.new (λ messages. read_text find messages text.now) result }
+    {
+        match message_in(alloc, scratch, find, text) {
+            Some(message) => self.message(alloc, message),
+            None => self.text_as_tree(alloc, scratch, find, text),
+        }
+    }
+
+    /// Takes a text by its tree, which tells what slots do not.
+    fn text_as_tree(
+        &mut self,
+        alloc: Global,
+        scratch: &mut Scratch,
+        find: bool,
+        text: &[u8],
+    ) -> Result<(), Fault>
+        requires lines { lines_read self.old < 2 ^ 32 }
+        requires bytes { length text.now ≤ max_bytes }
+        ensures { Continues self.old self.new (λ messages. read_text find messages text.now) result }
+    {
+        match parse_trimmed(alloc, scratch, text, MAX_BYTES, LineShape::Line) {
             Ok(tree) => self.tree(alloc, find, &tree),
             Err(JsonFault::TooLarge) => Err(Fault::TooLong),
             Err(JsonFault::NotJson) => Err(Fault::NotJson),
@@ -126,5 +164,13 @@ impl Checker {
         } else {
             None
         }
+    }
+}
+
+/// Takes the scratch that is kept, or makes one.
+fn taken(alloc: Global, kept: &mut Option<Box<Scratch>>) -> Result<Box<Scratch>, AllocError> {
+    match kept.take() {
+        Some(scratch) => Ok(scratch),
+        None => Ok(Box::new(alloc, Scratch::new(alloc))?),
     }
 }

@@ -12,7 +12,7 @@ returns c =
     let none : app_of c.after_help.result ≡ no_options =
     ap app_of_fields c.after_help.ensures ∙ ap app_of_fields c.about.ensures ∙ ap app_of_fields c.no_binary_name.ensures
     ∙ ap (on_top (λ shape. record shape { no_binary_name = true })) c.new.ensures.app in
-    let json = c.in_ok-arg.ensures.shape c.json.ensures.1 ∙ ap₂ with_rule none c.json.ensures.0 in
-    let find = c.in_ok-arg-2.ensures.shape c.find.ensures.1 ∙ ap₂ with_rule json c.find.ensures.0 in
-    let plan = c.in_ok-arg-3.ensures.shape c.plan.ensures.1 ∙ ap₂ with_rule find c.plan.ensures.0 in
+    let json = c.in_ok-arg.ensures.shape c.flag.ensures.1 ∙ ap₂ with_rule none c.flag.ensures.0 in
+    let find = c.in_ok-arg-2.ensures.shape c.flag-2.ensures.1 ∙ ap₂ with_rule json c.flag-2.ensures.0 in
+    let plan = c.in_ok-arg-3.ensures.shape c.flag-3.ensures.1 ∙ ap₂ with_rule find c.flag-3.ensures.0 in
     IfOk-weaker c.arg-4.result _ _ (λ command added. added.shape c.file.ensures.1 ∙ ap₂ with_rule plan c.file.ensures.0) c.arg-4.ensures

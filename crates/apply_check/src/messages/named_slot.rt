@@ -1,0 +1,57 @@
+//! One member of an object.
+
+ghost use Rattle.std.specs.Prelude.{◌≡◌, ◌<◌, Err, IfOk, OnOk, Some, length};
+ghost use Rattle.serde_json.specs.Data.{Data};
+ghost use Rattle.apply_json.specs.Seen.{scalar_view};
+ghost use Rattle.apply_json.specs.Tokens.{IsNoValue, IsRead};
+ghost use Rattle.apply_check.specs.Kept.{HoldsNamed, seen_in};
+
+use apply_json::{ReadFault, Reader, Scalar, Slots, pass, read_object, read_scalar};
+use std::alloc::Global;
+
+/// The member of that name.
+#[derive(Clone, Copy, Drop)]
+pub struct NamedSlot<'a> {
+    pub name: &'a str,
+    pub found: Scalar<'a>,
+}
+
+impl<'a> Slots<'a> for NamedSlot<'a> {
+    ghost holds = { λ start slot ms. HoldsNamed start.name.now slot ms };
+
+    fn take(
+        &mut self,
+        _alloc: Global,
+        name: &str,
+        reader: &mut Reader<'a>,
+        depth: usize,
+    ) -> Result<(), ReadFault> {
+        if name == self.name {
+            self.found = read_scalar(reader, depth)?;
+            Ok(())
+        } else {
+            pass(reader, depth)?;
+            Ok(())
+        }
+    }
+}
+
+/// Reads the member of that name in a value, in which arrays and objects nest at most `depth` deep. Only an object has one.
+pub fn read_member<'a>(
+    alloc: Global,
+    reader: &mut Reader<'a>,
+    depth: usize,
+    name: &'a str,
+) -> Result<Scalar<'a>, ReadFault>
+    ensures ok { IfOk result (λ found. (d : Data) × IsRead depth reader.old d reader.new
+        × (scalar_view found ≡ seen_in name.now (Some d))) }
+    ensures shorter { OnOk result (length reader.new < length reader.old) }
+    ensures err { result ≡ Err ReadFault.NotJson → IsNoValue depth reader.old }
+{
+    let mut slot = NamedSlot {
+        name,
+        found: Scalar::Absent,
+    };
+    read_object(alloc, reader, depth, &mut slot)?;
+    Ok(slot.found)
+}
