@@ -1,6 +1,6 @@
 -- The pieces of a message that tells of a step's start or end are its text.
-use Rattle.std.proofs.Common.{◌≡◌, ℕ, ◌/◌, ◌%◌, inl, List, [], ◌∷◌, ◌++◌, codes, decimal, Option, option_map, Some, None, Bool, true, false, tt, refl, sym, ap, ap₂, ◌∙◌, append_assoc, arith}
-use Rattle.std.specs.Prelude.{if◌then◌else◌}
+use Rattle.std.proofs.Common.{◌≡◌, ℕ, ◌/◌, ◌%◌, inl, List, [], ◌∷◌, ◌++◌, codes, decimal, Option, option_map, Some, None, Bool, true, refl, sym, ap, ap₂, ◌∙◌, append_assoc, arith}
+use Rattle.std.specs.Prelude.{◌&&◌, if◌then◌else◌}
 use Rattle.std.specs.List.{list_all}
 use Rattle.std.proofs.lemmas.Bool.{and_parts}
 use Rattle.json.specs.Print.{escape, quoted}
@@ -26,7 +26,7 @@ use Rattle.apply_form.specs.Lines.{line_of_text, message_line}
 use Rattle.apply_form.specs.Message.{told_as}
 use Rattle.apply_form.specs.Moment.{fine_text}
 use Rattle.apply_form.specs.Objects.{hook_object, resource_object}
-use Rattle.apply_form.proofs.Cuts.{Begins, IsPlain, both_plain, two_of_seven}
+use Rattle.apply_form.proofs.Cuts.{Begins, IsPlain, both_plain, is_plain, two_of_seven}
 use Rattle.apply_form.proofs.Plain.{date_plain, decimal_plain, elapsed_plain, time_plain}
 use Rattle.apply_form.proofs.Progress.{fine_is}
 
@@ -35,14 +35,14 @@ use Rattle.apply_form.proofs.Progress.{fine_is}
 in_json : (id : List ℕ) → list_all is_plain_here id ≡ true → list_all default.is_plain id ≡ true
 in_json [] plain = refl
 in_json (byte ∷ bytes) plain =
-    let parts = and_parts _ _ plain in
-    ap₂ (λ a b. if a then b else false) (and_parts _ _ parts.0).0 (in_json bytes parts.1)
+    let parts = and_parts (is_plain_here byte) (list_all is_plain_here bytes) plain in
+    ap₂ (λ a b. a && b) (and_parts (default.is_plain byte) (is_plain byte) parts.0).0 (in_json bytes parts.1)
 
 in_form : (id : List ℕ) → list_all is_plain_here id ≡ true → IsPlain id
 in_form [] plain = refl
 in_form (byte ∷ bytes) plain =
-    let parts = and_parts _ _ plain in
-    ap₂ (λ a b. if a then b else false) (and_parts _ _ parts.0).1 (in_form bytes parts.1)
+    let parts = and_parts (is_plain_here byte) (list_all is_plain_here bytes) plain in
+    ap₂ (λ a b. a && b) (and_parts (default.is_plain byte) (is_plain byte) parts.0).1 (in_form bytes parts.1)
 
 plain_id : (id : Option (List ℕ)) → IsPlainId id → default.IsPlainId id
 plain_id None plain = tt
