@@ -16,7 +16,7 @@ use apply_check::{
     Checker, Fault, Finding, Form, Mode, ReadFault, Whole, check, check_command, check_input,
     check_lines, follow,
 };
-use std::alloc::Global;
+use std::alloc::{AllocError, Global};
 use std::io;
 use std::io::{BufRead, BufReader, ErrorKind, Read, Write};
 use std::process::Abort;
@@ -196,12 +196,34 @@ V ! => 2 is malformed: hook.resource.addr is missing
 --plan V => 1 is the last, and no summary came
 "#;
 
+/// The value, for as long as the test runs: a proof grows with each place at which something has to be dropped.
+fn kept<'a, T: Drop + 'a>(rt: &impl Abort, alloc: Global, value: T) -> &'a mut T {
+    Box::leak(Box::new(alloc, value).expect(rt, "memory"))
+}
+
+/// A text for which there has to be memory, for as long as the test runs.
+fn kept_text(rt: &impl Abort, alloc: Global, text: Result<String, AllocError>) -> &'static str {
+    kept(rt, alloc, text.expect(rt, "memory")).as_str()
+}
+
+/// Fails where it is not so.
+fn holds(rt: &impl Abort, case: &str, is_so: bool) {
+    assert!(rt; is_so, "{case}");
+}
+
+/// Fails where the number is another.
+fn number_is(rt: &impl Abort, case: &str, found: u64, wanted: u64) {
+    assert!(rt; found == wanted, "{case}: {found}, not {wanted}");
+}
+
+/// Fails where the text is another.
+fn text_is(rt: &impl Abort, case: &str, found: &str, wanted: &str) {
+    assert!(rt; found == wanted, "{case}: {found}");
+}
+
 /// What stands before the mark of a row, and behind it.
 fn cells<'a>(rt: &impl Abort, row: &'a str) -> (&'a str, &'a str) {
-    match row.split_once(" => ") {
-        Some(cells) => cells,
-        None => panic!(rt; "no mark in the row {row}"),
-    }
+    row.split_once(" => ").expect(rt, row)
 }
 
 /// The line of that name.
@@ -212,7 +234,7 @@ fn line_named<'a>(rt: &impl Abort, lines: &'a str, name: &str) -> &'a str {
             return line;
         }
     }
-    panic!(rt; "no line has the name {name}")
+    rt.panic(name)
 }
 
 /// Messages are to be found in lines of a log.
@@ -239,11 +261,11 @@ fn mode_of(row: &str) -> (Mode, &str) {
 }
 
 /// What is found in the lines of those names.
-fn verdict(rt: &impl Abort, alloc: Global, mode: Mode, names: &str) -> String {
-    let mut checker = Checker::new(alloc);
-    let (count, taken) = take_lines(rt, alloc, mode, &mut checker, names);
+fn verdict(rt: &impl Abort, alloc: Global, mode: Mode, names: &str) -> &'static str {
+    let checker = kept(rt, alloc, Checker::new(alloc));
+    let (count, taken) = take_lines(rt, alloc, mode, checker, names);
     match taken {
-        Ok(()) => end_said(rt, alloc, mode, &checker, count),
+        Ok(()) => end_said(rt, alloc, mode, checker, count),
         Err(fault) => fault_said(rt, alloc, count, fault),
     }
 }
@@ -258,9 +280,8 @@ fn take_lines(
 ) -> (u64, Result<(), Fault>) {
     let mut count = 0u64;
     for name in names.split(' ') {
-        assert!(rt; !checker.is_full());
         count = count.wrapping_add(1);
-        let taken = checker.line(alloc, mode, line_named(rt, LINES, name).as_bytes());
+        let taken = taken_line(rt, alloc, mode, checker, line_named(rt, LINES, name));
         if taken.is_err() {
             return (count, taken);
         }
@@ -268,40 +289,59 @@ fn take_lines(
     (count, Ok(()))
 }
 
+/// What the checker answers to a line.
+fn taken_line(
+    rt: &impl Abort,
+    alloc: Global,
+    mode: Mode,
+    checker: &mut Checker,
+    line: &str,
+) -> Result<(), Fault> {
+    assert!(rt; !checker.is_full());
+    checker.line(alloc, mode, line.as_bytes())
+}
+
 /// What is found at the end of so many lines.
-fn end_said(rt: &impl Abort, alloc: Global, mode: Mode, checker: &Checker, count: u64) -> String {
+fn end_said(
+    rt: &impl Abort,
+    alloc: Global,
+    mode: Mode,
+    checker: &Checker,
+    count: u64,
+) -> &'static str {
     match checker.end(mode) {
         Ok(whole) => {
-            assert_eq!(rt; whole.has_errors, checker.has_failed());
-            assert_eq!(rt; whole.passed, checker.passed(mode));
-            assert_eq!(rt; whole.lines, count);
-            whole_said(rt, alloc, &whole)
+            let has_failed = checker.has_failed();
+            holds(rt, "errors", whole.has_errors == has_failed);
+            holds(rt, "passed", whole.passed == checker.passed(mode));
+            number_is(rt, "lines", whole.lines, count);
+            whole_said(rt, alloc, whole)
         }
         Err(fault) => fault_said(rt, alloc, count, fault),
     }
 }
 
 /// The totals of a stream, whether they are a plan's, and whether there was an error.
-fn whole_said(rt: &impl Abort, alloc: Global, whole: &Whole) -> String {
+fn whole_said(rt: &impl Abort, alloc: Global, whole: Whole) -> &'static str {
     let added = whole.totals.added;
     let changed = whole.totals.changed;
     let removed = whole.totals.removed;
     let kind = if whole.is_plan { "plan" } else { "ok" };
     let errors = if whole.has_errors { " with errors" } else { "" };
-    format!(in alloc; "{kind} {added} {changed} {removed}{errors}").expect(rt, "memory")
+    let said = format!(in alloc; "{kind} {added} {changed} {removed}{errors}");
+    kept_text(rt, alloc, said)
 }
 
 /// A fault, and its line.
-fn fault_said(rt: &impl Abort, alloc: Global, line: u64, fault: Fault) -> String {
-    format!(in alloc; "{line} {fault}").expect(rt, "memory")
+fn fault_said(rt: &impl Abort, alloc: Global, line: u64, fault: Fault) -> &'static str {
+    kept_text(rt, alloc, format!(in alloc; "{line} {fault}"))
 }
 
 /// Fails where something else is found in the lines of that row than the row says.
 fn row_is_found(rt: &impl Abort, alloc: Global, row: &str) {
     let (lines, wanted) = cells(rt, row);
     let (mode, names) = mode_of(lines);
-    let found = verdict(rt, alloc, mode, names);
-    assert_eq!(rt; found.as_str(), wanted, "{lines}");
+    text_is(rt, lines, verdict(rt, alloc, mode, names), wanted);
 }
 
 #[test]
@@ -319,10 +359,20 @@ fn add_line(rt: &impl Abort, alloc: Global, lines: &mut Vec<Vec<u8>>, name: &str
     lines.push(line).expect(rt, "memory");
 }
 
+/// The lines of those names.
+fn lines_named(rt: &impl Abort, alloc: Global, names: &str) -> &'static [Vec<u8>] {
+    let lines = kept(rt, alloc, Vec::new(alloc));
+    for name in names.split(' ') {
+        add_line(rt, alloc, lines, name);
+    }
+    lines.as_slice()
+}
+
 /// Fails where the lines have another finding.
 fn finding_is(rt: &impl Abort, alloc: Global, lines: &[Vec<u8>], mode: Mode, finding: Finding) {
     assert!(rt; lines.len() < 1 << 32);
-    assert_eq!(rt; check_lines(alloc, mode, lines), Err(finding));
+    let found = check_lines(alloc, mode, lines);
+    holds(rt, "finding", found == Err(finding));
 }
 
 /// A finding where no line may be passed over.
@@ -351,15 +401,14 @@ fn nothing_is_no_stream(rt: HostRuntime) {
 #[test]
 fn lines_have_numbers(rt: HostRuntime) {
     let alloc = rt.alloc();
-    let mut lines = Vec::new(alloc);
-    add_line(&rt, alloc, &mut lines, "V");
-    finding_is(&rt, alloc, &lines, Mode::PLAIN, at_line(1, Fault::NoEnd));
-    add_line(&rt, alloc, &mut lines, "?");
-    finding_is(&rt, alloc, &lines, PLAN, at_line(2, Fault::NoType));
+    let lines = lines_named(&rt, alloc, "V");
+    finding_is(&rt, alloc, lines, Mode::PLAIN, at_line(1, Fault::NoEnd));
+    let lines = lines_named(&rt, alloc, "V ?");
+    finding_is(&rt, alloc, lines, PLAN, at_line(2, Fault::NoType));
     let passed = Finding {
         line: 2,
         fault: Fault::NoEnd,
         passed: Some(2),
     };
-    finding_is(&rt, alloc, &lines, FIND, passed);
+    finding_is(&rt, alloc, lines, FIND, passed);
 }

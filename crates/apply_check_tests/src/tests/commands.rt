@@ -62,76 +62,92 @@ Usage: applystream check --plan [FILE]
 For more information, try '--help'.
 ";
 
-/// What the command has done.
-#[derive(Drop)]
+/// What the command has done: its exit status, what it printed, what it said of faults, and whether the input was read to
+/// its end.
+#[derive(Clone, Copy)]
 pub(super) struct Outcome {
+    pub status: u8,
+    pub printed: &'static str,
+    pub said: &'static str,
+    pub is_read: bool,
+}
+
+/// Bytes that have to be text.
+fn text_of<'a>(rt: &impl Abort, bytes: &'a [u8]) -> &'a str {
+    str::from_utf8(bytes).ok().expect(rt, "a text")
+}
+
+/// A place for what is written, for as long as the test runs.
+fn place(rt: &impl Abort, alloc: Global) -> &'static mut Vec<u8> {
+    kept(rt, alloc, Vec::new(alloc))
+}
+
+/// What was done. What was written has to be text.
+fn outcome_of(
+    rt: &impl Abort,
     status: u8,
-    printed: Vec<u8>,
-    said: Vec<u8>,
+    is_read: bool,
+    printed: &'static [u8],
+    said: &'static [u8],
+) -> Outcome {
+    Outcome {
+        status,
+        printed: text_of(rt, printed),
+        said: text_of(rt, said),
+        is_read,
+    }
 }
 
 /// Checks the stream.
-pub(super) fn checked(alloc: Global, mode: Mode, form: Form, stream: &[u8]) -> Outcome {
-    let mut printed = Vec::new(alloc);
-    let mut said = Vec::new(alloc);
-    let mut reader = stream;
-    let checked = check_command(
-        alloc,
-        mode,
-        form,
-        None,
-        &mut reader,
-        &mut printed,
-        &mut said,
-    );
-    Outcome {
-        status: checked.status,
-        printed,
-        said,
-    }
+pub(super) fn checked(
+    rt: &impl Abort,
+    alloc: Global,
+    mode: Mode,
+    form: Form,
+    stream: &str,
+) -> Outcome {
+    checked_bytes(rt, alloc, mode, form, stream.as_bytes())
+}
+
+/// Checks a stream of bytes.
+pub(super) fn checked_bytes(
+    rt: &impl Abort,
+    alloc: Global,
+    mode: Mode,
+    form: Form,
+    mut stream: &[u8],
+) -> Outcome {
+    let (printed, said) = (place(rt, alloc), place(rt, alloc));
+    let checked = check_command(alloc, mode, form, None, &mut stream, printed, said);
+    let is_read = checked.rest.is_ok();
+    outcome_of(rt, checked.status, is_read, printed, said)
 }
 
 /// Checks what the input gives, the file of that name where there is one.
 pub(super) fn checked_input<R: Read>(
+    rt: &impl Abort,
     alloc: Global,
+    mode: Mode,
     form: Form,
     name: Option<&str>,
     input: &mut R,
 ) -> Outcome {
-    let mut printed = Vec::new(alloc);
-    let mut said = Vec::new(alloc);
-    let checked = check_input(
-        alloc,
-        Mode::PLAIN,
-        form,
-        name,
-        input,
-        &mut printed,
-        &mut said,
-    );
-    Outcome {
-        status: checked.status,
-        printed,
-        said,
-    }
+    let (printed, said) = (place(rt, alloc), place(rt, alloc));
+    let checked = check_input(alloc, mode, form, name, input, printed, said);
+    let is_read = checked.rest.is_ok();
+    outcome_of(rt, checked.status, is_read, printed, said)
 }
 
 /// Fails where something else was done.
-pub(super) fn outcome_is(
-    rt: &impl Abort,
-    outcome: &Outcome,
-    status: u8,
-    printed: &str,
-    said: &str,
-) {
-    bytes_are(rt, &outcome.printed, printed);
-    bytes_are(rt, &outcome.said, said);
-    assert_eq!(rt; outcome.status, status);
+pub(super) fn outcome_is(rt: &impl Abort, outcome: Outcome, status: u8, printed: &str, said: &str) {
+    text_is(rt, "printed", outcome.printed, printed);
+    text_is(rt, "said", outcome.said, said);
+    status_is(rt, outcome.status, status);
 }
 
-/// Fails where the bytes are another text.
-fn bytes_are(rt: &impl Abort, found: &[u8], text: &str) {
-    assert_eq!(rt; found, text.as_bytes());
+/// Fails where the status is another.
+pub(super) fn status_is(rt: &impl Abort, found: u8, wanted: u8) {
+    number_is(rt, "status", u64::from(found), u64::from(wanted));
 }
 
 /// Fails where the check of the stream ends with another status or tells something else, as text or as an object. The text
@@ -146,10 +162,10 @@ fn told_is(
     object: &str,
 ) {
     let (printed, said) = if status < 2 { (text, "") } else { ("", text) };
-    let told = checked(alloc, mode, Form::Text, stream.as_bytes());
-    outcome_is(rt, &told, status, printed, said);
-    let told = checked(alloc, mode, Form::Json, stream.as_bytes());
-    outcome_is(rt, &told, status, object, "");
+    let told = checked(rt, alloc, mode, Form::Text, stream);
+    outcome_is(rt, told, status, printed, said);
+    let told = checked(rt, alloc, mode, Form::Json, stream);
+    outcome_is(rt, told, status, object, "");
 }
 
 #[test]
@@ -216,35 +232,30 @@ fn plans_as_text_and_as_objects(rt: HostRuntime) {
     );
 }
 
-/// Follows the words, with that stream as the input.
-fn followed<F: Files>(
+/// The words of a text.
+pub(super) fn words_of(rt: &impl Abort, alloc: Global, text: &str) -> &'static [String] {
+    let words = kept(rt, alloc, Vec::new(alloc));
+    for word in text.split_whitespace() {
+        let word = String::from_str(alloc, word).expect(rt, "memory");
+        words.push(word).expect(rt, "memory");
+    }
+    words.as_slice()
+}
+
+/// Follows the words, with that input.
+pub(super) fn followed<F: Files>(
     rt: &impl Abort,
     files: &F,
     alloc: Global,
     words: &str,
-    stream: &str,
+    is_terminal: bool,
+    input: &mut &[u8],
 ) -> Outcome {
-    let mut list = Vec::new(alloc);
-    for word in words.split_whitespace() {
-        let word = String::from_str(alloc, word).expect(rt, "memory");
-        list.push(word).expect(rt, "memory");
-    }
-    let mut printed = Vec::new(alloc);
-    let mut said = Vec::new(alloc);
-    let followed = follow(
-        files,
-        alloc,
-        &list,
-        false,
-        &mut stream.as_bytes(),
-        &mut printed,
-        &mut said,
-    );
-    Outcome {
-        status: followed.status,
-        printed,
-        said,
-    }
+    let words = words_of(rt, alloc, words);
+    let (printed, said) = (place(rt, alloc), place(rt, alloc));
+    let followed = follow(files, alloc, words, is_terminal, input, printed, said);
+    let is_read = followed.rest.is_ok();
+    outcome_of(rt, followed.status, is_read, printed, said)
 }
 
 /// Fails where the words do something else with the stream of a failed step.
@@ -257,8 +268,9 @@ fn followed_is<F: Files>(
     printed: &str,
     said: &str,
 ) {
-    let outcome = followed(rt, files, alloc, words, FAILED);
-    outcome_is(rt, &outcome, status, printed, said);
+    let mut input = FAILED.as_bytes();
+    let outcome = followed(rt, files, alloc, words, false, &mut input);
+    outcome_is(rt, outcome, status, printed, said);
 }
 
 #[test]
@@ -286,8 +298,8 @@ no_such_file.jsonl => the file no_such_file.jsonl could not be opened: No such f
 /// Fails where something else is said of the words of that row than the row says.
 fn file_is_refused<F: Files>(rt: &impl Abort, files: &F, alloc: Global, row: &str) {
     let (words, said) = cells(rt, row);
-    let said = format!(in alloc; "applystream: {said}\n").expect(rt, "memory");
-    followed_is(rt, files, alloc, words, 2, "", said.as_str());
+    let said = format!(in alloc; "applystream: {said}\n");
+    followed_is(rt, files, alloc, words, 2, "", kept_text(rt, alloc, said));
 }
 
 #[test]
@@ -307,15 +319,11 @@ fn name_that_steers(rt: HostRuntime) {
 
 #[test]
 fn help(rt: HostRuntime) {
-    let help = followed(&rt, &rt, rt.alloc(), "--help", "");
-    assert_eq!(rt; help.status, 0);
-    assert!(rt; help.said.is_empty());
-    assert!(rt; text_of(&rt, &help.printed).contains("Exit status:"));
-}
-
-/// The bytes as text.
-fn text_of<'a>(rt: &impl Abort, bytes: &'a [u8]) -> &'a str {
-    std::str::from_utf8(bytes).expect(rt, "UTF-8")
+    let mut input = "".as_bytes();
+    let help = followed(&rt, &rt, rt.alloc(), "--help", false, &mut input);
+    status_is(&rt, help.status, 0);
+    text_is(&rt, "said", help.said, "");
+    holds(&rt, help.printed, help.printed.contains("Exit status:"));
 }
 
 #[test]
@@ -350,26 +358,20 @@ fn full_is<E: Write>(
     faults: &mut E,
     status: u8,
 ) {
-    let mut reader = stream.as_bytes();
-    let found = check_command(
-        alloc,
-        Mode::PLAIN,
-        form,
-        None,
-        &mut reader,
-        &mut Full,
-        faults,
-    );
-    assert_eq!(rt; found.status, status);
-    assert!(rt; found.rest.is_ok());
+    let (mut reader, mode) = (stream.as_bytes(), Mode::PLAIN);
+    let found = check_command(alloc, mode, form, None, &mut reader, &mut Full, faults);
+    let is_read = found.rest.is_ok();
+    status_is(rt, found.status, status);
+    holds(rt, "read to its end", is_read);
 }
 
 #[test]
 fn output_fails(rt: HostRuntime) {
     let alloc = rt.alloc();
-    let mut said = Vec::new(alloc);
-    full_is(&rt, alloc, Form::Text, FAILED, &mut said, 3);
-    bytes_are(&rt, &said, "applystream: the output could not be written\n");
+    let said = place(&rt, alloc);
+    full_is(&rt, alloc, Form::Text, FAILED, said, 3);
+    let wanted = "applystream: the output could not be written\n";
+    text_is(&rt, "said", text_of(&rt, said), wanted);
     full_is(&rt, alloc, Form::Text, CUT_OFF, &mut Full, 4);
     full_is(&rt, alloc, Form::Json, CUT_OFF, &mut Full, 3);
 }

@@ -1,6 +1,6 @@
 //! Each fault, as the line and as the object that the command tells it by.
 
-use super::commands::{Outcome, checked, checked_input, outcome_is};
+use super::commands::{Outcome, checked, checked_input, status_is};
 use super::*;
 
 /// Names of lines, maybe behind `--plan` or `--find`, and the line that the command says of them.
@@ -112,23 +112,40 @@ V Y000 => {"fault":"no_end","line":2,"whole":false}
 "#;
 
 /// The lines of those names, each with its line feed.
-pub(super) fn stream_of(rt: &impl Abort, alloc: Global, lines: &str, names: &str) -> String {
-    let mut stream = String::new(alloc);
+pub(super) fn stream_of(rt: &impl Abort, alloc: Global, lines: &str, names: &str) -> &'static str {
+    let stream = kept(rt, alloc, String::new(alloc));
     for name in names.split(' ') {
         let line = line_named(rt, lines, name);
         stream.push_str(line).expect(rt, "memory");
         stream.push_str("\n").expect(rt, "memory");
     }
-    stream
+    stream.as_str()
 }
 
 /// Fails where the command ended otherwise than with status 4 and that line, on the output where objects are wanted and
-/// else on the place for faults.
-pub(super) fn is_told(rt: &impl Abort, form: Form, told: &Outcome, line: &str) {
-    match form {
-        Form::Text => outcome_is(rt, told, 4, "", line),
-        Form::Json => outcome_is(rt, told, 4, line, ""),
-    }
+/// else on the place for faults. The line feed behind it is not given.
+pub(super) fn is_told(rt: &impl Abort, form: Form, told: Outcome, line: &str) {
+    line_is(rt, told, 4, form == Form::Json, line);
+}
+
+/// Fails where the command ended with another status, or told something else than that line, on the output or else on the
+/// place for faults.
+pub(super) fn line_is(rt: &impl Abort, told: Outcome, status: u8, is_printed: bool, line: &str) {
+    let (found, other) = if is_printed {
+        (told.printed, told.said)
+    } else {
+        (told.said, told.printed)
+    };
+    text_is(rt, line, found.strip_suffix("\n").expect(rt, line), line);
+    text_is(rt, line, other, "");
+    status_is(rt, told.status, status);
+}
+
+/// Fails where the command said another fault, which is given without its start.
+pub(super) fn fault_is(rt: &impl Abort, told: Outcome, start: &str, rest: &str) {
+    let line = told.said.strip_prefix(start).expect(rt, rest);
+    let told = Outcome { said: line, ..told };
+    is_told(rt, Form::Text, told, rest);
 }
 
 /// Fails where something else is told of the lines of that row than the row says.
@@ -136,23 +153,25 @@ fn row_is_told(rt: &impl Abort, alloc: Global, form: Form, row: &str) {
     let (lines, said) = cells(rt, row);
     let (mode, names) = mode_of(lines);
     let stream = stream_of(rt, alloc, LINES, names);
-    let line = format!(in alloc; "{said}\n").expect(rt, "memory");
-    let told = checked(alloc, mode, form, stream.as_str().as_bytes());
-    is_told(rt, form, &told, line.as_str());
+    let told = checked(rt, alloc, mode, form, stream);
+    is_told(rt, form, told, said);
+}
+
+/// The same of each row of the table.
+fn rows_are_told(rt: &impl Abort, alloc: Global, form: Form, table: &str) {
+    for row in table.trim().lines() {
+        row_is_told(rt, alloc, form, row);
+    }
 }
 
 #[test]
 fn faults_as_text(rt: HostRuntime) {
-    for row in TEXTS.trim().lines() {
-        row_is_told(&rt, rt.alloc(), Form::Text, row);
-    }
+    rows_are_told(&rt, rt.alloc(), Form::Text, TEXTS);
 }
 
 #[test]
 fn faults_as_objects(rt: HostRuntime) {
-    for row in OBJECTS.trim().lines() {
-        row_is_told(&rt, rt.alloc(), Form::Json, row);
-    }
+    rows_are_told(&rt, rt.alloc(), Form::Json, OBJECTS);
 }
 
 /// What is told where one more begins than may overlap: the start, and the line and the object.
@@ -163,18 +182,22 @@ Sf => applystream: line 10002 is one of more than 10000 that overlap since line 
 "#;
 
 /// The version, and one start of that name more than may overlap.
-pub(super) fn overlapping(rt: &impl Abort, alloc: Global, name: &str) -> String {
+pub(super) fn overlapping(rt: &impl Abort, alloc: Global, name: &str) -> &'static str {
     let version = line_named(rt, LINES, "V");
-    let start = format!(in alloc; "\n{}", line_named(rt, LINES, name)).expect(rt, "memory");
-    let starts = start.repeat(alloc, 10_001).expect(rt, "memory");
-    format!(in alloc; "{version}{starts}").expect(rt, "memory")
+    let starts = repeated(rt, alloc, line_named(rt, LINES, name), 10_001);
+    kept_text(rt, alloc, format!(in alloc; "{version}{starts}"))
+}
+
+/// The line, so many times, each behind a line feed.
+fn repeated(rt: &impl Abort, alloc: Global, line: &str, times: usize) -> &'static str {
+    let line = kept_text(rt, alloc, format!(in alloc; "\n{line}"));
+    kept_text(rt, alloc, line.repeat(alloc, times))
 }
 
 /// Fails where something else is told of the stream.
 fn stream_is_told(rt: &impl Abort, alloc: Global, form: Form, stream: &str, said: &str) {
-    let line = format!(in alloc; "{said}\n").expect(rt, "memory");
-    let told = checked(alloc, Mode::PLAIN, form, stream.as_bytes());
-    is_told(rt, form, &told, line.as_str());
+    let told = checked(rt, alloc, Mode::PLAIN, form, stream);
+    is_told(rt, form, told, said);
 }
 
 /// Fails where something else is told of too many starts of that row than the row says.
@@ -182,8 +205,8 @@ fn too_many_is_told(rt: &impl Abort, alloc: Global, row: &str) {
     let (name, said) = cells(rt, row);
     let (text, object) = cells(rt, said);
     let stream = overlapping(rt, alloc, name);
-    stream_is_told(rt, alloc, Form::Text, stream.as_str(), text);
-    stream_is_told(rt, alloc, Form::Json, stream.as_str(), object);
+    stream_is_told(rt, alloc, Form::Text, stream, text);
+    stream_is_told(rt, alloc, Form::Json, stream, object);
 }
 
 #[test]
@@ -198,14 +221,19 @@ fn a_long_line() -> io::Take<io::Repeat> {
     io::repeat(b' ').take(80_000_000)
 }
 
+/// Fails where something else is told of it.
+fn too_long_is_told(rt: &impl Abort, alloc: Global, form: Form, line: &str) {
+    let mode = Mode::PLAIN;
+    let told = checked_input(rt, alloc, mode, form, None, &mut a_long_line());
+    is_told(rt, form, told, line);
+}
+
 /// A line that is too long is taken no further than it is seen to be too long, and what is behind it is dropped.
 #[test]
 fn a_line_that_is_too_long(rt: HostRuntime) {
     let alloc = rt.alloc();
-    let line = "applystream: line 1 is longer than 67108864 bytes\n";
-    let told = checked_input(alloc, Form::Text, None, &mut a_long_line());
-    is_told(&rt, Form::Text, &told, line);
-    let object = "{\"fault\":\"too_long\",\"line\":1,\"whole\":false}\n";
-    let told = checked_input(alloc, Form::Json, None, &mut a_long_line());
-    is_told(&rt, Form::Json, &told, object);
+    let line = "applystream: line 1 is longer than 67108864 bytes";
+    too_long_is_told(&rt, alloc, Form::Text, line);
+    let object = r#"{"fault":"too_long","line":1,"whole":false}"#;
+    too_long_is_told(&rt, alloc, Form::Json, object);
 }

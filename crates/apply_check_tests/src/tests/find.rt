@@ -1,7 +1,7 @@
 //! Messages in the lines of a log.
 
-use super::commands::{checked, outcome_is};
-use super::faults::stream_of;
+use super::commands::checked;
+use super::faults::{line_is, stream_of};
 use super::*;
 
 /// A line of a log for each name.
@@ -68,25 +68,24 @@ fn log_is(rt: &impl Abort, alloc: Global, form: Form, row: &str) {
     let (status, said) = wanted.split_once(' ').unwrap_or((wanted, ""));
     let status = status.parse::<u8>().unwrap_or(u8::MAX);
     let log = stream_of(rt, alloc, LOG, names);
-    let line = format!(in alloc; "{said}\n").expect(rt, "memory");
-    let told = checked(alloc, FIND, form, log.as_str().as_bytes());
-    if status == 4 && form == Form::Text {
-        outcome_is(rt, &told, status, "", line.as_str());
-    } else {
-        outcome_is(rt, &told, status, line.as_str(), "");
+    let told = checked(rt, alloc, FIND, form, log);
+    let is_printed = status != 4 || form == Form::Json;
+    line_is(rt, told, status, is_printed, said);
+}
+
+/// The same of each row of the table.
+fn logs_are(rt: &impl Abort, alloc: Global, form: Form, table: &str) {
+    for row in table.trim().lines() {
+        log_is(rt, alloc, form, row);
     }
 }
 
 #[test]
 fn logs_as_text(rt: HostRuntime) {
-    for row in TEXTS.trim().lines() {
-        log_is(&rt, rt.alloc(), Form::Text, row);
-    }
+    logs_are(&rt, rt.alloc(), Form::Text, TEXTS);
 }
 
 #[test]
 fn logs_as_objects(rt: HostRuntime) {
-    for row in OBJECTS.trim().lines() {
-        log_is(&rt, rt.alloc(), Form::Json, row);
-    }
+    logs_are(&rt, rt.alloc(), Form::Json, OBJECTS);
 }

@@ -1,7 +1,7 @@
 //! Lines that are no messages, and the front of them that is told.
 
-use super::commands::checked;
-use super::faults::is_told;
+use super::commands::checked_bytes;
+use super::faults::{fault_is, is_told};
 use super::*;
 
 /// Streams, with `|` for a line feed, and the line and the object that the command tells.
@@ -24,12 +24,10 @@ Applying the plan.| => line 1 is not a message: Applying the plan. => {"cut_off"
 
 /// Fails where the command tells something else of the bytes.
 fn front_is(rt: &impl Abort, alloc: Global, mode: Mode, bytes: &[u8], text: &str, object: &str) {
-    let line = format!(in alloc; "applystream: {text}\n").expect(rt, "memory");
-    let told = checked(alloc, mode, Form::Text, bytes);
-    is_told(rt, Form::Text, &told, line.as_str());
-    let line = format!(in alloc; "{object}\n").expect(rt, "memory");
-    let told = checked(alloc, mode, Form::Json, bytes);
-    is_told(rt, Form::Json, &told, line.as_str());
+    let told = checked_bytes(rt, alloc, mode, Form::Text, bytes);
+    fault_is(rt, told, "applystream: ", text);
+    let told = checked_bytes(rt, alloc, mode, Form::Json, bytes);
+    is_told(rt, Form::Json, told, object);
 }
 
 /// Fails where the command tells something else of the stream of that row than the row says.
@@ -37,8 +35,8 @@ fn row_is_front(rt: &impl Abort, alloc: Global, row: &str) {
     let (stream, said) = cells(rt, row);
     let (text, object) = cells(rt, said);
     let (mode, stream) = mode_of(stream);
-    let stream = stream.replace(alloc, "|", "\n").expect(rt, "memory");
-    front_is(rt, alloc, mode, stream.as_str().as_bytes(), text, object);
+    let stream = kept_text(rt, alloc, stream.replace(alloc, "|", "\n"));
+    front_is(rt, alloc, mode, stream.as_bytes(), text, object);
 }
 
 #[test]
@@ -63,20 +61,21 @@ fn bytes_that_steer(rt: HostRuntime) {
 
 /// Fails where another front is told of a line of so many letters, behind which the text stands.
 fn cut_is(rt: &impl Abort, alloc: Global, letters: usize, rest: &str, told: &str) {
-    let front = "x".repeat(alloc, letters).expect(rt, "memory");
-    let line = format!(in alloc; "{front}{rest}\n").expect(rt, "memory");
-    let text = format!(in alloc; "line 1 is not a message: {front}{told}").expect(rt, "memory");
+    let front = kept_text(rt, alloc, "x".repeat(alloc, letters));
+    let line = kept_text(rt, alloc, format!(in alloc; "{front}{rest}\n"));
+    let told = kept_text(rt, alloc, format!(in alloc; "{front}{told}"));
+    text_is_told(rt, alloc, line, told);
+}
+
+/// Fails where another text than this is told of a line that is no message.
+fn text_is_told(rt: &impl Abort, alloc: Global, line: &str, told: &str) {
+    let text = format!(in alloc; "line 1 is not a message: {told}");
+    let text = kept_text(rt, alloc, text);
     let object = format!(in alloc;
-        "{{\"cut_off\":false,\"fault\":\"not_a_message\",\"line\":1,\"text\":\"{front}{told}\",\"whole\":false}}"
-    ).expect(rt, "memory");
-    front_is(
-        rt,
-        alloc,
-        Mode::PLAIN,
-        line.as_str().as_bytes(),
-        text.as_str(),
-        object.as_str(),
+        "{{\"cut_off\":false,\"fault\":\"not_a_message\",\"line\":1,\"text\":\"{told}\",\"whole\":false}}"
     );
+    let object = kept_text(rt, alloc, object);
+    front_is(rt, alloc, Mode::PLAIN, line.as_bytes(), text, object);
 }
 
 /// The first 80 bytes are told, without a character that they cut.

@@ -3,11 +3,10 @@
 use super::*;
 
 /// The first line.
-const VERSION: &[u8] = br#"{"type":"version"}"#;
+const VERSION: &str = r#"{"type":"version"}"#;
 
 /// The start of a delete, and its end.
-const START: &[u8] =
-    br#"{"type":"apply_start","hook":{"action":"delete","resource":{"addr":"a"}}}"#;
+const START: &str = r#"{"type":"apply_start","hook":{"action":"delete","resource":{"addr":"a"}}}"#;
 
 /// How many deletes of one address may overlap.
 const MAX_OVERLAP: u64 = 10_000;
@@ -17,47 +16,39 @@ fn line_gives(
     rt: &impl Abort,
     alloc: Global,
     checker: &mut Checker,
-    line: &[u8],
+    line: &str,
     wanted: Result<(), Fault>,
 ) {
-    assert!(rt; !checker.is_full());
-    assert_eq!(rt; checker.line(alloc, Mode::PLAIN, line), wanted);
+    let found = taken_line(rt, alloc, Mode::PLAIN, checker, line);
+    holds(rt, line, found == wanted);
 }
 
 #[test]
 fn overlaps(rt: HostRuntime) {
     let alloc = rt.alloc();
-    let mut checker = Checker::new(alloc);
-    line_gives(&rt, alloc, &mut checker, VERSION, Ok(()));
+    let checker = kept(&rt, alloc, Checker::new(alloc));
+    line_gives(&rt, alloc, checker, VERSION, Ok(()));
     for _ in 0..MAX_OVERLAP {
-        line_gives(&rt, alloc, &mut checker, START, Ok(()));
+        line_gives(&rt, alloc, checker, START, Ok(()));
     }
-    line_gives(&rt, alloc, &mut checker, START, Err(Fault::TooMany(2)));
-    assert_eq!(rt; checker.count(), 10_001);
+    line_gives(&rt, alloc, checker, START, Err(Fault::TooMany(2)));
+    number_is(&rt, "lines", checker.count(), 10_001);
 }
 
 /// A line that nests so deep: a text `type` and a member of arrays.
-fn nested(rt: &impl Abort, alloc: Global, depth: usize) -> String {
-    let mut line = String::new(alloc);
-    line.push_str(r#"{"type":"version","x":"#)
-        .expect(rt, "memory");
-    for _ in 0..depth {
-        line.push_str("[").expect(rt, "memory");
-    }
-    for _ in 0..depth {
-        line.push_str("]").expect(rt, "memory");
-    }
-    line.push_str("}").expect(rt, "memory");
-    line
+fn nested(rt: &impl Abort, alloc: Global, depth: usize) -> &'static str {
+    let opened = kept_text(rt, alloc, "[".repeat(alloc, depth));
+    let closed = kept_text(rt, alloc, "]".repeat(alloc, depth));
+    let line = format!(in alloc; "{{\"type\":\"version\",\"x\":{opened}{closed}}}");
+    kept_text(rt, alloc, line)
 }
 
 #[test]
 fn nesting(rt: HostRuntime) {
     let alloc = rt.alloc();
-    let mut checker = Checker::new(alloc);
+    let checker = kept(&rt, alloc, Checker::new(alloc));
     let deep = nested(&rt, alloc, 127);
-    let fault = Err(Fault::NotJson);
-    line_gives(&rt, alloc, &mut checker, deep.as_bytes(), fault);
+    line_gives(&rt, alloc, checker, deep, Err(Fault::NotJson));
     let shallow = nested(&rt, alloc, 126);
-    line_gives(&rt, alloc, &mut checker, shallow.as_bytes(), Ok(()));
+    line_gives(&rt, alloc, checker, shallow, Ok(()));
 }

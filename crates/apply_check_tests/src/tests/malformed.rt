@@ -1,7 +1,7 @@
 //! Members that a message of a known type has to have.
 
 use super::commands::checked;
-use super::faults::is_told;
+use super::faults::{fault_is, is_told};
 use super::*;
 
 /// Messages, and what the first of their members lacks that is not what it has to be.
@@ -57,20 +57,19 @@ const ROWS: &str = r#"
 /// is told before.
 fn row_is_malformed(rt: &impl Abort, alloc: Global, row: &str) {
     let (line, lack) = cells(rt, row);
-    let text = format!(in alloc; "applystream: line 1 is malformed: {lack}\n").expect(rt, "memory");
-    let told = checked(alloc, Mode::PLAIN, Form::Text, line.as_bytes());
-    is_told(rt, Form::Text, &told, text.as_str());
-    let object = malformed_object(rt, alloc, lack);
-    let told = checked(alloc, Mode::PLAIN, Form::Json, line.as_bytes());
-    is_told(rt, Form::Json, &told, object.as_str());
+    let told = checked(rt, alloc, Mode::PLAIN, Form::Text, line);
+    fault_is(rt, told, "applystream: line 1 is malformed: ", lack);
+    let told = checked(rt, alloc, Mode::PLAIN, Form::Json, line);
+    is_told(rt, Form::Json, told, malformed_object(rt, alloc, lack));
 }
 
 /// What programs are told: the first word is the member.
-fn malformed_object(rt: &impl Abort, alloc: Global, lack: &str) -> String {
+fn malformed_object(rt: &impl Abort, alloc: Global, lack: &str) -> &'static str {
     let (member, _) = lack.split_once(' ').unwrap_or((lack, ""));
-    format!(in alloc;
-        "{{\"fault\":\"malformed\",\"line\":1,\"member\":\"{member}\",\"whole\":false}}\n"
-    ).expect(rt, "memory")
+    let object = format!(in alloc;
+        "{{\"fault\":\"malformed\",\"line\":1,\"member\":\"{member}\",\"whole\":false}}"
+    );
+    kept_text(rt, alloc, object)
 }
 
 #[test]

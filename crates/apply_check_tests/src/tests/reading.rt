@@ -26,33 +26,34 @@ const TABLE: &str =
 "#;
 
 /// What is found in what the reader gives.
-fn found<R: BufRead>(rt: &impl Abort, alloc: Global, reader: &mut R) -> String {
+fn found<R: BufRead>(rt: &impl Abort, alloc: Global, reader: &mut R) -> &'static str {
     match check(alloc, Mode::PLAIN, reader) {
-        Ok(whole) => {
-            let added = whole.totals.added;
-            let changed = whole.totals.changed;
-            let removed = whole.totals.removed;
-            let lines = whole.lines;
-            let errors = if whole.has_errors { " with errors" } else { "" };
-            format!(in alloc; "{added} {changed} {removed} in {lines} lines{errors}").expect(
-                rt, "memory",
-            )
-        }
-        Err(fault) => fault.to_string(alloc).expect(rt, "memory"),
+        Ok(whole) => whole_found(rt, alloc, whole),
+        Err(fault) => kept_text(rt, alloc, fault.to_string(alloc)),
     }
+}
+
+/// The totals of a whole stream, how many lines it has, and whether there was an error.
+fn whole_found(rt: &impl Abort, alloc: Global, whole: Whole) -> &'static str {
+    let added = whole.totals.added;
+    let changed = whole.totals.changed;
+    let removed = whole.totals.removed;
+    let lines = whole.lines;
+    let errors = if whole.has_errors { " with errors" } else { "" };
+    let text = format!(in alloc; "{added} {changed} {removed} in {lines} lines{errors}");
+    kept_text(rt, alloc, text)
 }
 
 /// Fails where something else is found in what the reader gives.
 fn found_is<R: BufRead>(rt: &impl Abort, alloc: Global, reader: &mut R, wanted: &str) {
-    let answer = found(rt, alloc, reader);
-    assert_eq!(rt; answer.as_str(), wanted);
+    text_is(rt, wanted, found(rt, alloc, reader), wanted);
 }
 
 /// Fails where something else is found in the stream of that row than the row says.
 fn stream_is_found(rt: &impl Abort, alloc: Global, row: &str) {
     let (stream, wanted) = cells(rt, row);
-    let stream = stream.replace(alloc, "|", "\n").expect(rt, "memory");
-    let stream = stream.replace(alloc, "~", "\r").expect(rt, "memory");
+    let stream = kept_text(rt, alloc, stream.replace(alloc, "|", "\n"));
+    let stream = kept_text(rt, alloc, stream.replace(alloc, "~", "\r"));
     found_is(rt, alloc, &mut stream.as_bytes(), wanted);
 }
 
@@ -81,15 +82,18 @@ fn byte_order_mark(rt: HostRuntime) {
     found_is(&rt, rt.alloc(), &mut reader, "line 1 is not a message");
 }
 
+/// Fails where something else is found through a buffer of that size.
+fn whole_is_found(rt: &impl Abort, alloc: Global, capacity: usize) {
+    let reader = BufReader::with_capacity(alloc, capacity, WHOLE.as_bytes());
+    let reader = kept(rt, alloc, reader.expect(rt, "memory"));
+    found_is(rt, alloc, reader, "1 0 0 in 4 lines");
+}
+
 /// Through a buffer of any size the answer is the same, so that lines are put together well.
 #[test]
 fn buffers(rt: HostRuntime) {
-    let alloc = rt.alloc();
     for capacity in 1..40 {
-        let mut reader = BufReader::with_capacity(alloc, capacity, WHOLE.as_bytes()).expect(
-            &rt, "memory",
-        );
-        found_is(&rt, alloc, &mut reader, "1 0 0 in 4 lines");
+        whole_is_found(&rt, rt.alloc(), capacity);
     }
 }
 
@@ -123,8 +127,12 @@ fn broken_is_found(rt: &impl Abort, alloc: Global, bytes: &[u8], wanted: &str) {
         bytes,
         is_interrupted: false,
     };
-    let mut reader = BufReader::new(alloc, broken).expect(rt, "memory");
-    found_is(rt, alloc, &mut reader, wanted);
+    let reader = kept(
+        rt,
+        alloc,
+        BufReader::new(alloc, broken).expect(rt, "memory"),
+    );
+    found_is(rt, alloc, reader, wanted);
 }
 
 #[test]
@@ -140,13 +148,10 @@ fn reader_fails_where_objects_are_wanted(rt: HostRuntime) {
         bytes: WHOLE.as_bytes(),
         is_interrupted: false,
     };
-    outcome_is(
-        &rt,
-        &checked_input(rt.alloc(), Form::Json, None, &mut broken),
-        2,
-        "",
-        "applystream: the stream could not be read\n",
-    );
+    let (alloc, mode) = (rt.alloc(), Mode::PLAIN);
+    let told = checked_input(&rt, alloc, mode, Form::Json, None, &mut broken);
+    let said = "applystream: the stream could not be read\n";
+    outcome_is(&rt, told, 2, "", said);
 }
 
 /// A reader that fails with an error of the system.
@@ -161,20 +166,17 @@ impl Read for Unreadable {
 
 /// Fails where something else is said of a reader that fails, which the file of that name gives.
 fn unreadable_is(rt: &impl Abort, alloc: Global, name: Option<&str>, said: &str) {
-    let told = checked_input(alloc, Form::Text, name, &mut Unreadable);
-    outcome_is(rt, &told, 2, "", said);
+    let (mode, form) = (Mode::PLAIN, Form::Text);
+    let told = checked_input(rt, alloc, mode, form, name, &mut Unreadable);
+    outcome_is(rt, told, 2, "", said);
 }
 
 /// Of a file its name is told, so that it steers no terminal, and the reason.
 #[test]
 fn file_fails(rt: HostRuntime) {
     let alloc = rt.alloc();
-    unreadable_is(
-        &rt,
-        alloc,
-        None,
-        "applystream: the stream could not be read\n",
-    );
+    let said = "applystream: the stream could not be read\n";
+    unreadable_is(&rt, alloc, None, said);
     let said =
         "applystream: the file a\\n\\u001b[2J could not be read: Input/output error (os error 5)\n";
     unreadable_is(&rt, alloc, Some("a\n\u{1b}[2J"), said);
@@ -183,19 +185,18 @@ fn file_fails(rt: HostRuntime) {
 /// A text that is longer than what goes out at once goes out whole all the same, with its line feed.
 #[test]
 fn a_long_name_goes_out_whole(rt: HostRuntime) {
-    let alloc = rt.alloc();
     for length in 940..960 {
-        let name = "a".repeat(alloc, length).expect(&rt, "memory");
-        long_name_is(&rt, alloc, name.as_str());
+        long_name_is(&rt, rt.alloc(), length);
     }
 }
 
-/// Fails where the file of that name is told otherwise, which can't be read.
-fn long_name_is(rt: &impl Abort, alloc: Global, name: &str) {
+/// Fails where the file whose name has so many letters is told otherwise, which can't be read.
+fn long_name_is(rt: &impl Abort, alloc: Global, length: usize) {
+    let name = kept_text(rt, alloc, "a".repeat(alloc, length));
     let said = format!(in alloc;
         "applystream: the file {name} could not be read: Input/output error (os error 5)\n"
-    ).expect(rt, "memory");
-    unreadable_is(rt, alloc, Some(name), said.as_str());
+    );
+    unreadable_is(rt, alloc, Some(name), kept_text(rt, alloc, said));
 }
 
 /// What is wrong is told before the reader fails behind it.

@@ -1,5 +1,6 @@
 //! The input is read to its end, whatever ends the judgement.
 
+use super::commands::{checked_input, followed, outcome_is, status_is};
 use super::faults::{overlapping, stream_of};
 use super::find::LOG;
 use super::reading::Broken;
@@ -74,19 +75,16 @@ fn all_is_read<R: Read + Drop>(
         given: 0,
         is_interrupted: false,
     };
-    let mut printed = Vec::new(alloc);
-    let mut said = Vec::new(alloc);
-    let checked = check_input(alloc, mode, form, None, &mut input, &mut printed, &mut said);
-    assert_eq!(rt; checked.status, 4);
-    assert!(rt; checked.rest.is_ok());
-    assert_eq!(rt; input.given, len);
+    let told = checked_input(rt, alloc, mode, form, None, &mut input);
+    status_is(rt, told.status, 4);
+    holds(rt, "read to its end", told.is_read);
+    holds(rt, "so many bytes", input.given == len);
 }
 
 /// Fails where what stands behind the front is left unread: as many bytes again, so many times.
 fn front_is_read(rt: &impl Abort, alloc: Global, mode: Mode, front: &str, times: usize) {
-    let rest = front.repeat(alloc, times).expect(rt, "memory");
-    let all = format!(in alloc; "{front}{rest}").expect(rt, "memory");
-    let bytes = all.as_str().as_bytes();
+    let rest = kept_text(rt, alloc, front.repeat(alloc, times));
+    let bytes = kept_text(rt, alloc, format!(in alloc; "{front}{rest}")).as_bytes();
     all_is_read(rt, alloc, mode, Form::Text, bytes, bytes.len());
     all_is_read(rt, alloc, mode, Form::Json, bytes, bytes.len());
 }
@@ -94,21 +92,24 @@ fn front_is_read(rt: &impl Abort, alloc: Global, mode: Mode, front: &str, times:
 /// Fails where what stands behind the lines of those names is left unread, which is more than one read gives.
 fn row_is_read(rt: &impl Abort, alloc: Global, mode: Mode, lines: &str, row: &str) {
     let stream = stream_of(rt, alloc, lines, row);
-    front_is_read(rt, alloc, mode, stream.as_str(), 1_000);
+    front_is_read(rt, alloc, mode, stream, 1_000);
+}
+
+/// The same of each row of the table.
+fn rows_are_read(rt: &impl Abort, alloc: Global, mode: Mode, lines: &str, table: &str) {
+    for row in table.trim().lines() {
+        row_is_read(rt, alloc, mode, lines, row);
+    }
 }
 
 #[test]
 fn behind_each_fault(rt: HostRuntime) {
-    for row in ROWS.trim().lines() {
-        row_is_read(&rt, rt.alloc(), Mode::PLAIN, LINES, row);
-    }
+    rows_are_read(&rt, rt.alloc(), Mode::PLAIN, LINES, ROWS);
 }
 
 #[test]
 fn behind_faults_of_a_log(rt: HostRuntime) {
-    for row in LOG_ROWS.trim().lines() {
-        row_is_read(&rt, rt.alloc(), FIND, LOG, row);
-    }
+    rows_are_read(&rt, rt.alloc(), FIND, LOG, LOG_ROWS);
 }
 
 #[test]
@@ -116,7 +117,7 @@ fn behind_steps_that_are_too_many(rt: HostRuntime) {
     let alloc = rt.alloc();
     for name in OVERLAPPING.split(' ') {
         let front = overlapping(&rt, alloc, name);
-        front_is_read(&rt, alloc, Mode::PLAIN, front.as_str(), 1);
+        front_is_read(&rt, alloc, Mode::PLAIN, front, 1);
     }
 }
 
@@ -131,27 +132,15 @@ fn behind_a_line_that_is_too_long(rt: HostRuntime) {
 /// A read that fails there ends it, and what was said stays so.
 #[test]
 fn behind_a_fault_a_read_fails(rt: HostRuntime) {
-    let alloc = rt.alloc();
     let mut input = Broken {
         bytes: b"no message\nand more\n",
         is_interrupted: false,
     };
-    let mut printed = Vec::new(alloc);
-    let mut said = Vec::new(alloc);
-    let checked = check_input(
-        alloc,
-        Mode::PLAIN,
-        Form::Text,
-        None,
-        &mut input,
-        &mut printed,
-        &mut said,
-    );
-    assert_eq!(rt; checked.status, 4);
-    assert!(rt; checked.rest.is_err());
-    assert!(rt; printed.is_empty());
-    let line: &[u8] = b"applystream: line 1 is not a message: no message\n";
-    assert_eq!(rt; said.as_slice(), line);
+    let (alloc, mode) = (rt.alloc(), Mode::PLAIN);
+    let told = checked_input(&rt, alloc, mode, Form::Text, None, &mut input);
+    holds(&rt, "not read to its end", !told.is_read);
+    let line = "applystream: line 1 is not a message: no message\n";
+    outcome_is(&rt, told, 4, "", line);
 }
 
 /// Fails where that argument leaves another number of bytes unread, or ends with another status.
@@ -164,23 +153,10 @@ fn argument_leaves<F: Files>(
     status: u8,
     left: usize,
 ) {
-    let mut words = Vec::new(alloc);
-    let word = String::from_str(alloc, word).expect(rt, "memory");
-    words.push(word).expect(rt, "memory");
     let mut input: &[u8] = b"{}\n{}\n";
-    let mut printed = Vec::new(alloc);
-    let mut said = Vec::new(alloc);
-    let found = follow(
-        files,
-        alloc,
-        &words,
-        is_terminal,
-        &mut input,
-        &mut printed,
-        &mut said,
-    );
-    assert_eq!(rt; found.status, status);
-    assert_eq!(rt; input.len(), left);
+    let told = followed(rt, files, alloc, word, is_terminal, &mut input);
+    status_is(rt, told.status, status);
+    holds(rt, word, input.len() == left);
 }
 
 /// Where the arguments were refused too, but not at a terminal, at which nobody writes, and not where help was asked for.

@@ -1,5 +1,6 @@
 //! What is said is sent on before the rest is read, which may take as long as an apply.
 
+use super::commands::{status_is, words_of};
 use super::*;
 use std::cell::Cell;
 
@@ -85,26 +86,34 @@ fn comes_first<F: Files>(
     front: &str,
     status: u8,
 ) {
-    let world = World::new();
-    let mut words = Vec::new(alloc);
-    let word = String::from_str(alloc, word).expect(rt, "memory");
-    words.push(word).expect(rt, "memory");
-    let mut input = Fronted {
-        world: &world,
-        front: front.as_bytes(),
-    };
-    let found = follow(
+    let world = &*kept(rt, alloc, World::new());
+    let ended = status_in(world, files, alloc, words_of(rt, alloc, word), front);
+    status_is(rt, ended, status);
+    holds(rt, "four reads", world.reads.get() == 4);
+    holds(rt, "not held back", !world.is_held_back.get());
+}
+
+/// The status of the words, with an input that begins with the front.
+fn status_in<F: Files>(
+    world: &World,
+    files: &F,
+    alloc: Global,
+    words: &[String],
+    front: &str,
+) -> u8 {
+    let front = front.as_bytes();
+    let mut input = Fronted { world, front };
+    let (mut out, mut faults) = (Noting(world), Noting(world));
+    follow(
         files,
         alloc,
-        &words,
+        words,
         false,
         &mut input,
-        &mut Noting(&world),
-        &mut Noting(&world),
-    );
-    assert_eq!(rt; found.status, status);
-    assert_eq!(rt; world.reads.get(), 4);
-    assert!(rt; !world.is_held_back.get());
+        &mut out,
+        &mut faults,
+    )
+    .status
 }
 
 #[test]

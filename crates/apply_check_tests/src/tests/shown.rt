@@ -5,10 +5,11 @@ use super::faults::is_told;
 use super::*;
 
 /// The version, and the start of a create of that address.
-fn start_of(rt: &impl Abort, alloc: Global, address: &str) -> String {
-    format!(in alloc;
+fn start_of(rt: &impl Abort, alloc: Global, address: &str) -> &'static str {
+    let stream = format!(in alloc;
         "{{\"type\":\"version\"}}\n{{\"type\":\"apply_start\",\"hook\":{{\"action\":\"create\",\"resource\":{{\"addr\":\"{address}\"}}}}}}\n"
-    ).expect(rt, "memory")
+    );
+    kept_text(rt, alloc, stream)
 }
 
 /// Fails where people are shown something else in the place of so many letters, behind which the text stands. Programs get
@@ -18,28 +19,39 @@ fn long_address_is(
     alloc: Global,
     letters: usize,
     rest: &str,
-    kept: usize,
+    shown: usize,
     end: &str,
 ) {
-    let front = "x".repeat(alloc, letters).expect(rt, "memory");
-    let address = format!(in alloc; "{front}{rest}").expect(rt, "memory");
-    let stream = start_of(rt, alloc, address.as_str());
-    let shown = "x".repeat(alloc, kept).expect(rt, "memory");
+    let address = letters_and(rt, alloc, letters, rest);
+    let stream = start_of(rt, alloc, address);
+    shown_is(rt, alloc, stream, letters_and(rt, alloc, shown, end));
+    whole_address_is(rt, alloc, stream, address);
+}
+
+/// So many letters, behind which the text stands.
+fn letters_and(rt: &impl Abort, alloc: Global, letters: usize, rest: &str) -> &'static str {
+    let front = kept_text(rt, alloc, "x".repeat(alloc, letters));
+    kept_text(rt, alloc, format!(in alloc; "{front}{rest}"))
+}
+
+/// Fails where people are shown another address.
+fn shown_is(rt: &impl Abort, alloc: Global, stream: &str, shown: &str) {
     let line = format!(in alloc;
-        "applystream: line 2 comes before all has ended and each failure is explained: create of {shown}{end} since line 2\n"
-    ).expect(rt, "memory");
-    let told = checked(alloc, Mode::PLAIN, Form::Text, stream.as_str().as_bytes());
-    is_told(rt, Form::Text, &told, line.as_str());
-    whole_address_is(rt, alloc, stream.as_str(), address.as_str());
+        "applystream: line 2 comes before all has ended and each failure is explained: create of {shown} since line 2"
+    );
+    let line = kept_text(rt, alloc, line);
+    let told = checked(rt, alloc, Mode::PLAIN, Form::Text, stream);
+    is_told(rt, Form::Text, told, line);
 }
 
 /// Fails where programs get another address.
 fn whole_address_is(rt: &impl Abort, alloc: Global, stream: &str, address: &str) {
     let line = format!(in alloc;
-        "{{\"fault\":\"unended\",\"line\":2,\"open\":[{{\"address\":\"{address}\",\"kind\":\"create\",\"line\":2}}],\"whole\":false}}\n"
-    ).expect(rt, "memory");
-    let told = checked(alloc, Mode::PLAIN, Form::Json, stream.as_bytes());
-    is_told(rt, Form::Json, &told, line.as_str());
+        "{{\"fault\":\"unended\",\"line\":2,\"open\":[{{\"address\":\"{address}\",\"kind\":\"create\",\"line\":2}}],\"whole\":false}}"
+    );
+    let line = kept_text(rt, alloc, line);
+    let told = checked(rt, alloc, Mode::PLAIN, Form::Json, stream);
+    is_told(rt, Form::Json, told, line);
 }
 
 /// A text of more than 1,024 bytes, as it is shown, is cut at a character, and ends with three dots within them.
@@ -56,17 +68,19 @@ fn long_addresses(rt: HostRuntime) {
 fn add_start(rt: &impl Abort, alloc: Global, stream: &mut String, number: u64) {
     let line = format!(in alloc;
         "{{\"type\":\"apply_start\",\"hook\":{{\"action\":\"create\",\"resource\":{{\"addr\":\"k{number}\"}}}}}}\n"
-    ).expect(rt, "memory");
-    stream.push_str(line.as_str()).expect(rt, "memory");
+    );
+    let line = kept_text(rt, alloc, line);
+    stream.push_str(line).expect(rt, "memory");
 }
 
 /// The version, and so many starts of creates, of k10 and those behind it.
-fn starts(rt: &impl Abort, alloc: Global, count: u64) -> String {
-    let mut stream = String::from_str(alloc, "{\"type\":\"version\"}\n").expect(rt, "memory");
+fn starts(rt: &impl Abort, alloc: Global, count: u64) -> &'static str {
+    let version = String::from_str(alloc, "{\"type\":\"version\"}\n");
+    let stream = kept(rt, alloc, version.expect(rt, "memory"));
     for number in 0..count {
-        add_start(rt, alloc, &mut stream, number.wrapping_add(10));
+        add_start(rt, alloc, stream, number.wrapping_add(10));
     }
-    stream
+    stream.as_str()
 }
 
 /// The first ten of what stands open.
@@ -77,10 +91,11 @@ const TEN: &str =
 fn open_is(rt: &impl Abort, alloc: Global, count: u64, line: u64, rest: &str) {
     let stream = starts(rt, alloc, count);
     let said = format!(in alloc;
-        "applystream: line {line} comes before all has ended and each failure is explained: {count} stand open: {TEN}{rest}\n"
-    ).expect(rt, "memory");
-    let told = checked(alloc, Mode::PLAIN, Form::Text, stream.as_str().as_bytes());
-    is_told(rt, Form::Text, &told, said.as_str());
+        "applystream: line {line} comes before all has ended and each failure is explained: {count} stand open: {TEN}{rest}"
+    );
+    let said = kept_text(rt, alloc, said);
+    let told = checked(rt, alloc, Mode::PLAIN, Form::Text, stream);
+    is_told(rt, Form::Text, told, said);
 }
 
 #[test]
@@ -95,18 +110,17 @@ fn more_than_ten_stand_open(rt: HostRuntime) {
 #[test]
 fn all_that_stands_open(rt: HostRuntime) {
     let alloc = rt.alloc();
-    let stream = starts(&rt, alloc, 12);
+    let (stream, form) = (starts(&rt, alloc, 12), Form::Json);
     is_told(
         &rt,
-        Form::Json,
-        &checked(alloc, Mode::PLAIN, Form::Json, stream.as_str().as_bytes()),
+        form,
+        checked(&rt, alloc, Mode::PLAIN, form, stream),
         concat!(
             r#"{"fault":"unended","line":13,"open":[{"address":"k10","kind":"create","line":2},{"address":"k11","kind":"create","line":3},"#,
             r#"{"address":"k12","kind":"create","line":4},{"address":"k13","kind":"create","line":5},{"address":"k14","kind":"create","line":6},"#,
             r#"{"address":"k15","kind":"create","line":7},{"address":"k16","kind":"create","line":8},{"address":"k17","kind":"create","line":9},"#,
             r#"{"address":"k18","kind":"create","line":10},{"address":"k19","kind":"create","line":11},{"address":"k20","kind":"create","line":12},"#,
-            r#"{"address":"k21","kind":"create","line":13}],"whole":false}"#,
-            "\n"
+            r#"{"address":"k21","kind":"create","line":13}],"whole":false}"#
         ),
     );
 }
