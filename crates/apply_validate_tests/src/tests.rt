@@ -1,7 +1,7 @@
 //! What no clause says: the texts of findings, and which exit status follows.
 
 use apply_validate::findings_of;
-use apply_validate_command::found_text;
+use apply_validate_command::{found_text, validate};
 use std::alloc::Global;
 use std::process::Abort;
 
@@ -388,4 +388,32 @@ fn what_a_run_refuses_beside_the_plan_is_told(rt: HostRuntime) {
     );
     assert_eq!(rt; text.as_str(), "plan and script are accepted\n");
     assert_eq!(rt; refuses, false);
+}
+
+/// Fails where validating ends with another status, or something is said beside what is found.
+fn ends_with(rt: &impl Abort, alloc: Global, plan: &str, script: Option<&str>, status: u8) {
+    let script = match script {
+        Some(text) => Some(text.as_bytes()),
+        None => None,
+    };
+    let mut out = Vec::new(alloc);
+    let mut faults = Vec::new(alloc);
+    let plan = plan.as_bytes();
+    let found = validate(alloc, false, plan, script, &mut out, &mut faults);
+    assert_eq!(rt; found, status);
+    assert!(rt; faults.is_empty());
+}
+
+#[test]
+fn what_is_found_has_its_status(rt: HostRuntime) {
+    let alloc = rt.alloc();
+    ends_with(&rt, alloc, PLAN, None, 0);
+    ends_with(&rt, alloc, PLAN, Some(r#"{"changes":[]}"#), 0);
+    let unread = r#"{"changes":[],"change":[]}"#;
+    ends_with(&rt, alloc, PLAN, Some(unread), 1);
+    ends_with(&rt, alloc, "{", None, 2);
+    ends_with(&rt, alloc, "{", Some(unread), 2);
+    ends_with(&rt, alloc, PLAN, Some("7"), 2);
+    let unknown = r#"{"changes":[{"address":"a.x","steps":[]}]}"#;
+    ends_with(&rt, alloc, PLAN, Some(unknown), 2);
 }
