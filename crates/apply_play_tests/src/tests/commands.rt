@@ -211,6 +211,8 @@ fn words(rt: HostRuntime) {
         2,
         "applystream: the file no such file could not be opened: ",
     );
+    let with_blanks = "applystream: the file  no such file  could not be opened: ";
+    word_gets(&rt, &rt, alloc, " no such file ", 2, with_blanks);
 }
 
 /// At a terminal, at which nobody writes, refused words and a file that can't be opened leave the input as it is; so does a file
