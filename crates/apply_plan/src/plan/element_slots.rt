@@ -7,7 +7,6 @@ ghost use Rattle.apply_plan.specs.Plan.Members.{HoldsElement, name_of, with_scal
 
 use crate::plan::element_member::ElementMember;
 use crate::plan::planned_change::PlannedChange;
-use crate::text_test::is_text;
 use apply_json::{ReadFault, Reader, Scalar, Slots, pass, read_scalar};
 use std::alloc::Global;
 
@@ -69,7 +68,7 @@ impl<'a> Slots<'a> for ElementSlots<'a> {
         reader: &mut Reader<'a>,
         depth: usize,
     ) -> Result<(), ReadFault> {
-        if is_text(name, "change") {
+        if name == "change" {
             self.change = PlannedChange::read(alloc, reader, depth)?;
             return Ok(());
         }
@@ -92,19 +91,19 @@ fn scalar_of_name(name: &str) -> Option<ElementMember>
     ensures { MatchOption result ((member : ElementMember) → bytes_eq name.now (name_of member) ≡ false)
         (λ member. bytes_eq name.now (name_of member) ≡ true) }
 {
-    if is_text(name, "address") {
+    if name == "address" {
         Some(ElementMember::Address)
-    } else if is_text(name, "mode") {
+    } else if name == "mode" {
         Some(ElementMember::Mode)
-    } else if is_text(name, "type") {
+    } else if name == "type" {
         Some(ElementMember::Type)
-    } else if is_text(name, "name") {
+    } else if name == "name" {
         Some(ElementMember::Name)
-    } else if is_text(name, "module_address") {
+    } else if name == "module_address" {
         Some(ElementMember::ModuleAddress)
-    } else if is_text(name, "index") {
+    } else if name == "index" {
         Some(ElementMember::Index)
-    } else if is_text(name, "deposed") {
+    } else if name == "deposed" {
         Some(ElementMember::Deposed)
     } else {
         None

@@ -14,23 +14,13 @@ use apply_model::{MAX_PROVISIONERS, MAX_SECONDS, Outcome, Provisioners, Waits};
 use std::alloc::{AllocError, Global};
 
 /// What comes of a step, each of whose members obeys its rule.
+#[derive(Drop)]
 pub struct TreeOutcome<'a> {
     /// Any number of 64 bits: whether it is small enough is asked later.
     pub seconds: u64,
     /// Any number of provisioners, likewise.
     pub provisioners: Vec<TreeProvisioner<'a>>,
     pub result: TreeEnding<'a>,
-}
-
-// Written out, so that values in which one stands are dropped by a call.
-impl<'a> Drop for TreeOutcome<'a> {
-    fn drop(self) {
-        let TreeOutcome {
-            seconds: _,
-            provisioners: _,
-            result: _,
-        } = self;
-    }
 }
 
 impl<'a> TreeOutcome<'a> {
