@@ -233,9 +233,13 @@ const OF_PLAN_OR_SCRIPT: [&str; 6] = [
 
 /// Fails where the text is not the line of this fault, and behind that of a plan or a script the line that names `validate`.
 fn says(rt: &impl Abort, case: &str, said: &str, fault: &str) {
+    line_is(rt, case, said, fault, end_of(fault));
+}
+
+/// Fails where the text is not the line of this fault with that end.
+fn line_is(rt: &impl Abort, case: &str, said: &str, fault: &str, end: &str) {
     let line = said.strip_prefix("applystream: ").expect(rt, case);
-    let found = line.strip_suffix(end_of(fault)).expect(rt, case);
-    text_is(rt, case, found, fault);
+    text_is(rt, case, line.strip_suffix(end).expect(rt, case), fault);
 }
 
 /// What is said behind the fault.

@@ -5,22 +5,10 @@ use super::*;
 /// Fails where the usage has another status, or other texts are printed or said of it.
 fn answer_is(rt: &impl Abort, alloc: Global, usage: Usage, status: u8, printed: &str, said: &str) {
     let usage = kept(rt, alloc, usage);
-    outcome_is(
-        rt,
-        name_of(usage),
-        answered(rt, alloc, usage),
-        status,
-        printed,
-        said,
-    );
-}
-
-/// What is done about a usage.
-fn answered(rt: &impl Abort, alloc: Global, usage: &Usage) -> Outcome {
-    let mut printed = Vec::new(alloc);
-    let mut said = Vec::new(alloc);
-    let status = answer_usage(usage, &mut printed, &mut said);
-    outcome_of(rt, alloc, status, printed, said)
+    let (mut out, mut faults) = (Vec::new(alloc), Vec::new(alloc));
+    let found = answer_usage(usage, &mut out, &mut faults);
+    let outcome = outcome_of(rt, alloc, found, out, faults);
+    outcome_is(rt, name_of(usage), outcome, status, printed, said);
 }
 
 /// A usage that asks for help, with that text.

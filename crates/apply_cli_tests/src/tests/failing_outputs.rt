@@ -74,9 +74,6 @@ fn takes_so_many<T: Threads + Wait + Sync + Abort>(
     }
 }
 
-/// The most bytes that an output takes with each write: single ones, few, and whole lines.
-const WRITES: [usize; 3] = [1, 7, 4096];
-
 /// Whatever byte is the first that an output which takes so many with each write does not take: it has all before it and
 /// nothing more.
 fn fails_with_each_write<T: Threads + Wait + Sync + Abort>(
@@ -90,11 +87,11 @@ fn fails_with_each_write<T: Threads + Wait + Sync + Abort>(
     }
 }
 
-/// The same, by however many it takes.
+/// The same, by however many it takes: single bytes, few, and whole lines.
 fn fails_at_each_byte<T: Threads + Wait + Sync + Abort>(rt: &T, alloc: Global, workers: u8) {
-    for per_write in WRITES {
-        fails_with_each_write(rt, alloc, workers, per_write);
-    }
+    fails_with_each_write(rt, alloc, workers, 1);
+    fails_with_each_write(rt, alloc, workers, 7);
+    fails_with_each_write(rt, alloc, workers, 4096);
 }
 
 #[test]
@@ -132,9 +129,10 @@ fn fails_to_flush<T: Threads + Wait + Sync + Abort>(rt: &T, alloc: Global, worke
 
 #[test]
 fn a_flush_that_fails_is_said_so(rt: HostRuntime) {
-    for workers in [1, 2, 8] {
-        fails_to_flush(&rt, rt.alloc(), workers);
-    }
+    let alloc = rt.alloc();
+    fails_to_flush(&rt, alloc, 1);
+    fails_to_flush(&rt, alloc, 2);
+    fails_to_flush(&rt, alloc, 8);
 }
 
 /// Where the place for faults takes nothing either, the status is the same.
@@ -179,8 +177,9 @@ fn goes_out<D: Display + Drop>(rt: &impl Abort, alloc: Global, fault: D, wanted:
         writes: 0,
     };
     report(&mut said, fault);
-    says(rt, wanted, kept_bytes(rt, alloc, said.taken), wanted);
-    said.writes
+    let (said, writes) = (kept_bytes(rt, alloc, said.taken), said.writes);
+    line_is(rt, wanted, said, wanted, "\n");
+    writes
 }
 
 /// Fails where the fault has another text, or goes out in another number of writes than one.

@@ -49,9 +49,10 @@ fn a_plan_that_is_too_large_is_refused(rt: HostRuntime) {
 
 #[test]
 fn a_cut_plan_is_refused(rt: HostRuntime) {
-    for end in 0..ONE_CREATE.len() {
-        let plan = front_of(&rt, ONE_CREATE, end).as_bytes();
-        is_refused(&rt, rt.alloc(), plan, "the plan is not JSON");
+    let plan = ONE_CREATE;
+    for end in 0..plan.len() {
+        let front = front_of(&rt, plan, end).as_bytes();
+        is_refused(&rt, rt.alloc(), front, "the plan is not JSON");
     }
 }
 
@@ -189,10 +190,12 @@ fn front_is_written<T: Threads + Wait + Sync + Abort>(
     room: usize,
 ) {
     let front = front_of(rt, printed, room);
-    for per_write in [1, 7, 4096] {
-        let output = with_room(alloc, per_write, room);
-        is_written(rt, alloc, output, 3, front, UNWRITTEN);
-    }
+    let output = with_room(alloc, 1, room);
+    is_written(rt, alloc, output, 3, front, UNWRITTEN);
+    let output = with_room(alloc, 7, room);
+    is_written(rt, alloc, output, 3, front, UNWRITTEN);
+    let output = with_room(alloc, 4096, room);
+    is_written(rt, alloc, output, 3, front, UNWRITTEN);
 }
 
 #[test]
@@ -231,10 +234,11 @@ fn nothing_is_said<T: Threads + Wait + Sync + Abort>(
 
 #[test]
 fn nothing_is_said_where_the_reader_is_gone(rt: HostRuntime) {
-    let whole = printed_of_create(&rt, rt.alloc());
-    for room in [0, 1, whole.len()] {
-        nothing_is_said(&rt, rt.alloc(), whole, room);
-    }
+    let alloc = rt.alloc();
+    let whole = printed_of_create(&rt, alloc);
+    nothing_is_said(&rt, alloc, whole, 0);
+    nothing_is_said(&rt, alloc, whole, 1);
+    nothing_is_said(&rt, alloc, whole, whole.len());
 }
 
 #[test]

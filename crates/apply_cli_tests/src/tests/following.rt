@@ -79,17 +79,12 @@ fn answered<T: Threads + Wait + Sync + Abort + Files>(
     outcome_of(rt, alloc, status, printed, said)
 }
 
-/// Fails where the number has another text.
-fn is_number(rt: &impl Abort, alloc: Global, row: &str, number: u8, wanted: &str) {
-    text_is(rt, row, shown(rt, alloc, &number), wanted);
-}
-
 /// Fails where the words of the row have another status, or another fault is said.
 fn row_is<T: Threads + Wait + Sync + Abort + Files>(rt: &T, alloc: Global, row: &str) {
     let (words, rest) = parted(rt, row, " => ");
     let (status, said) = parted(rt, rest, " =>");
     let outcome = answered(rt, alloc, words);
-    is_number(rt, alloc, row, outcome.status, status);
+    text_is(rt, row, shown(rt, alloc, &outcome.status), status);
     match said.strip_prefix(" applystream: ") {
         Some(fault) => says(rt, row, outcome.said, fault),
         None => text_is(rt, row, outcome.said, said),
@@ -103,23 +98,20 @@ fn words_have_their_statuses(rt: HostRuntime) {
     }
 }
 
-/// Words by which a hook halts the delete: beside two workers, and in lanes.
-const HALTING: &str = "--workers 2 --halt-before delete
---workers 2 --halt-in null_resource.a
---parallelism 2 --halt-before delete
---halt-in null_resource.a --parallelism 64";
-
 /// Fails where the delete is not halted by these words.
 fn halts<T: Threads + Wait + Sync + Abort + Files>(rt: &T, alloc: Global, words: &str) {
     let outcome = answered(rt, alloc, words);
     outcome_is(rt, words, outcome, 1, HALTED, "");
 }
 
+/// Beside two workers, and in lanes.
 #[test]
 fn a_hook_halts(rt: HostRuntime) {
-    for words in HALTING.lines() {
-        halts(&rt, rt.alloc(), words);
-    }
+    let alloc = rt.alloc();
+    halts(&rt, alloc, "--workers 2 --halt-before delete");
+    halts(&rt, alloc, "--workers 2 --halt-in null_resource.a");
+    halts(&rt, alloc, "--parallelism 2 --halt-before delete");
+    halts(&rt, alloc, "--halt-in null_resource.a --parallelism 64");
 }
 
 /// Fails where nothing printed has this text.
@@ -190,31 +182,29 @@ fn brought_out<T: Threads + Wait + Sync + Abort + Files>(
     }
 }
 
-/// Words whose output is flushed, and their status.
-const FLUSHED: &str = " => 0
---help => 0
---version => 0
---halt-before delete => 1
---parallelism 2 => 0
---form terraform => 0
---form terraform --parallelism 2 => 0";
-
-/// Fails where what the words of the row print is not all flushed.
-fn all_is_flushed<T: Threads + Wait + Sync + Abort + Files>(rt: &T, alloc: Global, row: &str) {
-    let (words, status) = parted(rt, row, " => ");
+/// Fails where what the words print is not all flushed, or they have another status.
+fn all_is_flushed<T: Threads + Wait + Sync + Abort + Files>(
+    rt: &T,
+    alloc: Global,
+    words: &str,
+    status: u8,
+) {
     let wanted = answered(rt, alloc, words);
     let found = brought_out(rt, alloc, words);
     holds(rt, words, wanted.printed.ends_with("\n"));
-    is_number(rt, alloc, words, found.status, status);
-    text_is(rt, words, found.printed, wanted.printed);
-    text_is(rt, words, found.said, "");
+    outcome_is(rt, words, found, status, wanted.printed, "");
 }
 
 #[test]
 fn what_is_printed_is_flushed(rt: HostRuntime) {
-    for row in FLUSHED.lines() {
-        all_is_flushed(&rt, rt.alloc(), row);
-    }
+    let alloc = rt.alloc();
+    all_is_flushed(&rt, alloc, "", 0);
+    all_is_flushed(&rt, alloc, "--help", 0);
+    all_is_flushed(&rt, alloc, "--version", 0);
+    all_is_flushed(&rt, alloc, "--halt-before delete", 1);
+    all_is_flushed(&rt, alloc, "--parallelism 2", 0);
+    all_is_flushed(&rt, alloc, "--form terraform", 0);
+    all_is_flushed(&rt, alloc, "--form terraform --parallelism 2", 0);
 }
 
 /// Fails where the version has another status over this output, or other texts are printed or said.
@@ -261,20 +251,16 @@ fn whole_version_is<T: Threads + Wait + Sync + Abort + Files>(
     version_is(rt, alloc, words, output, 3, line, UNWRITTEN);
 }
 
-/// Words that ask for the version.
-const VERSIONS: &str = "--version
--V
---destroy -V";
-
 #[test]
 fn the_version_is_printed(rt: HostRuntime) {
-    let line = version_of(&rt, rt.alloc());
+    let alloc = rt.alloc();
+    let line = version_of(&rt, alloc);
     for room in 0..line.len() {
-        front_of_version_is(&rt, rt.alloc(), line, room);
+        front_of_version_is(&rt, alloc, line, room);
     }
-    for words in VERSIONS.lines() {
-        whole_version_is(&rt, rt.alloc(), line, words);
-    }
+    whole_version_is(&rt, alloc, line, "--version");
+    whole_version_is(&rt, alloc, line, "-V");
+    whole_version_is(&rt, alloc, line, "--destroy -V");
 }
 
 /// Follows settings, with the replacement as the input.
@@ -304,7 +290,7 @@ fn with_33_halts(rt: &impl Abort, alloc: Global) -> &'static Settings {
 
 #[test]
 fn more_halts_than_hooks_are_refused(rt: HostRuntime) {
-    let settings = with_33_halts(&rt, rt.alloc());
-    let outcome = invoked(&rt, rt.alloc(), settings);
+    let alloc = rt.alloc();
+    let outcome = invoked(&rt, alloc, with_33_halts(&rt, alloc));
     outcome_fails(&rt, "33 halts", outcome, 2, "more than 32 hooks");
 }

@@ -81,8 +81,9 @@ fn workers_make<T: Threads + Wait + Sync + Abort>(
 
 #[test]
 fn one_lane_does_what_one_worker_does(rt: HostRuntime) {
-    let wanted = workers_make(&rt, rt.alloc(), 1, SCRIPT);
-    let found = lanes_make(&rt, rt.alloc(), 1, CREATES, SCRIPT);
+    let (alloc, script) = (rt.alloc(), SCRIPT);
+    let wanted = workers_make(&rt, alloc, 1, script);
+    let found = lanes_make(&rt, alloc, 1, CREATES, script);
     outcome_is(&rt, "one lane", found, 1, wanted.printed, "");
     status_is(&rt, "one worker", wanted.status, 1);
 }
@@ -120,18 +121,20 @@ fn refused_plans_print_nothing_in_lanes(rt: HostRuntime) {
 /// Numbers of lanes that are out of range are looked at last.
 fn lanes_are_looked_at_last(rt: &impl Abort, alloc: Global, lanes: u8) {
     let sizes = "the sizes are out of range";
-    is_refused(rt, alloc, lanes, CREATES, NO_SCRIPT, sizes);
-    is_refused(rt, alloc, lanes, CREATES, "{", "the script is not JSON");
+    let plan = CREATES;
+    is_refused(rt, alloc, lanes, plan, NO_SCRIPT, sizes);
+    is_refused(rt, alloc, lanes, plan, "{", "the script is not JSON");
     is_refused(rt, alloc, lanes, "", "{", "the plan is not JSON");
 }
 
 /// The plan is looked at before the script, and both before the lanes.
 #[test]
 fn what_is_refused_in_lanes_is_refused_in_its_order(rt: HostRuntime) {
-    for lanes in [0, 65, 255] {
-        lanes_are_looked_at_last(&rt, rt.alloc(), lanes);
-    }
-    is_refused(&rt, rt.alloc(), 2, CREATES, "{", "the script is not JSON");
+    let alloc = rt.alloc();
+    lanes_are_looked_at_last(&rt, alloc, 0);
+    lanes_are_looked_at_last(&rt, alloc, 65);
+    lanes_are_looked_at_last(&rt, alloc, 255);
+    is_refused(&rt, alloc, 2, CREATES, "{", "the script is not JSON");
 }
 
 #[test]
@@ -164,12 +167,13 @@ fn front_is(rt: &impl Abort, alloc: Global, room: usize) {
 /// Whatever the output does not take first, among places of each line: it has all before it and nothing more.
 #[test]
 fn an_output_that_fails_in_lanes_is_said_so(rt: HostRuntime) {
-    let alloc = rt.alloc();
-    for room in (0..STREAM.len()).step_by(61) {
+    let (alloc, stream) = (rt.alloc(), STREAM);
+    let whole = stream.len();
+    for room in (0..whole).step_by(61) {
         front_is(&rt, alloc, room);
     }
-    let outcome = run_to_failure(&rt, alloc, with_room(alloc, 7, STREAM.len()));
-    outcome_is(&rt, "all of it", outcome, 1, STREAM, "");
-    let outcome = run_to_failure(&rt, alloc, unflushed(alloc, STREAM.len()));
-    outcome_is(&rt, "no flush", outcome, 3, STREAM, UNWRITTEN);
+    let outcome = run_to_failure(&rt, alloc, with_room(alloc, 7, whole));
+    outcome_is(&rt, "all of it", outcome, 1, stream, "");
+    let outcome = run_to_failure(&rt, alloc, unflushed(alloc, whole));
+    outcome_is(&rt, "no flush", outcome, 3, stream, UNWRITTEN);
 }

@@ -101,8 +101,9 @@ fn a_script_that_is_too_large_is_refused(rt: HostRuntime) {
 
 #[test]
 fn sizes_out_of_range_are_refused(rt: HostRuntime) {
-    let settings = kept(&rt, rt.alloc(), with_workers(rt.alloc(), 9));
-    let outcome = run_as(&rt, rt.alloc(), settings, REPLACED);
+    let alloc = rt.alloc();
+    let settings = kept(&rt, alloc, with_workers(alloc, 9));
+    let outcome = run_as(&rt, alloc, settings, REPLACED);
     let fault = "the sizes are out of range";
     outcome_fails(&rt, "nine workers", outcome, 2, fault);
 }
@@ -112,14 +113,15 @@ const AT: &str = "--at 2021-05-25T13:32:41.275359-04:00";
 
 #[test]
 fn moments_count_from_the_start(rt: HostRuntime) {
-    let settings = settings_of(&rt, rt.alloc(), AT);
-    let outcome = run_as(&rt, rt.alloc(), settings, EMPTY);
+    let alloc = rt.alloc();
+    let outcome = run_as(&rt, alloc, settings_of(&rt, alloc, AT), EMPTY);
     outcome_is(&rt, AT, outcome, 0, STARTED, "");
 }
 
 #[test]
 fn a_destroy_is_said_at_the_end(rt: HostRuntime) {
-    let settings = settings_of(&rt, rt.alloc(), "--destroy");
-    let outcome = run_as(&rt, rt.alloc(), settings, DELETES);
+    let alloc = rt.alloc();
+    let settings = settings_of(&rt, alloc, "--destroy");
+    let outcome = run_as(&rt, alloc, settings, DELETES);
     outcome_ends(&rt, "--destroy", outcome, 0, DESTROYED);
 }

@@ -106,27 +106,36 @@ const ESCAPED_PLAN: &str =
 const ESCAPED_STREAM: &str =
     "{\"@level\":\"info\",\"@message\":\"Terraform 1.9.0\",\"@module\":\"terraform.ui\",\"@timestamp\":\"1970-01-01T00:00:00Z\",\"terraform\":\"1.9.0\",\"type\":\"version\",\"ui\":\"1.0\"}\n{\"@level\":\"info\",\"@message\":\"a.b[\\\"\\u0001\\b\\t\\n\\f\\r\\u001f\u{7f}\u{2028}/é\\\"]: Creating...\",\"@module\":\"terraform.ui\",\"@timestamp\":\"1970-01-01T00:00:00Z\",\"hook\":{\"action\":\"create\",\"resource\":{\"addr\":\"a.b[\\\"\\u0001\\b\\t\\n\\f\\r\\u001f\u{7f}\u{2028}/é\\\"]\",\"implied_provider\":\"a\",\"module\":\"\",\"resource\":\"a.b[\\\"\\u0001\\b\\t\\n\\f\\r\\u001f\u{7f}\u{2028}/é\\\"]\",\"resource_key\":\"\\u0001\\b\\t\\n\\f\\r\\u001f\u{7f}\u{2028}/é\",\"resource_name\":\"b\",\"resource_type\":\"a\"}},\"type\":\"apply_start\"}\n{\"@level\":\"info\",\"@message\":\"a.b[\\\"\\u0001\\b\\t\\n\\f\\r\\u001f\u{7f}\u{2028}/é\\\"]: Creation complete after 0s\",\"@module\":\"terraform.ui\",\"@timestamp\":\"1970-01-01T00:00:00Z\",\"hook\":{\"action\":\"create\",\"elapsed_seconds\":0,\"resource\":{\"addr\":\"a.b[\\\"\\u0001\\b\\t\\n\\f\\r\\u001f\u{7f}\u{2028}/é\\\"]\",\"implied_provider\":\"a\",\"module\":\"\",\"resource\":\"a.b[\\\"\\u0001\\b\\t\\n\\f\\r\\u001f\u{7f}\u{2028}/é\\\"]\",\"resource_key\":\"\\u0001\\b\\t\\n\\f\\r\\u001f\u{7f}\u{2028}/é\",\"resource_name\":\"b\",\"resource_type\":\"a\"}},\"type\":\"apply_complete\"}\n{\"@level\":\"info\",\"@message\":\"Apply complete! Resources: 1 added, 0 changed, 0 destroyed.\",\"@module\":\"terraform.ui\",\"@timestamp\":\"1970-01-01T00:00:00Z\",\"changes\":{\"add\":1,\"change\":0,\"operation\":\"apply\",\"remove\":0},\"type\":\"change_summary\"}\n";
 
-/// Fails where a run has failed, a fault was said, or other lines were printed, each with its line feed. The last of those
-/// that are wanted has none.
-fn lines_are(rt: &impl Abort, name: &str, outcome: Outcome, wanted: &str) {
-    status_is(rt, name, outcome.status, 0);
-    let lines = outcome.printed.strip_suffix("\n").expect(rt, name);
-    text_is(rt, name, lines, wanted);
-    text_is(rt, name, outcome.said, "");
-}
-
-/// Fails where the plan of the case is told by other lines.
+/// Fails where the run of the case's plan has failed, a fault was said, or other lines were printed, each with its line
+/// feed. The last of those that are wanted has none.
 fn case_is_told<T: Threads + Wait + Sync + Abort>(rt: &T, alloc: Global, case: &str) {
     let (name, rest) = parted(rt, case, "\n");
     let (plan, wanted) = parted(rt, rest, "\n");
-    lines_are(rt, name, run(rt, alloc, plan.as_bytes()), wanted);
+    let outcome = run(rt, alloc, plan.as_bytes());
+    let lines = outcome.printed.strip_suffix("\n").expect(rt, name);
+    outcome_is(
+        rt,
+        name,
+        Outcome {
+            printed: lines,
+            ..outcome
+        },
+        0,
+        wanted,
+        "",
+    );
+}
+
+/// The same of each case.
+fn cases_are_told<T: Threads + Wait + Sync + Abort>(rt: &T, alloc: Global, cases: &str) {
+    for case in cases.split("\n\n") {
+        case_is_told(rt, alloc, case);
+    }
 }
 
 #[test]
 fn streams_are_printed_byte_for_byte(rt: HostRuntime) {
-    for case in STREAMS.split("\n\n") {
-        case_is_told(&rt, rt.alloc(), case);
-    }
+    cases_are_told(&rt, rt.alloc(), STREAMS);
 }
 
 #[test]

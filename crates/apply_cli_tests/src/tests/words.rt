@@ -94,12 +94,17 @@ fn fault_of(rt: &impl Abort, alloc: Global, usage: &Usage) -> &'static str {
 
 #[test]
 fn words_say_settings(rt: HostRuntime) {
+    let alloc = rt.alloc();
     for row in TABLE.lines() {
         let (words, wanted) = parted(&rt, row, " => ");
-        text_is(&rt, words, answer_to(&rt, rt.alloc(), words), wanted);
-        let answer = settings_answer_to(&rt, rt.alloc(), words);
-        text_is(&rt, words, answer, wanted);
+        text_is(&rt, words, answer_to(&rt, alloc, words), wanted);
+        settings_answer_is(&rt, alloc, words, wanted);
     }
+}
+
+/// Fails where the options without a parallelism answer otherwise.
+fn settings_answer_is(rt: &impl Abort, alloc: Global, words: &str, wanted: &str) {
+    text_is(rt, words, settings_answer_to(rt, alloc, words), wanted);
 }
 
 /// Words of a parallelism or a form, and what they are answered by the options without them.
@@ -116,8 +121,7 @@ const OTHERS: &str = "--parallelism 2 => Words
 fn settings_know_no_parallelism_and_no_form(rt: HostRuntime) {
     for row in OTHERS.lines() {
         let (words, wanted) = parted(&rt, row, " => ");
-        let answer = settings_answer_to(&rt, rt.alloc(), words);
-        text_is(&rt, words, answer, wanted);
+        settings_answer_is(&rt, rt.alloc(), words, wanted);
     }
 }
 
@@ -152,51 +156,47 @@ fn options_take_the_numbers_that_a_run_takes(rt: HostRuntime) {
         number_is_taken(&rt, alloc, "--queue", queue, is_size(1, queue));
     }
     let most = u16::from(MAX_LANES);
-    for lanes in [0, 1, most, most + 1] {
-        let in_range = 0 < lanes && lanes <= most;
-        number_is_taken(&rt, alloc, "--parallelism", lanes, in_range);
-    }
+    number_is_taken(&rt, alloc, "--parallelism", 0, false);
+    number_is_taken(&rt, alloc, "--parallelism", 1, true);
+    number_is_taken(&rt, alloc, "--parallelism", most, true);
+    number_is_taken(&rt, alloc, "--parallelism", most + 1, false);
 }
 
-/// How many halts before deletes, how many inside `a`, and what is answered.
-const HALTS: &str = "32 0 Settings
-33 0 Hooks
-0 32 Settings
-0 33 Hooks
-31 1 Settings
-1 32 Hooks
-40 40 Hooks";
-
 /// The words, so many times.
-fn repeated(rt: &impl Abort, alloc: Global, words: &str, count: &str) -> &'static str {
-    let count = count.parse::<usize>().ok().expect(rt, count);
+fn repeated(rt: &impl Abort, alloc: Global, words: &str, count: usize) -> &'static str {
     kept_text(rt, alloc, words.repeat(alloc, count).expect(rt, "memory"))
 }
 
-/// The words of a row.
-fn halts_of(rt: &impl Abort, alloc: Global, before: &str, inside: &str) -> &'static str {
+/// Words for so many halts before deletes, and so many inside `a`.
+fn halts_of(rt: &impl Abort, alloc: Global, before: usize, inside: usize) -> &'static str {
     let inside = repeated(rt, alloc, "--halt-in a ", inside);
     let before = repeated(rt, alloc, "--halt-before delete ", before);
     let words = format!(in alloc; "{inside}{before}");
     kept_text(rt, alloc, words.expect(rt, "memory"))
 }
 
-/// Fails where the words of a row are answered otherwise.
-fn halts_are_answered(rt: &impl Abort, alloc: Global, row: &str) {
-    let (before, rest) = parted(rt, row, " ");
-    let (inside, wanted) = parted(rt, rest, " ");
+/// Fails where words for so many halts are answered otherwise.
+fn halts_are_answered(rt: &impl Abort, alloc: Global, before: usize, inside: usize, wanted: &str) {
     let words = halts_of(rt, alloc, before, inside);
-    let answer = answer_to(rt, alloc, words);
-    holds(rt, row, answer.starts_with(wanted));
-    let answer = settings_answer_to(rt, alloc, words);
-    holds(rt, row, answer.starts_with(wanted));
+    begins(rt, words, answer_to(rt, alloc, words), wanted);
+    begins(rt, words, settings_answer_to(rt, alloc, words), wanted);
+}
+
+/// Fails where the text begins otherwise.
+fn begins(rt: &impl Abort, case: &str, text: &str, start: &str) {
+    holds(rt, case, text.starts_with(start));
 }
 
 #[test]
 fn there_are_32_halts_at_most(rt: HostRuntime) {
-    for row in HALTS.lines() {
-        halts_are_answered(&rt, rt.alloc(), row);
-    }
+    let alloc = rt.alloc();
+    halts_are_answered(&rt, alloc, 32, 0, "Settings");
+    halts_are_answered(&rt, alloc, 33, 0, "Hooks");
+    halts_are_answered(&rt, alloc, 0, 32, "Settings");
+    halts_are_answered(&rt, alloc, 0, 33, "Hooks");
+    halts_are_answered(&rt, alloc, 31, 1, "Settings");
+    halts_are_answered(&rt, alloc, 1, 32, "Hooks");
+    halts_are_answered(&rt, alloc, 40, 40, "Hooks");
 }
 
 /// What has to stand in the help.
