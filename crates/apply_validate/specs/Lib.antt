@@ -1,4 +1,6 @@
+pub mod Beside
 pub mod Findings
+pub mod FirstNamed
 pub mod Laws
 pub mod Names
 pub mod Near

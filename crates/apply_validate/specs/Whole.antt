@@ -1,9 +1,10 @@
 -- What is found in bytes.
-use Rattle.std.specs.Prelude.{ℕ, List, [], ◌∷◌, ◌++◌, length, map, Bool, ◌&&◌, not, nat_lt, if◌then◌else◌, Option, Some, None, Result, Ok, Err}
+use Rattle.std.specs.Prelude.{ℕ, List, [], ◌∷◌, ◌++◌, length, map, Bool, ◌&&◌, not, nat_lt, if◌then◌else◌, Option, Some, None, option_map, Result, Ok, Err}
 use Rattle.std.specs.List.{list_any}
 use Rattle.std.specs.Option.{option_map_or}
 use Rattle.serde_json.specs.Data.{Data}
 use Rattle.apply_json.specs.Tree.{tree_of}
+use Rattle.apply_model.specs.Plan.ResourceChange.{ResourceChange}
 use Rattle.apply_model.specs.Plan.SavedPlan.{SavedPlan}
 use Rattle.apply_model.specs.Script.OutcomeMap.{OutcomeMap}
 use Rattle.apply_model.specs.Script.Waits.{has_waits}
@@ -31,9 +32,13 @@ in_bytes found bytes =
 abbrev pub plan_findings : List ℕ → List Finding
 plan_findings bytes = in_bytes in_plan bytes
 
--- what is found in a script, without a look at the plan
-abbrev pub script_findings : List ℕ → List Finding
-script_findings bytes = in_bytes in_script bytes
+-- the changes of a plan, where there is one
+abbrev pub changes_in : Option SavedPlan → Option (List ResourceChange)
+changes_in plan = option_map (λ found. found.changes) plan
+
+-- what is found in a script, beside the changes of a plan where there are some
+abbrev pub script_findings : Option (List ResourceChange) → List ℕ → List Finding
+script_findings changes bytes = in_bytes (in_script changes) bytes
 
 -- ---- a script for a plan
 
@@ -70,15 +75,15 @@ abbrev pub refusals_of : (lanes : Bool) → Result OutcomeMap ScriptError → Li
 refusals_of lanes (Ok script) = unless_waits lanes script
 refusals_of lanes (Err refusal) = refused_for refusal
 
--- what is found in a script beside a plan, in which nothing is found without it
+-- what a run refuses a script for in which nothing else is found
 abbrev pub beside_plan : (lanes : Bool) → SavedPlan → List ℕ → List Finding
 beside_plan lanes plan bytes =
-    if list_any is_refusal (script_findings bytes) then [] else refusals_of lanes (script_of plan bytes)
+    if list_any is_refusal (script_findings (Some plan.changes) bytes) then [] else refusals_of lanes (script_of plan bytes)
 
 -- what is found in a script for a plan that may be refused
 abbrev pub script_findings_for : (lanes : Bool) → Result SavedPlan PlanError → List ℕ → List Finding
-script_findings_for lanes (Ok plan) bytes = script_findings bytes ++ beside_plan lanes plan bytes
-script_findings_for lanes (Err refusal) bytes = script_findings bytes
+script_findings_for lanes (Ok plan) bytes = script_findings (Some plan.changes) bytes ++ beside_plan lanes plan bytes
+script_findings_for lanes (Err refusal) bytes = script_findings None bytes
 
 -- what is found in a script that may not be given
 abbrev pub given_findings : (lanes : Bool) → Result SavedPlan PlanError → Option (List ℕ) → List Finding

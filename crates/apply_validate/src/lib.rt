@@ -1,6 +1,7 @@
 //! Every fault of a saved plan and of a script at once, each with its place.
 #![tactic(auto)]
 
+mod beside;
 mod findings;
 mod laws;
 mod near;
