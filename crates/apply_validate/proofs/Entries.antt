@@ -371,6 +371,22 @@ last_of true true false e room f = absurd cc
 last_of true false c e room f = absurd cc
 last_of false b c e room f = absurd cc
 
+-- behind an entry that a run takes, its items are no more than a script may have
+pub behind_one : (changes : List ResourceChange) (before : List Data) (d : Data) → list_all is_entry before ≡ true → nat_le (sum_by waits_in_all before) max_waits ≡ true
+    → (is_entry d && fits_entry (Some changes) (named_first before d) (waits_left (sum_by waits_in_all before)) d) ≡ true
+    → (list_all is_entry (before ++ d ∷ []) ≡ true) × (nat_le (sum_by waits_in_all (before ++ d ∷ [])) max_waits ≡ true)
+behind_one changes before d are few taken =
+    let fits : Bool = fits_entry (Some changes) (named_first before d) (waits_left (sum_by waits_in_all before)) d in
+    let itself : is_entry d ≡ true = and_left (is_entry d) fits taken in
+    let room : has_room true (waits_left (sum_by waits_in_all before)) (waits_in_all d) ≡ true =
+    last_of (not (is_unknown (Some changes) (object_named d))) (not (is_again (change_at (Some changes) d) (named_first before d))) (not (too_many (change_at (Some changes) d) (length (items_at name.Steps d))))
+    (steps_beside (Some changes) (change_at (Some changes) d) (member_of (codes "steps") d)) (has_room true (waits_left (sum_by waits_in_all before)) (waits_in_all d)) (and_right (is_entry d) fits taken) in
+    let summed : sum_by waits_in_all (before ++ d ∷ []) ≡ sum_by waits_in_all before + waits_in_all d =
+    sum_by-append waits_in_all before (d ∷ []) ∙ ap (λ (n : ℕ). sum_by waits_in_all before + n) (sum_by-cons waits_in_all d [] ∙ (let e : waits_in_all d + sum_by waits_in_all [] ≡ waits_in_all d = omega arith in e)) in (
+      list_all-append is_entry before (d ∷ []) ∙ ap (λ (b : Bool). b && (is_entry d && true)) are ∙ ap (λ (b : Bool). b && true) itself,
+      ap (λ (n : ℕ). nat_le n max_waits) summed ∙ still_few (sum_by waits_in_all before) (waits_in_all d) few (sym (room_is (sum_by waits_in_all before) (waits_in_all d) few) ∙ room),
+    )
+
 pub entries_are : (changes : List ResourceChange) (ds before all : List Data) → all ≡ before ++ ds → list_all is_entry before ≡ true → nat_le (sum_by waits_in_all before) max_waits ≡ true
     → list_all is_ok (map (λ p. entry_at changes (take p.0 all) p.1) (enumerate_from (length before) ds)) ≡ (list_all is_entry ds && entries_fit (Some changes) before ds)
 entries_are changes [] before all whole are few = refl
@@ -383,16 +399,7 @@ entries_are changes (d ∷ ds) before all whole are few =
     and_if (is_ok (entry_at changes (take (length before) all) d)) (is_entry d && fits) rest others
     (ap (λ (xs : List Data). is_ok (entry_at changes xs d)) front ∙ one_entry changes before d are few)
     (λ new.
-    let itself : is_entry d ≡ true = and_left (is_entry d) fits new in
-    let all_entries : list_all is_entry (before ++ d ∷ []) ≡ true =
-    list_all-append is_entry before (d ∷ []) ∙ ap (λ (b : Bool). b && (is_entry d && true)) are ∙ ap (λ (b : Bool). b && true) itself in
-    let room : has_room true (waits_left (sum_by waits_in_all before)) (waits_in_all d) ≡ true =
-    last_of (not (is_unknown (Some changes) (object_named d))) (not (is_again (change_at (Some changes) d) (named_first before d))) (not (too_many (change_at (Some changes) d) (length (items_at name.Steps d))))
-    (steps_beside (Some changes) (change_at (Some changes) d) (member_of (codes "steps") d)) (has_room true (waits_left (sum_by waits_in_all before)) (waits_in_all d)) (and_right (is_entry d) fits new) in
-    let summed : sum_by waits_in_all (before ++ d ∷ []) ≡ sum_by waits_in_all before + waits_in_all d =
-    sum_by-append waits_in_all before (d ∷ []) ∙ ap (λ (n : ℕ). sum_by waits_in_all before + n) (sum_by-cons waits_in_all d [] ∙ (let e : waits_in_all d + sum_by waits_in_all [] ≡ waits_in_all d = omega arith in e)) in
-    let fewer : nat_le (sum_by waits_in_all (before ++ d ∷ [])) max_waits ≡ true =
-    ap (λ (n : ℕ). nat_le n max_waits) summed ∙ still_few (sum_by waits_in_all before) (waits_in_all d) few (sym (room_is (sum_by waits_in_all before) (waits_in_all d) few) ∙ room) in
+    let known = behind_one changes before d are few new in
     ap (λ (n : ℕ). list_all is_ok (map (λ p. entry_at changes (take p.0 all) p.1) (enumerate_from n ds))) (sym longer)
-    ∙ entries_are changes ds (before ++ d ∷ []) all (whole ∙ sym (append_assoc before (d ∷ []) ds)) all_entries fewer)
+    ∙ entries_are changes ds (before ++ d ∷ []) all (whole ∙ sym (append_assoc before (d ∷ []) ds)) known.0 known.1)
     ∙ crossed (is_entry d) fits (list_all is_entry ds) (entries_fit (Some changes) (before ++ d ∷ []) ds)

@@ -85,10 +85,6 @@ or_none : (o : Option ℕ) → option_or o None ≡ o
 or_none None = refl
 or_none (Some n) = refl
 
-
-
-
-
 by_head : (b : Bool) (n : ℕ) (o last : Option ℕ) → cond b (Some n) (option_or o last) ≡ option_or (cond b (Some n) o) last
 by_head true n o last = refl
 by_head false n o last = refl

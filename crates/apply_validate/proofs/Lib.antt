@@ -13,6 +13,7 @@ pub mod Outputs
 pub mod Places
 pub mod Plans
 pub mod Provisioners
+pub mod Refusals
 pub mod Refused
 pub mod Runs
 pub mod Scripts

@@ -1,6 +1,6 @@
 -- What is found in a script beside the changes of a plan; nothing where the plan is refused. All paths are from the value.
 use Rattle.std.specs.Prelude.{ℕ, suc, codes, ◌∷◌, ◌-◌, List, [], find, length, map, sum_by, Bool, false, ◌&&◌, not, is_none, is_some, nat_le, nat_lt, if◌then◌else◌, Option, Some, None, option_and_then, slice_get, unwrap_or}
-use Rattle.std.specs.List.{list_any}
+use Rattle.std.specs.List.{list_any, position_from}
 use Rattle.std.specs.Option.{option_map_or}
 use Rattle.std.specs.Str.{bytes_eq}
 use Rattle.serde_json.specs.Data.{Data}
@@ -16,6 +16,7 @@ use Rattle.apply_plan.specs.Script.Refusals.{takes_provisioners}
 use Rattle.apply_validate.specs.declared.findings.finding.Finding.{Finding}
 use Rattle.apply_validate.specs.declared.findings.name.Name.{Name}
 use Rattle.apply_validate.specs.declared.findings.name.Name.TheVariants as name
+use Rattle.apply_validate.specs.declared.findings.part.Part.{Part}
 use Rattle.apply_validate.specs.declared.findings.part.Part.TheVariants.{Item, Member}
 use Rattle.apply_validate.specs.declared.findings.what.What.{What}
 use Rattle.apply_validate.specs.declared.findings.what.What.TheVariants as what
@@ -23,6 +24,7 @@ use Rattle.apply_validate.specs.declared.walks.mark.Mark.{Mark}
 use Rattle.apply_validate.specs.Findings.{finding_here, under}
 use Rattle.apply_validate.specs.Names.{name_text}
 use Rattle.apply_validate.specs.PlanFindings.{first_named, name_read}
+use Rattle.apply_validate.specs.Skipped.{is_skipped}
 use Rattle.apply_validate.specs.Walks.{items_at, marked, member_at}
 
 -- ---- objects
@@ -153,3 +155,30 @@ abbrev pub beyond_in : (has_plan : Bool) → (left : Option ℕ) → Data → Li
 beyond_in has_plan None d = []
 beyond_in has_plan (Some most) d =
     if has_plan then map (under (Member name.Steps)) (waits_beyond most 0 (items_at name.Steps d)) else []
+
+-- ---- where steps wait
+
+-- a step waits for others, and is not skipped
+abbrev pub is_waiting : Data → Bool
+is_waiting d = not (is_skipped d) && nat_lt 0 (waits_in d)
+
+-- the first step of an entry that does
+abbrev pub first_waiting : Data → Option ℕ
+first_waiting d = position_from is_waiting 0 (items_at name.Steps d)
+
+-- an entry has one
+abbrev pub has_waiting : Data → Bool
+has_waiting d = is_some (first_waiting d)
+
+-- the first step that waits of the entry of that number, 0 where none does
+abbrev pub step_waiting : List Data → ℕ → ℕ
+step_waiting ds n = unwrap_or (option_and_then first_waiting (slice_get ds n)) 0
+
+-- the path to what a step of an entry waits for
+abbrev pub path_to : (entry step : ℕ) → List Part
+path_to entry step = Member name.Changes ∷ Item entry ∷ Member name.Steps ∷ Item step ∷ Member name.After ∷ []
+
+-- where the first step of a script stands that waits; its top where none does
+abbrev pub place_of_waits : Data → List Part
+place_of_waits d =
+    option_map_or (λ n. path_to n (step_waiting (items_at name.Changes d) n)) (position_from has_waiting 0 (items_at name.Changes d)) []

@@ -7,6 +7,7 @@ pub mod Near
 pub mod ObjectNames
 pub mod PlanFindings
 pub mod ScriptFindings
+pub mod Skipped
 pub mod Walks
 pub mod Wants
 pub mod Whole

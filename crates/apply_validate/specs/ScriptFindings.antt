@@ -2,7 +2,7 @@
 use Rattle.std.specs.Prelude.{ℕ, suc, ◌+◌, List, [], ◌∷◌, ◌++◌, length, map, sum_by, Bool, true, false, ◌&&◌, is_some, nat_lt, if◌then◌else◌, Option, Some, None, option_and_then, unwrap_or}
 use Rattle.std.specs.Option.{option_map_or}
 use Rattle.serde_json.specs.Data.{Data}
-use Rattle.serde_json.specs.Find.{as_bool, as_number, as_object, as_str, as_u64}
+use Rattle.serde_json.specs.Find.{as_number, as_object, as_str, as_u64}
 use Rattle.apply_json.specs.Tree.{non_empty_text_of}
 use Rattle.apply_model.specs.Plan.ResourceChange.{ResourceChange}
 use Rattle.apply_model.specs.Script.Limits.{max_outputs, max_provisioners, max_seconds}
@@ -18,6 +18,7 @@ use Rattle.apply_validate.specs.declared.walks.mark.Mark.{Mark}
 use Rattle.apply_validate.specs.Findings.{under}
 use Rattle.apply_validate.specs.Names.{name_text}
 use Rattle.apply_validate.specs.Beside.{again_mark, beyond_in, change_at, kind_marks, named_first, step_mark, steps_mark, unknown_marks, waits_in_all, waits_left}
+pub use Rattle.apply_validate.specs.Skipped.{is_skipped}
 use Rattle.apply_validate.specs.Walks.{fault_of, faults_of, in_items, in_list, inside, items_at, items_behind, known, marked, member_at, unless_suits, unread, where_suits}
 
 -- ---- diagnostics
@@ -133,10 +134,6 @@ in_wait changes d =
     ++ unread wait_names d)
 
 -- ---- steps
-
--- the step is skipped
-abbrev pub is_skipped : Data → Bool
-is_skipped d = option_map_or (λ flag. flag) (option_and_then as_bool (member_at name.Skipped d)) false
 
 -- of a step that is skipped it is asked below whether seconds stand there at all
 abbrev pub step_table : (skipped : Bool) → List Known

@@ -17,7 +17,9 @@ use Rattle.apply_validate.specs.declared.findings.finding.Finding.{Finding}
 use Rattle.apply_validate.specs.declared.findings.what.What.{What}
 use Rattle.apply_validate.specs.declared.findings.what.What.TheVariants.{ForPlan, NotJson, TooManyBytes, Waits}
 use Rattle.apply_validate.specs.declared.findings.name.Name.TheVariants.{Changes}
+use Rattle.apply_validate.specs.declared.findings.part.Part.{Part}
 use Rattle.apply_validate.specs.declared.findings.part.Part.TheVariants.{Item, Member}
+use Rattle.apply_validate.specs.Beside.{place_of_waits}
 use Rattle.apply_validate.specs.Findings.{finding_here, is_refusal, under}
 use Rattle.apply_validate.specs.PlanFindings.{in_plan}
 use Rattle.apply_validate.specs.ScriptFindings.{in_script}
@@ -67,18 +69,22 @@ placed (Some n) what = map (under (Member Changes)) (map (under (Item n)) (findi
 abbrev pub refused_for : ScriptError → List Finding
 refused_for refusal = placed (entry_of_refusal refusal) (ForPlan refusal)
 
--- waits take lanes
-abbrev pub unless_waits : (lanes : Bool) → OutcomeMap → List Finding
-unless_waits lanes script = if not lanes && has_waits script then finding_here Waits ∷ [] else []
+-- where the first step stands that waits
+abbrev pub waits_at : List ℕ → List Part
+waits_at bytes = if nat_lt max_bytes (length bytes) then [] else option_map_or place_of_waits (tree_of bytes) []
 
-abbrev pub refusals_of : (lanes : Bool) → Result OutcomeMap ScriptError → List Finding
-refusals_of lanes (Ok script) = unless_waits lanes script
-refusals_of lanes (Err refusal) = refused_for refusal
+-- waits take lanes
+abbrev pub unless_waits : (lanes : Bool) → List ℕ → OutcomeMap → List Finding
+unless_waits lanes bytes script = if not lanes && has_waits script then record { path = waits_at bytes; what = Waits } ∷ [] else []
+
+abbrev pub refusals_of : (lanes : Bool) → List ℕ → Result OutcomeMap ScriptError → List Finding
+refusals_of lanes bytes (Ok script) = unless_waits lanes bytes script
+refusals_of lanes bytes (Err refusal) = refused_for refusal
 
 -- what a run refuses a script for in which nothing else is found
 abbrev pub beside_plan : (lanes : Bool) → SavedPlan → List ℕ → List Finding
 beside_plan lanes plan bytes =
-    if list_any is_refusal (script_findings (Some plan.changes) bytes) then [] else refusals_of lanes (script_of plan bytes)
+    if list_any is_refusal (script_findings (Some plan.changes) bytes) then [] else refusals_of lanes bytes (script_of plan bytes)
 
 -- what is found in a script for a plan that may be refused
 abbrev pub script_findings_for : (lanes : Bool) → Result SavedPlan PlanError → List ℕ → List Finding

@@ -3,4 +3,5 @@
 pub mod first_named;
 pub mod marks;
 pub mod planned;
+pub mod waiting;
 pub mod waits;

@@ -7,12 +7,14 @@ ghost use Rattle.apply_plan.specs.Plan.SavedPlan.{plan_of};
 ghost use Rattle.apply_plan.specs.Script.OutcomeMap.{script_of};
 ghost use Rattle.apply_validate.specs.Findings.{told};
 ghost use Rattle.apply_validate.specs.ScriptFindings.{in_script};
-ghost use Rattle.apply_validate.specs.Whole.{beside_plan, changes_in, entry_of_refusal, given_findings, plan_findings, refusals_of, refused_for, script_findings, script_findings_for, unless_waits};
+ghost use Rattle.apply_validate.specs.Whole.{beside_plan, changes_in, entry_of_refusal, given_findings, plan_findings, refusals_of, refused_for, script_findings, script_findings_for, unless_waits, waits_at};
 
 use crate::beside::planned::Planned;
+use crate::beside::waiting::place_of_waits;
 use crate::findings::list::Findings;
 use crate::findings::name::Name;
 use crate::findings::part::Part;
+use crate::findings::path::Path;
 use crate::findings::what::What;
 use crate::plan::top_level::walk_plan;
 use crate::script::top_level::walk_script;
@@ -35,11 +37,7 @@ pub fn findings_of_plan(alloc: Global, bytes: &[u8]) -> Result<Findings, AllocEr
 }
 
 /// What is found in the bytes of a script, beside the changes of a plan where one is given. `Err` where memory is refused.
-fn findings_beside(
-    alloc: Global,
-    plan: Option<&Plan>,
-    bytes: &[u8],
-) -> Result<Findings, AllocError>
+fn findings_beside(alloc: Global, plan: Option<&Plan>, bytes: &[u8]) -> Result<Findings, AllocError>
     ensures { IfOk result (λ f. f ≡ told (script_findings (changes_in (option_copied plan.entry)) bytes.now)) }
 {
     match parse(alloc, bytes, MAX_BYTES) {
@@ -51,11 +49,7 @@ fn findings_beside(
 }
 
 /// What is found in the tree of a script, beside the changes of a plan where one is given.
-fn walk_beside(
-    alloc: Global,
-    plan: Option<&Plan>,
-    script: &Value,
-) -> Result<Findings, AllocError>
+fn walk_beside(alloc: Global, plan: Option<&Plan>, script: &Value) -> Result<Findings, AllocError>
     ensures { IfOk result (λ f. f ≡ told (in_script (changes_in (option_copied plan.entry)) (view script.now))) }
 {
     match plan {
@@ -158,26 +152,43 @@ fn beside_plan(
     bytes: &[u8],
     lanes: bool,
 ) -> Result<Findings, AllocError>
-    ensures { IfOk result (λ f. f ≡ told (if is_refused then [] else refusals_of lanes (script_of plan.now bytes.now))) }
+    ensures { IfOk result (λ f. f ≡ told (if is_refused then [] else refusals_of lanes bytes.now (script_of plan.now bytes.now))) }
 {
     if is_refused {
         return Ok(Findings::none(alloc));
     }
     match read_script(alloc, bytes, plan) {
-        Ok(script) => unless_waits(alloc, lanes, &script),
+        Ok(script) => unless_waits(alloc, lanes, bytes, &script),
         Err(ScriptError::Memory) => Err(AllocError),
         Err(refusal) => refused_for(alloc, refusal),
     }
 }
 
-/// That a script has waits, which take lanes.
-fn unless_waits(alloc: Global, lanes: bool, script: &Script) -> Result<Findings, AllocError>
-    ensures { IfOk result (λ f. f ≡ told (unless_waits lanes script.now)) }
+/// That a script has waits, which take lanes, where the first step stands that waits.
+fn unless_waits(
+    alloc: Global,
+    lanes: bool,
+    bytes: &[u8],
+    script: &Script,
+) -> Result<Findings, AllocError>
+    ensures { IfOk result (λ f. f ≡ told (unless_waits lanes bytes.now script.now)) }
 {
     if !lanes && script.has_waits() {
-        Findings::here(alloc, What::Waits)
+        Findings::one(alloc, waits_at(alloc, bytes)?, What::Waits)
     } else {
         Ok(Findings::none(alloc))
+    }
+}
+
+/// Where the first step stands that waits, in the bytes of a script.
+fn waits_at(alloc: Global, bytes: &[u8]) -> Result<Path, AllocError>
+    ensures { IfOk result (λ path. path ≡ waits_at bytes.now) }
+{
+    match parse(alloc, bytes, MAX_BYTES) {
+        Ok(script) => place_of_waits(alloc, &script),
+        Err(JsonFault::TooLarge) => Ok(Path::here(alloc)),
+        Err(JsonFault::NotJson) => Ok(Path::here(alloc)),
+        Err(JsonFault::Memory) => Err(AllocError),
     }
 }
 

@@ -1,5 +1,5 @@
 -- What came of the words behind `validate`.
-use Rattle.std.specs.Prelude.{◌≡◌, ◌+◌, ◌<◌, ◌⊎◌, ⊤, ℕ, List, [], Bool, Option, Some, None, IfSome, codes, if◌then◌else◌, is_some, length, take}
+use Rattle.std.specs.Prelude.{◌≡◌, ◌+◌, ◌<◌, ◌⊎◌, ⊤, ℕ, List, [], Bool, false, Option, Some, None, IfSome, codes, if◌then◌else◌, is_some, length, take}
 use Rattle.std.specs.Io.KnownBytes.{Appends, Keeps}
 use Rattle.clap.specs.Walk.{Text}
 use Rattle.apply_plan.specs.Bytes.{max_bytes}
@@ -15,10 +15,14 @@ use Rattle.apply_validate_command.specs.declared.command.settings.Settings.{Sett
 abbrev pub accepted : (has_script : Bool) → List ℕ
 accepted has_script = if has_script then codes "plan and script are accepted\n" else codes "the plan is accepted\n"
 
+-- what is kept where nothing is found
+abbrev pub nothing : Told
+nothing = record { kept = []; count = 0; refuses = false }
+
 -- a text tells of what is found in a plan and in a script: some text in any case, and that all is accepted where nothing is found
 pub record TellsOf (plan script : Told) (has_script : Bool) (text : List ℕ) : Type 0 where
   pub some : 0 < length text
-  pub nothing : plan ≡ told [] → script ≡ told [] → text ≡ accepted has_script
+  pub accepts : plan ≡ nothing → script ≡ nothing → text ≡ accepted has_script
 
 -- what is found in a plan, and in a script for it, is told: a text that tells of it is written
 pub record IsToldOf (lanes : Bool) (plan : List ℕ) (script : Option (List ℕ)) (before after : Option (List ℕ)) : Type 0 where

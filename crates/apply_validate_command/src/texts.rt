@@ -2,6 +2,7 @@
 
 pub mod beside;
 pub mod count;
+pub mod edits;
 pub mod finding;
 pub mod found;
 pub mod near;

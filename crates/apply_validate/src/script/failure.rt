@@ -52,7 +52,12 @@ impl<'a> Walk<'a> for Failure {
     ghost found = { λ _ _ d. in_failure d };
 
     #[tactic(auto, unfolding(crate::specs::ScriptFindings::in_failure))]
-    fn walk(&self, alloc: Global, _number: usize, value: &'a Value) -> Result<Findings, AllocError> {
+    fn walk(
+        &self,
+        alloc: Global,
+        _number: usize,
+        value: &'a Value,
+    ) -> Result<Findings, AllocError> {
         if !Want::Diagnostic.suits(value) {
             return Findings::here(alloc, What::IsNot(Want::Diagnostic));
         }

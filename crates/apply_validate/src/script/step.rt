@@ -77,7 +77,7 @@ pub struct Step<'p, 'a> {
 }
 
 /// Whether a step is skipped.
-fn is_skipped(value: &Value) -> bool
+pub fn is_skipped(value: &Value) -> bool
     ensures { result ≡ is_skipped (view value.now) }
 {
     match member(value, Name::Skipped.text()) {

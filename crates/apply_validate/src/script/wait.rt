@@ -44,7 +44,12 @@ impl<'a> Walk<'a> for Wait<'_, 'a> {
     ghost found = { λ wait _ d. in_wait (option_copied wait.planned) d };
 
     #[tactic(auto, unfolding(crate::specs::ScriptFindings::in_wait))]
-    fn walk(&self, alloc: Global, _number: usize, value: &'a Value) -> Result<Findings, AllocError> {
+    fn walk(
+        &self,
+        alloc: Global,
+        _number: usize,
+        value: &'a Value,
+    ) -> Result<Findings, AllocError> {
         if value.as_str().is_some() {
             return walk_unknown(alloc, self.planned, value);
         }

@@ -74,7 +74,12 @@ impl<'a, W: Walk<'a>> Walk<'a> for Items<'_, W> {
 
     ghost found = { λ items _ d. in_items (W.found items.0.now) d };
 
-    fn walk(&self, alloc: Global, _number: usize, value: &'a Value) -> Result<Findings, AllocError> {
+    fn walk(
+        &self,
+        alloc: Global,
+        _number: usize,
+        value: &'a Value,
+    ) -> Result<Findings, AllocError> {
         match value.as_array() {
             Some(items) => walk_items(alloc, self.0, items),
             None => Ok(Findings::none(alloc)),

@@ -28,7 +28,11 @@ pub trait Walk<'a> {
 }
 
 /// Finds what is wrong in the items of an array.
-pub fn walk_items<'a, W: Walk<'a>>(alloc: Global, walk: &W, items: &'a [Value]) -> Result<Findings, AllocError>
+pub fn walk_items<'a, W: Walk<'a>>(
+    alloc: Global,
+    walk: &W,
+    items: &'a [Value],
+) -> Result<Findings, AllocError>
     ensures { IfOk result (λ f. f ≡ told (items_from (W.found walk.now) 0 (list_of (items_view items.now)))) }
 {
     let mut all = Findings::none(alloc);
@@ -46,7 +50,12 @@ pub struct Leaf(pub Want);
 impl<'a> Walk<'a> for Leaf {
     ghost found = { λ leaf _ d. unless_suits leaf.0 d };
 
-    fn walk(&self, alloc: Global, _number: usize, value: &'a Value) -> Result<Findings, AllocError> {
+    fn walk(
+        &self,
+        alloc: Global,
+        _number: usize,
+        value: &'a Value,
+    ) -> Result<Findings, AllocError> {
         if self.0.suits(value) {
             Ok(Findings::none(alloc))
         } else {

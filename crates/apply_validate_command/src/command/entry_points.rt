@@ -45,10 +45,7 @@ pub fn follow<F: Files, R: Read, W: Write, E: Write>(
     };
     match read_all(alloc, input, InputFault::Plan) {
         Ok(plan) => {
-            let script = match &script {
-                Some(bytes) => Some(bytes.as_slice()),
-                None => None,
-            };
+            let script = bytes_of(&script);
             validate(alloc, settings.lanes, &plan, script, out, faults)
         }
         Err(fault) => refuse(faults, fault),
@@ -66,6 +63,16 @@ fn read_script<F: Files>(
     match &settings.script {
         Some(name) => Ok(Some(read_script_file(files, alloc, name.as_str())?)),
         None => Ok(None),
+    }
+}
+
+/// The bytes, where there are some.
+fn bytes_of(script: &Option<Vec<u8>>) -> Option<&[u8]>
+    ensures { option_copied result ≡ option_map (λ bytes. bytes.items) script.now }
+{
+    match script {
+        Some(bytes) => Some(bytes.as_slice()),
+        None => None,
     }
 }
 

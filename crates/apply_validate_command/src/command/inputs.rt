@@ -2,7 +2,6 @@
 
 ghost use Rattle.std.specs.Prelude.{◌≡◌, ◌<◌, ◌≤◌, ◌+◌, ◌++◌, ℕ, List, IfOk, IfSome, length, take};
 ghost use Rattle.std.specs.Io.KnownBytes.{Consumes, IsAtEnd};
-ghost use Rattle.apply_plan.specs.Bytes.{max_bytes};
 ghost use Rattle.apply_validate_command.specs.Validated.{IsReadOf};
 
 use apply_plan::MAX_BYTES;
@@ -68,7 +67,7 @@ pub fn read_all<R: Read>(
     ensures { IfOk result (λ bytes. IsReadOf (R.remaining input.old) bytes.items) }
 {
     let mut buffer = zeros(alloc, BUFFER_LEN)?;
-    read_front(alloc, input, &mut buffer, fault)
+    read_front(alloc, input, &mut buffer, MAX_READ, fault)
 }
 
 /// So many zeros.
@@ -78,19 +77,20 @@ fn zeros(alloc: Global, count: usize) -> Result<Vec<u8>, AllocError>
     vec![in alloc; 0u8; count]
 }
 
-/// The first bytes of the input, up to one more than it may have, read through the buffer.
+/// The first bytes of the input, up to the limit, read through the buffer.
 fn read_front<R: Read>(
     alloc: Global,
     input: &mut R,
     buffer: &mut [u8],
+    limit: usize,
     fault: InputFault,
 ) -> Result<Vec<u8>, InputFault>
     requires { 0 < length buffer.old }
-    ensures { IfOk result (λ bytes. IfSome (R.remaining input.old) (λ all. bytes.items ≡ take (max_bytes + 1) all)) }
+    ensures { IfOk result (λ bytes. IfSome (R.remaining input.old) (λ all. bytes.items ≡ take limit all)) }
 {
     let mut bytes = Vec::new(alloc);
-    while bytes.len() < MAX_READ {
-        let room = buffer.len().min(MAX_READ - bytes.len());
+    while bytes.len() < limit {
+        let room = buffer.len().min(limit - bytes.len());
         if read_some(input, &mut buffer[..room], &mut bytes, fault)? == 0 {
             break;
         }

@@ -1,7 +1,7 @@
 //! Findings that go out.
 
-ghost use Rattle.std.specs.Prelude.{◌≡◌, IfOk, is_some, string_bytes};
-ghost use Rattle.apply_validate_command.specs.Validated.{TellsOf, accepted};
+ghost use Rattle.std.specs.Prelude.{◌≡◌, ◌<◌, [], IfOk, OnOk, is_some, length, string_bytes};
+ghost use Rattle.apply_validate_command.specs.Validated.{TellsOf, accepted, nothing};
 
 use crate::texts::count::Count;
 use crate::texts::finding::{Input, bytes_text, finding_text};
@@ -27,23 +27,85 @@ pub fn found_text(
 ) -> Result<String, AllocError>
     ensures { IfOk result (λ text. TellsOf found.now.plan found.now.script (is_some script.entry) (string_bytes text)) }
 {
+    let text = lines_text(alloc, found, plan, script)?;
+    or_accepted(text, script.is_some())
+}
+
+/// The text, or where it is empty that all is accepted.
+fn or_accepted(mut text: String, has_script: bool) -> Result<String, AllocError>
+    ensures some { IfOk result (λ all. 0 < length (string_bytes all)) }
+    ensures accepted { string_bytes text ≡ [] → IfOk result (λ all. string_bytes all ≡ accepted has_script) }
+{
+    if text.is_empty() {
+        text.push_str(accepted(has_script))?;
+    }
+    Ok(text)
+}
+
+/// The lines of what is found.
+fn lines_text(
+    alloc: Global,
+    found: &Found,
+    plan: &[u8],
+    script: Option<&[u8]>,
+) -> Result<String, AllocError>
+    ensures { found.now.plan ≡ nothing → found.now.script ≡ nothing → IfOk result (λ text. string_bytes text ≡ []) }
+{
     let mut text = String::new(alloc);
     let tree = tree_of(alloc, plan)?;
     let names = PlanNames::of(alloc, tree.as_ref())?;
-    push_findings(alloc, &mut text, Input::Plan, &found.plan, plan, &names, MOST_TOLD)?;
-    if let Some(script) = script {
-        let left = MOST_TOLD.saturating_sub(found.plan.kept().len());
-        push_findings(alloc, &mut text, Input::Script, &found.script, script, &names, left)?;
-    }
-    let count = found.plan.count().saturating_add(found.script.count());
-    if count > MOST_TOLD {
-        let more = Count((count - MOST_TOLD) as u64);
-        text.push_str(format!(in alloc; "and {more} more\n")?.as_str())?;
-    }
-    if text.is_empty() {
-        text.push_str(accepted(script.is_some()))?;
-    }
+    push_findings(
+        alloc,
+        &mut text,
+        Input::Plan,
+        &found.plan,
+        plan,
+        &names,
+        MOST_TOLD,
+    )?;
+    push_script(alloc, &mut text, found, script, &names)?;
+    push_more(
+        alloc,
+        &mut text,
+        found.plan.count().saturating_add(found.script.count()),
+    )?;
     Ok(text)
+}
+
+/// Adds the first findings of a script, where one is given.
+fn push_script(
+    alloc: Global,
+    text: &mut String,
+    found: &Found,
+    script: Option<&[u8]>,
+    names: &PlanNames<'_>,
+) -> Result<(), AllocError>
+    ensures { found.now.script.kept ≡ [] → OnOk result (string_bytes text.new ≡ string_bytes text.old) }
+{
+    let Some(script) = script else {
+        return Ok(());
+    };
+    let left = MOST_TOLD.saturating_sub(found.plan.kept().len());
+    push_findings(
+        alloc,
+        text,
+        Input::Script,
+        &found.script,
+        script,
+        names,
+        left,
+    )
+}
+
+/// Adds how many more findings there are than are told.
+fn push_more(alloc: Global, text: &mut String, count: usize) -> Result<(), AllocError>
+    ensures { count ≡ 0 → OnOk result (string_bytes text.new ≡ string_bytes text.old) }
+{
+    if count <= MOST_TOLD {
+        return Ok(());
+    }
+    let more = Count((count - MOST_TOLD) as u64);
+    text.push_str(format!(in alloc; "and {more} more\n")?.as_str())
 }
 
 /// What is told where nothing is found.
@@ -75,7 +137,9 @@ fn push_findings(
     bytes: &[u8],
     names: &PlanNames<'_>,
     most: usize,
-) -> Result<(), AllocError> {
+) -> Result<(), AllocError>
+    ensures { findings.now.kept ≡ [] → OnOk result (string_bytes text.new ≡ string_bytes text.old) }
+{
     if findings.kept().is_empty() {
         return Ok(());
     }

@@ -99,9 +99,10 @@ pub fn too_many_steps_text(
     first: Option<StepKind>,
     second: Option<StepKind>,
 ) -> Result<String, AllocError> {
+    let own = if count == 1 { "step" } else { "steps" };
     let count = Count(count);
     let steps = steps_text(alloc, first, second)?;
-    format!(in alloc; "has {count} steps, and the change has {steps}")
+    format!(in alloc; "has {count} {own}, and the change has {steps}")
 }
 
 /// That a change has no such step as is shown.

@@ -54,7 +54,11 @@ fn last_members(finding: &Finding, before: usize) -> (Option<Name>, Option<Name>
 }
 
 /// The first of the names that are near, as JSON.
-pub fn first_near(alloc: Global, names: &[&str], near: &[usize]) -> Result<Vec<String>, AllocError> {
+pub fn first_near(
+    alloc: Global,
+    names: &[&str],
+    near: &[usize],
+) -> Result<Vec<String>, AllocError> {
     let mut shown = Vec::new(alloc);
     for place in near.iter().take(MOST_NEAR) {
         let name = names.get(*place).copied().unwrap_or("");

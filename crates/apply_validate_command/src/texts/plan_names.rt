@@ -1,7 +1,8 @@
 //! The objects that a plan changes, as people are told of them.
 
-use crate::texts::near::{first_near, push_near};
+use crate::texts::edits::edits;
 use crate::texts::found::json_text;
+use crate::texts::near::{first_near, push_near};
 use apply_validate::{Name, nearest};
 use serde_json::Value;
 use std::alloc::{AllocError, Global};
@@ -48,9 +49,18 @@ impl<'a> PlanNames<'a> {
         let len = found.chars().count();
         let reach = (len / 3).max(1);
         let mut names = Vec::new(alloc);
+        // Those that are farther than another take no comparison as a whole.
+        let mut least = reach;
         for address in &self.addresses {
             if address.chars().count().abs_diff(len) <= reach {
-                names.push(*address)?;
+                match edits(alloc, found, address)? {
+                    Some(count) if count > least => {}
+                    Some(count) => {
+                        least = count;
+                        names.push(*address)?;
+                    }
+                    None => names.push(*address)?,
+                }
             }
         }
         let near = nearest(alloc, found, &names, reach)?;
