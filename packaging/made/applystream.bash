@@ -13,6 +13,10 @@ _applystream() {
     COMPREPLY=($(compgen -W "--svg --rows --all --width --color --help" -- "$word") $(compgen -f -- "$word"))
     return
   fi
+  if [ "${COMP_WORDS[1]}" = validate ] && [ "$COMP_CWORD" -gt 1 ]; then
+    COMPREPLY=($(compgen -W "--script --parallelism --help" -- "$word") $(compgen -f -- "$word"))
+    return
+  fi
   case $before in
     --at) return ;;
     --script) COMPREPLY=($(compgen -f -- "$word")); return ;;
@@ -24,7 +28,7 @@ _applystream() {
     --form) COMPREPLY=($(compgen -W "applystream terraform" -- "$word")); return ;;
   esac
   local words="--at --script --workers --queue --destroy --halt-before --halt-in --parallelism --form --help --version"
-  [ "$COMP_CWORD" != 1 ] || words+=" check play view"
+  [ "$COMP_CWORD" != 1 ] || words+=" check play view validate"
   COMPREPLY=($(compgen -W "$words" -- "$word"))
 }
 complete -o filenames -F _applystream applystream

@@ -29,6 +29,10 @@ clean all = not (list_any is_refusal all)
 pub clean-append : (xs ys : List Finding) → clean (xs ++ ys) ≡ (clean xs && clean ys)
 clean-append xs ys = ap not (list_any-append is_refusal xs ys) ∙ not_or (list_any is_refusal xs) (list_any is_refusal ys)
 
+-- two parts
+pub appended : (xs ys : List Finding) (a b : Bool) → clean xs ≡ a → clean ys ≡ b → clean (xs ++ ys) ≡ (a && b)
+appended xs ys a b one other = clean-append xs ys ∙ ap (λ (x : Bool). x && clean ys) one ∙ ap (λ (x : Bool). a && x) other
+
 pub clean-under : (part : Part) (xs : List Finding) → clean (map (under part) xs) ≡ clean xs
 clean-under part [] = refl
 clean-under part (x ∷ xs) =

@@ -1,21 +1,26 @@
 -- Diagnostics, failures and items of `after`: nothing is found for which a run refuses, exactly where they are read.
-use Rattle.std.proofs.Common.{◌≡◌, ℕ, List, [], ◌∷◌, ◌++◌, Bool, true, false, ◌&&◌, is_some, Option, Some, None, refl, sym, ap, ◌∙◌}
+use Rattle.std.proofs.Common.{◌≡◌, ℕ, List, [], ◌∷◌, ◌++◌, Bool, true, false, not, ◌&&◌, is_some, Option, Some, None, refl, sym, ap, ◌∙◌}
 use Rattle.std.specs.Prelude.{codes}
 use Rattle.serde_json.specs.Data.{Data, null, boolean, number, string, array, object}
 use Rattle.serde_json.specs.Find.{as_object, as_str}
 use Rattle.apply_json.specs.Tree.{◌>>=◌, member_of, text_of, text_or, unless_empty}
 use Rattle.apply_model.specs.declared.script.diag.Diag.{Diag}
+use Rattle.apply_model.specs.Plan.ResourceChange.{ResourceChange}
 use Rattle.apply_plan.specs.Script.Entry.{Failure, WaitName, diag_from, diag_or_none, failure_from, failure_or_none, number_or_none, object_or_none, only_warns_or_not, wait_from, wait_of_members}
+use Rattle.apply_validate.specs.declared.findings.finding.Finding.{Finding}
+use Rattle.apply_validate.specs.declared.findings.name.Name.TheVariants as name
 use Rattle.apply_validate.specs.declared.findings.want.Want.TheVariants as want
 use Rattle.apply_validate.specs.declared.walks.known.Known.{Known}
-use Rattle.apply_validate.specs.ScriptFindings.{diagnostic_names, diagnostic_table, failure_names, failure_table, in_diagnostic, in_failure, in_wait, wait_names, wait_table}
-use Rattle.apply_validate.specs.Walks.{faults_of, member_at, unread}
+use Rattle.apply_validate.specs.Beside.{change_at, object_named, step_mark, unknown_marks}
+use Rattle.apply_validate.specs.ScriptFindings.{diagnostic_names, diagnostic_table, failure_names, failure_table, in_diagnostic, in_failure, in_wait, wait_names, wait_table, whole_at}
+use Rattle.apply_validate.specs.Walks.{faults_of, marked, member_at, unread}
 use Rattle.apply_validate.specs.Wants.{is_met}
-use Rattle.apply_validate.proofs.Clean.{clean, clean-faults_of, clean-then_unread, clean-where_suits, is_absent_or}
+use Rattle.apply_validate.proofs.Clean.{appended, clean, clean-faults_of, clean-then_unread, clean-where_suits, is_absent_or}
 use Rattle.apply_validate.proofs.Alike.{Alike, met_own, object_alike}
+use Rattle.apply_validate.proofs.Besides.{clean_unknown, is_found, is_unknown, lacks_same, lacks_step, no_step, unknown_same}
 use Rattle.apply_validate.proofs.Members.{IsCleanBeside, severity_there, text_or_there, text_there, whole_or_there}
 use Rattle.apply_validate.proofs.Wanted.{needs_object}
-use Rattle.apply_validate.proofs.Options.{and_comm, and_true, some_map}
+use Rattle.apply_validate.proofs.Options.{and_assoc, and_comm, and_true, some_map}
 
 diag_reads : (s t : Option (List ℕ)) (r n : Option (Option (List ℕ)))
     → is_some (s >>= λ x. t >>= λ y. r >>= λ z. n >>= λ w. Some (let q : Diag = record { summary = x; detail = y; range = z; snippet = w } in q))
@@ -115,21 +120,40 @@ wait_reads (Some x) (Some y) (Some z) = refl
 three : {a b c a1 b1 c1 : Bool} → a ≡ a1 → b ≡ b1 → c ≡ c1 → (a && (b && (c && true))) ≡ (a1 && (b1 && (c1 && true)))
 three ea eb ec = cc
 
-members_of_wait : (d k : Data) → Alike d k → clean (faults_of wait_table d ++ unread wait_names d) ≡ is_some (wait_of_members k)
+members_of_wait : (changes : Option (List ResourceChange)) (d k : Data) → Alike d k
+    → clean (faults_of wait_table d ++ marked (unknown_marks changes d) ++ marked (step_mark (change_at changes d) (whole_at name.Step d) ∷ []) ++ unread wait_names d)
+    ≡ (is_some (wait_of_members k) && is_found changes k)
 unfolding wait_of_members
-members_of_wait d k a =
-    clean-then_unread (faults_of wait_table d) wait_names d
-    ∙ clean-faults_of wait_table d
+members_of_wait changes d k a =
+    let wrong : List Finding = faults_of wait_table d in
+    let unknown : List Finding = marked (unknown_marks changes d) in
+    let lacking : List Finding = marked (step_mark (change_at changes d) (whole_at name.Step d) ∷ []) in
+    let read : clean wrong ≡ is_some (wait_of_members k) =
+    clean-faults_of wait_table d
     ∙ three (text_there (codes "address") refl d k a) (text_or_there (codes "deposed") refl d k a) (whole_or_there (codes "step") refl d k a)
-    ∙ sym (wait_reads (text_of (codes "address") k) (text_or [] (member_of (codes "deposed") k)) (number_or_none (member_of (codes "step") k)))
+    ∙ sym (wait_reads (text_of (codes "address") k) (text_or [] (member_of (codes "deposed") k)) (number_or_none (member_of (codes "step") k))) in
+    clean-then_unread (wrong ++ unknown ++ lacking) wait_names d
+    ∙ appended (wrong ++ unknown) lacking _ _ (appended wrong unknown _ _ read (unknown_same changes d k a)) (lacks_same changes d k a)
+    ∙ sym (and_assoc (is_some (wait_of_members k)) (not (is_unknown changes (object_named k))) (not (lacks_step changes k)))
 
-pub clean_wait : IsCleanBeside in_wait (λ k. is_some (wait_from k))
+-- an item that a run reads, and whose change and step are there
+abbrev pub fits_wait : Option (List ResourceChange) → Data → Bool
+fits_wait changes k = is_some (wait_from k) && is_found changes k
+
+of_text : (changes : Option (List ResourceChange)) (d : Data) (b : Bool) → lacks_step changes d ≡ b → b ≡ false
+    → clean (marked (unknown_marks changes d)) ≡ is_found changes d
+of_text changes d b lacks none =
+    clean_unknown changes d
+    ∙ sym (and_true (not (is_unknown changes (object_named d))))
+    ∙ ap (λ (x : Bool). not (is_unknown changes (object_named d)) && not x) (sym (lacks ∙ none))
+
+pub clean_wait : (changes : Option (List ResourceChange)) → IsCleanBeside (in_wait changes) (fits_wait changes)
 unfolding in_wait wait_of_members
-clean_wait null k a = rw a refl
-clean_wait (boolean b) k a = rw a refl
-clean_wait (number n) k a = rw a refl
-clean_wait (string s) k a = rw a refl
-clean_wait (array ds) k a = rw (a.1) refl
-clean_wait (object ms) k a =
+clean_wait changes null k a = rw a refl
+clean_wait changes (boolean b) k a = rw a refl
+clean_wait changes (number n) k a = rw a refl
+clean_wait changes (string s) k a = rw a (of_text changes (string s) _ refl (no_step (change_at changes (string s))))
+clean_wait changes (array ds) k a = rw (a.1) refl
+clean_wait changes (object ms) k a =
     let other : k ≡ object a.0 = a.1 in
-    members_of_wait (object ms) k a ∙ rw other refl
+    members_of_wait changes (object ms) k a ∙ rw other refl

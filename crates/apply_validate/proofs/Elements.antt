@@ -23,8 +23,7 @@ use Rattle.apply_validate.specs.declared.findings.finding.Finding.{Finding}
 use Rattle.apply_validate.specs.declared.findings.name.Name.TheVariants as name
 use Rattle.apply_validate.specs.declared.findings.want.Want.TheVariants as want
 use Rattle.apply_validate.specs.PlanFindings.{actions_mark, address_marks, by_itself, element_table, has_empty_address, in_change, is_misplaced, is_one_of_eight, is_sound, misplaces, name_read}
-use Rattle.apply_validate.specs.ScriptFindings.{known}
-use Rattle.apply_validate.specs.Walks.{faults_of, inside, marked}
+use Rattle.apply_validate.specs.Walks.{faults_of, inside, known, marked}
 use Rattle.apply_validate.specs.Wants.{is_met}
 use Rattle.apply_validate.proofs.Clean.{clean, clean-append, clean-faults_of, clean-inside, clean-marked, clean-where, is_absent_or}
 use Rattle.apply_validate.proofs.Options.{and_then_is, and_true, not_not}

@@ -1,8 +1,11 @@
 pub mod Alike
+pub mod Besides
 pub mod Clean
 pub mod Collected
 pub mod Diagnostics
 pub mod Elements
+pub mod Entries
+pub mod FirstNames
 pub mod Members
 pub mod Named
 pub mod Options
@@ -10,9 +13,11 @@ pub mod Outputs
 pub mod Places
 pub mod Plans
 pub mod Provisioners
+pub mod Refusals
 pub mod Refused
 pub mod Runs
 pub mod Scripts
 pub mod Steps
+pub mod Taken
 pub mod Trees
 pub mod Wanted

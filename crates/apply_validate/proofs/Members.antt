@@ -1,5 +1,5 @@
 -- Members of a tree, by those of the one that a run reads of the same text.
-use Rattle.std.proofs.Common.{◌≡◌, ℕ, suc, ◌+◌, List, [], length, map, Bool, false, ◌&&◌, is_some, Option, Some, None, unwrap_or, refl, sym, ap, ◌∙◌}
+use Rattle.std.proofs.Common.{◌≡◌, ℕ, suc, ◌+◌, List, [], ◌∷◌, length, map, Bool, true, false, ◌&&◌, is_some, Option, Some, None, unwrap_or, refl, sym, ap, ◌∙◌}
 use Rattle.std.specs.Prelude.{codes}
 use Rattle.std.specs.List.{list_all, sum_by}
 use Rattle.std.specs.Option.{option_and_then, option_map, option_map_or}
@@ -68,14 +68,17 @@ module _ (n : List ℕ) (not : is_kept n ≡ false) (d k : Data) (alike : Alike 
   both : AreAlike (member_of n d) (member_of n k)
   both = member_alike n not d k alike
 
-  text_same : text_of n d ≡ text_of n k
+  pub text_same : text_of n d ≡ text_of n k
   text_same = then_alike as_str as_str_alike (member_of n d) (member_of n k) both
 
   pub text_there : is_met want.Text (member_of n d) ≡ is_some (text_of n k)
   text_there = met_text (member_of n d) ∙ ap (λ (t : Option (List ℕ)). is_some t) text_same
 
+  pub text_or_same : text_or [] (member_of n d) ≡ text_or [] (member_of n k)
+  text_or_same = text_or_alike (member_of n d) (member_of n k) both
+
   pub text_or_there : is_met want.TextOrAbsent (member_of n d) ≡ is_some (text_or [] (member_of n k))
-  text_or_there = met_text_or (member_of n d) ∙ ap (λ (t : Option (List ℕ)). is_some t) (text_or_alike (member_of n d) (member_of n k) both)
+  text_or_there = met_text_or (member_of n d) ∙ ap (λ (t : Option (List ℕ)). is_some t) text_or_same
 
   pub non_empty_same : non_empty_text_of n d ≡ non_empty_text_of n k
   non_empty_same = ap (λ (t : Option (List ℕ)). t >>= unless_empty) text_same
@@ -116,22 +119,38 @@ module _ (n : List ℕ) (not : is_kept n ≡ false) (d k : Data) (alike : Alike 
 abbrev pub IsCleanBeside : (Data → List Finding) → (Data → Bool) → Type 0
 IsCleanBeside found test = (d k : Data) → Alike d k → clean (found d) ≡ test k
 
-items_clean : (found : ℕ → Data → List Finding) (test : Data → Bool) → ((n : ℕ) → IsCleanBeside (found n) test) → (n : ℕ) (ds es : Items) → AlikeItems ds es
-    → clean (items_from found n (list_of ds)) ≡ list_all test (list_of es)
+-- each item passes a test, which may depend on its number
+abbrev pub all_from : (ℕ → Data → Bool) → ℕ → List Data → Bool
+all_from test n [] = true
+all_from test n (d ∷ ds) = test n d && all_from test (suc n) ds
+
+abbrev pub all_items_from : (ℕ → Data → Bool) → Data → Bool
+all_items_from test d = all_from test 0 (list_of (items_in d))
+
+all_the_same : (test : Data → Bool) (n : ℕ) (ds : List Data) → all_from (λ number. test) n ds ≡ list_all test ds
+all_the_same test n [] = refl
+all_the_same test n (d ∷ ds) = ap (λ (b : Bool). test d && b) (all_the_same test (suc n) ds)
+
+items_clean : (found : ℕ → Data → List Finding) (test : ℕ → Data → Bool) → ((n : ℕ) → IsCleanBeside (found n) (test n)) → (n : ℕ) (ds es : Items) → AlikeItems ds es
+    → clean (items_from found n (list_of ds)) ≡ all_from test n (list_of es)
 items_clean found test is n no_items es a = rw a refl
 items_clean found test is n (item d ds) es a =
     rw (a.2)
     (clean-append (map (under (Item n)) (found n d)) (items_from found (suc n) (list_of ds))
     ∙ ap (λ (b : Bool). b && clean (items_from found (suc n) (list_of ds))) (clean-under (Item n) (found n d) ∙ is n d a.0 a.3)
-    ∙ ap (λ (b : Bool). test a.0 && b) (items_clean found test is (suc n) ds a.1 a.4))
+    ∙ ap (λ (b : Bool). test n a.0 && b) (items_clean found test is (suc n) ds a.1 a.4))
+
+pub numbered_clean : (found : ℕ → Data → List Finding) (test : ℕ → Data → Bool) → ((n : ℕ) → IsCleanBeside (found n) (test n)) → IsCleanBeside (in_items found) (all_items_from test)
+numbered_clean found test is null k a = rw a refl
+numbered_clean found test is (boolean b) k a = rw a refl
+numbered_clean found test is (number n) k a = rw a refl
+numbered_clean found test is (string s) k a = rw a refl
+numbered_clean found test is (array ds) k a = rw (a.1) (items_clean found test is 0 ds a.0 a.2)
+numbered_clean found test is (object ms) k a = rw (a.1) refl
 
 in_items_clean : (found : ℕ → Data → List Finding) (test : Data → Bool) → ((n : ℕ) → IsCleanBeside (found n) test) → IsCleanBeside (in_items found) (all_items test)
-in_items_clean found test is null k a = rw a refl
-in_items_clean found test is (boolean b) k a = rw a refl
-in_items_clean found test is (number n) k a = rw a refl
-in_items_clean found test is (string s) k a = rw a refl
-in_items_clean found test is (array ds) k a = rw (a.1) (items_clean found test is 0 ds a.0 a.2)
-in_items_clean found test is (object ms) k a = rw (a.1) refl
+in_items_clean found test is d k a =
+    numbered_clean found (λ number. test) is d k a ∙ all_the_same test 0 (list_of (items_in k))
 
 inside_by : (found : Data → List Finding) (test : Data → Bool) → IsCleanBeside found test → (at : Name) (o p : Option Data) → AreAlike o p
     → clean (option_map_or (λ value. map (under (Member at)) (found value)) o []) ≡ is_absent_or test p
@@ -198,26 +217,27 @@ count_same name not d k a = count_by (member_at name d) (member_at name k) (memb
 pub seconds_same : (d k : Data) → Alike d k → seconds_in d ≡ seconds_in k
 seconds_same d k a = ap (λ (n : Option ℕ). unwrap_or n 0) (whole_same (codes "seconds") refl d k a)
 
-summed : (ds es : Items) → AlikeItems ds es → sum_by seconds_in (list_of ds) ≡ sum_by seconds_in (list_of es)
-summed no_items es a = rw a refl
-summed (item d ds) es a =
-    rw (a.2)
-    (sum_by-cons seconds_in d (list_of ds)
-    ∙ ap (λ (n : ℕ). n + sum_by seconds_in (list_of ds)) (seconds_same d a.0 a.3)
-    ∙ ap (λ (n : ℕ). seconds_in a.0 + n) (summed ds a.1 a.4)
-    ∙ sym (sum_by-cons seconds_in a.0 (list_of a.1)))
+module _ (f : Data → ℕ) (same : (d k : Data) → Alike d k → f d ≡ f k) where
+  summed : (ds es : Items) → AlikeItems ds es → sum_by f (list_of ds) ≡ sum_by f (list_of es)
+  summed no_items es a = rw a refl
+  summed (item d ds) es a =
+      rw (a.2)
+      (sum_by-cons f d (list_of ds)
+      ∙ ap (λ (n : ℕ). n + sum_by f (list_of ds)) (same d a.0 a.3)
+      ∙ ap (λ (n : ℕ). f a.0 + n) (summed ds a.1 a.4)
+      ∙ sym (sum_by-cons f a.0 (list_of a.1)))
 
-sum_in : (d k : Data) → Alike d k → sum_by seconds_in (list_of (items_in d)) ≡ sum_by seconds_in (list_of (items_in k))
-sum_in null k a = rw a refl
-sum_in (boolean b) k a = rw a refl
-sum_in (number n) k a = rw a refl
-sum_in (string s) k a = rw a refl
-sum_in (array ds) k a = rw (a.1) (summed ds a.0 a.2)
-sum_in (object ms) k a = rw (a.1) refl
+  sum_in : (d k : Data) → Alike d k → sum_by f (list_of (items_in d)) ≡ sum_by f (list_of (items_in k))
+  sum_in null k a = rw a refl
+  sum_in (boolean b) k a = rw a refl
+  sum_in (number n) k a = rw a refl
+  sum_in (string s) k a = rw a refl
+  sum_in (array ds) k a = rw (a.1) (summed ds a.0 a.2)
+  sum_in (object ms) k a = rw (a.1) refl
 
-sum_of : (o p : Option Data) → AreAlike o p → sum_by seconds_in (option_map_or (λ value. list_of (items_in value)) o []) ≡ sum_by seconds_in (option_map_or (λ value. list_of (items_in value)) p [])
-sum_of None p a = rw a refl
-sum_of (Some d) p a = rw (a.1) (sum_in d a.0 a.2)
+  sum_of : (o p : Option Data) → AreAlike o p → sum_by f (option_map_or (λ value. list_of (items_in value)) o []) ≡ sum_by f (option_map_or (λ value. list_of (items_in value)) p [])
+  sum_of None p a = rw a refl
+  sum_of (Some d) p a = rw (a.1) (sum_in d a.0 a.2)
 
-pub sum_same : (name : Name) → is_kept (name_text name) ≡ false → (d k : Data) → Alike d k → sum_by seconds_in (items_at name d) ≡ sum_by seconds_in (items_at name k)
-sum_same name not d k a = sum_of (member_at name d) (member_at name k) (member_alike (name_text name) not d k a)
+  pub sum_same : (name : Name) → is_kept (name_text name) ≡ false → (d k : Data) → Alike d k → sum_by f (items_at name d) ≡ sum_by f (items_at name k)
+  sum_same name not d k a = sum_of (member_at name d) (member_at name k) (member_alike (name_text name) not d k a)

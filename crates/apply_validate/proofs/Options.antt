@@ -17,6 +17,23 @@ pub and_comm : (a b : Bool) → (a && b) ≡ (b && a)
 and_comm true b = sym (and_true b)
 and_comm false b = sym (and_false b)
 
+pub and_assoc : (a b c : Bool) → (a && (b && c)) ≡ ((a && b) && c)
+and_assoc true b c = refl
+and_assoc false b c = refl
+
+-- a test that another holds of itself, beside a third
+pub still : (o s r : Bool) → (o && s) ≡ s → (o && (s && r)) ≡ (s && r)
+still o s r e = and_assoc o s r ∙ ap (λ (b : Bool). b && r) e
+
+pub crossed : (a b c e : Bool) → ((a && b) && (c && e)) ≡ ((a && c) && (b && e))
+crossed false b c e = refl
+crossed true false c e = sym (and_false c)
+crossed true true c e = refl
+
+pub and_if : (b c x y : Bool) → b ≡ c → (c ≡ true → x ≡ y) → (b && x) ≡ (c && y)
+and_if b true x y e f = ap (λ (z : Bool). z && x) e ∙ f refl
+and_if b false x y e f = ap (λ (z : Bool). z && x) e
+
 pub and_left : (a b : Bool) → (a && b) ≡ true → a ≡ true
 and_left true b e = refl
 and_left false b e = e

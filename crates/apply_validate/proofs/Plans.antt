@@ -31,13 +31,13 @@ use Rattle.apply_validate.specs.declared.findings.want.Want.TheVariants as want
 use Rattle.apply_validate.specs.declared.findings.what.What.TheVariants as what
 use Rattle.apply_validate.specs.Findings.{finding_at, finding_here, under}
 use Rattle.apply_validate.specs.Laws.{has_refusal}
-use Rattle.apply_validate.specs.PlanFindings.{by_itself, elements_behind, first_named, header_table, in_element, in_elements, in_plan, is_named, is_sound, name_of, named_again}
-use Rattle.apply_validate.specs.Walks.{faults_of, items_at}
+use Rattle.apply_validate.specs.PlanFindings.{by_itself, first_named, header_table, in_element, in_elements, in_plan, is_named, is_sound, name_of, named_again}
+use Rattle.apply_validate.specs.Walks.{faults_of, items_at, items_behind}
 use Rattle.apply_validate.specs.Wants.{is_met}
 use Rattle.apply_validate.specs.Whole.{plan_findings}
 use Rattle.apply_validate.proofs.Clean.{clean, clean-append, clean-faults_of, clean-under, clean-where_suits}
 use Rattle.apply_validate.proofs.Elements.{has_change, name_read_is, sound_is}
-use Rattle.apply_validate.proofs.Options.{and_false, and_left, and_right, not_not}
+use Rattle.apply_validate.proofs.Options.{and_assoc, and_false, and_if, and_left, and_right, not_not}
 use Rattle.apply_validate.proofs.Wanted.{met_array_or, met_text_or, needs_object}
 
 -- ---- an object that was named before
@@ -74,10 +74,6 @@ any_position p n [] = refl
 any_position p n (x ∷ xs) = by_first (p x) n (position_from p (n + 1) xs) (list_any p xs) (any_position p (n + 1) xs)
 
 -- ---- one element
-
-and_assoc : (a b c : Bool) → (a && (b && c)) ≡ ((a && b) && c)
-and_assoc true b c = refl
-and_assoc false b c = refl
 
 -- nothing is found in what stands before it
 abbrev is_new : List Data → Data → Bool
@@ -135,18 +131,14 @@ one before d sound = by_read before d sound (element_of d) refl ∙ sym (in_elem
 
 -- ---- the elements
 
-and_if : (b c x y : Bool) → b ≡ c → (c ≡ true → x ≡ y) → (b && x) ≡ (c && y)
-and_if b true x y e f = ap (λ (z : Bool). z && x) e ∙ f refl
-and_if b false x y e f = ap (λ (z : Bool). z && x) e
-
 changes_are : (ds before all : List Data) → all ≡ before ++ ds → list_all is_sound before ≡ true
-    → list_all is_ok (map (λ p. change_at (take p.0 all) p.1) (enumerate_from (length before) ds)) ≡ clean (elements_behind before ds)
+    → list_all is_ok (map (λ p. change_at (take p.0 all) p.1) (enumerate_from (length before) ds)) ≡ clean (items_behind in_element before ds)
 changes_are [] before all whole sound = refl
 changes_are (d ∷ ds) before all whole sound =
     let front : take (length before) all ≡ before = rw whole (take_at before (d ∷ ds) (length before) refl) in
     let longer : length (before ++ d ∷ []) ≡ length before + 1 = omega (arith, length-append before (d ∷ [])) in
     let rest : Bool = list_all is_ok (map (λ p. change_at (take p.0 all) p.1) (enumerate_from (length before + 1) ds)) in
-    and_if (is_ok (change_at (take (length before) all) d)) (clean (in_element before d)) rest (clean (elements_behind (before ++ d ∷ []) ds))
+    and_if (is_ok (change_at (take (length before) all) d)) (clean (in_element before d)) rest (clean (items_behind in_element (before ++ d ∷ []) ds))
     (ap (λ (xs : List Data). is_ok (change_at xs d)) front ∙ one before d sound)
     (λ new.
     let itself : is_sound d ≡ true = and_left (is_sound d) (is_new before d) (sym (in_element_is before d) ∙ new) in
@@ -154,8 +146,8 @@ changes_are (d ∷ ds) before all whole sound =
     list_all-append is_sound before (d ∷ []) ∙ ap (λ (b : Bool). b && (is_sound d && true)) sound ∙ ap (λ (b : Bool). b && true) itself in
     ap (λ (n : ℕ). list_all is_ok (map (λ p. change_at (take p.0 all) p.1) (enumerate_from n ds))) (sym longer)
     ∙ changes_are ds (before ++ d ∷ []) all (whole ∙ sym (append_assoc before (d ∷ []) ds)) all_sound)
-    ∙ sym (clean-append (map (under (Item (length before))) (in_element before d)) (elements_behind (before ++ d ∷ []) ds)
-    ∙ ap (λ (b : Bool). b && clean (elements_behind (before ++ d ∷ []) ds)) (clean-under (Item (length before)) (in_element before d)))
+    ∙ sym (clean-append (map (under (Item (length before))) (in_element before d)) (items_behind in_element (before ++ d ∷ []) ds)
+    ∙ ap (λ (b : Bool). b && clean (items_behind in_element (before ++ d ∷ []) ds)) (clean-under (Item (length before)) (in_element before d)))
 
 one_more_ok : {A E : Type 0} (r : Result A E) (rs : Result (List A) E) → is_ok (results.◌>>=◌ r (λ x. results.◌>>=◌ rs (λ xs. Ok (x ∷ xs)))) ≡ (is_ok r && is_ok rs)
 one_more_ok (Err e) rs = refl
@@ -166,7 +158,7 @@ pub all_ok : {A E : Type 0} (rs : List (Result A E)) → is_ok (all_or_first rs)
 all_ok [] = refl
 all_ok (r ∷ rs) = one_more_ok r (all_or_first rs) ∙ ap (λ (b : Bool). is_ok r && b) (all_ok rs)
 
-changes_ok : (ds : List Data) → is_ok (changes_of ds) ≡ clean (elements_behind [] ds)
+changes_ok : (ds : List Data) → is_ok (changes_of ds) ≡ clean (items_behind in_element [] ds)
 unfolding changes_of
 changes_ok ds = all_ok (each_with_earlier change_at ds) ∙ changes_are ds [] ds refl refl
 
@@ -201,8 +193,8 @@ by_many false version r xs is = then_ok version r ∙ is
 elements_ok : (version : List ℕ) (ds : Items) → is_ok (then_changes (let h : Header = record { version = version; elements = ds } in h)) ≡ clean (in_elements (list_of ds))
 elements_ok version ds =
     ap (λ (n : ℕ). is_ok (let r : Result SavedPlan PlanError = if nat_lt max_changes n then Err TooMany else results.◌>>=◌ (changes_of (list_of ds)) (λ changes. Ok (let p : SavedPlan = record { version = version; changes = changes } in p)) in r)) (len_is ds)
-    ∙ by_many (nat_lt max_changes (length (list_of ds))) version (changes_of (list_of ds)) (map (under (Member name.ResourceChanges)) (elements_behind [] (list_of ds)))
-    (changes_ok (list_of ds) ∙ sym (clean-under (Member name.ResourceChanges) (elements_behind [] (list_of ds))))
+    ∙ by_many (nat_lt max_changes (length (list_of ds))) version (changes_of (list_of ds)) (map (under (Member name.ResourceChanges)) (items_behind in_element [] (list_of ds)))
+    (changes_ok (list_of ds) ∙ sym (clean-under (Member name.ResourceChanges) (items_behind in_element [] (list_of ds))))
 
 abbrev with_format : Bool → List ℕ → Items → Option Header
 with_format b version ds = if b then Some (record { version = version; elements = ds }) else None

@@ -18,15 +18,15 @@ use Rattle.apply_plan.specs.Script.Entry.{OutputItem, all_some, diag_from, diag_
 use Rattle.apply_validate.specs.declared.findings.finding.Finding.{Finding}
 use Rattle.apply_validate.specs.declared.findings.name.Name.TheVariants as name
 use Rattle.apply_validate.specs.declared.findings.want.Want.TheVariants as want
-use Rattle.apply_validate.specs.ScriptFindings.{growth_of_provisioner, in_diagnostic, in_outputs, in_provisioner, known, provisioner_mark, provisioner_names, provisioner_table, seconds_in, whole_at}
-use Rattle.apply_validate.specs.Walks.{faults_of, in_list, inside, items_at, marked, unless_suits, unread}
+use Rattle.apply_validate.specs.ScriptFindings.{growth_of_provisioner, in_diagnostic, in_outputs, in_provisioner, provisioner_mark, provisioner_names, provisioner_table, seconds_in, whole_at}
+use Rattle.apply_validate.specs.Walks.{faults_of, in_list, inside, items_at, known, marked, unless_suits, unread}
 use Rattle.apply_validate.specs.Wants.{is_met}
 use Rattle.apply_validate.proofs.Clean.{all_items, clean, clean-append, clean-faults_of, clean-marked, clean-then_unread, clean-unless_suits, clean-where_suits, is_absent_or}
 use Rattle.apply_validate.proofs.Diagnostics.{absent_or_diagnostic, clean_diagnostic, two}
 use Rattle.apply_validate.proofs.Alike.{object_alike}
 use Rattle.apply_validate.proofs.Members.{IsCleanBeside, array_or, count_same, inside_clean, list_clean, non_empty_there, on_failure_there, whole_there}
 use Rattle.apply_validate.proofs.Wanted.{needs_object}
-use Rattle.apply_validate.proofs.Options.{and_comm, and_false, and_then_is, and_true, bind_some}
+use Rattle.apply_validate.proofs.Options.{and_comm, and_false, and_then_is, and_true, bind_some, crossed}
 use Rattle.apply_validate.proofs.Outputs.{are_shaped, clean_outputs, come_in_time, is_shaped, outputs_read, shape_alike}
 
 -- what a run reads of a provisioner, that puts out no more than it may
@@ -94,7 +94,7 @@ reads (Some n) (Some s) (Some f) items may_fail shaped many timely come are =
 some_is : {A : Type 0} (x y : A) → Some x ≡ Some y → x ≡ y
 some_is x y e = cc
 
-length_of_all : {A : Type 0} (part : Data → Option A) (ds : List Data) (xs : List A) → all_some (map part ds) ≡ Some xs → length ds ≡ length xs
+pub length_of_all : {A : Type 0} (part : Data → Option A) (ds : List Data) (xs : List A) → all_some (map part ds) ≡ Some xs → length ds ≡ length xs
 length_of_all part [] xs e = ap length (some_is [] xs e)
 length_of_all {A} part (d ∷ ds) xs e =
     let one = bind_some (part d) (λ x. all_some (map part ds) >>= λ ys. Some (x ∷ ys)) xs e in
@@ -228,11 +228,6 @@ fits_both k =
     (come_in_time (whole_at name.Seconds k) None (items_at name.Output k))
     (λ s e. ap (λ (x : Option ℕ). are_shaped o && come_in_time x None (items_at name.Output k)) (seconds ∙ e) ∙ outputs_read s o)
     (λ s texts e. ap (λ (n : ℕ). nat_lt max_outputs n) (texts_read s o texts e))
-
-crossed : (a b c e : Bool) → ((a && b) && (c && e)) ≡ ((a && c) && (b && e))
-crossed false b c e = refl
-crossed true false c e = sym (and_false c)
-crossed true true c e = refl
 
 all_both : (ks : List Data) → (list_all fits_first ks && list_all fits_growth ks) ≡ list_all is_provisioner ks
 all_both [] = refl

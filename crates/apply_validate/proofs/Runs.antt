@@ -25,22 +25,22 @@ by_waits : (b : Bool) (x : Finding) → is_refusal x ≡ true → has_refusal (c
 by_waits true x is = rw is refl
 by_waits false x is = refl
 
-refusals_are : (lanes : Bool) (q : Result OutcomeMap ScriptError) → has_refusal (refusals_of lanes q) ≡ refuses_read lanes q
-refusals_are lanes (Ok script) = by_waits (not lanes && has_waits script) _ refl
-refusals_are lanes (Err refusal) = placed_refuses (entry_of_refusal refusal) (ForPlan refusal) refl
+refusals_are : (lanes : Bool) (bytes : List ℕ) (q : Result OutcomeMap ScriptError) → has_refusal (refusals_of lanes bytes q) ≡ refuses_read lanes q
+refusals_are lanes bytes (Ok script) = by_waits (not lanes && has_waits script) _ refl
+refusals_are lanes bytes (Err refusal) = placed_refuses (entry_of_refusal refusal) (ForPlan refusal) refl
 
 -- a script in which something is found by itself is refused
-own_refused : (lanes : Bool) (q : Result OutcomeMap ScriptError) (own : Bool) → (is_ok q ≡ true → own ≡ false)
-    → (own || has_refusal (cond own [] (refusals_of lanes q))) ≡ refuses_read lanes q
-own_refused lanes q false taken = refusals_are lanes q
-own_refused lanes (Ok script) true taken = absurd (let e : true ≡ false = taken refl in cc)
-own_refused lanes (Err refusal) true taken = refl
+own_refused : (lanes : Bool) (bytes : List ℕ) (q : Result OutcomeMap ScriptError) (own : Bool) → (is_ok q ≡ true → own ≡ false)
+    → (own || has_refusal (cond own [] (refusals_of lanes bytes q))) ≡ refuses_read lanes q
+own_refused lanes bytes q false taken = refusals_are lanes bytes q
+own_refused lanes bytes (Ok script) true taken = absurd (let e : true ≡ false = taken refl in cc)
+own_refused lanes bytes (Err refusal) true taken = refl
 
 of_script : (lanes : Bool) (plan : SavedPlan) (bytes : List ℕ)
-    → has_refusal (script_findings bytes ++ beside_plan lanes plan bytes) ≡ refuses_read lanes (script_of plan bytes)
+    → has_refusal (script_findings (Some plan.changes) bytes ++ beside_plan lanes plan bytes) ≡ refuses_read lanes (script_of plan bytes)
 of_script lanes plan bytes =
-    list_any-append is_refusal (script_findings bytes) (beside_plan lanes plan bytes)
-    ∙ own_refused lanes (script_of plan bytes) (has_refusal (script_findings bytes)) (taken_script plan bytes)
+    list_any-append is_refusal (script_findings (Some plan.changes) bytes) (beside_plan lanes plan bytes)
+    ∙ own_refused lanes bytes (script_of plan bytes) (has_refusal (script_findings (Some plan.changes) bytes)) (taken_script plan bytes)
 
 of_given : (lanes : Bool) (r : Result SavedPlan PlanError) (script : Option (List ℕ))
     → (is_err r || has_refusal (given_findings lanes r script)) ≡ refuses_given lanes r script
@@ -54,7 +54,7 @@ refusals_of_run lanes plan script =
     ap (λ (b : Bool). b || has_refusal (given_findings lanes (plan_of plan) script)) (refusals_of_plan plan) ∙ of_given lanes (plan_of plan) script
 
 -- where nothing is found in a script by itself, the finding of a run's refusal is told behind its warnings
-pub refusal_among : (lanes : Bool) (plan : SavedPlan) (bytes : List ℕ) (refusal : ScriptError) → has_refusal (script_findings bytes) ≡ false
-    → script_of plan bytes ≡ Err refusal → given_findings lanes (Ok plan) (Some bytes) ≡ script_findings bytes ++ refused_for refusal
+pub refusal_among : (lanes : Bool) (plan : SavedPlan) (bytes : List ℕ) (refusal : ScriptError) → has_refusal (script_findings (Some plan.changes) bytes) ≡ false
+    → script_of plan bytes ≡ Err refusal → given_findings lanes (Ok plan) (Some bytes) ≡ script_findings (Some plan.changes) bytes ++ refused_for refusal
 refusal_among lanes plan bytes refusal none is =
-    ap (λ (xs : List Finding). script_findings bytes ++ xs) (rw none (ap (refusals_of lanes) is))
+    ap (λ (xs : List Finding). script_findings (Some plan.changes) bytes ++ xs) (rw none (ap (refusals_of lanes bytes) is))

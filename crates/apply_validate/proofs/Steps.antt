@@ -6,26 +6,30 @@ use Rattle.std.specs.Option.{option_and_then, option_map, option_map_or}
 use Rattle.std.proofs.lemmas.Bool.{lt-ltb}
 use Rattle.serde_json.specs.Data.{Data, null, boolean, number, string, array, object}
 use Rattle.serde_json.specs.Find.{as_bool, as_number, as_object, as_str, as_u64}
-use Rattle.apply_json.specs.Tree.{◌>>=◌, member_of, text_or, unless_empty}
+use Rattle.apply_json.specs.Seen.{items_in}
+use Rattle.apply_json.specs.Tree.{◌>>=◌, list_of, member_of, text_or, unless_empty}
 use Rattle.apply_model.specs.declared.script.diag.Diag.{Diag}
 use Rattle.apply_model.specs.declared.script.ending.Ending.{Ending}
 use Rattle.apply_model.specs.declared.script.ending.Ending.TheVariants.{Done, Failed, Warned}
 use Rattle.apply_model.specs.declared.script.provisioner.Provisioner.{Provisioner}
 use Rattle.apply_model.specs.Script.Limits.{max_provisioners, max_seconds}
 use Rattle.apply_model.specs.Script.Outcome.{is_failed, is_warned, puts_out_too_much, seconds_of_all}
+use Rattle.apply_model.specs.Plan.ResourceChange.{ResourceChange}
 use Rattle.apply_plan.specs.Script.Entry.{EntryStep, Failure, WaitName, answered_with, diag_from, diag_or_none, each_of, ending_by, ending_from, ending_of, failure_from, failure_or_none, flag_or_false, provisioner_from, says_nothing, seconds_of, skipped_with, step_from, wait_from}
 use Rattle.apply_validate.specs.declared.findings.finding.Finding.{Finding}
 use Rattle.apply_validate.specs.declared.findings.name.Name.TheVariants as name
 use Rattle.apply_validate.specs.declared.findings.want.Want.TheVariants as want
+use Rattle.apply_validate.specs.Beside.{kind_marks}
 use Rattle.apply_validate.specs.Laws.{is_within_limits}
-use Rattle.apply_validate.specs.ScriptFindings.{growth_of_provisioner, in_diagnostic, in_failure, in_provisioner, in_step, in_wait, is_skipped, known, seconds_in, seconds_in_all, skipped_marks, step_marks, step_names, step_table}
-use Rattle.apply_validate.specs.Walks.{faults_of, in_items, in_list, inside, items_at, marked, unread}
+use Rattle.apply_validate.specs.ScriptFindings.{growth_of_provisioner, in_diagnostic, in_failure, in_provisioner, in_step, in_wait, is_skipped, seconds_in, seconds_in_all, skipped_marks, step_marks, step_names, step_table}
+use Rattle.apply_validate.specs.Walks.{faults_of, in_items, in_list, inside, items_at, known, marked, unread}
 use Rattle.apply_validate.specs.Wants.{is_met}
 use Rattle.apply_validate.proofs.Alike.{Alike, object_alike}
-use Rattle.apply_validate.proofs.Clean.{all_items, clean, clean-append, clean-faults_of, clean-marked, clean-then_unread, clean-where_suits, is_absent_or}
-use Rattle.apply_validate.proofs.Diagnostics.{absent_or_diagnostic, absent_or_failure, clean_diagnostic, clean_failure, clean_wait, two}
+use Rattle.apply_validate.proofs.Besides.{fits_kind, is_found, kind_same}
+use Rattle.apply_validate.proofs.Clean.{all_items, appended, clean, clean-append, clean-faults_of, clean-marked, clean-then_unread, clean-where_suits, is_absent_or}
+use Rattle.apply_validate.proofs.Diagnostics.{absent_or_diagnostic, absent_or_failure, clean_diagnostic, clean_failure, clean_wait, fits_wait, two}
 use Rattle.apply_validate.proofs.Members.{IsCleanBeside, array_or, count_same, flag_same, flag_there, inside_clean, is_there_same, items_inside, list_clean, non_empty_same, seconds_same, sum_same, text_or_there, whole_there}
-use Rattle.apply_validate.proofs.Options.{and_false, and_true, none_any, nothing_then}
+use Rattle.apply_validate.proofs.Options.{and_assoc, and_false, and_true, crossed, none_any, nothing_then, still}
 use Rattle.apply_validate.proofs.Provisioners.{all_seconds_read, clean_growth, clean_provisioner, fits, fits_first, fits_growth, is_provisioner, items_both, length_read, seconds_are}
 use Rattle.apply_validate.proofs.Wanted.{each_fits, each_is}
 
@@ -278,7 +282,7 @@ unfolding untouched alone
 tests_same d k a =
     let count = count_same name.Provisioners refl d k a in
     let taken : seconds_in_all d ≡ seconds_in_all k =
-    ap (λ (n : ℕ). n + sum_by seconds_in (items_at name.Provisioners d)) (seconds_same d k a) ∙ ap (λ (n : ℕ). seconds_in k + n) (sum_same name.Provisioners refl d k a) in
+    ap (λ (n : ℕ). n + sum_by seconds_in (items_at name.Provisioners d)) (seconds_same d k a) ∙ ap (λ (n : ℕ). seconds_in k + n) (sum_same seconds_in seconds_same name.Provisioners refl d k a) in
     let failed = is_there_same (codes "failed") refl d k a in
     let warning = is_there_same (codes "warning") refl d k a in
     let id = ap (λ (o : Option (List ℕ)). is_some o) (non_empty_same (codes "id") refl d k a) in (
@@ -307,8 +311,20 @@ apart true true true true true true true false skipped growth after all e = sym 
 apart true true true true true true true true false growth after all e = sym (and_false all)
 apart true true true true true true true true true growth after all e = ap (λ (b : Bool). b && after) e
 
-appended : (xs ys : List Finding) (a b : Bool) → clean xs ≡ a → clean ys ≡ b → clean (xs ++ ys) ≡ (a && b)
-appended xs ys a b one other = clean-append xs ys ∙ ap (λ (x : Bool). x && clean ys) one ∙ ap (λ (x : Bool). a && x) other
+-- what is tested beside the changes of a plan, apart from what is tested without them
+beside_last : (x kinds flag skipped growth a waits : Bool)
+    → (((((x && kinds) && flag) && skipped) && growth) && (a && waits)) ≡ (((((x && flag) && skipped) && growth) && a) && (kinds && waits))
+beside_last false kinds flag skipped growth a waits = refl
+beside_last true true flag skipped growth a waits = and_assoc (((flag && skipped) && growth)) a waits
+beside_last true false flag skipped growth a waits = sym (and_false (((flag && skipped) && growth) && a))
+
+both_items : (p q : Data → Bool) (ks : List Data) → list_all (λ e. p e && q e) ks ≡ (list_all p ks && list_all q ks)
+both_items p q [] = refl
+both_items p q (k ∷ ks) = ap (λ (b : Bool). (p k && q k) && b) (both_items p q ks) ∙ crossed (p k) (q k) (list_all p ks) (list_all q ks)
+
+both_absent : (p q : Data → Bool) (o : Option Data) → is_absent_or (all_items (λ e. p e && q e)) o ≡ (is_absent_or (all_items p) o && is_absent_or (all_items q) o)
+both_absent p q None = refl
+both_absent p q (Some d) = both_items p q (list_of (items_in d))
 
 -- what is no object is no step
 only_object : (k : Data) → (is_some (as_object k) && is_step k) ≡ is_step k
@@ -320,18 +336,31 @@ only_object (string s) = refl
 only_object (array ds) = refl
 only_object (object ms) = refl
 
-pub clean_step : IsCleanBeside in_step is_step
+-- what a step waits for is there
+abbrev pub waits_found : Option (List ResourceChange) → Data → Bool
+waits_found changes k = is_absent_or (all_items (is_found changes)) (member_of (codes "after") k)
+
+-- a step fits the changes of a plan
+abbrev pub is_beside : Option (List ResourceChange) → Option ResourceChange → ℕ → Data → Bool
+is_beside changes change n k = fits_kind change n k && waits_found changes k
+
+-- a step that a run reads is within the limits, and fits the changes of a plan
+abbrev pub fits_step : Option (List ResourceChange) → Option ResourceChange → ℕ → Data → Bool
+fits_step changes change n k = is_step k && is_beside changes change n k
+
+pub clean_step : (changes : Option (List ResourceChange)) (change : Option ResourceChange) (n : ℕ) → IsCleanBeside (in_step changes change n) (fits_step changes change n)
 unfolding in_step step_from ending_of
-clean_step d k alike =
+clean_step changes change n d k alike =
     let wrong : List Finding = faults_of (step_table (is_skipped d)) d in
     let warning : List Finding = inside in_diagnostic name.Warning d in
     let failed : List Finding = inside in_failure name.Failed d in
     let provisioners : List Finding = in_list (λ number. in_provisioner) (known name.Provisioners want.ArrayOrAbsent) d in
     let marks : List Finding = marked (step_marks d) in
+    let kinds : List Finding = marked (kind_marks change n d) in
     let flag : List Finding = faults_of (known name.Skipped want.FlagOrAbsent ∷ []) d in
     let marks_skipped : List Finding = marked (skipped_marks d) in
     let growth : List Finding = inside (in_items (λ number. growth_of_provisioner)) name.Provisioners d in
-    let after : List Finding = in_list (λ number. in_wait) (known name.After want.ArrayOrAbsent) d in
+    let after : List Finding = in_list (λ item. in_wait changes) (known name.After want.ArrayOrAbsent) d in
     let q : Option Bool = flag_or_false (member_of (codes "skipped") k) in
     let told : Bool = is_some (member_of (codes "seconds") k) in
     let s : Option ℕ = seconds_of k in
@@ -340,7 +369,8 @@ clean_step d k alike =
     let f : Option (Option Failure) = failure_or_none (member_of (codes "failed") k) in
     let o : Option Data = member_of (codes "provisioners") k in
     let l : Option (List Provisioner) = each_of provisioner_from o in
-    let a : Option (List WaitName) = each_of wait_from (member_of (codes "after") k) in
+    let p : Option Data = member_of (codes "after") k in
+    let a : Option (List WaitName) = each_of wait_from p in
     let tests : Bool = list_all (λ mark. not mark.holds) (step_marks k) in
     let tests_skipped : Bool = list_all (λ mark. not mark.holds) (skipped_marks k) in
     let listed : Bool = is_met want.ArrayOrAbsent o in
@@ -353,30 +383,37 @@ clean_step d k alike =
     let e4 : clean provisioners ≡ (listed && is_absent_or (all_items fits_first) o) =
     list_clean (λ number. in_provisioner) fits_first (λ number. clean_provisioner) (known name.Provisioners want.ArrayOrAbsent) array_or refl d k alike in
     let e5 : clean marks ≡ tests = clean-marked (step_marks d) refl ∙ same.0 in
-    let e6 : clean flag ≡ is_some q =
+    let e6 : clean kinds ≡ fits_kind change n k = kind_same change n d k alike in
+    let e7 : clean flag ≡ is_some q =
     clean-faults_of (known name.Skipped want.FlagOrAbsent ∷ []) d ∙ and_true (is_met want.FlagOrAbsent (member_of (codes "skipped") d)) ∙ flag_there (codes "skipped") refl d k alike in
-    let e7 : clean marks_skipped ≡ tests_skipped = clean-marked (skipped_marks d) refl ∙ same.1 in
-    let e8 : clean growth ≡ is_absent_or (all_items fits_growth) o =
+    let e8 : clean marks_skipped ≡ tests_skipped = clean-marked (skipped_marks d) refl ∙ same.1 in
+    let e9 : clean growth ≡ is_absent_or (all_items fits_growth) o =
     items_inside (λ number. growth_of_provisioner) fits_growth (λ number. clean_growth) name.Provisioners refl d k alike in
-    let e9 : clean after ≡ is_some a =
-    list_clean (λ number. in_wait) (λ e. is_some (wait_from e)) (λ number. clean_wait) (known name.After want.ArrayOrAbsent) array_or refl d k alike
-    ∙ each_is wait_from (member_of (codes "after") k) in
+    let e10 : clean after ≡ (is_some a && waits_found changes k) =
+    list_clean (λ item. in_wait changes) (fits_wait changes) (λ item. clean_wait changes) (known name.After want.ArrayOrAbsent) array_or refl d k alike
+    ∙ ap (λ (b : Bool). is_met want.ArrayOrAbsent p && b) (both_absent (λ e. is_some (wait_from e)) (is_found changes) p)
+    ∙ and_assoc (is_met want.ArrayOrAbsent p) (is_absent_or (all_items (λ e. is_some (wait_from e))) p) (waits_found changes k)
+    ∙ ap (λ (b : Bool). b && waits_found changes k) (each_is wait_from p) in
     let c2 = appended wrong warning _ _ e1 e2 in
     let c3 = appended (wrong ++ warning) failed _ _ c2 e3 in
     let c4 = appended (wrong ++ warning ++ failed) provisioners _ _ c3 e4 in
     let c5 = appended (wrong ++ warning ++ failed ++ provisioners) marks _ _ c4 e5 in
-    let c6 = appended (wrong ++ warning ++ failed ++ provisioners ++ marks) flag _ _ c5 e6 in
-    let c7 = appended (wrong ++ warning ++ failed ++ provisioners ++ marks ++ flag) marks_skipped _ _ c6 e7 in
-    let c8 = appended (wrong ++ warning ++ failed ++ provisioners ++ marks ++ flag ++ marks_skipped) growth _ _ c7 e8 in
-    let c9 = appended (wrong ++ warning ++ failed ++ provisioners ++ marks ++ flag ++ marks_skipped ++ growth) after _ _ c8 e9 in
-    let whole : clean (wrong ++ warning ++ failed ++ provisioners ++ marks ++ flag ++ marks_skipped ++ growth ++ after ++ unread step_names d) ≡ is_step k =
-    clean-then_unread (wrong ++ warning ++ failed ++ provisioners ++ marks ++ flag ++ marks_skipped ++ growth ++ after) step_names d
-    ∙ c9
-    ∙ apart (timed skipped s) (is_some t) (is_some w) (is_some f) listed (is_absent_or (all_items fits_first) o) tests (is_some q) tests_skipped (is_absent_or (all_items fits_growth) o) (is_some a)
+    let c6 = appended (wrong ++ warning ++ failed ++ provisioners ++ marks) kinds _ _ c5 e6 in
+    let c7 = appended (wrong ++ warning ++ failed ++ provisioners ++ marks ++ kinds) flag _ _ c6 e7 in
+    let c8 = appended (wrong ++ warning ++ failed ++ provisioners ++ marks ++ kinds ++ flag) marks_skipped _ _ c7 e8 in
+    let c9 = appended (wrong ++ warning ++ failed ++ provisioners ++ marks ++ kinds ++ flag ++ marks_skipped) growth _ _ c8 e9 in
+    let c10 = appended (wrong ++ warning ++ failed ++ provisioners ++ marks ++ kinds ++ flag ++ marks_skipped ++ growth) after _ _ c9 e10 in
+    let by_itself : (((((((((timed skipped s && is_some t) && is_some w) && is_some f) && (listed && is_absent_or (all_items fits_first) o)) && tests) && is_some q) && tests_skipped) && is_absent_or (all_items fits_growth) o) && is_some a) ≡ is_step k =
+    apart (timed skipped s) (is_some t) (is_some w) (is_some f) listed (is_absent_or (all_items fits_first) o) tests (is_some q) tests_skipped (is_absent_or (all_items fits_growth) o) (is_some a)
     (is_absent_or (all_items is_provisioner) o) (items_both o)
     ∙ ap (λ (x : Bool). parts (timed skipped s) (is_some t) (is_some w) (is_some f) x tests (is_some q) tests_skipped (is_some a)) (each_fits provisioner_from fits o)
     ∙ reads q skipped told s t w f l a tests tests_skipped (silent_read (member_of (codes "seconds") k)) (flag_read (member_of (codes "skipped") k)) (tests_read k) in
-    clean-where_suits want.Step d (wrong ++ warning ++ failed ++ provisioners ++ marks ++ flag ++ marks_skipped ++ growth ++ after ++ unread step_names d)
+    let whole : clean (wrong ++ warning ++ failed ++ provisioners ++ marks ++ kinds ++ flag ++ marks_skipped ++ growth ++ after ++ unread step_names d) ≡ fits_step changes change n k =
+    clean-then_unread (wrong ++ warning ++ failed ++ provisioners ++ marks ++ kinds ++ flag ++ marks_skipped ++ growth ++ after) step_names d
+    ∙ c10
+    ∙ beside_last (((((timed skipped s && is_some t) && is_some w) && is_some f) && (listed && is_absent_or (all_items fits_first) o)) && tests) (fits_kind change n k) (is_some q) tests_skipped (is_absent_or (all_items fits_growth) o) (is_some a) (waits_found changes k)
+    ∙ ap (λ (x : Bool). x && is_beside changes change n k) by_itself in
+    clean-where_suits want.Step d (wrong ++ warning ++ failed ++ provisioners ++ marks ++ kinds ++ flag ++ marks_skipped ++ growth ++ after ++ unread step_names d)
     ∙ ap (λ (x : Bool). is_some (as_object d) && x) whole
-    ∙ ap (λ (x : Bool). x && is_step k) (object_alike d k alike)
-    ∙ only_object k
+    ∙ ap (λ (x : Bool). x && fits_step changes change n k) (object_alike d k alike)
+    ∙ still (is_some (as_object k)) (is_step k) (is_beside changes change n k) (only_object k)

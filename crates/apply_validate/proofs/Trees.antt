@@ -1,10 +1,11 @@
 -- Values of a tree in their order, one after another.
-use Rattle.std.proofs.Common.{◌≡◌, ℕ, suc, ◌+◌, ◌<◌, ◌≤◌, List, [], ◌∷◌, ◌++◌, length, map, take, get_or, false, Option, Some, None, refl, sym, ap, ◌∙◌, append_assoc, arith}
+use Rattle.std.proofs.Common.{◌≡◌, ℕ, suc, ◌+◌, ◌<◌, ◌≤◌, List, [], ◌∷◌, ◌++◌, length, map, drop, take, get_or, Bool, true, false, Option, Some, None, refl, sym, ap, ◌∙◌, append_assoc, arith}
 use Rattle.std.specs.List.{sum_by}
-use Rattle.std.specs.Prelude.{String, string_bytes}
+use Rattle.std.proofs.Math.Seq.{drop-cons}
+use Rattle.std.specs.Prelude.{String, nat_lt, string_bytes}
 use Rattle.std.specs.declared.alloc.Global.{Global}
-use Rattle.std.proofs.lemmas.List.Sums.{sum_by-cons}
-use Rattle.std.proofs.lemmas.List.{append-nil, length-map, length-take-le, map-append, take_more}
+use Rattle.std.proofs.lemmas.List.Sums.{sum_by-append, sum_by-cons}
+use Rattle.std.proofs.lemmas.List.{append-nil, drop_all, length-map, length-take-le, map-append, take_more}
 use denote.Ref.{Bor}
 use Rattle.serde_json.specs.Data.{Data, null, boolean, number, string, array, object, Members, no_members}
 use Rattle.serde_json.specs.Find.{as_object}
@@ -15,10 +16,10 @@ use Rattle.apply_json.specs.Tree.{list_of}
 use Rattle.apply_validate.specs.declared.findings.finding.Finding.{Finding}
 use Rattle.apply_validate.specs.declared.findings.name.Name.{Name}
 use Rattle.apply_validate.specs.declared.findings.part.Part.TheVariants.{Item}
+use Rattle.apply_validate.specs.Beside.{beyond_at, waits_beyond, waits_in}
 use Rattle.apply_validate.specs.Findings.{under}
-use Rattle.apply_validate.specs.PlanFindings.{elements_behind, in_element, is_one_of_eight, name_of}
-use Rattle.apply_validate.specs.ScriptFindings.{seconds_in}
-use Rattle.apply_validate.specs.Walks.{items_from, texts_in, unless_known, unread_from}
+use Rattle.apply_validate.specs.PlanFindings.{is_one_of_eight}
+use Rattle.apply_validate.specs.Walks.{items_behind, items_from, texts_in, unless_known, unread_from}
 
 in_order : (ds : List Data) → list_of (items_of ds) ≡ ds
 in_order [] = refl
@@ -61,36 +62,31 @@ items_more found vs i v below read =
     ∙ sym (items_from_push found 0 so_far (view v))
     ∙ ap (λ (ds : List Data). items_from found 0 ds) (sym (listed_more vs i v below read))
 
-elements_push : (before ds : List Data) (d : Data)
-    → elements_behind before (ds ++ d ∷ []) ≡ elements_behind before ds ++ map (under (Item (length (before ++ ds)))) (in_element (before ++ ds) d)
-elements_push before [] d =
-    append-nil (map (under (Item (length before))) (in_element before d))
-    ∙ ap (λ (bs : List Data). map (under (Item (length bs))) (in_element bs d)) (sym (append-nil before))
-elements_push before (e ∷ ds) d =
-    let own : List Finding = map (under (Item (length before))) (in_element before e) in
-    ap (λ (xs : List Finding). own ++ xs) (elements_push (before ++ e ∷ []) ds d)
-    ∙ sym (append_assoc own (elements_behind (before ++ e ∷ []) ds) (map (under (Item (length (before ++ e ∷ [] ++ ds)))) (in_element (before ++ e ∷ [] ++ ds) d)))
-    ∙ ap (λ (bs : List Data). own ++ elements_behind (before ++ e ∷ []) ds ++ map (under (Item (length bs))) (in_element bs d)) (append_assoc before (e ∷ []) ds)
+behind_push : (found : List Data → Data → List Finding) (before ds : List Data) (d : Data)
+    → items_behind found before (ds ++ d ∷ []) ≡ items_behind found before ds ++ map (under (Item (length (before ++ ds)))) (found (before ++ ds) d)
+behind_push found before [] d =
+    append-nil (map (under (Item (length before))) (found before d))
+    ∙ ap (λ (bs : List Data). map (under (Item (length bs))) (found bs d)) (sym (append-nil before))
+behind_push found before (e ∷ ds) d =
+    let own : List Finding = map (under (Item (length before))) (found before e) in
+    ap (λ (xs : List Finding). own ++ xs) (behind_push found (before ++ e ∷ []) ds d)
+    ∙ sym (append_assoc own (items_behind found (before ++ e ∷ []) ds) (map (under (Item (length (before ++ e ∷ [] ++ ds)))) (found (before ++ e ∷ [] ++ ds) d)))
+    ∙ ap (λ (bs : List Data). own ++ items_behind found (before ++ e ∷ []) ds ++ map (under (Item (length bs))) (found bs d)) (append_assoc before (e ∷ []) ds)
 
-pub elements_more : (vs : List Value) (i : ℕ) (v : Value) → i < length vs → v ≡ get_or vs i v
-    → elements_behind [] (list_of (items_view (take i vs))) ++ map (under (Item i)) (in_element (list_of (items_view (take i vs))) (view v))
-    ≡ elements_behind [] (list_of (items_view (take (i + 1) vs)))
-elements_more vs i v below read =
+pub behind_more : (found : List Data → Data → List Finding) (vs : List Value) (i : ℕ) (v : Value) → i < length vs → v ≡ get_or vs i v
+    → items_behind found [] (list_of (items_view (take i vs))) ++ map (under (Item i)) (found (list_of (items_view (take i vs))) (view v))
+    ≡ items_behind found [] (list_of (items_view (take (i + 1) vs)))
+behind_more found vs i v below read =
     let so_far : List Data = list_of (items_view (take i vs)) in
-    ap (λ (k : ℕ). elements_behind [] so_far ++ map (under (Item k)) (in_element so_far (view v))) (sym (length_so_far vs i (omega arith)))
-    ∙ sym (elements_push [] so_far (view v))
-    ∙ ap (λ (ds : List Data). elements_behind [] ds) (sym (listed_more vs i v below read))
+    ap (λ (k : ℕ). items_behind found [] so_far ++ map (under (Item k)) (found so_far (view v))) (sym (length_so_far vs i (omega arith)))
+    ∙ sym (behind_push found [] so_far (view v))
+    ∙ ap (λ (ds : List Data). items_behind found [] ds) (sym (listed_more vs i v below read))
 
-pub named_more : {N : Type 0} (see : N → Option (List ℕ × Option (List ℕ))) (names more : List N) (name : N) (vs : List Value) (i : ℕ) (v : Value)
-    → more ≡ names ++ name ∷ [] → map see names ≡ map name_of (list_of (items_view (take i vs))) → see name ≡ name_of (view v) → i < length vs → v ≡ get_or vs i v
-    → map see more ≡ map name_of (list_of (items_view (take (i + 1) vs)))
-named_more {N} see names more name vs i v one so_far is below read =
-    ap (map see) one
-    ∙ map-append see names (name ∷ [])
-    ∙ ap (λ (xs : List (Option (List ℕ × Option (List ℕ)))). xs ++ see name ∷ []) so_far
-    ∙ ap (λ (x : Option (List ℕ × Option (List ℕ))). map name_of (list_of (items_view (take i vs))) ++ x ∷ []) is
-    ∙ sym (map-append name_of (list_of (items_view (take i vs))) (view v ∷ []))
-    ∙ ap (map name_of) (sym (listed_more vs i v below read))
+-- what each of the values names, of one more
+pub named_more : {A : Type 0} (named : Data → A) (vs : List Value) (i : ℕ) (v : Value) → i < length vs → v ≡ get_or vs i v
+    → map named (list_of (items_view (take i vs))) ++ named (view v) ∷ [] ≡ map named (list_of (items_view (take (i + 1) vs)))
+named_more named vs i v below read =
+    sym (map-append named (list_of (items_view (take i vs))) (view v ∷ [])) ∙ ap (map named) (sym (listed_more vs i v below read))
 
 unread_push : (names : List Name) (n : ℕ) (texts : List (List ℕ)) (text : List ℕ)
     → unread_from names n (texts ++ text ∷ []) ≡ unread_from names n texts ++ unless_known names (n + length texts) text
@@ -113,14 +109,31 @@ texts_more names texts i d below =
     ∙ sym (unread_push names 0 so_far (get_or texts i d).now)
     ∙ ap (λ (xs : List (List ℕ)). unread_from names 0 xs) (sym (ap texts_of (take_more texts i d below) ∙ map-append (λ text. text.now) (take i texts) (get_or texts i d ∷ [])))
 
--- ---- seconds
+-- ---- sums
 
-pub seconds_listed : (vs : List Value) → sum_by seconds_in (list_of (items_view vs)) ≡ sum_by (λ v. seconds_in (view v)) vs
-seconds_listed [] = refl
-seconds_listed (v ∷ vs) =
-    sum_by-cons seconds_in (view v) (list_of (items_view vs))
-    ∙ ap (λ (n : ℕ). seconds_in (view v) + n) (seconds_listed vs)
-    ∙ sym (sum_by-cons (λ (w : Value). seconds_in (view w)) v vs)
+pub sum_listed : (f : Data → ℕ) (vs : List Value) → sum_by f (list_of (items_view vs)) ≡ sum_by (λ v. f (view v)) vs
+sum_listed f [] = refl
+sum_listed f (v ∷ vs) =
+    sum_by-cons f (view v) (list_of (items_view vs))
+    ∙ ap (λ (n : ℕ). f (view v) + n) (sum_listed f vs)
+    ∙ sym (sum_by-cons (λ (w : Value). f (view w)) v vs)
+
+pub sum_more : (f : Data → ℕ) (vs : List Value) (i : ℕ) (v : Value) → i < length vs → v ≡ get_or vs i v
+    → sum_by f (list_of (items_view (take i vs))) + f (view v) ≡ sum_by f (list_of (items_view (take (i + 1) vs)))
+sum_more f vs i v below read =
+    let so_far : List Data = list_of (items_view (take i vs)) in
+    let one : sum_by f (view v ∷ []) ≡ f (view v) = sum_by-cons f (view v) [] ∙ (let e : f (view v) + sum_by f [] ≡ f (view v) = omega arith in e) in
+    sym (ap (sum_by f) (listed_more vs i v below read) ∙ sum_by-append f so_far (view v ∷ []) ∙ ap (λ (n : ℕ). sum_by f so_far + n) one)
+
+-- ---- items of `after`
+
+pub beyond_here : (left i : ℕ) (vs : List Value) (v : Value) → i < length vs → v ≡ get_or vs i v → nat_lt left (waits_in (view v)) ≡ true
+    → waits_beyond left i (map view (drop i vs)) ≡ beyond_at i left
+beyond_here left i vs v below read over =
+    ap (λ (ws : List Value). waits_beyond left i (map view ws)) (drop-cons vs i v below ∙ ap (λ (x : Value). x ∷ drop (suc i) vs) (sym read)) ∙ rw over refl
+
+pub beyond_none : (left i : ℕ) (vs : List Value) → length vs ≤ i → waits_beyond left i (map view (drop i vs)) ≡ []
+beyond_none left i vs past = ap (λ (ws : List Value). waits_beyond left i (map view ws)) (drop_all i vs past)
 
 -- ---- the names of members
 

@@ -1,5 +1,5 @@
 -- Where findings are told, and what a run does.
-use Rattle.std.specs.Prelude.{ℕ, List, length, Bool, true, false, ◌&&◌, not, nat_lt, if◌then◌else◌, Option, Some, None, Result, Ok, Err}
+use Rattle.std.specs.Prelude.{ℕ, List, ◌∷◌, length, Bool, true, false, ◌&&◌, not, nat_eq, nat_lt, if◌then◌else◌, Option, Some, None, Result, Ok, Err}
 use Rattle.std.specs.List.{list_all, list_any}
 use Rattle.std.specs.Option.{option_map_or}
 use Rattle.serde_json.specs.Data.{Data}
@@ -17,11 +17,23 @@ use Rattle.apply_plan.specs.Plan.SavedPlan.{plan_of}
 use Rattle.apply_plan.specs.Script.Entry.{EntryStep, entry_of, is_kept}
 use Rattle.apply_plan.specs.Script.OutcomeMap.{elements_of, script_of}
 use Rattle.apply_validate.specs.declared.findings.finding.Finding.{Finding}
+use Rattle.apply_validate.specs.declared.findings.name.Name.TheVariants as name
+use Rattle.apply_validate.specs.declared.findings.part.Part.{Part}
+use Rattle.apply_validate.specs.declared.findings.part.Part.TheVariants.{Item, Member}
 use Rattle.apply_validate.specs.Findings.{is_refusal}
 
 -- one of them is something for which a run refuses
 abbrev pub has_refusal : List Finding → Bool
 has_refusal all = list_any is_refusal all
+
+-- a path goes through the entry of that number
+abbrev pub goes_through : ℕ → List Part → Bool
+goes_through n (Member name.Changes ∷ Item m ∷ parts) = nat_eq m n
+goes_through n _ = false
+
+-- one of them is something in that entry for which a run refuses
+abbrev pub has_refusal_in : ℕ → List Finding → Bool
+has_refusal_in n all = list_any (λ finding. is_refusal finding && goes_through n finding.path) all
 
 -- a step is within the limits of one
 abbrev pub is_bounded : Outcome → Bool

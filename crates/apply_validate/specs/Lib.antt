@@ -1,10 +1,13 @@
+pub mod Beside
 pub mod Findings
+pub mod FirstNamed
 pub mod Laws
 pub mod Names
 pub mod Near
 pub mod ObjectNames
 pub mod PlanFindings
 pub mod ScriptFindings
+pub mod Skipped
 pub mod Walks
 pub mod Wants
 pub mod Whole

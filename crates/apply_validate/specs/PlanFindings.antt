@@ -11,15 +11,14 @@ use Rattle.apply_plan.specs.Plan.ObjectName.{name_one_object}
 use Rattle.apply_plan.specs.Plan.Steps.{steps_of_actions}
 use Rattle.apply_validate.specs.declared.findings.finding.Finding.{Finding}
 use Rattle.apply_validate.specs.declared.findings.name.Name.TheVariants as name
-use Rattle.apply_validate.specs.declared.findings.part.Part.TheVariants.{Item, Member}
+use Rattle.apply_validate.specs.declared.findings.part.Part.TheVariants.{Member}
 use Rattle.apply_validate.specs.declared.findings.want.Want.TheVariants as want
 use Rattle.apply_validate.specs.declared.findings.what.What.TheVariants as what
 use Rattle.apply_validate.specs.declared.walks.known.Known.{Known}
 use Rattle.apply_validate.specs.declared.walks.mark.Mark.{Mark}
 use Rattle.apply_validate.specs.Findings.{finding_at, finding_here, is_refusal, under}
 use Rattle.apply_validate.specs.Names.{name_text}
-use Rattle.apply_validate.specs.ScriptFindings.{known}
-use Rattle.apply_validate.specs.Walks.{faults_of, inside, items_at, marked, member_at, where_suits}
+use Rattle.apply_validate.specs.Walks.{faults_of, inside, items_at, items_behind, known, marked, member_at, where_suits}
 
 -- ---- elements of `resource_changes`
 
@@ -101,12 +100,6 @@ in_element_named earlier d = where_suits want.Object d (by_itself d ++ named_aga
 abbrev pub in_element : List Data → Data → List Finding
 in_element before d = in_element_named (map name_of before) d
 
--- what is found in elements behind others
-abbrev pub elements_behind : List Data → List Data → List Finding
-elements_behind before [] = []
-elements_behind before (d ∷ ds) =
-    map (under (Item (length before))) (in_element before d) ++ elements_behind (before ++ d ∷ []) ds
-
 -- ---- the whole
 
 abbrev pub header_table : List Known
@@ -116,7 +109,7 @@ header_table = known name.FormatVersion want.FormatVersion ∷ known name.Terraf
 abbrev pub in_elements : List Data → List Finding
 in_elements elements =
     if nat_lt max_changes (length elements) then finding_at (Member name.ResourceChanges) what.TooManyChanges ∷ []
-    else map (under (Member name.ResourceChanges)) (elements_behind [] elements)
+    else map (under (Member name.ResourceChanges)) (items_behind in_element [] elements)
 
 unfoldable pub in_plan : Data → List Finding
 in_plan d = where_suits want.Plan d (faults_of header_table d ++ in_elements (items_at name.ResourceChanges d))

@@ -1,9 +1,10 @@
--- What is found in a script, without a look at the plan. All paths are from the value.
+-- What is found in a script, by itself and beside the changes of a plan, where that is not refused. All paths are from the value.
 use Rattle.std.specs.Prelude.{ℕ, suc, ◌+◌, List, [], ◌∷◌, ◌++◌, length, map, sum_by, Bool, true, false, ◌&&◌, is_some, nat_lt, if◌then◌else◌, Option, Some, None, option_and_then, unwrap_or}
 use Rattle.std.specs.Option.{option_map_or}
 use Rattle.serde_json.specs.Data.{Data}
-use Rattle.serde_json.specs.Find.{as_bool, as_number, as_object, as_str, as_u64}
+use Rattle.serde_json.specs.Find.{as_number, as_object, as_str, as_u64}
 use Rattle.apply_json.specs.Tree.{non_empty_text_of}
+use Rattle.apply_model.specs.Plan.ResourceChange.{ResourceChange}
 use Rattle.apply_model.specs.Script.Limits.{max_outputs, max_provisioners, max_seconds}
 use Rattle.apply_validate.specs.declared.findings.finding.Finding.{Finding}
 use Rattle.apply_validate.specs.declared.findings.name.Name.{Name}
@@ -16,10 +17,9 @@ use Rattle.apply_validate.specs.declared.walks.known.Known.{Known}
 use Rattle.apply_validate.specs.declared.walks.mark.Mark.{Mark}
 use Rattle.apply_validate.specs.Findings.{under}
 use Rattle.apply_validate.specs.Names.{name_text}
-use Rattle.apply_validate.specs.Walks.{faults_of, in_items, in_list, inside, items_at, marked, member_at, unless_suits, unread, where_suits}
-
-abbrev pub known : Name → Want → Known
-known name wanted = record { name = name; want = wanted }
+use Rattle.apply_validate.specs.Beside.{again_mark, beyond_in, change_at, kind_marks, named_first, step_mark, steps_mark, unknown_marks, waits_in_all, waits_left}
+pub use Rattle.apply_validate.specs.Skipped.{is_skipped}
+use Rattle.apply_validate.specs.Walks.{fault_of, faults_of, in_items, in_list, inside, items_at, items_behind, known, marked, member_at, unless_suits, unread, where_suits}
 
 -- ---- diagnostics
 
@@ -123,16 +123,17 @@ wait_table = known name.Address want.Text ∷ known name.Deposed want.TextOrAbse
 abbrev pub wait_names : List Name
 wait_names = name.Address ∷ name.Deposed ∷ name.Step ∷ []
 
--- of a text nothing more
-unfoldable pub in_wait : Data → List Finding
-in_wait d =
-    if is_some (as_str d) then [] else where_suits want.Wait d (faults_of wait_table d ++ unread wait_names d)
+-- of a text it is asked only whether it names a change
+unfoldable pub in_wait : Option (List ResourceChange) → Data → List Finding
+in_wait changes d =
+    if is_some (as_str d) then marked (unknown_marks changes d)
+    else where_suits want.Wait d
+    (faults_of wait_table d
+    ++ marked (unknown_marks changes d)
+    ++ marked (step_mark (change_at changes d) (whole_at name.Step d) ∷ [])
+    ++ unread wait_names d)
 
 -- ---- steps
-
--- the step is skipped
-abbrev pub is_skipped : Data → Bool
-is_skipped d = option_map_or (λ flag. flag) (option_and_then as_bool (member_at name.Skipped d)) false
 
 -- of a step that is skipped it is asked below whether seconds stand there at all
 abbrev pub step_table : (skipped : Bool) → List Known
@@ -178,17 +179,19 @@ skipped_marks d =
     ∷ beside_skipped name.Provisioners (nat_lt 0 (length (items_at name.Provisioners d))) d
     ∷ []
 
-unfoldable pub in_step : Data → List Finding
-in_step d = where_suits want.Step d
+-- the step of that number of a change
+unfoldable pub in_step : Option (List ResourceChange) → Option ResourceChange → ℕ → Data → List Finding
+in_step changes change number d = where_suits want.Step d
     (faults_of (step_table (is_skipped d)) d
     ++ inside in_diagnostic name.Warning d
     ++ inside in_failure name.Failed d
     ++ in_list (λ number. in_provisioner) (known name.Provisioners want.ArrayOrAbsent) d
     ++ marked (step_marks d)
+    ++ marked (kind_marks change number d)
     ++ faults_of (known name.Skipped want.FlagOrAbsent ∷ []) d
     ++ marked (skipped_marks d)
     ++ inside (in_items (λ number. growth_of_provisioner)) name.Provisioners d
-    ++ in_list (λ number. in_wait) (known name.After want.ArrayOrAbsent) d
+    ++ in_list (λ item. in_wait changes) (known name.After want.ArrayOrAbsent) d
     ++ unread step_names d)
 
 -- ---- entries, and the whole
@@ -199,12 +202,28 @@ entry_table = known name.Address want.Text ∷ known name.Deposed want.TextOrAbs
 abbrev pub entry_names : List Name
 entry_names = name.Address ∷ name.Deposed ∷ name.Steps ∷ []
 
-unfoldable pub in_entry : Data → List Finding
-in_entry d = where_suits want.Entry d
-    (faults_of entry_table d ++ in_list (λ number. in_step) (known name.Steps want.Array) d ++ unread entry_names d)
+-- an entry whose change the first of the entries before it is about that has that number; a script may still have so many items of
+-- `after`
+unfoldable pub in_entry : Option (List ResourceChange) → (first left : Option ℕ) → Data → List Finding
+in_entry changes first left d = where_suits want.Entry d
+    (faults_of entry_table d
+    ++ marked (unknown_marks changes d)
+    ++ marked (again_mark (change_at changes d) first ∷ [])
+    ++ fault_of d (known name.Steps want.Array)
+    ++ marked (steps_mark (change_at changes d) d ∷ [])
+    ++ inside (in_items (in_step changes (change_at changes d))) name.Steps d
+    ++ beyond_in (is_some changes) left d
+    ++ unread entry_names d)
+
+-- an entry behind others
+abbrev pub in_entry_behind : Option (List ResourceChange) → List Data → Data → List Finding
+in_entry_behind changes before d = in_entry changes (named_first before d) (waits_left (sum_by waits_in_all before)) d
 
 abbrev pub script_names : List Name
 script_names = name.Changes ∷ name.Outputs ∷ name.Diagnostics ∷ name.Schema ∷ []
 
-unfoldable pub in_script : Data → List Finding
-in_script d = where_suits want.Object d (in_list (λ number. in_entry) (known name.Changes want.Array) d ++ unread script_names d)
+unfoldable pub in_script : Option (List ResourceChange) → Data → List Finding
+in_script changes d = where_suits want.Object d
+    (fault_of d (known name.Changes want.Array)
+    ++ map (under (Member name.Changes)) (items_behind (in_entry_behind changes) [] (items_at name.Changes d))
+    ++ unread script_names d)

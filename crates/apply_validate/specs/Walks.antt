@@ -1,5 +1,5 @@
 -- What is found in values of any shape. All paths are from the value.
-use Rattle.std.specs.Prelude.{ℕ, suc, List, [], ◌∷◌, ◌++◌, map, Bool, if◌then◌else◌, Option, Some, None}
+use Rattle.std.specs.Prelude.{ℕ, suc, List, [], ◌∷◌, ◌++◌, length, map, Bool, if◌then◌else◌, Option, Some, None}
 use Rattle.std.specs.List.{flat_map, list_any}
 use Rattle.std.specs.Option.{option_map_or}
 use Rattle.std.specs.Str.{bytes_eq}
@@ -26,6 +26,9 @@ member_at name d = member_of (name_text name) d
 -- the items of a member that is an array
 abbrev pub items_at : Name → Data → List Data
 items_at name d = option_map_or (λ value. list_of (items_in value)) (member_at name d) []
+
+abbrev pub known : Name → Want → Known
+known name wanted = record { name = name; want = wanted }
 
 -- ---- a value by itself
 
@@ -62,6 +65,12 @@ inside found name d = option_map_or (λ value. map (under (Member name)) (found 
 abbrev pub items_from : (ℕ → Data → List Finding) → ℕ → List Data → List Finding
 items_from found n [] = []
 items_from found n (d ∷ ds) = map (under (Item n)) (found n d) ++ items_from found (suc n) ds
+
+-- what is found in items behind others; what it is may depend on those
+abbrev pub items_behind : (List Data → Data → List Finding) → List Data → List Data → List Finding
+items_behind found before [] = []
+items_behind found before (d ∷ ds) =
+    map (under (Item (length before))) (found before d) ++ items_behind found (before ++ d ∷ []) ds
 
 -- what is found in the items of an array
 abbrev pub in_items : (ℕ → Data → List Finding) → Data → List Finding

@@ -1,9 +1,10 @@
 -- What is found in bytes.
-use Rattle.std.specs.Prelude.{ℕ, List, [], ◌∷◌, ◌++◌, length, map, Bool, ◌&&◌, not, nat_lt, if◌then◌else◌, Option, Some, None, Result, Ok, Err}
+use Rattle.std.specs.Prelude.{ℕ, List, [], ◌∷◌, ◌++◌, length, map, Bool, ◌&&◌, not, nat_lt, if◌then◌else◌, Option, Some, None, option_map, Result, Ok, Err}
 use Rattle.std.specs.List.{list_any}
 use Rattle.std.specs.Option.{option_map_or}
 use Rattle.serde_json.specs.Data.{Data}
 use Rattle.apply_json.specs.Tree.{tree_of}
+use Rattle.apply_model.specs.Plan.ResourceChange.{ResourceChange}
 use Rattle.apply_model.specs.Plan.SavedPlan.{SavedPlan}
 use Rattle.apply_model.specs.Script.OutcomeMap.{OutcomeMap}
 use Rattle.apply_model.specs.Script.Waits.{has_waits}
@@ -16,7 +17,9 @@ use Rattle.apply_validate.specs.declared.findings.finding.Finding.{Finding}
 use Rattle.apply_validate.specs.declared.findings.what.What.{What}
 use Rattle.apply_validate.specs.declared.findings.what.What.TheVariants.{ForPlan, NotJson, TooManyBytes, Waits}
 use Rattle.apply_validate.specs.declared.findings.name.Name.TheVariants.{Changes}
+use Rattle.apply_validate.specs.declared.findings.part.Part.{Part}
 use Rattle.apply_validate.specs.declared.findings.part.Part.TheVariants.{Item, Member}
+use Rattle.apply_validate.specs.Beside.{place_of_waits}
 use Rattle.apply_validate.specs.Findings.{finding_here, is_refusal, under}
 use Rattle.apply_validate.specs.PlanFindings.{in_plan}
 use Rattle.apply_validate.specs.ScriptFindings.{in_script}
@@ -31,9 +34,13 @@ in_bytes found bytes =
 abbrev pub plan_findings : List ℕ → List Finding
 plan_findings bytes = in_bytes in_plan bytes
 
--- what is found in a script, without a look at the plan
-abbrev pub script_findings : List ℕ → List Finding
-script_findings bytes = in_bytes in_script bytes
+-- the changes of a plan, where there is one
+abbrev pub changes_in : Option SavedPlan → Option (List ResourceChange)
+changes_in plan = option_map (λ found. found.changes) plan
+
+-- what is found in a script, beside the changes of a plan where there are some
+abbrev pub script_findings : Option (List ResourceChange) → List ℕ → List Finding
+script_findings changes bytes = in_bytes (in_script changes) bytes
 
 -- ---- a script for a plan
 
@@ -62,23 +69,27 @@ placed (Some n) what = map (under (Member Changes)) (map (under (Item n)) (findi
 abbrev pub refused_for : ScriptError → List Finding
 refused_for refusal = placed (entry_of_refusal refusal) (ForPlan refusal)
 
+-- where the first step stands that waits
+abbrev pub waits_at : List ℕ → List Part
+waits_at bytes = if nat_lt max_bytes (length bytes) then [] else option_map_or place_of_waits (tree_of bytes) []
+
 -- waits take lanes
-abbrev pub unless_waits : (lanes : Bool) → OutcomeMap → List Finding
-unless_waits lanes script = if not lanes && has_waits script then finding_here Waits ∷ [] else []
+abbrev pub unless_waits : (lanes : Bool) → List ℕ → OutcomeMap → List Finding
+unless_waits lanes bytes script = if not lanes && has_waits script then record { path = waits_at bytes; what = Waits } ∷ [] else []
 
-abbrev pub refusals_of : (lanes : Bool) → Result OutcomeMap ScriptError → List Finding
-refusals_of lanes (Ok script) = unless_waits lanes script
-refusals_of lanes (Err refusal) = refused_for refusal
+abbrev pub refusals_of : (lanes : Bool) → List ℕ → Result OutcomeMap ScriptError → List Finding
+refusals_of lanes bytes (Ok script) = unless_waits lanes bytes script
+refusals_of lanes bytes (Err refusal) = refused_for refusal
 
--- what is found in a script beside a plan, in which nothing is found without it
+-- what a run refuses a script for in which nothing else is found
 abbrev pub beside_plan : (lanes : Bool) → SavedPlan → List ℕ → List Finding
 beside_plan lanes plan bytes =
-    if list_any is_refusal (script_findings bytes) then [] else refusals_of lanes (script_of plan bytes)
+    if list_any is_refusal (script_findings (Some plan.changes) bytes) then [] else refusals_of lanes bytes (script_of plan bytes)
 
 -- what is found in a script for a plan that may be refused
 abbrev pub script_findings_for : (lanes : Bool) → Result SavedPlan PlanError → List ℕ → List Finding
-script_findings_for lanes (Ok plan) bytes = script_findings bytes ++ beside_plan lanes plan bytes
-script_findings_for lanes (Err refusal) bytes = script_findings bytes
+script_findings_for lanes (Ok plan) bytes = script_findings (Some plan.changes) bytes ++ beside_plan lanes plan bytes
+script_findings_for lanes (Err refusal) bytes = script_findings None bytes
 
 -- what is found in a script that may not be given
 abbrev pub given_findings : (lanes : Bool) → Result SavedPlan PlanError → Option (List ℕ) → List Finding

@@ -1,6 +1,7 @@
 //! Every fault of a saved plan and of a script at once, each with its place.
 #![tactic(auto)]
 
+mod beside;
 mod findings;
 mod laws;
 mod near;
@@ -19,6 +20,7 @@ pub use findings::what::What;
 pub use laws::{
     findings_are_refusals_of_a_run, findings_of_plans_are_refusals,
     findings_of_scripts_are_refusals, the_refusal_of_a_run_is_found,
+    the_refusal_of_a_run_is_found_in_its_entry,
 };
 pub use near::nearest;
 pub use reading::{Found, findings_of, findings_of_plan, findings_of_script};

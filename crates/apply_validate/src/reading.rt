@@ -1,20 +1,26 @@
 //! From bytes to findings.
 
-ghost use Rattle.std.specs.Prelude.{◌≡◌, [], IfOk, if◌then◌else◌};
+ghost use Rattle.std.specs.Prelude.{◌≡◌, ◌++◌, [], IfOk, None, Some, if◌then◌else◌};
 ghost use Rattle.std.specs.Option.{option_copied};
+ghost use Rattle.serde_json.specs.View.{view};
 ghost use Rattle.apply_plan.specs.Plan.SavedPlan.{plan_of};
 ghost use Rattle.apply_plan.specs.Script.OutcomeMap.{script_of};
 ghost use Rattle.apply_validate.specs.Findings.{told};
-ghost use Rattle.apply_validate.specs.Whole.{entry_of_refusal, given_findings, plan_findings, refusals_of, refused_for, script_findings, script_findings_for, unless_waits};
+ghost use Rattle.apply_validate.specs.ScriptFindings.{in_script};
+ghost use Rattle.apply_validate.specs.Whole.{beside_plan, changes_in, entry_of_refusal, given_findings, plan_findings, refusals_of, refused_for, script_findings, script_findings_for, unless_waits, waits_at};
 
+use crate::beside::planned::Planned;
+use crate::beside::waiting::place_of_waits;
 use crate::findings::list::Findings;
 use crate::findings::name::Name;
 use crate::findings::part::Part;
+use crate::findings::path::Path;
 use crate::findings::what::What;
 use crate::plan::top_level::walk_plan;
 use crate::script::top_level::walk_script;
 use apply_json::{JsonFault, parse};
 use apply_plan::{MAX_BYTES, Plan, PlanError, Script, ScriptError, read_plan, read_script};
+use serde_json::Value;
 use std::alloc::{AllocError, Global};
 
 /// What is found in the bytes of a saved plan (JSON Output Format, "Plan Representation"): something exactly where
@@ -30,16 +36,36 @@ pub fn findings_of_plan(alloc: Global, bytes: &[u8]) -> Result<Findings, AllocEr
     }
 }
 
-/// What is found in the bytes of a script, without a look at a plan. `Err` where memory is refused.
-pub fn findings_of_script(alloc: Global, bytes: &[u8]) -> Result<Findings, AllocError>
-    ensures { IfOk result (λ f. f ≡ told (script_findings bytes.now)) }
+/// What is found in the bytes of a script, beside the changes of a plan where one is given. `Err` where memory is refused.
+fn findings_beside(alloc: Global, plan: Option<&Plan>, bytes: &[u8]) -> Result<Findings, AllocError>
+    ensures { IfOk result (λ f. f ≡ told (script_findings (changes_in (option_copied plan.entry)) bytes.now)) }
 {
     match parse(alloc, bytes, MAX_BYTES) {
-        Ok(script) => walk_script(alloc, &script),
+        Ok(script) => walk_beside(alloc, plan, &script),
         Err(JsonFault::TooLarge) => Findings::here(alloc, What::TooManyBytes),
         Err(JsonFault::NotJson) => Findings::here(alloc, What::NotJson),
         Err(JsonFault::Memory) => Err(AllocError),
     }
+}
+
+/// What is found in the tree of a script, beside the changes of a plan where one is given.
+fn walk_beside(alloc: Global, plan: Option<&Plan>, script: &Value) -> Result<Findings, AllocError>
+    ensures { IfOk result (λ f. f ≡ told (in_script (changes_in (option_copied plan.entry)) (view script.now))) }
+{
+    match plan {
+        Some(plan) => {
+            let planned = Planned::of(alloc, plan)?;
+            walk_script(alloc, Some(&planned), script)
+        }
+        None => walk_script(alloc, None, script),
+    }
+}
+
+/// What is found in the bytes of a script, without a look at a plan. `Err` where memory is refused.
+pub fn findings_of_script(alloc: Global, bytes: &[u8]) -> Result<Findings, AllocError>
+    ensures { IfOk result (λ f. f ≡ told (script_findings None bytes.now)) }
+{
+    findings_beside(alloc, None, bytes)
 }
 
 /// What is found in a plan and in a script for it.
@@ -53,7 +79,7 @@ pub struct Found {
 
 /// What is found in the bytes of a saved plan, and in those of a script for it, where one is given: something for which a run
 /// refuses exactly where a run with the same bytes refuses. `lanes` says that the run has `--parallelism`, without which no step
-/// may wait. Where a script has no fault by itself, the first fault that it has beside the plan is told. `Err` where memory is
+/// may wait. What the script has wrong beside the plan is looked for where nothing is found in the plan. `Err` where memory is
 /// refused.
 pub fn findings_of(
     alloc: Global,
@@ -96,19 +122,29 @@ fn findings_for(
 ) -> Result<Findings, AllocError>
     ensures { IfOk result (λ f. f ≡ told (script_findings_for lanes (plan_of plan.now) bytes.now)) }
 {
-    let itself = findings_of_script(alloc, bytes)?;
     match read_plan(alloc, plan) {
-        Ok(plan) => {
-            let beside = beside_plan(alloc, itself.refuses(), &plan, bytes, lanes)?;
-            let all = itself.then(beside)?;
-            Ok(all)
-        }
+        Ok(plan) => findings_beside_plan(alloc, &plan, bytes, lanes),
         Err(PlanError::Memory) => Err(AllocError),
-        Err(_) => Ok(itself),
+        Err(_) => findings_of_script(alloc, bytes),
     }
 }
 
-/// What is found in a script beside the plan, unless it is refused without a look at that.
+/// What is found in a script for a plan.
+fn findings_beside_plan(
+    alloc: Global,
+    plan: &Plan,
+    bytes: &[u8],
+    lanes: bool,
+) -> Result<Findings, AllocError>
+    ensures { IfOk result (λ f. f ≡ told (script_findings (Some plan.now.changes) bytes.now ++ beside_plan lanes plan.now bytes.now)) }
+{
+    let found = findings_beside(alloc, Some(plan), bytes)?;
+    let beside = beside_plan(alloc, found.refuses(), plan, bytes, lanes)?;
+    let all = found.then(beside)?;
+    Ok(all)
+}
+
+/// What a run refuses a script for, unless something else is found for which it is refused.
 fn beside_plan(
     alloc: Global,
     is_refused: bool,
@@ -116,26 +152,43 @@ fn beside_plan(
     bytes: &[u8],
     lanes: bool,
 ) -> Result<Findings, AllocError>
-    ensures { IfOk result (λ f. f ≡ told (if is_refused then [] else refusals_of lanes (script_of plan.now bytes.now))) }
+    ensures { IfOk result (λ f. f ≡ told (if is_refused then [] else refusals_of lanes bytes.now (script_of plan.now bytes.now))) }
 {
     if is_refused {
         return Ok(Findings::none(alloc));
     }
     match read_script(alloc, bytes, plan) {
-        Ok(script) => unless_waits(alloc, lanes, &script),
+        Ok(script) => unless_waits(alloc, lanes, bytes, &script),
         Err(ScriptError::Memory) => Err(AllocError),
         Err(refusal) => refused_for(alloc, refusal),
     }
 }
 
-/// That a script has waits, which take lanes.
-fn unless_waits(alloc: Global, lanes: bool, script: &Script) -> Result<Findings, AllocError>
-    ensures { IfOk result (λ f. f ≡ told (unless_waits lanes script.now)) }
+/// That a script has waits, which take lanes, where the first step stands that waits.
+fn unless_waits(
+    alloc: Global,
+    lanes: bool,
+    bytes: &[u8],
+    script: &Script,
+) -> Result<Findings, AllocError>
+    ensures { IfOk result (λ f. f ≡ told (unless_waits lanes bytes.now script.now)) }
 {
     if !lanes && script.has_waits() {
-        Findings::here(alloc, What::Waits)
+        Findings::one(alloc, waits_at(alloc, bytes)?, What::Waits)
     } else {
         Ok(Findings::none(alloc))
+    }
+}
+
+/// Where the first step stands that waits, in the bytes of a script.
+fn waits_at(alloc: Global, bytes: &[u8]) -> Result<Path, AllocError>
+    ensures { IfOk result (λ path. path ≡ waits_at bytes.now) }
+{
+    match parse(alloc, bytes, MAX_BYTES) {
+        Ok(script) => place_of_waits(alloc, &script),
+        Err(JsonFault::TooLarge) => Ok(Path::here(alloc)),
+        Err(JsonFault::NotJson) => Ok(Path::here(alloc)),
+        Err(JsonFault::Memory) => Err(AllocError),
     }
 }
 

@@ -1,8 +1,11 @@
 //! Findings as people are told of them.
 
+pub mod beside;
 pub mod count;
+pub mod edits;
 pub mod finding;
 pub mod found;
 pub mod near;
 pub mod place;
+pub mod plan_names;
 pub mod wants;

@@ -62,7 +62,8 @@ impl Findings {
         Findings::one(alloc, path, what)
     }
 
-    fn one(alloc: Global, path: Path, what: What) -> Result<Findings, AllocError>
+    /// One, where the path leads. `Err` where memory is refused.
+    pub fn one(alloc: Global, path: Path, what: What) -> Result<Findings, AllocError>
         ensures { IfOk result (λ f. f ≡ told (record { path = path; what = what } ∷ [])) }
     {
         let mut kept = Vec::new(alloc);

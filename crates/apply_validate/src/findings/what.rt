@@ -4,7 +4,7 @@ ghost use Rattle.std.specs.Prelude.{◌≡◌};
 ghost use Rattle.apply_validate.specs.Findings.{is_refusal_of};
 
 use crate::findings::want::Want;
-use apply_plan::ScriptError;
+use apply_plan::{ScriptError, StepKind};
 
 /// What is wrong where a path leads.
 #[derive(Clone, Copy, Debug)]
@@ -37,6 +37,22 @@ pub enum What {
     TooManyProvisioners,
     /// The provisioner puts out more than 100 texts.
     TooManyTexts,
+    /// No change is of an object at the address.
+    UnknownAddress,
+    /// No change is of the object, but one is of another at its address.
+    UnknownObject,
+    /// The entry of that number is about the change too.
+    AboutAgain(usize),
+    /// The change has fewer steps: those of these kinds.
+    TooManySteps(Option<StepKind>, Option<StepKind>),
+    /// It stands at a step of that kind, which takes no provisioners.
+    TakesNone(StepKind),
+    /// A failure that only warns stands at a step of that kind, which is no read.
+    OnlyWarns(StepKind),
+    /// The change has no such step, but those of these kinds.
+    NoSuchStep(Option<StepKind>, Option<StepKind>),
+    /// The script has more items of `after` than a run takes, this first.
+    TooManyWaits,
     /// The output comes behind the end of its provisioner, which takes so many seconds.
     BehindTheEnd(u64),
     /// The output comes before the item in front of it, which comes after so many seconds.

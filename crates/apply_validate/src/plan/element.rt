@@ -112,11 +112,16 @@ fn actions_mark(change: &Value) -> Mark
 #[derive(Clone, Copy)]
 struct Change;
 
-impl Walk for Change {
+impl<'a> Walk<'a> for Change {
     ghost found = { λ _ _ d. in_change d };
 
     #[tactic(auto, unfolding(crate::specs::PlanFindings::in_change))]
-    fn walk(&self, alloc: Global, _number: usize, value: &Value) -> Result<Findings, AllocError> {
+    fn walk(
+        &self,
+        alloc: Global,
+        _number: usize,
+        value: &'a Value,
+    ) -> Result<Findings, AllocError> {
         if !value.is_object() {
             return Ok(Findings::none(alloc));
         }

@@ -1,12 +1,15 @@
 //! What is found in the elements of `resource_changes`.
 
-ghost use Rattle.std.specs.Prelude.{◌≡◌, [], IfOk, None, if◌then◌else◌, map, option_map};
+ghost use Rattle.std.specs.Prelude.{◌≡◌, [], IfOk, List, None, Option, if◌then◌else◌, option_map};
 ghost use Rattle.serde_json.specs.View.{items_view, view};
 ghost use Rattle.apply_json.specs.Tree.{list_of};
 ghost use Rattle.apply_validate.specs.Findings.{told};
-ghost use Rattle.apply_validate.specs.ObjectNames.{name_view};
-ghost use Rattle.apply_validate.specs.PlanFindings.{elements_behind, first_named, in_element_named, is_named, name_of, name_read, named_again};
+ghost use Rattle.apply_validate.specs.FirstNamed.{AreFirst};
+ghost use Rattle.apply_validate.specs.ObjectNames.{Named, name_view};
+ghost use Rattle.apply_validate.specs.PlanFindings.{in_element, in_element_named, name_of, name_read, named_again};
+ghost use Rattle.apply_validate.specs.Walks.{items_behind};
 
+use crate::beside::first_named::FirstNamed;
 use crate::findings::list::Findings;
 use crate::findings::part::Part;
 use crate::findings::want::Want;
@@ -16,36 +19,14 @@ use crate::plan::object_name::ObjectName;
 use serde_json::Value;
 use std::alloc::{AllocError, Global};
 
-/// The number of the first of the elements that names the object, by what they name.
-fn first_named(earlier: &[Option<ObjectName<'_>>], name: Option<ObjectName<'_>>) -> Option<usize>
-    ensures { result ≡ first_named (map (option_map name_view) earlier.now) (option_map name_view name.entry) }
-{
-    let name = name?;
-    for (number, other) in earlier.iter().enumerate() {
-        if is_named(name, *other) {
-            return Some(number);
-        }
-    }
-    None
-}
-
-/// Whether an earlier element names the object.
-fn is_named(name: ObjectName<'_>, earlier: Option<ObjectName<'_>>) -> bool
-    ensures { result ≡ is_named (name_view name.entry) (option_map name_view earlier.entry) }
-{
-    match earlier {
-        Some(other) => other == name,
-        None => false,
-    }
-}
-
 /// What is found in an element behind others, which name these objects, and what it names itself.
 fn walk_element<'a>(
     alloc: Global,
-    earlier: &[Option<ObjectName<'a>>],
+    earlier: &FirstNamed<'a>,
     element: &'a Value,
 ) -> Result<(Findings, Option<ObjectName<'a>>), AllocError>
-    ensures found { IfOk result (λ r. r.0 ≡ told (in_element_named (map (option_map name_view) earlier.now) (view element.now))) }
+    ensures found { (names : List (Option Named)) → AreFirst earlier.now names
+        → IfOk result (λ r. r.0 ≡ told (in_element_named names (view element.now))) }
     ensures name { IfOk result (λ r. option_map name_view r.1 ≡ name_of (view element.now)) }
 {
     if !Want::Object.suits(element) {
@@ -54,7 +35,7 @@ fn walk_element<'a>(
     }
     let itself = walk_by_itself(alloc, element)?;
     let name = name_unless(itself.refuses(), element);
-    let again = named_again(alloc, first_named(earlier, name))?;
+    let again = named_again(alloc, earlier.get(name))?;
     let all = itself.then(again)?;
     Ok((all, name))
 }
@@ -82,14 +63,14 @@ fn named_again(alloc: Global, number: Option<usize>) -> Result<Findings, AllocEr
 
 /// What is found in the elements.
 pub fn walk_elements(alloc: Global, elements: &[Value]) -> Result<Findings, AllocError>
-    ensures { IfOk result (λ f. f ≡ told (elements_behind [] (list_of (items_view elements.now)))) }
+    ensures { IfOk result (λ f. f ≡ told (items_behind in_element [] (list_of (items_view elements.now)))) }
 {
     let mut all = Findings::none(alloc);
-    let mut names = Vec::new(alloc);
+    let mut names = FirstNamed::new(alloc);
     for (number, element) in elements.iter().enumerate() {
         let (found, name) = walk_element(alloc, &names, element)?;
         all = all.then(found.under(Part::Item(number))?)?;
-        names.push(name)?;
+        names.push(name, number)?;
     }
     Ok(all)
 }

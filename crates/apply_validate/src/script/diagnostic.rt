@@ -41,11 +41,16 @@ pub(crate) const NAMES: [Name; 4] = [Name::Summary, Name::Detail, Name::Range, N
 #[derive(Clone, Copy)]
 pub struct Diagnostic;
 
-impl Walk for Diagnostic {
+impl<'a> Walk<'a> for Diagnostic {
     ghost found = { λ _ _ d. in_diagnostic d };
 
     #[tactic(auto, unfolding(crate::specs::ScriptFindings::in_diagnostic))]
-    fn walk(&self, alloc: Global, _number: usize, value: &Value) -> Result<Findings, AllocError> {
+    fn walk(
+        &self,
+        alloc: Global,
+        _number: usize,
+        value: &'a Value,
+    ) -> Result<Findings, AllocError> {
         if !Want::Diagnostic.suits(value) {
             return Findings::here(alloc, What::IsNot(Want::Diagnostic));
         }

@@ -48,11 +48,16 @@ pub(crate) const NAMES: [Name; 5] = [
 #[derive(Clone, Copy)]
 pub struct Failure;
 
-impl Walk for Failure {
+impl<'a> Walk<'a> for Failure {
     ghost found = { λ _ _ d. in_failure d };
 
     #[tactic(auto, unfolding(crate::specs::ScriptFindings::in_failure))]
-    fn walk(&self, alloc: Global, _number: usize, value: &Value) -> Result<Findings, AllocError> {
+    fn walk(
+        &self,
+        alloc: Global,
+        _number: usize,
+        value: &'a Value,
+    ) -> Result<Findings, AllocError> {
         if !Want::Diagnostic.suits(value) {
             return Findings::here(alloc, What::IsNot(Want::Diagnostic));
         }

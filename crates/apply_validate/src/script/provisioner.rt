@@ -63,11 +63,16 @@ fn mark(value: &Value) -> Mark
     }
 }
 
-impl Walk for Provisioner {
+impl<'a> Walk<'a> for Provisioner {
     ghost found = { λ _ _ d. in_provisioner d };
 
     #[tactic(auto, unfolding(crate::specs::ScriptFindings::in_provisioner))]
-    fn walk(&self, alloc: Global, _number: usize, value: &Value) -> Result<Findings, AllocError> {
+    fn walk(
+        &self,
+        alloc: Global,
+        _number: usize,
+        value: &'a Value,
+    ) -> Result<Findings, AllocError> {
         if !Want::Provisioner.suits(value) {
             return Findings::here(alloc, What::IsNot(Want::Provisioner));
         }
@@ -85,11 +90,16 @@ impl Walk for Provisioner {
 #[derive(Clone, Copy)]
 pub struct ProvisionerGrowth;
 
-impl Walk for ProvisionerGrowth {
+impl<'a> Walk<'a> for ProvisionerGrowth {
     ghost found = { λ _ _ d. growth_of_provisioner d };
 
     #[tactic(auto, unfolding(crate::specs::ScriptFindings::growth_of_provisioner))]
-    fn walk(&self, alloc: Global, _number: usize, value: &Value) -> Result<Findings, AllocError> {
+    fn walk(
+        &self,
+        alloc: Global,
+        _number: usize,
+        value: &'a Value,
+    ) -> Result<Findings, AllocError> {
         let all = faults(alloc, value, &GROWTH)?;
         let all = all.then(walk_outputs(alloc, value)?)?;
         Ok(all)

@@ -3,8 +3,10 @@
 ghost use Rattle.std.specs.Prelude.{◌≡◌, nat_lt};
 ghost use Rattle.serde_json.specs.View.{view};
 ghost use Rattle.apply_model.specs.Script.Limits.{max_seconds};
-ghost use Rattle.apply_validate.specs.ScriptFindings.{beside, beside_skipped, in_step, is_skipped, seconds_in, seconds_in_all, skipped_marks, step_marks, step_table};
+ghost use Rattle.apply_validate.specs.ScriptFindings.{beside, beside_skipped, is_skipped, seconds_in, seconds_in_all, skipped_marks, step_marks, step_table};
 
+use crate::beside::marks::kind_marks;
+use crate::beside::planned::Planned;
 use crate::findings::list::Findings;
 use crate::findings::name::Name;
 use crate::findings::want::Want;
@@ -22,7 +24,7 @@ use crate::walks::members::{
 use crate::walks::unread::walk_unread;
 use crate::walks::walk::Walk;
 use apply_json::members::{member, non_empty_text_member};
-use apply_plan::{MAX_PROVISIONERS, MAX_SECONDS};
+use apply_plan::{Change, MAX_PROVISIONERS, MAX_SECONDS};
 use serde_json::Value;
 use std::alloc::{AllocError, Global};
 
@@ -67,12 +69,15 @@ const AFTER: Known = Known {
     want: Want::ArrayOrAbsent,
 };
 
-/// A step of an entry.
-#[derive(Clone, Copy)]
-pub struct Step;
+/// A step of an entry, beside the changes of a plan where there are some, and that which the entry is about.
+#[derive(Drop)]
+pub struct Step<'p, 'a> {
+    pub planned: Option<&'p Planned<'a>>,
+    pub change: Option<&'a Change>,
+}
 
 /// Whether a step is skipped.
-fn is_skipped(value: &Value) -> bool
+pub fn is_skipped(value: &Value) -> bool
     ensures { result ≡ is_skipped (view value.now) }
 {
     match member(value, Name::Skipped.text()) {
@@ -201,23 +206,30 @@ fn skipped_marks(value: &Value) -> [Mark; 5]
     ]
 }
 
-impl Walk for Step {
-    ghost found = { λ _ _ d. in_step d };
+impl<'a> Walk<'a> for Step<'_, 'a> {
+    ghost use Rattle.std.specs.Option.{option_copied};
+    ghost use Rattle.apply_validate.specs.ScriptFindings.{in_step};
+
+    ghost found = { λ step number d. in_step (option_copied step.planned) (option_copied step.change) number d };
 
     #[tactic(auto, unfolding(crate::specs::ScriptFindings::in_step))]
-    fn walk(&self, alloc: Global, _number: usize, value: &Value) -> Result<Findings, AllocError> {
+    fn walk(&self, alloc: Global, number: usize, value: &'a Value) -> Result<Findings, AllocError> {
         if !Want::Step.suits(value) {
             return Findings::here(alloc, What::IsNot(Want::Step));
         }
+        let wait = Wait {
+            planned: self.planned,
+        };
         let all = faults(alloc, value, table(is_skipped(value)))?;
         let all = all.then(walk_inside(alloc, &Diagnostic, value, Name::Warning)?)?;
         let all = all.then(walk_inside(alloc, &Failure, value, Name::Failed)?)?;
         let all = all.then(walk_list(alloc, &Provisioner, value, PROVISIONERS)?)?;
         let all = all.then(walk_marks(alloc, &marks(value))?)?;
+        let all = all.then(walk_marks(alloc, &kind_marks(self.change, number, value))?)?;
         let all = all.then(faults(alloc, value, &GROWTH)?)?;
         let all = all.then(walk_marks(alloc, &skipped_marks(value))?)?;
         let all = all.then(walk_items_at(alloc, &ProvisionerGrowth, value, Name::Provisioners)?)?;
-        let all = all.then(walk_list(alloc, &Wait, value, AFTER)?)?;
+        let all = all.then(walk_list(alloc, &wait, value, AFTER)?)?;
         let all = all.then(walk_unread(alloc, value, &NAMES)?)?;
         Ok(all)
     }

@@ -51,10 +51,10 @@ pub fn faults(alloc: Global, value: &Value, table: &[Known]) -> Result<Findings,
 }
 
 /// What is found in a member that may be absent.
-pub fn walk_inside<W: Walk>(
+pub fn walk_inside<'a, W: Walk<'a>>(
     alloc: Global,
     walk: &W,
-    value: &Value,
+    value: &'a Value,
     name: Name,
 ) -> Result<Findings, AllocError>
     ensures { IfOk result (λ f. f ≡ told (inside (W.found walk.now 0) name (view value.now))) }
@@ -69,12 +69,17 @@ pub fn walk_inside<W: Walk>(
 #[derive(Drop)]
 struct Items<'a, W>(&'a W);
 
-impl<W: Walk> Walk for Items<'_, W> {
+impl<'a, W: Walk<'a>> Walk<'a> for Items<'_, W> {
     ghost use Rattle.apply_validate.specs.Walks.{in_items};
 
     ghost found = { λ items _ d. in_items (W.found items.0.now) d };
 
-    fn walk(&self, alloc: Global, _number: usize, value: &Value) -> Result<Findings, AllocError> {
+    fn walk(
+        &self,
+        alloc: Global,
+        _number: usize,
+        value: &'a Value,
+    ) -> Result<Findings, AllocError> {
         match value.as_array() {
             Some(items) => walk_items(alloc, self.0, items),
             None => Ok(Findings::none(alloc)),
@@ -83,10 +88,10 @@ impl<W: Walk> Walk for Items<'_, W> {
 }
 
 /// What is found in the items of a member that may be absent.
-pub fn walk_items_at<W: Walk>(
+pub fn walk_items_at<'a, W: Walk<'a>>(
     alloc: Global,
     walk: &W,
-    value: &Value,
+    value: &'a Value,
     name: Name,
 ) -> Result<Findings, AllocError>
     ensures { IfOk result (λ f. f ≡ told (inside (in_items (W.found walk.now)) name (view value.now))) }
@@ -95,10 +100,10 @@ pub fn walk_items_at<W: Walk>(
 }
 
 /// Whether a member is the array that it has to be, and what is found in its items.
-pub fn walk_list<W: Walk>(
+pub fn walk_list<'a, W: Walk<'a>>(
     alloc: Global,
     walk: &W,
-    value: &Value,
+    value: &'a Value,
     known: Known,
 ) -> Result<Findings, AllocError>
     ensures { IfOk result (λ f. f ≡ told (in_list (W.found walk.now) known (view value.now))) }

@@ -14,7 +14,7 @@ use serde_json::Value;
 use std::alloc::{AllocError, Global};
 
 /// What is found in values of one shape.
-pub trait Walk {
+pub trait Walk<'a> {
     ghost use Rattle.std.specs.Prelude.{List, ℕ};
     ghost use Rattle.serde_json.specs.Data.{Data};
     ghost use Rattle.apply_validate.specs.declared.findings.finding.Finding.{Finding};
@@ -23,12 +23,16 @@ pub trait Walk {
     ghost found: { Self → ℕ → Data → List Finding };
 
     /// Finds them in a value that is the item of that number; 0 where it is no item. `Err` where memory is refused.
-    fn walk(&self, alloc: Global, number: usize, value: &Value) -> Result<Findings, AllocError>
+    fn walk(&self, alloc: Global, number: usize, value: &'a Value) -> Result<Findings, AllocError>
         ensures { IfOk result (λ f. f ≡ told (found self.now number (view value.now))) };
 }
 
 /// Finds what is wrong in the items of an array.
-pub fn walk_items<W: Walk>(alloc: Global, walk: &W, items: &[Value]) -> Result<Findings, AllocError>
+pub fn walk_items<'a, W: Walk<'a>>(
+    alloc: Global,
+    walk: &W,
+    items: &'a [Value],
+) -> Result<Findings, AllocError>
     ensures { IfOk result (λ f. f ≡ told (items_from (W.found walk.now) 0 (list_of (items_view items.now)))) }
 {
     let mut all = Findings::none(alloc);
@@ -43,10 +47,15 @@ pub fn walk_items<W: Walk>(alloc: Global, walk: &W, items: &[Value]) -> Result<F
 #[derive(Clone, Copy)]
 pub struct Leaf(pub Want);
 
-impl Walk for Leaf {
+impl<'a> Walk<'a> for Leaf {
     ghost found = { λ leaf _ d. unless_suits leaf.0 d };
 
-    fn walk(&self, alloc: Global, _number: usize, value: &Value) -> Result<Findings, AllocError> {
+    fn walk(
+        &self,
+        alloc: Global,
+        _number: usize,
+        value: &'a Value,
+    ) -> Result<Findings, AllocError> {
         if self.0.suits(value) {
             Ok(Findings::none(alloc))
         } else {

@@ -1,5 +1,12 @@
 //! The words of the command line.
 
+ghost use Rattle.std.specs.Prelude.{◌≡◌, IfOk, IfErr, false, codes, is_some, map, option_map, string_bytes};
+ghost use Rattle.clap.specs.Matches.{found_of};
+ghost use Rattle.clap.specs.Simple.{app_of};
+ghost use Rattle.clap.specs.Walk.{first_of, rows_of, rule_of};
+ghost use Rattle.apply_words.specs.Words.{WereRefused};
+ghost use Rattle.apply_validate_command.specs.CommandLine.{AreSaid, HaveSaid, command_line, parallelism_rule, script_rule};
+
 use crate::command::settings::Settings;
 use apply_words::{Usage, matches_of};
 use clap::{Arg, ArgMatches, Command, value_parser};
@@ -23,7 +30,10 @@ Exit status:
 
 /// The settings that the words behind `validate` say. `Err` with `Usage::Help` where they ask for help, with `Usage::Words`
 /// where they are none of this command, and with `Usage::Memory` where memory is refused.
-pub fn read_words(alloc: Global, words: &[String]) -> Result<Settings, Usage> {
+pub fn read_words(alloc: Global, words: &[String]) -> Result<Settings, Usage>
+    ensures said { IfOk result (HaveSaid (map string_bytes words.now)) }
+    ensures refused { IfErr result (WereRefused command_line (map string_bytes words.now)) }
+{
     let command = command(alloc)?;
     match matches_of(alloc, command, words) {
         Ok(matches) => Ok(settings_of(alloc, &matches)?),
@@ -32,7 +42,9 @@ pub fn read_words(alloc: Global, words: &[String]) -> Result<Settings, Usage> {
 }
 
 /// The options, and their help.
-fn command<'a>(alloc: Global) -> Result<Command<'a>, AllocError> {
+fn command<'a>(alloc: Global) -> Result<Command<'a>, AllocError>
+    ensures { IfOk result (λ command. app_of command ≡ command_line) }
+{
     Command::new(alloc, "applystream validate")
         .no_binary_name(true)
         .about(ABOUT)
@@ -41,14 +53,18 @@ fn command<'a>(alloc: Global) -> Result<Command<'a>, AllocError> {
         .arg(parallelism(alloc))
 }
 
-fn script<'a>(alloc: Global) -> Arg<'a> {
+fn script<'a>(alloc: Global) -> Arg<'a>
+    ensures { (rule_of result ≡ script_rule) × (result.global ≡ false) }
+{
     Arg::new(alloc, "script")
         .long("script")
         .value_name("FILE")
         .help("The script of the run")
 }
 
-fn parallelism<'a>(alloc: Global) -> Arg<'a> {
+fn parallelism<'a>(alloc: Global) -> Arg<'a>
+    ensures { (rule_of result ≡ parallelism_rule) × (result.global ≡ false) }
+{
     Arg::new(alloc, "parallelism")
         .long("parallelism")
         .value_name("N")
@@ -59,13 +75,32 @@ fn parallelism<'a>(alloc: Global) -> Arg<'a> {
 }
 
 /// What the matches say.
-fn settings_of(alloc: Global, matches: &ArgMatches<'_>) -> Result<Settings, AllocError> {
-    let script = match matches.get_str("script") {
-        Some(file) => Some(String::from_str(alloc, file)?),
-        None => None,
-    };
+fn settings_of(alloc: Global, matches: &ArgMatches<'_>) -> Result<Settings, AllocError>
+    ensures { IfOk result (AreSaid (rows_of (found_of matches.now))) }
+{
+    let script = script_of(alloc, matches)?;
     Ok(Settings {
         script,
-        lanes: matches.get_one::<u8>("parallelism").is_some(),
+        lanes: has_parallelism(matches),
     })
+}
+
+/// The file of the script, where one is named.
+fn script_of(alloc: Global, matches: &ArgMatches<'_>) -> Result<Option<String>, AllocError>
+    ensures { IfOk result (λ script. option_map string_bytes script ≡ first_of (codes "script") (rows_of (found_of matches.now))) }
+{
+    match matches.get_str("script") {
+        Some(file) => Ok(Some(String::from_str(alloc, file)?)),
+        None => Ok(None),
+    }
+}
+
+/// Whether a parallelism is given.
+fn has_parallelism(matches: &ArgMatches<'_>) -> bool
+    ensures { result ≡ is_some (first_of (codes "parallelism") (rows_of (found_of matches.now))) }
+{
+    match matches.get_str("parallelism") {
+        Some(_) => true,
+        None => false,
+    }
 }

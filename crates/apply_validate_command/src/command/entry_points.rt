@@ -1,8 +1,10 @@
 //! The command `validate`, from its arguments to its exit status, over any files and streams.
 
-ghost use Rattle.std.specs.Prelude.{◌≡◌, ◌≤◌, ◌⊎◌};
+ghost use Rattle.std.specs.Prelude.{◌≡◌, ◌≤◌, ◌⊎◌, IfOk, OnOk, map, option_map, string_bytes};
+ghost use Rattle.std.specs.Io.KnownBytes.{Appends};
 ghost use Rattle.std.specs.Option.{option_copied};
 ghost use Rattle.apply_validate_command.specs.Statuses.{status_by, status_for};
+ghost use Rattle.apply_validate_command.specs.Validated.{IsScriptOf, IsToldOf, WasNotValidated, WasValidated};
 
 use crate::command::arguments::read_words;
 use crate::command::inputs::{InputFault, read_all, read_script_file};
@@ -29,42 +31,54 @@ pub fn follow<F: Files, R: Read, W: Write, E: Write>(
     out: &mut W,
     faults: &mut E,
 ) -> u8
-    ensures { result ≤ 3 }
+    ensures validated { WasValidated F.File.remaining (map string_bytes words.now) (R.remaining input.old) (W.contents out.old) (W.contents out.new) result
+        ⊎ WasNotValidated (map string_bytes words.now) (W.contents out.old) (W.contents out.new) result }
+    ensures statuses { result ≤ 3 }
 {
     let settings = match read_words(alloc, words) {
         Ok(settings) => settings,
         Err(usage) => return answer_usage(&usage, out, faults),
     };
-    match read_inputs(files, alloc, &settings, input) {
-        Ok((plan, script)) => {
-            let script = match &script {
-                Some(bytes) => Some(bytes.as_slice()),
-                None => None,
-            };
+    let script = match read_script(files, alloc, &settings) {
+        Ok(script) => script,
+        Err(fault) => return refuse(faults, fault),
+    };
+    match read_all(alloc, input, InputFault::Plan) {
+        Ok(plan) => {
+            let script = bytes_of(&script);
             validate(alloc, settings.lanes, &plan, script, out, faults)
         }
         Err(fault) => refuse(faults, fault),
     }
 }
 
-/// The bytes of the plan and of the script, where one is named.
-fn read_inputs<F: Files, R: Read>(
+/// The bytes of the script, where one is named.
+fn read_script<F: Files>(
     files: &F,
     alloc: Global,
     settings: &Settings,
-    input: &mut R,
-) -> Result<(Vec<u8>, Option<Vec<u8>>), InputFault> {
-    let script = match &settings.script {
-        Some(name) => Some(read_script_file(files, alloc, name.as_str())?),
+) -> Result<Option<Vec<u8>>, InputFault>
+    ensures { IfOk result (λ script. IsScriptOf F.File.remaining settings.now.script (option_map (λ bytes. bytes.items) script)) }
+{
+    match &settings.script {
+        Some(name) => Ok(Some(read_script_file(files, alloc, name.as_str())?)),
+        None => Ok(None),
+    }
+}
+
+/// The bytes, where there are some.
+fn bytes_of(script: &Option<Vec<u8>>) -> Option<&[u8]>
+    ensures { option_copied result ≡ option_map (λ bytes. bytes.items) script.now }
+{
+    match script {
+        Some(bytes) => Some(bytes.as_slice()),
         None => None,
-    };
-    let plan = read_all(alloc, input, InputFault::Plan)?;
-    Ok((plan, script))
+    }
 }
 
 /// Says why nothing was validated, and answers the exit status.
 fn refuse<E: Write>(faults: &mut E, fault: InputFault) -> u8
-    ensures { result ≤ 3 }
+    ensures { (result ≡ 2) ⊎ (result ≡ 3) }
 {
     report(faults, fault);
     match fault {
@@ -84,7 +98,8 @@ pub fn validate<W: Write, E: Write>(
     out: &mut W,
     faults: &mut E,
 ) -> u8
-    ensures { (result ≡ status_for lanes plan.now (option_copied script.entry)) ⊎ (result ≡ 3) }
+    ensures { (IsToldOf lanes plan.now (option_copied script.entry) (W.contents out.old) (W.contents out.new)
+        × (result ≡ status_for lanes plan.now (option_copied script.entry))) ⊎ (result ≡ 3) }
 {
     let Ok(found) = findings_of(alloc, plan, script, lanes) else {
         return refuse_memory(faults);
@@ -117,7 +132,9 @@ fn status_of(found: &Found) -> u8
 }
 
 /// Writes the text, and flushes.
-fn write_whole<W: Write>(out: &mut W, text: &str) -> io::Result<()> {
+fn write_whole<W: Write>(out: &mut W, text: &str) -> io::Result<()>
+    ensures { OnOk result (Appends (W.contents out.old) (W.contents out.new) text.now) }
+{
     out.write_all(text.as_bytes())?;
     out.flush()
 }

@@ -1,11 +1,18 @@
 //! The bytes of a plan and of a script.
 
+ghost use Rattle.std.specs.Prelude.{◌≡◌, ◌<◌, ◌≤◌, ◌+◌, ◌++◌, ℕ, List, IfOk, IfSome, length, take};
+ghost use Rattle.std.specs.Io.KnownBytes.{Consumes, IsAtEnd};
+ghost use Rattle.apply_validate_command.specs.Validated.{IsReadOf};
+
 use apply_plan::MAX_BYTES;
 use std::alloc::{AllocError, AllocFailed, Global};
 use std::fs;
 use std::io::Read;
 use std::rt::Files;
 use thiserror::Error;
+
+/// One byte more than an input may have, so that a longer one is seen to be too long.
+const MAX_READ: usize = MAX_BYTES + 1;
 
 /// How many bytes are asked for at once.
 const BUFFER_LEN: usize = 65_536;
@@ -41,34 +48,76 @@ pub fn read_script_file<F: Files>(
     files: &F,
     alloc: Global,
     name: &str,
-) -> Result<Vec<u8>, InputFault> {
+) -> Result<Vec<u8>, InputFault>
+    ensures { IfOk result (λ bytes. (file : _) × IsReadOf (F.File.remaining file) bytes.items) }
+{
     match fs::open(files, name) {
         Ok(mut file) => read_all(alloc, &mut file, InputFault::Script),
         Err(_) => Err(InputFault::Script),
     }
 }
 
-/// The bytes of an input, and no more than one more than it may have. `Err` with that fault where a read fails.
+/// The bytes of an input up to its end, and no more than one more than it may have. `Err` with that fault where a read fails, and
+/// with `InputFault::Memory` where memory is refused.
 pub fn read_all<R: Read>(
     alloc: Global,
     input: &mut R,
     fault: InputFault,
-) -> Result<Vec<u8>, InputFault> {
-    let mut buffer = vec![in alloc; 0u8; BUFFER_LEN]?;
+) -> Result<Vec<u8>, InputFault>
+    ensures { IfOk result (λ bytes. IsReadOf (R.remaining input.old) bytes.items) }
+{
+    let mut buffer = zeros(alloc, BUFFER_LEN)?;
+    read_front(alloc, input, &mut buffer, MAX_READ, fault)
+}
+
+/// So many zeros.
+fn zeros(alloc: Global, count: usize) -> Result<Vec<u8>, AllocError>
+    ensures { IfOk result (λ zeros. length zeros.items ≡ count) }
+{
+    vec![in alloc; 0u8; count]
+}
+
+/// The first bytes of the input, up to the limit, read through the buffer.
+fn read_front<R: Read>(
+    alloc: Global,
+    input: &mut R,
+    buffer: &mut [u8],
+    limit: usize,
+    fault: InputFault,
+) -> Result<Vec<u8>, InputFault>
+    requires { 0 < length buffer.old }
+    ensures { IfOk result (λ bytes. IfSome (R.remaining input.old) (λ all. bytes.items ≡ take limit all)) }
+{
     let mut bytes = Vec::new(alloc);
-    // Each turn takes a byte at least, so that no more turns are needed than bytes.
-    for _ in 0..=MAX_BYTES {
-        let count = match input.read(&mut buffer) {
-            Ok(count) => count,
-            Err(_) => return Err(fault),
-        };
-        if count == 0 {
-            break;
-        }
-        bytes.extend_from_slice(&buffer[..count])?;
-        if bytes.len() > MAX_BYTES {
+    while bytes.len() < limit {
+        let room = buffer.len().min(limit - bytes.len());
+        if read_some(input, &mut buffer[..room], &mut bytes, fault)? == 0 {
             break;
         }
     }
     Ok(bytes)
+}
+
+/// Appends what one read gives, and says how many bytes that were: none at the end.
+fn read_some<R: Read>(
+    input: &mut R,
+    buffer: &mut [u8],
+    bytes: &mut Vec<u8>,
+    fault: InputFault,
+) -> Result<usize, InputFault>
+    requires { 0 < length buffer.old }
+    ensures { IfOk result (λ count. (piece : List ℕ)
+        × (bytes.new.items ≡ bytes.old.items ++ piece)
+        × (length piece ≡ count)
+        × (count ≤ length buffer.old)
+        × Consumes (R.remaining input.old) (R.remaining input.new) piece
+        × (count ≡ 0 → IsAtEnd (R.remaining input.new))) }
+{
+    match input.read(buffer) {
+        Ok(count) => {
+            bytes.extend_from_slice(&buffer[..count])?;
+            Ok(count)
+        }
+        Err(_) => Err(fault),
+    }
 }

@@ -1,15 +1,22 @@
 //! Findings that go out.
 
+ghost use Rattle.std.specs.Prelude.{◌≡◌, ◌<◌, [], IfOk, OnOk, is_some, length, string_bytes};
+ghost use Rattle.apply_validate_command.specs.Validated.{TellsOf, accepted, nothing};
+
 use crate::texts::count::Count;
 use crate::texts::finding::{Input, bytes_text, finding_text};
+use crate::texts::plan_names::PlanNames;
 use apply_json::{JsonFault, parse};
 use apply_plan::MAX_BYTES;
-use apply_validate::{Findings, Found};
+use apply_validate::{Findings, Found, What};
 use serde_json::Value;
 use std::alloc::{AllocError, Global};
 
 /// How many findings are told.
 const MOST_TOLD: usize = 1000;
+
+/// For how many unknown addresses near ones are looked for, as each is compared with all of the plan's.
+const MOST_SOUGHT: usize = 10;
 
 /// What is told, as lines: the first 1,000 findings, and how many more there are. `Err` where memory is refused.
 pub fn found_text(
@@ -17,25 +24,108 @@ pub fn found_text(
     found: &Found,
     plan: &[u8],
     script: Option<&[u8]>,
-) -> Result<String, AllocError> {
-    let mut text = String::new(alloc);
-    push_findings(alloc, &mut text, Input::Plan, &found.plan, plan, MOST_TOLD)?;
-    if let Some(script) = script {
-        let left = MOST_TOLD.saturating_sub(found.plan.kept().len());
-        push_findings(alloc, &mut text, Input::Script, &found.script, script, left)?;
-    }
-    let count = found.plan.count().saturating_add(found.script.count());
-    if count == 0 {
-        text.push_str(match script {
-            Some(_) => "plan and script are accepted\n",
-            None => "the plan is accepted\n",
-        })?;
-    }
-    if count > MOST_TOLD {
-        let more = Count((count - MOST_TOLD) as u64);
-        text.push_str(format!(in alloc; "and {more} more\n")?.as_str())?;
+) -> Result<String, AllocError>
+    ensures { IfOk result (λ text. TellsOf found.now.plan found.now.script (is_some script.entry) (string_bytes text)) }
+{
+    let text = lines_text(alloc, found, plan, script)?;
+    or_accepted(text, script.is_some())
+}
+
+/// The text, or where it is empty that all is accepted.
+fn or_accepted(mut text: String, has_script: bool) -> Result<String, AllocError>
+    ensures some { IfOk result (λ all. 0 < length (string_bytes all)) }
+    ensures accepted { string_bytes text ≡ [] → IfOk result (λ all. string_bytes all ≡ accepted has_script) }
+{
+    if text.is_empty() {
+        text.push_str(accepted(has_script))?;
     }
     Ok(text)
+}
+
+/// The lines of what is found.
+fn lines_text(
+    alloc: Global,
+    found: &Found,
+    plan: &[u8],
+    script: Option<&[u8]>,
+) -> Result<String, AllocError>
+    ensures { found.now.plan ≡ nothing → found.now.script ≡ nothing → IfOk result (λ text. string_bytes text ≡ []) }
+{
+    let mut text = String::new(alloc);
+    let tree = tree_of(alloc, plan)?;
+    let names = PlanNames::of(alloc, tree.as_ref())?;
+    push_findings(
+        alloc,
+        &mut text,
+        Input::Plan,
+        &found.plan,
+        plan,
+        &names,
+        MOST_TOLD,
+    )?;
+    push_script(alloc, &mut text, found, script, &names)?;
+    push_more(
+        alloc,
+        &mut text,
+        found.plan.count().saturating_add(found.script.count()),
+    )?;
+    Ok(text)
+}
+
+/// Adds the first findings of a script, where one is given.
+fn push_script(
+    alloc: Global,
+    text: &mut String,
+    found: &Found,
+    script: Option<&[u8]>,
+    names: &PlanNames<'_>,
+) -> Result<(), AllocError>
+    ensures { found.now.script.kept ≡ [] → OnOk result (string_bytes text.new ≡ string_bytes text.old) }
+{
+    let Some(script) = script else {
+        return Ok(());
+    };
+    let left = MOST_TOLD.saturating_sub(found.plan.kept().len());
+    push_findings(
+        alloc,
+        text,
+        Input::Script,
+        &found.script,
+        script,
+        names,
+        left,
+    )
+}
+
+/// Adds how many more findings there are than are told.
+fn push_more(alloc: Global, text: &mut String, count: usize) -> Result<(), AllocError>
+    ensures { count ≡ 0 → OnOk result (string_bytes text.new ≡ string_bytes text.old) }
+{
+    if count <= MOST_TOLD {
+        return Ok(());
+    }
+    let more = Count((count - MOST_TOLD) as u64);
+    text.push_str(format!(in alloc; "and {more} more\n")?.as_str())
+}
+
+/// What is told where nothing is found.
+fn accepted(has_script: bool) -> &'static str
+    ensures { result.now ≡ accepted has_script }
+{
+    if has_script {
+        "plan and script are accepted\n"
+    } else {
+        "the plan is accepted\n"
+    }
+}
+
+/// The tree of bytes, where there is one.
+fn tree_of(alloc: Global, bytes: &[u8]) -> Result<Option<Value>, AllocError> {
+    match parse(alloc, bytes, MAX_BYTES) {
+        Ok(tree) => Ok(Some(tree)),
+        Err(JsonFault::Memory) => Err(AllocError),
+        Err(_) => Ok(None),
+    }
 }
 
 /// Adds the first findings of one input.
@@ -45,15 +135,17 @@ fn push_findings(
     input: Input,
     findings: &Findings,
     bytes: &[u8],
+    names: &PlanNames<'_>,
     most: usize,
-) -> Result<(), AllocError> {
+) -> Result<(), AllocError>
+    ensures { findings.now.kept ≡ [] → OnOk result (string_bytes text.new ≡ string_bytes text.old) }
+{
     if findings.kept().is_empty() {
         return Ok(());
     }
-    match parse(alloc, bytes, MAX_BYTES) {
-        Ok(tree) => push_tree(alloc, text, input, findings, &tree, most),
-        Err(JsonFault::Memory) => Err(AllocError),
-        Err(_) => push_no_tree(alloc, text, input, findings, bytes.len()),
+    match tree_of(alloc, bytes)? {
+        Some(tree) => push_tree(alloc, text, input, findings, &tree, names, most),
+        None => push_no_tree(alloc, text, input, findings, bytes.len()),
     }
 }
 
@@ -64,13 +156,16 @@ fn push_tree(
     input: Input,
     findings: &Findings,
     tree: &Value,
+    names: &PlanNames<'_>,
     most: usize,
 ) -> Result<(), AllocError> {
-    for (number, finding) in findings.kept().iter().enumerate() {
-        if number >= most {
-            return Ok(());
+    let mut unknown = 0usize;
+    for finding in findings.kept().iter().take(most) {
+        let has_near = unknown < MOST_SOUGHT;
+        if matches!(finding.what, What::UnknownAddress) {
+            unknown = unknown.saturating_add(1);
         }
-        text.push_str(finding_text(alloc, input, tree, finding)?.as_str())?;
+        text.push_str(finding_text(alloc, input, tree, finding, names, has_near)?.as_str())?;
         text.push('\n')?;
     }
     Ok(())

@@ -1,11 +1,18 @@
 //! One finding.
 
+use crate::texts::beside::{
+    no_such_step_text, only_warns_text, takes_none_text, too_many_steps_text, unknown_address_text,
+    unknown_object_text,
+};
 use crate::texts::count::Count;
 use crate::texts::found::{found_text, shortened_json};
 use crate::texts::near::not_read_text;
 use crate::texts::place::{path_text, value_at};
+use crate::texts::plan_names::PlanNames;
 use crate::texts::wants::want_text;
-use apply_plan::{MAX_BYTES, MAX_CHANGES, MAX_OUTPUTS, MAX_PROVISIONERS, MAX_SECONDS, ScriptError};
+use apply_plan::{
+    MAX_BYTES, MAX_CHANGES, MAX_OUTPUTS, MAX_PROVISIONERS, MAX_SECONDS, MAX_WAITS, ScriptError,
+};
 use apply_validate::{Finding, Name, What};
 use serde_json::Value;
 use std::alloc::{AllocError, Global};
@@ -47,16 +54,19 @@ pub fn bytes_text(
     }
 }
 
-/// What is found in a tree. `Err` where memory is refused.
+/// What is found in a tree, beside the names of a plan; `has_near` says that names near to an unknown address are told. `Err` where
+/// memory is refused.
 pub fn finding_text(
     alloc: Global,
     input: Input,
     tree: &Value,
     finding: &Finding,
+    names: &PlanNames<'_>,
+    has_near: bool,
 ) -> Result<String, AllocError> {
     let path = path_text(alloc, tree, &finding.path)?;
     let word = input.word();
-    let text = what_text(alloc, tree, finding)?;
+    let text = what_text(alloc, tree, finding, names, has_near)?;
     if finding.what.is_refusal() {
         format!(in alloc; "{word} {path}: {text}")
     } else {
@@ -65,7 +75,13 @@ pub fn finding_text(
 }
 
 /// What is wrong there.
-fn what_text(alloc: Global, tree: &Value, finding: &Finding) -> Result<String, AllocError> {
+fn what_text(
+    alloc: Global,
+    tree: &Value,
+    finding: &Finding,
+    names: &PlanNames<'_>,
+    has_near: bool,
+) -> Result<String, AllocError> {
     let found = value_at(tree, &finding.path, finding.path.len());
     match finding.what {
         What::IsNot(want) => {
@@ -96,6 +112,28 @@ fn what_text(alloc: Global, tree: &Value, finding: &Finding) -> Result<String, A
         What::NamedBefore(number) => {
             let address = address_text(alloc, found)?;
             format!(in alloc; "is of the object of .resource_changes[{number}] again: {address}")
+        }
+        What::UnknownAddress => {
+            let near = if has_near { Some(names) } else { None };
+            unknown_address_text(alloc, tree, finding, near)
+        }
+        What::UnknownObject => unknown_object_text(alloc, tree, finding, names),
+        What::AboutAgain(number) => {
+            let address = address_text(alloc, found)?;
+            format!(in alloc; "is about the change of .changes[{number}] again: {address}")
+        }
+        What::TooManySteps(first, second) => {
+            too_many_steps_text(alloc, count_of(found), first, second)
+        }
+        What::TakesNone(kind) => takes_none_text(alloc, kind),
+        What::OnlyWarns(kind) => only_warns_text(alloc, kind),
+        What::NoSuchStep(first, second) => {
+            let shown = shown_there(alloc, found)?;
+            no_such_step_text(alloc, shown.as_str(), first, second)
+        }
+        What::TooManyWaits => {
+            let most = Count(MAX_WAITS as u64);
+            format!(in alloc; "goes beyond {most} waits")
         }
         What::BesideFailed => {
             String::from_str(
@@ -134,18 +172,9 @@ fn what_text(alloc: Global, tree: &Value, finding: &Finding) -> Result<String, A
     }
 }
 
-/// What a run refuses an entry for, beside the plan.
+/// What a run refuses an entry for, where nothing else is found.
 fn for_plan_text(refusal: ScriptError) -> &'static str {
     match refusal {
-        ScriptError::UnknownChange(_) => "names an object that the plan does not change",
-        ScriptError::Duplicate(_) => "is about a change that an earlier entry is about",
-        ScriptError::TooManySteps(_) => "has more steps than its change",
-        ScriptError::NotACreate(_) => "has a provisioner at a step that takes none",
-        ScriptError::WarnsNotARead(_) =>
-            "has a failure that only warns at a step that is not a read",
-        ScriptError::TooManyWaits(_) => "goes beyond 1,000,000 waits",
-        ScriptError::UnknownWait(_) => "waits for an object that the plan does not change",
-        ScriptError::NoSuchStep(_) => "waits for a step that its change does not have",
         ScriptError::NeverBegins(_) => "has a step that could never begin",
         _ => "is refused",
     }

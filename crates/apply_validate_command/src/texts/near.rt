@@ -1,9 +1,13 @@
 //! Names that are nearly what was found.
 
+use crate::texts::found::json_text;
 use crate::texts::place::{other_name, value_at};
 use apply_validate::{Finding, Name, Part, known_names, nearest};
 use serde_json::Value;
 use std::alloc::{AllocError, Global};
+
+/// How many names that may be meant are told.
+const MOST_NEAR: usize = 3;
 
 /// That nobody reads a member, and which known ones its name is nearly. `Err` where memory is refused.
 pub fn not_read_text(alloc: Global, tree: &Value, finding: &Finding) -> Result<String, AllocError> {
@@ -17,7 +21,8 @@ pub fn not_read_text(alloc: Global, tree: &Value, finding: &Finding) -> Result<S
         }
         let reach = (name.chars().count() / 2).max(1);
         let near = nearest(alloc, name, &names, reach)?;
-        push_near(&mut text, &names, &near)?;
+        let shown = first_near(alloc, &names, &near)?;
+        push_near(&mut text, &shown)?;
     }
     Ok(text)
 }
@@ -48,19 +53,33 @@ fn last_members(finding: &Finding, before: usize) -> (Option<Name>, Option<Name>
     (around, within)
 }
 
+/// The first of the names that are near, as JSON.
+pub fn first_near(
+    alloc: Global,
+    names: &[&str],
+    near: &[usize],
+) -> Result<Vec<String>, AllocError> {
+    let mut shown = Vec::new(alloc);
+    for place in near.iter().take(MOST_NEAR) {
+        let name = names.get(*place).copied().unwrap_or("");
+        let value = Value::String(String::from_str(alloc, name)?);
+        shown.push(json_text(alloc, &value)?)?;
+    }
+    Ok(shown)
+}
+
 /// Adds which names may be meant.
-fn push_near(text: &mut String, names: &[&str], near: &[usize]) -> Result<(), AllocError> {
-    for (count, place) in near.iter().enumerate() {
-        text.push_str(match (near.len(), count) {
-            (1, _) => "; is \"",
-            (_, 0) => "; near it are \"",
-            _ => "\", \"",
+pub fn push_near(text: &mut String, shown: &[String]) -> Result<(), AllocError> {
+    for (number, name) in shown.iter().enumerate() {
+        text.push_str(match (shown.len(), number) {
+            (1, _) => "; is ",
+            (_, 0) => "; near it are ",
+            _ => ", ",
         })?;
-        text.push_str(names.get(*place).copied().unwrap_or(""))?;
+        text.push_str(name.as_str())?;
     }
-    match near.len() {
-        0 => Ok(()),
-        1 => text.push_str("\" meant?"),
-        _ => text.push('"'),
+    if shown.len() == 1 {
+        text.push_str(" meant?")?;
     }
+    Ok(())
 }

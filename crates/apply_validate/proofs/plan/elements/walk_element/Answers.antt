@@ -1,4 +1,4 @@
-use Rattle.std.proofs.Common.{◌≡◌, true, ap, map, option_map, ◌∙◌, rules, is_some}
+use Rattle.std.proofs.Common.{◌≡◌, true, ap, option_map, ◌∙◌, rules, is_some}
 use Rattle.serde_json.specs.Find.{as_object}
 use Rattle.serde_json.specs.View.{view}
 use Rattle.apply_validate.specs.Findings.{told}
@@ -8,14 +8,13 @@ use Rattle.apply_validate.proofs.Named.{in_object, name_is}
 use Rattle.apply_validate.proofs.plan.elements.walk_element.Goals as goal
 
 pub returns-clause-found : goal.returns-clause-found
-returns-clause-found c =
-    let earlier = map (option_map name_view) c.args.earlier.now in
+returns-clause-found c names first =
     let there : is_some (as_object (view c.args.element.now)) ≡ true = search rules in
     let named : option_map name_view c.name_unless-name.result ≡ name_of (view c.args.element.now) =
     c.name_unless-name.ensures ∙ name_is (view c.args.element.now) c.refuses.result c.in_ok-itself.itself there c.refuses.ensures c.in_ok-itself.ensures in
-    let again : c.in_ok-again.again ≡ told (named_again (first_named earlier (name_of (view c.args.element.now)))) =
-    c.in_ok-again.ensures ∙ ap (λ n. told (named_again n)) (c.first_named.ensures ∙ ap (first_named earlier) named) in
-    c.in_ok-all.ensures _ _ c.in_ok-itself.ensures again ∙ ap told (in_object earlier (view c.args.element.now) there)
+    let again : c.in_ok-again.again ≡ told (named_again (first_named names (name_of (view c.args.element.now)))) =
+    c.in_ok-again.ensures ∙ ap (λ n. told (named_again n)) (c.get.ensures names first ∙ ap (first_named names) named) in
+    c.in_ok-all.ensures _ _ c.in_ok-itself.ensures again ∙ ap told (in_object names (view c.args.element.now) there)
 
 pub returns-clause-name : goal.returns-clause-name
 returns-clause-name c =

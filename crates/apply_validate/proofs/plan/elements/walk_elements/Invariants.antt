@@ -1,13 +1,14 @@
-use Rattle.std.proofs.Common.{◌≡◌, [], map, option_map, take}
+use Rattle.std.proofs.Common.{◌≡◌, [], map, take}
 use Rattle.serde_json.specs.View.{items_view}
 use Rattle.apply_json.specs.Tree.{list_of}
 use Rattle.apply_validate.specs.Findings.{told}
-use Rattle.apply_validate.specs.ObjectNames.{name_view}
-use Rattle.apply_validate.specs.PlanFindings.{elements_behind, name_of}
+use Rattle.apply_validate.specs.FirstNamed.{AreFirst}
+use Rattle.apply_validate.specs.PlanFindings.{in_element, name_of}
+use Rattle.apply_validate.specs.Walks.{items_behind}
 use Rattle.apply_validate.proofs.plan.elements.walk_elements.Given as goal
 
 abbrev pub invariant-loop-number : goal.invariant-loop-number
 invariant-loop-number l = record {
-  found : l.all ≡ told (elements_behind [] (list_of (items_view (take l.number l.elements))));
-  named : map (option_map name_view) l.names.items ≡ map name_of (list_of (items_view (take l.number l.elements)));
+  found : l.all ≡ told (items_behind in_element [] (list_of (items_view (take l.number l.elements))));
+  named : AreFirst l.names (map name_of (list_of (items_view (take l.number l.elements))));
 }

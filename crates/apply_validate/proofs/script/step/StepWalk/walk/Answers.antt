@@ -16,6 +16,7 @@ returns c =
     let first : c.in_ok-all.all ≡ told (faults_of (step_table (is_skipped (view c.args.value.now))) (view c.args.value.now)) =
     c.in_ok-all.ensures ∙ ap (λ (known : List Known). told (faults_of known (view c.args.value.now))) table in
     rw there
+    (c.in_ok-all-11.ensures _ _
     (c.in_ok-all-10.ensures _ _
     (c.in_ok-all-9.ensures _ _
     (c.in_ok-all-8.ensures _ _
@@ -28,8 +29,9 @@ returns c =
     c.in_ok-walk_inside-2.ensures)
     c.in_ok-walk_list.ensures)
     (c.in_ok-walk_marks.ensures ∙ ap (λ (marks : List Mark). told (marked marks)) c.marks.ensures))
+    (c.in_ok-walk_marks-2.ensures ∙ ap (λ (marks : List Mark). told (marked marks)) c.kind_marks.ensures))
     c.in_ok-faults.ensures)
-    (c.in_ok-walk_marks-2.ensures ∙ ap (λ (marks : List Mark). told (marked marks)) c.skipped_marks.ensures))
+    (c.in_ok-walk_marks-3.ensures ∙ ap (λ (marks : List Mark). told (marked marks)) c.skipped_marks.ensures))
     c.in_ok-walk_items_at.ensures)
     c.in_ok-walk_list-2.ensures)
     c.in_ok-walk_unread.ensures)

@@ -1,0 +1,10 @@
+use Rattle.std.proofs.Common.{List, ap, sym, ◌∙◌}
+use Rattle.std.specs.List.{position_from}
+use Rattle.serde_json.specs.Data.{Data}
+use Rattle.apply_validate.specs.Beside.{is_waiting}
+use Rattle.apply_validate.proofs.Trees.{listed}
+use Rattle.apply_validate.proofs.beside.waiting.first_waiting.Goals as goal
+
+pub returns : goal.returns
+returns c =
+    c.first_of.ensures ∙ ap (λ (ds : List Data). position_from is_waiting 0 ds) (sym (listed c.items_at.result.now) ∙ c.items_at.ensures)

@@ -1,0 +1,16 @@
+use Rattle.std.proofs.Common.{◌≡◌, ◌∙◌, ap, ap₂, codes, true}
+use Rattle.std.proofs.lemmas.Result.{IfOk-weaker}
+use Rattle.clap.specs.Simple.{App, app_of, app_of_fields, new_app, on_top, with_rule}
+use Rattle.apply_validate_command.proofs.command.arguments.command.Goals as goal
+
+-- the command before its options, whose words are those behind `validate`
+abbrev no_options : App
+no_options = on_top (λ shape. record shape { no_binary_name = true }) (new_app (codes "applystream validate"))
+
+pub returns : goal.returns
+returns c =
+    let none : app_of c.after_help.result ≡ no_options =
+    ap app_of_fields c.after_help.ensures ∙ ap app_of_fields c.about.ensures ∙ ap app_of_fields c.no_binary_name.ensures
+    ∙ ap (on_top (λ shape. record shape { no_binary_name = true })) c.new.ensures.app in
+    let script = c.in_ok-arg.ensures.shape c.script.ensures.1 ∙ ap₂ with_rule none c.script.ensures.0 in
+    IfOk-weaker c.arg-2.result _ _ (λ command added. added.shape c.parallelism.ensures.1 ∙ ap₂ with_rule script c.parallelism.ensures.0) c.arg-2.ensures
