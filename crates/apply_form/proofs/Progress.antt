@@ -38,7 +38,7 @@ ends_in_decimals : (text : List ℕ) → quoted (text ++ codes ".000000Z") ≡ (
 unfolding json_on_literals
 ends_in_decimals text = ap (λ t. 34 ∷ (t ++ 34 ∷ [])) (joined text (codes ".000000Z")) ∙ ap (λ t. 34 ∷ t) (append_assoc (escape text) (codes ".000000Z") (34 ∷ []))
 
-pub fine_is : (moment : ℕ) → (open_date (moment / 86400) ++ time_of_day (moment % 86400)) ++ codes ".000000Z\"" ≡ quoted (fine_text moment)
+fine_is : (moment : ℕ) → (open_date (moment / 86400) ++ time_of_day (moment % 86400)) ++ codes ".000000Z\"" ≡ quoted (fine_text moment)
 unfolding moment_text fine_text
 fine_is moment =
     let text = option_map_or date_text (date_of_day (moment / 86400)) [] ++ codes "T" ++ time_text (moment % 86400) in

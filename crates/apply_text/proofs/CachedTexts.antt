@@ -16,7 +16,7 @@ use Rattle.serde_json.proofs.Texts.{print-outline}
 use Rattle.apply_model.specs.declared.plan.step_kind.StepKind.{StepKind}
 use Rattle.apply_model.specs.Plan.ResourceChange.{ResourceChange}
 use Rattle.apply_text.specs.Calendar.{date_of_day}
-use Rattle.apply_text.specs.CachedParts.{KeptPieces, StepPieces, back_text, front_text, kept_step, line_pieces, middle_text, open_date, open_text, time_of_day}
+use Rattle.apply_text.specs.CachedParts.{KeptPieces, ProgressPieces, back_text, front_text, kept_step, line_pieces, middle_text, open_date, open_text, time_of_day}
 use Rattle.apply_text.specs.Moment.{date_text, moment_text, time_text, two_digits}
 use Rattle.apply_text.specs.Objects.{resource_object}
 use Rattle.apply_text.specs.Sending.{member_tokens}
@@ -83,9 +83,9 @@ unfolding back_text resource_object
 back_shown change step = refl
 
 -- texts that were put together
-pub pieces_same : (pieces : StepPieces) (front middle back : List ℕ) → pieces.front ≡ front → pieces.middle ≡ middle → pieces.back ≡ back → pieces ≡ record { front = front; middle = middle; back = back }
+pub pieces_same : (pieces : ProgressPieces) (front middle back : List ℕ) → pieces.front ≡ front → pieces.middle ≡ middle → pieces.back ≡ back → pieces ≡ record { front = front; middle = middle; back = back }
 pieces_same pieces front middle back fronts middles backs =
-    let of : List ℕ → List ℕ → List ℕ → StepPieces = λ f m b. record { front = f; middle = m; back = b } in
+    let of : List ℕ → List ℕ → List ℕ → ProgressPieces = λ f m b. record { front = f; middle = m; back = b } in
     ap₂ (λ f m. of f m pieces.back) fronts middles ∙ ap (λ b. of front middle b) backs
 
 pub pieces_of : (kept : KeptPieces) (change : ResourceChange) (step : StepKind) → kept.step ≡ kept_step change step → kept.pieces.front ≡ front_text change.address step → kept.pieces.middle ≡ middle_text step → kept.pieces.back ≡ back_text change

@@ -2,7 +2,6 @@ pub mod AppliedStep
 pub mod CachedParts
 pub mod Calendar
 pub mod Elapsed
-pub mod HookLines
 pub mod Latest
 pub mod Laws
 pub mod Lines

@@ -3,4 +3,3 @@
 pub mod elapsed;
 pub mod id_note;
 pub mod moment;
-pub mod told_seconds;

@@ -8,7 +8,7 @@ ghost use Rattle.apply_form.specs.Objects.{resource_object};
 use crate::escaping::escaped_text;
 use crate::objects::resource_object::put_resource;
 use apply_model::{Change, StepKind};
-use apply_text::parts::{ShownStep, StepFrame, StepTexts, StepWords, progress_front};
+use apply_text::parts::{ProgressFrame, ProgressTexts, ShownStep, StepWords, progress_front};
 use json::Writer;
 use std::alloc::{AllocError, Global};
 use std::marker::Model;
@@ -18,7 +18,7 @@ use std::marker::Model;
 /// Contracts see the step, with what is shown of its change.
 #[derive(Drop)]
 pub struct FormFrame {
-    texts: StepTexts,
+    texts: ProgressTexts,
 }
 
 impl Model for FormFrame {
@@ -33,7 +33,7 @@ impl Model for FormFrame {
     ghost invariant = { λ frame. frame.texts.pieces ≡ form_pieces frame.texts.step };
 }
 
-impl StepFrame for FormFrame {
+impl ProgressFrame for FormFrame {
     ghost use Rattle.apply_form.specs.CachedParts.{form_pieces};
 
     ghost kept = { λ frame. frame };
@@ -48,11 +48,11 @@ impl StepFrame for FormFrame {
         let back = String::from_str(alloc, "},\"type\":\"apply_progress\"}\n")?;
         let shown = ShownStep::new(alloc, change, step)?;
         Ok(FormFrame {
-            texts: StepTexts::new(shown, front, middle, back),
+            texts: ProgressTexts::new(shown, front, middle, back),
         })
     }
 
-    fn texts(&self) -> &StepTexts {
+    fn texts(&self) -> &ProgressTexts {
         &self.texts
     }
 }
@@ -70,7 +70,7 @@ fn middle_of(alloc: Global, change: &Change, step: StepKind) -> Result<String, A
 }
 
 /// The member `resource`.
-pub fn resource_of(alloc: Global, change: &Change) -> Result<String, AllocError>
+fn resource_of(alloc: Global, change: &Change) -> Result<String, AllocError>
     ensures { IfOk result (λ resource. string_bytes resource
         ≡ codes "\"resource\":" ++ compact_text (resource_object change.now)) }
 {

@@ -6,9 +6,9 @@ ghost use Rattle.apply_text.specs.CachedParts.{back_text, middle_text};
 ghost use Rattle.apply_text.specs.Objects.{resource_object};
 
 use crate::cached_parts::front::progress_front;
+use crate::cached_parts::progress_frame::ProgressFrame;
+use crate::cached_parts::progress_texts::ProgressTexts;
 use crate::cached_parts::shown_step::ShownStep;
-use crate::cached_parts::step_frame::StepFrame;
-use crate::cached_parts::step_texts::StepTexts;
 use crate::objects::resource_object::put_resource;
 use crate::step_words::StepWords;
 use apply_model::{Change, StepKind};
@@ -21,7 +21,7 @@ use std::marker::Model;
 /// Contracts see the step, with what is shown of its change.
 #[derive(Drop)]
 pub struct LineFrame {
-    texts: StepTexts,
+    texts: ProgressTexts,
 }
 
 impl Model for LineFrame {
@@ -35,7 +35,7 @@ impl Model for LineFrame {
     ghost invariant = { λ frame. frame.texts.pieces ≡ line_pieces frame.texts.step };
 }
 
-impl StepFrame for LineFrame {
+impl ProgressFrame for LineFrame {
     ghost use Rattle.apply_text.specs.CachedParts.{line_pieces};
 
     ghost kept = { λ frame. frame };
@@ -48,11 +48,11 @@ impl StepFrame for LineFrame {
         let back = back_of(alloc, change)?;
         let shown = ShownStep::new(alloc, change, step)?;
         Ok(LineFrame {
-            texts: StepTexts::new(shown, front, middle, back),
+            texts: ProgressTexts::new(shown, front, middle, back),
         })
     }
 
-    fn texts(&self) -> &StepTexts {
+    fn texts(&self) -> &ProgressTexts {
         &self.texts
     }
 }
@@ -75,7 +75,7 @@ fn back_of(alloc: Global, change: &Change) -> Result<String, AllocError>
 }
 
 /// The member `resource`.
-pub fn resource_of(alloc: Global, change: &Change) -> Result<String, AllocError>
+fn resource_of(alloc: Global, change: &Change) -> Result<String, AllocError>
     ensures { IfOk result (λ resource. string_bytes resource
         ≡ codes "\"resource\":" ++ compact_text (resource_object change.now)) }
 {

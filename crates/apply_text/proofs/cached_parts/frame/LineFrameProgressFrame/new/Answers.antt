@@ -1,7 +1,7 @@
 use Rattle.std.proofs.Common.{ap, ◌∙◌}
 use Rattle.apply_text.specs.CachedParts.{front_text}
 use Rattle.apply_text.proofs.CachedTexts.{pieces_of}
-use Rattle.apply_text.proofs.cached_parts.frame.LineFrameStepFrame.new.Goals as goal
+use Rattle.apply_text.proofs.cached_parts.frame.LineFrameProgressFrame.new.Goals as goal
 
 pub invariant_of-result : goal.invariant_of-result
 invariant_of-result c =

@@ -2,7 +2,7 @@ use Rattle.std.proofs.Common.{◌++◌, ◌/◌, ◌%◌, codes, decimal, ap, �
 use Rattle.std.proofs.lemmas.Result.{on_ok_weaker}
 use Rattle.apply_text.specs.CachedParts.{open_date, time_of_day}
 use Rattle.apply_text.specs.Elapsed.{elapsed_of}
-use Rattle.apply_text.proofs.cached_parts.step_texts.StepTexts.put_line.Goals as goal
+use Rattle.apply_text.proofs.cached_parts.progress_texts.ProgressTexts.put_line.Goals as goal
 
 pub returns : goal.returns
 returns c =
