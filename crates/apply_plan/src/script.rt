@@ -8,6 +8,7 @@ pub mod entry_slots;
 pub mod flag_of_word;
 pub mod found_items;
 pub mod hashed_id;
+pub mod limit;
 pub mod list_item;
 pub mod mark;
 pub mod marks;

@@ -5,11 +5,13 @@ ghost use Rattle.apply_json.specs.Seen.{scalar_view};
 ghost use Rattle.apply_plan.specs.Script.Entry.{EntryStep, step_from};
 ghost use Rattle.apply_plan.specs.Script.Members.{flag_held, is_told, outcome_by, step_held};
 ghost use Rattle.apply_model.specs.Plan.StepKind.{is_kind};
-ghost use Rattle.apply_model.specs.Script.Outcome.{IsBounded, has_too_many_provisioners, has_too_much_output, is_too_long};
+ghost use Rattle.apply_model.specs.Script.Outcome.{IsBounded};
+ghost use Rattle.apply_plan.specs.Script.Limit.{exceeds};
 ghost use Rattle.apply_plan.specs.Script.Refusals.{misplaces_provisioners, passes, takes_provisioners, warns_not_a_read};
 ghost use Rattle.apply_plan.specs.Script.TreeView.{ending_view, entry_step_view, outcome_view, provisioner_view, step_view};
 ghost use Rattle.apply_plan.specs.Script.WaitedStep.{with_waits};
 
+use crate::script::limit::Limit;
 use crate::script::list_item::ListItem;
 use crate::script::step_slots::StepSlots;
 use crate::script::tree_ending::TreeEnding;
@@ -59,32 +61,12 @@ impl<'a> TreeStep<'a> {
         Some(TreeStep { outcome, after })
     }
 
-    /// Whether the step takes longer than it may, with all its provisioners.
-    pub fn is_too_long(&self) -> bool
-        ensures { result ≡ passes is_too_long (step_view self.now) }
+    /// Whether the step goes beyond the limit.
+    pub fn exceeds(&self, limit: Limit) -> bool
+        ensures { result ≡ passes (exceeds limit) (step_view self.now) }
     {
         match &self.outcome {
-            Some(outcome) => outcome.is_too_long(),
-            None => false,
-        }
-    }
-
-    /// Whether the step has more provisioners than it may.
-    pub fn has_too_many_provisioners(&self) -> bool
-        ensures { result ≡ passes has_too_many_provisioners (step_view self.now) }
-    {
-        match &self.outcome {
-            Some(outcome) => outcome.has_too_many_provisioners(),
-            None => false,
-        }
-    }
-
-    /// Whether a provisioner of the step puts out more than it may.
-    pub fn has_too_much_output(&self) -> bool
-        ensures { result ≡ passes has_too_much_output (step_view self.now) }
-    {
-        match &self.outcome {
-            Some(outcome) => outcome.has_too_much_output(),
+            Some(outcome) => outcome.exceeds(limit),
             None => false,
         }
     }
