@@ -3,6 +3,7 @@
 
 mod answer;
 mod awaited;
+mod found_refusal;
 mod in_lanes;
 mod input;
 mod input_fault;

@@ -10,6 +10,7 @@ ghost use Rattle.apply_cli.specs.CommandInForm.{HasAppliedInForm, HasBegunInForm
 ghost use Rattle.apply_cli.specs.Options.{options_of};
 ghost use Rattle.apply_cli.specs.Status.{input_status_of};
 
+use crate::found_refusal::FoundRefusal;
 use crate::input::{drop_rest, read_input};
 use crate::input_fault::InputFault;
 use crate::options::run_options;
@@ -26,9 +27,6 @@ use std::fmt::Display;
 use std::io::{Cursor, Read, Write};
 use std::sync::Wait;
 use std::thread::Threads;
-
-/// Said behind the refusal of a plan or a script.
-const WHERE_AND_WHAT: &str = "applystream validate says where and what";
 
 /// How many bytes of a fault's line go out in one write.
 const LINE_ROOM: usize = 256;
@@ -277,9 +275,10 @@ pub(crate) fn report_refusal<W: Write + Drop, E: Write>(
 )
     ensures { output.now.is_reader_gone ≡ true → Keeps (E.contents faults.old) (E.contents faults.new) }
 {
-    report_unless_gone(output, faults, refusal);
     if refusal != Refusal::Size && refusal_status(refusal) == REFUSED {
-        report_unless_gone(output, faults, WHERE_AND_WHAT);
+        report_unless_gone(output, faults, FoundRefusal(refusal));
+    } else {
+        report_unless_gone(output, faults, refusal);
     }
 }
 
