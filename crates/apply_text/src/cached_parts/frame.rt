@@ -16,6 +16,9 @@ use json::Writer;
 use std::alloc::{AllocError, Global};
 use std::marker::Model;
 
+// More bytes than most resources take.
+const RESOURCE_LEN: usize = 512;
+
 /// What the progress lines of a step have in common, in the form of this program's own.
 ///
 /// Contracts see the step, with what is shown of its change.
@@ -79,7 +82,8 @@ pub fn resource_of(alloc: Global, change: &Change) -> Result<String, AllocError>
     ensures { IfOk result (λ resource. string_bytes resource
         ≡ codes "\"resource\":" ++ compact_text (resource_object change.now)) }
 {
-    let mut out = Writer::new(Vec::new(alloc));
+    let room = Vec::with_capacity(alloc, RESOURCE_LEN)?;
+    let mut out = Writer::new(room);
     put_resource(&mut out, change)?;
     Ok(String::from_utf8(out.into_inner()).unwrap())
 }

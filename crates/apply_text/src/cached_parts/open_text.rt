@@ -6,6 +6,9 @@ ghost use Rattle.apply_text.specs.CachedParts.{open_text as open_text_of};
 use json::Writer;
 use std::alloc::{AllocError, Global};
 
+// More bytes than most texts take, with their quotes.
+const TEXT_LEN: usize = 256;
+
 /// The text in JSON, but for its closing quote. `Err` where memory is refused.
 pub fn open_text(alloc: Global, text: &str) -> Result<String, AllocError>
     ensures { IfOk result (λ begun. string_bytes begun ≡ open_text_of text.now) }
@@ -19,7 +22,8 @@ pub fn open_text(alloc: Global, text: &str) -> Result<String, AllocError>
 fn quoted_text(alloc: Global, text: &str) -> Result<String, AllocError>
     ensures { IfOk result (λ whole. string_bytes whole ≡ open_text_of text.now ++ 34 ∷ []) }
 {
-    let mut out = Writer::new(Vec::new(alloc));
+    let room = Vec::with_capacity(alloc, TEXT_LEN)?;
+    let mut out = Writer::new(room);
     out.string(text)?;
     Ok(String::from_utf8(out.into_inner()).unwrap())
 }

@@ -6,4 +6,4 @@ use Rattle.apply_text.proofs.cached_parts.open_text.quoted_text.Goals as goal
 pub returns : goal.returns
 returns c =
     let same : string_vec c.unwrap.result ≡ c.into_inner.result = subst (λ r. IfOk r (λ t. string_vec t ≡ c.into_inner.result)) c.unwrap.ensures c.from_utf8.ensures.ok in
-    ap (λ v. v.items) same ∙ printed_text _ _ _ _ _ (c.in_ok-string.ensures.room.0 ∙ c.new-out.ensures.before ∙ c.new.ensures.items) c.new-out.ensures.tokens c.in_ok-string.ensures.ok c.into_inner.ensures.items
+    ap (λ v. v.items) same ∙ printed_text _ _ _ _ _ (c.in_ok-string.ensures.room.0 ∙ c.new-out.ensures.before ∙ c.in_ok-room.ensures.items) c.new-out.ensures.tokens c.in_ok-string.ensures.ok c.into_inner.ensures.items
