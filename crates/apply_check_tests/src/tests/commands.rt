@@ -287,26 +287,25 @@ fn words(rt: HostRuntime) {
     followed_is(&rt, &rt, alloc, "--find", 4, "", passed);
 }
 
-/// Words that name a file, and what is said.
-const FILES: &str = r#"
-no_such_file.jsonl => the file no_such_file.jsonl could not be opened: No such file or directory (os error 2)
---json --find --plan no_such_file.jsonl => the file no_such_file.jsonl could not be opened: No such file or directory (os error 2)
--- --json => the file --json could not be opened: No such file or directory (os error 2)
-. => the file . could not be read: Is a directory (os error 21)
-"#;
+/// What is said of a file that isn't there.
+const NO_FILE: &str =
+    "applystream: the file no_such_file.jsonl could not be opened: No such file or directory (os error 2)\n";
 
-/// Fails where something else is said of the words of that row than the row says.
-fn file_is_refused<F: Files>(rt: &impl Abort, files: &F, alloc: Global, row: &str) {
-    let (words, said) = cells(rt, row);
-    let said = format!(in alloc; "applystream: {said}\n");
-    followed_is(rt, files, alloc, words, 2, "", kept_text(rt, alloc, said));
-}
+/// What is said of a file whose name looks like an option.
+const NO_OPTION: &str =
+    "applystream: the file --json could not be opened: No such file or directory (os error 2)\n";
+
+/// What is said of a folder.
+const FOLDER: &str = "applystream: the file . could not be read: Is a directory (os error 21)\n";
 
 #[test]
 fn files_refused(rt: HostRuntime) {
-    for row in FILES.trim().lines() {
-        file_is_refused(&rt, &rt, rt.alloc(), row);
-    }
+    let (alloc, said) = (rt.alloc(), NO_FILE);
+    followed_is(&rt, &rt, alloc, "no_such_file.jsonl", 2, "", said);
+    let words = "--json --find --plan no_such_file.jsonl";
+    followed_is(&rt, &rt, alloc, words, 2, "", said);
+    followed_is(&rt, &rt, alloc, "-- --json", 2, "", NO_OPTION);
+    followed_is(&rt, &rt, alloc, ".", 2, "", FOLDER);
 }
 
 /// What is typed is shown so that it steers no terminal.

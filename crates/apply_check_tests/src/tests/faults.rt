@@ -174,13 +174,6 @@ fn faults_as_objects(rt: HostRuntime) {
     rows_are_told(&rt, rt.alloc(), Form::Json, OBJECTS);
 }
 
-/// What is told where one more begins than may overlap: the start, and the line and the object.
-const TOO_MANY: &str = r#"
-Sd => applystream: line 10002 is one of more than 10000 that overlap since line 2: delete of a => {"action":"delete","address":"a","fault":"too_many","line":10002,"other":2,"whole":false}
-Sr => applystream: line 10002 is one of more than 10000 that overlap since line 2: read of a => {"action":"read","address":"a","fault":"too_many","line":10002,"other":2,"whole":false}
-Sf => applystream: line 10002 is one of more than 10000 that overlap since line 2: refresh of a => {"action":"refresh","address":"a","fault":"too_many","line":10002,"other":2,"whole":false}
-"#;
-
 /// The version, and one start of that name more than may overlap.
 pub(super) fn overlapping(rt: &impl Abort, alloc: Global, name: &str) -> &'static str {
     let version = line_named(rt, LINES, "V");
@@ -195,15 +188,13 @@ fn repeated(rt: &impl Abort, alloc: Global, line: &str, times: usize) -> &'stati
 }
 
 /// Fails where something else is told of the stream.
-fn stream_is_told(rt: &impl Abort, alloc: Global, form: Form, stream: &str, said: &str) {
+pub(super) fn stream_is_told(rt: &impl Abort, alloc: Global, form: Form, stream: &str, said: &str) {
     let told = checked(rt, alloc, Mode::PLAIN, form, stream);
     is_told(rt, form, told, said);
 }
 
-/// Fails where something else is told of too many starts of that row than the row says.
-fn too_many_is_told(rt: &impl Abort, alloc: Global, row: &str) {
-    let (name, said) = cells(rt, row);
-    let (text, object) = cells(rt, said);
+/// Fails where something else is told of one start more of that name than may overlap.
+fn too_many_is_told(rt: &impl Abort, alloc: Global, name: &str, text: &str, object: &str) {
     let stream = overlapping(rt, alloc, name);
     stream_is_told(rt, alloc, Form::Text, stream, text);
     stream_is_told(rt, alloc, Form::Json, stream, object);
@@ -211,9 +202,22 @@ fn too_many_is_told(rt: &impl Abort, alloc: Global, row: &str) {
 
 #[test]
 fn steps_that_are_too_many(rt: HostRuntime) {
-    for row in TOO_MANY.trim().lines() {
-        too_many_is_told(&rt, rt.alloc(), row);
-    }
+    let alloc = rt.alloc();
+    let text =
+        "applystream: line 10002 is one of more than 10000 that overlap since line 2: delete of a";
+    let object =
+        r#"{"action":"delete","address":"a","fault":"too_many","line":10002,"other":2,"whole":false}"#;
+    too_many_is_told(&rt, alloc, "Sd", text, object);
+    let text =
+        "applystream: line 10002 is one of more than 10000 that overlap since line 2: read of a";
+    let object =
+        r#"{"action":"read","address":"a","fault":"too_many","line":10002,"other":2,"whole":false}"#;
+    too_many_is_told(&rt, alloc, "Sr", text, object);
+    let text =
+        "applystream: line 10002 is one of more than 10000 that overlap since line 2: refresh of a";
+    let object =
+        r#"{"action":"refresh","address":"a","fault":"too_many","line":10002,"other":2,"whole":false}"#;
+    too_many_is_told(&rt, alloc, "Sf", text, object);
 }
 
 /// A line that is longer than a line may be, and goes on.

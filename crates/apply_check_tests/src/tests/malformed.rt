@@ -1,7 +1,7 @@
 //! Members that a message of a known type has to have.
 
 use super::commands::checked;
-use super::faults::{fault_is, is_told};
+use super::faults::{fault_is, stream_is_told};
 use super::*;
 
 /// Messages, and what the first of their members lacks that is not what it has to be.
@@ -59,8 +59,8 @@ fn row_is_malformed(rt: &impl Abort, alloc: Global, row: &str) {
     let (line, lack) = cells(rt, row);
     let told = checked(rt, alloc, Mode::PLAIN, Form::Text, line);
     fault_is(rt, told, "applystream: line 1 is malformed: ", lack);
-    let told = checked(rt, alloc, Mode::PLAIN, Form::Json, line);
-    is_told(rt, Form::Json, told, malformed_object(rt, alloc, lack));
+    let object = malformed_object(rt, alloc, lack);
+    stream_is_told(rt, alloc, Form::Json, line, object);
 }
 
 /// What programs are told: the first word is the member.

@@ -1,7 +1,6 @@
 //! Texts of a stream as people are shown them, and as programs get them.
 
-use super::commands::checked;
-use super::faults::is_told;
+use super::faults::stream_is_told;
 use super::*;
 
 /// The version, and the start of a create of that address.
@@ -39,9 +38,7 @@ fn shown_is(rt: &impl Abort, alloc: Global, stream: &str, shown: &str) {
     let line = format!(in alloc;
         "applystream: line 2 comes before all has ended and each failure is explained: create of {shown} since line 2"
     );
-    let line = kept_text(rt, alloc, line);
-    let told = checked(rt, alloc, Mode::PLAIN, Form::Text, stream);
-    is_told(rt, Form::Text, told, line);
+    stream_is_told(rt, alloc, Form::Text, stream, kept_text(rt, alloc, line));
 }
 
 /// Fails where programs get another address.
@@ -49,9 +46,7 @@ fn whole_address_is(rt: &impl Abort, alloc: Global, stream: &str, address: &str)
     let line = format!(in alloc;
         "{{\"fault\":\"unended\",\"line\":2,\"open\":[{{\"address\":\"{address}\",\"kind\":\"create\",\"line\":2}}],\"whole\":false}}"
     );
-    let line = kept_text(rt, alloc, line);
-    let told = checked(rt, alloc, Mode::PLAIN, Form::Json, stream);
-    is_told(rt, Form::Json, told, line);
+    stream_is_told(rt, alloc, Form::Json, stream, kept_text(rt, alloc, line));
 }
 
 /// A text of more than 1,024 bytes, as it is shown, is cut at a character, and ends with three dots within them.
@@ -93,9 +88,7 @@ fn open_is(rt: &impl Abort, alloc: Global, count: u64, line: u64, rest: &str) {
     let said = format!(in alloc;
         "applystream: line {line} comes before all has ended and each failure is explained: {count} stand open: {TEN}{rest}"
     );
-    let said = kept_text(rt, alloc, said);
-    let told = checked(rt, alloc, Mode::PLAIN, Form::Text, stream);
-    is_told(rt, Form::Text, told, said);
+    stream_is_told(rt, alloc, Form::Text, stream, kept_text(rt, alloc, said));
 }
 
 #[test]
@@ -110,11 +103,11 @@ fn more_than_ten_stand_open(rt: HostRuntime) {
 #[test]
 fn all_that_stands_open(rt: HostRuntime) {
     let alloc = rt.alloc();
-    let (stream, form) = (starts(&rt, alloc, 12), Form::Json);
-    is_told(
+    stream_is_told(
         &rt,
-        form,
-        checked(&rt, alloc, Mode::PLAIN, form, stream),
+        alloc,
+        Form::Json,
+        starts(&rt, alloc, 12),
         concat!(
             r#"{"fault":"unended","line":13,"open":[{"address":"k10","kind":"create","line":2},{"address":"k11","kind":"create","line":3},"#,
             r#"{"address":"k12","kind":"create","line":4},{"address":"k13","kind":"create","line":5},{"address":"k14","kind":"create","line":6},"#,
