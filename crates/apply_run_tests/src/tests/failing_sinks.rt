@@ -97,16 +97,18 @@ impl Write for Idle {
 
 #[test]
 fn ok_of_nothing(rt: HostRuntime) {
-    let (sink, result) = create_into(&rt, rt.alloc(), 1, StdSink::new(Idle));
-    let sink = kept(&rt, rt.alloc(), sink);
+    let alloc = rt.alloc();
+    let (sink, result) = create_into(&rt, alloc, 1, StdSink::new(Idle));
+    let sink = kept(&rt, alloc, sink);
     end_is(&rt, 0, result, failed(counts(1, 0, 0, 0), 2, 0));
     number_is(&rt, "failed writes", sink.failures(), 1);
 }
 
 #[test]
 fn into_a_writer(rt: HostRuntime) {
-    let sink = StdSink::new(Vec::new(rt.alloc()));
-    let (mut sink, result) = create_into(&rt, rt.alloc(), 8, sink);
+    let alloc = rt.alloc();
+    let sink = StdSink::new(Vec::new(alloc));
+    let (mut sink, result) = create_into(&rt, alloc, 8, sink);
     holds(&rt, "an end that is well", result.is_ok());
     number_is(&rt, "failed writes", sink.failures(), 0);
     flush_is(&rt, sink.flush(), Ok(()));

@@ -108,7 +108,7 @@ fn was_begun_by_its_worker(
     workers: u64,
 ) {
     let worker = worker_of(passed, change);
-    assert!(rt; 1 <= worker && worker <= workers, "{message} {passed:x}");
+    holds(rt, message, 1 <= worker && worker <= workers);
     let own = own_begin_of(passed, change);
     let (above, found) = moments_at(rt, text, message);
     let (above, found) = (seconds_of(rt, above), seconds_of(rt, found));
@@ -146,10 +146,12 @@ fn one_worker_passes_as_the_first(rt: HostRuntime) {
 /// The first change is held until all others have come, so that one worker of two applies these.
 #[test]
 fn each_worker_passes_as_itself(rt: HostRuntime) {
-    let two = workers_pass(&rt, rt.alloc(), 2);
-    assert!(rt; two == 0x0202_0201 || two == 0x0101_0102, "{two:x}");
-    let eight = workers_pass(&rt, rt.alloc(), 8);
-    assert!(rt; worker_of(eight, 0) != worker_of(eight, 1), "{eight:x}");
+    let alloc = rt.alloc();
+    let two = workers_pass(&rt, alloc, 2);
+    holds(&rt, "two", two == 0x0202_0201 || two == 0x0101_0102);
+    let eight = workers_pass(&rt, alloc, 8);
+    let is_another = worker_of(eight, 0) != worker_of(eight, 1);
+    holds(&rt, "eight", is_another);
 }
 
 /// A sink that counts the starts of steps that it has taken.
@@ -210,12 +212,13 @@ fn a_gate_is_passed_before_the_start_is_sent(rt: HostRuntime) {
         passed: AtomicU64::new(0),
         early: AtomicU64::new(0),
     };
+    let alloc = rt.alloc();
     let sink = Starts {
-        inner: memory(rt.alloc()),
+        inner: memory(alloc),
         starts: &starts,
     };
     let (plan, options) = (REPLACEMENT_AND_CREATE, options(1, 1));
-    let (_sink, _report) = apply_plan(&rt, rt.alloc(), plan, NO_SCRIPT, options, sink, &gate);
+    let (_sink, _report) = apply_plan(&rt, alloc, plan, NO_SCRIPT, options, sink, &gate);
     word_is(&rt, "early", &gate.early, 0);
     word_is(&rt, "passed", &gate.passed, 3);
     word_is(&rt, "starts", &starts, 3);

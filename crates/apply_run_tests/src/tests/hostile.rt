@@ -106,8 +106,9 @@ fn rows_are_answered<R: Threads + Wait + Sync + Abort>(
 
 #[test]
 fn hostile_plans_are_answered(rt: HostRuntime) {
-    rows_are_answered(&rt, rt.alloc(), TOP, NO_SCRIPT, TOPS);
-    rows_are_answered(&rt, rt.alloc(), NAMED, NO_SCRIPT, NAMES);
+    let alloc = rt.alloc();
+    rows_are_answered(&rt, alloc, TOP, NO_SCRIPT, TOPS);
+    rows_are_answered(&rt, alloc, NAMED, NO_SCRIPT, NAMES);
 }
 
 #[test]
@@ -169,11 +170,11 @@ const WITH_ID: &str =
 
 #[test]
 fn plans_and_scripts_that_are_cut_off(rt: HostRuntime) {
-    let script = Some(FAILED_DESTROY_SCRIPT.as_bytes());
-    plan_is_whole(&rt, rt.alloc(), FAILED_DESTROY, script);
-    plan_is_whole(&rt, rt.alloc(), QUOTED, None);
-    script_is_whole(&rt, rt.alloc(), FAILED_DESTROY, FAILED_DESTROY_SCRIPT);
-    script_is_whole(&rt, rt.alloc(), ONE_CREATE, WITH_ID);
+    let (alloc, plan, script) = (rt.alloc(), FAILED_DESTROY, FAILED_DESTROY_SCRIPT);
+    plan_is_whole(&rt, alloc, plan, Some(script.as_bytes()));
+    plan_is_whole(&rt, alloc, QUOTED, None);
+    script_is_whole(&rt, alloc, plan, script);
+    script_is_whole(&rt, alloc, ONE_CREATE, WITH_ID);
 }
 
 /// An index, for each number that is the greatest, the least or a common one.

@@ -166,7 +166,7 @@ fn lanes_refuse(
     let (sink, operation) = (memory(alloc), Operation::Apply);
     let (sink, result) = apply_texts_in_lanes(rt, alloc, plan, script, lanes, operation, sink);
     let sink = kept(rt, alloc, sink);
-    assert!(rt; result == Err(wanted), "{plan} {script} in {lanes} lanes");
+    refusal_is(rt, plan, script, result, wanted);
     is_untouched(rt, plan, script, sink);
 }
 
@@ -177,10 +177,11 @@ fn refusals_in_lanes(rt: HostRuntime) {
     let no_json = Refusal::Plan(PlanError::NotJson);
     lanes_refuse(&rt, alloc, "[", "{", 0, no_json);
     let no_script = Refusal::Script(ScriptError::NotJson);
-    lanes_refuse(&rt, alloc, ONE_CREATE, "{", 65, no_script);
-    lanes_refuse(&rt, alloc, ONE_CREATE, NO_SCRIPT, 0, Refusal::Size);
-    lanes_refuse(&rt, alloc, ONE_CREATE, NO_SCRIPT, 65, Refusal::Size);
-    lanes_refuse(&rt, alloc, ONE_CREATE, NO_SCRIPT, 255, Refusal::Size);
+    let (plan, script) = (ONE_CREATE, NO_SCRIPT);
+    lanes_refuse(&rt, alloc, plan, "{", 65, no_script);
+    lanes_refuse(&rt, alloc, plan, script, 0, Refusal::Size);
+    lanes_refuse(&rt, alloc, plan, script, 65, Refusal::Size);
+    lanes_refuse(&rt, alloc, plan, script, 255, Refusal::Size);
 }
 
 /// Whatever byte is the first that the sink does not take: it has all before it and nothing more, and all events are
@@ -206,9 +207,6 @@ fn is_cut_off_in_lanes(rt: &impl Abort, alloc: Global, room: usize) {
     };
     let why = Why::Write;
     let wanted = Refusal::Fault(Fault { why, report });
-    let failures = sink.failures();
-    assert!(rt;
-        result == Err(wanted) && failures == 1,
-        "{room} bytes, {failures} failed writes"
-    );
+    holds(rt, "an end at the room", result == Err(wanted));
+    number_is(rt, "failed writes", sink.failures(), 1);
 }

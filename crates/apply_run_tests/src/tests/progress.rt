@@ -64,7 +64,7 @@ const CREATE: Parts = Parts {
 };
 
 /// Adds the part.
-fn add(rt: &impl Abort, text: &mut String, part: &str) {
+pub(super) fn add(rt: &impl Abort, text: &mut String, part: &str) {
     text.push_str(part).expect(rt, "memory");
 }
 

@@ -1,7 +1,7 @@
 //! What is refused: plans, scripts and sizes, in this order.
 
+use super::progress::add;
 use super::*;
-use std::alloc::AllocError;
 use std::fmt::Display;
 
 /// Why a script for one create is refused, and the script.
@@ -111,34 +111,34 @@ fn refuses_blanks<R: Threads + Wait + Sync + Abort>(
     name: &str,
     count: usize,
     wanted: ScriptError,
-) -> Result<(), AllocError> {
-    let blanks = vec![in alloc; b' '; count]?;
-    let bytes = Some(blanks.as_slice());
+) {
+    let blanks = vec![in alloc; b' '; count].expect(rt, "memory");
+    let bytes = Some(kept(rt, alloc, blanks).as_slice());
     let wanted = Refusal::Script(wanted);
     refuses_bytes(rt, alloc, ONE_CREATE, name, bytes, options(1, 64), wanted);
-    Ok(())
 }
 
 /// A script of more than 64 mebibytes is refused before it is read.
 #[test]
-fn sizes_and_limits_of_scripts(rt: HostRuntime) -> Result<(), Fail> {
-    refuses_blanks(&rt, rt.alloc(), "1 blank", 1, ScriptError::NotJson)?;
+fn sizes_and_limits_of_scripts(rt: HostRuntime) {
+    let alloc = rt.alloc();
+    refuses_blanks(&rt, alloc, "1 blank", 1, ScriptError::NotJson);
     let many = "67,108,865 blanks";
-    refuses_blanks(&rt, rt.alloc(), many, 67_108_865, ScriptError::TooLarge)?;
-    Ok(())
+    refuses_blanks(&rt, alloc, many, 67_108_865, ScriptError::TooLarge);
 }
 
 /// No script is read, and no size looked at, before the plan.
 #[test]
 fn refused_plans(rt: HostRuntime) {
+    let (alloc, one, nine) = (rt.alloc(), options(1, 64), options(9, 64));
     let no_plan = Refusal::Plan(PlanError::NotAPlan);
     let no_json = Refusal::Plan(PlanError::NotJson);
-    refuses(&rt, rt.alloc(), "[]", NO_SCRIPT, options(1, 64), no_plan);
+    refuses(&rt, alloc, "[]", NO_SCRIPT, one, no_plan);
     let cut_off = r#"{"format_version":"1.2","resource_changes":["#;
-    refuses(&rt, rt.alloc(), cut_off, NO_SCRIPT, options(1, 64), no_json);
-    refuses(&rt, rt.alloc(), cut_off, "{", options(9, 64), no_json);
+    refuses(&rt, alloc, cut_off, NO_SCRIPT, one, no_json);
+    refuses(&rt, alloc, cut_off, "{", nine, no_json);
     let no_script = Refusal::Script(ScriptError::NotJson);
-    refuses(&rt, rt.alloc(), ONE_CREATE, "{", options(9, 64), no_script);
+    refuses(&rt, alloc, ONE_CREATE, "{", nine, no_script);
 }
 
 /// A number of workers, a capacity, and whether they are in range.
@@ -166,20 +166,14 @@ fn sizes_of(rt: &impl Abort, workers: &str, capacity: &str) -> Options {
 fn sizes_are<R: Threads + Wait + Sync + Abort>(rt: &R, alloc: Global, line: &str) {
     let (workers, rest) = parted(rt, line, " ");
     let (capacity, wanted) = parted(rt, rest, " ");
-    let options = sizes_of(rt, workers, capacity);
-    holds(rt, line, options.in_range() == (wanted == "in"));
-    if wanted == "in" {
-        writes(
-            rt,
-            alloc,
-            line,
-            ONE_CREATE,
-            NO_SCRIPT,
-            options,
-            ONE_CREATE_STREAM,
-        );
+    let (options, is_in) = (sizes_of(rt, workers, capacity), wanted == "in");
+    let (plan, script) = (ONE_CREATE, NO_SCRIPT);
+    holds(rt, line, options.in_range() == is_in);
+    if is_in {
+        let stream = ONE_CREATE_STREAM;
+        writes(rt, alloc, line, plan, script, options, stream);
     } else {
-        refuses(rt, alloc, ONE_CREATE, NO_SCRIPT, options, Refusal::Size);
+        refuses(rt, alloc, plan, script, options, Refusal::Size);
     }
 }
 
@@ -208,52 +202,42 @@ const NO_WAIT: &str =
 /// Workers take no notice of what steps wait for, and so refuse a script that says it, before they look at their number.
 #[test]
 fn workers_refuse_waits(rt: HostRuntime) {
-    let alloc = rt.alloc();
-    let waits = Refusal::Waits;
-    refuses(&rt, alloc, TWO_CREATES, ONE_WAIT, options(1, 64), waits);
-    refuses(&rt, alloc, TWO_CREATES, ONE_WAIT, options(2, 64), waits);
-    refuses(&rt, alloc, TWO_CREATES, ONE_WAIT, options(9, 64), waits);
+    let (alloc, one, waits) = (rt.alloc(), options(1, 64), Refusal::Waits);
+    let (plan, script) = (TWO_CREATES, ONE_WAIT);
+    refuses(&rt, alloc, plan, script, one, waits);
+    refuses(&rt, alloc, plan, script, options(2, 64), waits);
+    refuses(&rt, alloc, plan, script, options(9, 64), waits);
     let never = Refusal::Script(ScriptError::NeverBegins(0));
-    refuses(
-        &rt,
-        alloc,
-        TWO_CREATES,
-        WAITS_FOR_ITSELF,
-        options(1, 64),
-        never,
-    );
-    let wanted = ONE_CREATE_STREAM;
-    writes(
-        &rt,
-        alloc,
-        "no wait",
-        ONE_CREATE,
-        NO_WAIT,
-        options(1, 64),
-        wanted,
-    );
+    refuses(&rt, alloc, plan, WAITS_FOR_ITSELF, one, never);
+    let (plan, wanted) = (ONE_CREATE, ONE_CREATE_STREAM);
+    writes(&rt, alloc, "no wait", plan, NO_WAIT, one, wanted);
     let text = "the script says what steps wait for, which takes --parallelism";
     shows(&rt, alloc, &waits, text);
 }
 
 /// Adds the change of that number, behind a comma where it is not the first.
-fn push_change(alloc: Global, text: &mut String, number: u32) -> Result<(), AllocError> {
+fn push_change(rt: &impl Abort, alloc: Global, text: &mut String, number: u32) {
     if number > 0 {
-        text.push_str(",")?;
+        add(rt, text, ",");
     }
-    let digits = number.to_string(alloc)?;
-    let change = CHANGE.replace(alloc, "NUMBER", digits.as_str())?;
-    text.push_str(change.as_str())
+    let digits = kept(rt, alloc, number.to_string(alloc).expect(rt, "memory"));
+    let change = CHANGE.replace(alloc, "NUMBER", digits.as_str());
+    add(
+        rt,
+        text,
+        kept(rt, alloc, change.expect(rt, "memory")).as_str(),
+    );
 }
 
 /// A plan of so many changes.
-fn many_changes(alloc: Global, count: u32) -> Result<String, AllocError> {
-    let mut text = String::from_str(alloc, r#"{"format_version":"1.2","resource_changes":["#)?;
+fn many_changes(rt: &impl Abort, alloc: Global, count: u32) -> &'static str {
+    let start = r#"{"format_version":"1.2","resource_changes":["#;
+    let mut text = String::from_str(alloc, start).expect(rt, "memory");
     for number in 0..count {
-        push_change(alloc, &mut text, number)?;
+        push_change(rt, alloc, &mut text, number);
     }
-    text.push_str("]}")?;
-    Ok(text)
+    add(rt, &mut text, "]}");
+    kept(rt, alloc, text).as_str()
 }
 
 /// The change of that number.
@@ -261,29 +245,28 @@ const CHANGE: &str =
     r#"{"address":"a.aNUMBER","mode":"managed","type":"a","name":"aNUMBER","change":{"actions":["create"]}}"#;
 
 #[test]
-fn sizes_and_limits_of_plans(rt: HostRuntime) -> Result<(), Fail> {
-    let text = many_changes(rt.alloc(), 10_001)?;
+fn sizes_and_limits_of_plans(rt: HostRuntime) {
+    let (alloc, options) = (rt.alloc(), options(9, 64));
+    let plan = many_changes(&rt, alloc, 10_001);
     let too_many = Refusal::Plan(PlanError::TooMany);
-    refuses(
-        &rt,
-        rt.alloc(),
-        text.as_str(),
-        NO_SCRIPT,
-        options(9, 64),
-        too_many,
-    );
-    Ok(())
+    refuses(&rt, alloc, plan, NO_SCRIPT, options, too_many);
 }
 
 /// As many changes as a plan may have, all of them updates, by eight workers over a bus with room for one event.
 #[test]
-fn the_most_changes_are_applied(rt: HostRuntime) -> Result<(), Fail> {
-    let creates = many_changes(rt.alloc(), 10_000)?;
-    let updates = creates.replace(rt.alloc(), r#""create""#, r#""update""#)?;
-    let (plan, registry) = (updates.as_bytes(), no_hooks(&rt, rt.alloc()));
-    let (sink, result) = apply_into_memory(&rt, rt.alloc(), plan, None, registry, options(8, 1));
+fn the_most_changes_are_applied(rt: HostRuntime) {
+    let alloc = rt.alloc();
+    let plan = many_updates(&rt, alloc).as_bytes();
+    let (registry, options) = (no_hooks(&rt, alloc), options(8, 1));
+    let (sink, result) = apply_into_memory(&rt, alloc, plan, None, registry, options);
     many_are_told(&rt, sink, result);
-    Ok(())
+}
+
+/// A plan of 10,000 updates.
+fn many_updates(rt: &impl Abort, alloc: Global) -> &'static str {
+    let creates = many_changes(rt, alloc, 10_000);
+    let updates = creates.replace(alloc, r#""create""#, r#""update""#);
+    kept(rt, alloc, updates.expect(rt, "memory")).as_str()
 }
 
 /// Fails where not 10,000 updates were told: two lines of each, the version and the summary.
@@ -296,7 +279,7 @@ fn many_are_told(rt: &impl Abort, sink: &MemorySink, end: Result<Report, Refusal
 
 /// Fails where the error has another text.
 pub(super) fn shows<E: Display>(rt: &impl Abort, alloc: Global, error: &E, wanted: &str) {
-    let text = error.to_string(alloc).expect(rt, "memory");
+    let text = kept(rt, alloc, error.to_string(alloc).expect(rt, "memory"));
     text_is(rt, "error", text.as_str(), wanted);
 }
 
@@ -313,36 +296,19 @@ fn fault(why: Why) -> Fault {
 
 #[test]
 fn errors_have_their_texts(rt: HostRuntime) {
-    shows(&rt, rt.alloc(), &Why::Bus, "the event bus failed");
-    shows(
-        &rt,
-        rt.alloc(),
-        &Why::Workers,
-        "a worker could not be started",
-    );
-    shows(&rt, rt.alloc(), &Why::Memory, "out of memory");
-    shows(
-        &rt,
-        rt.alloc(),
-        &Why::Write,
-        "the output could not be written",
-    );
-    shows(&rt, rt.alloc(), &fault(Why::Bus), "the event bus failed");
-    shows(
-        &rt,
-        rt.alloc(),
-        &Refusal::Size,
-        "the sizes are out of range",
-    );
+    let alloc = rt.alloc();
+    let (no_bus, no_workers) = ("the event bus failed", "a worker could not be started");
+    shows(&rt, alloc, &Why::Bus, no_bus);
+    shows(&rt, alloc, &Why::Workers, no_workers);
+    shows(&rt, alloc, &Why::Memory, "out of memory");
+    shows(&rt, alloc, &Why::Write, "the output could not be written");
+    shows(&rt, alloc, &fault(Why::Bus), no_bus);
+    shows(&rt, alloc, &Refusal::Size, "the sizes are out of range");
     let no_json = Refusal::Plan(PlanError::NotJson);
-    shows(&rt, rt.alloc(), &no_json, "the plan is not JSON");
+    shows(&rt, alloc, &no_json, "the plan is not JSON");
     let unknown = Refusal::Script(ScriptError::UnknownChange(3));
-    shows(
-        &rt,
-        rt.alloc(),
-        &unknown,
-        "script entry 3 names an unknown change",
-    );
+    let text = "script entry 3 names an unknown change";
+    shows(&rt, alloc, &unknown, text);
     let no_worker = Refusal::Fault(fault(Why::Workers));
-    shows(&rt, rt.alloc(), &no_worker, "a worker could not be started");
+    shows(&rt, alloc, &no_worker, no_workers);
 }

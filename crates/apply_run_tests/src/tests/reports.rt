@@ -47,16 +47,12 @@ const EMPTY_STREAM: &str =
 /// Of nothing, of a create, and of a replacement whose second step fails.
 #[test]
 fn reports_of_whole_runs(rt: HostRuntime) {
+    let alloc = rt.alloc();
     let nothing = whole(counts(0, 0, 0, 0), 0, EMPTY_STREAM.len());
-    run_is_told(&rt, rt.alloc(), EMPTY, NO_SCRIPT, nothing);
+    run_is_told(&rt, alloc, EMPTY, NO_SCRIPT, nothing);
     let create = whole(counts(1, 0, 0, 0), 2, ONE_CREATE_STREAM.len());
-    run_is_told(&rt, rt.alloc(), ONE_CREATE, NO_SCRIPT, create);
+    run_is_told(&rt, alloc, ONE_CREATE, NO_SCRIPT, create);
     let failed = whole(counts(1, 0, 0, 1), 5, FAILED_DESTROY_STREAM.len());
-    run_is_told(
-        &rt,
-        rt.alloc(),
-        FAILED_DESTROY,
-        FAILED_DESTROY_SCRIPT,
-        failed,
-    );
+    let (plan, script) = (FAILED_DESTROY, FAILED_DESTROY_SCRIPT);
+    run_is_told(&rt, alloc, plan, script, failed);
 }

@@ -22,6 +22,7 @@ mod update_in_place;
 
 use super::lanes::written_in_lanes;
 use super::lines::around_moment;
+use super::progress::add;
 use super::*;
 
 /// A plan, the provider's answers as a script, what the apply was for, and what Terraform printed.
@@ -37,10 +38,10 @@ fn without_moments(rt: &impl Abort, alloc: Global, text: &str) -> &'static str {
     let mut bare = String::new(alloc);
     for line in text.lines() {
         let (before, behind) = around_moment(line);
-        bare.push_str(before).expect(rt, "memory");
-        bare.push_str("\"").expect(rt, "memory");
-        bare.push_str(behind).expect(rt, "memory");
-        bare.push_str("\n").expect(rt, "memory");
+        add(rt, &mut bare, before);
+        add(rt, &mut bare, "\"");
+        add(rt, &mut bare, behind);
+        add(rt, &mut bare, "\n");
     }
     kept(rt, alloc, bare).as_str()
 }

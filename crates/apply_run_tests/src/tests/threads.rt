@@ -130,14 +130,16 @@ fn others_come<R: Threads + Wait + Sync + Abort>(rt: &R, alloc: Global, name: &s
 /// No change is assigned to a worker beforehand: while one worker is held, the other applies the rest.
 #[test]
 fn fixed_assignment(rt: HostRuntime) {
-    others_come(&rt, rt.alloc(), "change 0", 0);
-    others_come(&rt, rt.alloc(), "change 1", 1);
+    let alloc = rt.alloc();
+    others_come(&rt, alloc, "change 0", 0);
+    others_come(&rt, alloc, "change 1", 1);
 }
 
 /// Both steps of the first change, and then the only one of the second.
 #[test]
 fn a_gate_is_passed_before_each_step(rt: HostRuntime) {
-    let passes = passes_of(&rt, rt.alloc(), no_hooks(&rt, rt.alloc()));
+    let alloc = rt.alloc();
+    let passes = passes_of(&rt, alloc, no_hooks(&rt, alloc));
     number_is(&rt, "passes", passes, 0x123);
 }
 
@@ -201,11 +203,12 @@ fn lines_while_workers_run(rt: HostRuntime) {
         passed: AtomicU64::new(0),
         missed: AtomicU64::new(0),
     };
+    let alloc = rt.alloc();
     let sink = Telling {
-        inner: memory(rt.alloc()),
+        inner: memory(alloc),
         completed: &completed,
     };
-    let counted = counted(&rt, rt.alloc(), REPLACEMENT, options(2, 1), sink, &gate);
+    let counted = counted(&rt, alloc, REPLACEMENT, options(2, 1), sink, &gate);
     word_is(&rt, "missed", &gate.missed, 0);
     word_is(&rt, "passed", &gate.passed, 1);
     counts_are(&rt, counted, counts(1, 0, 1, 0));
@@ -295,8 +298,9 @@ fn lines_while_workers_run_into_a_slow_sink(rt: HostRuntime) {
 /// start of the third finds none.
 #[test]
 fn as_much_waits_as_there_is_room(rt: HostRuntime) {
-    so_many_begin(&rt, rt.alloc(), 2, 2);
-    so_many_begin(&rt, rt.alloc(), 3, 3);
+    let alloc = rt.alloc();
+    so_many_begin(&rt, alloc, 2, 2);
+    so_many_begin(&rt, alloc, 3, 3);
 }
 
 /// The second takes 20 seconds and the third 5.
@@ -317,15 +321,9 @@ const THREE_STREAM: &str =
 
 #[test]
 fn eight_workers_capacity_one(rt: HostRuntime) {
-    let (sink, report) = apply_plan(
-        &rt,
-        rt.alloc(),
-        THREE_CREATES,
-        THREE_SPANS,
-        options(8, 1),
-        memory(rt.alloc()),
-        &NoGate,
-    );
+    let (alloc, options) = (rt.alloc(), options(8, 1));
+    let (plan, script, sink) = (THREE_CREATES, THREE_SPANS, memory(alloc));
+    let (sink, report) = apply_plan(&rt, alloc, plan, script, options, sink, &NoGate);
     let text = text_of(&rt, sink);
     lines_are_of_changes(&rt, text, THREE_STREAM);
     moments_never_go_back(&rt, text);
