@@ -85,7 +85,7 @@ impl Checker {
         answer
     }
 
-    /// Does what `text` does, with a scratch of its own.
+    /// Does what `text` does, with a scratch that stands beside the checker.
     fn text_with(
         &mut self,
         alloc: Global,
