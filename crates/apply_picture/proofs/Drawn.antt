@@ -4,8 +4,8 @@ use Rattle.std.specs.Prelude.{IfSome, OnOk}
 use Rattle.apply_view.specs.Lines.{IsToldOf}
 use Rattle.apply_view.specs.Telling.{Telling}
 use Rattle.apply_view.specs.declared.told.view_fault.ViewFault.{ViewFault}
-use Rattle.apply_picture.specs.Lines.{TextWritten}
 use Rattle.apply_picture.specs.Markup.{SvgWritten}
+use Rattle.apply_picture.specs.Texts.{TextWritten}
 use Rattle.apply_picture.specs.Viewed.{IsDrawn, IsDrawnOf, IsOfStream, PictureWritten, is_on}
 use Rattle.apply_picture.specs.declared.command.colour.Colour.{Colour}
 use Rattle.apply_picture.specs.declared.command.form.Form.{Form}

@@ -1,30 +1,34 @@
 -- What a page begins with.
-use Rattle.std.proofs.Common.{◌≡◌, ◌∙◌, ℕ, ◌+◌, ◌-◌, ◌<◌, ◌≤◌, ◌∷◌, [], ◌++◌, List, Option, Some, ap, subst, sym, get_or, length, take, append_assoc, arith}
+use Rattle.std.proofs.Common.{◌≡◌, ◌∙◌, ℕ, ◌+◌, ◌-◌, ◌<◌, ◌≤◌, ◌∷◌, [], ◌++◌, List, Option, None, Some, ap, subst, get_or, length, take, append_assoc, arith}
 use Rattle.std.specs.Prelude.{map}
 use Rattle.std.specs.List.{AllZip}
 use Rattle.std.proofs.lemmas.List.{map-append, take_all}
 use Rattle.apply_picture.specs.Columns.{columns_of}
-use Rattle.apply_picture.specs.Lines.{HasMore, IsHeadedBy, IsTextLine, IsTrimmed}
+use Rattle.apply_picture.specs.Fitting.{without_blanks}
+use Rattle.apply_picture.specs.LeftOut.{IsLeftOutAs}
+use Rattle.apply_picture.specs.Lines.{HasMore, line_with, text_line}
+use Rattle.apply_picture.specs.Texts.{IsHeadedBy}
 use Rattle.apply_picture.specs.declared.text.line.Line.{Line}
 use Rattle.apply_picture.specs.declared.text.paint.Paint.{Paint}
 use Rattle.apply_picture.specs.declared.text.paint.Paint.TheVariants as paint
 use Rattle.apply_picture.specs.declared.words.shown_text.ShownText.{ShownText}
-use Rattle.apply_picture.proofs.Growing.{one_line, text_line_then}
+use Rattle.apply_picture.proofs.Blanks.{twice}
+use Rattle.apply_picture.proofs.Growing.{one_line}
 use Rattle.apply_picture.proofs.Sent.{zip_more}
 
 -- the line shows the text
 abbrev pub Shows : (width indent : ℕ) → Option Paint → ShownText → Line → Type 0
-Shows width indent paint text line = IsTextLine width indent paint text.characters.items line.pieces.items
+Shows width indent paint text line = line.pieces.items ≡ text_line width indent paint text.characters.items
 
 -- where all stands on one line, that line is all
 pub wrapped_one : (text given line : List ℕ) (shown : ShownText) (limit : ℕ) (before first after : List ShownText) → given ≡ text
-    → (columns_of given ≤ limit → IsTrimmed given line) → shown.characters.items ≡ line → before ≡ [] → first ≡ before ++ shown ∷ []
+    → (columns_of given ≤ limit → line ≡ without_blanks given) → shown.characters.items ≡ line → before ≡ [] → first ≡ before ++ shown ∷ []
     → (columns_of text ≤ limit → after ≡ first) → columns_of text ≤ limit
-    → (x : ShownText) × (after ≡ x ∷ []) × IsTrimmed text x.characters.items
+    → (x : ShownText) × (after ≡ x ∷ []) × (x.characters.items ≡ without_blanks text)
 wrapped_one text given line shown limit before first after is trims copied none pushed stays fits = (
   shown,
   stays fits ∙ pushed ∙ ap (λ xs. xs ++ shown ∷ []) none,
-  subst (IsTrimmed text) (sym copied) (subst (λ t. columns_of t ≤ limit → IsTrimmed t line) is trims fits),
+  copied ∙ subst (λ t. columns_of t ≤ limit → line ≡ without_blanks t) is trims fits,
 )
 
 -- a line more of a text
@@ -41,30 +45,49 @@ shown_more width indent paint items i item old older newer news line below is ha
 -- the only line of a text
 pub shown_line : (width indent limit : ℕ) (paint : Option Paint) (text : List ℕ) (lines items : List ShownText) (i : ℕ) (old new news : List Line)
     → items ≡ lines → length items ≤ i
-    → (columns_of text ≤ limit → (x : ShownText) × (lines ≡ x ∷ []) × IsTrimmed text x.characters.items) → limit ≡ width - indent
+    → (columns_of text ≤ limit → (x : ShownText) × (lines ≡ x ∷ []) × (x.characters.items ≡ without_blanks text)) → limit ≡ width - indent
     → new ≡ old ++ news → AllZip (Shows width indent paint) (take i items) news → columns_of text ≤ width - indent
-    → (line : Line) × (new ≡ old ++ line ∷ []) × IsTextLine width indent paint text line.pieces.items
+    → (line : Line) × (new ≡ old ++ line ∷ []) × (line.pieces.items ≡ text_line width indent paint text)
 shown_line width indent limit paint text lines items i old new news are ends one is had all fits =
     let room : columns_of text ≤ limit = omega (arith, fits, is) in
     let only = one room in
     let all_of = subst (λ (xs : List ShownText). AllZip (Shows width indent paint) xs news) (take_all i items ends ∙ are) all in
-    let shown = one_line (Shows width indent paint) lines only.0 news only.1 all_of in
-    (shown.0, had ∙ ap (λ ls. old ++ ls) shown.1, text_line_then width indent paint text only.0.characters.items shown.0.pieces.items only.2 shown.2)
+    let shown = one_line (Shows width indent paint) lines only.0 news only.1 all_of in (
+      shown.0,
+      had ∙ ap (λ ls. old ++ ls) shown.1,
+      shown.2 ∙ ap (λ cs. line_with width indent paint (without_blanks cs)) only.2 ∙ ap (line_with width indent paint) (twice text),
+    )
 
 -- ---- what was done
 
 pub headed_first : (width : ℕ) (heading given : List ℕ) (old new : List Line) → given ≡ heading → old ≡ []
-    → (columns_of given ≤ width - 0 → (line : Line) × (new ≡ old ++ line ∷ []) × IsTextLine width 0 (Some paint.Bold) given line.pieces.items)
+    → (columns_of given ≤ width - 0 → (line : Line) × (new ≡ old ++ line ∷ []) × (line.pieces.items ≡ text_line width 0 (Some paint.Bold) given))
     → IsHeadedBy width heading (map (λ (line : Line). line.pieces.items) new)
 headed_first width heading given old new is none told fits =
     let same : columns_of given ≡ columns_of heading = ap columns_of is in
     let room : columns_of given ≤ width - 0 = omega (arith, fits, same) in
     let first = told room in (
-      first.0.pieces.items,
       [],
-      subst (λ (t : List ℕ). IsTextLine width 0 (Some paint.Bold) t first.0.pieces.items) is first.2,
-      ap (map (λ (line : Line). line.pieces.items)) (first.1 ∙ ap (λ ls. ls ++ first.0 ∷ []) none),
+      ap (map (λ (line : Line). line.pieces.items)) (first.1 ∙ ap (λ ls. ls ++ first.0 ∷ []) none)
+          ∙ ap (λ ps. ps ∷ []) (first.2 ∙ ap (text_line width 0 (Some paint.Bold)) is),
     )
+
+-- ---- what has no row
+
+pub left_out_line : (width indent told : ℕ) (said : Option (List ℕ)) (text : List ℕ) (old new : List Line) → Some text ≡ said → told ≡ indent → old ≡ []
+    → (columns_of text ≤ width - told → (line : Line) × (new ≡ old ++ line ∷ []) × (line.pieces.items ≡ text_line width told (Some paint.Dim) text))
+    → IsLeftOutAs width indent said (map (λ (line : Line). line.pieces.items) new)
+left_out_line width indent told said text old new is same none line =
+    subst (λ s. IsLeftOutAs width indent s (map (λ (line : Line). line.pieces.items) new)) is
+    (subst (λ n. columns_of text ≤ width - n → map (λ (line : Line). line.pieces.items) new ≡ text_line width n (Some paint.Dim) text ∷ []) same
+    (λ fits.
+    let only = line fits in
+    ap (map (λ (line : Line). line.pieces.items)) (only.1 ∙ ap (λ ls. ls ++ only.0 ∷ []) none) ∙ ap (λ ps. ps ∷ []) only.2))
+
+pub left_out_none : (width indent : ℕ) (said : Option (List ℕ)) (lines : List Line) → None ≡ said → lines ≡ []
+    → IsLeftOutAs width indent said (map (λ (line : Line). line.pieces.items) lines)
+left_out_none width indent said lines is none =
+    subst (λ s. IsLeftOutAs width indent s (map (λ (line : Line). line.pieces.items) lines)) is (ap (map (λ (line : Line). line.pieces.items)) none)
 
 pub pieces_more : (before after : List Line) → HasMore before after
     → HasMore (map (λ (line : Line). line.pieces.items) before) (map (λ (line : Line). line.pieces.items) after)

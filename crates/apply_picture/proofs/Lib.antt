@@ -1,7 +1,12 @@
 pub mod Pieces
 pub mod Sent
 pub mod Escapes
+pub mod Fits
+pub mod Options
+pub mod Parsed
+pub mod Blanks
 pub mod Growing
+pub mod Rows
 pub mod Drawn
 pub mod Saying
 pub mod Heads

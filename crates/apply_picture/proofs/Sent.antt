@@ -1,17 +1,21 @@
 -- What was written, with more of it.
-use Rattle.std.proofs.Common.{◌≡◌, ◌∙◌, ℕ, ◌+◌, ◌<◌, ◌∷◌, [], ◌++◌, List, Bool, Option, None, Some, ap, subst, sym, get_or, length, take, append-nil, append_assoc, codes, arith}
+use Rattle.std.proofs.Common.{◌≡◌, ◌∙◌, ℕ, ◌+◌, ◌<◌, ◌≤◌, ◌∷◌, [], ◌++◌, List, Bool, Option, None, Some, ap, subst, sym, get_or, length, take, append-nil, append_assoc, codes, arith}
 use Rattle.std.specs.Prelude.{All, IfSome, map}
 use Rattle.std.specs.List.{AllZip, flat_map, slice_get}
 use Rattle.std.specs.Io.KnownBytes.{Appends, Keeps}
 use Rattle.std.proofs.KnownBytes.{Appends-kept, Appends-nil, Appends-trans}
 use Rattle.std.proofs.lemmas.Grind.{flat_map-append}
-use Rattle.std.proofs.lemmas.List.{map-append, take_more}
+use Rattle.std.proofs.lemmas.List.{map-append, map_more, take_all, take_more}
 use Rattle.std.proofs.lemmas.List.Elements.{All-append}
 use Rattle.apply_view.specs.Steps.{ToldStep}
+use Rattle.apply_view.specs.declared.rows.choosing.Rows.{Rows}
 use Rattle.apply_picture.specs.Heading.{heading_words}
-use Rattle.apply_picture.specs.Lines.{HeadLinesWritten, IsHeadedBy, IsLine, IsRowAt, LinesWritten, RowsWritten, TextWritten, heading_characters, line_bytes, text_bytes}
+use Rattle.apply_picture.specs.LeftOut.{IsLeftOutAs, left_out_said}
+use Rattle.apply_picture.specs.Lines.{IsLine, LinesWritten, line_bytes, text_bytes}
 use Rattle.apply_picture.specs.Markup.{GroupWritten, GroupsWritten, HeadWritten, IsGroupAt, IsGroupOf, MarkupWritten, SvgWritten, TitleWritten, escaped, group_bytes, heading_bytes, part_bytes, title_bytes}
+use Rattle.apply_picture.specs.Rows.{AreTicks, Layout, layout_of, row_at, rows_of}
 use Rattle.apply_picture.specs.Shown.{shown_characters}
+use Rattle.apply_picture.specs.Texts.{HeadLinesWritten, IsHeadedBy, LeftOutWritten, RowsWritten, TextWritten, heading_characters}
 use Rattle.apply_picture.specs.declared.picture.Picture.{Picture}
 use Rattle.apply_picture.specs.declared.svg.part.Part.{Part}
 use Rattle.apply_picture.specs.declared.text.line.Line.{Line}
@@ -60,25 +64,33 @@ zip_more R xs i d ys y below all one =
 
 -- ---- lines
 
-pub no_rows : (width : ℕ) (colour : Bool) (steps : List ToldStep) (a : Option (List ℕ)) → RowsWritten width colour steps [] a a
-no_rows width colour steps a = record { rows = []; each = tt; fine = λ k d below. absurd (omega (arith, below)); written = Appends-nil a }
+pub no_rows : (width : ℕ) (colour : Bool) (picture : Picture) (ticks : List ℕ) (a : Option (List ℕ)) → RowsWritten width colour picture ticks [] a a
+no_rows width colour picture ticks a = record { fine = λ k d below. absurd (omega (arith, below)); written = Appends-nil a }
 
 -- what is so of each of some lines and of one more
 all-more : (P : List Piece → Type 0) (lines : List (List Piece)) (line : List Piece) → All P lines → P line → All P (lines ++ line ∷ [])
 all-more P lines line all one = All-append P lines (line ∷ []) all (λ k d below. let zero : k ≡ 0 = omega (arith, below) in rw zero one)
 
-pub row_more : (width : ℕ) (colour : Bool) (steps : List ToldStep) (places : List ℕ) (i : ℕ) (a b c : Option (List ℕ)) (row : List Piece)
-    → i < length places → RowsWritten width colour steps (take i places) a b → IsRowAt width steps (get_or places i 0) row
-    → IsLine width row → Appends b c (line_bytes colour row) → RowsWritten width colour steps (take (i + 1) places) a c
-row_more width colour steps places i a b c row below before of_step fine more =
+pub row_more : (width : ℕ) (colour : Bool) (picture : Picture) (ticks places : List ℕ) (i : ℕ) (a b c : Option (List ℕ)) (row : List Piece)
+    → i < length places → RowsWritten width colour picture ticks (take i places) a b → row ≡ row_at width picture ticks (get_or places i 0)
+    → IsLine width row → Appends b c (line_bytes colour row) → RowsWritten width colour picture ticks (take (i + 1) places) a c
+row_more width colour picture ticks places i a b c row below before is fine more =
+    let rows = map (row_at width picture ticks) (take i places) in
+    let grown : map (row_at width picture ticks) (take (i + 1) places) ≡ rows ++ row ∷ [] =
+    map_more (row_at width picture ticks) places i 0 below ∙ ap (λ r. rows ++ r ∷ []) (sym is) in
     let one : text_bytes colour (row ∷ []) ≡ line_bytes colour row = append-nil (line_bytes colour row) in
+    let bytes : text_bytes colour (map (row_at width picture ticks) (take (i + 1) places)) ≡ text_bytes colour rows ++ line_bytes colour row =
+    ap (text_bytes colour) grown ∙ flat_map-append (line_bytes colour) rows (row ∷ []) ∙ ap (λ bs. text_bytes colour rows ++ bs) one in
     record {
-      rows = before.rows ++ row ∷ [];
-      each = zip_more (IsRowAt width steps) places i 0 before.rows row below before.each of_step;
-      fine = all-more (IsLine width) before.rows row before.fine fine;
-      written = subst (Appends a c) (sym (flat_map-append (line_bytes colour) before.rows (row ∷ []) ∙ ap (λ bs. text_bytes colour before.rows ++ bs) one))
-          (Appends-trans a b c _ _ before.written more);
+      fine = subst (All (IsLine width)) (sym grown) (all-more (IsLine width) rows row before.fine fine);
+      written = subst (Appends a c) (sym bytes) (Appends-trans a b c _ _ before.written more);
     }
+
+-- all of them
+pub rows_all : (width : ℕ) (colour : Bool) (picture : Picture) (ticks places items : List ℕ) (i : ℕ) (a b : Option (List ℕ)) → items ≡ places
+    → length items ≤ i → RowsWritten width colour picture ticks (take i items) a b → RowsWritten width colour picture ticks places a b
+rows_all width colour picture ticks places items i a b are ends rows =
+    subst (λ ps. RowsWritten width colour picture ticks ps a b) (take_all i items ends ∙ are) rows
 
 -- lines of a page of that style
 pub page_written : (style : Style) (a b : Option (List ℕ)) (lines : List (List Piece)) (had : Style) → had ≡ style → All (IsLine had.width) lines
@@ -97,26 +109,50 @@ head_page_written style picture a b lines had is fine sent headed =
     let page = page_written style a b lines had is fine sent in
     record { lines = lines; headed = headed; fine = page.fine; written = page.written }
 
--- a head, the rows, and a tail
-pub text_written : (width : ℕ) (colour : Bool) (picture : Picture) (a b c d e : Option (List ℕ)) → HeadLinesWritten width colour picture a b
-    → RowsWritten width colour picture.told.now.steps picture.rows.places.items b c → LinesWritten width colour c d → Keeps d e
-    → TextWritten width colour picture a e
-text_written width colour picture a b c d e head rows tail kept = record {
-  head = head.lines;
-  rows = rows.rows;
-  tail = tail.lines;
-  headed = head.headed;
-  each = rows.each;
-  fine = All-append (IsLine width) (head.lines ++ rows.rows) tail.lines (All-append (IsLine width) head.lines rows.rows head.fine rows.fine) tail.fine;
-  written = subst (Appends a e)
-      (sym (flat_map-append (line_bytes colour) (head.lines ++ rows.rows) tail.lines
-      ∙ ap (λ bs. bs ++ text_bytes colour tail.lines) (flat_map-append (line_bytes colour) head.lines rows.rows)))
-      (Appends-kept a d e _ (Appends-trans a c d _ _ (Appends-trans a b c _ _ head.written rows.written) tail.written) kept);
-}
+pub left_out_written : (style : Style) (indent : ℕ) (rows : Rows) (a b : Option (List ℕ)) (lines : List (List Piece)) (had : Style) → had ≡ style
+    → All (IsLine had.width) lines → Appends a b (text_bytes had.has_colour lines) → IsLeftOutAs had.width indent (left_out_said rows) lines
+    → LeftOutWritten style.width style.has_colour indent rows a b
+unfolding page_written
+left_out_written style indent rows a b lines had is fine sent told =
+    let page = page_written style a b lines had is fine sent in
+    record {
+      lines = lines;
+      is = subst (λ (s : Style). IsLeftOutAs s.width indent (left_out_said rows) lines) is told;
+      fine = page.fine;
+      written = page.written;
+    }
+
+-- a head, the rows, what has none, and a tail
+pub text_written : (width : ℕ) (colour : Bool) (layout : Layout) (picture : Picture) (ticks : List ℕ) (a b c d e f : Option (List ℕ))
+    → layout ≡ layout_of width picture → AreTicks (layout_of width picture) ticks → HeadLinesWritten width colour picture a b
+    → RowsWritten width colour picture ticks picture.rows.places.items b c → LeftOutWritten width colour (layout.action + 1) picture.rows c d
+    → LinesWritten width colour d e → Keeps e f → TextWritten width colour picture a f
+text_written width colour layout picture ticks a b c d e f same are_ticks head written left tail kept =
+    let rows = rows_of width picture ticks in
+    let bytes : List (List Piece) → List ℕ = text_bytes colour in
+    let joined : bytes (head.lines ++ rows ++ left.lines ++ tail.lines) ≡ bytes head.lines ++ bytes rows ++ bytes left.lines ++ bytes tail.lines =
+    flat_map-append (line_bytes colour) (head.lines ++ rows ++ left.lines) tail.lines
+    ∙ ap (λ bs. bs ++ bytes tail.lines) (flat_map-append (line_bytes colour) (head.lines ++ rows) left.lines
+    ∙ ap (λ bs. bs ++ bytes left.lines) (flat_map-append (line_bytes colour) head.lines rows)) in
+    record {
+      head = head.lines;
+      ticks = ticks;
+      left_out = left.lines;
+      tail = tail.lines;
+      headed = head.headed;
+      are_ticks = are_ticks;
+      is_left_out = subst (λ (l : Layout). IsLeftOutAs width (l.action + 1) (left_out_said picture.rows) left.lines) same left.is;
+      fine = All-append (IsLine width) (head.lines ++ rows ++ left.lines) tail.lines (All-append (IsLine width) (head.lines ++ rows) left.lines
+          (All-append (IsLine width) head.lines rows head.fine written.fine) left.fine) tail.fine;
+      written = subst (Appends a f) (sym joined)
+          (Appends-kept a e f _ (Appends-trans a d e _ _ (Appends-trans a c d _ _ (Appends-trans a b c _ _ head.written written.written) left.written)
+          tail.written) kept);
+    }
 
 pub as_lines : (width : ℕ) (colour : Bool) (picture : Picture) (a b : Option (List ℕ)) → TextWritten width colour picture a b
     → LinesWritten width colour a b
-as_lines width colour picture a b text = record { lines = text.head ++ text.rows ++ text.tail; fine = text.fine; written = text.written }
+as_lines width colour picture a b text =
+    record { lines = text.head ++ rows_of width picture text.ticks ++ text.left_out ++ text.tail; fine = text.fine; written = text.written }
 
 -- ---- markup
 

@@ -10,8 +10,10 @@ use Rattle.apply_view.specs.Lines.{IsToldOf}
 use Rattle.apply_view.specs.Numbers.{IsNumbersOf}
 use Rattle.apply_view.specs.Rows.{AreRowsOf}
 use Rattle.apply_view.specs.Telling.{Telling, told_of}
-use Rattle.apply_picture.specs.Lines.{LinesWritten, TextWritten}
+use Rattle.apply_picture.specs.CommandLine.{HaveSaid}
+use Rattle.apply_picture.specs.Lines.{LinesWritten}
 use Rattle.apply_picture.specs.Markup.{SomeSvgWritten, SvgWritten}
+use Rattle.apply_picture.specs.Texts.{TextWritten}
 use Rattle.apply_picture.specs.declared.command.colour.Colour.{Colour}
 use Rattle.apply_picture.specs.declared.command.colour.Colour.TheVariants as colour
 use Rattle.apply_picture.specs.declared.command.followed.Followed.{Followed}
@@ -82,11 +84,12 @@ abbrev pub IsStatusOf : Result (Unit {0}) PictureFault → ℕ → Type 0
 IsStatusOf (Ok done) status = status ≡ 0
 IsStatusOf (Err fault) status = (status ≡ 3) ⊎ (status ≡ fault_status_of fault)
 
--- A stream was viewed: that of the input where no file is named, else that of a file. What such a file has to give, `remaining`
--- says. Where the input was not drawn, it was read to its end: `left` is what it has left.
-pub record WasViewed {File : Type 0} (remaining : File → Option (List ℕ)) (input left : Option (List ℕ)) (is_wanted : Bool)
+-- A stream was viewed as the words say: that of the input where they name no file, else that of a file. What such a file has to
+-- give, `remaining` says. Where the input was not drawn, it was read to its end: `left` is what it has left.
+pub record WasViewed {File : Type 0} (remaining : File → Option (List ℕ)) (words : List (List ℕ)) (input left : Option (List ℕ)) (is_wanted : Bool)
     (before after : Option (List ℕ)) (followed : Followed) (answer : Result (Unit {0}) PictureFault) : Type 0 where
   pub settings : Settings
+  pub said : HaveSaid words settings
   pub bytes : Option (List ℕ)
   pub given : IsGivenBy remaining input settings.file bytes
   pub drawn : WasDrawn settings.form is_wanted before after answer

@@ -1,7 +1,8 @@
 //! What a picture shows.
 
-ghost use Rattle.std.specs.Prelude.{◌≡◌, IfOk};
-ghost use Rattle.apply_view.specs.Intervals.{span_of};
+ghost use Rattle.std.specs.Prelude.{◌≡◌, IfOk, get_or};
+ghost use Rattle.std.specs.Int.{int_gap};
+ghost use Rattle.apply_view.specs.Intervals.{span_of, until_of};
 ghost use Rattle.apply_view.specs.Numbers.{IsNumbersOf};
 ghost use Rattle.apply_view.specs.Rows.{AreRowsOf};
 ghost use Rattle.apply_picture.specs.Viewed.{moments_of};
@@ -48,17 +49,23 @@ impl<'a> Picture<'a> {
     }
 
     /// How long after the first moment a step begins, in microseconds.
-    pub fn begin_of(&self, step: &Step) -> u64 {
+    pub fn begin_of(&self, step: &Step) -> u64
+        ensures { result ≡ int_gap self.now.moments.first step.now.begin }
+    {
         self.moments.offset(step.begin())
     }
 
     /// How long after the first moment a step ends, in microseconds; the last moment where no end is told.
-    pub fn until_of(&self, step: &Step) -> u64 {
+    pub fn until_of(&self, step: &Step) -> u64
+        ensures { result ≡ int_gap self.now.moments.first (until_of self.now.moments step.now) }
+    {
         self.moments.offset(step.until(self.moments))
     }
 
     /// How long a step was the only one under way, in microseconds.
-    pub fn alone_of(&self, place: usize) -> u64 {
+    pub fn alone_of(&self, place: usize) -> u64
+        ensures { result ≡ get_or self.now.numbers.alone.items place 0 }
+    {
         match self.numbers.alone.get(place) {
             Some(alone) => *alone,
             None => 0,

@@ -1,9 +1,18 @@
 //! The words of the command line.
 
+ghost use Rattle.std.specs.Prelude.{◌≡◌, None, Some, false, true, IfErr, IfOk, IfSome, codes, map, string_bytes};
+ghost use Rattle.clap.specs.Matches.{found_of};
+ghost use Rattle.clap.specs.Simple.{app_of};
+ghost use Rattle.clap.specs.Walk.{one_of, rows_of as found_rows, rule_of};
+ghost use Rattle.apply_picture.specs.CommandLine.{AreRowsSaid, AreSaid, HaveSaid, IsNumber, IsTextSaid, SayNoSettings, TakesColours, are_beside, colour_of_word, colour_rule, colour_said, command_line, flag_named, is_given, number_named, rows_of_form, width_rule};
+ghost use Rattle.apply_picture.specs.Usages.{IsWordsOrMemory};
+ghost use Rattle.apply_picture.specs.declared.command.form.Form.TheVariants as form;
+
 use crate::command::colour::Colour;
 use crate::command::form::Form;
 use crate::command::settings::Settings;
 use apply_words::{Usage, file, file_of, matches_of};
+use clap::parser::ValueSource;
 use clap::{Arg, ArgAction, ArgMatches, Command, value_parser};
 use std::alloc::{AllocError, Global};
 
@@ -38,38 +47,80 @@ Exit status:
 
 /// The settings that the words behind `view` say. `Err` with `Usage::Help` where they ask for help, with `Usage::Words` where
 /// they are none of this command, and with `Usage::Memory` where memory is refused.
-pub fn read_words(alloc: Global, words: &[String]) -> Result<Settings, Usage> {
+pub fn read_words(alloc: Global, words: &[String]) -> Result<Settings, Usage>
+    ensures said { IfOk result (HaveSaid (map string_bytes words.now)) }
+    ensures refused { IfErr result (SayNoSettings (map string_bytes words.now)) }
+{
     let command = command(alloc)?;
     match matches_of(alloc, command, words) {
-        Ok(matches) => Ok(settings_of(alloc, &matches)?),
+        Ok(matches) => {
+            if are_beside(&matches) {
+                return Err(usage_beside(alloc, words));
+            }
+            Ok(settings_of(alloc, &matches)?)
+        }
         Err(usage) => Err(usage),
     }
 }
 
+/// Why options are refused that may not stand beside one another: the words are taken once more, by a command that has those
+/// rules. What `clap` makes of words it states only for commands without any, so that the words were taken by such a one first.
+fn usage_beside(alloc: Global, words: &[String]) -> Usage
+    ensures { IsWordsOrMemory result }
+{
+    let Ok(command) = strict_command(alloc) else {
+        return Usage::Memory;
+    };
+    match matches_of(alloc, command, words) {
+        Err(Usage::Words(text)) => Usage::Words(text),
+        _ => Usage::Memory,
+    }
+}
+
 /// The options, and their help.
-fn command<'a>(alloc: Global) -> Result<Command<'a>, AllocError> {
+fn command<'a>(alloc: Global) -> Result<Command<'a>, AllocError>
+    ensures { IfOk result (λ command. (colours : _) × TakesColours colours × (app_of command ≡ command_line colours)) }
+{
+    command_of(alloc, svg(alloc), all(alloc))
+}
+
+/// The same, with the rules which of them may not stand beside one another.
+fn strict_command<'a>(alloc: Global) -> Result<Command<'a>, AllocError> {
+    let svg = svg(alloc).conflicts_with("width")?.conflicts_with("color")?;
+    let all = all(alloc).conflicts_with("rows")?;
+    command_of(alloc, svg, all)
+}
+
+/// That of these two options and the others.
+fn command_of<'a>(alloc: Global, svg: Arg<'a>, all: Arg<'a>) -> Result<Command<'a>, AllocError>
+    ensures { rule_of svg.entry ≡ flag_named (codes "svg") → svg.entry.global ≡ false
+        → rule_of all.entry ≡ flag_named (codes "all") → all.entry.global ≡ false
+        → IfOk result (λ command. (colours : _) × TakesColours colours × (app_of command ≡ command_line colours)) }
+{
     Command::new(alloc, "applystream view")
         .no_binary_name(true)
         .about(ABOUT)
         .after_help(AFTER)
-        .arg(svg(alloc)?)?
+        .arg(svg)?
         .arg(rows(alloc))?
-        .arg(all(alloc)?)?
+        .arg(all)?
         .arg(width(alloc))?
         .arg(color(alloc))?
         .arg(file(alloc))
 }
 
-fn svg<'a>(alloc: Global) -> Result<Arg<'a>, AllocError> {
+fn svg<'a>(alloc: Global) -> Arg<'a>
+    ensures { (rule_of result ≡ flag_named (codes "svg")) × (result.global ≡ false) }
+{
     Arg::new(alloc, "svg")
         .long("svg")
         .action(ArgAction::SetTrue)
         .help("Draws an SVG in place of a text")
-        .conflicts_with("width")?
-        .conflicts_with("color")
 }
 
-fn rows<'a>(alloc: Global) -> Arg<'a> {
+fn rows<'a>(alloc: Global) -> Arg<'a>
+    ensures { (rule_of result ≡ number_named (codes "rows") 1 100000) × (result.global ≡ false) }
+{
     Arg::new(alloc, "rows")
         .long("rows")
         .value_name("N")
@@ -77,15 +128,18 @@ fn rows<'a>(alloc: Global) -> Arg<'a> {
         .help("At most so many steps get a row, 1 to 100000; without it 40, with --svg 200")
 }
 
-fn all<'a>(alloc: Global) -> Result<Arg<'a>, AllocError> {
+fn all<'a>(alloc: Global) -> Arg<'a>
+    ensures { (rule_of result ≡ flag_named (codes "all")) × (result.global ≡ false) }
+{
     Arg::new(alloc, "all")
         .long("all")
         .action(ArgAction::SetTrue)
         .help("Every step gets a row")
-        .conflicts_with("rows")
 }
 
-fn width<'a>(alloc: Global) -> Arg<'a> {
+fn width<'a>(alloc: Global) -> Arg<'a>
+    ensures { (rule_of result ≡ width_rule) × (result.global ≡ false) }
+{
     Arg::new(alloc, "width")
         .long("width")
         .value_name("N")
@@ -94,7 +148,9 @@ fn width<'a>(alloc: Global) -> Arg<'a> {
         .help("How many columns the text has, 60 to 400")
 }
 
-fn color<'a>(alloc: Global) -> Arg<'a> {
+fn color<'a>(alloc: Global) -> Arg<'a>
+    ensures { (colours : _) × TakesColours colours × (rule_of result ≡ colour_rule colours) × (result.global ≡ false) }
+{
     Arg::new(alloc, "color")
         .long("color")
         .value_name("WHEN")
@@ -105,8 +161,29 @@ fn color<'a>(alloc: Global) -> Arg<'a> {
         )
 }
 
+/// Whether options stand beside one another that may not.
+fn are_beside(matches: &ArgMatches<'_>) -> bool
+    ensures { result ≡ are_beside (found_rows (found_of matches.now)) }
+{
+    stands(matches, "svg") && (stands(matches, "width") || stands(matches, "color"))
+        || stands(matches, "all") && stands(matches, "rows")
+}
+
+/// Whether the option stands among the words.
+fn stands(matches: &ArgMatches<'_>, option: &str) -> bool
+    ensures { result ≡ is_given option.now (found_rows (found_of matches.now)) }
+{
+    match matches.value_source(option) {
+        Some(ValueSource::CommandLine) => true,
+        Some(ValueSource::DefaultValue) => false,
+        None => false,
+    }
+}
+
 /// What the matches say.
-fn settings_of(alloc: Global, matches: &ArgMatches<'_>) -> Result<Settings, AllocError> {
+fn settings_of(alloc: Global, matches: &ArgMatches<'_>) -> Result<Settings, AllocError>
+    ensures { IfOk result (AreSaid (found_rows (found_of matches.now))) }
+{
     let file = file_of(alloc, matches)?;
     let form = form_of(matches);
     Ok(Settings {
@@ -117,36 +194,91 @@ fn settings_of(alloc: Global, matches: &ArgMatches<'_>) -> Result<Settings, Allo
 }
 
 /// What is drawn.
-fn form_of(matches: &ArgMatches<'_>) -> Form {
-    if matches.get_flag("svg") {
-        return Form::Svg;
-    }
-    Form::Text {
-        width: matches
-            .get_one::<u32>("width")
-            .unwrap_or(WIDTH)
-            .clamp(60, 400),
-        colour: colour_of(matches),
+fn form_of(matches: &ArgMatches<'_>) -> Form
+    ensures svg { one_of (codes "svg") (found_rows (found_of matches.now)) ≡ Some (codes "true") → result ≡ form.Svg }
+    ensures text { one_of (codes "svg") (found_rows (found_of matches.now)) ≡ Some (codes "false")
+        → IsTextSaid (found_rows (found_of matches.now)) result }
+{
+    if is_given(matches, "svg") {
+        Form::Svg
+    } else {
+        Form::Text {
+            width: width_of(matches),
+            colour: colour_of(matches),
+        }
     }
 }
 
+/// Whether the flag of that name is given.
+fn is_given(matches: &ArgMatches<'_>, name: &str) -> bool
+    ensures yes { one_of name.now (found_rows (found_of matches.now)) ≡ Some (codes "true") → result ≡ true }
+    ensures no { one_of name.now (found_rows (found_of matches.now)) ≡ Some (codes "false") → result ≡ false }
+{
+    matches.get_flag(name)
+}
+
+/// How wide a text is. The parser has tested the number, so that the bounds here do not change it.
+fn width_of(matches: &ArgMatches<'_>) -> u32
+    ensures { IfSome (one_of (codes "width") (found_rows (found_of matches.now))) (λ text. IsNumber 60 400 text result) }
+{
+    matches
+        .get_one::<u32>("width")
+        .unwrap_or(WIDTH)
+        .clamp(60, 400)
+}
+
 /// When there are colours.
-fn colour_of(matches: &ArgMatches<'_>) -> Colour {
+fn colour_of(matches: &ArgMatches<'_>) -> Colour
+    ensures { result ≡ colour_said (found_rows (found_of matches.now)) }
+{
     match matches.get_str("color") {
-        Some("always") => Colour::Always,
-        Some("never") => Colour::Never,
+        Some(word) => colour_named(word),
+        None => Colour::Auto,
+    }
+}
+
+/// What a word says of colours. The parser takes three words.
+fn colour_named(word: &str) -> Colour
+    ensures { result ≡ colour_of_word word.now }
+{
+    match word {
+        "always" => Colour::Always,
+        "never" => Colour::Never,
         _ => Colour::Auto,
     }
 }
 
 /// How many rows there may be.
-fn rows_of(matches: &ArgMatches<'_>, form: Form) -> Option<usize> {
-    if matches.get_flag("all") {
-        return None;
+fn rows_of(matches: &ArgMatches<'_>, form: Form) -> Option<usize>
+    ensures all { one_of (codes "all") (found_rows (found_of matches.now)) ≡ Some (codes "true") → result ≡ None }
+    ensures limit { one_of (codes "all") (found_rows (found_of matches.now)) ≡ Some (codes "false")
+        → AreRowsSaid (found_rows (found_of matches.now)) form result }
+{
+    if is_given(matches, "all") {
+        None
+    } else {
+        Some(count_of(matches, form) as usize)
     }
-    let others = match form {
+}
+
+/// How many rows there may be, where there is a limit. The parser has tested the number, so that the bounds here do not change
+/// it.
+fn count_of(matches: &ArgMatches<'_>, form: Form) -> u32
+    ensures said { IfSome (one_of (codes "rows") (found_rows (found_of matches.now))) (λ text. IsNumber 1 100000 text result) }
+    ensures none { one_of (codes "rows") (found_rows (found_of matches.now)) ≡ None → result ≡ rows_of_form form }
+{
+    matches
+        .get_one::<u32>("rows")
+        .unwrap_or(rows_in(form))
+        .clamp(1, 100_000)
+}
+
+/// How many rows there may be where nothing is said.
+fn rows_in(form: Form) -> u32
+    ensures { result ≡ rows_of_form form }
+{
+    match form {
         Form::Text { .. } => TEXT_ROWS,
         Form::Svg => SVG_ROWS,
-    };
-    Some(matches.get_one::<u32>("rows").unwrap_or(others) as usize)
+    }
 }

@@ -1,9 +1,10 @@
 //! The command `view`, from its arguments to its exit status, over any files and streams.
 
-ghost use Rattle.std.specs.Prelude.{◌≡◌, ◌≢◌, ◌≤◌, Err, IfErr, IfSome, None, OnOk, Some, false};
+ghost use Rattle.std.specs.Prelude.{◌≡◌, ◌≢◌, ◌≤◌, Err, IfErr, IfSome, None, OnOk, Some, false, map, string_bytes};
 ghost use Rattle.std.specs.Io.KnownBytes.{IsAtEnd, Keeps};
 ghost use Rattle.apply_view.specs.Lines.{IsToldOf};
 ghost use Rattle.apply_view.specs.declared.told.view_fault.ViewFault.{ViewFault as view_fault};
+ghost use Rattle.apply_picture.specs.CommandLine.{WasNotViewed};
 ghost use Rattle.apply_picture.specs.Viewed.{IsDrawnOf, IsOfStream, IsStatusOf, WasDrawn, WasViewed};
 ghost use Rattle.apply_picture.specs.declared.command.picture_fault.PictureFault.TheVariants.{Undrawn, Untold};
 ghost use Rattle.apply_picture.specs.declared.draw_fault.DrawFault.TheVariants.{Gone};
@@ -44,8 +45,10 @@ pub fn follow<F: Files, R: Read, W: Write, E: Write>(
     out: &mut W,
     faults: &mut E,
 ) -> Followed
-    ensures viewed { IfSome result.answer (WasViewed F.File.remaining (R.remaining input.old) (R.remaining input.new) is_colour_wanted
-        (W.contents out.old) (W.contents out.new) result) }
+    ensures viewed { IfSome result.answer (WasViewed F.File.remaining (map string_bytes words.now) (R.remaining input.old)
+        (R.remaining input.new) is_colour_wanted (W.contents out.old) (W.contents out.new) result) }
+    ensures unviewed { result.answer ≡ None
+        → WasNotViewed (map string_bytes words.now) (W.contents out.old) (W.contents out.new) result.status }
     ensures kept { result.answer ≡ None → 1 ≤ result.status → Keeps (W.contents out.old) (W.contents out.new) }
     ensures quiet { result.status ≡ 0 → Keeps (E.contents faults.old) (E.contents faults.new) }
     ensures gone { result.answer ≡ Some (Err (Undrawn Gone)) → Keeps (E.contents faults.old) (E.contents faults.new) }

@@ -1,5 +1,9 @@
 //! What has no row.
 
+ghost use Rattle.std.specs.Prelude.{◌≡◌, IfOk, option_map};
+ghost use Rattle.apply_picture.specs.LeftOut.{left_out_said, left_out_words};
+ghost use Rattle.apply_picture.specs.Shown.{shown_characters};
+
 use crate::picture::Picture;
 use crate::words::duration::Duration;
 use crate::words::number::Number;
@@ -7,10 +11,20 @@ use crate::words::shown_text::ShownText;
 use std::alloc::{AllocError, Global};
 
 /// How many steps have no row, and how long they took; none where each has one. `Err` where memory is refused.
-pub fn left_out(alloc: Global, picture: &Picture<'_>) -> Result<Option<ShownText>, AllocError> {
+pub fn left_out(alloc: Global, picture: &Picture<'_>) -> Result<Option<ShownText>, AllocError>
+    ensures { IfOk result (λ text. option_map (λ said. said.characters.items) text ≡ left_out_said picture.now.rows) }
+{
     if picture.rows.left_out == 0 {
-        return Ok(None);
+        Ok(None)
+    } else {
+        Ok(Some(left_out_text(alloc, picture)?))
     }
+}
+
+/// How many steps have no row, the greatest of their lengths, and the sum.
+fn left_out_text(alloc: Global, picture: &Picture<'_>) -> Result<ShownText, AllocError>
+    ensures { IfOk result (λ text. text.characters.items ≡ shown_characters (left_out_words picture.now.rows)) }
+{
     let steps = Number {
         count: picture.rows.left_out as u64,
         noun: "step",
@@ -18,5 +32,5 @@ pub fn left_out(alloc: Global, picture: &Picture<'_>) -> Result<Option<ShownText
     let longest = Duration::of(picture.rows.longest);
     let together = Duration(picture.rows.together);
     let text = format!(in alloc; "and {steps} more, each {longest} at most, {together} together")?;
-    Ok(Some(ShownText::of(alloc, text.as_str().as_bytes())?))
+    ShownText::of(alloc, text.as_str().as_bytes())
 }

@@ -1,7 +1,8 @@
 //! The axis above the bars.
 
-ghost use Rattle.std.specs.Prelude.{◌≡◌, OnOk};
+ghost use Rattle.std.specs.Prelude.{◌≡◌, All, IfOk, OnOk, length};
 ghost use Rattle.apply_picture.specs.Lines.{HasMore};
+ghost use Rattle.apply_picture.specs.Rows.{IsTick};
 
 use crate::picture::Picture;
 use crate::text::chart::Chart;
@@ -70,15 +71,18 @@ fn put(cells: &mut [char], from: usize, text: &str) {
     }
 }
 
-/// Which cells have a tick.
-pub fn tick_cells(alloc: Global, chart: &Chart) -> Result<Vec<bool>, AllocError> {
-    let mut ticks = vec![in alloc; false; chart.cells as usize]?;
+/// What stands in the cells that no bar covers: a sign where a tick is, else a blank.
+pub fn tick_cells(alloc: Global, chart: &Chart) -> Result<Vec<char>, AllocError>
+    ensures cells { IfOk result (λ ticks. length ticks.items ≡ chart.now.cells) }
+    ensures each { IfOk result (λ ticks. All IsTick ticks.items) }
+{
+    let mut ticks = vec![in alloc; ' '; chart.cells as usize]?;
     for count in 0..MOST_TICKS {
         let Some(cell) = chart.cell_of(chart.step.saturating_mul(count)) else {
             break;
         };
         if cell < ticks.len() {
-            ticks[cell] = true;
+            ticks[cell] = '┊';
         }
     }
     Ok(ticks)

@@ -1,6 +1,9 @@
 //! The columns of the rows.
 
-ghost use Rattle.std.specs.Prelude.{◌≤◌};
+ghost use Rattle.std.specs.Prelude.{◌≡◌, ◌≤◌, ◌+◌, IfOk, min};
+ghost use Rattle.apply_picture.specs.Columns.{columns_of};
+ghost use Rattle.apply_picture.specs.Rows.{columns_at, layout_of, widest};
+ghost use Rattle.apply_picture.specs.Shown.{shown_characters};
 
 use crate::picture::Picture;
 use crate::words::shown_text::ShownText;
@@ -36,25 +39,22 @@ pub struct Chart {
     pub step: u64,
     /// How long the stream is, in microseconds, and 1 at least.
     pub span: u64,
+    ghost short: { action ≤ 8 },
     ghost some: { 1 ≤ cells },
     ghost few: { cells ≤ 400 },
 }
 
 impl Chart {
+    ghost use Rattle.apply_picture.specs.Charts.{layout_in};
+
     /// Those of the picture's rows, for lines of that width, which is 60 at least.
-    pub fn of(alloc: Global, picture: &Picture<'_>, width: usize) -> Result<Chart, AllocError> {
-        let steps = picture.told.steps();
-        let mut action = 0;
-        let mut label = LEAST_LABEL;
-        for place in &picture.rows.places {
-            if let Some(step) = steps.get(*place) {
-                action = action.max(columns_of(alloc, step.action())?);
-                label = label.max(columns_of(alloc, step.address())?);
-            }
-        }
-        let action = action.min(MOST_ACTION);
+    pub fn of(alloc: Global, picture: &Picture<'_>, width: usize) -> Result<Chart, AllocError>
+        ensures { IfOk result (λ chart. layout_in chart ≡ layout_of width picture.now) }
+    {
+        let action = widest_action(alloc, picture)?.min(MOST_ACTION);
+        let address = widest_address(alloc, picture)?.max(LEAST_LABEL);
         let room = width.saturating_sub(action + OTHERS);
-        let label = label.min(room / 20 * 11 + room % 20 * 11 / 20);
+        let label = address.min(room / 20 * 11 + room % 20 * 11 / 20);
         let cells = room.saturating_sub(label).min(MOST_CELLS).max(1) as u32;
         let span = picture.span().max(1);
         Ok(Chart {
@@ -67,8 +67,10 @@ impl Chart {
     }
 
     /// How many columns stand before what is said below the rows.
-    pub fn indent(&self) -> usize {
-        self.action.saturating_add(1)
+    pub fn indent(&self) -> usize
+        ensures { result ≡ self.now.action + 1 }
+    {
+        self.action + 1
     }
 
     /// How many columns stand before the bars.
@@ -89,7 +91,55 @@ impl Chart {
     }
 }
 
+/// How many columns the widest action of a row takes.
+fn widest_action(alloc: Global, picture: &Picture<'_>) -> Result<usize, AllocError>
+    ensures { IfOk result (λ most. most
+        ≡ min (widest (λ step. step.action) picture.now.told.now.steps picture.now.rows.places.items) usize.MAX) }
+{
+    let mut most = 0;
+    for place in &picture.rows.places {
+        most = most.max(action_columns(alloc, picture, *place)?);
+    }
+    Ok(most)
+}
+
+/// How many columns the action of the step at that place takes; 0 where none is.
+fn action_columns(alloc: Global, picture: &Picture<'_>, place: usize) -> Result<usize, AllocError>
+    ensures { IfOk result (λ columns. columns
+        ≡ min (columns_at (λ step. step.action) picture.now.told.now.steps place) usize.MAX) }
+{
+    match picture.told.steps().get(place) {
+        Some(step) => columns_of(alloc, step.action()),
+        None => Ok(0),
+    }
+}
+
+/// How many columns the widest address of a row takes.
+fn widest_address(alloc: Global, picture: &Picture<'_>) -> Result<usize, AllocError>
+    ensures { IfOk result (λ most. most
+        ≡ min (widest (λ step. step.address) picture.now.told.now.steps picture.now.rows.places.items) usize.MAX) }
+{
+    let mut most = 0;
+    for place in &picture.rows.places {
+        most = most.max(address_columns(alloc, picture, *place)?);
+    }
+    Ok(most)
+}
+
+/// How many columns the address of the step at that place takes; 0 where none is.
+fn address_columns(alloc: Global, picture: &Picture<'_>, place: usize) -> Result<usize, AllocError>
+    ensures { IfOk result (λ columns. columns
+        ≡ min (columns_at (λ step. step.address) picture.now.told.now.steps place) usize.MAX) }
+{
+    match picture.told.steps().get(place) {
+        Some(step) => columns_of(alloc, step.address()),
+        None => Ok(0),
+    }
+}
+
 /// How many columns a text takes as it is shown.
-fn columns_of(alloc: Global, text: &str) -> Result<usize, AllocError> {
+fn columns_of(alloc: Global, text: &str) -> Result<usize, AllocError>
+    ensures { IfOk result (λ columns. columns ≡ min (columns_of (shown_characters text.now)) usize.MAX) }
+{
     Ok(ShownText::of(alloc, text.as_bytes())?.columns())
 }

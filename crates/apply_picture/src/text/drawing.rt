@@ -1,7 +1,11 @@
 //! The whole text.
 
-ghost use Rattle.std.specs.Prelude.{◌≡◌, [], IfOk, OnOk, map};
-ghost use Rattle.apply_picture.specs.Lines.{HeadLinesWritten, IsHeadedBy, IsRowAt, LinesWritten, RowsWritten, TextWritten, heading_characters};
+ghost use Rattle.std.specs.Prelude.{◌≡◌, ◌+◌, [], ℕ, List, IfOk, OnOk, map};
+ghost use Rattle.apply_picture.specs.Charts.{layout_in};
+ghost use Rattle.apply_picture.specs.LeftOut.{IsLeftOutAs, left_out_said};
+ghost use Rattle.apply_picture.specs.Lines.{LinesWritten};
+ghost use Rattle.apply_picture.specs.Rows.{AreTicks, layout_of, row_at};
+ghost use Rattle.apply_picture.specs.Texts.{HeadLinesWritten, IsHeadedBy, LeftOutWritten, RowsWritten, TextWritten, heading_characters};
 
 use crate::draw_fault::DrawFault;
 use crate::picture::Picture;
@@ -47,6 +51,7 @@ pub fn draw_text<W: Write>(
     let chart = Chart::of(alloc, picture, style.width)?;
     draw_head(alloc, picture, &chart, style, out)?;
     draw_rows(alloc, picture, &chart, style, out)?;
+    draw_left_out(alloc, picture, &chart, style, out)?;
     draw_tail(alloc, picture, &chart, style, out)?;
     flush(out)?;
     Ok(())
@@ -65,6 +70,22 @@ fn draw_head<W: Write>(
     let mut page = Page::new(alloc, style);
     push_head(alloc, &mut page, picture)?;
     push_axis(alloc, &mut page, picture, chart)?;
+    page.send(alloc, out)?;
+    Ok(())
+}
+
+/// Writes what has no row.
+fn draw_left_out<W: Write>(
+    alloc: Global,
+    picture: &Picture<'_>,
+    chart: &Chart,
+    style: Style,
+    out: &mut W,
+) -> Result<(), DrawFault>
+    ensures { OnOk result (LeftOutWritten style.width style.has_colour (chart.now.action + 1) picture.now.rows (W.contents out.old) (W.contents out.new)) }
+{
+    let mut page = Page::new(alloc, style);
+    push_left_out(alloc, &mut page, picture, chart)?;
     page.send(alloc, out)?;
     Ok(())
 }
@@ -94,7 +115,6 @@ fn push_tail(
 ) -> Result<(), AllocError>
     ensures { OnOk result (page.new.style ≡ page.old.style) }
 {
-    push_left_out(alloc, page, picture, chart)?;
     push_at_once(alloc, page, picture, chart)?;
     push_alone(alloc, page, picture)?;
     push_notes(alloc, page, picture)?;
@@ -122,8 +142,9 @@ fn draw_rows<W: Write>(
     style: Style,
     out: &mut W,
 ) -> Result<(), DrawFault>
-    ensures { OnOk result (RowsWritten style.width style.has_colour picture.now.told.now.steps picture.now.rows.places.items
-        (W.contents out.old) (W.contents out.new)) }
+    requires { layout_in chart.now ≡ layout_of style.width picture.now }
+    ensures { OnOk result ((ticks : List ℕ) × AreTicks (layout_of style.width picture.now) ticks
+        × RowsWritten style.width style.has_colour picture.now ticks picture.now.rows.places.items (W.contents out.old) (W.contents out.new)) }
 {
     let ticks = tick_cells(alloc, chart)?;
     for place in &picture.rows.places {
@@ -138,12 +159,13 @@ fn line_of(
     alloc: Global,
     picture: &Picture<'_>,
     chart: &Chart,
-    ticks: &[bool],
+    ticks: &[char],
     place: usize,
     width: usize,
 ) -> Result<Line, AllocError>
+    requires { layout_in chart.now ≡ layout_of width picture.now }
     ensures width { IfOk result (λ line. line.width ≡ width) }
-    ensures row { IfOk result (λ line. IsRowAt width picture.now.told.now.steps place line.pieces.items) }
+    ensures row { IfOk result (λ line. line.pieces.items ≡ row_at width picture.now ticks.now place) }
 {
     match picture.told.steps().get(place) {
         Some(step) => row_of(alloc, picture, chart, ticks, step, width),
@@ -158,7 +180,9 @@ fn push_left_out(
     picture: &Picture<'_>,
     chart: &Chart,
 ) -> Result<(), AllocError>
-    ensures { OnOk result (page.new.style ≡ page.old.style) }
+    ensures style { OnOk result (page.new.style ≡ page.old.style) }
+    ensures told { page.old.lines.items ≡ [] → OnOk result (IsLeftOutAs page.old.style.width (chart.now.action + 1) (left_out_said picture.now.rows)
+        (map (λ line. line.pieces.items) page.new.lines.items)) }
 {
     match left_out(alloc, picture)? {
         Some(text) => page.push_wrapped(alloc, chart.indent(), &text, Some(Paint::Dim)),

@@ -1,8 +1,9 @@
 //! A line of the text.
 
-ghost use Rattle.std.specs.Prelude.{◌≡◌, ◌≤◌, ◌++◌, ◌∷◌, [], ℕ, IsTrue, OnOk, replicate};
+ghost use Rattle.std.specs.Prelude.{◌≡◌, ◌≤◌, ◌++◌, ◌∷◌, [], IsTrue, OnOk, Some, replicate};
 ghost use Rattle.std.specs.List.{list_all, sum_by};
-ghost use Rattle.apply_picture.specs.Lines.{HasMore, is_no_control, piece_columns, with_character, with_characters, with_styled};
+ghost use Rattle.apply_picture.specs.Fitting.{at_left, at_right};
+ghost use Rattle.apply_picture.specs.Lines.{is_no_control, piece_columns, with_character, with_characters, with_styled};
 ghost use Rattle.apply_picture.specs.declared.text.piece.Piece.TheVariants.{Begin, End};
 
 use crate::text::paint::Paint;
@@ -90,9 +91,7 @@ impl Line {
     /// Adds characters as a stretch.
     pub fn push_painted(&mut self, characters: &[char], paint: Paint) -> Result<(), AllocError>
         ensures width { OnOk result (self.new.width ≡ self.old.width) }
-        ensures more { OnOk result (HasMore self.old.pieces.items self.new.pieces.items) }
-        ensures pieces { OnOk result (self.new.pieces.items
-            ≡ with_characters self.old.width (self.old.pieces.items ++ Begin paint ∷ []) characters.now ++ End ∷ []) }
+        ensures pieces { OnOk result (self.new.pieces.items ≡ with_styled self.old.width self.old.pieces.items (Some paint) characters.now) }
     {
         self.begin(paint)?;
         self.push_all(characters)?;
@@ -128,7 +127,8 @@ impl Line {
     /// Adds a text at the left of so many columns.
     pub fn push_left(&mut self, text: &ShownText, columns: usize) -> Result<(), AllocError>
         ensures width { OnOk result (self.new.width ≡ self.old.width) }
-        ensures pieces { OnOk result ((blanks : ℕ) × (self.new.pieces.items ≡ with_characters self.old.width self.old.pieces.items (text.now.characters.items ++ replicate blanks 32))) }
+        ensures pieces { OnOk result (self.new.pieces.items
+            ≡ with_characters self.old.width self.old.pieces.items (at_left columns text.now.characters.items)) }
     {
         self.push_all(text.characters())?;
         self.push_blanks(columns.saturating_sub(text.columns()))
@@ -137,7 +137,8 @@ impl Line {
     /// Adds a text at the right of so many columns.
     pub fn push_right(&mut self, text: &ShownText, columns: usize) -> Result<(), AllocError>
         ensures width { OnOk result (self.new.width ≡ self.old.width) }
-        ensures more { OnOk result (HasMore self.old.pieces.items self.new.pieces.items) }
+        ensures pieces { OnOk result (self.new.pieces.items
+            ≡ with_characters self.old.width self.old.pieces.items (at_right columns text.now.characters.items)) }
     {
         self.push_blanks(columns.saturating_sub(text.columns()))?;
         self.push_all(text.characters())

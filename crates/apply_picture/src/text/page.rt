@@ -4,7 +4,7 @@ ghost use Rattle.std.specs.Prelude.{◌≡◌, ◌==◌, ◌≤◌, ◌-◌, ◌
 ghost use Rattle.std.specs.Io.KnownBytes.{Appends};
 ghost use Rattle.std.specs.List.{list_all};
 ghost use Rattle.apply_picture.specs.Columns.{columns_of};
-ghost use Rattle.apply_picture.specs.Lines.{HasMore, IsTextLine};
+ghost use Rattle.apply_picture.specs.Lines.{HasMore, text_line};
 ghost use Rattle.apply_picture.specs.declared.text.line.Line.{Line as line_type};
 
 use crate::draw_fault::DrawFault;
@@ -74,7 +74,7 @@ impl Page {
     ) -> Result<(), AllocError>
         ensures style { OnOk result (self.new.style ≡ self.old.style) }
         ensures line { OnOk result ((line : line_type) × (self.new.lines.items ≡ self.old.lines.items ++ line ∷ [])
-            × IsTextLine self.old.style.width indent paint text.now.characters.items line.pieces.items) }
+            × (line.pieces.items ≡ text_line self.old.style.width indent paint text.now.characters.items)) }
     {
         let line = text_line(alloc, self.style.width, indent, text, paint)?;
         self.push(line)
@@ -92,7 +92,7 @@ impl Page {
         ensures more { OnOk result (HasMore self.old.lines.items self.new.lines.items) }
         ensures line { OnOk result (columns_of text.now.characters.items ≤ self.old.style.width - indent
             → (line : line_type) × (self.new.lines.items ≡ self.old.lines.items ++ line ∷ [])
-            × IsTextLine self.old.style.width indent paint text.now.characters.items line.pieces.items) }
+            × (line.pieces.items ≡ text_line self.old.style.width indent paint text.now.characters.items)) }
     {
         let lines = wrapped(alloc, text, self.style.width.saturating_sub(indent))?;
         for line in &lines {
@@ -123,7 +123,7 @@ fn text_line(
     paint: Option<Paint>,
 ) -> Result<Line, AllocError>
     ensures width { IfOk result (λ line. line.width ≡ width) }
-    ensures pieces { IfOk result (λ line. IsTextLine width indent paint text.now.characters.items line.pieces.items) }
+    ensures pieces { IfOk result (λ line. line.pieces.items ≡ text_line width indent paint text.now.characters.items) }
 {
     let characters = without_blanks(text.characters());
     let mut line = Line::new(alloc, width);

@@ -1,7 +1,10 @@
 //! The row of a step.
 
-ghost use Rattle.std.specs.Prelude.{◌≡◌, ◌++◌, ℕ, List, IfOk, OnOk, replicate};
-ghost use Rattle.apply_picture.specs.Lines.{HasMore, IsFitted, IsRowOf, paint_of, with_characters};
+ghost use Rattle.std.specs.Prelude.{◌≡◌, ◌∷◌, [], IfOk, OnOk, is_some};
+ghost use Rattle.apply_picture.specs.Charts.{layout_in};
+ghost use Rattle.apply_picture.specs.Fitting.{at_left, at_right, fitted};
+ghost use Rattle.apply_picture.specs.Lines.{with_characters};
+ghost use Rattle.apply_picture.specs.Rows.{bar_of, bound_words, end_half_of, first_half_of, length_words, mark_of, paint_of, with_bar, with_dim, with_length, with_names, with_row};
 ghost use Rattle.apply_picture.specs.Shown.{shown_characters};
 
 use crate::kind::Kind;
@@ -16,47 +19,24 @@ use crate::words::shown_text::{ShownText, without_blanks};
 use apply_view::{Step, halves_of};
 use std::alloc::{AllocError, Global};
 
-/// The cells of a row: before its bar, covered by it, and behind it.
-#[derive(Drop)]
-struct Cells {
-    before: Vec<char>,
-    covered: Vec<char>,
-    behind: Vec<char>,
-}
-
-impl Cells {
-    /// Adds a cell: its character where the bar covers it, else `tick`.
-    fn push(&mut self, covered: Option<char>, tick: char) -> Result<(), AllocError> {
-        match covered {
-            Some(character) => self.covered.push(character)?,
-            None if self.covered.is_empty() => self.before.push(tick)?,
-            None => self.behind.push(tick)?,
-        }
-        Ok(())
-    }
-}
-
-/// The row of a step: its action, address, mark, duration and bar. `ticks` says which cells have a tick.
+/// The row of a step: its action, address, mark, duration and bar. `ticks` is what stands in the cells that no bar covers.
 pub fn row_of(
     alloc: Global,
     picture: &Picture<'_>,
     chart: &Chart,
-    ticks: &[bool],
+    ticks: &[char],
     step: &Step,
     width: usize,
 ) -> Result<Line, AllocError>
     ensures width { IfOk result (λ line. line.width ≡ width) }
-    ensures row { IfOk result (λ line. IsRowOf width line.pieces.items step.now) }
+    ensures row { IfOk result (λ line. line.pieces.items
+        ≡ with_row width (layout_in chart.now) picture.now.moments ticks.now step.now []) }
 {
     let mut line = Line::new(alloc, width);
     let paint = paint_of(step);
-    line.begin(paint)?;
-    push_text(alloc, &mut line, step.action(), chart.action)?;
-    line.end()?;
+    push_names(alloc, &mut line, chart, step)?;
     line.push(' ')?;
-    push_text(alloc, &mut line, step.address(), chart.label)?;
-    line.push(' ')?;
-    push_duration(alloc, &mut line, picture, step)?;
+    push_length(alloc, &mut line, picture, step)?;
     line.push(' ')?;
     push_bar(alloc, &mut line, picture, chart, ticks, step, paint)?;
     Ok(line)
@@ -73,57 +53,92 @@ fn paint_of(step: &Step) -> Paint
     }
 }
 
+/// Adds the action of a step, in its colour, and its address.
+fn push_names(alloc: Global, line: &mut Line, chart: &Chart, step: &Step) -> Result<(), AllocError>
+    ensures width { OnOk result (line.new.width ≡ line.old.width) }
+    ensures pieces { OnOk result (line.new.pieces.items
+        ≡ with_names line.old.width (layout_in chart.now) step.now line.old.pieces.items) }
+{
+    line.begin(paint_of(step))?;
+    push_text(alloc, line, step.action(), chart.action)?;
+    line.end()?;
+    line.push(' ')?;
+    push_text(alloc, line, step.address(), chart.label)
+}
+
 /// Adds a text at the left of so many columns, fitted to them.
 fn push_text(alloc: Global, line: &mut Line, text: &str, columns: usize) -> Result<(), AllocError>
     ensures width { OnOk result (line.new.width ≡ line.old.width) }
-    ensures pieces { OnOk result ((fitted : List ℕ) × (blanks : ℕ) × IsFitted (shown_characters text.now) fitted
-        × (line.new.pieces.items ≡ with_characters line.old.width line.old.pieces.items (fitted ++ replicate blanks 32))) }
+    ensures pieces { OnOk result (line.new.pieces.items ≡ with_characters line.old.width line.old.pieces.items
+        (at_left columns (fitted columns (shown_characters text.now)))) }
 {
     let text = ShownText::of(alloc, text.as_bytes())?;
     line.push_left(&fitted(alloc, &text, columns)?, columns)
 }
 
-/// Adds the mark of a step and how long it took.
-fn push_duration(
+/// Adds the mark of a step and how long it took, red where it failed.
+fn push_length(
     alloc: Global,
     line: &mut Line,
     picture: &Picture<'_>,
     step: &Step,
 ) -> Result<(), AllocError>
     ensures width { OnOk result (line.new.width ≡ line.old.width) }
-    ensures more { OnOk result (HasMore line.old.pieces.items line.new.pieces.items) }
+    ensures pieces { OnOk result (line.new.pieces.items ≡ with_length line.old.width picture.now.moments step.now line.old.pieces.items) }
 {
-    let text = duration_text(alloc, picture, step)?;
+    let text = length_text(alloc, picture, step)?;
     let text = fitted(alloc, &text, DURATION)?;
+    let mark = mark_of(step);
     if step.has_failed() {
         line.begin(Paint::Red)?;
-        push_marked(line, '✗', &text)?;
+        push_marked(line, mark, &text)?;
         line.end()
     } else {
-        push_marked(line, if step.end().is_some() { ' ' } else { '…' }, &text)
+        push_marked(line, mark, &text)
+    }
+}
+
+/// The mark of a step.
+fn mark_of(step: &Step) -> char
+    ensures { result ≡ mark_of step.now }
+{
+    if step.has_failed() {
+        '✗'
+    } else if step.end().is_none() {
+        '…'
+    } else {
+        ' '
     }
 }
 
 /// How long a step took, and whether that is a bound.
-fn duration_text(
-    alloc: Global,
-    picture: &Picture<'_>,
-    step: &Step,
-) -> Result<ShownText, AllocError> {
+fn length_text(alloc: Global, picture: &Picture<'_>, step: &Step) -> Result<ShownText, AllocError>
+    ensures { IfOk result (λ text. text.characters.items ≡ shown_characters (length_words picture.now.moments step.now)) }
+{
     let length = Duration::of(step.length(picture.moments));
-    let bound = match (step.has_failed(), step.end()) {
-        (_, Some(_)) => "",
-        (true, None) => "≤",
-        (false, None) => "≥",
-    };
+    let bound = bound_of(step);
     let text = format!(in alloc; "{bound}{length}")?;
     ShownText::of(alloc, text.as_str().as_bytes())
+}
+
+/// Whether the length of a step is a bound, as a sign before it.
+fn bound_of(step: &Step) -> &'static str
+    ensures { result.now ≡ bound_words step.now }
+{
+    if step.end().is_some() {
+        ""
+    } else if step.has_failed() {
+        "≤"
+    } else {
+        "≥"
+    }
 }
 
 /// Adds a mark and a duration.
 fn push_marked(line: &mut Line, mark: char, text: &ShownText) -> Result<(), AllocError>
     ensures width { OnOk result (line.new.width ≡ line.old.width) }
-    ensures more { OnOk result (HasMore line.old.pieces.items line.new.pieces.items) }
+    ensures pieces { OnOk result (line.new.pieces.items
+        ≡ with_characters line.old.width line.old.pieces.items (mark ∷ at_right 8 text.now.characters.items)) }
 {
     line.push(mark)?;
     line.push_right(text, DURATION)
@@ -135,58 +150,53 @@ fn push_bar(
     line: &mut Line,
     picture: &Picture<'_>,
     chart: &Chart,
-    ticks: &[bool],
+    ticks: &[char],
     step: &Step,
     paint: Paint,
 ) -> Result<(), AllocError>
     ensures width { OnOk result (line.new.width ≡ line.old.width) }
-    ensures more { OnOk result (HasMore line.old.pieces.items line.new.pieces.items) }
+    ensures pieces { OnOk result (line.new.pieces.items ≡ with_bar line.old.width paint ticks.now
+        (bar_of chart.now.cells picture.now.moments step.now) line.old.pieces.items) }
 {
-    let bar = Bar {
+    let bar = bar_of(picture, chart, step);
+    let first = bar.first_cell(chart.cells);
+    let end = bar.end_cell(chart.cells);
+    let characters = bar.characters(alloc, first, end)?;
+    push_dim(line, &ticks[..(first as usize).min(ticks.len())])?;
+    line.push_painted(&characters, paint)?;
+    push_dim(
+        line,
+        without_blanks(&ticks[(end as usize).min(ticks.len())..]),
+    )
+}
+
+/// The bar of a step.
+fn bar_of(picture: &Picture<'_>, chart: &Chart, step: &Step) -> Bar
+    ensures failed { result.has_failed ≡ step.now.failed }
+    ensures ended { result.has_ended ≡ is_some step.now.end }
+    ensures first { result.halves.first ≡ first_half_of chart.now.cells picture.now.moments step.now }
+    ensures end { result.halves.end ≡ end_half_of chart.now.cells picture.now.moments step.now }
+{
+    Bar {
         halves: halves_of(
             chart.cells,
-            chart.span,
+            picture.span(),
             picture.begin_of(step),
             picture.until_of(step),
         ),
         has_failed: step.has_failed(),
         has_ended: step.end().is_some(),
-    };
-    let cells = cells_of(alloc, chart, ticks, bar)?;
-    push_dim(line, &cells.before)?;
-    line.push_painted(&cells.covered, paint)?;
-    push_dim(line, without_blanks(&cells.behind))
-}
-
-/// The cells of a row.
-fn cells_of(alloc: Global, chart: &Chart, ticks: &[bool], bar: Bar) -> Result<Cells, AllocError> {
-    let mut cells = Cells {
-        before: Vec::new(alloc),
-        covered: Vec::new(alloc),
-        behind: Vec::new(alloc),
-    };
-    for cell in 0..chart.cells {
-        cells.push(bar.character(cell), tick_in(ticks, cell))?;
     }
-    Ok(cells)
 }
 
-/// Adds cells that no bar covers, where there are any.
+/// Adds cells that no bar covers, dim where there are any.
 fn push_dim(line: &mut Line, cells: &[char]) -> Result<(), AllocError>
     ensures width { OnOk result (line.new.width ≡ line.old.width) }
-    ensures more { OnOk result (HasMore line.old.pieces.items line.new.pieces.items) }
+    ensures pieces { OnOk result (line.new.pieces.items ≡ with_dim line.old.width line.old.pieces.items cells.now) }
 {
     if cells.is_empty() {
         Ok(())
     } else {
         line.push_painted(cells, Paint::Dim)
-    }
-}
-
-/// What stands in a cell that no bar covers.
-fn tick_in(ticks: &[bool], cell: u32) -> char {
-    match ticks.get(cell as usize) {
-        Some(true) => '┊',
-        _ => ' ',
     }
 }

@@ -1,7 +1,8 @@
 //! Texts that have little room.
 
-ghost use Rattle.std.specs.Prelude.{◌≡◌, ◌≤◌, IfOk, length};
-ghost use Rattle.apply_picture.specs.Lines.{IsFitted, few_marks};
+ghost use Rattle.std.specs.Prelude.{◌≡◌, ◌<◌, ◌≤◌, ◌+◌, ◌-◌, IfOk, drop, length, take};
+ghost use Rattle.apply_picture.specs.Columns.{columns_of};
+ghost use Rattle.apply_picture.specs.Fitting.{cut_short, few_marks, fitted};
 
 use crate::words::columns::{columns, columns_of};
 use crate::words::shown_text::ShownText;
@@ -14,21 +15,29 @@ const MOST_MARKS: usize = 4;
 /// another. Where it is wider then, its begin and its end stand round `…`: two fifths of what room there is for the begin, and
 /// the rest for the end. `Err` where memory is refused.
 pub fn fitted(alloc: Global, text: &ShownText, limit: usize) -> Result<ShownText, AllocError>
-    ensures { IfOk result (λ short. IsFitted text.now.characters.items short.characters.items) }
+    ensures { IfOk result (λ short. short.characters.items ≡ fitted limit text.now.characters.items) }
 {
     let characters = with_few_marks(alloc, text.characters())?;
-    if columns(&characters) <= limit {
+    if front_len(&characters, limit) == characters.len() {
         return Ok(ShownText { characters });
     }
-    let room = limit.saturating_sub(1);
-    let front = front_len(&characters, room / 5 * 2 + room % 5 * 2 / 5);
+    Ok(ShownText {
+        characters: cut_short(alloc, &characters, limit.saturating_sub(1))?,
+    })
+}
+
+/// The begin and the end of characters round `…`, which take so many columns together.
+fn cut_short(alloc: Global, characters: &[char], room: usize) -> Result<Vec<char>, AllocError>
+    ensures { IfOk result (λ short. short.items ≡ cut_short room characters.now) }
+{
+    let front = front_len(characters, room / 5 * 2 + room % 5 * 2 / 5);
     let used = columns(&characters[..front]);
-    let back = back_len(&characters, room.saturating_sub(used));
+    let back = back_len(characters, room.saturating_sub(used));
     let mut short = Vec::new(alloc);
     short.extend_from_slice(&characters[..front])?;
     short.push('…')?;
     short.extend_from_slice(&characters[characters.len() - back..])?;
-    Ok(ShownText { characters: short })
+    Ok(short)
 }
 
 /// The characters, but of those without a column no more than four that stand one behind another.
@@ -52,7 +61,9 @@ fn with_few_marks(alloc: Global, characters: &[char]) -> Result<Vec<char>, Alloc
 
 /// How many of the first characters fit into so many columns.
 fn front_len(characters: &[char], limit: usize) -> usize
-    ensures { result ≤ length characters.now }
+    ensures within { result ≤ length characters.now }
+    ensures fits { columns_of (take result characters.now) ≤ limit }
+    ensures full { result < length characters.now → limit < columns_of (take (result + 1) characters.now) }
 {
     let mut left = limit;
     for (len, character) in characters.iter().enumerate() {
@@ -67,7 +78,9 @@ fn front_len(characters: &[char], limit: usize) -> usize
 
 /// How many of the last characters fit into so many columns.
 fn back_len(characters: &[char], limit: usize) -> usize
-    ensures { result ≤ length characters.now }
+    ensures within { result ≤ length characters.now }
+    ensures fits { columns_of (drop (length characters.now - result) characters.now) ≤ limit }
+    ensures full { result < length characters.now → limit < columns_of (drop (length characters.now - (result + 1)) characters.now) }
 {
     let mut left = limit;
     let mut len = 0;

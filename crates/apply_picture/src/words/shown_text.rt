@@ -1,8 +1,9 @@
 //! Texts of a stream as they are shown.
 
-ghost use Rattle.std.specs.Prelude.{◌≡◌, IfOk};
+ghost use Rattle.std.specs.Prelude.{◌≡◌, IfOk, min};
 ghost use Rattle.std.specs.Str.{chars};
-ghost use Rattle.apply_picture.specs.Lines.{IsTrimmed};
+ghost use Rattle.apply_picture.specs.Columns.{columns_of};
+ghost use Rattle.apply_picture.specs.Fitting.{without_blanks};
 ghost use Rattle.apply_picture.specs.Shown.{shown_characters};
 
 use crate::words::columns::columns;
@@ -42,7 +43,9 @@ impl ShownText {
     }
 
     /// How many columns it takes.
-    pub fn columns(&self) -> usize {
+    pub fn columns(&self) -> usize
+        ensures { result ≡ min (columns_of self.now.characters.items) usize.MAX }
+    {
         columns(&self.characters)
     }
 }
@@ -56,7 +59,7 @@ fn characters_of(alloc: Global, text: &str) -> Result<Vec<char>, AllocError>
 
 /// Characters without the blanks at their end.
 pub fn without_blanks(characters: &[char]) -> &[char]
-    ensures { IsTrimmed characters.now result.now }
+    ensures { result.now ≡ without_blanks characters.now }
 {
     let mut len = characters.len();
     'back: while len > 0 && characters[len - 1] == ' ' {

@@ -2,7 +2,7 @@
 
 ghost use Rattle.std.specs.Prelude.{◌≡◌, ◌≤◌, ◌<◌, ◌∷◌, [], IfOk, length};
 ghost use Rattle.apply_picture.specs.Columns.{columns_of};
-ghost use Rattle.apply_picture.specs.Lines.{IsTrimmed};
+ghost use Rattle.apply_picture.specs.Fitting.{without_blanks};
 ghost use Rattle.apply_picture.specs.declared.words.shown_text.ShownText.{ShownText as shown_type};
 
 use crate::words::columns::columns_of;
@@ -13,7 +13,7 @@ use std::alloc::{AllocError, Global};
 /// one line at least. `Err` where memory is refused.
 pub fn wrapped(alloc: Global, text: &ShownText, limit: usize) -> Result<Vec<ShownText>, AllocError>
     ensures { IfOk result (λ lines. columns_of text.now.characters.items ≤ limit
-        → (line : shown_type) × (lines.items ≡ line ∷ []) × IsTrimmed text.now.characters.items line.characters.items) }
+        → (line : shown_type) × (lines.items ≡ line ∷ []) × (line.characters.items ≡ without_blanks text.now.characters.items)) }
 {
     let mut lines = Vec::new(alloc);
     let (line, mut rest) = split_line(text.characters(), limit);
@@ -28,7 +28,7 @@ pub fn wrapped(alloc: Global, text: &ShownText, limit: usize) -> Result<Vec<Show
 
 /// The first line of characters, and those behind it; blanks between them are dropped.
 fn split_line(characters: &[char], limit: usize) -> (&[char], &[char])
-    ensures line { columns_of characters.now ≤ limit → IsTrimmed characters.now result.0.now }
+    ensures line { columns_of characters.now ≤ limit → result.0.now ≡ without_blanks characters.now }
     ensures rest { columns_of characters.now ≤ limit → result.1.now ≡ [] }
     ensures shorter { 1 ≤ length characters.now → length result.1.now < length characters.now }
 {

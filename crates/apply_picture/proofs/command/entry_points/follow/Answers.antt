@@ -3,30 +3,31 @@ use Rattle.std.proofs.Common.{◌≡◌, ◌∙◌, ℕ, Bool, List, Option, Non
 use Rattle.std.specs.Prelude.{IfErr, IfSome, OnOk}
 use Rattle.std.specs.Io.KnownBytes.{IsAtEnd}
 use Rattle.apply_words.specs.Words.{IsGivenBy}
+use Rattle.apply_picture.specs.CommandLine.{HaveSaid}
 use Rattle.apply_picture.specs.Viewed.{IsOfStream, IsStatusOf, WasDrawn, WasViewed}
 use Rattle.apply_picture.specs.declared.command.followed.Followed.{Followed}
 use Rattle.apply_picture.specs.declared.command.outcome.Outcome.{Outcome}
 use Rattle.apply_picture.specs.declared.command.settings.Settings.{Settings}
 use Rattle.apply_picture.proofs.command.entry_points.follow.Goals as goal
 
-was_viewed : {File : Type 0} (remaining : File → Option (List ℕ)) (input left : Option (List ℕ)) (is_wanted : Bool) (before after : Option (List ℕ))
+was_viewed : {File : Type 0} (remaining : File → Option (List ℕ)) (words : List (List ℕ)) (input left : Option (List ℕ)) (is_wanted : Bool) (before after : Option (List ℕ))
     (followed : Followed) (outcome : Outcome) (settings : Settings) (bytes : Option (List ℕ))
-    → followed ≡ record { status = outcome.status; answer = Some outcome.answer; rest = outcome.rest }
+    → HaveSaid words settings → followed ≡ record { status = outcome.status; answer = Some outcome.answer; rest = outcome.rest }
     → IsGivenBy remaining input settings.file bytes → WasDrawn settings.form is_wanted before after outcome.answer
     → IfSome bytes (λ bytes. IsOfStream bytes settings.rows settings.form is_wanted before after outcome.answer)
     → IsStatusOf outcome.answer outcome.status
     → (settings.file ≡ None → IfErr outcome.answer (λ fault. OnOk outcome.rest (IsAtEnd left)))
-    → IfSome followed.answer (WasViewed remaining input left is_wanted before after followed)
-was_viewed remaining input left is_wanted before after followed outcome settings bytes is given drawn stream told read =
-    subst (λ (f : Followed). IfSome f.answer (WasViewed remaining input left is_wanted before after f)) (sym is)
-    (record { settings = settings; bytes = bytes; given = given; drawn = drawn; stream = stream; told = told; read = read })
+    → IfSome followed.answer (WasViewed remaining words input left is_wanted before after followed)
+was_viewed remaining words input left is_wanted before after followed outcome settings bytes said is given drawn stream told read =
+    subst (λ (f : Followed). IfSome f.answer (WasViewed remaining words input left is_wanted before after f)) (sym is)
+    (record { settings = settings; said = said; bytes = bytes; given = given; drawn = drawn; stream = stream; told = told; read = read })
 
 pub returns-in_default-clause-viewed : goal.returns-in_default-clause-viewed
 returns-in_default-clause-viewed g c =
     let input = g.R.Read.remaining c.args.input.now in
     let given = subst (λ o. IsGivenBy g.F.File.Read.remaining input o input) (sym c.in_default.is) refl in
     let viewed = c.view_input-outcome.ensures in
-    was_viewed g.F.File.Read.remaining input _ _ _ _ _ c.view_input-outcome.result c.in-Ok.settings input c.with_answer.ensures given
+    was_viewed g.F.File.Read.remaining _ input _ _ _ _ _ c.view_input-outcome.result c.in-Ok.settings input c.in-Ok.ensures c.with_answer.ensures given
     viewed.drawn viewed.stream viewed.status (λ none. viewed.read)
 
 pub returns-in-Ok-open-clause-viewed : goal.returns-in-Ok-open-clause-viewed
@@ -35,5 +36,5 @@ returns-in-Ok-open-clause-viewed g c =
     let bytes = g.F.File.Read.remaining c.in-Ok-open.file in
     let given = subst (λ o. IsGivenBy g.F.File.Read.remaining input o bytes) (sym c.in-Some.is) (c.in-Ok-open.file, refl) in
     let viewed = c.view_input-outcome-in-Ok-open.ensures in
-    was_viewed g.F.File.Read.remaining input _ _ _ _ _ c.view_input-outcome-in-Ok-open.result c.in-Ok.settings bytes
-    c.with_answer-in-Ok-open.ensures given viewed.drawn viewed.stream viewed.status (λ none. let bad = sym c.in-Some.is ∙ none in cc)
+    was_viewed g.F.File.Read.remaining _ input _ _ _ _ _ c.view_input-outcome-in-Ok-open.result c.in-Ok.settings bytes
+    c.in-Ok.ensures c.with_answer-in-Ok-open.ensures given viewed.drawn viewed.stream viewed.status (λ none. let bad = sym c.in-Some.is ∙ none in cc)

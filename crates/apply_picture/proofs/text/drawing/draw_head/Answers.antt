@@ -1,6 +1,6 @@
 use Rattle.std.proofs.Common.{◌∙◌, subst}
 use Rattle.std.specs.Prelude.{map}
-use Rattle.apply_picture.specs.Lines.{IsHeadedBy, heading_characters}
+use Rattle.apply_picture.specs.Texts.{IsHeadedBy, heading_characters}
 use Rattle.apply_picture.specs.declared.text.line.Line.{Line}
 use Rattle.apply_picture.specs.declared.text.style.Style.{Style}
 use Rattle.apply_picture.proofs.Growing.{headed_more}

@@ -1,5 +1,5 @@
 use Rattle.std.specs.Prelude.{map}
-use Rattle.apply_picture.specs.Lines.{heading_characters}
+use Rattle.apply_picture.specs.Texts.{heading_characters}
 use Rattle.apply_picture.specs.declared.text.line.Line.{Line}
 use Rattle.apply_picture.proofs.Growing.{headed_more, on_ok}
 use Rattle.apply_picture.proofs.Heads.{headed_first, pieces_more}

@@ -1,5 +1,5 @@
 use Rattle.std.proofs.Common.{◌≡◌, ◌++◌, drop}
-use Rattle.apply_picture.specs.Lines.{few_marks}
+use Rattle.apply_picture.specs.Fitting.{few_marks}
 use Rattle.apply_picture.proofs.words.fitting.with_few_marks.Given as goal
 
 abbrev pub invariant-loop-character : goal.invariant-loop-character

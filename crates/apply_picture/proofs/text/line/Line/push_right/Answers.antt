@@ -1,13 +1,13 @@
-use Rattle.std.proofs.Common.{replicate}
-use Rattle.apply_picture.proofs.Growing.{more_all, more_then, on_ok}
+use Rattle.std.proofs.Common.{arith}
+use Rattle.apply_picture.proofs.Growing.{on_ok}
+use Rattle.apply_picture.proofs.Rows.{right_pushed}
 use Rattle.apply_picture.proofs.text.line.Line.push_right.Goals as goal
 
-pub returns-clause-more : goal.returns-clause-more
-returns-clause-more c =
-    let before = c.args.self.now.pieces.items in
-    let padded = c.push_blanks.new.self.pieces.items in
-    let after = c.push_all.new.self.pieces.items in
-    let blanks = more_all c.args.self.now.width before padded (replicate c.saturating_sub.result 32) c.in_ok-push_blanks.ensures.pieces in
+pub returns-clause-pieces : goal.returns-clause-pieces
+returns-clause-pieces c =
+    let mid = c.push_blanks.new.self in
     on_ok c.push_all.result
-    (λ is. more_then before padded after blanks (more_all c.push_blanks.new.self.width padded after c.characters.result.now is))
+    (λ is. right_pushed c.args.self.now.width mid.width c.args.columns c.columns.result c.saturating_sub.result c.args.self.now.pieces.items
+    mid.pieces.items c.push_all.new.self.pieces.items c.args.text.now.characters.items c.characters.result.now c.characters.ensures
+    c.in_ok-push_blanks.ensures.width c.columns.ensures c.saturating_sub.ensures (omega arith) c.in_ok-push_blanks.ensures.pieces is)
     c.push_all.ensures.pieces
