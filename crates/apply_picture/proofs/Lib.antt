@@ -7,6 +7,7 @@ pub mod Parsed
 pub mod Blanks
 pub mod Growing
 pub mod Rows
+pub mod Boxes
 pub mod Drawn
 pub mod Saying
 pub mod Heads

@@ -1,5 +1,5 @@
 -- What was written, with more of it.
-use Rattle.std.proofs.Common.{◌≡◌, ◌∙◌, ℕ, ◌+◌, ◌<◌, ◌≤◌, ◌∷◌, [], ◌++◌, List, Bool, Option, None, Some, ap, subst, sym, get_or, length, take, append-nil, append_assoc, codes, arith}
+use Rattle.std.proofs.Common.{◌≡◌, ◌∙◌, ℕ, ◌+◌, ◌<◌, ◌≤◌, ◌∷◌, [], ◌++◌, List, Bool, Option, None, Some, ap, ap₂, subst, sym, get_or, length, take, append-nil, append_assoc, codes, arith}
 use Rattle.std.specs.Prelude.{All, IfSome, map}
 use Rattle.std.specs.List.{AllZip, flat_map, slice_get}
 use Rattle.std.specs.Io.KnownBytes.{Appends, Keeps}
@@ -9,10 +9,11 @@ use Rattle.std.proofs.lemmas.List.{map-append, map_more, take_all, take_more}
 use Rattle.std.proofs.lemmas.List.Elements.{All-append}
 use Rattle.apply_view.specs.Steps.{ToldStep}
 use Rattle.apply_view.specs.declared.rows.choosing.Rows.{Rows}
+use Rattle.apply_view.specs.declared.told.moments.Moments.{Moments}
 use Rattle.apply_picture.specs.Heading.{heading_words}
 use Rattle.apply_picture.specs.LeftOut.{IsLeftOutAs, left_out_said}
 use Rattle.apply_picture.specs.Lines.{IsLine, LinesWritten, line_bytes, text_bytes}
-use Rattle.apply_picture.specs.Markup.{GroupWritten, GroupsWritten, HeadWritten, IsGroupAt, IsGroupOf, MarkupWritten, SvgWritten, TitleWritten, escaped, group_bytes, heading_bytes, part_bytes, title_bytes}
+use Rattle.apply_picture.specs.Markup.{Axis, GroupWritten, GroupsWritten, HeadWritten, IsGroupAt, IsGroupOf, MarkupWritten, SvgWritten, TitleWritten, bar_left, bar_width, box_bytes, escaped, group_bytes, heading_bytes, part_bytes, title_bytes}
 use Rattle.apply_picture.specs.Rows.{AreTicks, Layout, layout_of, row_at, rows_of}
 use Rattle.apply_picture.specs.Shown.{shown_characters}
 use Rattle.apply_picture.specs.Texts.{HeadLinesWritten, IsHeadedBy, LeftOutWritten, RowsWritten, TextWritten, heading_characters}
@@ -168,30 +169,31 @@ more_markup a b c parts before more = record {
 pub markup_then : (a b c : Option (List ℕ)) → MarkupWritten a b → MarkupWritten b c → MarkupWritten a c
 markup_then a b c before more = more_markup a b c more.parts before more.written
 
-pub no_groups : (steps : List ToldStep) (a : Option (List ℕ)) → GroupsWritten steps [] a a
-no_groups steps a = record { groups = []; each = tt; written = Appends-nil a }
+pub no_groups : (axis : Axis) (picture : Picture) (a : Option (List ℕ)) → GroupsWritten axis picture [] a a
+no_groups axis picture a = record { groups = []; each = tt; written = Appends-nil a }
 
-pub group_more : (steps : List ToldStep) (places : List ℕ) (i : ℕ) (a b c : Option (List ℕ)) → i < length places
-    → GroupsWritten steps (take i places) a b → GroupWritten steps (get_or places i 0) b c
-    → GroupsWritten steps (take (i + 1) places) a c
-group_more steps places i a b c below before more =
+pub group_more : (axis : Axis) (picture : Picture) (places : List ℕ) (i : ℕ) (a b c : Option (List ℕ)) → i < length places
+    → GroupsWritten axis picture (take i places) a b → GroupWritten axis picture (get_or places i 0) b c
+    → GroupsWritten axis picture (take (i + 1) places) a c
+group_more axis picture places i a b c below before more =
     let one : flat_map group_bytes (more.group ∷ []) ≡ group_bytes more.group = append-nil (group_bytes more.group) in
     record {
       groups = before.groups ++ more.group ∷ [];
-      each = zip_more (IsGroupAt steps) places i 0 before.groups more.group below before.each more.is;
+      each = zip_more (IsGroupAt axis picture) places i 0 before.groups more.group below before.each more.is;
       written = subst (Appends a c)
           (sym (flat_map-append group_bytes before.groups (more.group ∷ []) ∙ ap (λ bs. flat_map group_bytes before.groups ++ bs) one))
           (Appends-trans a b c _ _ before.written more.written);
     }
 
-pub svg_written : (picture : Picture) (a b c d e f g : Option (List ℕ)) (others tail : List Part) → HeadWritten picture a b
-    → Appends b c (flat_map part_bytes others) → MarkupWritten c d → GroupsWritten picture.told.now.steps picture.rows.places.items d e
+pub svg_written : (axis : Axis) (picture : Picture) (a b c d e f g : Option (List ℕ)) (others tail : List Part) → HeadWritten picture a b
+    → Appends b c (flat_map part_bytes others) → MarkupWritten c d → GroupsWritten axis picture picture.rows.places.items d e
     → Appends e f (flat_map part_bytes tail) → Appends f g (codes "</svg>\n") → (h : Option (List ℕ)) → Keeps g h → SvgWritten picture a h
-svg_written picture a b c d e f g others tail head others_sent grid groups tail_sent end h kept =
+svg_written axis picture a b c d e f g others tail head others_sent grid groups tail_sent end h kept =
     let front = markup_then b c d (more_markup b b c others (no_markup b) others_sent) grid in
     let more = front.parts in
     let back = head.titled.back ++ more in
     record {
+      axis = axis;
       head = head.parts ++ more;
       groups = groups.groups;
       tail = tail;
@@ -248,27 +250,46 @@ head_written picture a b c d what is opening title style =
 
 -- ---- the row of a step
 
-group_if : (step : Option ToldStep) (title rest : List Part) → IfSome step (λ step. flat_map part_bytes title ≡ title_bytes step)
-    → IfSome step (IsGroupOf (title ++ rest))
-group_if None title rest told = tt
-group_if (Some step) title rest told =
-    record { rest = rest; begins = flat_map-append part_bytes title rest ∙ ap (λ bs. bs ++ flat_map part_bytes rest) told }
+joined_by : (o t f b k : List ℕ) → (((o ++ t) ++ f) ++ b) ++ k ≡ o ++ (((t ++ f) ++ b) ++ k)
+joined_by o t f b k = simp append_assoc
 
-pub group_sent : (a b c d e : Option (List ℕ)) (title rest : List Part) → Appends a b (codes "<g>") → Appends b c (flat_map part_bytes title)
-    → Appends c d (flat_map part_bytes rest) → Appends d e (codes "</g>\n")
-    → Appends a e (codes "<g>" ++ flat_map part_bytes title ++ flat_map part_bytes rest ++ codes "</g>\n")
-group_sent a b c d e title rest begin_sent title_sent rest_sent end_sent =
-    Appends-trans a d e _ _ (Appends-trans a c d _ _ (Appends-trans a b c _ _ begin_sent title_sent) rest_sent) end_sent
+-- the title of a step, other parts, its bar, and other parts again
+pub step_written : (axis : Axis) (moments : Moments) (step : ToldStep) (a b c d e f g : Option (List ℕ)) (no_title title front no_bar bar back : List Part)
+    (left width top : ℕ) → no_title ≡ [] → flat_map part_bytes title ≡ flat_map part_bytes no_title ++ title_bytes step → no_bar ≡ []
+    → flat_map part_bytes bar ≡ flat_map part_bytes no_bar ++ box_bytes left width top step → left ≡ bar_left axis moments step
+    → width ≡ bar_width axis moments step → Appends a b (codes "<g>") → Appends b c (flat_map part_bytes title)
+    → Appends c d (flat_map part_bytes front) → Appends d e (flat_map part_bytes bar) → Appends e f (flat_map part_bytes back)
+    → Appends f g (codes "</g>\n") → (group : List Part) × IsGroupOf axis moments group step × Appends a g (group_bytes group)
+step_written axis moments step a b c d e f g no_title title front no_bar bar back left width top none told no_box boxed is_left is_width begun titled fronted
+    barred backed ended =
+    let bytes : List Part → List ℕ = flat_map part_bytes in
+    let joined : bytes (title ++ front ++ bar ++ back) ≡ bytes title ++ bytes front ++ bytes bar ++ bytes back =
+    flat_map-append part_bytes (title ++ front ++ bar) back
+    ∙ ap (λ bs. bs ++ bytes back) (flat_map-append part_bytes (title ++ front) bar
+    ∙ ap (λ bs. bs ++ bytes bar) (flat_map-append part_bytes title front)) in
+    let is_title : bytes title ≡ title_bytes step = told ∙ ap (λ ps. bytes ps ++ title_bytes step) none in
+    let is_bar : bytes bar ≡ box_bytes (bar_left axis moments step) (bar_width axis moments step) top step =
+    boxed ∙ ap (λ ps. bytes ps ++ box_bytes left width top step) no_box ∙ ap₂ (λ l w. box_bytes l w top step) is_left is_width in
+    let sent = Appends-trans a f g _ _ (Appends-trans a e f _ _ (Appends-trans a d e _ _ (Appends-trans a c d _ _ (Appends-trans a b c _ _ begun titled)
+    fronted) barred) backed) ended in (
+      title ++ front ++ bar ++ back,
+      record { front = front; top = top; back = back; is = joined ∙ ap₂ (λ t x. t ++ bytes front ++ x ++ bytes back) is_title is_bar },
+      subst (λ bs. Appends a g (bs ++ codes "</g>\n"))
+          (joined_by (codes "<g>") (bytes title) (bytes front) (bytes bar) (bytes back) ∙ ap (λ bs. codes "<g>" ++ bs) (sym joined)) sent,
+    )
 
-pub group_written : (steps : List ToldStep) (place : ℕ) (a b : Option (List ℕ)) (old title rest : List Part) → old ≡ []
-    → IfSome (slice_get steps place) (λ step. flat_map part_bytes title ≡ flat_map part_bytes old ++ title_bytes step)
-    → Appends a b (codes "<g>" ++ flat_map part_bytes title ++ flat_map part_bytes rest ++ codes "</g>\n") → GroupWritten steps place a b
-group_written steps place a b old title rest none told sent = record {
-  group = title ++ rest;
-  is = group_if (slice_get steps place) title rest
-      (subst (λ (ps : List Part). IfSome (slice_get steps place) (λ step. flat_map part_bytes title ≡ flat_map part_bytes ps ++ title_bytes step)) none told);
-  written = subst (λ bs. Appends a b (bs ++ codes "</g>\n"))
-      (append_assoc (codes "<g>") (flat_map part_bytes title) (flat_map part_bytes rest)
-      ∙ ap (λ bs. codes "<g>" ++ bs) (sym (flat_map-append part_bytes title rest)))
-      sent;
+pub group_written : (axis : Axis) (picture : Picture) (place : ℕ) (step : ToldStep) (a b : Option (List ℕ)) → slice_get picture.told.now.steps place ≡ Some step
+    → (group : List Part) × IsGroupOf axis picture.moments group step × Appends a b (group_bytes group) → GroupWritten axis picture place a b
+group_written axis picture place step a b found of_step = record {
+  group = of_step.0;
+  is = subst (λ (o : Option ToldStep). IfSome o (IsGroupOf axis picture.moments of_step.0)) (sym found) of_step.1;
+  written = of_step.2;
+}
+
+pub empty_group : (axis : Axis) (picture : Picture) (place : ℕ) (a b : Option (List ℕ)) → slice_get picture.told.now.steps place ≡ None
+    → Appends a b (codes "<g></g>\n") → GroupWritten axis picture place a b
+empty_group axis picture place a b none sent = record {
+  group = [];
+  is = subst (λ (o : Option ToldStep). IfSome o (IsGroupOf axis picture.moments [])) (sym none) tt;
+  written = sent;
 }

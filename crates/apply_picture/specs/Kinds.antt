@@ -16,6 +16,14 @@ kind_of action =
     else if bytes_eq action (codes "refresh") then kind.Refresh
     else kind.Other
 
+abbrev pub kind_name : Kind → List ℕ
+kind_name kind.Create = codes "create"
+kind_name kind.Update = codes "update"
+kind_name kind.Delete = codes "delete"
+kind_name kind.Read = codes "read"
+kind_name kind.Refresh = codes "refresh"
+kind_name kind.Other = codes "other"
+
 -- how it is shown in a text with colours
 abbrev pub kind_paint : Kind → Paint
 kind_paint kind.Create = paint.Green

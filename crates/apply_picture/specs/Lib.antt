@@ -1,3 +1,4 @@
+pub mod Axes
 pub mod Charts
 pub mod Columns
 pub mod CommandLine

@@ -1,7 +1,7 @@
 //! The kinds of steps.
 
 ghost use Rattle.std.specs.Prelude.{◌≡◌};
-ghost use Rattle.apply_picture.specs.Kinds.{kind_of, kind_paint};
+ghost use Rattle.apply_picture.specs.Kinds.{kind_name, kind_of, kind_paint};
 
 use crate::text::paint::Paint;
 
@@ -32,7 +32,9 @@ impl Kind {
     }
 
     /// Its name.
-    pub fn name(self) -> &'static str {
+    pub fn name(self) -> &'static str
+        ensures { result.now ≡ kind_name self }
+    {
         match self {
             Kind::Create => "create",
             Kind::Update => "update",

@@ -1,9 +1,11 @@
 //! The whole SVG.
 
-ghost use Rattle.std.specs.Prelude.{◌≡◌, ◌++◌, IfSome, OnOk, codes};
+ghost use Rattle.std.specs.Prelude.{◌≡◌, ◌++◌, List, OnOk, codes};
 ghost use Rattle.std.specs.Io.KnownBytes.{Appends};
-ghost use Rattle.std.specs.List.{flat_map, slice_get};
-ghost use Rattle.apply_picture.specs.Markup.{GroupWritten, GroupsWritten, HeadWritten, MarkupWritten, SomeSvgWritten, SvgWritten, TitleWritten, escaped, part_bytes, title_bytes};
+ghost use Rattle.std.specs.List.{flat_map};
+ghost use Rattle.apply_picture.specs.Axes.{axis_in};
+ghost use Rattle.apply_picture.specs.Markup.{GroupWritten, GroupsWritten, HeadWritten, IsGroupOf, MarkupWritten, SomeSvgWritten, SvgWritten, TitleWritten, escaped, group_bytes, part_bytes};
+ghost use Rattle.apply_picture.specs.declared.svg.part.Part.{Part as part};
 
 use crate::draw_fault::DrawFault;
 use crate::picture::Picture;
@@ -11,13 +13,14 @@ use crate::svg::back::push_back;
 use crate::svg::front::{push_front, push_grid};
 use crate::svg::markup::Markup;
 use crate::svg::part::Part;
-use crate::svg::row::{begin_title, push_row};
+use crate::svg::row::{begin_title, place_of, push_bar, push_before_bar, push_behind_bar};
 use crate::svg::scale::Scale;
 use crate::svg::sheet::{EDGE, ROW, WIDTH};
 use crate::svg::style::STYLE;
 use crate::telling::heading::heading;
 use crate::words::shown_text::ShownText;
 use crate::writing::{flush, write_text};
+use apply_view::Step;
 use std::alloc::{AllocError, Global};
 use std::io::Write;
 
@@ -203,7 +206,7 @@ fn draw_rows<W: Write>(
     top: u64,
     out: &mut W,
 ) -> Result<(), DrawFault>
-    ensures { OnOk result (GroupsWritten picture.now.told.now.steps picture.now.rows.places.items (W.contents out.old) (W.contents out.new)) }
+    ensures { OnOk result (GroupsWritten (axis_in scale) picture.now picture.now.rows.places.items (W.contents out.old) (W.contents out.new)) }
 {
     let mut y = top;
     for place in &picture.rows.places {
@@ -222,62 +225,43 @@ fn draw_row<W: Write>(
     y: u64,
     out: &mut W,
 ) -> Result<(), DrawFault>
-    ensures { OnOk result (GroupWritten picture.now.told.now.steps place (W.contents out.old) (W.contents out.new)) }
-{
-    let mut title = Markup::new(alloc);
-    begin_row(alloc, &mut title, picture, place)?;
-    let mut rest = Markup::new(alloc);
-    push_step(alloc, &mut rest, picture, scale, place, y)?;
-    draw_group(alloc, &mut title, &mut rest, out)?;
-    Ok(())
-}
-
-/// Writes a group with a title and what comes behind that.
-fn draw_group<W: Write>(
-    alloc: Global,
-    title: &mut Markup,
-    rest: &mut Markup,
-    out: &mut W,
-) -> Result<(), DrawFault>
-    ensures { OnOk result (Appends (W.contents out.old) (W.contents out.new)
-        (codes "<g>" ++ flat_map part_bytes title.old.parts.items ++ flat_map part_bytes rest.old.parts.items ++ codes "</g>\n")) }
-{
-    write_text("<g>", out)?;
-    title.send(alloc, out)?;
-    rest.send(alloc, out)?;
-    write_text("</g>\n", out)?;
-    Ok(())
-}
-
-/// Adds what the row of the step at that place begins with.
-fn begin_row(
-    alloc: Global,
-    markup: &mut Markup,
-    picture: &Picture<'_>,
-    place: usize,
-) -> Result<(), AllocError>
-    ensures { OnOk result (IfSome (slice_get picture.now.told.now.steps place)
-        (λ step. flat_map part_bytes markup.new.parts.items ≡ flat_map part_bytes markup.old.parts.items ++ title_bytes step)) }
+    ensures { OnOk result (GroupWritten (axis_in scale) picture.now place (W.contents out.old) (W.contents out.new)) }
 {
     match picture.told.steps().get(place) {
-        Some(step) => begin_title(alloc, markup, step),
-        None => Ok(()),
+        Some(step) => draw_step(alloc, picture, scale, place, step, y, out),
+        None => write_text("<g></g>\n", out),
     }
 }
 
-/// Adds the rest of it, at that height.
-fn push_step(
+/// Writes the row of the step at that place, at that height.
+fn draw_step<W: Write>(
     alloc: Global,
-    markup: &mut Markup,
     picture: &Picture<'_>,
     scale: Scale,
     place: usize,
+    step: &Step,
     y: u64,
-) -> Result<(), AllocError> {
-    match picture.told.steps().get(place) {
-        Some(step) => push_row(alloc, markup, picture, scale, place, step, y),
-        None => Ok(()),
-    }
+    out: &mut W,
+) -> Result<(), DrawFault>
+    ensures { OnOk result ((group : List part) × IsGroupOf (axis_in scale) picture.now.moments group step.now
+        × Appends (W.contents out.old) (W.contents out.new) (group_bytes group)) }
+{
+    let place_of_bar = place_of(picture, scale, step, y);
+    let mut title = Markup::new(alloc);
+    begin_title(alloc, &mut title, step)?;
+    let mut front = Markup::new(alloc);
+    push_before_bar(alloc, &mut front, picture, place, step, y)?;
+    let mut bar = Markup::new(alloc);
+    push_bar(&mut bar, step, place_of_bar)?;
+    let mut back = Markup::new(alloc);
+    push_behind_bar(alloc, &mut back, picture, scale, step, place_of_bar, y)?;
+    write_text("<g>", out)?;
+    title.send(alloc, out)?;
+    front.send(alloc, out)?;
+    bar.send(alloc, out)?;
+    back.send(alloc, out)?;
+    write_text("</g>\n", out)?;
+    Ok(())
 }
 
 /// Writes what stands behind every second of so many rows.

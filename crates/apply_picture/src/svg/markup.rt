@@ -37,7 +37,9 @@ impl Markup {
     }
 
     /// Adds parts. One call for many: each call that can fail makes its caller's proof longer.
-    pub fn add(&mut self, parts: &[Part]) -> Result<(), AllocError> {
+    pub fn add(&mut self, parts: &[Part]) -> Result<(), AllocError>
+        ensures { OnOk result (flat_map part_bytes self.new.parts.items ≡ flat_map part_bytes self.old.parts.items ++ flat_map part_bytes parts.now) }
+    {
         self.parts.extend_from_slice(parts)
     }
 

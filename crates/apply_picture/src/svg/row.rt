@@ -2,7 +2,8 @@
 
 ghost use Rattle.std.specs.Prelude.{◌≡◌, ◌++◌, OnOk};
 ghost use Rattle.std.specs.List.{flat_map};
-ghost use Rattle.apply_picture.specs.Markup.{part_bytes, title_bytes};
+ghost use Rattle.apply_picture.specs.Axes.{axis_in};
+ghost use Rattle.apply_picture.specs.Markup.{bar_left, bar_width, box_bytes, box_end, part_bytes, title_bytes};
 
 use crate::kind::Kind;
 use crate::picture::Picture;
@@ -16,7 +17,7 @@ use std::alloc::{AllocError, Global};
 
 /// Where the bar of a step stands: its left and its width in tenths of a pixel, and its top in pixels.
 #[derive(Clone, Copy)]
-struct Place {
+pub struct Place {
     left: u64,
     width: u64,
     top: u64,
@@ -32,26 +33,44 @@ pub fn begin_title(alloc: Global, markup: &mut Markup, step: &Step) -> Result<()
     markup.shown(alloc, step.action().as_bytes())
 }
 
-/// Adds the rest of the row of the step at that place, at that height: what its title goes on with, its label, bar and length.
-pub fn push_row(
+/// Where the bar of a step stands in a row at that height: from where it begins to where it ends.
+pub fn place_of(picture: &Picture<'_>, scale: Scale, step: &Step, y: u64) -> Place
+    ensures left { result.left ≡ bar_left (axis_in scale) picture.now.moments step.now }
+    ensures width { result.width ≡ bar_width (axis_in scale) picture.now.moments step.now }
+{
+    let left = scale.x_in(picture.span(), picture.begin_of(step));
+    let right = scale.x_in(picture.span(), picture.until_of(step));
+    Place {
+        left,
+        width: right.saturating_sub(left).max(LEAST_BAR),
+        top: y.saturating_add((ROW - BAR) / 2),
+    }
+}
+
+/// Adds what stands before the bar of the step at that place: what its title goes on with, and its label.
+pub fn push_before_bar(
     alloc: Global,
     markup: &mut Markup,
     picture: &Picture<'_>,
-    scale: Scale,
     place: usize,
     step: &Step,
     y: u64,
 ) -> Result<(), AllocError> {
-    let left = scale.x_of(picture.begin_of(step));
-    let right = scale.x_of(picture.until_of(step));
-    let bar = Place {
-        left,
-        width: right.saturating_sub(left).max(LEAST_BAR),
-        top: y.saturating_add((ROW - BAR) / 2),
-    };
     push_title(alloc, markup, picture, place, step)?;
-    push_label(alloc, markup, step, y)?;
-    push_bar(markup, picture, scale, step, bar)?;
+    push_label(alloc, markup, step, y)
+}
+
+/// Adds what stands behind it: what is drawn over it, and its length.
+pub fn push_behind_bar(
+    alloc: Global,
+    markup: &mut Markup,
+    picture: &Picture<'_>,
+    scale: Scale,
+    step: &Step,
+    bar: Place,
+    y: u64,
+) -> Result<(), AllocError> {
+    push_over(markup, picture, scale, step, bar)?;
     push_length(alloc, markup, picture, step, bar, y)
 }
 
@@ -129,24 +148,47 @@ fn push_label(alloc: Global, markup: &mut Markup, step: &Step, y: u64) -> Result
     markup.own("</text>")
 }
 
-/// Adds the bar of a step, and within it those of its provisioners, unless it failed.
-fn push_bar(
+/// Adds the bar of a step.
+pub fn push_bar(markup: &mut Markup, step: &Step, bar: Place) -> Result<(), AllocError>
+    ensures { OnOk result (flat_map part_bytes markup.new.parts.items
+        ≡ flat_map part_bytes markup.old.parts.items ++ box_bytes bar.left bar.width bar.top step.now) }
+{
+    let kind = Kind::of(step.action()).name();
+    let end = end_of(step);
+    markup.add(&[
+        Part::Own("<rect x=\""),
+        Part::Tenths(bar.left),
+        Part::Own("\" y=\""),
+        Part::Number(bar.top),
+        Part::Own("\" width=\""),
+        Part::Tenths(bar.width),
+        Part::Own("\" height=\""),
+        Part::Number(BAR),
+        Part::Own("\" rx=\"2\" class=\""),
+        Part::Own(kind),
+        Part::Own(end),
+    ])
+}
+
+/// What the bar of a step ends with: it is paler where the step failed or has no end.
+fn end_of(step: &Step) -> &'static str
+    ensures { result.now ≡ box_end step.now }
+{
+    if step.is_marked() {
+        " open\"/>"
+    } else {
+        "\"/>"
+    }
+}
+
+/// Adds what is drawn over the bar of a step: stripes and an edge where it failed, else the bars of its provisioners.
+fn push_over(
     markup: &mut Markup,
     picture: &Picture<'_>,
     scale: Scale,
     step: &Step,
     bar: Place,
 ) -> Result<(), AllocError> {
-    let end = if step.is_marked() {
-        " open\"/>"
-    } else {
-        "\"/>"
-    };
-    push_box(
-        markup,
-        bar,
-        [" class=\"", Kind::of(step.action()).name(), end],
-    )?;
     if step.has_failed() {
         push_box(
             markup,

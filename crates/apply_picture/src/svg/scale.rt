@@ -1,5 +1,9 @@
 //! Where the moments stand.
 
+ghost use Rattle.std.specs.Prelude.{◌≡◌, ◌-◌};
+ghost use Rattle.apply_picture.specs.Axes.{axis_in};
+ghost use Rattle.apply_picture.specs.Markup.{x_at};
+
 use crate::picture::Picture;
 use crate::svg::sheet::{CHARACTER, EDGE, LABEL, LEAST_LABEL, WIDTH};
 use crate::words::fitting::fitted;
@@ -47,14 +51,24 @@ impl Scale {
     }
 
     /// How long the axis is, in tenths of a pixel.
-    pub fn width(self) -> u64 {
+    pub fn width(self) -> u64
+        ensures { result ≡ self.right - self.left }
+    {
         self.right.saturating_sub(self.left)
     }
 
     /// Where a moment stands, in tenths of a pixel. It is given by how long after the first it comes, in microseconds.
     pub fn x_of(self, offset: u64) -> u64 {
-        let place = place_on(self.width(), self.span, offset);
-        self.left.saturating_add(u64::try_from(place).unwrap_or(0))
+        self.x_in(self.span, offset)
+    }
+
+    /// The same, for a stream as long as `span`.
+    pub fn x_in(self, span: u64, offset: u64) -> u64
+        ensures { result ≡ x_at (axis_in self) span offset }
+    {
+        let place = place_on(self.width(), span, offset);
+        let x = (self.left as u128).saturating_add(place);
+        x.min(u64::MAX as u128) as u64
     }
 
     /// How many ticks there are, with that at 0.
