@@ -1,4 +1,5 @@
 pub mod ListReading
+pub mod OneMember
 pub mod Plans
 pub mod Results
 pub mod Scripts

@@ -8,10 +8,10 @@ pub mod Kept
 pub mod Limits
 pub mod Numbers
 pub mod OneEntry
-pub mod Parts
 pub mod Read
 pub mod Refusals
 pub mod Rounds
+pub mod Slots
 pub mod Stuck
 pub mod Timed
 pub mod TreeSteps

@@ -1,4 +1,5 @@
 pub mod Bytes
+pub mod FilledText
 pub mod Found
 pub mod ListReading
 pub mod Plan

@@ -8,6 +8,7 @@ pub mod ChangeNumbers
 pub mod EntriesView
 pub mod Entry
 pub mod HashedId
+pub mod Limit
 pub mod Marks
 pub mod Members
 pub mod NextEntry

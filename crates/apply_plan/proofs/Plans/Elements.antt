@@ -1,7 +1,7 @@
 -- Elements as they are read, one behind the other.
-use Rattle.std.proofs.Common.{◌≡◌, ◌≢◌, ◌+◌, ◌<◌, ◌≤◌, true, false, List, [], ◌∷◌, ◌++◌, length, Option, Some, None, Result, Ok, Err, refl, sym, ap, ◌∙◌, ⊎_elim, arith}
+use Rattle.std.proofs.Common.{◌≡◌, ◌≢◌, ◌+◌, ◌<◌, ◌≤◌, true, false, List, [], ◌∷◌, ◌++◌, length, Option, Some, None, Result, Ok, Err, refl, sym, ap, ◌∙◌, arith}
 use Rattle.std.specs.Prelude.{is_some}
-use Rattle.std.proofs.lemmas.Bool.{cases_lt, le-ltb, lt-ltb}
+use Rattle.std.proofs.lemmas.Bool.{le-ltb, lt-ltb}
 use Rattle.std.proofs.lemmas.List.{length-append}
 use Rattle.serde_json.specs.Data.{Data}
 use Rattle.apply_model.specs.Plan.ResourceChange.{ResourceChange}
@@ -102,19 +102,3 @@ holds_refused old new ds d fault holds room none refused changes count is = reco
 }
 
 -- ---- the changes that they make
-
-pub refused_elements : (elements : Elements) (ds : List Data) (fault : PlanError) → HoldsElements elements ds → elements.fault ≡ Some fault → fault ≢ Memory → changes_within ds ≡ Err fault
-refused_elements elements ds fault holds is known =
-    holds.so_far (λ want. known (same (sym is ∙ want))) ∙ rw is refl
-  where
-    same : {x y : PlanError} → Some x ≡ Some y → x ≡ y
-    same e = cc
-
-pub made_elements : (elements : Elements) (ds : List Data) → HoldsElements elements ds → elements.fault ≡ None → changes_within ds ≡ Ok elements.changes.items
-made_elements elements ds holds none =
-    holds.so_far (λ want. absurd (let never : None ≡ Some Memory = sym none ∙ want in cc)) ∙ rw none refl
-
-pub few_elements : (elements : Elements) (ds : List Data) → HoldsElements elements ds → elements.fault ≡ None → length elements.changes.items ≤ max_changes
-few_elements elements ds holds none =
-    ⊎_elim (λ (many : max_changes < length ds). absurd (let never : Err TooMany ≡ Ok elements.changes.items = sym (beyond ds many) ∙ made_elements elements ds holds none in cc))
-    (λ (few : length ds ≤ max_changes). omega (arith, few, holds.made none)) (cases_lt max_changes (length ds))

@@ -57,16 +57,10 @@ mark_after marks wait other mark below = ⊎_elim
     (λ (no : ((index_of other == index_of wait) ≡ false) × (index_of other ≡ index_of wait → ⊥)). inr (no.1, get_or-set_other marks (index_of wait) (index_of other) mark Unseen no.1))
     (eqb_tells (index_of other) (index_of wait))
 
-abbrev count_begun : List Mark → ℕ
-count_begun marks = count_by has_begun marks
-
 abbrev is_unseen : Mark → Bool
 is_unseen Unseen = true
 is_unseen OnPath = false
 is_unseen Begins = false
-
-abbrev pub count_unseen : List Mark → ℕ
-count_unseen marks = count_by is_unseen marks
 
 abbrev one_where : Bool → ℕ
 one_where b = cond b 1 0

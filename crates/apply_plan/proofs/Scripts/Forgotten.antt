@@ -1,11 +1,9 @@
 -- What was said is taken back, change by change.
-use Rattle.std.proofs.Common.{◌≡◌, ℕ, ◌+◌, ◌<◌, ◌≤◌, ◌==◌, Bool, true, false, List, [], ◌∷◌, ◌++◌, length, map, get_or, set, Option, Some, None, refl, sym, ap, subst, ◌∙◌, arith, ⊎_elim, get_or-set_other, get_or-set_same, length-set}
-use Rattle.std.specs.Prelude.{◌||◌, is_some}
+use Rattle.std.proofs.Common.{◌≡◌, ℕ, ◌+◌, ◌<◌, ◌≤◌, ◌==◌, true, false, List, [], ◌∷◌, length, map, get_or, Option, Some, None, refl, sym, ap, subst, ◌∙◌, arith, ⊎_elim}
+use Rattle.std.specs.Prelude.{is_some}
 use Rattle.std.specs.List.{All, list_any}
 use Rattle.std.proofs.lemmas.Bool.{cases_Bool}
-use Rattle.std.proofs.lemmas.Bool.Decides.{nat_tests}
-use Rattle.std.proofs.lemmas.List.{get_or_append_left, get_or_default, get_or_push, length-append, same_lists}
-use Rattle.std.proofs.lemmas.List.Folds.{list_any-append}
+use Rattle.std.proofs.lemmas.List.{get_or_default, same_lists}
 use Rattle.std.proofs.lemmas.List.FromFn.{get_or-map-range_with_len}
 use Rattle.serde_json.specs.Data.{Data}
 use Rattle.apply_model.specs.declared.script.script_step.ScriptStep.{ScriptStep}
@@ -37,47 +35,9 @@ all_covered entries ds holds =
           ap (list_any (λ entry. entry.0 == number)) holds.kept.kept_is ∙ sym (named holds.made number) ∙ ap is_some (sym said) ∙ some;
     }
 
--- the change of the last entry that is kept
-pub last_within : (said : OutcomeMap) (kept rest : List (ℕ × ℕ)) (last : ℕ × ℕ) → AreCovered said kept → kept ≡ rest ++ last ∷ [] → last.0 < length said
-last_within said kept rest last are is =
-    let whole = subst (All (λ (entry : ℕ × ℕ). (entry.0 < length said) × (entry.1 ≤ 2))) is are.within in
-    let there = whole (length rest) last (omega (arith, length-append rest (last ∷ []))) in
-    (subst (λ (entry : ℕ × ℕ). (entry.0 < length said) × (entry.1 ≤ 2)) (get_or_push rest last last (length rest) refl) there).0
-
 never : (o : Option (List ScriptStep)) → o ≡ None → is_some o ≡ true → ⊥
 never None none some = absurd cc
 never (Some x) none some = absurd cc
-
-or_false : (b : Bool) → (b || false) ≡ b
-or_false true = refl
-or_false false = refl
-
--- without it the others still are
-pub one_less : (said : OutcomeMap) (kept rest : List (ℕ × ℕ)) (last : ℕ × ℕ) → AreCovered said kept → kept ≡ rest ++ last ∷ [] → AreCovered (set said last.0 None) rest
-one_less said kept rest last are is =
-    let whole = subst (All (λ (entry : ℕ × ℕ). (entry.0 < length said) × (entry.1 ≤ 2))) is are.within in
-    let same = length-set said last.0 None in
-    let below = last_within said kept rest last are is in
-    record {
-      within = λ k d lt.
-          let there = whole k d (omega (arith, lt, length-append rest (last ∷ []))) in
-          let mine = subst (λ (entry : ℕ × ℕ). (entry.0 < length said) × (entry.1 ≤ 2)) (get_or_append_left rest (last ∷ []) d k lt) there in
-          (omega (arith, mine.0, same), mine.1);
-      covered = λ number within some.
-          let low : number < length said = omega (arith, within, same) in
-          ⊎_elim
-          (λ (here : (last.0 == number) ≡ true).
-          let equal : last.0 ≡ number = grind (arith, nat_tests) in
-          let nothing : get_or (set said last.0 None) number None ≡ None = ap (λ (n : ℕ). get_or (set said last.0 None) n None) (sym equal) ∙ get_or-set_same said last.0 None None below in
-          absurd (never _ nothing some))
-          (λ (other : (last.0 == number) ≡ false).
-          let apart : number ≡ last.0 → ⊥ = λ equal. grind (arith, nat_tests) in
-          let kept_still = are.covered number low (ap is_some (sym (get_or-set_other said last.0 number None None apart)) ∙ some) in
-          let split : list_any (λ entry. entry.0 == number) kept ≡ (list_any (λ entry. entry.0 == number) rest || ((last.0 == number) || false)) = ap (list_any (λ entry. entry.0 == number)) is ∙ list_any-append (λ entry. entry.0 == number) rest (last ∷ []) in
-          let none : ((last.0 == number) || false) ≡ false = rw other refl in
-          sym (or_false (list_any (λ entry. entry.0 == number) rest)) ∙ ap (λ (b : Bool). list_any (λ entry. entry.0 == number) rest || b) (sym none) ∙ sym split ∙ kept_still)
-          (cases_Bool (last.0 == number));
-    }
 
 -- and without any nothing is said
 pub none_left : (said : OutcomeMap) → AreCovered said [] → said ≡ by_number (length said) []

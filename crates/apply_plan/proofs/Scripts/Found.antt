@@ -1,13 +1,10 @@
 -- Lists of a script, as they are found item by item.
-use Rattle.std.proofs.Common.{◌≡◌, Global, List, [], ◌∷◌, ◌++◌, map, Option, Some, None, option_map, Vec, refl, sym, ap, ◌∙◌}
-use Rattle.std.proofs.lemmas.List.{map-append}
-use Rattle.serde_json.specs.Data.{Data, null, boolean, number, string, array, object}
-use Rattle.apply_json.specs.declared.listed.Listed.TheVariants as kind
-use Rattle.apply_json.specs.Seen.{items_in, listed}
-use Rattle.apply_json.specs.Tree.{◌>>=◌, list_of}
+use Rattle.std.proofs.Common.{◌≡◌, ℕ, ◌+◌, ◌<◌, Global, List, [], ◌∷◌, ◌++◌, length, map, take, get_or, Option, Some, None, option_map, Vec, refl, sym, ap, ◌∙◌}
+use Rattle.std.proofs.lemmas.List.{map-append, take_more}
+use Rattle.serde_json.specs.Data.{Data}
+use Rattle.apply_json.specs.Tree.{◌>>=◌}
 use Rattle.apply_plan.specs.Found.{added}
-use Rattle.apply_plan.specs.Script.Entry.{EntryStep, all_some, step_from}
-use Rattle.apply_plan.specs.Script.Members.{each_member, steps_member}
+use Rattle.apply_plan.specs.Script.Entry.{all_some}
 
 -- with one item more
 and_more : {A : Type 0} (first : A) (others : Option (List A)) (last : Option A) → (added others last >>= λ xs. Some (first ∷ xs)) ≡ added (others >>= λ xs. Some (first ∷ xs)) last
@@ -45,52 +42,9 @@ found_more see part old new last ds d more is so_far =
     ∙ ap (λ list. added list (option_map see last)) (sym (seen_list see old) ∙ so_far) ∙ ap (added (all_some (map part ds))) is
     ∙ sym (all_some_more part ds d)
 
--- ---- what a member is by its kind
+-- ---- copies of what a list holds
 
-pub each_there : {A : Type 0} (part : Data → Option A) (d : Data) (made : Option (List A)) → kind.Absent ≡ listed d → made ≡ all_some (map part (list_of (items_in d))) → made ≡ each_member part (Some d)
-each_there part null made is e = e
-each_there part (boolean b) made is e = absurd cc
-each_there part (number n) made is e = absurd cc
-each_there part (string s) made is e = absurd cc
-each_there part (array ds) made is e = absurd cc
-each_there part (object ms) made is e = absurd cc
-
-pub each_listed : {A : Type 0} (part : Data → Option A) (d : Data) (made : Option (List A)) → kind.List ≡ listed d → made ≡ all_some (map part (list_of (items_in d))) → made ≡ each_member part (Some d)
-each_listed part null made is e = absurd cc
-each_listed part (boolean b) made is e = absurd cc
-each_listed part (number n) made is e = absurd cc
-each_listed part (string s) made is e = absurd cc
-each_listed part (array ds) made is e = e
-each_listed part (object ms) made is e = absurd cc
-
-pub each_other : {A : Type 0} (part : Data → Option A) (d : Data) → kind.Other ≡ listed d → None ≡ each_member part (Some d)
-each_other part null is = absurd cc
-each_other part (boolean b) is = refl
-each_other part (number n) is = refl
-each_other part (string s) is = refl
-each_other part (array ds) is = absurd cc
-each_other part (object ms) is = refl
-
-pub steps_listed : (d : Data) (made : Option (List EntryStep)) → kind.List ≡ listed d → made ≡ all_some (map step_from (list_of (items_in d))) → made ≡ steps_member (Some d)
-steps_listed null made is e = absurd cc
-steps_listed (boolean b) made is e = absurd cc
-steps_listed (number n) made is e = absurd cc
-steps_listed (string s) made is e = absurd cc
-steps_listed (array ds) made is e = e
-steps_listed (object ms) made is e = absurd cc
-
-pub steps_absent : (d : Data) → kind.Absent ≡ listed d → None ≡ steps_member (Some d)
-steps_absent null is = refl
-steps_absent (boolean b) is = absurd cc
-steps_absent (number n) is = absurd cc
-steps_absent (string s) is = absurd cc
-steps_absent (array ds) is = absurd cc
-steps_absent (object ms) is = absurd cc
-
-pub steps_other : (d : Data) → kind.Other ≡ listed d → None ≡ steps_member (Some d)
-steps_other null is = absurd cc
-steps_other (boolean b) is = refl
-steps_other (number n) is = refl
-steps_other (string s) is = refl
-steps_other (array ds) is = absurd cc
-steps_other (object ms) is = refl
+-- one copy more
+pub copied_more : {T A : Type 0} (see : T → A) (made : List A) (xs : List T) (i : ℕ) (x : T) → i < length xs → x ≡ get_or xs i x → made ≡ map see (take i xs) → made ++ see x ∷ [] ≡ map see (take (i + 1) xs)
+copied_more see made xs i x below is so_far =
+    rw (take_more xs i x below, ← is, map-append see (take i xs) (x ∷ []), so_far) refl

@@ -7,7 +7,7 @@ use Rattle.apply_model.specs.declared.script.diag.Diag.{Diag}
 use Rattle.apply_json.specs.declared.scalar.Scalar.{Scalar}
 use Rattle.apply_json.specs.declared.scalar.Scalar.TheVariants as scalar
 use Rattle.apply_json.specs.Seen as s
-use Rattle.apply_json.specs.Seen.{Seen, members_in, scalar_view, seen, text_seen, text_seen_or}
+use Rattle.apply_json.specs.Seen.{members_in, scalar_view, seen, text_seen, text_seen_or}
 use Rattle.apply_json.specs.Tree.{◌>>=◌, list_of, member_of, unless_empty, unless_null}
 use Rattle.apply_json.proofs.Held.{member_in, text_in, text_or_in, whole_in}
 use Rattle.apply_plan.specs.declared.script.diag_slots.DiagSlots.{DiagSlots}
@@ -16,7 +16,7 @@ use Rattle.apply_plan.specs.declared.script.output_slots.OutputSlots.{OutputSlot
 use Rattle.apply_plan.specs.declared.script.provisioner_slots.ProvisionerSlots.{ProvisionerSlots}
 use Rattle.apply_plan.specs.declared.script.step_slots.StepSlots.{StepSlots}
 use Rattle.apply_plan.specs.declared.script.wait_slots.WaitSlots.{WaitSlots}
-use Rattle.apply_plan.specs.Script.Entry.{Entry, EntryStep, Failure, OutputItem, WaitName, all_some, diag_from, diag_or_none, each_of, ending_of, entry_of, failure_from, failure_or_none, flag_or_false, may_fail_or_not, number_or_none, object_or_none, only_warns_or_not, output_from, output_of_members, provisioner_from, step_from, wait_from, wait_of_members}
+use Rattle.apply_plan.specs.Script.Entry.{Entry, EntryStep, Failure, all_some, diag_from, diag_or_none, each_of, ending_of, entry_of, failure_from, failure_or_none, flag_or_false, may_fail_or_not, number_or_none, object_or_none, only_warns_or_not, output_from, output_of_members, provisioner_from, step_from, wait_from, wait_of_members}
 use Rattle.apply_plan.specs.Script.Members.{HoldsDiag, HoldsEntry, HoldsOutput, HoldsProvisioner, HoldsStep, HoldsWait, diag_held, diag_member, each_member, ending_held, entry_held, failure_held, failure_member, flag_held, is_told, may_fail_held, number_held, object_member, only_warns_held, output_held, provisioner_held, step_held, steps_member, wait_held}
 
 -- ---- diagnostics
@@ -27,14 +27,6 @@ object_at name d = ap object_or_none (member_in name d)
 pub diag_is : (slots : DiagSlots) (d : Data) → HoldsDiag slots (members_in d) → diag_held slots ≡ diag_from d
 diag_is slots d holds =
     rw (text_in (codes "summary") d, text_or_in [] (codes "detail") d, object_at (codes "range") d, object_at (codes "snippet") d, ← holds.summary, ← holds.detail, ← holds.range, ← holds.snippet) refl
-
-pub diag_absent : (d : Data) → s.absent ≡ seen (Some d) → Some None ≡ diag_member (Some d)
-diag_absent null is = refl
-diag_absent (boolean b) is = absurd cc
-diag_absent (number n) is = absurd cc
-diag_absent (string t) is = absurd cc
-diag_absent (array ds) is = absurd cc
-diag_absent (object ms) is = absurd cc
 
 pub diag_there : (d : Data) → (s.absent ≡ seen (Some d) → ⊥) → option_map Some (diag_from d) ≡ diag_member (Some d)
 diag_there null is = absurd (is refl)
@@ -103,17 +95,6 @@ wait_is slots (string t) none holds = absurd (none t refl)
 wait_is slots (array ds) none holds = wait_of_members_is slots (array ds) holds
 wait_is slots (object ms) none holds = wait_of_members_is slots (object ms) holds
 
-abbrev named : List ℕ → WaitName
-named address = record { address = address; deposed = None; step = None }
-
-pub wait_is_text : (d : Data) (t : List ℕ) → s.text t ≡ seen (Some d) → Some (named t) ≡ wait_from d
-wait_is_text null t is = absurd cc
-wait_is_text (boolean b) t is = absurd cc
-wait_is_text (number n) t is = absurd cc
-wait_is_text (string u) t is = ap (option_map named) (ap text_seen is)
-wait_is_text (array ds) t is = absurd cc
-wait_is_text (object ms) t is = absurd cc
-
 output_of_members_is : (slots : OutputSlots) (d : Data) → HoldsOutput slots (members_in d) → output_held slots ≡ output_of_members d
 unfolding output_of_members
 output_of_members_is slots d holds = rw (text_in (codes "text") d, number_in (codes "after") d, ← holds.text, ← holds.after) refl
@@ -125,17 +106,6 @@ output_is slots (number n) none holds = output_of_members_is slots (number n) ho
 output_is slots (string t) none holds = absurd (none t refl)
 output_is slots (array ds) none holds = output_of_members_is slots (array ds) holds
 output_is slots (object ms) none holds = output_of_members_is slots (object ms) holds
-
-abbrev told : List ℕ → OutputItem
-told text = record { after = None; text = text }
-
-pub output_is_text : (d : Data) (t : List ℕ) → s.text t ≡ seen (Some d) → Some (told t) ≡ output_from d
-output_is_text null t is = absurd cc
-output_is_text (boolean b) t is = absurd cc
-output_is_text (number n) t is = absurd cc
-output_is_text (string u) t is = ap (option_map told) (ap text_seen is)
-output_is_text (array ds) t is = absurd cc
-output_is_text (object ms) t is = absurd cc
 
 -- ---- members that are no scalars
 

@@ -32,10 +32,6 @@ module _ (k : List ℕ) (o : Option (json.Json × List Token)) (d : Data) (r : L
   passed_member read = kept.passed is_kept o k d r read
 
 module _ (o : Option (json.Json × List Token)) (d : Data) (r : List Token) where
-  -- a scalar that stands in an array
-  pub scalar_item : (x : Seen) → converted of_json o ≡ Some (d, r) → x ≡ seen (Some d) → (e : Data) × (converted (keeping is_kept) o ≡ Some (e, r)) × (x ≡ seen (Some e))
-  scalar_item x read is = let e = kept.scalar_kept is_kept o d r read in (e.0, e.1, is ∙ sym e.2)
-
   -- an item that nobody looks at
   pub passed_item : converted of_json o ≡ Some (d, r) → (e : Data) × (converted (keeping is_kept) o ≡ Some (e, r))
   passed_item read = let e = kept.scalar_kept is_kept o d r read in (e.0, e.1)

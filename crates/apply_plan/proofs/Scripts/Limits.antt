@@ -10,7 +10,6 @@ use Rattle.std.proofs.lemmas.List.Folds.{list_any_at}
 use Rattle.std.proofs.lemmas.List.Sums.{sum_by_more_le}
 use Rattle.apply_model.specs.declared.plan.step_kind.StepKind.{StepKind}
 use Rattle.apply_model.specs.declared.script.outcome.Outcome.{Outcome}
-use Rattle.apply_model.specs.declared.script.provisioner.Provisioner.{Provisioner}
 use Rattle.apply_model.specs.declared.script.wait.Wait.{Wait}
 use Rattle.apply_plan.specs.declared.script.script_error.ScriptError.{ScriptError}
 use Rattle.apply_plan.specs.declared.script.script_error.ScriptError.TheVariants.{TooManySteps, SecondsRange, TooManyProvisioners, TooMuchOutput, TooManyWaits}
@@ -18,7 +17,7 @@ use Rattle.apply_plan.specs.declared.script.tree_outcome.TreeOutcome.{TreeOutcom
 use Rattle.apply_plan.specs.declared.script.tree_step.TreeStep.{TreeStep}
 use Rattle.apply_model.specs.Plan.ResourceChange.{ResourceChange}
 use Rattle.apply_model.specs.Script.Limits.{max_outputs, max_provisioners, max_seconds, max_waits}
-use Rattle.apply_model.specs.Script.Outcome.{IsBounded, IsSmall, has_too_many_provisioners, has_too_much_output, is_too_long, puts_out_too_much, seconds_in_all}
+use Rattle.apply_model.specs.Script.Outcome.{IsBounded, has_too_many_provisioners, has_too_much_output, is_too_long, puts_out_too_much, seconds_in_all}
 use Rattle.apply_plan.specs.Script.EntriesView.{IsWithin}
 use Rattle.apply_plan.specs.Script.Entry.{EntryStep}
 use Rattle.apply_plan.specs.Script.Refusals.{count_of_waits, fault_of_entry, fault_of_steps, fault_of_waits, passes}
@@ -112,15 +111,6 @@ said_is_within n changes earlier change steps e =
     (none_passes (λ (s : EntryStep). passes has_too_many_provisioners s.outcome) steps (sym (list_any-map (passes has_too_many_provisioners) outcome steps) ∙ wide.0) k d below)
     (none_passes (λ (s : EntryStep). passes has_too_much_output s.outcome) steps (sym (list_any-map (passes has_too_much_output) outcome steps) ∙ loud.0) k d below)
     few)
-
--- each provisioner of a step within the limits is within its own
-pub few_are_small : (outcome : Outcome) → IsBounded outcome → All IsSmall outcome.provisioners
-few_are_small outcome bounded k d below =
-    let ps = outcome.provisioners in
-    record {
-      short = omega (arith, sum_by_more_le (λ (p : Provisioner). p.seconds) ps k d below, bounded.short);
-      little_output = bounded.little_output k d below;
-    }
 
 -- what holds of each of a list as it is seen, holds of one
 pub all_seen : {T A : Type 0} (P : A → Type 0) (see : T → A) (xs : List T) (k : ℕ) (x : T) → All P (map see xs) → k < length xs → x ≡ get_or xs k x → P (see x)

@@ -24,27 +24,9 @@ use Rattle.apply_plan.specs.Script.EntriesView.{AreNumbersOf, HoldsEntries, Keep
 use Rattle.apply_plan.specs.Script.NextEntry.{entry_after, entry_beside}
 use Rattle.apply_plan.specs.Script.OutcomeMap.{Said, by_number, script_of_entries, script_of_tree}
 use Rattle.apply_plan.specs.Script.Placed.{ArePlaced}
+use Rattle.apply_plan.proofs.ListReading.{list_of-items_of, made_more, one_more}
 use Rattle.apply_plan.proofs.Scripts.Entries.{length-by_number}
 use Rattle.apply_plan.proofs.Scripts.WholeList.{entries_one_by_one, made_script, nothing_kept, nothing_said, one_kept, refused_script, said_more, same_entry}
-
--- ---- one element more
-
-abbrev one_more : {A E : Type 0} → (List A → Data → Result A E) → Data → List A → Result (List A) E
-one_more answer d all = answer all d >>= λ one. Ok (all ++ one ∷ [])
-
-made_more : {A E : Type 0} (answer : List A → Data → Result A E) (made : List A) (ds : List Data) (d : Data)
-    → made_after answer made (items_of (ds ++ d ∷ [])) ≡ (made_after answer made (items_of ds) >>= one_more answer d)
-unfolding made_after
-made_more answer made [] d = refl
-made_more {A} {E} answer made (first ∷ ds) d = through (answer made first) (λ one. made_more answer (made ++ one ∷ []) ds d)
-  where
-    through : (r : Result A E) → ((one : A) → made_after answer (made ++ one ∷ []) (items_of (ds ++ d ∷ [])) ≡ (made_after answer (made ++ one ∷ []) (items_of ds) >>= one_more answer d)) → (r >>= λ one. made_after answer (made ++ one ∷ []) (items_of (ds ++ d ∷ []))) ≡ ((r >>= λ one. made_after answer (made ++ one ∷ []) (items_of ds)) >>= one_more answer d)
-    through (Ok one) more = more one
-    through (Err e) more = refl
-
-list_of-items_of : (ds : List Data) → list_of (items_of ds) ≡ ds
-list_of-items_of [] = refl
-list_of-items_of (d ∷ ds) = ap (λ (rest : List Data). d ∷ rest) (list_of-items_of ds)
 
 -- ---- the entries
 

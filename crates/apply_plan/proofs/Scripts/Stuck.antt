@@ -1,5 +1,5 @@
 -- The first entry with a step that could never begin, one by one.
-use Rattle.std.proofs.Common.{◌≡◌, ℕ, zero, suc, ◌+◌, ◌-◌, ◌*◌, ◌<◌, ◌≤◌, Bool, true, false, List, [], ◌∷◌, ◌++◌, length, drop, get_or, Option, Some, None, refl, sym, ap, ◌∙◌, add-one, arith}
+use Rattle.std.proofs.Common.{◌≡◌, ℕ, zero, suc, ◌+◌, ◌*◌, ◌<◌, ◌≤◌, Bool, true, false, List, [], ◌∷◌, ◌++◌, length, drop, get_or, Option, Some, None, refl, sym, ap, ◌∙◌, add-one, arith}
 use Rattle.std.specs.Prelude.{◌||◌, not, replicate}
 use Rattle.std.specs.List.{list_any, position_from, range_with_len}
 use Rattle.std.proofs.lemmas.List.{drop_all, length-replicate}
@@ -38,24 +38,6 @@ stuck-push script change count =
 
 pub none_stuck_more : (script : OutcomeMap) (change count : ℕ) → stuck_below script change count ≡ false → true ≡ could_begin script change count → stuck_below script change (count + 1) ≡ false
 none_stuck_more script change count none begins = stuck-push script change count ∙ rw (none, ← begins) refl
-
--- a step among more is stuck
-pub one_stuck : (script : OutcomeMap) (change count more : ℕ) → false ≡ could_begin script change count → stuck_below script change (more + (count + 1)) ≡ true
-one_stuck script change count zero stuck =
-    let same : 0 + (count + 1) ≡ count + 1 = omega arith in
-    ap (stuck_below script change) same ∙ stuck-push script change count ∙ rw (← stuck) (or_true (stuck_below script change count))
-  where
-    or_true : (b : Bool) → (b || true) ≡ true
-    or_true true = refl
-    or_true false = refl
-one_stuck script change count (suc more) stuck =
-    let next : suc more + (count + 1) ≡ more + (count + 1) + 1 = omega arith in
-    ap (stuck_below script change) next ∙ stuck-push script change (more + (count + 1)) ∙ rw (one_stuck script change count more stuck) refl
-
-pub stuck_among : (script : OutcomeMap) (change count all : ℕ) → count < all → false ≡ could_begin script change count → true ≡ stuck_below script change all
-stuck_among script change count all below stuck =
-    let whole : all - (count + 1) + (count + 1) ≡ all = omega arith in
-    sym (ap (stuck_below script change) (sym whole) ∙ one_stuck script change count (all - (count + 1)) stuck)
 
 -- ---- the entries
 

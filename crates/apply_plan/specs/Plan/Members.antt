@@ -107,9 +107,6 @@ pub record HoldsElement (slots : ElementSlots) (ms : Members) : Type 0 where
 
 -- ---- what the slots make
 
-abbrev pub id_held : IdSlots → Option (List ℕ)
-id_held slots = text_seen (scalar_view slots.id) >>= unless_empty
-
 abbrev pub change_held : ChangeSlots → Option (Option (List StepKind) × Option (List ℕ))
 change_held slots = do
   steps ← option_map (λ action. option_map steps_of_action action) slots.actions

@@ -1,5 +1,6 @@
 -- What is kept of the members of a script's values, for the private types that keep it.
 use Rattle.std.specs.Prelude.{◌≡◌, ℕ, List, [], codes, map, Bool, true, false, if◌then◌else◌, Option, Some, None, option_map, String, string_bytes}
+use Rattle.std.specs.Str.{bytes_eq}
 use Rattle.std.specs.declared.alloc.Global.{Global}
 use Rattle.serde_json.specs.Data.{Data, Members}
 use Rattle.serde_json.specs.Find.{as_array, get_member}
@@ -14,12 +15,11 @@ use Rattle.apply_plan.specs.declared.script.entry_slots.EntrySlots.{EntrySlots}
 use Rattle.apply_plan.specs.declared.script.provisioner_slots.ProvisionerSlots.{ProvisionerSlots}
 use Rattle.apply_plan.specs.declared.script.output_slots.OutputSlots.{OutputSlots}
 use Rattle.apply_plan.specs.declared.script.step_slots.StepSlots.{StepSlots}
-use Rattle.apply_plan.specs.declared.script.tree_diag.TreeDiag.{TreeDiag}
 use Rattle.apply_plan.specs.declared.script.tree_failure.TreeFailure.{TreeFailure}
 use Rattle.apply_plan.specs.declared.script.wait_slots.WaitSlots.{WaitSlots}
-use Rattle.apply_plan.specs.Script.Entry.{Entry, EntryStep, Failure, OutputItem, WaitName, all_some, answered_with, diag_or_none, each_of, ending_from, failure_or_none, may_fail_by, object_or_none, only_warns_by, output_from, provisioner_from, skipped_with, step_from, timed_outputs, wait_from}
+use Rattle.apply_plan.specs.Script.Entry.{Entry, EntryStep, Failure, OutputItem, WaitName, all_some, answered_with, diag_or_none, each_of, ending_from, failure_or_none, object_or_none, output_from, provisioner_from, skipped_with, step_from, timed_outputs, wait_from}
 use Rattle.apply_plan.specs.Script.OutputView.{outputs_view}
-use Rattle.apply_plan.specs.Script.TreeView.{diag_view, entry_step_view, failure_view, provisioner_view, waits_view}
+use Rattle.apply_plan.specs.Script.TreeView.{entry_step_view, failure_view, provisioner_view, waits_view}
 
 -- ---- members that are no scalars; `null` counts as absent
 
@@ -36,11 +36,15 @@ object_member found = object_or_none (found >>= unless_null)
 abbrev pub each_member : {A : Type 0} → (Data → Option A) → Option Data → Option (List A)
 each_member part found = each_of part (found >>= unless_null)
 
-abbrev pub steps_member : Option Data → Option (List EntryStep)
-steps_member found = do
+-- the same of an array that may not be absent
+abbrev pub needed_member : {A : Type 0} → (Data → Option A) → Option Data → Option (List A)
+needed_member part found = do
   list ← found >>= unless_null
   items ← as_array list
-  all_some (map step_from (list_of items))
+  all_some (map part (list_of items))
+
+abbrev pub steps_member : Option Data → Option (List EntryStep)
+steps_member found = needed_member step_from found
 
 -- ---- what slots hold of some members
 
@@ -63,16 +67,13 @@ pub record HoldsOutput (slots : OutputSlots) (ms : Members) : Type 0 where
   pub after : scalar_view slots.after ≡ seen (get_member (codes "after") ms)
   pub text : scalar_view slots.text ≡ seen (get_member (codes "text") ms)
 
-abbrev pub diag_found : Option (Option TreeDiag) → Option (Option Diag)
-diag_found found = option_map (λ diag. option_map diag_view diag) found
-
 abbrev pub failure_found : Option (Option TreeFailure) → Option (Option Failure)
 failure_found found = option_map (λ failure. option_map failure_view failure) found
 
 pub record HoldsProvisioner (slots : ProvisionerSlots) (ms : Members) : Type 0 where
   pub name : scalar_view slots.name ≡ seen (get_member (codes "provisioner") ms)
   pub seconds : scalar_view slots.seconds ≡ seen (get_member (codes "seconds") ms)
-  pub failed : diag_found slots.failed ≡ diag_member (get_member (codes "failed") ms)
+  pub failed : slots.failed ≡ diag_member (get_member (codes "failed") ms)
   pub output : option_map (λ outputs. outputs_view outputs.items) slots.output ≡ each_member output_from (get_member (codes "output") ms)
   pub on_failure : scalar_view slots.on_failure ≡ seen (get_member (codes "on_failure") ms)
 
@@ -80,7 +81,7 @@ pub record HoldsStep (slots : StepSlots) (ms : Members) : Type 0 where
   pub skipped : scalar_view slots.skipped ≡ seen (get_member (codes "skipped") ms)
   pub seconds : scalar_view slots.seconds ≡ seen (get_member (codes "seconds") ms)
   pub id : scalar_view slots.id ≡ seen (get_member (codes "id") ms)
-  pub warning : diag_found slots.warning ≡ diag_member (get_member (codes "warning") ms)
+  pub warning : slots.warning ≡ diag_member (get_member (codes "warning") ms)
   pub failed : failure_found slots.failed ≡ failure_member (get_member (codes "failed") ms)
   pub provisioners : option_map (λ found. map provisioner_view found.items) slots.provisioners
       ≡ each_member provisioner_from (get_member (codes "provisioners") ms)
@@ -101,13 +102,21 @@ diag_held slots = do
   snippet ← text_found slots.snippet
   Some (record { summary = summary; detail = detail; range = range; snippet = snippet })
 
+-- a flag by the word that sets it and the one that does not
+abbrev pub flag_by : (set unset : List ℕ) → List ℕ → Option Bool
+flag_by set unset word = if bytes_eq word set then Some true else if bytes_eq word unset then Some false else None
+
+-- the same where the word may be absent, which does not set it
+abbrev pub flag_said : (set unset : List ℕ) → Seen → Option Bool
+flag_said set unset absent = Some false
+flag_said set unset (truth b) = None
+flag_said set unset (number n) = None
+flag_said set unset (text s) = flag_by set unset s
+flag_said set unset other = None
+
 -- whether a failure only warns, by its word
 abbrev pub only_warns_held : Seen → Option Bool
-only_warns_held absent = Some false
-only_warns_held (truth b) = None
-only_warns_held (number n) = None
-only_warns_held (text s) = only_warns_by s
-only_warns_held other = None
+only_warns_held found = flag_said (codes "warning") (codes "error") found
 
 abbrev pub failure_held : DiagSlots → Option Failure
 failure_held slots = do
@@ -137,26 +146,22 @@ output_held slots = do
 
 -- whether a provisioner may fail, by its word
 abbrev pub may_fail_held : Seen → Option Bool
-may_fail_held absent = Some false
-may_fail_held (truth b) = None
-may_fail_held (number n) = None
-may_fail_held (text s) = may_fail_by s
-may_fail_held other = None
+may_fail_held found = flag_said (codes "continue") (codes "fail") found
 
 abbrev pub provisioner_held : ProvisionerSlots → Option Provisioner
 provisioner_held slots = do
   name ← text_seen (scalar_view slots.name) >>= unless_empty
   seconds ← whole_seen (scalar_view slots.seconds)
-  failed ← diag_found slots.failed
+  failed ← slots.failed
   items ← option_map (λ outputs. outputs_view outputs.items) slots.output
   output ← timed_outputs seconds items
   may_fail ← may_fail_held (scalar_view slots.on_failure)
   Some (record { name = name; seconds = seconds; output = output; failed = failed; may_fail = may_fail })
 
-abbrev pub ending_held : Seen → (warning : Option (Option TreeDiag)) → (failed : Option (Option TreeFailure)) → Option Ending
+abbrev pub ending_held : Seen → (warning : Option (Option Diag)) → (failed : Option (Option TreeFailure)) → Option Ending
 ending_held id warning failed = do
   id ← text_seen_or [] id
-  warning ← diag_found warning
+  warning ← warning
   failed ← failure_found failed
   ending_from (unless_empty id) warning failed
 
@@ -180,6 +185,14 @@ is_told other = true
 abbrev pub outcome_held : (skipped : Bool) → (seconds : Seen) → Ending → List Provisioner → Option (Option Outcome)
 outcome_held skipped seconds result provisioners =
     if skipped then skipped_with (is_told seconds) result provisioners else answered_with (whole_seen seconds) result provisioners
+
+-- the same where each part may break its rule
+abbrev pub outcome_by : (skipped : Option Bool) → (seconds : Seen) → Option Ending → Option (List Provisioner) → Option (Option Outcome)
+outcome_by skipped seconds result provisioners = do
+  skipped ← skipped
+  result ← result
+  provisioners ← provisioners
+  outcome_held skipped seconds result provisioners
 
 abbrev pub step_held : StepSlots → Option EntryStep
 step_held slots = do

@@ -1,17 +1,10 @@
 -- What contracts see of a script's entry that stands in the tree, for the private types that read one.
-use Rattle.std.specs.Prelude.{ℕ, List, [], codes, length, map, nat_lt, sum_by, if◌then◌else◌, Option, Some, None, option_map, string_bytes}
+use Rattle.std.specs.Prelude.{ℕ, List, [], length, map, nat_lt, sum_by, if◌then◌else◌, Option, Some, None, option_map}
 use Rattle.std.specs.Option.{option_copied}
-use denote.Ref.{Bor}
-use Rattle.serde_json.specs.Data.{Data, Items}
-use Rattle.serde_json.specs.Find.{as_array}
-use Rattle.serde_json.specs.View.{items_view}
-use Rattle.serde_json.specs.declared.value.Value.{Value}
-use Rattle.apply_model.specs.declared.script.diag.Diag.{Diag}
 use Rattle.apply_model.specs.declared.script.ending.Ending.{Ending}
 use Rattle.apply_model.specs.declared.script.ending.Ending.TheVariants as ending
 use Rattle.apply_model.specs.declared.script.outcome.Outcome.{Outcome}
 use Rattle.apply_model.specs.declared.script.provisioner.Provisioner.{Provisioner}
-use Rattle.apply_plan.specs.declared.script.tree_diag.TreeDiag.{TreeDiag}
 use Rattle.apply_plan.specs.declared.script.tree_ending.TreeEnding.{TreeEnding}
 use Rattle.apply_plan.specs.declared.script.tree_ending.TreeEnding.TheVariants as tree
 use Rattle.apply_plan.specs.declared.script.tree_failure.TreeFailure.{TreeFailure}
@@ -20,32 +13,23 @@ use Rattle.apply_plan.specs.declared.script.tree_outcome.TreeOutcome.{TreeOutcom
 use Rattle.apply_plan.specs.declared.script.tree_provisioner.TreeProvisioner.{TreeProvisioner}
 use Rattle.apply_plan.specs.declared.script.tree_step.TreeStep.{TreeStep}
 use Rattle.apply_plan.specs.declared.script.tree_wait.TreeWait.{TreeWait}
-use Rattle.apply_json.specs.Tree.{◌>>=◌, member_of, text_of, text_or, unless_empty}
 use Rattle.apply_plan.specs.Script.Entry.{Entry, EntryStep, Failure, WaitName, timed}
 use Rattle.apply_plan.specs.Script.OutputView.{outputs_view}
 
-abbrev pub diag_view : TreeDiag → Diag
-diag_view diag = record {
-  summary = diag.summary.now;
-  detail = diag.detail.now;
-  range = option_map string_bytes diag.range;
-  snippet = option_map string_bytes diag.snippet;
-}
-
 abbrev pub ending_view : TreeEnding → Ending
-ending_view (tree.Done id warning) = ending.Done (option_copied id) (option_map diag_view warning)
-ending_view (tree.Failed diag) = ending.Failed (diag_view diag)
-ending_view (tree.Warned diag) = ending.Warned (diag_view diag)
+ending_view (tree.Done id warning) = ending.Done (option_copied id) warning
+ending_view (tree.Failed diag) = ending.Failed diag
+ending_view (tree.Warned diag) = ending.Warned diag
 
 abbrev pub failure_view : TreeFailure → Failure
-failure_view failure = record { diag = diag_view failure.diag; only_warns = failure.only_warns }
+failure_view failure = record { diag = failure.diag; only_warns = failure.only_warns }
 
 abbrev pub provisioner_view : TreeProvisioner → Provisioner
 provisioner_view provisioner = record {
   name = provisioner.name.now;
   seconds = provisioner.seconds;
   output = map (timed provisioner.seconds) (outputs_view provisioner.output.items);
-  failed = option_map diag_view provisioner.failed;
+  failed = provisioner.failed;
   may_fail = provisioner.may_fail;
 }
 
@@ -77,18 +61,6 @@ entry_view entry = record {
   deposed = option_copied entry.deposed;
   steps = map entry_step_view entry.steps.items;
 }
-
--- the members of an entry, with its steps still as values
-abbrev pub members_view : Bor (List ℕ) × Option (Bor (List ℕ)) × Bor (List Value) → List ℕ × Option (List ℕ) × Items
-members_view members = (members.0.now, option_copied members.1, items_view members.2.now)
-
-abbrev pub members_of : Data → Option (List ℕ × Option (List ℕ) × Items)
-members_of d = do
-  address ← text_of (codes "address") d
-  deposed ← text_or [] (member_of (codes "deposed") d)
-  list ← member_of (codes "steps") d
-  items ← as_array list
-  Some (address, unless_empty deposed, items)
 
 -- how many items the `after` of some steps have
 abbrev pub tree_waits : List TreeStep → ℕ

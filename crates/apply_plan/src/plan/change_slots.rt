@@ -2,9 +2,10 @@
 
 ghost use Rattle.apply_plan.specs.Plan.Members.{HoldsChange};
 
+use crate::members::take_member;
 use crate::plan::actions::read_actions;
 use crate::plan::id_slots::{read_hides_id, read_id};
-use apply_json::{ReadFault, Reader, Slots, pass};
+use apply_json::{ReadFault, Reader, Slots};
 use apply_model::Action;
 use std::alloc::Global;
 
@@ -44,18 +45,11 @@ impl<'a> Slots<'a> for ChangeSlots<'a> {
         reader: &mut Reader<'a>,
         depth: usize,
     ) -> Result<(), ReadFault> {
-        if name == "actions" {
-            self.actions = read_actions(alloc, reader, depth)?;
-            Ok(())
-        } else if name == "before" {
-            self.id = read_id(alloc, reader, depth)?;
-            Ok(())
-        } else if name == "before_sensitive" {
-            self.hides_id = read_hides_id(alloc, reader, depth)?;
-            Ok(())
-        } else {
-            pass(reader, depth)?;
-            Ok(())
+        take_member! {
+            self, name, reader, depth,
+            "actions" => actions: read_actions(alloc, reader, depth)?,
+            "before" => id: read_id(alloc, reader, depth)?,
+            "before_sensitive" => hides_id: read_hides_id(alloc, reader, depth)?,
         }
     }
 }

@@ -6,7 +6,9 @@ ghost use Rattle.apply_plan.specs.Plan.Element.{mode_named};
 ghost use Rattle.apply_plan.specs.Plan.ElementView.{element_view, key_view};
 ghost use Rattle.apply_plan.specs.Plan.Members.{element_held, key_seen};
 
+use crate::filled_text::filled_text;
 use crate::plan::element_slots::ElementSlots;
+use crate::text_test::is_text;
 use apply_json::Scalar;
 use apply_json::members::non_empty;
 use apply_model::{Action, Key, Mode, Text};
@@ -55,8 +57,8 @@ impl<'a> Element<'a> {
     {
         let address = slots.address.text()?;
         let mode = mode_of(slots.mode.text()?)?;
-        let kind_name = non_empty(slots.kind_name.text()?)?;
-        let name = non_empty(slots.name.text()?)?;
+        let kind_name = filled_text(slots.kind_name)?;
+        let name = filled_text(slots.name)?;
         let module_address = slots.module_address.text_or("")?;
         let key = index_key(slots.index)?;
         let deposed = slots.deposed.text_or("")?;
@@ -78,9 +80,9 @@ impl<'a> Element<'a> {
 fn mode_of(word: &str) -> Option<Mode>
     ensures { result ≡ mode_named word.now }
 {
-    if word == "managed" {
+    if is_text(word, "managed") {
         Some(Mode::Managed)
-    } else if word == "data" {
+    } else if is_text(word, "data") {
         Some(Mode::DataSource)
     } else {
         None

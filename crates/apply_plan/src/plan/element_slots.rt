@@ -7,6 +7,7 @@ ghost use Rattle.apply_plan.specs.Plan.Members.{HoldsElement, name_of, with_scal
 
 use crate::plan::element_member::ElementMember;
 use crate::plan::planned_change::PlannedChange;
+use crate::text_test::is_text;
 use apply_json::{ReadFault, Reader, Scalar, Slots, pass, read_scalar};
 use std::alloc::Global;
 
@@ -68,7 +69,7 @@ impl<'a> Slots<'a> for ElementSlots<'a> {
         reader: &mut Reader<'a>,
         depth: usize,
     ) -> Result<(), ReadFault> {
-        if name == "change" {
+        if is_text(name, "change") {
             self.change = PlannedChange::read(alloc, reader, depth)?;
             return Ok(());
         }
@@ -91,19 +92,19 @@ fn scalar_of_name(name: &str) -> Option<ElementMember>
     ensures { MatchOption result ((member : ElementMember) → bytes_eq name.now (name_of member) ≡ false)
         (λ member. bytes_eq name.now (name_of member) ≡ true) }
 {
-    if name == "address" {
+    if is_text(name, "address") {
         Some(ElementMember::Address)
-    } else if name == "mode" {
+    } else if is_text(name, "mode") {
         Some(ElementMember::Mode)
-    } else if name == "type" {
+    } else if is_text(name, "type") {
         Some(ElementMember::Type)
-    } else if name == "name" {
+    } else if is_text(name, "name") {
         Some(ElementMember::Name)
-    } else if name == "module_address" {
+    } else if is_text(name, "module_address") {
         Some(ElementMember::ModuleAddress)
-    } else if name == "index" {
+    } else if is_text(name, "index") {
         Some(ElementMember::Index)
-    } else if name == "deposed" {
+    } else if is_text(name, "deposed") {
         Some(ElementMember::Deposed)
     } else {
         None

@@ -5,10 +5,11 @@ ghost use Rattle.std.specs.Option.{option_copied};
 ghost use Rattle.serde_json.specs.Data.{Data};
 ghost use Rattle.apply_json.specs.Seen.{scalar_view};
 ghost use Rattle.apply_json.specs.Tokens.{IsNoValue, IsRead};
-ghost use Rattle.apply_plan.specs.Plan.Members.{HoldsId, id_held, id_member, sensitive_member, truth_seen};
+ghost use Rattle.apply_plan.specs.Plan.Members.{HoldsId, id_member, sensitive_member, truth_seen};
 
-use apply_json::members::non_empty;
-use apply_json::{ReadFault, Reader, Scalar, Slots, pass, read_object, read_scalar};
+use crate::filled_text::filled_text;
+use crate::members::take_member;
+use apply_json::{ReadFault, Reader, Scalar, Slots, read_object, read_scalar};
 use std::alloc::Global;
 
 /// The members of `before` or of `before_sensitive`.
@@ -26,13 +27,6 @@ impl<'a> IdSlots<'a> {
     {
         IdSlots { id: Scalar::Absent }
     }
-
-    /// The id, where it is a text that is not empty.
-    fn text(&self) -> Option<&'a str>
-        ensures { option_copied result ≡ id_held self.now }
-    {
-        non_empty(self.id.text()?)
-    }
 }
 
 impl<'a> Slots<'a> for IdSlots<'a> {
@@ -45,12 +39,9 @@ impl<'a> Slots<'a> for IdSlots<'a> {
         reader: &mut Reader<'a>,
         depth: usize,
     ) -> Result<(), ReadFault> {
-        if name == "id" {
-            self.id = read_scalar(reader, depth)?;
-            Ok(())
-        } else {
-            pass(reader, depth)?;
-            Ok(())
+        take_member! {
+            self, name, reader, depth,
+            "id" => id: read_scalar(reader, depth)?,
         }
     }
 }
@@ -68,7 +59,7 @@ pub fn read_id<'a>(
 {
     let mut slots = IdSlots::new();
     read_object(alloc, reader, depth, &mut slots)?;
-    Ok(slots.text())
+    Ok(filled_text(slots.id))
 }
 
 /// Reads `before_sensitive`: whether it hides the id. Arrays and objects nest at most `depth` deep there.

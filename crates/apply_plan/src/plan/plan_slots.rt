@@ -11,6 +11,7 @@ ghost use Rattle.apply_plan.specs.Results.{Gives};
 
 use crate::plan::elements::Elements;
 use crate::plan::plan_error::PlanError;
+use crate::text_test::is_text;
 use apply_json::{Listed, ReadFault, Reader, Scalar, Slots, pass, read_list, read_scalar};
 use apply_model::{Plan, Text};
 use std::alloc::Global;
@@ -86,13 +87,13 @@ impl<'a> Slots<'a> for PlanSlots<'a> {
         reader: &mut Reader<'a>,
         depth: usize,
     ) -> Result<(), ReadFault> {
-        if name == "format_version" {
+        if is_text(name, "format_version") {
             self.format_version = read_scalar(reader, depth)?;
             Ok(())
-        } else if name == "terraform_version" {
+        } else if is_text(name, "terraform_version") {
             self.terraform_version = read_scalar(reader, depth)?;
             Ok(())
-        } else if name == "resource_changes" {
+        } else if is_text(name, "resource_changes") {
             self.elements = Elements::new(alloc);
             self.resource_changes = read_list(alloc, reader, depth, &mut self.elements)?;
             Ok(())

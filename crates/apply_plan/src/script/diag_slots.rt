@@ -3,8 +3,9 @@
 ghost use Rattle.apply_plan.specs.Script.Entry.{is_kept};
 ghost use Rattle.apply_plan.specs.Script.Members.{HoldsDiag};
 
+use crate::members::take_member;
 use crate::script::object_text::read_object_text;
-use apply_json::{KeepingSlots, ReadFault, Reader, Scalar, pass, read_scalar};
+use apply_json::{KeepingSlots, ReadFault, Reader, Scalar, read_scalar};
 use std::alloc::Global;
 
 /// The members of a diagnostic.
@@ -46,24 +47,13 @@ impl<'a> KeepingSlots<'a> for DiagSlots<'a> {
         reader: &mut Reader<'a>,
         depth: usize,
     ) -> Result<(), ReadFault> {
-        if name == "summary" {
-            self.summary = read_scalar(reader, depth)?;
-            Ok(())
-        } else if name == "detail" {
-            self.detail = read_scalar(reader, depth)?;
-            Ok(())
-        } else if name == "range" {
-            self.range = read_object_text(alloc, reader, depth)?;
-            Ok(())
-        } else if name == "snippet" {
-            self.snippet = read_object_text(alloc, reader, depth)?;
-            Ok(())
-        } else if name == "severity" {
-            self.severity = read_scalar(reader, depth)?;
-            Ok(())
-        } else {
-            pass(reader, depth)?;
-            Ok(())
+        take_member! {
+            self, name, reader, depth,
+            "summary" => summary: read_scalar(reader, depth)?,
+            "detail" => detail: read_scalar(reader, depth)?,
+            "range" => range: read_object_text(alloc, reader, depth)?,
+            "snippet" => snippet: read_object_text(alloc, reader, depth)?,
+            "severity" => severity: read_scalar(reader, depth)?,
         }
     }
 }

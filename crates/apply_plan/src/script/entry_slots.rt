@@ -3,9 +3,10 @@
 ghost use Rattle.apply_plan.specs.Script.Entry.{is_kept};
 ghost use Rattle.apply_plan.specs.Script.Members.{HoldsEntry};
 
-use crate::script::found_steps::read_steps;
+use crate::members::take_member;
+use crate::script::found_items::read_items;
 use crate::script::tree_step::TreeStep;
-use apply_json::{KeepingSlots, ReadFault, Reader, Scalar, pass, read_scalar};
+use apply_json::{KeepingSlots, ReadFault, Reader, Scalar, read_scalar};
 use std::alloc::Global;
 
 /// The members of an entry.
@@ -43,18 +44,11 @@ impl<'a> KeepingSlots<'a> for EntrySlots<'a> {
         reader: &mut Reader<'a>,
         depth: usize,
     ) -> Result<(), ReadFault> {
-        if name == "address" {
-            self.address = read_scalar(reader, depth)?;
-            Ok(())
-        } else if name == "deposed" {
-            self.deposed = read_scalar(reader, depth)?;
-            Ok(())
-        } else if name == "steps" {
-            self.steps = read_steps(alloc, reader, depth)?;
-            Ok(())
-        } else {
-            pass(reader, depth)?;
-            Ok(())
+        take_member! {
+            self, name, reader, depth,
+            "address" => address: read_scalar(reader, depth)?,
+            "deposed" => deposed: read_scalar(reader, depth)?,
+            "steps" => steps: read_items(alloc, reader, depth, true)?,
         }
     }
 }

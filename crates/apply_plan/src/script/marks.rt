@@ -1,8 +1,7 @@
 //! The marks of all steps.
 
-ghost use Rattle.std.specs.Prelude.{◌≡◌, ◌+◌, ◌*◌, ◌<◌, IfOk, length, replicate, slice_index_or, slice_set};
+ghost use Rattle.std.specs.Prelude.{◌≡◌, ◌+◌, ◌*◌, ◌<◌, IfOk, length, replicate, slice_set};
 ghost use Rattle.apply_plan.specs.Script.Marks.{index_of, mark_of};
-ghost use Rattle.apply_plan.specs.Script.Placed.{IsPlaced};
 
 use crate::script::mark::Mark;
 use apply_model::Wait;

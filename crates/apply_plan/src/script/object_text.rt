@@ -1,11 +1,12 @@
 //! An object of a script that is kept as its own text.
 
-ghost use Rattle.std.specs.Prelude.{◌≡◌, ◌<◌, ◌==◌, ℕ, Err, IfOk, List, OnOk, length, slice_index, string_bytes};
+ghost use Rattle.std.specs.Prelude.{◌≡◌, ◌<◌, ◌==◌, ℕ, Err, IfOk, List, OnOk, length, string_bytes};
 ghost use Rattle.apply_json.specs.Keeping.{IsOwnText};
 ghost use Rattle.apply_json.specs.Tokens.{IsNoValue};
 ghost use Rattle.apply_plan.specs.Script.Entry.{is_object_text, object_text};
 ghost use Rattle.apply_plan.specs.Script.Members.{text_found};
 
+use crate::text_test::is_text;
 use apply_json::{ReadFault, Reader, read_own_text};
 use std::alloc::Global;
 
@@ -29,7 +30,7 @@ pub fn read_object_text(
 fn object_text(text: String) -> Option<Option<String>>
     ensures { text_found result ≡ object_text (string_bytes text) }
 {
-    if text.as_str() == "null" {
+    if is_text(text.as_str(), "null") {
         Some(None)
     } else if is_object_text(text.as_str()) {
         Some(Some(text))

@@ -3,7 +3,8 @@
 ghost use Rattle.apply_plan.specs.Script.Entry.{is_kept};
 ghost use Rattle.apply_plan.specs.Script.Members.{HoldsOutput};
 
-use apply_json::{KeepingSlots, ReadFault, Reader, Scalar, pass, read_scalar};
+use crate::members::take_member;
+use apply_json::{KeepingSlots, ReadFault, Reader, Scalar, read_scalar};
 use std::alloc::Global;
 
 /// The members of an item of `output`.
@@ -39,15 +40,10 @@ impl<'a> KeepingSlots<'a> for OutputSlots<'a> {
         reader: &mut Reader<'a>,
         depth: usize,
     ) -> Result<(), ReadFault> {
-        if name == "after" {
-            self.after = read_scalar(reader, depth)?;
-            Ok(())
-        } else if name == "text" {
-            self.text = read_scalar(reader, depth)?;
-            Ok(())
-        } else {
-            pass(reader, depth)?;
-            Ok(())
+        take_member! {
+            self, name, reader, depth,
+            "after" => after: read_scalar(reader, depth)?,
+            "text" => text: read_scalar(reader, depth)?,
         }
     }
 }

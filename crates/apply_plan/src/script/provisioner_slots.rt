@@ -3,10 +3,11 @@
 ghost use Rattle.apply_plan.specs.Script.Entry.{is_kept};
 ghost use Rattle.apply_plan.specs.Script.Members.{HoldsProvisioner};
 
-use crate::script::found_outputs::read_outputs;
+use crate::members::take_member;
+use crate::script::found_items::read_items;
 use crate::script::tree_diag::TreeDiag;
 use crate::script::tree_output::TreeOutput;
-use apply_json::{KeepingSlots, ReadFault, Reader, Scalar, pass, read_scalar};
+use apply_json::{KeepingSlots, ReadFault, Reader, Scalar, read_scalar};
 use std::alloc::Global;
 
 /// The members of a provisioner.
@@ -48,24 +49,13 @@ impl<'a> KeepingSlots<'a> for ProvisionerSlots<'a> {
         reader: &mut Reader<'a>,
         depth: usize,
     ) -> Result<(), ReadFault> {
-        if name == "provisioner" {
-            self.name = read_scalar(reader, depth)?;
-            Ok(())
-        } else if name == "seconds" {
-            self.seconds = read_scalar(reader, depth)?;
-            Ok(())
-        } else if name == "failed" {
-            self.failed = TreeDiag::read(alloc, reader, depth)?;
-            Ok(())
-        } else if name == "output" {
-            self.output = read_outputs(alloc, reader, depth)?;
-            Ok(())
-        } else if name == "on_failure" {
-            self.on_failure = read_scalar(reader, depth)?;
-            Ok(())
-        } else {
-            pass(reader, depth)?;
-            Ok(())
+        take_member! {
+            self, name, reader, depth,
+            "provisioner" => name: read_scalar(reader, depth)?,
+            "seconds" => seconds: read_scalar(reader, depth)?,
+            "failed" => failed: TreeDiag::read(alloc, reader, depth)?,
+            "output" => output: read_items(alloc, reader, depth, false)?,
+            "on_failure" => on_failure: read_scalar(reader, depth)?,
         }
     }
 }

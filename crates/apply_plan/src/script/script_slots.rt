@@ -10,6 +10,7 @@ ghost use Rattle.apply_plan.specs.Script.OutcomeMap.{script_of_tree};
 
 use crate::script::entries::Entries;
 use crate::script::script_error::ScriptError;
+use crate::text_test::is_text;
 use apply_json::{KeepingSlots, Listed, ReadFault, Reader, pass, read_kept_list};
 use apply_model::{Plan, Script};
 use std::alloc::{AllocError, Global};
@@ -58,7 +59,7 @@ impl<'a> KeepingSlots<'a> for ScriptSlots<'a> {
         reader: &mut Reader<'a>,
         depth: usize,
     ) -> Result<(), ReadFault> {
-        if name == "changes" {
+        if is_text(name, "changes") {
             self.entries.forget();
             self.changes = read_kept_list(alloc, reader, depth, &mut self.entries)?;
             Ok(())

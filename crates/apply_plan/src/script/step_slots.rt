@@ -3,13 +3,13 @@
 ghost use Rattle.apply_plan.specs.Script.Entry.{is_kept};
 ghost use Rattle.apply_plan.specs.Script.Members.{HoldsStep};
 
-use crate::script::found_provisioners::read_provisioners;
-use crate::script::found_waits::read_waits;
+use crate::members::take_member;
+use crate::script::found_items::read_items;
 use crate::script::tree_diag::TreeDiag;
 use crate::script::tree_failure::TreeFailure;
 use crate::script::tree_provisioner::TreeProvisioner;
 use crate::script::tree_wait::TreeWait;
-use apply_json::{KeepingSlots, ReadFault, Reader, Scalar, pass, read_scalar};
+use apply_json::{KeepingSlots, ReadFault, Reader, Scalar, read_scalar};
 use std::alloc::Global;
 
 /// The members of a step.
@@ -55,30 +55,15 @@ impl<'a> KeepingSlots<'a> for StepSlots<'a> {
         reader: &mut Reader<'a>,
         depth: usize,
     ) -> Result<(), ReadFault> {
-        if name == "seconds" {
-            self.seconds = read_scalar(reader, depth)?;
-            Ok(())
-        } else if name == "after" {
-            self.after = read_waits(alloc, reader, depth)?;
-            Ok(())
-        } else if name == "id" {
-            self.id = read_scalar(reader, depth)?;
-            Ok(())
-        } else if name == "warning" {
-            self.warning = TreeDiag::read(alloc, reader, depth)?;
-            Ok(())
-        } else if name == "failed" {
-            self.failed = TreeFailure::read(alloc, reader, depth)?;
-            Ok(())
-        } else if name == "provisioners" {
-            self.provisioners = read_provisioners(alloc, reader, depth)?;
-            Ok(())
-        } else if name == "skipped" {
-            self.skipped = read_scalar(reader, depth)?;
-            Ok(())
-        } else {
-            pass(reader, depth)?;
-            Ok(())
+        take_member! {
+            self, name, reader, depth,
+            "seconds" => seconds: read_scalar(reader, depth)?,
+            "after" => after: read_items(alloc, reader, depth, false)?,
+            "id" => id: read_scalar(reader, depth)?,
+            "warning" => warning: TreeDiag::read(alloc, reader, depth)?,
+            "failed" => failed: TreeFailure::read(alloc, reader, depth)?,
+            "provisioners" => provisioners: read_items(alloc, reader, depth, false)?,
+            "skipped" => skipped: read_scalar(reader, depth)?,
         }
     }
 }

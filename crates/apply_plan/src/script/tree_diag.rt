@@ -6,15 +6,14 @@ ghost use Rattle.apply_json.specs.Keeping.{IsKeptRead};
 ghost use Rattle.apply_json.specs.Tokens.{IsNoValue};
 ghost use Rattle.apply_plan.specs.Script.Entry.{is_kept};
 ghost use Rattle.apply_plan.specs.Script.Members.{diag_held, diag_member};
-ghost use Rattle.apply_plan.specs.Script.TreeView.{diag_view};
 
 use crate::script::diag_slots::DiagSlots;
 use apply_json::{ReadFault, Reader, Scalar, read_kept_object};
 use apply_model::{Diag, Text};
 use std::alloc::{AllocError, Global};
+use std::marker::Model;
 
-/// A diagnostic.
-#[derive(Drop)]
+/// A diagnostic, which contracts see as the copy of it.
 pub struct TreeDiag<'a> {
     pub summary: &'a str,
     pub detail: &'a str,
@@ -22,6 +21,32 @@ pub struct TreeDiag<'a> {
     pub range: Option<String>,
     /// Likewise.
     pub snippet: Option<String>,
+}
+
+impl<'a> Model for TreeDiag<'a> {
+    ghost use Rattle.std.specs.Prelude.{option_map, string_bytes};
+    ghost use Rattle.apply_model.specs.declared.script.diag.Diag.{Diag};
+
+    ghost Value = { Diag };
+
+    ghost view = { λ diag. record {
+      summary = diag.summary.now;
+      detail = diag.detail.now;
+      range = option_map string_bytes diag.range;
+      snippet = option_map string_bytes diag.snippet;
+    } };
+}
+
+// Written out, so that values in which one stands are dropped by a call.
+impl<'a> Drop for TreeDiag<'a> {
+    fn drop(self) {
+        let TreeDiag {
+            summary: _,
+            detail: _,
+            range: _,
+            snippet: _,
+        } = self;
+    }
 }
 
 impl<'a> TreeDiag<'a> {
@@ -33,7 +58,7 @@ impl<'a> TreeDiag<'a> {
         depth: usize,
     ) -> Result<Option<Option<TreeDiag<'a>>>, ReadFault>
         ensures ok { IfOk result (λ found. (d : Data) × IsKeptRead is_kept depth reader.old d reader.new
-            × (option_map (λ diag. option_map diag_view diag) found ≡ diag_member (Some d))) }
+            × (found ≡ diag_member (Some d))) }
         ensures shorter { OnOk result (length reader.new < length reader.old) }
         ensures err { result ≡ Err ReadFault.NotJson → IsNoValue depth reader.old }
     {
@@ -49,7 +74,7 @@ impl<'a> TreeDiag<'a> {
 
     /// The diagnostic that the members are, however severe. `None` where one of them breaks its rule.
     pub fn of(slots: DiagSlots<'a>) -> Option<TreeDiag<'a>>
-        ensures { option_map diag_view result ≡ diag_held slots.entry }
+        ensures { result ≡ diag_held slots.entry }
     {
         let summary = slots.summary.text()?;
         let detail = slots.detail.text_or("")?;
@@ -65,7 +90,7 @@ impl<'a> TreeDiag<'a> {
 
     /// The diagnostic, with copies of its texts.
     pub fn copied(&self, alloc: Global) -> Result<Diag, AllocError>
-        ensures { IfOk result (λ copy. copy ≡ diag_view self.now) }
+        ensures { IfOk result (λ copy. copy ≡ self.now) }
     {
         Ok(Diag {
             summary: Text::new(alloc, self.summary)?,
@@ -80,7 +105,7 @@ impl<'a> TreeDiag<'a> {
         alloc: Global,
         diag: &Option<TreeDiag<'_>>,
     ) -> Result<Option<Diag>, AllocError>
-        ensures { IfOk result (λ copy. copy ≡ option_map diag_view diag.now) }
+        ensures { IfOk result (λ copy. copy ≡ diag.now) }
     {
         match diag {
             Some(diag) => Ok(Some(diag.copied(alloc)?)),

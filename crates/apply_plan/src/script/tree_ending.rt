@@ -6,7 +6,7 @@ ghost use Rattle.apply_json.specs.Seen.{scalar_view};
 ghost use Rattle.apply_plan.specs.Script.Entry.{ending_by, ending_from, says_nothing};
 ghost use Rattle.apply_plan.specs.Script.Members.{ending_held};
 ghost use Rattle.apply_model.specs.Script.Outcome.{is_failed, is_warned};
-ghost use Rattle.apply_plan.specs.Script.TreeView.{diag_view, ending_view, failure_view};
+ghost use Rattle.apply_plan.specs.Script.TreeView.{ending_view, failure_view};
 
 use crate::script::tree_diag::TreeDiag;
 use crate::script::tree_failure::TreeFailure;
@@ -16,7 +16,6 @@ use apply_model::{Ending, Text};
 use std::alloc::{AllocError, Global};
 
 /// An ending.
-#[derive(Drop)]
 pub enum TreeEnding<'a> {
     Done {
         id: Option<&'a str>,
@@ -28,6 +27,17 @@ pub enum TreeEnding<'a> {
     Warned {
         diag: TreeDiag<'a>,
     },
+}
+
+// Written out, so that values in which one stands are dropped by a call.
+impl<'a> Drop for TreeEnding<'a> {
+    fn drop(self) {
+        match self {
+            TreeEnding::Done { id: _, warning: _ } => {}
+            TreeEnding::Failed { diag: _ } => {}
+            TreeEnding::Warned { diag: _ } => {}
+        }
+    }
 }
 
 impl<'a> TreeEnding<'a> {
@@ -49,8 +59,8 @@ impl<'a> TreeEnding<'a> {
         warning: Option<TreeDiag<'a>>,
         failed: Option<TreeFailure<'a>>,
     ) -> Option<TreeEnding<'a>>
-        ensures { option_map ending_view result ≡ ending_from (option_copied id.entry)
-            (option_map diag_view warning.entry) (option_map failure_view failed.entry) }
+        ensures { option_map ending_view result ≡ ending_from (option_copied id.entry) warning.entry
+            (option_map failure_view failed.entry) }
     {
         match failed {
             None => Some(TreeEnding::Done { id, warning }),

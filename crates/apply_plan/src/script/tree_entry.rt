@@ -7,11 +7,12 @@ ghost use Rattle.apply_json.specs.Keeping.{IsKeptRead};
 ghost use Rattle.apply_json.specs.Tokens.{IsNoValue};
 ghost use Rattle.apply_plan.specs.Script.Entry.{entry_of, is_kept};
 ghost use Rattle.apply_plan.specs.Script.Members.{entry_held};
-ghost use Rattle.apply_model.specs.Script.Outcome.{has_too_many_provisioners, has_too_much_output, is_too_long};
+ghost use Rattle.apply_plan.specs.Script.Limit.{exceeds};
 ghost use Rattle.apply_plan.specs.Script.Refusals.{fault_of_steps, misplaces_provisioners, passes, warns_not_a_read};
 ghost use Rattle.apply_plan.specs.Script.TreeView.{entry_view, step_view, waits_within};
 
 use crate::script::entry_slots::EntrySlots;
+use crate::script::limit::Limit;
 use crate::script::script_error::ScriptError;
 use crate::script::tree_step::TreeStep;
 use apply_json::members::non_empty;
@@ -67,11 +68,11 @@ impl<'a> TreeEntry<'a> {
     {
         if self.steps.len() > kinds.len() {
             Some(ScriptError::TooManySteps(number))
-        } else if is_any_too_long(&self.steps) {
+        } else if exceeds_any(Limit::Seconds, &self.steps) {
             Some(ScriptError::SecondsRange(number))
-        } else if has_any_too_many_provisioners(&self.steps) {
+        } else if exceeds_any(Limit::Provisioners, &self.steps) {
             Some(ScriptError::TooManyProvisioners(number))
-        } else if has_any_too_much_output(&self.steps) {
+        } else if exceeds_any(Limit::Output, &self.steps) {
             Some(ScriptError::TooMuchOutput(number))
         } else if misplaces_any_provisioners(is_deposed, kinds, &self.steps) {
             Some(ScriptError::NotACreate(number))
@@ -97,25 +98,11 @@ impl<'a> TreeEntry<'a> {
     }
 }
 
-/// Whether a step takes longer than it may.
-fn is_any_too_long(steps: &[TreeStep<'_>]) -> bool
-    ensures { result ≡ list_any (λ step. passes is_too_long (step_view step)) steps.now }
+/// Whether a step goes beyond the limit.
+fn exceeds_any(limit: Limit, steps: &[TreeStep<'_>]) -> bool
+    ensures { result ≡ list_any (λ step. passes (exceeds limit) (step_view step)) steps.now }
 {
-    steps.iter().any(TreeStep::is_too_long)
-}
-
-/// Whether a step has more provisioners than it may.
-fn has_any_too_many_provisioners(steps: &[TreeStep<'_>]) -> bool
-    ensures { result ≡ list_any (λ step. passes has_too_many_provisioners (step_view step)) steps.now }
-{
-    steps.iter().any(TreeStep::has_too_many_provisioners)
-}
-
-/// Whether a provisioner of a step puts out more than it may.
-fn has_any_too_much_output(steps: &[TreeStep<'_>]) -> bool
-    ensures { result ≡ list_any (λ step. passes has_too_much_output (step_view step)) steps.now }
-{
-    steps.iter().any(TreeStep::has_too_much_output)
+    steps.iter().any(|step| step.exceeds(limit))
 }
 
 /// Whether a step that takes no provisioners has some. The change may be of a deposed object.

@@ -9,7 +9,7 @@ ghost use Rattle.apply_plan.specs.Script.Members.{failure_held, failure_member};
 ghost use Rattle.apply_plan.specs.Script.TreeView.{failure_view};
 
 use crate::script::diag_slots::DiagSlots;
-use crate::script::severity::only_warns;
+use crate::script::flag_of_word::flag_of_word;
 use crate::script::tree_diag::TreeDiag;
 use apply_json::{ReadFault, Reader, Scalar, read_kept_object};
 use std::alloc::Global;
@@ -50,7 +50,7 @@ impl<'a> TreeFailure<'a> {
     {
         let severity = slots.severity;
         let diag = TreeDiag::of(slots)?;
-        let only_warns = only_warns(severity)?;
+        let only_warns = flag_of_word(severity, "warning", "error")?;
         Some(TreeFailure { diag, only_warns })
     }
 }

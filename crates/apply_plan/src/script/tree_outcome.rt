@@ -3,24 +3,36 @@
 ghost use Rattle.std.specs.Prelude.{◌≡◌, ◌≤◌, All, IfOk, length, map, option_map};
 ghost use Rattle.std.specs.List.{list_any};
 ghost use Rattle.apply_plan.specs.Script.Entry.{with_provisioners};
-ghost use Rattle.apply_model.specs.Script.Outcome.{IsBounded, IsSmall, has_too_many_provisioners, has_too_much_output, is_too_long, puts_out_too_much};
+ghost use Rattle.apply_model.specs.Script.Outcome.{IsBounded, IsSmall, has_too_much_output, is_too_long, puts_out_too_much};
 ghost use Rattle.apply_model.specs.Script.Limits.{max_provisioners};
+ghost use Rattle.apply_plan.specs.Script.Limit.{exceeds};
 ghost use Rattle.apply_plan.specs.Script.Refusals.{has_provisioners, only_warns};
 ghost use Rattle.apply_plan.specs.Script.TreeView.{ending_view, outcome_view, provisioner_view};
 
+use crate::script::limit::Limit;
 use crate::script::tree_ending::TreeEnding;
 use crate::script::tree_provisioner::TreeProvisioner;
 use apply_model::{MAX_PROVISIONERS, MAX_SECONDS, Outcome, Provisioners, Waits};
 use std::alloc::{AllocError, Global};
 
 /// What comes of a step, each of whose members obeys its rule.
-#[derive(Drop)]
 pub struct TreeOutcome<'a> {
     /// Any number of 64 bits: whether it is small enough is asked later.
     pub seconds: u64,
     /// Any number of provisioners, likewise.
     pub provisioners: Vec<TreeProvisioner<'a>>,
     pub result: TreeEnding<'a>,
+}
+
+// Written out, so that values in which one stands are dropped by a call.
+impl<'a> Drop for TreeOutcome<'a> {
+    fn drop(self) {
+        let TreeOutcome {
+            seconds: _,
+            provisioners: _,
+            result: _,
+        } = self;
+    }
 }
 
 impl<'a> TreeOutcome<'a> {
@@ -43,8 +55,19 @@ impl<'a> TreeOutcome<'a> {
         })
     }
 
+    /// Whether the step goes beyond the limit.
+    pub fn exceeds(&self, limit: Limit) -> bool
+        ensures { result ≡ exceeds limit (outcome_view self.now) }
+    {
+        match limit {
+            Limit::Seconds => self.is_too_long(),
+            Limit::Provisioners => self.provisioners.len() > MAX_PROVISIONERS,
+            Limit::Output => self.has_too_much_output(),
+        }
+    }
+
     /// Whether the step takes longer than it may, with all its provisioners.
-    pub fn is_too_long(&self) -> bool
+    fn is_too_long(&self) -> bool
         ensures { result ≡ is_too_long (outcome_view self.now) }
     {
         let Some(mut left) = u64::from(MAX_SECONDS).checked_sub(self.seconds) else {
@@ -59,15 +82,8 @@ impl<'a> TreeOutcome<'a> {
         false
     }
 
-    /// Whether the step has more provisioners than it may.
-    pub fn has_too_many_provisioners(&self) -> bool
-        ensures { result ≡ has_too_many_provisioners (outcome_view self.now) }
-    {
-        self.provisioners.len() > MAX_PROVISIONERS
-    }
-
     /// Whether a provisioner of the step puts out more than it may.
-    pub fn has_too_much_output(&self) -> bool
+    fn has_too_much_output(&self) -> bool
         ensures { result ≡ has_too_much_output (outcome_view self.now) }
     {
         puts_any_out_too_much(&self.provisioners)

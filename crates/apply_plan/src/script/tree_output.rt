@@ -1,14 +1,12 @@
 //! An item of `output` of a script, whose text is borrowed.
 
-ghost use Rattle.std.specs.Prelude.{◌≡◌, ◌<◌, ◌≤◌, Err, IfOk, OnOk, length, option_map};
-ghost use Rattle.serde_json.specs.Data.{Data};
-ghost use Rattle.apply_json.specs.Keeping.{IsKeptRead};
-ghost use Rattle.apply_json.specs.Tokens.{IsNoValue};
+ghost use Rattle.std.specs.Prelude.{◌≡◌, ◌≤◌, IfOk, option_map};
 ghost use Rattle.apply_model.specs.Script.Limits.{max_seconds};
-ghost use Rattle.apply_plan.specs.Script.Entry.{is_kept, output_from, timed};
+ghost use Rattle.apply_plan.specs.Script.Entry.{OutputItem, output_from, timed};
 ghost use Rattle.apply_plan.specs.Script.Members.{output_held};
 ghost use Rattle.apply_plan.specs.Script.OutputView.{output_view};
 
+use crate::script::list_item::ListItem;
 use crate::script::number_or_none::number_or_none;
 use crate::script::output_slots::OutputSlots;
 use apply_json::{ReadFault, Reader, Scalar, read_kept_object};
@@ -23,26 +21,27 @@ pub struct TreeOutput<'a> {
     pub text: &'a str,
 }
 
-impl<'a> TreeOutput<'a> {
-    /// Reads an item, in which arrays and objects nest at most `depth` deep. `None` where it is none, or one of its members
-    /// breaks its rule.
-    pub fn read(
+impl<'a> ListItem<'a> for TreeOutput<'a> {
+    ghost Seen = { OutputItem };
+
+    ghost see = { output_view };
+
+    ghost part = { output_from };
+
+    fn read(
         alloc: Global,
         reader: &mut Reader<'a>,
         depth: usize,
-    ) -> Result<Option<TreeOutput<'a>>, ReadFault>
-        ensures ok { IfOk result (λ found. (d : Data) × IsKeptRead is_kept depth reader.old d reader.new
-            × (option_map output_view found ≡ output_from d)) }
-        ensures shorter { OnOk result (length reader.new < length reader.old) }
-        ensures err { result ≡ Err ReadFault.NotJson → IsNoValue depth reader.old }
-    {
+    ) -> Result<Option<TreeOutput<'a>>, ReadFault> {
         let mut slots = OutputSlots::new();
         match read_kept_object(alloc, reader, depth, &mut slots)? {
             Scalar::Text(text) => Ok(Some(TreeOutput { after: None, text })),
             _ => Ok(TreeOutput::of(&slots)),
         }
     }
+}
 
+impl<'a> TreeOutput<'a> {
     /// The item that the members are. `None` where one of them breaks its rule.
     fn of(slots: &OutputSlots<'a>) -> Option<TreeOutput<'a>>
         ensures { option_map output_view result ≡ output_held slots.now }

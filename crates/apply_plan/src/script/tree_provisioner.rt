@@ -5,12 +5,13 @@ ghost use Rattle.apply_model.specs.Script.Outcome.{are_in_time};
 ghost use Rattle.apply_plan.specs.Script.Entry.{timed};
 ghost use Rattle.apply_plan.specs.Script.OutputView.{outputs_view};
 
-use crate::script::on_failure::may_fail;
+use crate::filled_text::filled_text;
+use crate::script::flag_of_word::flag_of_word;
+use crate::script::list_item::ListItem;
 use crate::script::provisioner_slots::ProvisionerSlots;
 use crate::script::tree_diag::TreeDiag;
 use crate::script::tree_output::TreeOutput;
 use crate::script::tree_outputs::{are_in_time, copied_outputs};
-use apply_json::members::non_empty;
 use apply_json::{ReadFault, Reader, read_kept_object};
 use apply_model::{MAX_OUTPUTS, Provisioner, Text};
 use std::alloc::{AllocError, Global};
@@ -28,45 +29,46 @@ pub struct TreeProvisioner<'a> {
     ghost in_time: { are_in_time 0 seconds (map (timed seconds) (outputs_view output.items)) ≡ true },
 }
 
-impl<'a> TreeProvisioner<'a> {
-    ghost use Rattle.std.specs.Prelude.{◌<◌, Err, IfOk, OnOk, length, option_map};
-    ghost use Rattle.serde_json.specs.Data.{Data};
-    ghost use Rattle.apply_json.specs.Keeping.{IsKeptRead};
-    ghost use Rattle.apply_json.specs.Tokens.{IsNoValue};
-    ghost use Rattle.apply_model.specs.Script.Outcome.{IsSmall, puts_out_too_much};
-    ghost use Rattle.apply_plan.specs.Script.Entry.{is_kept, provisioner_from};
-    ghost use Rattle.apply_plan.specs.Script.Members.{provisioner_held};
+impl<'a> ListItem<'a> for TreeProvisioner<'a> {
+    ghost use Rattle.apply_model.specs.declared.script.provisioner.Provisioner.{Provisioner};
+    ghost use Rattle.apply_plan.specs.Script.Entry.{provisioner_from};
     ghost use Rattle.apply_plan.specs.Script.TreeView.{provisioner_view};
 
-    /// Reads a provisioner, in which arrays and objects nest at most `depth` deep. `None` where it is none, or one of its
-    /// members breaks its rule.
-    pub fn read(
+    ghost Seen = { Provisioner };
+
+    ghost see = { provisioner_view };
+
+    ghost part = { provisioner_from };
+
+    fn read(
         alloc: Global,
         reader: &mut Reader<'a>,
         depth: usize,
-    ) -> Result<Option<TreeProvisioner<'a>>, ReadFault>
-        ensures ok { IfOk result (λ found. (d : Data) × IsKeptRead is_kept depth reader.old d reader.new
-            × (option_map provisioner_view found ≡ provisioner_from d)) }
-        ensures shorter { OnOk result (length reader.new < length reader.old) }
-        ensures err { result ≡ Err ReadFault.NotJson → IsNoValue depth reader.old }
-    {
+    ) -> Result<Option<TreeProvisioner<'a>>, ReadFault> {
         let mut slots = ProvisionerSlots::new(alloc);
         read_kept_object(alloc, reader, depth, &mut slots)?;
         Ok(TreeProvisioner::of(slots))
     }
+}
+
+impl<'a> TreeProvisioner<'a> {
+    ghost use Rattle.std.specs.Prelude.{IfOk, option_map};
+    ghost use Rattle.apply_model.specs.Script.Outcome.{IsSmall, puts_out_too_much};
+    ghost use Rattle.apply_plan.specs.Script.Members.{provisioner_held};
+    ghost use Rattle.apply_plan.specs.Script.TreeView.{provisioner_view};
 
     /// The provisioner that the members are. `None` where one of them breaks its rule.
     fn of(slots: ProvisionerSlots<'a>) -> Option<TreeProvisioner<'a>>
         ensures { option_map provisioner_view result ≡ provisioner_held slots.entry }
     {
-        let name = non_empty(slots.name.text()?)?;
+        let name = filled_text(slots.name)?;
         let seconds = slots.seconds.whole()?;
         let failed = slots.failed?;
         let output = slots.output?;
         if !are_in_time(&output, seconds) {
             return None;
         }
-        let may_fail = may_fail(slots.on_failure)?;
+        let may_fail = flag_of_word(slots.on_failure, "continue", "fail")?;
         Some(TreeProvisioner {
             name,
             seconds,

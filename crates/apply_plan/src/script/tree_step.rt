@@ -1,18 +1,18 @@
 //! A step of a script, whose texts are borrowed.
 
-ghost use Rattle.std.specs.Prelude.{◌≡◌, ◌<◌, ℕ, Err, IfOk, IfSome, OnOk, Some, length, map, option_map};
-ghost use Rattle.serde_json.specs.Data.{Data};
-ghost use Rattle.apply_json.specs.Keeping.{IsKeptRead};
+ghost use Rattle.std.specs.Prelude.{◌≡◌, ℕ, IfOk, IfSome, map, option_map};
 ghost use Rattle.apply_json.specs.Seen.{scalar_view};
-ghost use Rattle.apply_json.specs.Tokens.{IsNoValue};
-ghost use Rattle.apply_plan.specs.Script.Entry.{is_kept, step_from};
-ghost use Rattle.apply_plan.specs.Script.Members.{flag_held, is_told, outcome_held, step_held};
+ghost use Rattle.apply_plan.specs.Script.Entry.{EntryStep, step_from};
+ghost use Rattle.apply_plan.specs.Script.Members.{flag_held, is_told, outcome_by, step_held};
 ghost use Rattle.apply_model.specs.Plan.StepKind.{is_kind};
-ghost use Rattle.apply_model.specs.Script.Outcome.{IsBounded, has_too_many_provisioners, has_too_much_output, is_too_long};
+ghost use Rattle.apply_model.specs.Script.Outcome.{IsBounded};
+ghost use Rattle.apply_plan.specs.Script.Limit.{exceeds};
 ghost use Rattle.apply_plan.specs.Script.Refusals.{misplaces_provisioners, passes, takes_provisioners, warns_not_a_read};
 ghost use Rattle.apply_plan.specs.Script.TreeView.{ending_view, entry_step_view, outcome_view, provisioner_view, step_view};
 ghost use Rattle.apply_plan.specs.Script.WaitedStep.{with_waits};
 
+use crate::script::limit::Limit;
+use crate::script::list_item::ListItem;
 use crate::script::step_slots::StepSlots;
 use crate::script::tree_ending::TreeEnding;
 use crate::script::tree_outcome::TreeOutcome;
@@ -31,62 +31,42 @@ pub struct TreeStep<'a> {
     pub after: Vec<TreeWait<'a>>,
 }
 
-impl<'a> TreeStep<'a> {
-    /// Reads a step, in which arrays and objects nest at most `depth` deep. `None` where it is none, or one of its members breaks
-    /// its rule.
-    pub fn read(
+impl<'a> ListItem<'a> for TreeStep<'a> {
+    ghost Seen = { EntryStep };
+
+    ghost see = { entry_step_view };
+
+    ghost part = { step_from };
+
+    fn read(
         alloc: Global,
         reader: &mut Reader<'a>,
         depth: usize,
-    ) -> Result<Option<TreeStep<'a>>, ReadFault>
-        ensures ok { IfOk result (λ found. (d : Data) × IsKeptRead is_kept depth reader.old d reader.new
-            × (option_map entry_step_view found ≡ step_from d)) }
-        ensures shorter { OnOk result (length reader.new < length reader.old) }
-        ensures err { result ≡ Err ReadFault.NotJson → IsNoValue depth reader.old }
-    {
+    ) -> Result<Option<TreeStep<'a>>, ReadFault> {
         let mut slots = StepSlots::new(alloc);
         read_kept_object(alloc, reader, depth, &mut slots)?;
         Ok(TreeStep::of(slots))
     }
+}
 
+impl<'a> TreeStep<'a> {
     /// The step that the members are. `None` where one of them breaks its rule.
     fn of(slots: StepSlots<'a>) -> Option<TreeStep<'a>>
         ensures { option_map entry_step_view result ≡ step_held slots.entry }
     {
-        let skipped = flag_or_false(slots.skipped)?;
-        let ending = TreeEnding::of_members(slots.id, slots.warning, slots.failed)?;
-        let provisioners = slots.provisioners?;
+        let skipped = flag_or_false(slots.skipped);
+        let ending = TreeEnding::of_members(slots.id, slots.warning, slots.failed);
+        let outcome = outcome_of(skipped, slots.seconds, ending, slots.provisioners)?;
         let after = slots.after?;
-        let outcome = outcome_of(skipped, slots.seconds, ending, provisioners)?;
         Some(TreeStep { outcome, after })
     }
 
-    /// Whether the step takes longer than it may, with all its provisioners.
-    pub fn is_too_long(&self) -> bool
-        ensures { result ≡ passes is_too_long (step_view self.now) }
+    /// Whether the step goes beyond the limit.
+    pub fn exceeds(&self, limit: Limit) -> bool
+        ensures { result ≡ passes (exceeds limit) (step_view self.now) }
     {
         match &self.outcome {
-            Some(outcome) => outcome.is_too_long(),
-            None => false,
-        }
-    }
-
-    /// Whether the step has more provisioners than it may.
-    pub fn has_too_many_provisioners(&self) -> bool
-        ensures { result ≡ passes has_too_many_provisioners (step_view self.now) }
-    {
-        match &self.outcome {
-            Some(outcome) => outcome.has_too_many_provisioners(),
-            None => false,
-        }
-    }
-
-    /// Whether a provisioner of the step puts out more than it may.
-    pub fn has_too_much_output(&self) -> bool
-        ensures { result ≡ passes has_too_much_output (step_view self.now) }
-    {
-        match &self.outcome {
-            Some(outcome) => outcome.has_too_much_output(),
+            Some(outcome) => outcome.exceeds(limit),
             None => false,
         }
     }
@@ -125,18 +105,21 @@ impl<'a> TreeStep<'a> {
     }
 }
 
-/// What comes of a step, by its parts: nothing, where it is skipped. `None` where something is told of one that is skipped, or
-/// where one whose provider fails has provisioners.
+/// What comes of a step, by its parts: nothing, where it is skipped. `None` where a part breaks its rule, where something is told
+/// of a step that is skipped, or where one whose provider fails has provisioners.
 fn outcome_of<'a>(
-    skipped: bool,
+    skipped: Option<bool>,
     seconds: Scalar<'a>,
-    ending: TreeEnding<'a>,
-    provisioners: Vec<TreeProvisioner<'a>>,
+    ending: Option<TreeEnding<'a>>,
+    provisioners: Option<Vec<TreeProvisioner<'a>>>,
 ) -> Option<Option<TreeOutcome<'a>>>
     ensures { option_map (λ outcome. option_map outcome_view outcome) result
-        ≡ outcome_held skipped (scalar_view seconds.entry) (ending_view ending.entry) (map provisioner_view provisioners.entry.items) }
+        ≡ outcome_by skipped (scalar_view seconds.entry) (option_map ending_view ending.entry)
+        (option_map (λ found. map provisioner_view found.items) provisioners.entry) }
 {
-    if skipped {
+    let provisioners = provisioners?;
+    let ending = ending?;
+    if skipped? {
         if is_told(seconds) || !ending.says_nothing() || !provisioners.is_empty() {
             return None;
         }

@@ -1,14 +1,12 @@
 //! An item of `after` of a script, whose texts are borrowed.
 
-ghost use Rattle.std.specs.Prelude.{◌≡◌, ◌<◌, ◌≤◌, Err, IfOk, IfSome, None, OnOk, Some, length, nat_lt, option_map, if◌then◌else◌};
-ghost use Rattle.serde_json.specs.Data.{Data};
-ghost use Rattle.apply_json.specs.Keeping.{IsKeptRead};
-ghost use Rattle.apply_json.specs.Tokens.{IsNoValue};
-ghost use Rattle.apply_plan.specs.Script.Entry.{is_kept, wait_from};
+ghost use Rattle.std.specs.Prelude.{◌≡◌, None, Some, nat_lt, option_map, if◌then◌else◌};
+ghost use Rattle.apply_plan.specs.Script.Entry.{WaitName, wait_from};
 ghost use Rattle.apply_plan.specs.Script.Members.{wait_held};
 ghost use Rattle.apply_plan.specs.Script.TreeView.{wait_view};
 ghost use Rattle.apply_plan.specs.Script.WaitedStep.{number_waited};
 
+use crate::script::list_item::ListItem;
 use crate::script::number_or_none::number_or_none;
 use crate::script::wait_slots::WaitSlots;
 use apply_json::members::non_empty;
@@ -24,19 +22,18 @@ pub struct TreeWait<'a> {
     pub step: Option<u64>,
 }
 
-impl<'a> TreeWait<'a> {
-    /// Reads an item, in which arrays and objects nest at most `depth` deep. `None` where it is none, or one of its members
-    /// breaks its rule.
-    pub fn read(
+impl<'a> ListItem<'a> for TreeWait<'a> {
+    ghost Seen = { WaitName };
+
+    ghost see = { wait_view };
+
+    ghost part = { wait_from };
+
+    fn read(
         alloc: Global,
         reader: &mut Reader<'a>,
         depth: usize,
-    ) -> Result<Option<TreeWait<'a>>, ReadFault>
-        ensures ok { IfOk result (λ found. (d : Data) × IsKeptRead is_kept depth reader.old d reader.new
-            × (option_map wait_view found ≡ wait_from d)) }
-        ensures shorter { OnOk result (length reader.new < length reader.old) }
-        ensures err { result ≡ Err ReadFault.NotJson → IsNoValue depth reader.old }
-    {
+    ) -> Result<Option<TreeWait<'a>>, ReadFault> {
         let mut slots = WaitSlots::new();
         match read_kept_object(alloc, reader, depth, &mut slots)? {
             Scalar::Text(address) => Ok(Some(TreeWait {
@@ -47,7 +44,9 @@ impl<'a> TreeWait<'a> {
             _ => Ok(TreeWait::of(&slots)),
         }
     }
+}
 
+impl<'a> TreeWait<'a> {
     /// The item that the members are. `None` where one of them breaks its rule.
     fn of(slots: &WaitSlots<'a>) -> Option<TreeWait<'a>>
         ensures { option_map wait_view result ≡ wait_held slots.now }

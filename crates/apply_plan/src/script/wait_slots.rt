@@ -3,7 +3,8 @@
 ghost use Rattle.apply_plan.specs.Script.Entry.{is_kept};
 ghost use Rattle.apply_plan.specs.Script.Members.{HoldsWait};
 
-use apply_json::{KeepingSlots, ReadFault, Reader, Scalar, pass, read_scalar};
+use crate::members::take_member;
+use apply_json::{KeepingSlots, ReadFault, Reader, Scalar, read_scalar};
 use std::alloc::Global;
 
 /// The members of an item of `after`.
@@ -41,18 +42,11 @@ impl<'a> KeepingSlots<'a> for WaitSlots<'a> {
         reader: &mut Reader<'a>,
         depth: usize,
     ) -> Result<(), ReadFault> {
-        if name == "address" {
-            self.address = read_scalar(reader, depth)?;
-            Ok(())
-        } else if name == "deposed" {
-            self.deposed = read_scalar(reader, depth)?;
-            Ok(())
-        } else if name == "step" {
-            self.step = read_scalar(reader, depth)?;
-            Ok(())
-        } else {
-            pass(reader, depth)?;
-            Ok(())
+        take_member! {
+            self, name, reader, depth,
+            "address" => address: read_scalar(reader, depth)?,
+            "deposed" => deposed: read_scalar(reader, depth)?,
+            "step" => step: read_scalar(reader, depth)?,
         }
     }
 }

@@ -1,6 +1,6 @@
 //! The steps that the items of `after` name.
 
-ghost use Rattle.std.specs.Prelude.{◌≡◌, ◌≤◌, All, IfOk, IfSome, find, length, map, option_map};
+ghost use Rattle.std.specs.Prelude.{◌≡◌, ◌≤◌, All, IfOk, IfSome, find, length, option_map};
 ghost use Rattle.std.specs.List.{enumerate_from};
 ghost use Rattle.apply_model.specs.Script.Limits.{max_waits};
 ghost use Rattle.apply_plan.specs.Plan.SeenObjects.{is_of};

@@ -4,10 +4,10 @@ use Rattle.apply_plan.specs.Plan.Members.{HoldsElement}
 use Rattle.apply_plan.proofs.Plans.Taken.{takes_change, takes_other, takes_scalar}
 use Rattle.apply_plan.proofs.plan.element_slots.ElementSlotsSlots.take.Goals as goal
 
-pub returns-then-eq-clause-ok : goal.returns-then-eq-clause-ok
-returns-then-eq-clause-ok c =
+pub returns-then-is_text-clause-ok : goal.returns-then-is_text-clause-ok
+returns-then-is_text-clause-ok c =
     let done = c.in_ok-self.ensures.ok in
-    (done.0, done.1, λ start ms holds. takes_change c.args.self.now c.args.name.now done.0 ms holds _ (sym c.eq.ensures ∙ c.if-eq.true) done.2 refl)
+    (done.0, done.1, λ start ms holds. takes_change c.args.self.now c.args.name.now done.0 ms holds _ (sym c.is_text.ensures ∙ c.if-is_text.true) done.2 refl)
 
 pub returns-in_ok-found-in-Some-clause-ok : goal.returns-in_ok-found-in-Some-clause-ok
 returns-in_ok-found-in-Some-clause-ok c =
@@ -21,4 +21,4 @@ returns-in_ok-found-in-Some-clause-ok c =
 pub returns-in_ok-pass-in-None-clause-ok : goal.returns-in_ok-pass-in-None-clause-ok
 returns-in_ok-pass-in-None-clause-ok c =
     let done = c.in_ok-pass-in-None.ensures.ok in
-    (done.0, done.1, λ start ms holds. takes_other c.args.self.now c.args.name.now done.0 ms holds c.in-None.ensures (sym c.eq.ensures ∙ c.if-eq.false))
+    (done.0, done.1, λ start ms holds. takes_other c.args.self.now c.args.name.now done.0 ms holds c.in-None.ensures (sym c.is_text.ensures ∙ c.if-is_text.false))

@@ -9,7 +9,7 @@ returns-in_ok-self-clause-ok c =
     let k = c.args.name.now in
     let done = c.in_ok-self.ensures.ok in
     let d = done.0 in
-    let here : bytes_eq k (codes "id") ≡ true = sym c.eq.ensures ∙ c.if-eq.true in (
+    let here : bytes_eq k (codes "id") ≡ true = sym c.is_text.ensures ∙ c.if-is_text.true in (
       d,
       done.1,
       λ start ms holds. record {
@@ -25,6 +25,6 @@ returns-in_ok-pass-clause-ok c =
       d,
       done.1,
       λ start ms holds. record {
-        id = left (seen) (codes "id") k d ms _ (sym c.eq.ensures ∙ c.if-eq.false) holds.id;
+        id = left (seen) (codes "id") k d ms _ (sym c.is_text.ensures ∙ c.if-is_text.false) holds.id;
       },
     )

@@ -12,7 +12,7 @@ returns-in_ok-self-clause-ok c =
     let k = c.args.name.now in
     let done = c.in_ok-self.ensures.ok in
     let d = done.0 in
-    let here : bytes_eq k (codes "format_version") ≡ true = sym c.eq.ensures ∙ c.if-eq.true in (
+    let here : bytes_eq k (codes "format_version") ≡ true = sym c.is_text.ensures ∙ c.if-is_text.true in (
       d,
       done.1,
       λ start ms holds. record {
@@ -28,7 +28,7 @@ returns-in_ok-self-2-clause-ok c =
     let k = c.args.name.now in
     let done = c.in_ok-self-2.ensures.ok in
     let d = done.0 in
-    let here : bytes_eq k (codes "terraform_version") ≡ true = sym c.eq-else-eq.ensures ∙ c.if-eq-2.true in (
+    let here : bytes_eq k (codes "terraform_version") ≡ true = sym c.is_text-else-is_text.ensures ∙ c.if-is_text-2.true in (
       d,
       done.1,
       λ start ms holds. record {
@@ -44,7 +44,7 @@ returns-in_ok-self-3-clause-ok c =
     let k = c.args.name.now in
     let done = c.in_ok-self-3.ensures.ok in
     let d = done.0 in
-    let here : bytes_eq k (codes "resource_changes") ≡ true = sym c.eq-else-eq-2.ensures ∙ c.if-eq-3.true in (
+    let here : bytes_eq k (codes "resource_changes") ≡ true = sym c.is_text-else-is_text-2.ensures ∙ c.if-is_text-3.true in (
       d,
       done.1,
       λ start ms holds. record {
@@ -63,9 +63,9 @@ returns-in_ok-pass-clause-ok c =
       d,
       done.1,
       λ start ms holds. record {
-        format_version = left seen (codes "format_version") k d ms _ (sym c.eq.ensures ∙ c.if-eq.false) holds.format_version;
-        terraform_version = left seen (codes "terraform_version") k d ms _ (sym c.eq-else-eq.ensures ∙ c.if-eq-2.false) holds.terraform_version;
-        resource_changes = left kind_of (codes "resource_changes") k d ms _ (sym c.eq-else-eq-2.ensures ∙ c.if-eq-3.false) holds.resource_changes;
-        elements = subst (λ items. HoldsElements c.args.self.now.elements (list_of items)) (left items_at (codes "resource_changes") k d ms (items_at (get_member (codes "resource_changes") ms)) (sym c.eq-else-eq-2.ensures ∙ c.if-eq-3.false) refl) holds.elements;
+        format_version = left seen (codes "format_version") k d ms _ (sym c.is_text.ensures ∙ c.if-is_text.false) holds.format_version;
+        terraform_version = left seen (codes "terraform_version") k d ms _ (sym c.is_text-else-is_text.ensures ∙ c.if-is_text-2.false) holds.terraform_version;
+        resource_changes = left kind_of (codes "resource_changes") k d ms _ (sym c.is_text-else-is_text-2.ensures ∙ c.if-is_text-3.false) holds.resource_changes;
+        elements = subst (λ items. HoldsElements c.args.self.now.elements (list_of items)) (left items_at (codes "resource_changes") k d ms (items_at (get_member (codes "resource_changes") ms)) (sym c.is_text-else-is_text-2.ensures ∙ c.if-is_text-3.false) refl) holds.elements;
       },
     )

@@ -12,7 +12,7 @@ returns-in_ok-self-clause-ok c =
     let k = c.args.name.now in
     let done = c.in_ok-self.ensures.ok in
     let d = done.0 in
-    let here : bytes_eq k (codes "changes") ≡ true = sym c.eq.ensures ∙ c.if-eq.true in (
+    let here : bytes_eq k (codes "changes") ≡ true = sym c.is_text.ensures ∙ c.if-is_text.true in (
       d,
       other_member k (value c.args.depth c.args.reader.now) d _ (as_that k (codes "changes") here) done.1,
       λ start ms holds. (
@@ -30,7 +30,7 @@ returns-in_ok-pass-clause-ok c =
     let done = c.in_ok-pass.ensures.ok in
     let there = passed_member k (value c.args.depth c.args.reader.now) done.0 _ done.1 in
     let d = there.0 in
-    let other : bytes_eq k (codes "changes") ≡ false = sym c.eq.ensures ∙ c.if-eq.false in (
+    let other : bytes_eq k (codes "changes") ≡ false = sym c.is_text.ensures ∙ c.if-is_text.false in (
       d,
       there.1,
       λ start ms holds. (

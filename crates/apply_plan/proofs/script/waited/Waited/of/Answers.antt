@@ -4,7 +4,7 @@ use Rattle.std.proofs.lemmas.List.{get_or_default}
 use Rattle.apply_plan.specs.declared.script.tree_wait.TreeWait.{TreeWait}
 use Rattle.apply_plan.proofs.Scripts.Waited.{all_waited, is_of_none, names_none, names_step, none_waited, number_below}
 use Rattle.apply_plan.proofs.script.waited.Waited.of.Goals as goal
-use Rattle.apply_plan.proofs.script.waited.Waited.of.Goals.{In-Some, in-Some-step_of+in_ok-push-in-Some-step_of, in-None+then-lacks_step, in-None+else-lacks_step}
+use Rattle.apply_plan.proofs.script.waited.Waited.of.Goals.{in-Some-step_of+in_ok-push-in-Some-step_of, in-None+then-lacks_step, in-None+else-lacks_step}
 
 -- what would be read past the last item
 abbrev no_item : TreeWait

@@ -1,6 +1,6 @@
 use Rattle.std.proofs.Common.{sym, ◌∙◌}
 use Rattle.apply_plan.proofs.Scripts.Held.{not_text, output_is}
-use Rattle.apply_plan.proofs.script.tree_output.TreeOutput.read.Goals as goal
+use Rattle.apply_plan.proofs.script.tree_output.TreeOutputListItem.read.Goals as goal
 
 pub returns-in_default : goal.returns-in_default
 returns-in_default c =

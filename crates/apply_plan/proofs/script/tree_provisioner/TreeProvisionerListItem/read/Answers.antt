@@ -1,6 +1,6 @@
 use Rattle.std.proofs.Common.{◌∙◌}
 use Rattle.apply_plan.proofs.Scripts.Held.{provisioner_is}
-use Rattle.apply_plan.proofs.script.tree_provisioner.TreeProvisioner.read.Goals as goal
+use Rattle.apply_plan.proofs.script.tree_provisioner.TreeProvisionerListItem.read.Goals as goal
 
 pub returns-clause-ok : goal.returns-clause-ok
 returns-clause-ok c =
