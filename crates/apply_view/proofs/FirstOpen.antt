@@ -93,7 +93,7 @@ last_get (p ∷ (q ∷ ps)) l =
 
 -- what it has at an address are the places of the steps that are open there
 looked_up : (viewer : Viewer) (t : Telling) (a : List ℕ) (ps : List ℕ) → Takes viewer t → ps ≡ places_at viewer.opened a → ps ≡ places (is_open_at a) t.steps
-looked_up viewer t a ps h is = is ∙ h.places a
+looked_up viewer t a ps h is = is ∙ h.opened.places a
 
 among_open : (viewer : Viewer) (t : Telling) (a action ps : List ℕ) → Takes viewer t → ps ≡ places_at viewer.opened a
     → filter (has_action action viewer.told.steps) ps ≡ places (is_open_with a action) t.steps

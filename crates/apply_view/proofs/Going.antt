@@ -1,10 +1,11 @@
 -- From what is known before a line, or before what it says, to the answer.
-use Rattle.std.proofs.Common.{◌≡◌, ◌<◌, ℕ, ◌+◌, List, false, Result, Ok, Err, refl, ap, ◌∙◌, subst, arith}
+use Rattle.std.proofs.Common.{◌≡◌, ◌<◌, ℕ, ◌+◌, List, false, Result, Ok, Err, refl, sym, ap, ◌∙◌, subst, arith}
 use Rattle.apply_view.specs.declared.told.view_fault.ViewFault.{ViewFault}
 use Rattle.apply_view.specs.declared.told.view_fault.ViewFault.TheVariants as fault
 use Rattle.apply_view.specs.declared.told.viewer.Viewer.{Viewer}
 use Rattle.apply_view.specs.Messages.{message_of}
-use Rattle.apply_view.specs.OpenPlaces.{places_at}
+use Rattle.apply_view.specs.declared.told.open_places.OpenPlaces.{OpenPlaces}
+use Rattle.apply_view.specs.OpenPlaces.{HoldsPlaces}
 use Rattle.apply_view.specs.Telling.{Telling, max_lines, is_blank_line, with_line_said, with_message_or_passed}
 use Rattle.apply_view.specs.Viewing.{Goes, HasTold, IsTooMuch, Takes}
 
@@ -24,12 +25,12 @@ goes_from Before Then new f g (Err (fault.Unread failed)) leads h = h
 -- ---- a line is counted
 
 pub counted_takes : (old new : Viewer) (t : Telling) → HasTold old t → new.told ≡ record old.told { lines = old.told.lines + 1 } → old.told.lines < max_lines
-    → ((a : List ℕ) → places_at new.opened a ≡ places_at old.opened a) → Takes new (record t { lines = t.lines + 1 })
+    → new.opened ≡ old.opened → Takes new (record t { lines = t.lines + 1 })
 counted_takes old new t h is room at =
     let lines : old.told.lines ≡ t.lines = ap (λ (x : Telling). x.lines) h.is in
     record {
       is = is ∙ ap (λ (x : Telling). record x { lines = x.lines + 1 }) h.is;
-      places = λ a. at a ∙ h.places a;
+      opened = subst (λ (o : OpenPlaces). HoldsPlaces o t.steps) (sym at) h.opened;
       lines = omega (arith, lines, room);
       passed = omega (arith, h.passed);
       errors = omega (arith, h.errors);

@@ -4,10 +4,12 @@ use Rattle.std.specs.Prelude.{◌&&◌, not, is_none}
 use Rattle.std.specs.Str.{bytes_eq}
 use Rattle.std.proofs.lemmas.Bool.{cases_Bool, and_parts}
 use Rattle.std.proofs.lemmas.List.{append-nil}
+use Rattle.std.proofs.lemmas.List.Sums.{sum_by-cons, sum_by_push}
 use Rattle.std.proofs.lemmas.Slice.Eq.{bytes_eq-Decides}
+use Rattle.apply_view.specs.declared.told.open_places.OpenPlaces.{OpenPlaces}
 use Rattle.apply_view.specs.declared.told.viewer.Viewer.{Viewer}
 use Rattle.apply_view.specs.Details.{ToldDiagnostic}
-use Rattle.apply_view.specs.OpenPlaces.{places_at, without}
+use Rattle.apply_view.specs.OpenPlaces.{AreFilled, HoldsPlaces, index_bytes, places_at, places_bytes, text_bytes, without}
 use Rattle.apply_view.specs.Steps.{ToldStep, at_place, begun_step, ended, first_of, is_open_at, is_open_with, last_of, passes_at, places, places_from, provisions, with_provisioner, with_provisioner_ended}
 use Rattle.apply_view.specs.Telling.{KeptDiagnostics, Telling, max_lines, with_begin, with_diagnostic, with_end, with_provisioner_begin, with_provisioner_end}
 use Rattle.apply_view.specs.Viewing.{HasTold, Takes, added}
@@ -21,13 +23,26 @@ capped n lines l m = omega arith
 pub added_is : (d : ToldDiagnostic) (ds : KeptDiagnostics) (lines : ℕ) → ds.count < lines → lines ≤ max_lines → added d ds ≡ with_diagnostic d ds
 added_is d ds lines l m = rw (capped ds.count lines l m) refl
 
+-- ---- what becomes of steps leaves their addresses
+
+abbrev pub indexed : ToldStep → ℕ
+indexed s = text_bytes s.address + 32
+
+pub placed_index : (k : ℕ) (f : ToldStep → ToldStep) (steps : List ToldStep) → ((s : ToldStep) → (f s).address ≡ s.address)
+    → index_bytes (at_place k f steps) ≡ index_bytes steps
+placed_index k f [] same = refl
+placed_index zero f (s ∷ ss) same =
+    sum_by-cons indexed (f s) ss ∙ (ap (λ (a : List ℕ). text_bytes a + 32 + index_bytes ss) (same s) ∙ sym (sum_by-cons indexed s ss))
+placed_index (suc k) f (s ∷ ss) same =
+    sum_by-cons indexed s (at_place k f ss) ∙ (ap (λ (n : ℕ). indexed s + n) (placed_index k f ss same) ∙ sym (sum_by-cons indexed s ss))
+
 -- ---- what is told is known, and so are the places
 
-pub held : (old new : Viewer) (t u : Telling) → Takes old t → new.told ≡ u → ((a : List ℕ) → places_at new.opened a ≡ places (is_open_at a) u.steps)
+pub held : (old new : Viewer) (t u : Telling) → Takes old t → new.told ≡ u → HoldsPlaces new.opened u.steps
     → u.lines ≡ t.lines → u.passed ≤ t.lines → u.errors.count ≤ t.lines → u.warnings.count ≤ t.lines → HasTold new u
 held old new t u h is at lines passed errors warnings = record {
   is = is;
-  places = at;
+  opened = at;
   lines = rw lines h.lines;
   passed = rw lines passed;
   errors = rw lines errors;
@@ -37,12 +52,22 @@ held old new t u h is at lines passed errors warnings = record {
 pub less : (n m : ℕ) → n < m → n ≤ m
 less n m l = omega arith
 
+-- the steps change, and neither the places of the open ones nor the addresses
+pub kept_places : (opened : OpenPlaces) (before after : List ToldStep) → ((a : List ℕ) → places (is_open_at a) after ≡ places (is_open_at a) before)
+    → index_bytes after ≡ index_bytes before → HoldsPlaces opened before → HoldsPlaces opened after
+kept_places opened before after same bytes h = record {
+  places = λ a. h.places a ∙ sym (same a);
+  filled = h.filled;
+  bytes = rw bytes h.bytes;
+}
+
 -- what is told changes neither the steps nor the counts
-pub kept_held : (old new : Viewer) (t u : Telling) → Takes old t → new.told ≡ u → ((a : List ℕ) → places_at new.opened a ≡ places_at old.opened a)
-    → ((a : List ℕ) → places (is_open_at a) u.steps ≡ places (is_open_at a) t.steps) → u.lines ≡ t.lines → u.passed ≡ t.passed → u.errors.count ≤ t.lines → u.warnings.count ≤ t.lines
+pub kept_held : (old new : Viewer) (t u : Telling) → Takes old t → new.told ≡ u → new.opened ≡ old.opened
+    → ((a : List ℕ) → places (is_open_at a) u.steps ≡ places (is_open_at a) t.steps) → index_bytes u.steps ≡ index_bytes t.steps → u.lines ≡ t.lines → u.passed ≡ t.passed → u.errors.count ≤ t.lines → u.warnings.count ≤ t.lines
     → HasTold new u
-kept_held old new t u h is at same lines passed errors warnings =
-    held old new t u h is (λ a. at a ∙ (h.places a ∙ sym (same a))) lines (rw passed (less _ _ h.passed)) errors warnings
+kept_held old new t u h is at same bytes lines passed errors warnings =
+    held old new t u h is (subst (λ (o : OpenPlaces). HoldsPlaces o u.steps) (sym at) (kept_places old.opened t.steps u.steps same bytes h.opened))
+    lines (rw passed (less _ _ h.passed)) errors warnings
 
 -- ---- a step begins
 
@@ -61,12 +86,17 @@ begun_places address action line m steps a =
 
 pub begun_held : (old new : Viewer) (t : Telling) (address action : List ℕ) (m : ℤ) → Takes old t → new.told ≡ with_begin address action m old.told
     → ((a : List ℕ) → places_at new.opened a ≡ cond (bytes_eq address a) (places_at old.opened a ++ length old.told.steps ∷ []) (places_at old.opened a))
+    → (AreFilled old.opened → AreFilled new.opened) → places_bytes new.opened ≤ places_bytes old.opened + (text_bytes address + 32)
     → HasTold new (with_begin address action m t)
-begun_held old new t address action m h is at =
+begun_held old new t address action m h is at filled bytes =
     held old new t (with_begin address action m t) h (is ∙ ap (with_begin address action m) h.is)
-    (λ a. at a
-    ∙ (ap₂ (λ (ps : List ℕ) (n : ℕ). cond (bytes_eq address a) (ps ++ n ∷ []) ps) (h.places a) (ap (λ (x : Telling). length x.steps) h.is)
-    ∙ sym (begun_places address action t.lines m t.steps a)))
+    (record {
+      places = λ a. at a
+          ∙ (ap₂ (λ (ps : List ℕ) (n : ℕ). cond (bytes_eq address a) (ps ++ n ∷ []) ps) (h.opened.places a) (ap (λ (x : Telling). length x.steps) h.is)
+          ∙ sym (begun_places address action t.lines m t.steps a));
+      filled = filled h.opened.filled;
+      bytes = let before = h.opened.bytes in omega (arith, before, bytes, sum_by_push indexed t.steps (begun_step t.lines address action m));
+    })
     refl (less _ _ h.passed) (less _ _ h.errors) (less _ _ h.warnings)
 
 -- ---- a step ends
@@ -119,12 +149,18 @@ pub end_held : (old new : Viewer) (t : Telling) (address action : List ℕ) (fai
     → first_of (places (is_open_with address action) t.steps) ≡ Some k
     → new.told ≡ record old.told { steps = at_place k (ended m failed) old.told.steps }
     → ((b : List ℕ) → places_at new.opened b ≡ cond (bytes_eq address b) (without k (places_at old.opened b)) (places_at old.opened b))
+    → (AreFilled old.opened → AreFilled new.opened) → places_bytes new.opened ≤ places_bytes old.opened
     → HasTold new (with_end address action failed m t)
-end_held old new t address action failed m k h e is at =
+end_held old new t address action failed m k h e is at filled bytes =
     rw e
     (held old new t (record t { steps = at_place k (ended m failed) t.steps }) h
     (is ∙ ap (λ (x : Telling). record x { steps = at_place k (ended m failed) x.steps }) h.is)
-    (λ b. at b ∙ (ap (λ (ps : List ℕ). cond (bytes_eq address b) (without k ps) ps) (h.places b) ∙ sym (ended_places address action failed m t.steps k e b)))
+    (record {
+      places = λ b. at b
+          ∙ (ap (λ (ps : List ℕ). cond (bytes_eq address b) (without k ps) ps) (h.opened.places b) ∙ sym (ended_places address action failed m t.steps k e b));
+      filled = filled h.opened.filled;
+      bytes = let before = h.opened.bytes in omega (arith, before, bytes, placed_index k (ended m failed) t.steps (λ s. refl));
+    })
     refl (less _ _ h.passed) (less _ _ h.errors) (less _ _ h.warnings))
 
 -- ---- provisioners
@@ -132,20 +168,20 @@ end_held old new t address action failed m k h e is at =
 pub provisioner_begun_held : (old new : Viewer) (t : Telling) (address name : List ℕ) (m : ℤ) (k : ℕ) → Takes old t
     → last_of (places (is_open_at address) t.steps) ≡ Some k
     → new.told ≡ record old.told { steps = at_place k (with_provisioner name m) old.told.steps; begun = old.told.begun + 1 }
-    → ((a : List ℕ) → places_at new.opened a ≡ places_at old.opened a) → HasTold new (with_provisioner_begin address name m t)
+    → new.opened ≡ old.opened → HasTold new (with_provisioner_begin address name m t)
 provisioner_begun_held old new t address name m k h e is at =
     rw e
     (kept_held old new t (record t { steps = at_place k (with_provisioner name m) t.steps; begun = t.begun + 1 }) h
     (is ∙ ap (λ (x : Telling). record x { steps = at_place k (with_provisioner name m) x.steps; begun = x.begun + 1 }) h.is) at
-    (λ a. places_kept (is_open_at a) (with_provisioner name m) (λ s. refl) 0 k t.steps) refl refl (less _ _ h.errors) (less _ _ h.warnings))
+    (λ a. places_kept (is_open_at a) (with_provisioner name m) (λ s. refl) 0 k t.steps) (placed_index k (with_provisioner name m) t.steps (λ s. refl)) refl refl (less _ _ h.errors) (less _ _ h.warnings))
 
 pub provisioner_ended_held : (old new : Viewer) (t : Telling) (address : List ℕ) (failed : Bool) (m : ℤ) (k : ℕ) → Takes old t
     → last_of (places (is_open_at address) t.steps) ≡ Some k → passes_at k provisions old.told.steps ≡ true
     → new.told ≡ record old.told { steps = at_place k (with_provisioner_ended m failed) old.told.steps }
-    → ((a : List ℕ) → places_at new.opened a ≡ places_at old.opened a) → HasTold new (with_provisioner_end address failed m t)
+    → new.opened ≡ old.opened → HasTold new (with_provisioner_end address failed m t)
 provisioner_ended_held old new t address failed m k h e passes is at =
     let there : passes_at k provisions t.steps ≡ true = ap (λ (x : Telling). passes_at k provisions x.steps) (sym h.is) ∙ passes in
     rw (e, there)
     (kept_held old new t (record t { steps = at_place k (with_provisioner_ended m failed) t.steps }) h
     (is ∙ ap (λ (x : Telling). record x { steps = at_place k (with_provisioner_ended m failed) x.steps }) h.is) at
-    (λ a. places_kept (is_open_at a) (with_provisioner_ended m failed) (λ s. refl) 0 k t.steps) refl refl (less _ _ h.errors) (less _ _ h.warnings))
+    (λ a. places_kept (is_open_at a) (with_provisioner_ended m failed) (λ s. refl) 0 k t.steps) (placed_index k (with_provisioner_ended m failed) t.steps (λ s. refl)) refl refl (less _ _ h.errors) (less _ _ h.warnings))

@@ -7,6 +7,7 @@ pub mod Choosing
 pub mod Counted
 pub mod Cuts
 pub mod DetailLines
+pub mod DiagnosticBytes
 pub mod FirstOpen
 pub mod FromReader
 pub mod Going
@@ -14,11 +15,13 @@ pub mod Holding
 pub mod InSpan
 pub mod ItsLines
 pub mod Kept
+pub mod KeptBytes
 pub mod LastOne
 pub mod Levels
 pub mod Marking
 pub mod NumberLaws
 pub mod OpenAt
+pub mod PlaceBytes
 pub mod Places
 pub mod Printed
 pub mod Ranking

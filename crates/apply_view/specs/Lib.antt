@@ -5,6 +5,7 @@ pub mod Faults
 pub mod Intervals
 pub mod Laws
 pub mod Lines
+pub mod Memory
 pub mod Messages
 pub mod Moments
 pub mod Numbers

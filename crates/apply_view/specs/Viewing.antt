@@ -4,8 +4,8 @@ use Rattle.apply_view.specs.declared.told.view_fault.ViewFault.{ViewFault}
 use Rattle.apply_view.specs.declared.told.view_fault.ViewFault.TheVariants as fault
 use Rattle.apply_view.specs.declared.told.viewer.Viewer.{Viewer}
 use Rattle.apply_view.specs.Details.{ToldDiagnostic}
-use Rattle.apply_view.specs.OpenPlaces.{places_at}
-use Rattle.apply_view.specs.Steps.{ToldStep, at_place, is_open_at, marked, places}
+use Rattle.apply_view.specs.OpenPlaces.{HoldsPlaces}
+use Rattle.apply_view.specs.Steps.{ToldStep, at_place, marked}
 use Rattle.apply_view.specs.Telling.{KeptDiagnostics, Telling, max_kept, max_lines, max_steps}
 
 -- one more of them; the count stops at its end
@@ -20,11 +20,11 @@ abbrev pub marked_at : List ℕ → List ToldStep → List ToldStep
 marked_at [] steps = steps
 marked_at (place ∷ places) steps = marked_at places (at_place place marked steps)
 
--- the viewer has taken lines that tell this: it knows the places of the steps that are open, and no count is greater
--- than that of the lines
+-- the viewer has taken lines that tell this: it keeps what they tell and the places of the steps that are open, and no
+-- count is greater than that of the lines
 pub record HasTold (viewer : Viewer) (told : Telling) : Type 0 where
   pub is : viewer.told ≡ told
-  pub places : (address : List ℕ) → places_at viewer.opened address ≡ places (is_open_at address) told.steps
+  pub opened : HoldsPlaces viewer.opened told.steps
   pub lines : told.lines ≤ max_lines
   pub passed : told.passed ≤ told.lines
   pub errors : told.errors.count ≤ told.lines
@@ -33,7 +33,7 @@ pub record HasTold (viewer : Viewer) (told : Telling) : Type 0 where
 -- the same where a line was counted that is to tell something: one more fits
 pub record Takes (viewer : Viewer) (told : Telling) : Type 0 where
   pub is : viewer.told ≡ told
-  pub places : (address : List ℕ) → places_at viewer.opened address ≡ places (is_open_at address) told.steps
+  pub opened : HoldsPlaces viewer.opened told.steps
   pub lines : told.lines ≤ max_lines
   pub passed : told.passed < told.lines
   pub errors : told.errors.count < told.lines

@@ -25,6 +25,9 @@ pub struct Diagnostic {
     detail: Detail,
 }
 
+// What a diagnostic takes beside its texts.
+const _: () = prove!(size_of::<Diagnostic>() == 3 * size_of::<Vec<u8>>() + 64);
+
 /// The first lines of a detail, and how many there are besides.
 #[derive(Drop)]
 pub(crate) struct Detail {

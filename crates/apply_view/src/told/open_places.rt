@@ -1,9 +1,9 @@
 //! Where the steps stand that are open, by address.
 
-ghost use Rattle.std.specs.Prelude.{◌≡◌, ◌++◌, ◌∷◌, [], ℕ, List, None, OnOk, true, if◌then◌else◌};
+ghost use Rattle.std.specs.Prelude.{◌≡◌, ◌<◌, ◌≤◌, ◌+◌, ◌*◌, ◌++◌, ◌∷◌, [], ℕ, List, None, OnOk, false, length, true, if◌then◌else◌};
 ghost use Rattle.std.specs.BTreeMap.{get_by_text};
 ghost use Rattle.std.specs.Str.{bytes_eq};
-ghost use Rattle.apply_view.specs.OpenPlaces.{places_at, without};
+ghost use Rattle.apply_view.specs.OpenPlaces.{AreFilled, places_at, places_bytes, text_bytes, without};
 
 use std::alloc::{AllocError, Global};
 use std::collections::BTreeMap;
@@ -14,10 +14,17 @@ pub struct OpenPlaces {
     pub by_address: BTreeMap<String, Vec<usize>>,
 }
 
+// What says where the bytes of a text are, and where the places of an address.
+const _: () = prove!(size_of::<String>() == 24);
+
+const _: () = prove!(size_of::<Vec<usize>>() == 24);
+
 impl OpenPlaces {
     /// No step is open.
     pub fn new(alloc: Global) -> OpenPlaces
-        ensures { (address : List ℕ) → places_at result address ≡ [] }
+        ensures places { (address : List ℕ) → places_at result address ≡ [] }
+        ensures filled { AreFilled result }
+        ensures bytes { places_bytes result ≡ 0 }
     {
         OpenPlaces {
             by_address: BTreeMap::new(alloc),
@@ -36,9 +43,11 @@ impl OpenPlaces {
 
     /// Adds a place behind the others of its address.
     pub fn add(&mut self, alloc: Global, address: &str, place: usize) -> Result<(), AllocError>
-        ensures { OnOk result ((other : List ℕ) → places_at self.new other
+        ensures places { OnOk result ((other : List ℕ) → places_at self.new other
             ≡ (if bytes_eq address.now other then places_at self.old other ++ place ∷ []
             else places_at self.old other)) }
+        ensures filled { OnOk result (AreFilled self.old → AreFilled self.new) }
+        ensures bytes { OnOk result (places_bytes self.new ≤ places_bytes self.old + (text_bytes address.now + 32)) }
     {
         let mut places = self.taken(alloc, address);
         places.push(place)?;
@@ -52,6 +61,7 @@ impl OpenPlaces {
         ensures places { result.items ≡ places_at self.old address.now }
         ensures others { (other : List ℕ) → get_by_text self.new.by_address other
             ≡ (if bytes_eq address.now other then None else get_by_text self.old.by_address other) }
+        ensures bytes { places_bytes self.new + 8 * length result.items ≤ places_bytes self.old }
     {
         match self.by_address.remove(address) {
             Some(places) => places,
@@ -61,9 +71,11 @@ impl OpenPlaces {
 
     /// Takes a place from those of its address.
     pub fn take(&mut self, address: &str, place: usize)
-        ensures { (other : List ℕ) → places_at self.new other
+        ensures places { (other : List ℕ) → places_at self.new other
             ≡ (if bytes_eq address.now other then without place (places_at self.old other)
             else places_at self.old other) }
+        ensures filled { AreFilled self.old → AreFilled self.new }
+        ensures bytes { places_bytes self.new ≤ places_bytes self.old }
     {
         if self.cut(address, place) {
             let _ = self.by_address.remove(address);
@@ -76,6 +88,10 @@ impl OpenPlaces {
             ≡ (if bytes_eq address.now other then without place (places_at self.old other)
             else places_at self.old other) }
         ensures none { result ≡ true → places_at self.new address.now ≡ [] }
+        ensures filled { result ≡ false → AreFilled self.old → AreFilled self.new }
+        ensures others { (other : List ℕ) → bytes_eq address.now other ≡ false
+            → get_by_text self.new.by_address other ≡ get_by_text self.old.by_address other }
+        ensures bytes { places_bytes self.new ≤ places_bytes self.old }
     {
         match self.by_address.get_mut(address) {
             Some(places) => drop_place(places, place),
@@ -88,6 +104,8 @@ impl OpenPlaces {
 fn drop_place(places: &mut Vec<usize>, place: usize) -> bool
     ensures places { places.new.items ≡ without place places.old.items }
     ensures none { result ≡ true → places.new.items ≡ [] }
+    ensures some { result ≡ false → 0 < length places.new.items }
+    ensures fewer { length places.new.items ≤ length places.old.items }
 {
     places.retain(|other| *other != place);
     places.is_empty()

@@ -15,6 +15,9 @@ pub struct Provisioner {
     failed: bool,
 }
 
+// What a provisioner takes beside its name.
+const _: () = prove!(size_of::<Provisioner>() == size_of::<String>() + 32);
+
 impl Model for Provisioner {
     ghost use Rattle.std.specs.Prelude.{string_bytes};
     ghost use Rattle.apply_view.specs.Steps.{ToldProvisioner};

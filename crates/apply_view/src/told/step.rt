@@ -24,6 +24,9 @@ pub struct Step {
     provisioners: Vec<Provisioner>,
 }
 
+// What a step takes beside its texts and provisioners.
+const _: () = prove!(size_of::<Step>() == 2 * size_of::<String>() + 64);
+
 impl Model for Step {
     ghost use Rattle.std.specs.Prelude.{string_bytes};
     ghost use Rattle.apply_view.specs.Steps.{ToldStep};

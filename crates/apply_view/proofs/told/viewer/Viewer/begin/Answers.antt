@@ -11,4 +11,5 @@ returns c = λ told takes.
     let a = c.args.address.now in
     let fits = c.ranges.moment in
     begun_held old _ told a c.args.action.now c.args.moment takes (simp to_z-of_z at c.in_ok-begin.ensures)
-    (λ b. c.in_ok-add.ensures b ∙ ap (λ (n : ℕ). cond (bytes_eq a b) (places_at old.opened b ++ n ∷ []) (places_at old.opened b)) (ap length c.steps-place.ensures))
+    (λ b. c.in_ok-add.ensures.places b ∙ ap (λ (n : ℕ). cond (bytes_eq a b) (places_at old.opened b ++ n ∷ []) (places_at old.opened b)) (ap length c.steps-place.ensures))
+    c.in_ok-add.ensures.filled c.in_ok-add.ensures.bytes

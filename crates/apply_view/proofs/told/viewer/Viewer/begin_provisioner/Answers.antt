@@ -6,4 +6,4 @@ use Rattle.apply_view.proofs.told.viewer.Viewer.begin_provisioner.Goals as goal
 pub returns : goal.returns
 returns c = λ told takes.
     let fits = c.ranges.moment in
-    provisioner_begun_held c.args.self.now _ told c.args.address.now c.args.name.now c.args.moment c.in-Some.place takes (sym (c.in-Some.ensures told takes)) (simp to_z-of_z at c.in_ok-begin_provisioner.ensures) (λ b. refl)
+    provisioner_begun_held c.args.self.now _ told c.args.address.now c.args.name.now c.args.moment c.in-Some.place takes (sym (c.in-Some.ensures told takes)) (simp to_z-of_z at c.in_ok-begin_provisioner.ensures) refl

@@ -15,7 +15,7 @@ returns-in-Ok c =
     goes_from (HasTold old) (Takes counted) c.tree.new.self (with_tree (view c.in-Ok.tree)) (with_line line) c.tree.result
     (λ t told. (
       record t { lines = t.lines + 1 },
-      counted_takes old counted t told c.count_line.ensures c.requires (λ a. refl),
+      counted_takes old counted t told c.count_line.ensures c.requires refl,
       of_trimmed line (view c.in-Ok.tree) (record t { lines = t.lines + 1 }) c.in-Ok.ensures.ok.1
           ∙ not_blank line (record t { lines = t.lines + 1 }) (sym c.is_blank_line.ensures ∙ c.if-is_blank_line.false),
     ))
