@@ -8,11 +8,8 @@ mod failing_outputs;
 mod faults;
 mod following;
 mod forms;
-mod invocations;
 mod lanes;
 mod rests;
-mod settings;
-mod streams;
 mod words;
 
 use apply_cli::{
@@ -24,7 +21,7 @@ use apply_form::Form;
 use apply_hooks::Registry;
 use apply_plan::{PlanError, ScriptError, StepKind, Text};
 use apply_run::{MAX_LANES, Options, Refusal, StdSink};
-use apply_text::{MomentError, Operation, Start};
+use apply_text::{Operation, Start};
 use std::alloc::Global;
 use std::fmt::Debug;
 use std::io;
@@ -116,45 +113,41 @@ fn outcome_of(
     }
 }
 
-/// Runs the program, with its output in memory.
-fn run_with<R: Read + Drop, T: Threads + Wait + Sync + Abort>(
+/// Runs the command, without hooks: the output and the status. The contract of a run is long, so it is called here alone.
+fn command<R: Read + Drop, W: Write + Drop, E: Write, T: Threads + Wait + Sync + Abort>(
     rt: &T,
     alloc: Global,
     settings: &Settings,
     script: Option<&[u8]>,
     input: R,
-) -> Outcome {
-    let (registry, output) = (no_hooks(rt, alloc), empty(alloc));
-    let mut said = Vec::new(alloc);
-    let (output, status) = run_command(
-        rt, alloc, settings, registry, script, input, output, &mut said,
-    );
-    outcome_of(rt, alloc, status, output.into_inner(), said)
+    output: W,
+    said: &mut E,
+) -> (W, u8) {
+    let (registry, sink) = (no_hooks(rt, alloc), StdSink::new(output));
+    let (sink, status) = run_command(rt, alloc, settings, registry, script, input, sink, said);
+    (sink.into_inner(), status)
 }
 
-/// Runs the command with the settings that no options give, without hooks and a script.
+/// Runs an input as the settings say, without a script, and with its output in memory.
+fn run_with<R: Read + Drop, T: Threads + Wait + Sync + Abort>(
+    rt: &T,
+    alloc: Global,
+    settings: &Settings,
+    input: R,
+) -> Outcome {
+    let (output, mut said) = (Vec::new(alloc), Vec::new(alloc));
+    let (printed, status) = command(rt, alloc, settings, None, input, output, &mut said);
+    outcome_of(rt, alloc, status, printed, said)
+}
+
+/// Runs an input with the settings that no options give.
 fn run<R: Read + Drop, T: Threads + Wait + Sync + Abort>(
     rt: &T,
     alloc: Global,
     input: R,
 ) -> Outcome {
     let settings = kept(rt, alloc, defaults(alloc));
-    run_with(rt, alloc, settings, None, input)
-}
-
-/// Runs the program as no words say, into any output and any faults: the output and the status.
-fn run_into<W: Write + Drop, E: Write, T: Threads + Wait + Sync + Abort>(
-    rt: &T,
-    alloc: Global,
-    plan: &str,
-    output: StdSink<W>,
-    said: &mut E,
-) -> (StdSink<W>, u8)
-    requires { output.failures < 2 ^ 64 - 1 }
-{
-    let settings = kept(rt, alloc, defaults(alloc));
-    let (registry, input) = (no_hooks(rt, alloc), plan.as_bytes());
-    run_command(rt, alloc, settings, registry, None, input, output, said)
+    run_with(rt, alloc, settings, input)
 }
 
 /// So many blanks.
@@ -214,23 +207,6 @@ fn outcome_fails(rt: &impl Abort, case: &str, outcome: Outcome, status: u8, faul
     says(rt, case, outcome.said, fault);
 }
 
-/// Fails where the status is another, what was printed has another end, or any fault was said.
-fn outcome_ends(rt: &impl Abort, case: &str, outcome: Outcome, status: u8, end: &str) {
-    status_is(rt, case, outcome.status, status);
-    holds(rt, outcome.printed, outcome.printed.ends_with(end));
-    text_is(rt, case, outcome.said, "");
-}
-
-/// How what `validate` finds too begins.
-const OF_PLAN_OR_SCRIPT: [&str; 6] = [
-    "the plan is ",
-    "the plan has ",
-    "change ",
-    "the script is ",
-    "the script says ",
-    "script ",
-];
-
 /// Fails where the text is not the line of this fault, and behind that of a plan or a script the line that names `validate`.
 fn says(rt: &impl Abort, case: &str, said: &str, fault: &str) {
     line_is(rt, case, said, fault, end_of(fault));
@@ -242,14 +218,13 @@ fn line_is(rt: &impl Abort, case: &str, said: &str, fault: &str, end: &str) {
     text_is(rt, case, line.strip_suffix(end).expect(rt, case), fault);
 }
 
-/// What is said behind the fault.
+/// What is said behind the fault: of a plan or a script a line that names `validate`.
 fn end_of(fault: &str) -> &'static str {
-    for start in OF_PLAN_OR_SCRIPT {
-        if fault.starts_with(start) {
-            return "\napplystream: applystream validate says where and what\n";
-        }
+    if fault.starts_with("the plan is ") || fault.starts_with("the script is ") {
+        "\napplystream: applystream validate says where and what\n"
+    } else {
+        "\n"
     }
-    "\n"
 }
 
 /// What stands before the first mark, and what behind it.
@@ -288,14 +263,6 @@ fn name_of(usage: &Usage) -> &'static str {
         Usage::Moment(_) => "Moment",
         Usage::Hooks => "Hooks",
         Usage::Memory => "Memory",
-    }
-}
-
-/// The help.
-fn help_of(rt: &impl Abort, alloc: Global) -> &'static str {
-    match read_of(rt, alloc, "--help") {
-        Err(Usage::Help(help)) => help.as_str(),
-        _ => rt.panic("no help"),
     }
 }
 
@@ -362,17 +329,6 @@ impl Write for FailingWriter {
             return Err(io::Error::from(self.error));
         }
         Ok(())
-    }
-}
-
-/// A writer that takes all.
-fn roomy(alloc: Global) -> FailingWriter {
-    FailingWriter {
-        taken: Vec::new(alloc),
-        per_write: usize::MAX,
-        room: usize::MAX,
-        fails_to_flush: false,
-        error: ErrorKind::StorageFull,
     }
 }
 

@@ -3,24 +3,18 @@
 ghost use Rattle.std.specs.Prelude.{◌≡◌, true};
 
 mod accepted;
-mod elements;
 mod limits;
 mod outcomes;
-mod outputs;
 mod own_texts;
-mod passing;
 mod plain;
 mod plans;
-mod provisioners;
 mod provisioning;
-mod script_members;
-mod scripts;
 mod skipped;
 mod table;
+mod tells;
 mod waits;
-mod warned;
 
-use self::table::{compare, named};
+use self::table::{compare, plans_are_answered};
 use apply_plan::{Plan, Script, Text, read_plan, read_script};
 use std::alloc::Global;
 use std::fmt::{Debug, Display};
@@ -76,19 +70,6 @@ fn answer_to_plan(rt: &impl Abort, alloc: Global, bytes: &[u8]) -> &'static str 
     }
 }
 
-/// What is answered to bytes as a script for the plan: `accepted`, or the text of the refusal.
-fn answer_to_script(rt: &impl Abort, alloc: Global, plan: &Plan, bytes: &[u8]) -> &'static str {
-    match kept(rt, alloc, read_script(alloc, bytes, plan)) {
-        Ok(_) => "accepted",
-        Err(error) => shown(rt, alloc, error),
-    }
-}
-
-/// The same, where the plan is a text too.
-fn answer_for(rt: &impl Abort, alloc: Global, plan: &str, bytes: &[u8]) -> &'static str {
-    answer_to_script(rt, alloc, plan_of(rt, alloc, plan), bytes)
-}
-
 /// Fails where it is not so. A proof grows by each assertion, and by less where it is a call.
 fn holds(rt: &impl Abort, case: &str, is_so: bool)
     ensures { is_so ≡ true }
@@ -99,22 +80,6 @@ fn holds(rt: &impl Abort, case: &str, is_so: bool)
 /// Fails where another text was found.
 fn text_is(rt: &impl Abort, found: &str, wanted: &str) {
     compare(rt, wanted, found, wanted);
-}
-
-/// Fails where bytes as a plan are answered otherwise.
-fn plan_is_answered(rt: &impl Abort, alloc: Global, bytes: &[u8], wanted: &str) {
-    text_is(rt, answer_to_plan(rt, alloc, bytes), wanted);
-}
-
-/// Fails where bytes as a script for the plan are answered otherwise.
-fn script_is_answered(rt: &impl Abort, alloc: Global, plan: &str, bytes: &[u8], wanted: &str) {
-    text_is(rt, answer_for(rt, alloc, plan, bytes), wanted);
-}
-
-/// Fails where the error has another text than the table has for what `Debug` prints of it.
-fn is_told(rt: &impl Abort, alloc: Global, error: &(impl Debug + Display), texts: &str) {
-    let name = printed(rt, alloc, error);
-    text_is(rt, shown(rt, alloc, error), named(rt, texts, name));
 }
 
 #[test]

@@ -3,19 +3,13 @@
 
 ghost use Rattle.std.specs.Prelude.{◌≡◌, ◌<◌, ◌-◌, ◌^◌};
 
-mod diagnostics;
 mod failing_sinks;
 mod gates;
 mod hooks;
-mod hostile;
 mod lanes;
-mod lines;
-mod progress;
 mod refusals;
 mod reports;
 mod sinks;
-mod streams;
-mod terraform;
 mod threads;
 
 use apply_events::Counts;
@@ -26,14 +20,10 @@ use apply_run::{
     apply_bytes, apply_bytes_in_lanes, apply_in_lanes, apply_stream,
 };
 use apply_text::{Operation, Start};
-use lines::{
-    lines_are, lines_are_of_changes, lines_of, moment_of, moments_never_go_back, not_before,
-};
 use std::alloc::Global;
 use std::process::Abort;
 use std::sync::Wait;
 use std::sync::atomic::{AtomicU64, Ordering};
-use std::test::Fail;
 use std::thread::{Threads, yield_now};
 
 /// Stands in a table where there is no script.
@@ -196,22 +186,7 @@ fn has_taken(rt: &impl Abort, sink: &MemorySink, written: u128) {
     assert!(rt; written == sink.bytes().len() as u128);
 }
 
-/// Fails where the stream of both texts under the hooks is not these lines.
-fn stream_is<R: Threads + Wait + Sync + Abort>(
-    rt: &R,
-    alloc: Global,
-    name: &str,
-    plan: &str,
-    script: &str,
-    registry: &Registry,
-    options: Options,
-    wanted: &str,
-) {
-    let found = applied(rt, alloc, plan, script, registry, options);
-    lines_are(rt, name, found, wanted);
-}
-
-/// The same of the whole text, without hooks.
+/// Fails where the stream of both texts is another.
 fn writes<R: Threads + Wait + Sync + Abort>(
     rt: &R,
     alloc: Global,

@@ -7,18 +7,14 @@ ghost use Rattle.std.specs.Prelude.{◌≡◌, true};
 ghost use Rattle.apply_events.specs.Fits.{HasStep};
 
 mod cached_parts;
-mod escapes;
 mod events;
 mod moments;
 mod provisioners;
-mod streams;
 
-use apply_events::{Counts, Event, LATEST, Runner, What};
-use apply_hooks::{Phase, Registry};
+use apply_events::{Counts, Event, LATEST, What};
+use apply_hooks::Phase;
 use apply_plan::{Plan, Script, read_plan, read_script};
-use apply_text::{
-    LineBuffer, Operation, Start, elapsed_text, event_line, summary_line, version_line,
-};
+use apply_text::{LineBuffer, Operation, Start, elapsed_text, event_line, summary_line};
 use std::alloc::Global;
 use std::fmt::Display;
 use std::process::Abort;
@@ -111,17 +107,6 @@ fn line_of(
     kept(rt, alloc, line.expect(rt, "memory")).as_str()
 }
 
-/// Counts an event that the plan has to have, where there is room.
-fn count(rt: &impl Abort, counts: &mut Counts, plan: &Plan, event: &Event) {
-    check_step(rt, plan, event);
-    holds(rt, "few are added", counts.added < 1_000);
-    holds(rt, "few are changed", counts.changed < 1_000);
-    holds(rt, "few are removed", counts.removed < 1_000);
-    holds(rt, "few fail", counts.failed < 1_000);
-    holds(rt, "few are halted", counts.halted < 1_000);
-    counts.count(plan, event);
-}
-
 /// The plan has to have the event's step.
 fn check_step(rt: &impl Abort, plan: &Plan, event: &Event)
     ensures { HasStep plan.now event.now.change event.now.step }
@@ -143,64 +128,4 @@ fn summary_of(
     holds(rt, "in time", latest <= LATEST);
     let line = summary_line(alloc, start, latest, operation, counts);
     kept(rt, alloc, line.expect(rt, "memory")).as_str()
-}
-
-/// Adds the lines of a change that begins at a moment, each made by itself, and counts its events. Returns when it ends.
-fn push_change<'a>(
-    rt: &impl Abort,
-    alloc: Global,
-    text: &mut String,
-    counts: &mut Counts,
-    plan: &'a Plan,
-    script: &'a Script,
-    number: u32,
-    begin: u64,
-) -> u64 {
-    let registry = kept(rt, alloc, Registry::new(alloc));
-    holds(rt, "a change", number < plan.len());
-    holds(rt, "early enough", begin <= LATEST - 172_800);
-    let mut runner = Runner::start(plan, script, registry, 0, number, begin);
-    let mut at = begin;
-    for _ in 0..20_000 {
-        let Some(event) = runner.next() else {
-            break;
-        };
-        at = event.at;
-        push_event(rt, alloc, text, plan, script, &event);
-        count(rt, counts, plan, &event);
-    }
-    at
-}
-
-/// Adds the line of an event, at the moment of the event.
-fn push_event(
-    rt: &impl Abort,
-    alloc: Global,
-    text: &mut String,
-    plan: &Plan,
-    script: &Script,
-    event: &Event,
-) {
-    let line = line_of(rt, alloc, plan, script, Start::zero(), event.at, event);
-    push(rt, text, line);
-}
-
-/// Adds the lines of all changes, and the summary.
-fn push_changes(rt: &impl Abort, alloc: Global, text: &mut String, plan: &Plan, script: &Script) {
-    let mut counts = Counts::new();
-    let mut at = 0;
-    for number in 0..plan.len() {
-        at = push_change(rt, alloc, text, &mut counts, plan, script, number, at);
-    }
-    let line = summary_of(rt, alloc, Start::zero(), at, Operation::Apply, &counts);
-    push(rt, text, line);
-}
-
-/// The stream of one worker who applies all changes in their order, each line made by itself.
-fn stream(rt: &impl Abort, alloc: Global, plan: &str, script: &str) -> &'static str {
-    let plan = plan_of(rt, alloc, plan);
-    let script = script_of(rt, alloc, script, plan);
-    let mut text = version_line(alloc, plan, Start::zero()).expect(rt, "memory");
-    push_changes(rt, alloc, &mut text, plan, script);
-    kept(rt, alloc, text).as_str()
 }

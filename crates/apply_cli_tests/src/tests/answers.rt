@@ -38,17 +38,6 @@ fn each_usage_has_its_answer(rt: HostRuntime) {
     answer_is(&rt, alloc, Usage::Memory, 3, "", said);
 }
 
-#[test]
-fn each_fault_of_a_moment_has_its_answer(rt: HostRuntime) {
-    let alloc = rt.alloc();
-    let moment = Usage::Moment(MomentError::NotAMoment);
-    let said = "applystream: the moment is not a moment\n";
-    answer_is(&rt, alloc, moment, 2, "", said);
-    let moment = Usage::Moment(MomentError::OutOfRange);
-    let said = "applystream: the moment is out of range\n";
-    answer_is(&rt, alloc, moment, 2, "", said);
-}
-
 /// Fails where the status is another when neither stream takes anything.
 fn is_dropped(rt: &impl Abort, alloc: Global, usage: Usage, status: u8) {
     let usage = kept(rt, alloc, usage);
@@ -65,36 +54,6 @@ fn an_answer_that_cannot_be_printed_is_dropped(rt: HostRuntime) {
     is_dropped(&rt, alloc, words_with(&rt, alloc, "error: no\n"), 2);
     is_dropped(&rt, alloc, Usage::Hooks, 2);
     is_dropped(&rt, alloc, Usage::Memory, 3);
-}
-
-#[test]
-fn a_word_that_is_no_option_gets_a_tip(rt: HostRuntime) {
-    let alloc = rt.alloc();
-    let tip = "\n  tip: a plan is read from standard input, as in: applystream < plan.json\n";
-    let said = refusal_of(&rt, alloc, "plan.json");
-    holds(&rt, said, said.ends_with(tip));
-    for word in ["--plan", "--at"] {
-        let said = refusal_of(&rt, alloc, word);
-        holds(&rt, said, !said.contains("tip: a plan"));
-        holds(&rt, said, !said.contains("tip: options"));
-    }
-}
-
-#[test]
-fn an_option_with_one_dash_gets_a_tip(rt: HostRuntime) {
-    let alloc = rt.alloc();
-    let tip = "\n  tip: options have two dashes here, as in: applystream --parallelism=10\n";
-    let said = refusal_of(&rt, alloc, "-parallelism=10");
-    holds(&rt, said, said.ends_with(tip));
-    holds(&rt, said, !said.contains("tip: a plan"));
-}
-
-/// What is said of a word that is refused.
-fn refusal_of(rt: &impl Abort, alloc: Global, word: &str) -> &'static str {
-    match read_of(rt, alloc, word) {
-        Err(Usage::Words(said)) => said.as_str(),
-        _ => rt.panic(word),
-    }
 }
 
 /// Fails where the next byte of the input is another.

@@ -33,11 +33,9 @@ fn run_to_failure<E: Write, T: Threads + Wait + Sync + Abort>(
     said: &mut E,
 ) -> (FailingWriter, u8) {
     let settings = kept(rt, alloc, with_workers(alloc, workers));
-    let (registry, sink) = (no_hooks(rt, alloc), StdSink::new(output));
     let script = Some(FAILED_DESTROY_SCRIPT.as_bytes());
     let plan = FAILED_DESTROY.as_bytes();
-    let (sink, status) = run_command(rt, alloc, settings, registry, script, plan, sink, said);
-    (sink.into_inner(), status)
+    command(rt, alloc, settings, script, plan, output, said)
 }
 
 /// Fails where so many workers write something else than the first bytes of the stream, so many, or the status or what is

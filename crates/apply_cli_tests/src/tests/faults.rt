@@ -1,4 +1,4 @@
-//! Plans that are refused, and inputs and outputs that fail.
+//! Inputs and outputs that fail, and what is said of it.
 
 use super::failing_outputs::goes_out_at_once;
 use super::*;
@@ -7,109 +7,10 @@ use super::*;
 const ONE_CREATE: &str =
     r#"{"format_version":"1.2","terraform_version":"1.9.0","resource_changes":[{"address":"random_pet.animal","mode":"managed","type":"random_pet","name":"animal","change":{"actions":["create"]}}]}"#;
 
-/// Plans that are refused, and what is said of them.
-pub(super) const REFUSED_PLANS: &str = r#" => the plan is not JSON
-{ => the plan is not JSON
-[] => the plan is not a plan of format 1.x
-{"format_version":"2.0"} => the plan is not a plan of format 1.x
-{"format_version":"1.0","resource_changes":[5]} => change 0 is malformed
-{"format_version":"1.0","resource_changes":[{"address":"a.b","mode":"managed","type":"a","name":"b","change":{"actions":["remove"]}}]} => change 0 has an action list that is out of scope
-{"format_version":"1.0","resource_changes":[{"address":"","mode":"managed","type":"a","name":"b","change":{"actions":["create"]}}]} => change 0 has an address that does not fit its module
-{"format_version":"1.0","resource_changes":[{"address":"a.b","mode":"managed","type":"a","name":"b","change":{"actions":["create"]}},{"address":"a.b","mode":"managed","type":"a","name":"b","change":{"actions":["no-op"]}}]} => change 1 repeats an earlier change"#;
-
-/// Fails where the plan is not refused with this fault.
-fn is_refused<T: Threads + Wait + Sync + Abort>(rt: &T, alloc: Global, plan: &[u8], fault: &str) {
-    let outcome = run(rt, alloc, plan);
-    outcome_fails(rt, fault, outcome, 2, fault);
-}
-
-#[test]
-fn refused_plans_print_nothing(rt: HostRuntime) {
-    for row in REFUSED_PLANS.lines() {
-        let (plan, fault) = parted(&rt, row, " => ");
-        is_refused(&rt, rt.alloc(), plan.as_bytes(), fault);
-    }
-}
-
 /// What is read of an input, which has to be read.
 fn read_of_input<R: Read + Drop>(rt: &impl Abort, alloc: Global, input: R) -> &'static [u8] {
     let bytes = read_all(alloc, input).ok().expect(rt, "all bytes");
     kept(rt, alloc, bytes).as_slice()
-}
-
-#[test]
-fn a_plan_that_is_too_large_is_refused(rt: HostRuntime) {
-    let alloc = rt.alloc();
-    let blanks = blanks_of(&rt, alloc, 67_108_866);
-    let fault = "the plan is larger than 67108864 bytes";
-    is_refused(&rt, alloc, blanks, fault);
-    let front = read_of_input(&rt, alloc, blanks);
-    number_is(&rt, "what may be read", front.len(), 67_108_865);
-}
-
-#[test]
-fn a_cut_plan_is_refused(rt: HostRuntime) {
-    let plan = ONE_CREATE;
-    for end in 0..plan.len() {
-        let front = front_of(&rt, plan, end).as_bytes();
-        is_refused(&rt, rt.alloc(), front, "the plan is not JSON");
-    }
-}
-
-/// The update of that number.
-const UPDATE: &str =
-    r#"{"address":"a.b[NUMBER]","mode":"managed","type":"a","name":"b","index":NUMBER,"change":{"actions":["update"]}}"#;
-
-/// A plan of so many updates.
-fn updates(rt: &impl Abort, alloc: Global, count: u32) -> &'static str {
-    let start = r#"{"format_version":"1.0","resource_changes":["#;
-    let mut plan = String::from_str(alloc, start).expect(rt, "memory");
-    for number in 0..count {
-        if number > 0 {
-            push(rt, &mut plan, ",");
-        }
-        push(rt, &mut plan, update(rt, alloc, number));
-    }
-    push(rt, &mut plan, "]}");
-    kept_text(rt, alloc, plan)
-}
-
-/// Appends a text.
-fn push(rt: &impl Abort, plan: &mut String, text: &str) {
-    plan.push_str(text).expect(rt, "memory");
-}
-
-/// The update of that number, as a text.
-fn update(rt: &impl Abort, alloc: Global, number: u32) -> &'static str {
-    let digits = shown(rt, alloc, &number);
-    let update = UPDATE.replace(alloc, "NUMBER", digits);
-    kept_text(rt, alloc, update.expect(rt, "memory"))
-}
-
-/// The last line where ten thousand updates were applied.
-const TEN_THOUSAND: &str =
-    r#"{"@level":"info","@message":"Apply complete! Resources: 0 added, 10000 changed, 0 destroyed.","@module":"terraform.ui","@timestamp":"1970-01-01T00:00:00Z","changes":{"add":0,"change":10000,"operation":"apply","remove":0},"type":"change_summary"}
-"#;
-
-/// Fails where ten thousand updates were not applied.
-fn ten_thousand_are_applied(rt: &impl Abort, outcome: Outcome) {
-    outcome_ends(rt, "10,000 updates", outcome, 0, TEN_THOUSAND);
-    let lines = outcome
-        .printed
-        .bytes()
-        .filter(|byte| *byte == b'\n')
-        .count();
-    number_is(rt, "lines", lines, 20_002);
-}
-
-#[test]
-fn ten_thousand_updates_are_the_most(rt: HostRuntime) {
-    let alloc = rt.alloc();
-    let plan = updates(&rt, alloc, 10_000);
-    ten_thousand_are_applied(&rt, run(&rt, alloc, plan.as_bytes()));
-    let plan = updates(&rt, alloc, 10_001).as_bytes();
-    let fault = "the plan has more than 10000 changes";
-    is_refused(&rt, alloc, plan, fault);
 }
 
 /// Fails where a reader that fails so, after so many bytes, is read to an end, or another fault is told of it.
@@ -126,6 +27,9 @@ fn is_unread(rt: &impl Abort, alloc: Global, before: usize, fault: ErrorKind) {
 #[test]
 fn all_of_the_input_is_read(rt: HostRuntime) {
     let alloc = rt.alloc();
+    let blanks = blanks_of(&rt, alloc, 67_108_866);
+    let front = read_of_input(&rt, alloc, blanks);
+    number_is(&rt, "what may be read", front.len(), 67_108_865);
     let bytes = read_of_input(&rt, alloc, b"ab".as_slice());
     text_is(&rt, "all bytes", text_of(&rt, bytes), "ab");
     for before in 0..3 {
@@ -147,6 +51,15 @@ fn a_reader_that_fails_is_said_so(rt: HostRuntime) {
     outcome_fails(&rt, "a reader that fails", outcome, 2, fault);
 }
 
+#[test]
+fn sizes_out_of_range_are_refused(rt: HostRuntime) {
+    let alloc = rt.alloc();
+    let settings = kept(&rt, alloc, with_workers(alloc, 9));
+    let outcome = run_with(&rt, alloc, settings, ONE_CREATE.as_bytes());
+    let fault = "the sizes are out of range";
+    outcome_fails(&rt, "nine workers", outcome, 2, fault);
+}
+
 /// What is said of an output that fails.
 pub(super) const UNWRITTEN: &str = "applystream: the output could not be written\n";
 
@@ -159,10 +72,10 @@ fn is_written<T: Threads + Wait + Sync + Abort>(
     written: &str,
     said: &str,
 ) {
-    let mut found = Vec::new(alloc);
-    let output = StdSink::new(output);
-    let (output, ended) = run_into(rt, alloc, ONE_CREATE, output, &mut found);
-    let outcome = outcome_of(rt, alloc, ended, output.into_inner().taken, found);
+    let settings = kept(rt, alloc, defaults(alloc));
+    let (input, mut found) = (ONE_CREATE.as_bytes(), Vec::new(alloc));
+    let (output, ended) = command(rt, alloc, settings, None, input, output, &mut found);
+    let outcome = outcome_of(rt, alloc, ended, output.taken, found);
     outcome_is(rt, written, outcome, status, written, said);
 }
 
@@ -244,10 +157,11 @@ fn nothing_is_said_where_the_reader_is_gone(rt: HostRuntime) {
 #[test]
 fn a_fault_that_cannot_be_said_is_dropped(rt: HostRuntime) {
     let alloc = rt.alloc();
-    let (output, mut said) = (empty(alloc), full(alloc));
-    let (output, status) = run_into(&rt, alloc, "[]", output, &mut said);
+    let settings = kept(&rt, alloc, defaults(alloc));
+    let (input, output, mut said) = (b"[]".as_slice(), Vec::new(alloc), full(alloc));
+    let (output, status) = command(&rt, alloc, settings, None, input, output, &mut said);
     status_is(&rt, "no plan", status, 2);
-    number_is(&rt, "no plan", output.into_inner().len(), 0);
+    number_is(&rt, "no plan", output.len(), 0);
 }
 
 /// Fails where an input that was not read has another status, or another fault is said of it.

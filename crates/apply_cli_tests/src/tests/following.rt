@@ -7,43 +7,6 @@ use super::*;
 const REPLACEMENT: &str =
     r#"{"format_version":"1.2","terraform_version":"1.9.0","resource_changes":[{"address":"null_resource.a","mode":"managed","type":"null_resource","name":"a","change":{"actions":["delete","create"],"before":{"id":"41"}}}]}"#;
 
-/// Its stream where deletes are halted.
-const HALTED: &str =
-    r#"{"@level":"info","@message":"Terraform 1.9.0","@module":"terraform.ui","@timestamp":"1970-01-01T00:00:00Z","terraform":"1.9.0","type":"version","ui":"1.0"}
-{"@level":"error","@message":"Error: execution halted","@module":"terraform.ui","@timestamp":"1970-01-01T00:00:00Z","diagnostic":{"address":"null_resource.a","detail":"Hook 0 answered Halt before delete.","severity":"error","summary":"execution halted"},"type":"diagnostic"}
-{"@level":"info","@message":"Apply complete! Resources: 0 added, 0 changed, 0 destroyed.","@module":"terraform.ui","@timestamp":"1970-01-01T00:00:00Z","changes":{"add":0,"change":0,"operation":"apply","remove":0},"type":"change_summary"}
-"#;
-
-/// A word that only a shell could have made: a blank stands in it.
-const BLANK: &str = "~";
-
-/// Words, the status, and what is said of faults. A `~` stands for a blank within a word.
-const TABLE: &str = "--workers 2 --halt-before delete => 1 =>
---halt-in null_resource. --workers 8 --queue 1 => 1 =>
---halt-in= => 1 =>
---halt-in=~null_resource. => 0 =>
---halt-in=null_resource.~ => 0 =>
---halt-before create --halt-in null_resource.b => 1 =>
---halt-before read => 0 =>
---script no_such_file.json => 2 => applystream: the script file could not be read
---script . => 2 => applystream: the script file could not be read
---script /dev/null => 2 => applystream: the script is not JSON
---script=~/dev/null => 2 => applystream: the script file could not be read
---script=/dev/null~ => 2 => applystream: the script file could not be read
---parallelism 2 => 0 =>
---parallelism 64 --halt-before delete => 1 =>
---parallelism 1 --halt-in=null_resource.~ => 0 =>
---parallelism 2 --script no_such_file.json => 2 => applystream: the script file could not be read
---parallelism 2 --script /dev/null => 2 => applystream: the script is not JSON
---parallelism 2 --workers 2 --at x => 2 => applystream: --parallelism takes no --workers and no --queue beside it
---form terraform --halt-in=null_resource.~ => 0 =>
---form terraform --halt-before delete --parallelism 64 => 1 =>
---script /dev/null --form terraform => 2 => applystream: the script is not JSON
---form terraform --workers 2 --parallelism 2 => 2 => applystream: --parallelism takes no --workers and no --queue beside it
---at x --form terraform => 2 => applystream: the moment is not a moment
---at x => 2 => applystream: the moment is not a moment
---at 1969-12-31T23:59:59Z --script no_such_file.json => 2 => applystream: the moment is out of range";
-
 /// Follows the words over these outputs, with the replacement as the input.
 fn followed<W: Write + Drop, T: Threads + Wait + Sync + Abort + Files>(
     rt: &T,
@@ -57,83 +20,16 @@ fn followed<W: Write + Drop, T: Threads + Wait + Sync + Abort + Files>(
     (output.into_inner(), status)
 }
 
-/// The words of a row, with blanks.
-fn words_with_blanks(rt: &impl Abort, alloc: Global, text: &str) -> &'static [String] {
-    let mut words = Vec::new(alloc);
-    for word in text.split_whitespace() {
-        let word = word.replace(alloc, BLANK, " ").expect(rt, "memory");
-        push_word(rt, &mut words, word);
-    }
-    kept(rt, alloc, words).as_slice()
-}
-
 /// Follows the words of a text, with the replacement as the input.
 fn answered<T: Threads + Wait + Sync + Abort + Files>(
     rt: &T,
     alloc: Global,
     words: &str,
 ) -> Outcome {
-    let words = words_with_blanks(rt, alloc, words);
+    let words = words_of(rt, alloc, words);
     let mut said = Vec::new(alloc);
     let (printed, status) = followed(rt, alloc, words, Vec::new(alloc), &mut said);
     outcome_of(rt, alloc, status, printed, said)
-}
-
-/// Fails where the words of the row have another status, or another fault is said.
-fn row_is<T: Threads + Wait + Sync + Abort + Files>(rt: &T, alloc: Global, row: &str) {
-    let (words, rest) = parted(rt, row, " => ");
-    let (status, said) = parted(rt, rest, " =>");
-    let outcome = answered(rt, alloc, words);
-    text_is(rt, row, shown(rt, alloc, &outcome.status), status);
-    match said.strip_prefix(" applystream: ") {
-        Some(fault) => says(rt, row, outcome.said, fault),
-        None => text_is(rt, row, outcome.said, said),
-    }
-}
-
-#[test]
-fn words_have_their_statuses(rt: HostRuntime) {
-    for row in TABLE.lines() {
-        row_is(&rt, rt.alloc(), row);
-    }
-}
-
-/// Fails where the delete is not halted by these words.
-fn halts<T: Threads + Wait + Sync + Abort + Files>(rt: &T, alloc: Global, words: &str) {
-    let outcome = answered(rt, alloc, words);
-    outcome_is(rt, words, outcome, 1, HALTED, "");
-}
-
-/// Beside two workers, and in lanes.
-#[test]
-fn a_hook_halts(rt: HostRuntime) {
-    let alloc = rt.alloc();
-    halts(&rt, alloc, "--workers 2 --halt-before delete");
-    halts(&rt, alloc, "--workers 2 --halt-in null_resource.a");
-    halts(&rt, alloc, "--parallelism 2 --halt-before delete");
-    halts(&rt, alloc, "--halt-in null_resource.a --parallelism 64");
-}
-
-/// Fails where nothing printed has this text.
-fn prints(rt: &impl Abort, outcome: Outcome, text: &str) {
-    holds(rt, outcome.printed, outcome.printed.contains(text));
-}
-
-/// The hooks of `--halt-before` are asked first, each kind in its order: the third one halts the delete.
-#[test]
-fn hooks_are_asked_in_their_order(rt: HostRuntime) {
-    let words = "--halt-in null --halt-before read --halt-before create --halt-before delete";
-    let outcome = answered(&rt, rt.alloc(), words);
-    status_is(&rt, words, outcome.status, 1);
-    prints(&rt, outcome, "Hook 2 answered Halt before delete.");
-}
-
-#[test]
-fn help_is_printed(rt: HostRuntime) {
-    let outcome = answered(&rt, rt.alloc(), "--help");
-    status_is(&rt, "help", outcome.status, 0);
-    text_is(&rt, "help", outcome.said, "");
-    prints(&rt, outcome, "Exit status:");
 }
 
 /// Holds back what it is given until it is flushed.

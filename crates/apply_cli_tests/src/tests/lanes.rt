@@ -1,6 +1,6 @@
 //! Runs with so many changes under way at once in the stream's own time.
 
-use super::faults::{REFUSED_PLANS, UNWRITTEN, with_room};
+use super::faults::{UNWRITTEN, with_room};
 use super::*;
 use apply_cli::run_in_lanes;
 
@@ -41,7 +41,7 @@ fn run_at_once<R: Read + Drop, W: Write + Drop>(
 }
 
 /// Runs an input in so many lanes, with its output in memory.
-fn run_lanes<R: Read + Drop>(
+pub(super) fn run_lanes<R: Read + Drop>(
     rt: &impl Abort,
     alloc: Global,
     lanes: u8,
@@ -59,63 +59,10 @@ fn lanes_make(rt: &impl Abort, alloc: Global, lanes: u8, plan: &str, script: &st
     run_lanes(rt, alloc, lanes, script, plan.as_bytes())
 }
 
-#[test]
-fn two_changes_are_under_way_at_once(rt: HostRuntime) {
-    for lanes in [2, 3, MAX_LANES] {
-        let outcome = lanes_make(&rt, rt.alloc(), lanes, CREATES, SCRIPT);
-        outcome_is(&rt, "two creates", outcome, 1, STREAM, "");
-    }
-}
-
-/// What so many workers make of both creates.
-fn workers_make<T: Threads + Wait + Sync + Abort>(
-    rt: &T,
-    alloc: Global,
-    workers: u8,
-    script: &str,
-) -> Outcome {
-    let settings = kept(rt, alloc, with_workers(alloc, workers));
-    let (input, script) = (CREATES.as_bytes(), script_bytes(script));
-    run_with(rt, alloc, settings, script, input)
-}
-
-#[test]
-fn one_lane_does_what_one_worker_does(rt: HostRuntime) {
-    let (alloc, script) = (rt.alloc(), SCRIPT);
-    let wanted = workers_make(&rt, alloc, 1, script);
-    let found = lanes_make(&rt, alloc, 1, CREATES, script);
-    outcome_is(&rt, "one lane", found, 1, wanted.printed, "");
-    status_is(&rt, "one worker", wanted.status, 1);
-}
-
-/// The second create waits for the first.
-const WAITING: &str =
-    r#"{"changes":[{"address":"null_resource.a","steps":[{"seconds":4}]},{"address":"null_resource.b","steps":[{"seconds":2,"after":["null_resource.a"]}]}]}"#;
-
-/// Workers refuse a script that says what steps wait for, however many they are.
-#[test]
-fn waits_take_lanes(rt: HostRuntime) {
-    let fault = "the script says what steps wait for, which takes --parallelism";
-    for count in [1, 2] {
-        let outcome = workers_make(&rt, rt.alloc(), count, WAITING);
-        outcome_fails(&rt, "workers", outcome, 2, fault);
-        let outcome = lanes_make(&rt, rt.alloc(), count, CREATES, WAITING);
-        status_is(&rt, "lanes", outcome.status, 0);
-    }
-}
-
 /// Fails where so many lanes do not refuse the texts with this fault.
 fn is_refused(rt: &impl Abort, alloc: Global, lanes: u8, plan: &str, script: &str, fault: &str) {
     let outcome = lanes_make(rt, alloc, lanes, plan, script);
     outcome_fails(rt, fault, outcome, 2, fault);
-}
-
-#[test]
-fn refused_plans_print_nothing_in_lanes(rt: HostRuntime) {
-    for row in REFUSED_PLANS.lines() {
-        let (plan, fault) = parted(&rt, row, " => ");
-        is_refused(&rt, rt.alloc(), 2, plan, NO_SCRIPT, fault);
-    }
 }
 
 /// Numbers of lanes that are out of range are looked at last.
@@ -134,7 +81,6 @@ fn what_is_refused_in_lanes_is_refused_in_its_order(rt: HostRuntime) {
     lanes_are_looked_at_last(&rt, alloc, 0);
     lanes_are_looked_at_last(&rt, alloc, 65);
     lanes_are_looked_at_last(&rt, alloc, 255);
-    is_refused(&rt, alloc, 2, CREATES, "{", "the script is not JSON");
 }
 
 #[test]

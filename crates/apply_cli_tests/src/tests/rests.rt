@@ -1,7 +1,8 @@
 //! What is left of an input whose plan was refused: it is read to its end and dropped, behind what is said.
 
+use super::lanes::run_lanes;
 use super::*;
-use apply_cli::{drop_rest, run_in_lanes};
+use apply_cli::drop_rest;
 
 /// The most bytes that a plan may have.
 const MOST: usize = 67_108_864;
@@ -58,17 +59,6 @@ fn left_are(rt: &impl Abort, case: &str, input: &Blanks, left: usize, ends: usiz
 /// What is said of a plan that is too large.
 const TOO_LARGE: &str = "the plan is larger than 67108864 bytes";
 
-/// Runs blanks in lanes.
-fn run_lanes(rt: &impl Abort, alloc: Global, input: &mut Blanks) -> Outcome {
-    let settings = kept(rt, alloc, defaults(alloc));
-    let (registry, output) = (no_hooks(rt, alloc), empty(alloc));
-    let mut said = Vec::new(alloc);
-    let (output, status) = run_in_lanes(
-        alloc, settings, 2, registry, None, input, output, &mut said,
-    );
-    outcome_of(rt, alloc, status, output.into_inner(), said)
-}
-
 /// Fails where a worker does not refuse the blanks with this fault, or others are left, or the end was not met so often.
 fn blanks_fail<T: Threads + Wait + Sync + Abort>(
     rt: &T,
@@ -88,7 +78,7 @@ fn a_plan_that_is_too_large_is_read_to_its_end(rt: HostRuntime) {
     let alloc = rt.alloc();
     blanks_fail(&rt, alloc, all_of(MOST + BEHIND), TOO_LARGE, 0, 1);
     let mut input = all_of(MOST + BEHIND);
-    let outcome = run_lanes(&rt, alloc, &mut input);
+    let outcome = run_lanes(&rt, alloc, 2, NO_SCRIPT, &mut input);
     outcome_fails(&rt, "lanes", outcome, 2, TOO_LARGE);
     left_are(&rt, "lanes", &input, 0, 1);
 }

@@ -1,9 +1,9 @@
-//! Which words say which settings.
+//! Which words say which settings, which form, and how many changes at once.
 
 use super::*;
 
-/// Words, and what they say.
-const TABLE: &str =
+/// Words, and the settings that they say, or what is answered to them.
+const SETTINGS: &str =
     r#" => Settings { at: Start { seconds: 0 }, script: None, workers: 1, queue: 64, operation: Apply, halts: [] }
 --workers 1 => Settings { at: Start { seconds: 0 }, script: None, workers: 1, queue: 64, operation: Apply, halts: [] }
 --workers=8 => Settings { at: Start { seconds: 0 }, script: None, workers: 8, queue: 64, operation: Apply, halts: [] }
@@ -67,15 +67,79 @@ plan.json => Words
 --help --workers 9 => Help
 --workers 9 --help => Words"#;
 
-/// What the words are answered, by all options.
-fn answer_to(rt: &impl Abort, alloc: Global, text: &str) -> &'static str {
+/// Words, and the form that they say.
+const FORMS: &str = " => Applystream
+--form applystream => Applystream
+--form terraform => Terraform
+--form=terraform => Terraform
+--form terraform --parallelism 2 => Terraform
+--workers 2 --queue 1 --form terraform --destroy --halt-before read => Terraform
+--form Terraform => Words
+--form json => Words
+--form= => Words
+--form => Words
+--form terraform --form terraform => Words
+--form applystream --form terraform => Words
+--form x --at x => Words
+--form terraform --at x => NotAMoment
+--form terraform --parallelism 2 --workers 2 => Beside
+--form terraform --version => Version
+--help --form x => Help";
+
+/// Words, and how many changes at once they ask for.
+const LANES: &str = " => None
+--parallelism 1 => Some(1)
+--parallelism 10 => Some(10)
+--parallelism=64 => Some(64)
+--parallelism 2 --destroy --at 2024-05-01T12:00:00Z --halt-before delete => Some(2)
+--parallelism 0 => Words
+--parallelism 65 => Words
+--parallelism 258 => Words
+--parallelism ten => Words
+--parallelism -1 => Words
+--parallelism => Words
+--parallelism 2 --parallelism 2 => Words
+--parallelism 2 --workers 2 => Beside
+--workers 1 --parallelism 2 => Beside
+--parallelism 2 --queue 64 => Beside
+--queue=1 --workers=8 --parallelism=64 => Beside
+--parallelism 2 --workers 2 --at x => Beside
+--parallelism 2 --workers 9 => Words
+--parallelism 2 --workers 2 --help => Help
+--workers 2 --queue 1 => None
+--parallelism 2 --at x => NotAMoment
+--workers 2 --version => Version
+-V --parallelism 2 => Version
+--help => Help";
+
+/// Words of a parallelism or a form, and what they are answered by the options without them.
+const OTHERS: &str = "--parallelism 2 => Words
+--parallelism 2 --workers 2 => Words
+--parallelism=x --at x => Words
+--help --parallelism 2 => Help
+--form terraform => Words
+--form=applystream => Words
+--form x --at x => Words
+-h --form terraform => Help";
+
+/// What the words are answered: what they say of that, or the fault.
+fn answer_to(rt: &impl Abort, alloc: Global, what: &str, text: &str) -> &'static str {
     match read_of(rt, alloc, text) {
-        Ok(invocation) => shown(rt, alloc, &invocation.settings),
+        Ok(invocation) => said_of(rt, alloc, what, invocation),
         Err(usage) => fault_of(rt, alloc, usage),
     }
 }
 
-/// What they are answered by the options without a parallelism.
+/// What words say of that.
+fn said_of(rt: &impl Abort, alloc: Global, what: &str, said: &Invocation) -> &'static str {
+    match what {
+        "form" => shown(rt, alloc, &said.form),
+        "lanes" => shown(rt, alloc, &said.parallelism),
+        _ => shown(rt, alloc, &said.settings),
+    }
+}
+
+/// What they are answered by the options without a parallelism and a form.
 fn settings_answer_to(rt: &impl Abort, alloc: Global, text: &str) -> &'static str {
     let words = words_of(rt, alloc, text);
     match kept(rt, alloc, read_words(alloc, words)) {
@@ -92,37 +156,31 @@ fn fault_of(rt: &impl Abort, alloc: Global, usage: &Usage) -> &'static str {
     }
 }
 
+/// Fails where words are answered otherwise. Those of which nothing but settings is asked are given to the options without a
+/// parallelism and a form too, and others to these alone.
+fn row_is_answered(rt: &impl Abort, alloc: Global, what: &str, row: &str) {
+    let (words, wanted) = parted(rt, row, " => ");
+    if what != "others" {
+        text_is(rt, row, answer_to(rt, alloc, what, words), wanted);
+    }
+    if what == "others" || what == "settings" {
+        text_is(rt, row, settings_answer_to(rt, alloc, words), wanted);
+    }
+}
+
+/// The same of each row.
+fn words_say(rt: &impl Abort, alloc: Global, what: &str, table: &str) {
+    for row in table.lines() {
+        row_is_answered(rt, alloc, what, row);
+    }
+}
+
 #[test]
 fn words_say_settings(rt: HostRuntime) {
-    let alloc = rt.alloc();
-    for row in TABLE.lines() {
-        let (words, wanted) = parted(&rt, row, " => ");
-        text_is(&rt, words, answer_to(&rt, alloc, words), wanted);
-        settings_answer_is(&rt, alloc, words, wanted);
-    }
-}
-
-/// Fails where the options without a parallelism answer otherwise.
-fn settings_answer_is(rt: &impl Abort, alloc: Global, words: &str, wanted: &str) {
-    text_is(rt, words, settings_answer_to(rt, alloc, words), wanted);
-}
-
-/// Words of a parallelism or a form, and what they are answered by the options without them.
-const OTHERS: &str = "--parallelism 2 => Words
---parallelism 2 --workers 2 => Words
---parallelism=x --at x => Words
---help --parallelism 2 => Help
---form terraform => Words
---form=applystream => Words
---form x --at x => Words
--h --form terraform => Help";
-
-#[test]
-fn settings_know_no_parallelism_and_no_form(rt: HostRuntime) {
-    for row in OTHERS.lines() {
-        let (words, wanted) = parted(&rt, row, " => ");
-        settings_answer_is(&rt, rt.alloc(), words, wanted);
-    }
+    words_say(&rt, rt.alloc(), "settings", SETTINGS);
+    words_say(&rt, rt.alloc(), "form", FORMS);
+    words_say(&rt, rt.alloc(), "lanes", LANES);
+    words_say(&rt, rt.alloc(), "others", OTHERS);
 }
 
 /// Fails where the option takes another number than a run.
@@ -178,13 +236,10 @@ fn halts_of(rt: &impl Abort, alloc: Global, before: usize, inside: usize) -> &'s
 /// Fails where words for so many halts are answered otherwise.
 fn halts_are_answered(rt: &impl Abort, alloc: Global, before: usize, inside: usize, wanted: &str) {
     let words = halts_of(rt, alloc, before, inside);
-    begins(rt, words, answer_to(rt, alloc, words), wanted);
-    begins(rt, words, settings_answer_to(rt, alloc, words), wanted);
-}
-
-/// Fails where the text begins otherwise.
-fn begins(rt: &impl Abort, case: &str, text: &str, start: &str) {
-    holds(rt, case, text.starts_with(start));
+    let found = answer_to(rt, alloc, "settings", words);
+    holds(rt, words, found.starts_with(wanted));
+    let found = settings_answer_to(rt, alloc, words);
+    holds(rt, words, found.starts_with(wanted));
 }
 
 #[test]
@@ -197,41 +252,4 @@ fn there_are_32_halts_at_most(rt: HostRuntime) {
     halts_are_answered(&rt, alloc, 31, 1, "Settings");
     halts_are_answered(&rt, alloc, 1, 32, "Hooks");
     halts_are_answered(&rt, alloc, 40, 40, "Hooks");
-}
-
-/// What has to stand in the help.
-const IN_HELP: &str = r#"terraform show -json
-Standard input
-Standard output
---at <MOMENT>
-[default: 1970-01-01T00:00:00Z]
-8999-12-31T23:59:59Z
---script <FILE>
---workers <N>
-1 to 8 [default: 1]
---queue <N>
-1 to 1024 [default: 64]
---destroy
---halt-before <KIND>
-[possible values: create, update, delete, read]
---halt-in <PREFIX>
---form <FORM>
-[default: applystream]
-[possible values: applystream, terraform]
---version
-Example
-{"changes":[{"address":"null_resource.a","steps":[{"seconds":12,"id":"7"}]},
-{"address":"null_resource.b","steps":[{"seconds":4,"failed":{"summary":"boom"}}]}]}
-Exit status:
-  0
-  1
-  2
-  3"#;
-
-#[test]
-fn help_says_all(rt: HostRuntime) {
-    let help = help_of(&rt, rt.alloc());
-    for line in IN_HELP.lines() {
-        holds(&rt, line, help.contains(line));
-    }
 }

@@ -1,4 +1,4 @@
-//! Single lines. Whole streams are compared in `apply_form_run_tests`, through the run.
+//! Single lines. Whole streams are compared over the built program, by `checks/examples`.
 
 use super::*;
 

@@ -1,11 +1,9 @@
+//! What an accepted plan tells of its parts.
+
 use super::plain::reads_as_plainly;
-use super::table::{cells, compare, plans_are_answered, push, put, rows, spelled, spelled_rows};
+use super::table::{cells, compare, push, put, rows};
 use super::*;
 use apply_plan::Change;
-
-/// A module's address with a dot in its key, and an index with a quotation mark.
-pub const QUOTED_PLAN: &str =
-    r#"{"format_version":"1.2","terraform_version":"1.9.0","resource_changes":[{"address":"module.a[\"x.y\"].aws_instance.web[\"k\\\"1\"]","module_address":"module.a[\"x.y\"]","mode":"managed","type":"aws_instance","name":"web","index":"k\"1","change":{"actions":["create"]}}]}"#;
 
 /// That part of a change, where it is a text.
 fn text_of_change<'a>(change: &'a Change, part: &str) -> Option<&'a str> {
@@ -75,7 +73,7 @@ fn plan_tells(rt: &impl Abort, alloc: Global, case: &str, plan: &str, parts: &st
 }
 
 /// The same for each row: a plan that has the first cell in the place of `CELL`.
-pub fn plans_tell(rt: &impl Abort, alloc: Global, plan: &str, parts: &str, table: &str) {
+fn plans_tell(rt: &impl Abort, alloc: Global, plan: &str, parts: &str, table: &str) {
     for row in rows(rt, table) {
         let (cell, wanted) = cells(rt, row);
         let text = put(rt, alloc, plan, "CELL", cell);
@@ -83,50 +81,15 @@ pub fn plans_tell(rt: &impl Abort, alloc: Global, plan: &str, parts: &str, table
     }
 }
 
-/// The parts of `QUOTED_PLAN`.
-const QUOTED_PARTS: &str = r#"
-version => "1.9.0"
-address => "module.a[\"x.y\"].aws_instance.web[\"k\\\"1\"]"
-module => "module.a[\"x.y\"]"
-resource => "aws_instance.web[\"k\\\"1\"]"
-kind_name => "aws_instance"
-provider => "aws"
-name => "web"
-mode => Managed
-key => Name(Text { inner: "k\"1" })
-deposed => None
-prior_id => None
-steps => [Create]
-"#;
+/// Parts of a plan or of its only change, a plan with `CELL` in it, and rows of what stands there and what these parts are; an
+/// empty line stands between two.
+const PARTS: &str =
+    r#"version address module resource kind_name provider name mode key deposed prior_id steps
+{CELL,"terraform_version":"1.9.0","resource_changes":[{"address":"module.a[\"x.y\"].aws_instance.web[\"k\\\"1\"]","module_address":"module.a[\"x.y\"]","mode":"managed","type":"aws_instance","name":"web","index":"k\"1","change":{"actions":["create"]}}]}
+"format_version":"1.2" => "1.9.0" "module.a[\"x.y\"].aws_instance.web[\"k\\\"1\"]" "module.a[\"x.y\"]" "aws_instance.web[\"k\\\"1\"]" "aws_instance" "aws" "web" Managed Name(Text { inner: "k\"1" }) None None [Create]
 
-#[test]
-fn quoted_module_address(rt: HostRuntime) {
-    for row in rows(&rt, QUOTED_PARTS) {
-        let (part, wanted) = cells(&rt, row);
-        plan_tells(&rt, rt.alloc(), part, QUOTED_PLAN, part, wanted);
-    }
-}
-
-/// A module's address that does not begin the address, and one that leaves nothing of it.
-#[test]
-fn quoted_addresses_fit_their_module(rt: HostRuntime) {
-    let alloc = rt.alloc();
-    let misplaced = "change 0 has an address that does not fit its module";
-    let own = r#""module_address":"module.a[\"x.y\"]""#;
-    let other = put(
-        &rt,
-        alloc,
-        QUOTED_PLAN,
-        own,
-        r#""module_address":"module.b""#,
-    );
-    plan_is_answered(&rt, alloc, other.as_bytes(), misplaced);
-    let relative = r#"aws_instance.web[\"k\\\"1\"]""#;
-    let bare = put(&rt, alloc, QUOTED_PLAN, relative, r#"""#);
-    plan_is_answered(&rt, alloc, bare.as_bytes(), misplaced);
-}
-
-const STEPS: &str = r#"
+steps
+{"format_version":"1.2","resource_changes":[{"address":"null_resource.a","mode":"managed","type":"null_resource","name":"a","change":{"actions":CELL}}]}
 ["no-op"] => []
 ["create"] => [Create]
 ["read"] => [Read]
@@ -135,61 +98,9 @@ const STEPS: &str = r#"
 ["delete","create"] => [Delete, Create]
 ["create","delete"] => [Create, Delete]
 ["forget"] => []
-"#;
 
-#[test]
-fn each_action_list_has_its_steps(rt: HostRuntime) {
-    let plan =
-        r#"{"format_version":"1.2","resource_changes":[{"address":"null_resource.a","mode":"managed","type":"null_resource","name":"a","change":{"actions":CELL}}]}"#;
-    plans_tell(&rt, rt.alloc(), plan, "steps", STEPS);
-}
-
-/// Elements for one address.
-const OBJECTS: &str = r#"
-current => {"address":"a.b","mode":"managed","type":"a","name":"b","change":{"actions":["delete"]}}
-deposed => {"address":"a.b","deposed":"00000001","mode":"managed","type":"a","name":"b","change":{"actions":["delete"]}}
-other => {"address":"a.b","deposed":"00000002","mode":"managed","type":"a","name":"b","change":{"actions":["delete"]}}
-blank => {"address":"a.b","deposed":"","mode":"managed","type":"a","name":"b","change":{"actions":["delete"]}}
-"#;
-
-/// Elements of one plan.
-const DEPOSED: &str = r#"
-current deposed other => accepted
-deposed other current => accepted
-current deposed current => change 2 repeats an earlier change
-current current deposed => change 1 repeats an earlier change
-deposed current deposed => change 2 repeats an earlier change
-current deposed blank => change 2 repeats an earlier change
-"#;
-
-/// A plan of these elements.
-const PLAN: &str = r#"{"format_version":"1.2","resource_changes":[CELL]}"#;
-
-#[test]
-fn deposed_beside_current(rt: HostRuntime) {
-    let table = spelled_rows(&rt, rt.alloc(), OBJECTS, DEPOSED);
-    plans_are_answered(&rt, rt.alloc(), PLAN, table);
-}
-
-/// Fails where the change is of an object with another deposed key.
-fn is_deposed_as(rt: &impl Abort, alloc: Global, change: &Change, wanted: &str) {
-    text_is(rt, printed(rt, alloc, &change.deposed()), wanted);
-}
-
-#[test]
-fn deposed_keys_are_kept(rt: HostRuntime) {
-    let alloc = rt.alloc();
-    let elements = spelled(&rt, alloc, OBJECTS, "current deposed");
-    let text = put(&rt, alloc, PLAN, "CELL", elements);
-    reads_as_plainly(&rt, alloc, text);
-    let plan = plan_of(&rt, alloc, text);
-    holds(&rt, "two changes", plan.len() == 2);
-    is_deposed_as(&rt, alloc, plan.change(0), "None");
-    is_deposed_as(&rt, alloc, plan.change(1), r#"Some("00000001")"#);
-}
-
-/// Members of the change, and the prior id.
-const PRIOR_IDS: &str = r#"
+prior_id
+{"format_version":"1.2","resource_changes":[{"address":"a.b","mode":"managed","type":"a","name":"b","change":{CELL,"actions":["update"]}}]}
 "before":{"id":"i-1"} => Some("i-1")
 "before":{"id":"i-1"},"before_sensitive":{"id":false} => Some("i-1")
 "before":{"id":"i-1"},"before_sensitive":{"id":"true"} => Some("i-1")
@@ -211,44 +122,57 @@ const PRIOR_IDS: &str = r#"
 "before":{"id":"i-1"},"before_sensitive":true,"before_sensitive":false => Some("i-1")
 "before":{"id":"i-1"},"before_sensitive":true,"before_sensitive":null => Some("i-1")
 "before":{"id":"i-1"},"before_sensitive":{"id":true,"id":false} => Some("i-1")
-"#;
 
-#[test]
-fn sensitive_ids_are_hidden(rt: HostRuntime) {
-    let plan =
-        r#"{"format_version":"1.2","resource_changes":[{"address":"a.b","mode":"managed","type":"a","name":"b","change":{CELL,"actions":["update"]}}]}"#;
-    plans_tell(&rt, rt.alloc(), plan, "prior_id", PRIOR_IDS);
-}
-
-/// The type, and the provider that it implies, the mode and the key.
-const PROVIDERS: &str = r#"
+provider mode key
+{"format_version":"1.2","resource_changes":[{"address":"a.b","mode":"data","type":"CELL","name":"b","index":-1,"change":{"actions":["read"]}}]}
 random_pet => "random" DataSource Number(-1)
 terraform => "terraform" DataSource Number(-1)
 terraform_data => "terraform" DataSource Number(-1)
 a_b_c => "a" DataSource Number(-1)
 _x => "" DataSource Number(-1)
-"#;
 
-#[test]
-fn types_imply_providers(rt: HostRuntime) {
-    let plan =
-        r#"{"format_version":"1.2","resource_changes":[{"address":"a.b","mode":"data","type":"CELL","name":"b","index":-1,"change":{"actions":["read"]}}]}"#;
-    plans_tell(&rt, rt.alloc(), plan, "provider mode key", PROVIDERS);
-}
-
-/// The index, and the key, the module and the address within it.
-const KEYS: &str = r#"
+key module resource
+{"format_version":"1.2","resource_changes":[{"address":"a.b","module_address":"","mode":"managed","type":"a","name":"b","index":CELL,"change":{"actions":["create"]}}]}
 null => None "" "a.b"
 0 => Number(0) "" "a.b"
 9223372036854775807 => Number(9223372036854775807) "" "a.b"
 -9223372036854775808 => Number(-9223372036854775808) "" "a.b"
 "" => Name(Text { inner: "" }) "" "a.b"
 "k" => Name(Text { inner: "k" }) "" "a.b"
-"#;
+
+len version
+CELL
+{"format_version":"1.0"} => 0 "0.0.0"
+{"format_version":"1."} => 0 "0.0.0"
+{"format_version":"1.2","terraform_version":null,"resource_changes":null} => 0 "0.0.0"
+{"format_version":"1.2","terraform_version":"","resource_changes":[]} => 0 ""
+{"format_version":"1.2","terraform_version":"1.9.0","errored":true} => 0 "1.9.0"
+{"format_version":"2.0","format_version":"1.0","other":{"a":[null,1.5]}} => 0 "0.0.0""#;
 
 #[test]
-fn indexes_are_kept(rt: HostRuntime) {
-    let plan =
-        r#"{"format_version":"1.2","resource_changes":[{"address":"a.b","module_address":"","mode":"managed","type":"a","name":"b","index":CELL,"change":{"actions":["create"]}}]}"#;
-    plans_tell(&rt, rt.alloc(), plan, "key module resource", KEYS);
+fn plans_tell_their_parts(rt: HostRuntime) {
+    for block in PARTS.split("\n\n") {
+        let (parts, rest) = block.split_once("\n").expect(&rt, block);
+        let (plan, table) = rest.split_once("\n").expect(&rt, rest);
+        plans_tell(&rt, rt.alloc(), plan, parts, table);
+    }
+}
+
+/// Two objects of one address, of which the second is deposed.
+const DEPOSED: &str =
+    r#"{"format_version":"1.2","resource_changes":[{"address":"a.b","mode":"managed","type":"a","name":"b","change":{"actions":["delete"]}},{"address":"a.b","deposed":"00000001","mode":"managed","type":"a","name":"b","change":{"actions":["delete"]}}]}"#;
+
+/// Fails where the change is of an object with another deposed key.
+fn is_deposed_as(rt: &impl Abort, alloc: Global, change: &Change, wanted: &str) {
+    text_is(rt, printed(rt, alloc, &change.deposed()), wanted);
+}
+
+#[test]
+fn deposed_keys_are_kept(rt: HostRuntime) {
+    let alloc = rt.alloc();
+    reads_as_plainly(&rt, alloc, DEPOSED);
+    let plan = plan_of(&rt, alloc, DEPOSED);
+    holds(&rt, "two changes", plan.len() == 2);
+    is_deposed_as(&rt, alloc, plan.change(0), "None");
+    is_deposed_as(&rt, alloc, plan.change(1), r#"Some("00000001")"#);
 }

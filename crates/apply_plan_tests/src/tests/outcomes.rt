@@ -1,5 +1,6 @@
-use super::scripts::ONE_DELETE;
-use super::table::{cells, compare, push, put, rows};
+//! What a script says of steps.
+
+use super::table::{cells, compare, push, rows};
 use super::*;
 use apply_plan::{Diag, Ending, Outcome};
 
@@ -126,51 +127,6 @@ fn a_script_says_what_is_written(rt: HostRuntime) {
     steps_are_said(&rt, alloc, script, SAID);
     let deposed = script_of(&rt, alloc, FIVE_CHANGES, SAYS_OF_DEPOSED);
     steps_are_said(&rt, alloc, deposed, SAID_OF_DEPOSED);
-}
-
-const STEPS: &str = r#"
-"seconds":0 => 0 done
-"seconds":86400 => 86400 done
-"seconds":1,"seconds":2 => 2 done
-"seconds":0,"id":"7" => 0 done, id "7"
-"seconds":0,"id":" " => 0 done, id " "
-"seconds":0,"id":"7","id":"8" => 0 done, id "8"
-"seconds":0,"id":"" => 0 done
-"seconds":0,"id":null => 0 done
-"seconds":0,"id":"7","id":"" => 0 done
-"seconds":0,"id":"7","id":null => 0 done
-"seconds":0,"warning":{"summary":"slow"} => 0 done, warning "slow" ""
-"seconds":0,"warning":{"detail":"very","summary":"slow"} => 0 done, warning "slow" "very"
-"seconds":0,"warning":{"summary":""} => 0 done, warning "" ""
-"seconds":0,"warning":{"summary":"","detail":"very"} => 0 done, warning "" "very"
-"seconds":0,"warning":{"summary":"slow","detail":""} => 0 done, warning "slow" ""
-"seconds":0,"warning":{"summary":"slow","detail":null} => 0 done, warning "slow" ""
-"seconds":0,"warning":null => 0 done
-"seconds":0,"id":"","warning":{"summary":"slow"} => 0 done, warning "slow" ""
-"seconds":0,"warning":{"summary":"slow","severity":5} => 0 done, warning "slow" ""
-"seconds":0,"warning":{"summary":"slow","severity":"error"} => 0 done, warning "slow" ""
-"seconds":0,"failed":null,"id":"7" => 0 done, id "7"
-"seconds":4,"failed":{"summary":"boom"} => 4 failed "boom" ""
-"seconds":4,"failed":{"detail":"why","summary":"boom"} => 4 failed "boom" "why"
-"seconds":4,"failed":{"summary":""} => 4 failed "" ""
-"seconds":4,"failed":{"summary":"one","summary":"two","detail":null} => 4 failed "two" ""
-"seconds":4,"failed":{"summary":"boom"},"id":"","warning":null => 4 failed "boom" ""
-"seconds":4,"failed":{"summary":"boom"},"failed":null => 4 done
-"seconds":4,"provider":{"failed":true},"failure":{"summary":"boom"} => 4 done
-"seconds":0,"id":"\u00e9\n" => 0 done, id "é\n"
-"#;
-
-#[test]
-fn a_step_says_what_is_written(rt: HostRuntime) {
-    let alloc = rt.alloc();
-    let script =
-        r#"{"changes":[{"address":"null_resource.a","steps":[{CELL}],"id":"9","seconds":9}]}"#;
-    for row in rows(&rt, STEPS) {
-        let (members, wanted) = cells(&rt, row);
-        let text = put(&rt, alloc, script, "CELL", members);
-        let script = script_of(&rt, alloc, ONE_DELETE, text);
-        compare(&rt, members, said(&rt, alloc, script, 0, 0), wanted);
-    }
 }
 
 const NOTHING: &str = r#"

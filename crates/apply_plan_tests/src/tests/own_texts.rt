@@ -1,70 +1,12 @@
 //! Objects of a diagnostic that are kept as they stand.
 
-use super::table::{cells, compare, put, repeated, rows, scripts_are_answered};
+use super::table::{cells, compare, put, rows};
 use super::*;
 use apply_plan::{Diag, Ending};
 
 /// A script with this diagnostic of the only step, which failed.
 const FAILED: &str =
     r#"{"changes":[{"address":"null_resource.a","steps":[{"seconds":0,"failed":{"summary":"boom",CELL}}]}]}"#;
-
-/// The same of a step that is done, and of a provisioner.
-const WARNING: &str =
-    r#"{"changes":[{"address":"null_resource.a","steps":[{"seconds":0,"warning":{"summary":"slow",CELL}}]}]}"#;
-
-const OF_PROVISIONER: &str =
-    r#"{"changes":[{"address":"null_resource.a","steps":[{"seconds":0,"provisioners":[{"provisioner":"a","seconds":0,"failed":{"summary":"boom",CELL}}]}]}]}"#;
-
-const OBJECTS: &str = r#"
-"range":{} => accepted
-"range":{"filename":"main.tf"},"snippet":{"values":[]} => accepted
-"range":null,"snippet":null => accepted
-"range":5,"range":{} => accepted
-"range":{},"range":null => accepted
-"range":"main.tf" => script entry 0 is malformed
-"range":"{}" => script entry 0 is malformed
-"range":"null" => script entry 0 is malformed
-"range":5 => script entry 0 is malformed
-"range":true => script entry 0 is malformed
-"range":[] => script entry 0 is malformed
-"range":[{}] => script entry 0 is malformed
-"range":{},"range":5 => script entry 0 is malformed
-"snippet":"x" => script entry 0 is malformed
-"snippet":5 => script entry 0 is malformed
-"snippet":false => script entry 0 is malformed
-"snippet":[] => script entry 0 is malformed
-"range":{},"snippet":[] => script entry 0 is malformed
-"range":{"a":1e999} => the script is not JSON
-"snippet":{"a":[1e999]} => the script is not JSON
-"range":{"a":1.} => the script is not JSON
-"range":{"a"} => the script is not JSON
-"#;
-
-#[test]
-fn ranges_and_snippets_are_objects(rt: HostRuntime) {
-    let alloc = rt.alloc();
-    scripts_are_answered(&rt, alloc, ONE_CREATE, FAILED, OBJECTS);
-    scripts_are_answered(&rt, alloc, ONE_CREATE, WARNING, OBJECTS);
-    scripts_are_answered(&rt, alloc, ONE_CREATE, OF_PROVISIONER, OBJECTS);
-}
-
-/// Elsewhere a member of such a name is anything.
-const ELSEWHERE: &str = r#"
-"range":5 => accepted
-"range":[1.0],"snippet":"x" => accepted
-"range":1e999 => the script is not JSON
-"#;
-
-#[test]
-fn elsewhere_they_are_anything(rt: HostRuntime) {
-    let alloc = rt.alloc();
-    let step = r#"{"changes":[{"address":"null_resource.a","steps":[{"seconds":0,CELL}]}]}"#;
-    scripts_are_answered(&rt, alloc, ONE_CREATE, step, ELSEWHERE);
-    let entry = r#"{"changes":[{"address":"null_resource.a","steps":[],CELL}]}"#;
-    scripts_are_answered(&rt, alloc, ONE_CREATE, entry, ELSEWHERE);
-    let script = r#"{"changes":[],CELL}"#;
-    scripts_are_answered(&rt, alloc, ONE_CREATE, script, ELSEWHERE);
-}
 
 /// The texts that are kept of a diagnostic: those of its range and its snippet, or `none`.
 fn kept_of(diag: &Diag) -> (&str, &str) {
@@ -122,22 +64,4 @@ fn ranges_and_snippets_are_kept_as_they_stand(rt: HostRuntime) {
         compare(&rt, object, range, wanted);
         compare(&rt, object, snippet, r#"{"range":1.0}"#);
     }
-}
-
-/// A range that nests so deep is answered so.
-fn deep_is_answered(rt: &impl Abort, alloc: Global, depth: usize, wanted: &str) {
-    let open = repeated(rt, alloc, "[", depth);
-    let close = repeated(rt, alloc, "]", depth);
-    let deep = put(rt, alloc, FAILED, "CELL", r#""range":{"a":OPENCLOSE}"#);
-    let deep = put(rt, alloc, deep, "OPEN", open);
-    let deep = put(rt, alloc, deep, "CLOSE", close);
-    script_is_answered(rt, alloc, ONE_CREATE, deep.as_bytes(), wanted);
-}
-
-/// The range stands 6 deep, and is 1 deep itself.
-#[test]
-fn ranges_nest_as_deep_as_a_script_may(rt: HostRuntime) {
-    let alloc = rt.alloc();
-    deep_is_answered(&rt, alloc, 120, "accepted");
-    deep_is_answered(&rt, alloc, 121, "the script is not JSON");
 }

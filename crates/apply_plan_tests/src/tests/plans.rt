@@ -1,9 +1,13 @@
-use super::accepted::{QUOTED_PLAN, plans_tell};
-use super::table::{plans_are_answered, with_end};
-use super::*;
-use apply_plan::PlanError;
+//! Which plans are accepted, and what the others are refused with: each member absent, `null`, of each wrong type, empty, and of
+//! values that are refused or not; of two faults the first; and what nobody looks at, which is JSON all the same.
 
-const REFUSED: &str = r#"
+use super::table::{put, repeated};
+use super::*;
+
+/// Plans with `CELL` in them, a line of a colon, and rows of what stands there and what is answered; an empty line stands
+/// between two.
+const PLANS: &str = r#"CELL
+:
 [] => the plan is not a plan of format 1.x
 null => the plan is not a plan of format 1.x
 1 => the plan is not a plan of format 1.x
@@ -27,77 +31,294 @@ null => the plan is not a plan of format 1.x
 {"format_version":"1.0","resource_changes":5} => the plan is not a plan of format 1.x
 {"format_version":"1.0","resource_changes":true} => the plan is not a plan of format 1.x
 {"format_version":"1.0","format_version":"2.0"} => the plan is not a plan of format 1.x
-"#;
+
+{"format_version":"1.2","terraform_version":"1.9.0","resource_changes":[{"mode":"managed","type":"t","name":"n","change":{"actions":["create"]},"address":CELL}]}
+{"format_version":"1.2","terraform_version":"1.9.0","resource_changes":[{"address":"t.n","type":"t","name":"n","change":{"actions":["create"]},"mode":CELL}]}
+{"format_version":"1.2","terraform_version":"1.9.0","resource_changes":[{"address":"t.n","mode":"managed","name":"n","change":{"actions":["create"]},"type":CELL}]}
+{"format_version":"1.2","terraform_version":"1.9.0","resource_changes":[{"address":"t.n","mode":"managed","type":"t","change":{"actions":["create"]},"name":CELL}]}
+{"format_version":"1.2","terraform_version":"1.9.0","resource_changes":[{"address":"t.n","mode":"managed","type":"t","name":"n","change":CELL}]}
+:
+null => change 0 is malformed
+5 => change 0 is malformed
+true => change 0 is malformed
+[] => change 0 is malformed
+{} => change 0 is malformed
+
+{"format_version":"1.2","terraform_version":"1.9.0","resource_changes":[{"mode":"managed","type":"t","name":"n","change":{"actions":["create"]},CELL}]}
+{"format_version":"1.2","terraform_version":"1.9.0","resource_changes":[{"address":"t.n","type":"t","name":"n","change":{"actions":["create"]},CELL}]}
+{"format_version":"1.2","terraform_version":"1.9.0","resource_changes":[{"address":"t.n","mode":"managed","name":"n","change":{"actions":["create"]},CELL}]}
+{"format_version":"1.2","terraform_version":"1.9.0","resource_changes":[{"address":"t.n","mode":"managed","type":"t","change":{"actions":["create"]},CELL}]}
+{"format_version":"1.2","terraform_version":"1.9.0","resource_changes":[{"address":"t.n","mode":"managed","type":"t","name":"n",CELL}]}
+:
+"other":0 => change 0 is malformed
+
+{"format_version":"1.2","terraform_version":"1.9.0","resource_changes":[{"address":"t.n","mode":"managed","type":"t","name":"n","change":{"actions":["create"]},"module_address":CELL}]}
+{"format_version":"1.2","terraform_version":"1.9.0","resource_changes":[{"address":"t.n","mode":"managed","type":"t","name":"n","change":{"actions":["create"]},"index":CELL}]}
+{"format_version":"1.2","terraform_version":"1.9.0","resource_changes":[{"address":"t.n","mode":"managed","type":"t","name":"n","change":{"actions":["create"]},"deposed":CELL}]}
+:
+true => change 0 is malformed
+[] => change 0 is malformed
+{} => change 0 is malformed
+1.5 => change 0 is malformed
+null => accepted
+"" => accepted
+
+{"format_version":"1.2","terraform_version":"1.9.0","resource_changes":[{"address":"t.n","mode":"managed","type":"t","name":"n","change":{"actions":["create"]},CELL}]}
+{"format_version":"1.2","terraform_version":"1.9.0","resource_changes":[{"address":"t.n","mode":"managed","type":"t","name":"n","change":{"actions":["create"]},CELL}]}
+{"format_version":"1.2","terraform_version":"1.9.0","resource_changes":[{"address":"t.n","mode":"managed","type":"t","name":"n","change":{"actions":["create"]},CELL}]}
+:
+"other":0 => accepted
+
+{"format_version":"1.2","terraform_version":"1.9.0","resource_changes":[{"mode":"managed","type":"t","name":"n","change":{"actions":["create"]},"address":CELL}]}
+:
+"" => change 0 has an address that does not fit its module
+
+{"format_version":"1.2","terraform_version":"1.9.0","resource_changes":[{"address":"t.n","type":"t","name":"n","change":{"actions":["create"]},"mode":CELL}]}
+:
+"" => change 0 is malformed
+"Managed" => change 0 is malformed
+"ephemeral" => change 0 is malformed
+"data" => accepted
+
+{"format_version":"1.2","terraform_version":"1.9.0","resource_changes":[{"address":"t.n","mode":"managed","name":"n","change":{"actions":["create"]},"type":CELL}]}
+:
+"" => change 0 is malformed
+"_" => accepted
+
+{"format_version":"1.2","terraform_version":"1.9.0","resource_changes":[{"address":"t.n","mode":"managed","type":"t","change":{"actions":["create"]},"name":CELL}]}
+:
+"" => change 0 is malformed
+5,"name":"n" => accepted
+"n","name":5 => change 0 is malformed
+
+{"format_version":"1.2","terraform_version":"1.9.0","resource_changes":[{"address":"t.n","mode":"managed","type":"t","name":"n","change":CELL}]}
+:
+"create" => change 0 is malformed
+{"actions":null} => change 0 is malformed
+{"actions":"create"} => change 0 is malformed
+{"actions":{}} => change 0 is malformed
+{"actions":5} => change 0 is malformed
+{"actions":true} => change 0 is malformed
+
+{"format_version":"1.2","terraform_version":"1.9.0","resource_changes":[{"address":"t.n","mode":"managed","type":"t","name":"n","change":{"actions":["create"]},"module_address":CELL}]}
+:
+5 => change 0 is malformed
+"module.b" => change 0 has an address that does not fit its module
+"t" => accepted
+"t.n" => change 0 has an address that does not fit its module
+"t." => change 0 has an address that does not fit its module
+
+{"format_version":"1.2","terraform_version":"1.9.0","resource_changes":[{"address":"t.n","mode":"managed","type":"t","name":"n","change":{"actions":["create"]},"deposed":CELL}]}
+:
+5 => change 0 is malformed
+"00000001" => accepted
+5,"deposed":null => accepted
+
+{"format_version":"1.2","terraform_version":"1.9.0","resource_changes":[{"address":"t.n","mode":"managed","type":"t","name":"n","change":{"actions":["create"]},"index":CELL}]}
+:
+0 => accepted
+-1 => accepted
+9223372036854775807 => accepted
+-9223372036854775808 => accepted
+"k" => accepted
+9223372036854775808 => change 0 is malformed
+-9223372036854775809 => change 0 is malformed
+1.5 => change 0 is malformed
+1.0 => change 0 is malformed
+1e2 => change 0 is malformed
+-0 => change 0 is malformed
+
+{"format_version":"1.2","terraform_version":"1.9.0","resource_changes":[{"address":"t.n","mode":"managed","type":"t","name":"n","change":CELL}]}
+:
+{"actions":["remove"]} => change 0 has an action list that is out of scope
+{"actions":[]} => change 0 has an action list that is out of scope
+{"actions":["create","create"]} => change 0 has an action list that is out of scope
+{"actions":[1]} => change 0 has an action list that is out of scope
+{"actions":[null]} => change 0 has an action list that is out of scope
+{"actions":["Create"]} => change 0 has an action list that is out of scope
+{"actions":[""]} => change 0 has an action list that is out of scope
+{"actions":["no-op","create"]} => change 0 has an action list that is out of scope
+{"actions":["delete","create","delete"]} => change 0 has an action list that is out of scope
+{"actions":["create","forget"]} => change 0 has an action list that is out of scope
+{"actions":["forget","forget"]} => change 0 has an action list that is out of scope
+{"actions":[["create"]]} => change 0 has an action list that is out of scope
+
+{"format_version":"1.2","terraform_version":"1.9.0","resource_changes":[CELL]}
+:
+5 => change 0 is malformed
+null => change 0 is malformed
+"x" => change 0 is malformed
+[] => change 0 is malformed
+true => change 0 is malformed
+
+{"format_version":"1.2","resource_changes":[{"address":"module.m.t.n","module_address":"module.m","mode":"data","type":"t","name":"n","index":5,"deposed":"d","change":{"actions":["delete","create"],"before":{"id":"i"},"before_sensitive":{"id":false}}},CELL]}
+:
+5 => change 1 is malformed
+{} => change 1 is malformed
+{"mode":"managed","type":"t","name":"o","change":{"actions":["create"]}} => change 1 is malformed
+{"address":"t.o","type":"t","name":"o","change":{"actions":["create"]}} => change 1 is malformed
+{"address":"t.o","mode":"managed","name":"o","change":{"actions":["create"]}} => change 1 is malformed
+{"address":"t.o","mode":"managed","type":"t","change":{"actions":["create"]}} => change 1 is malformed
+{"address":"t.o","mode":"managed","type":"t","name":"o"} => change 1 is malformed
+{"address":"t.o","mode":"managed","type":"t","name":"o","change":{"before":{"id":"j"}}} => change 1 is malformed
+{"address":"t.o","mode":"managed","type":"t","name":"o","change":{"actions":[]}} => change 1 has an action list that is out of scope
+{"address":"t.o","mode":"managed","type":"t","name":"o","change":{"actions":["create"]}} => accepted
+{"address":"module.m.t.n","mode":"managed","type":"t","name":"n","change":{"actions":["create"]}} => accepted
+{"address":"t.o","mode":"managed","type":"t","name":"o","change":{"actions":["update"],"before":{"id":"j"},"before_sensitive":true}},{"address":"t.p","mode":"managed","type":"t","name":"p","change":{"actions":["update"],"before":{"id":"k"}}} => accepted
+
+{"format_version":"1.2","terraform_version":"1.9.0","resource_changes":[CELL]}
+:
+{"address":"a.a","mode":"managed","type":"a","name":"a","change":{"actions":["create"]}},{"address":"a.b","module_address":"module.c","mode":"managed","type":"a","name":"b","change":{"actions":["create"]}},{"address":"a.b","mode":"x","type":"a","name":"b","change":{"actions":["remove"]}} => change 1 has an address that does not fit its module
+{"address":"a.a","mode":"managed","type":"a","name":"a","change":{"actions":["create"]}},{"address":"a.b","mode":"x","type":"a","name":"b","change":{"actions":["remove"]}},{"address":"a.b","module_address":"module.c","mode":"managed","type":"a","name":"b","change":{"actions":["create"]}} => change 1 is malformed
+{"address":"a.a","mode":"managed","type":"a","name":"a","change":{"actions":["create"]}},{"address":"a.b","module_address":"module.c","mode":"managed","type":"a","name":"b","change":{"actions":["remove"]}},{"address":"a.b","mode":"x","type":"a","name":"b","change":{"actions":["remove"]}} => change 1 has an action list that is out of scope
+{"address":"a.a","mode":"managed","type":"a","name":"a","change":{"actions":["create"]}},{"address":"a.a","mode":"managed","type":"a","name":"a","change":{"actions":["create"]}},{"address":"a.b","mode":"x","type":"a","name":"b","change":{"actions":["remove"]}} => change 1 repeats an earlier change
+{"address":"a.a","mode":"managed","type":"a","name":"a","change":{"actions":["create"]}},{"address":"a.b","mode":"x","type":"a","name":"b","change":{"actions":["remove"]}},{"address":"a.a","mode":"managed","type":"a","name":"a","change":{"actions":["create"]}} => change 1 is malformed
+{"address":"a.a","mode":"managed","type":"a","name":"a","change":{"actions":["create"]}},{"address":"a.a","mode":"x","type":"a","name":"a","change":{"actions":["create"]}} => change 1 is malformed
+{"address":"a.a","mode":"managed","type":"a","name":"a","change":{"actions":["create"]}},{"address":"a.a","mode":"managed","type":"a","name":"a","change":{"actions":[]}} => change 1 has an action list that is out of scope
+{"address":"a.a","mode":"managed","type":"a","name":"a","change":{"actions":["create"]}},{"address":"a.a","module_address":"b","mode":"managed","type":"a","name":"a","change":{"actions":["create"]}} => change 1 has an address that does not fit its module
+{"address":"a.a","mode":"managed","type":"a","name":"a","change":{"actions":["create"]}},{"address":"a.a","mode":"managed","type":"a","name":"a","change":{"actions":["create"]}} => change 1 repeats an earlier change
+{"address":"a.b","mode":"x","type":"a","name":"b","change":{"actions":["remove"]}} => change 0 is malformed
+
+{"format_version":"1.2","resource_changes":[CELL]}
+:
+{"address":"a.b","mode":"managed","type":"a","name":"b","change":{"actions":["delete"]}},{"address":"a.b","deposed":"00000001","mode":"managed","type":"a","name":"b","change":{"actions":["delete"]}},{"address":"a.b","deposed":"00000002","mode":"managed","type":"a","name":"b","change":{"actions":["delete"]}} => accepted
+{"address":"a.b","deposed":"00000001","mode":"managed","type":"a","name":"b","change":{"actions":["delete"]}},{"address":"a.b","deposed":"00000002","mode":"managed","type":"a","name":"b","change":{"actions":["delete"]}},{"address":"a.b","mode":"managed","type":"a","name":"b","change":{"actions":["delete"]}} => accepted
+{"address":"a.b","mode":"managed","type":"a","name":"b","change":{"actions":["delete"]}},{"address":"a.b","deposed":"00000001","mode":"managed","type":"a","name":"b","change":{"actions":["delete"]}},{"address":"a.b","mode":"managed","type":"a","name":"b","change":{"actions":["delete"]}} => change 2 repeats an earlier change
+{"address":"a.b","mode":"managed","type":"a","name":"b","change":{"actions":["delete"]}},{"address":"a.b","mode":"managed","type":"a","name":"b","change":{"actions":["delete"]}},{"address":"a.b","deposed":"00000001","mode":"managed","type":"a","name":"b","change":{"actions":["delete"]}} => change 1 repeats an earlier change
+{"address":"a.b","deposed":"00000001","mode":"managed","type":"a","name":"b","change":{"actions":["delete"]}},{"address":"a.b","mode":"managed","type":"a","name":"b","change":{"actions":["delete"]}},{"address":"a.b","deposed":"00000001","mode":"managed","type":"a","name":"b","change":{"actions":["delete"]}} => change 2 repeats an earlier change
+{"address":"a.b","mode":"managed","type":"a","name":"b","change":{"actions":["delete"]}},{"address":"a.b","deposed":"00000001","mode":"managed","type":"a","name":"b","change":{"actions":["delete"]}},{"address":"a.b","deposed":"","mode":"managed","type":"a","name":"b","change":{"actions":["delete"]}} => change 2 repeats an earlier change
+
+{"format_version":"1.2","terraform_version":"1.9.0","resource_changes":[{"address":"module.a[\"x.y\"].aws_instance.web[\"k\\\"1\"]",CELL,"mode":"managed","type":"aws_instance","name":"web","index":"k\"1","change":{"actions":["create"]}}]}
+:
+"module_address":"module.b" => change 0 has an address that does not fit its module
+
+{"format_version":"1.2","terraform_version":"1.9.0","resource_changes":[{"address":"module.a[\"x.y\"].CELL,"module_address":"module.a[\"x.y\"]","mode":"managed","type":"aws_instance","name":"web","index":"k\"1","change":{"actions":["create"]}}]}
+:
+" => change 0 has an address that does not fit its module
+
+CELL
+:
+{"other":{"resource_changes":5},"format_version":"1.0"} => accepted
+{"format_version":5,"format_version":"1.0"} => accepted
+{"format_version":"1.0","resource_changes":[5],"resource_changes":[]} => accepted
+{"format_version":"1.0","resource_changes":[],"resource_changes":[5]} => change 0 is malformed
+{"format_version":"1.0","resource_changes":[5],"resource_changes":null} => accepted
+{"format_version":"1.0","resource_changes":[5],"resource_changes":{}} => the plan is not a plan of format 1.x
+{"format_version":"1.0","resource_changes":[],"format_version":"2.0"} => the plan is not a plan of format 1.x
+{"z":1,"format_version":"1.0","a":[2],"terraform_version":"1","m":{},"a":3} => accepted
+{"format\u005fversion":"1.0"} => accepted
+{"":0,"format_version":"1.0","":[{"":0},{"":0}]} => accepted
+{"format_version":"1.0","Terraform_version":5} => accepted
+{"format_version":"1.0","terraform_version":{"format_version":"1.0"}} => the plan is not a plan of format 1.x
+{"format_version":{"format_version":"1.0"}} => the plan is not a plan of format 1.x
+{"change":{"actions":5},"id":{},"format_version":"1.0"} => accepted
+
+{"format_version":"1.0",CELL}
+:
+"resource_changes":[{"address":"a.b","mode":"managed","type":"a","name":"b","change":{"actions":["create"]}}],"resource_changes":[{"address":"a.b","mode":"managed","type":"a","name":"b","change":{"actions":["create"]}}] => accepted
+"resource_changes":[{"address":"a.b","mode":"managed","type":"a","name":"b","change":{"actions":["create"]}},{"address":"a.b","mode":"managed","type":"a","name":"b","change":{"actions":["create"]}}],"resource_changes":[{"address":"a.b","mode":"managed","type":"a","name":"b","change":{"actions":["create"]}}] => accepted
+"resource_changes":[{"address":"a.b","mode":"managed","type":"a","name":"b","change":{"actions":["create"]}}],"resource_changes":[{"address":"a.b","mode":"managed","type":"a","name":"b","change":{"actions":["create"]}},{"address":"a.b","mode":"managed","type":"a","name":"b","change":{"actions":["create"]}}] => change 1 repeats an earlier change
+"resource_changes":[{"address":"a.b","mode":"managed","type":"a","name":"b","change":{"actions":["create"]}},5],"resource_changes":[5] => change 0 is malformed
+"resource_changes":[{"address":"a.b","mode":"managed","type":"a","name":"b","change":{"actions":["create"]}}],"resource_changes":null => accepted
+
+{"other":[CELL],"format_version":"1.0"}
+{"format_version":"1.0","other":CELL}
+:
+1e400 => the plan is not JSON
+[0,1e400] => the plan is not JSON
+{"a":-1e400} => the plan is not JSON
+[1 2] => the plan is not JSON
+[1,] => the plan is not JSON
+{"a":1,} => the plan is not JSON
+{"a" 1} => the plan is not JSON
+{"a"} => the plan is not JSON
+[1} => the plan is not JSON
+{"a":1] => the plan is not JSON
+01 => the plan is not JSON
+tru => the plan is not JSON
+"\x" => the plan is not JSON
+"\ud800" => the plan is not JSON
+[[[{"a":[nul]}]]] => the plan is not JSON
+-0 => accepted
+1e-400 => accepted
+"\ud83d\ude00" => accepted
+{"a":{"a":{"a":[[],{},""]}}} => accepted
+
+{"format_version":"1.0","terraform_version":[CELL]}
+:
+1e400 => the plan is not JSON
+[0,1e400] => the plan is not JSON
+{"a":-1e400} => the plan is not JSON
+[1 2] => the plan is not JSON
+[1,] => the plan is not JSON
+{"a":1,} => the plan is not JSON
+{"a" 1} => the plan is not JSON
+{"a"} => the plan is not JSON
+[1} => the plan is not JSON
+{"a":1] => the plan is not JSON
+01 => the plan is not JSON
+tru => the plan is not JSON
+"\x" => the plan is not JSON
+"\ud800" => the plan is not JSON
+[[[{"a":[nul]}]]] => the plan is not JSON
+-0 => the plan is not a plan of format 1.x
+1e-400 => the plan is not a plan of format 1.x
+"\ud83d\ude00" => the plan is not a plan of format 1.x
+{"a":{"a":{"a":[[],{},""]}}} => the plan is not a plan of format 1.x
+
+{"format_version":"1.2","terraform_version":"1.9.0","resource_changes":[{"address":"null_resource.a","mode":"managed","type":"null_resource","name":"a","change":{"actions":CELL}}]}
+:
+["create"] => accepted
+["delete","create"] => accepted
+["delete","create","create"] => change 0 has an action list that is out of scope
+["delete","create",5,{"a":[]}] => change 0 has an action list that is out of scope
+["delete","create",5,"x","x","x"] => change 0 has an action list that is out of scope
+["delete","create",5,"x","x",1e400] => the plan is not JSON
+["delete","create",5,["x",]] => the plan is not JSON
+[["create"]] => change 0 has an action list that is out of scope
+[{"create":"create"}] => change 0 has an action list that is out of scope
+
+{"format_version":"1.2","terraform_version":"1.9.0","resource_changes":[{"address":"null_resource.a","mode":"managed","type":"null_resource","name":"a","change":CELL}]}
+:
+{"actions":["create"],"before":{"id":{"id":"a"},"name":[]}} => accepted
+{"actions":["create"],"before":{"tags":{"id":1e400}}} => the plan is not JSON
+{"before":{"id":"a","id":"b"},"actions":5,"before_sensitive":{"id":[true],"tags":true},"actions":["create"]} => accepted
+{"actions":["create"],"after":{"id":[0,0,0]},"before":[{"id":"a"}],"before_sensitive":[true]} => accepted
+{"after":["create"],"before":{"actions":["create"]}} => change 0 is malformed
+
+{"format_version":"1.0","other":CELL}
+:
+[[[[[[[[[[[[[[[[[[[[[[[[[[[[[[[[[[[[[[[[[[[[[[[[[[[[[[[[[[[[[[[[[[[[[[[[[[[[[[[[[[[[[[[[[[[[[[[[[[[[]]]]]]]]]]]]]]]]]]]]]]]]]]]]]]]]]]]]]]]]]]]]]]]]]]]]]]]]]]]]]]]]]]]]]]]]]]]]]]]]]]]]]]]]]]]]]]]]]]]] => accepted
+[[[[[[[[[[[[[[[[[[[[[[[[[[[[[[[[[[[[[[[[[[[[[[[[[[[[[[[[[[[[[[[[[[[[[[[[[[[[[[[[[[[[[[[[[[[[[[[[[[[[[[[[[[[[[[[[[[[[[[[[[[[[[[]]]]]]]]]]]]]]]]]]]]]]]]]]]]]]]]]]]]]]]]]]]]]]]]]]]]]]]]]]]]]]]]]]]]]]]]]]]]]]]]]]]]]]]]]]]]]]]]]]]]]]]]]]]]]]]]]]]]]]]]]]]]]] => accepted
+[[[[[[[[[[[[[[[[[[[[[[[[[[[[[[[[[[[[[[[[[[[[[[[[[[[[[[[[[[[[[[[[[[[[[[[[[[[[[[[[[[[[[[[[[[[[[[[[[[[[[[[[[[[[[[[[[[[[[[[[[[[[[[[]]]]]]]]]]]]]]]]]]]]]]]]]]]]]]]]]]]]]]]]]]]]]]]]]]]]]]]]]]]]]]]]]]]]]]]]]]]]]]]]]]]]]]]]]]]]]]]]]]]]]]]]]]]]]]]]]]]]]]]]]]]]]]] => the plan is not JSON
+[[[[[[[[[[[[[[[[[[[[[[[[[[[[[[[[[[[[[[[[[[[[[[[[[[[[[[[[[[[[[[[[[[[[[[[[[[[[[[[[[[[[[[[[[[[[[[[[[[[[[[[[[[[[[[[[[[[[[[[[[[[[[[[[[[[[[[[[[[[[[[[[[[[[[[[[[[[[[[[[[[[[[[[[[[[[[[[[[[[[[[[[[[[[[[[[[[[[[[[[]]]]]]]]]]]]]]]]]]]]]]]]]]]]]]]]]]]]]]]]]]]]]]]]]]]]]]]]]]]]]]]]]]]]]]]]]]]]]]]]]]]]]]]]]]]]]]]]]]]]]]]]]]]]]]]]]]]]]]]]]]]]]]]]]]]]]]]]]]]]]]]]]]]]]]]]]]]]]]]]]]]]]]]]]]]]]]]]]]]]]]]]]]]]]]]]]]]]]]]] => the plan is not JSON"#;
 
 #[test]
-fn refused_plans(rt: HostRuntime) {
-    plans_are_answered(&rt, rt.alloc(), "CELL", REFUSED);
-}
-
-/// The number of changes, and the version.
-const EMPTY: &str = r#"
-{"format_version":"1.0"} => 0 "0.0.0"
-{"format_version":"1."} => 0 "0.0.0"
-{"format_version":"1.2","terraform_version":null,"resource_changes":null} => 0 "0.0.0"
-{"format_version":"1.2","terraform_version":"","resource_changes":[]} => 0 ""
-{"format_version":"1.2","terraform_version":"1.9.0","errored":true} => 0 "1.9.0"
-{"format_version":"2.0","format_version":"1.0","other":{"a":[null,1.5]}} => 0 "0.0.0"
-"#;
-
-#[test]
-fn an_empty_plan_has_a_version(rt: HostRuntime) {
-    plans_tell(&rt, rt.alloc(), "CELL", "len version", EMPTY);
-}
-
-#[test]
-fn a_plan_that_is_cut_off_is_refused(rt: HostRuntime) {
-    let quoted = QUOTED_PLAN.as_bytes();
-    for end in 0..quoted.len() {
-        plan_is_answered(&rt, rt.alloc(), &quoted[..end], "the plan is not JSON");
+fn plans_are_accepted_or_refused(rt: HostRuntime) {
+    for block in PLANS.split("\n\n") {
+        let (plans, table) = block.split_once("\n:\n").expect(&rt, block);
+        for plan in plans.lines() {
+            plans_are_answered(&rt, rt.alloc(), plan, table);
+        }
     }
 }
 
+/// What stands behind 10,000 numbers in `resource_changes`.
+const BEHIND: &str = r#"
+5 => the plan has more than 10000 changes
+[],{},5 => the plan has more than 10000 changes
+[],{},1e400 => the plan is not JSON
+[],{},[5,] => the plan is not JSON
+5],"resource_changes":[ => accepted
+5],"resource_changes":[5 => change 0 is malformed
+5],"format_version":["2.0" => the plan is not a plan of format 1.x
+"#;
+
 #[test]
-fn bytes_that_are_no_json_are_refused(rt: HostRuntime) {
+fn elements_behind_10001_are_left_out(rt: HostRuntime) {
     let alloc = rt.alloc();
-    let refused = "the plan is not JSON";
-    let more = with_end(&rt, alloc, QUOTED_PLAN, "x");
-    plan_is_answered(&rt, alloc, more.as_bytes(), refused);
-    let line = with_end(&rt, alloc, QUOTED_PLAN, "\n");
-    plan_is_answered(&rt, alloc, line.as_bytes(), "accepted");
-    let no_text = b"{\"format_version\":\"1.\xff\"}";
-    plan_is_answered(&rt, alloc, no_text, refused);
-    let no_number = br#"{"format_version":"1.0","other":1e400}"#;
-    plan_is_answered(&rt, alloc, no_number, refused);
-}
-
-/// Each refusal as `Debug` prints it, and its text.
-const TEXTS: &str = r#"
-TooLarge => the plan is larger than 67108864 bytes
-NotJson => the plan is not JSON
-NotAPlan => the plan is not a plan of format 1.x
-TooMany => the plan has more than 10000 changes
-BadChange(3) => change 3 is malformed
-BadActions(4) => change 4 has an action list that is out of scope
-BadAddress(5) => change 5 has an address that does not fit its module
-Duplicate(6) => change 6 repeats an earlier change
-Memory => out of memory
-"#;
-
-#[test]
-fn refusals_have_their_texts(rt: HostRuntime) {
-    let refusals = [
-        PlanError::TooLarge,
-        PlanError::NotJson,
-        PlanError::NotAPlan,
-        PlanError::TooMany,
-        PlanError::BadChange(3),
-        PlanError::BadActions(4),
-        PlanError::BadAddress(5),
-        PlanError::Duplicate(6),
-        PlanError::Memory,
-    ];
-    for refusal in refusals {
-        is_told(&rt, rt.alloc(), &refusal, TEXTS);
-    }
+    let numbers = repeated(&rt, alloc, "5,", 10_000);
+    let plan = r#"{"format_version":"1.0","resource_changes":[NUMBERSCELL]}"#;
+    let plan = put(&rt, alloc, plan, "NUMBERS", numbers);
+    plans_are_answered(&rt, alloc, plan, BEHIND);
 }

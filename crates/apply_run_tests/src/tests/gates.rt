@@ -92,6 +92,12 @@ fn moments_at<'a>(rt: &impl Abort, text: &'a str, part: &str) -> (&'a str, &'a s
     (parted(rt, rest, r#"",""#).0, moment_of(rt, line))
 }
 
+/// The line's moment.
+fn moment_of<'a>(rt: &impl Abort, line: &'a str) -> &'a str {
+    let (_, rest) = parted(rt, line, r#""@timestamp":""#);
+    parted(rt, rest, r#"",""#).0
+}
+
 /// The seconds of a moment in the first minute of 1970.
 fn seconds_of<'a>(rt: &impl Abort, moment: &'a str) -> &'a str {
     parted(rt, moment, "1970-01-01T00:00:").1

@@ -5,10 +5,6 @@ ghost use Rattle.std.specs.Prelude.{◌<◌, ◌-◌, ◌^◌};
 
 use super::*;
 
-/// A plan with three creates.
-const THREE_CREATES: &str =
-    r#"{"format_version":"1.2","terraform_version":"1.9.0","resource_changes":[{"address":"null_resource.a","mode":"managed","type":"null_resource","name":"a","change":{"actions":["create"]}},{"address":"null_resource.b","mode":"managed","type":"null_resource","name":"b","change":{"actions":["create"]}},{"address":"null_resource.c","mode":"managed","type":"null_resource","name":"c","change":{"actions":["create"]}}]}"#;
-
 /// A plan with four creates.
 pub(super) const FOUR_CREATES: &str =
     r#"{"format_version":"1.2","terraform_version":"1.9.0","resource_changes":[{"address":"null_resource.a","mode":"managed","type":"null_resource","name":"a","change":{"actions":["create"]}},{"address":"null_resource.b","mode":"managed","type":"null_resource","name":"b","change":{"actions":["create"]}},{"address":"null_resource.c","mode":"managed","type":"null_resource","name":"c","change":{"actions":["create"]}},{"address":"null_resource.d","mode":"managed","type":"null_resource","name":"d","change":{"actions":["create"]}}]}"#;
@@ -297,39 +293,4 @@ fn lines_while_workers_run_into_a_slow_sink(rt: HostRuntime) {
 fn as_much_waits_as_there_is_room(rt: HostRuntime) {
     so_many_begin(&rt, rt.alloc(), 2, 2);
     so_many_begin(&rt, rt.alloc(), 3, 3);
-}
-
-/// The second takes 20 seconds and the third 5.
-const THREE_SPANS: &str =
-    r#"{"changes":[{"address":"null_resource.b","steps":[{"seconds":20}]},{"address":"null_resource.c","steps":[{"seconds":5}]}]}"#;
-
-/// What is written of both, where one worker applies them.
-const THREE_STREAM: &str =
-    r#"{"@level":"info","@message":"Terraform 1.9.0","@module":"terraform.ui","@timestamp":"1970-01-01T00:00:00Z","terraform":"1.9.0","type":"version","ui":"1.0"}
-{"@level":"info","@message":"null_resource.a: Creating...","@module":"terraform.ui","@timestamp":"1970-01-01T00:00:00Z","hook":{"action":"create","resource":{"addr":"null_resource.a","implied_provider":"null","module":"","resource":"null_resource.a","resource_key":null,"resource_name":"a","resource_type":"null_resource"}},"type":"apply_start"}
-{"@level":"info","@message":"null_resource.a: Creation complete after 0s","@module":"terraform.ui","@timestamp":"1970-01-01T00:00:00Z","hook":{"action":"create","elapsed_seconds":0,"resource":{"addr":"null_resource.a","implied_provider":"null","module":"","resource":"null_resource.a","resource_key":null,"resource_name":"a","resource_type":"null_resource"}},"type":"apply_complete"}
-{"@level":"info","@message":"null_resource.b: Creating...","@module":"terraform.ui","@timestamp":"1970-01-01T00:00:00Z","hook":{"action":"create","resource":{"addr":"null_resource.b","implied_provider":"null","module":"","resource":"null_resource.b","resource_key":null,"resource_name":"b","resource_type":"null_resource"}},"type":"apply_start"}
-{"@level":"info","@message":"null_resource.b: Still creating... [10s elapsed]","@module":"terraform.ui","@timestamp":"1970-01-01T00:00:10Z","hook":{"action":"create","elapsed_seconds":10,"resource":{"addr":"null_resource.b","implied_provider":"null","module":"","resource":"null_resource.b","resource_key":null,"resource_name":"b","resource_type":"null_resource"}},"type":"apply_progress"}
-{"@level":"info","@message":"null_resource.b: Creation complete after 20s","@module":"terraform.ui","@timestamp":"1970-01-01T00:00:20Z","hook":{"action":"create","elapsed_seconds":20,"resource":{"addr":"null_resource.b","implied_provider":"null","module":"","resource":"null_resource.b","resource_key":null,"resource_name":"b","resource_type":"null_resource"}},"type":"apply_complete"}
-{"@level":"info","@message":"null_resource.c: Creating...","@module":"terraform.ui","@timestamp":"1970-01-01T00:00:20Z","hook":{"action":"create","resource":{"addr":"null_resource.c","implied_provider":"null","module":"","resource":"null_resource.c","resource_key":null,"resource_name":"c","resource_type":"null_resource"}},"type":"apply_start"}
-{"@level":"info","@message":"null_resource.c: Creation complete after 5s","@module":"terraform.ui","@timestamp":"1970-01-01T00:00:25Z","hook":{"action":"create","elapsed_seconds":5,"resource":{"addr":"null_resource.c","implied_provider":"null","module":"","resource":"null_resource.c","resource_key":null,"resource_name":"c","resource_type":"null_resource"}},"type":"apply_complete"}
-{"@level":"info","@message":"Apply complete! Resources: 3 added, 0 changed, 0 destroyed.","@module":"terraform.ui","@timestamp":"1970-01-01T00:00:25Z","changes":{"add":3,"change":0,"operation":"apply","remove":0},"type":"change_summary"}"#;
-
-#[test]
-fn eight_workers_capacity_one(rt: HostRuntime) {
-    let (sink, report) = apply_plan(
-        &rt,
-        rt.alloc(),
-        THREE_CREATES,
-        THREE_SPANS,
-        options(8, 1),
-        memory(rt.alloc()),
-        &NoGate,
-    );
-    let text = text_of(&rt, sink);
-    lines_are_of_changes(&rt, text, THREE_STREAM);
-    moments_never_go_back(&rt, text);
-    let last = text.lines().last().unwrap_or("");
-    not_before(&rt, last, "1970-01-01T00:00:20Z");
-    counts_are(&rt, report.counts, counts(3, 0, 0, 0));
 }
