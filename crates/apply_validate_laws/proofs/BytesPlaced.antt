@@ -23,7 +23,7 @@ use Rattle.apply_validate.specs.Whole.{plan_findings, script_findings}
 use Rattle.apply_validate_laws.specs.Paths.{ArePlaced, IsPlaced, LeadsTo, value_at, values_in}
 use Rattle.apply_validate_laws.specs.Unread.{IsRead, IsUnread}
 use Rattle.apply_validate_laws.proofs.Marks.{leads}
-use Rattle.apply_validate_laws.proofs.Placing.{AreRight, IsRight, Right, both}
+use Rattle.apply_validate_laws.proofs.Placing.{AreRight, Right, both}
 use Rattle.apply_validate_laws.proofs.PlansPlaced.{plan_right}
 use Rattle.apply_validate_laws.proofs.ScriptsPlaced.{script_right}
 

@@ -1,14 +1,13 @@
 -- What is tested of a value stands in its place: where a test holds, there is the member at which it is told.
-use Rattle.std.proofs.Common.{◌≡◌, ℕ, ◌<◌, List, [], ◌∷◌, length, Bool, true, false, ◌&&◌, is_some, Option, Some, None, unwrap_or, if◌then◌else◌, refl, sym, ap, ◌∙◌, arith}
+use Rattle.std.proofs.Common.{◌≡◌, ℕ, ◌<◌, List, [], ◌∷◌, length, Bool, true, false, is_some, Option, Some, None, if◌then◌else◌, refl, arith}
 use Rattle.std.specs.Prelude.{nat_lt}
 use Rattle.std.specs.List.{AllByRecursion}
 use Rattle.std.specs.Option.{option_and_then, option_map_or}
-use Rattle.std.proofs.lemmas.Bool.{and_parts, ltb-true}
+use Rattle.std.proofs.lemmas.Bool.{ltb-true}
 use Rattle.serde_json.specs.Data.{Data}
 use Rattle.serde_json.specs.Find.{as_number, as_str, as_u64, get}
 use Rattle.apply_json.specs.Seen.{items_in}
 use Rattle.apply_json.specs.Tree.{◌>>=◌, list_of, non_empty_text_of, text_of, unless_empty, unless_null}
-use Rattle.apply_validate.specs.declared.findings.finding.Finding.{Finding}
 use Rattle.apply_validate.specs.declared.findings.name.Name.{Name}
 use Rattle.apply_validate.specs.declared.findings.part.Part.{Part}
 use Rattle.apply_validate.specs.declared.findings.part.Part.TheVariants.{Member}
@@ -19,7 +18,7 @@ use Rattle.apply_validate.specs.Names.{name_text}
 use Rattle.apply_validate.specs.ScriptFindings.{is_over, whole_at}
 use Rattle.apply_validate.specs.Walks.{found_by, items_at, marked, member_at, place_of}
 use Rattle.apply_validate_laws.specs.Paths.{value_at}
-use Rattle.apply_validate_laws.proofs.Placing.{AreRight, Right, both}
+use Rattle.apply_validate_laws.proofs.Placing.{AreRight, Right, Share, both}
 
 -- it is neither that something is missing nor a warning
 abbrev pub is_plain : What → Bool
@@ -56,6 +55,9 @@ mark_right R d true (Some n) what p h = (plain_right R what d (Member n ∷ []) 
 pub marks_right : (R : List Part → List Name → Type 0) (d : Data) (marks : List Mark) → AllByRecursion (HasPlace d) marks → AreRight R d (marked marks)
 marks_right R d [] h = tt
 marks_right R d (mark ∷ marks) h = both R d (found_by mark) (marked marks) (mark_right R d mark.holds mark.at mark.what h.0.0 h.0.1) (marks_right R d marks h.1)
+
+abbrev pub of_marks : (R : List Part → List Name → Type 0) (d : Data) (marks : List Mark) → AllByRecursion (HasPlace d) marks → Share R d
+of_marks R d marks h = (marked marks, λ o. marks_right R d marks h)
 
 -- ---- members that are there
 

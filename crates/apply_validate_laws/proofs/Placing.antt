@@ -1,5 +1,5 @@
 -- What the walks over values of any shape find stands in its place, and its warnings are of members that nobody reads.
-use Rattle.std.proofs.Common.{◌≡◌, ℕ, zero, suc, ◌+◌, ◌<◌, List, [], ◌∷◌, ◌++◌, length, map, Bool, true, false, is_some, slice_get, Option, Some, None, if◌then◌else◌, refl, sym, ap, subst, ◌∙◌, arith, length-append}
+use Rattle.std.proofs.Common.{◌≡◌, ℕ, zero, suc, ◌+◌, ◌<◌, List, [], ◌∷◌, ◌++◌, length, map, Bool, true, false, is_some, slice_get, Option, Some, None, if◌then◌else◌, refl, ap, subst, ◌∙◌, arith, length-append}
 use Rattle.std.specs.List.{AllByRecursion}
 use Rattle.std.specs.Option.{option_map_or}
 use Rattle.serde_json.specs.Data.{Data, null, boolean, number, string, array, object, Members}
@@ -43,11 +43,14 @@ pub both : (R : List Part → List Name → Type 0) (d : Data) (xs ys : List Fin
 both R d [] ys a b = b
 both R d (x ∷ xs) ys a b = (a.0, both R d xs ys a.1 b)
 
--- several parts, each with its proof
-pub joined_right : (R : List Part → List Name → Type 0) (d : Data) (all : List Finding) → AreRight R d all → (parts : List ((found : List Finding) × AreRight R d found))
-    → AreRight R d (joined all (map (λ (part : (found : List Finding) × AreRight R d found). part.0) parts))
-joined_right R d all right [] = right
-joined_right R d all right (part ∷ parts) = joined_right R d (all ++ part.0) (both R d all part.0 right part.1) parts
+-- some findings in an object, with the proof that they are right
+abbrev pub Share : (List Part → List Name → Type 0) → Data → Type 0
+Share R d = (found : List Finding) × (is_some (as_object d) ≡ true → AreRight R d found)
+
+pub joined_right : (R : List Part → List Name → Type 0) (d : Data) → is_some (as_object d) ≡ true → (all : List Finding) → AreRight R d all → (parts : List (Share R d))
+    → AreRight R d (joined all (map (λ (part : Share R d). part.0) parts))
+joined_right R d o all right [] = right
+joined_right R d o all right (part ∷ parts) = joined_right R d o (all ++ part.0) (both R d all part.0 right (part.1 o)) parts
 
 one_under : (R : List Part → List Name → Type 0) (part : Part) (d e : Data) → value_by part d ≡ Some e → (what : What) (path : List Part)
     → Right (below part R) what e path → Right R what d (part ∷ path)
@@ -85,9 +88,12 @@ by_test : (R : List Part → List Name → Type 0) (d : Data) (b : Bool) (xs : L
 by_test R d true xs y h own = h refl
 by_test R d false xs y h own = (own, tt)
 
-pub where_right : (R : List Part → List Name → Type 0) (wanted : Want) (d : Data) (xs : List Finding) → (suits wanted d ≡ true → AreRight R d xs)
-    → AreRight R d (where_suits wanted d xs)
-where_right R wanted d xs h = by_test R d (suits wanted d) xs (finding_here (IsNot wanted)) h refl
+-- the parts of what is found in a value that has to be an object
+pub where_right : (R : List Part → List Name → Type 0) (wanted : Want) (d : Data) → (suits wanted d ≡ true → is_some (as_object d) ≡ true) → (first : Share R d) (parts : List (Share R d))
+    → AreRight R d (where_suits wanted d (joined first.0 (map (λ (part : Share R d). part.0) parts)))
+where_right R wanted d fits first parts =
+    by_test R d (suits wanted d) (joined first.0 (map (λ (part : Share R d). part.0) parts)) (finding_here (IsNot wanted))
+    (λ e. joined_right R d (fits e) first.0 (first.1 (fits e)) parts) refl
 
 pub unless_right : (R : List Part → List Name → Type 0) (wanted : Want) (d : Data) → AreRight R d (unless_suits wanted d)
 unless_right R wanted d = by_test R d (suits wanted d) [] (finding_here (IsNot wanted)) (λ e. tt) refl
@@ -96,9 +102,11 @@ only_where : (R : List Part → List Name → Type 0) (d : Data) (b : Bool) (xs 
 only_where R d true xs h = h refl
 only_where R d false xs h = tt
 
-pub object_right : (R : List Part → List Name → Type 0) (d : Data) (xs : List Finding) → (is_some (as_object d) ≡ true → AreRight R d xs)
-    → AreRight R d (if is_some (as_object d) then xs else [])
-object_right R d xs h = only_where R d (is_some (as_object d)) xs h
+-- the same of a value that may be another
+pub object_right : (R : List Part → List Name → Type 0) (d : Data) (first : Share R d) (parts : List (Share R d))
+    → AreRight R d (if is_some (as_object d) then joined first.0 (map (λ (part : Share R d). part.0) parts) else [])
+object_right R d first parts =
+    only_where R d (is_some (as_object d)) (joined first.0 (map (λ (part : Share R d). part.0) parts)) (λ o. joined_right R d o first.0 (first.1 o) parts)
 
 -- ---- members
 
@@ -242,3 +250,21 @@ unread_by R names d r n (text ∷ texts) there =
 
 pub unread_right : (R : List Part → List Name → Type 0) (names : List Name) (d : Data) → R [] names → AreRight R d (unread names d)
 unread_right R names d r = unread_by R names d r 0 (texts_in (members_in d)) (whole_there (texts_in (members_in d)))
+
+-- ---- shares of what is found in an object
+
+abbrev pub of_table : (R : List Part → List Name → Type 0) (table : List Known) (d : Data) → Share R d
+of_table R table d = (faults_of table d, faults_right R table d)
+
+abbrev pub of_member : (R : List Part → List Name → Type 0) (known : Known) (d : Data) → Share R d
+of_member R known d = (fault_of d known, fault_right R known d)
+
+abbrev pub within_member : (R : List Part → List Name → Type 0) (found : Data → List Finding) (n : Name) (d : Data) → ((e : Data) → AreRight (below (Member n) R) e (found e)) → Share R d
+within_member R found n d h = (inside found n d, λ o. inside_right R found n d h)
+
+abbrev pub within_list : (R : List Part → List Name → Type 0) (found : ℕ → Data → List Finding) (known : Known) (d : Data)
+    → ((m : ℕ) (e : Data) → AreRight (below (Item m) (below (Member known.name) R)) e (found m e)) → Share R d
+within_list R found known d h = (in_list found known d, λ o. list_right R found known d o h)
+
+abbrev pub of_unread : (R : List Part → List Name → Type 0) (names : List Name) (d : Data) → R [] names → Share R d
+of_unread R names d r = (unread names d, λ o. unread_right R names d r)

@@ -1,14 +1,14 @@
 -- What is found in a plan stands in its place, and none of it is a warning.
-use Rattle.std.proofs.Common.{◌≡◌, ℕ, List, [], ◌∷◌, ◌++◌, length, map, Bool, true, false, not, ◌&&◌, is_some, Option, Some, None, if◌then◌else◌, refl}
+use Rattle.std.proofs.Common.{◌≡◌, ℕ, List, [], ◌∷◌, length, map, Bool, true, false, not, is_some, Option, Some, None, if◌then◌else◌, refl}
 use Rattle.std.specs.Prelude.{nat_lt}
+use Rattle.std.specs.List.{AllByRecursion}
 use Rattle.std.specs.Option.{option_and_then, option_map_or}
 use Rattle.std.proofs.lemmas.Bool.{and_parts}
 use Rattle.serde_json.specs.Data.{Data}
-use Rattle.serde_json.specs.Find.{as_array, as_object, get}
+use Rattle.serde_json.specs.Find.{as_array, get}
 use Rattle.apply_json.specs.Seen.{items_in}
 use Rattle.apply_json.specs.Tree.{list_of, text_of, text_or}
 use Rattle.apply_model.specs.Plan.SavedPlan.{max_changes}
-use Rattle.apply_validate.specs.declared.findings.finding.Finding.{Finding}
 use Rattle.apply_validate.specs.declared.findings.name.Name.{Name}
 use Rattle.apply_validate.specs.declared.findings.name.Name.TheVariants as name
 use Rattle.apply_validate.specs.declared.findings.part.Part.{Part}
@@ -17,11 +17,10 @@ use Rattle.apply_validate.specs.declared.findings.want.Want.TheVariants as want
 use Rattle.apply_validate.specs.declared.findings.what.What.TheVariants as what
 use Rattle.apply_validate.specs.Findings.{finding_at, under}
 use Rattle.apply_validate.specs.Names.{name_text}
-use Rattle.apply_validate.specs.PlanFindings.{actions_mark, address_marks, by_itself, element_table, first_named, has_empty_address, header_table, in_change, in_element, in_elements, in_plan, is_misplaced, is_one_of_eight, misplaces, name_of, named_again}
-use Rattle.apply_validate.specs.Walks.{faults_of, inside, items_at, items_behind, known, marked, member_at, where_suits}
-use Rattle.apply_validate_laws.proofs.Joined.{joined}
-use Rattle.apply_validate_laws.proofs.Marks.{holding_some, marks_right, member_leads, then_some, there, there_items, there_text}
-use Rattle.apply_validate_laws.proofs.Placing.{AreRight, behind_right, below, both, faults_right, inside_right, joined_right, listed_right, object_right, where_right, whole_there}
+use Rattle.apply_validate.specs.PlanFindings.{actions_mark, address_marks, element_table, first_named, has_empty_address, header_table, in_change, in_element, in_elements, in_plan, is_misplaced, is_one_of_eight, misplaces, name_of, named_again}
+use Rattle.apply_validate.specs.Walks.{items_at, items_behind, known, member_at}
+use Rattle.apply_validate_laws.proofs.Marks.{HasPlace, holding_some, member_leads, of_marks, then_some, there, there_items, there_text}
+use Rattle.apply_validate_laws.proofs.Placing.{AreRight, behind_right, below, listed_right, object_right, of_table, where_right, whole_there, within_member}
 
 misplaced_text : (address module_address : Option (List ℕ)) → is_misplaced address module_address ≡ true → is_some address ≡ true
 misplaced_text None module_address e = absurd cc
@@ -37,34 +36,26 @@ actions_there d e =
 
 change_right : (R : List Part → List Name → Type 0) (d : Data) → AreRight R d (in_change d)
 unfolding in_change
-change_right R d =
-    let actions : List Finding = faults_of (known name.Actions want.Array ∷ []) d in
-    let marks : List Finding = marked (actions_mark d ∷ []) in
-    object_right R d (actions ++ marks) (λ o.
-    both R d actions marks (faults_right R (known name.Actions want.Array ∷ []) d o) (marks_right R d (actions_mark d ∷ []) ((refl, actions_there d), tt)))
+change_right R d = object_right R d (of_table R (known name.Actions want.Array ∷ []) d) (of_marks R d (actions_mark d ∷ []) ((refl, actions_there d), tt) ∷ [])
 
 again_right : (R : List Part → List Name → Type 0) (d : Data) (o : Option ℕ) → AreRight R d (named_again o)
 again_right R d None = tt
 again_right R d (Some n) = (refl, tt)
 
+address_places : (d : Data) → AllByRecursion (HasPlace d) (address_marks d)
+address_places d = (
+  (refl, λ h. misplaced d (and_parts (misplaces d) (has_empty_address d) h).0),
+  ((refl, λ h. misplaced d (and_parts (misplaces d) (not (has_empty_address d)) h).0), tt),
+)
+
 element_right : (R : List Part → List Name → Type 0) (before : List Data) (d : Data) → AreRight R d (in_element before d)
 element_right R before d =
-    let members : List Finding = faults_of element_table d in
-    let change : List Finding = inside in_change name.Change d in
-    let marks : List Finding = marked (address_marks d) in
     let again : Option ℕ = first_named (map name_of before) (name_of d) in
-    where_right R want.Object d (by_itself d ++ named_again again) (λ o.
-    joined_right R d members (faults_right R element_table d o)
-    ((change, inside_right R in_change name.Change d (change_right (below (Member name.Change) R)))
-    ∷ (
-      marks,
-      marks_right R d (address_marks d) (
-        (refl, λ h. misplaced d (and_parts (misplaces d) (has_empty_address d) h).0),
-        ((refl, λ h. misplaced d (and_parts (misplaces d) (not (has_empty_address d)) h).0), tt),
-      ),
-    )
-    ∷ (named_again again, again_right R d again)
-    ∷ []))
+    where_right R want.Object d (λ o. o) (of_table R element_table d)
+    (within_member R in_change name.Change d (change_right (below (Member name.Change) R))
+    ∷ of_marks R d (address_marks d) (address_places d)
+    ∷ (named_again again, λ o. again_right R d again)
+    ∷ [])
 
 elements_by : (R : List Part → List Name → Type 0) (d : Data) (b : Bool) → nat_lt max_changes (length (items_at name.ResourceChanges d)) ≡ b
     → AreRight R d (if b then finding_at (Member name.ResourceChanges) what.TooManyChanges ∷ [] else map (under (Member name.ResourceChanges)) (items_behind in_element [] (items_at name.ResourceChanges d)))
@@ -77,7 +68,5 @@ elements_by R d false e =
 pub plan_right : (R : List Part → List Name → Type 0) (d : Data) → AreRight R d (in_plan d)
 unfolding in_plan
 plan_right R d =
-    let header : List Finding = faults_of header_table d in
-    let elements : List Finding = in_elements (items_at name.ResourceChanges d) in
-    where_right R want.Plan d (header ++ elements) (λ o.
-    both R d header elements (faults_right R header_table d o) (elements_by R d (nat_lt max_changes (length (items_at name.ResourceChanges d))) refl))
+    where_right R want.Plan d (λ o. o) (of_table R header_table d)
+    ((in_elements (items_at name.ResourceChanges d), λ o. elements_by R d (nat_lt max_changes (length (items_at name.ResourceChanges d))) refl) ∷ [])

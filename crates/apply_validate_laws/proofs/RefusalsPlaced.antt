@@ -1,7 +1,7 @@
 -- What a run refuses a script for beside the plan is told in its place.
-use Rattle.std.proofs.Common.{◌≡◌, ℕ, suc, ◌+◌, ◌<◌, List, [], ◌∷◌, ◌++◌, length, map, take, Bool, true, false, cond, not, ◌&&◌, is_ok, is_some, slice_get, Option, Some, None, Result, Ok, Err, unwrap_or, if◌then◌else◌, refl, sym, ap, subst, ◌∙◌, arith}
+use Rattle.std.proofs.Common.{◌≡◌, ℕ, suc, ◌+◌, ◌<◌, List, [], ◌∷◌, length, map, take, Bool, true, false, cond, not, ◌&&◌, is_ok, is_some, slice_get, Option, Some, None, Result, Ok, Err, unwrap_or, if◌then◌else◌, refl, sym, ap, subst, ◌∙◌, arith}
 use Rattle.std.specs.Prelude.{codes, nat_lt}
-use Rattle.std.specs.List.{enumerate_from, list_all, list_any, position_from}
+use Rattle.std.specs.List.{enumerate_from, list_all, position_from}
 use Rattle.std.specs.Option.{option_and_then, option_map, option_map_or}
 use Rattle.std.proofs.lemmas.Bool.{and_from, and_parts}
 use Rattle.std.proofs.lemmas.List.{length-map}
@@ -9,7 +9,6 @@ use Rattle.std.proofs.lemmas.List.FromFn.{length-enumerate_from}
 use Rattle.std.proofs.lemmas.Option.{slice_get_within}
 use Rattle.serde_json.specs.Data.{Data, Items}
 use Rattle.apply_json.specs.Keeping.{keeping_tree_of}
-use Rattle.apply_json.specs.Seen.{items_in}
 use Rattle.apply_json.specs.Tree.{list_of, member_of, tree_of}
 use Rattle.apply_model.specs.Plan.SavedPlan.{SavedPlan}
 use Rattle.apply_model.specs.Script.OutcomeMap.{OutcomeMap}
@@ -17,7 +16,7 @@ use Rattle.apply_model.specs.Script.Waits.{has_waits}
 use Rattle.apply_plan.specs.Bytes.{max_bytes}
 use Rattle.apply_plan.specs.declared.plan.plan_error.PlanError.{PlanError}
 use Rattle.apply_plan.specs.declared.script.script_error.ScriptError.{ScriptError}
-use Rattle.apply_plan.specs.declared.script.script_error.ScriptError.TheVariants.{BadShape, NeverBegins, NotJson, TooLarge}
+use Rattle.apply_plan.specs.declared.script.script_error.ScriptError.TheVariants.{NeverBegins}
 use Rattle.apply_plan.specs.Results as results
 use Rattle.apply_plan.specs.Results.{all_or_first, each_with_earlier, or_refuse, unless_refused}
 use Rattle.apply_plan.specs.Script.Entry.{is_kept}
@@ -29,12 +28,11 @@ use Rattle.apply_validate.specs.declared.findings.part.Part.{Part}
 use Rattle.apply_validate.specs.declared.findings.part.Part.TheVariants.{Item, Member}
 use Rattle.apply_validate.specs.declared.findings.what.What.TheVariants as what
 use Rattle.apply_validate.specs.Beside.{first_waiting, has_waiting, is_waiting, path_to, place_of_waits, step_waiting, waits_in}
-use Rattle.apply_validate.specs.Findings.{finding_at, finding_here, is_refusal, under}
+use Rattle.apply_validate.specs.Findings.{finding_at, finding_here, under}
 use Rattle.apply_validate.specs.Laws.{has_refusal, is_entry, is_script}
-use Rattle.apply_validate.specs.Names.{name_text}
 use Rattle.apply_validate.specs.ScriptFindings.{is_skipped}
 use Rattle.apply_validate.specs.Walks.{items_at}
-use Rattle.apply_validate.specs.Whole.{beside_plan, entry_of_refusal, given_findings, placed, refusals_of, refused_for, script_findings, unless_waits, waits_at}
+use Rattle.apply_validate.specs.Whole.{beside_plan, entry_of_refusal, given_findings, placed, refusals_of, script_findings, unless_waits, waits_at}
 use Rattle.apply_validate.proofs.Alike.{Alike, both_trees, bytes_alike}
 use Rattle.apply_validate.proofs.Clean.{clean}
 use Rattle.apply_validate.proofs.Members.{count_same}

@@ -1,8 +1,8 @@
 -- What is found in a script stands in its place, and its warnings are of members that nobody reads.
-use Rattle.std.proofs.Common.{◌≡◌, ℕ, suc, ◌-◌, List, [], ◌∷◌, ◌++◌, length, map, Bool, true, false, not, ◌&&◌, ◌||◌, is_some, slice_get, Option, Some, None, unwrap_or, if◌then◌else◌, refl, sym, ap, ◌∙◌, arith}
+use Rattle.std.proofs.Common.{◌≡◌, ℕ, suc, ◌-◌, List, [], ◌∷◌, ◌++◌, length, map, Bool, true, false, not, ◌&&◌, ◌||◌, is_some, slice_get, Option, Some, None, if◌then◌else◌, refl}
 use Rattle.std.specs.Prelude.{codes, nat_le, nat_lt}
 use Rattle.std.specs.List.{AllByRecursion, sum_by}
-use Rattle.std.specs.Option.{option_and_then, option_map_or}
+use Rattle.std.specs.Option.{option_map_or}
 use Rattle.std.proofs.lemmas.Bool.{and_parts, ltb-true}
 use Rattle.serde_json.specs.Data.{Data}
 use Rattle.serde_json.specs.Find.{as_object, as_str, get}
@@ -12,7 +12,7 @@ use Rattle.apply_model.specs.declared.plan.step_kind.StepKind.{StepKind}
 use Rattle.apply_model.specs.declared.plan.step_kind.StepKind.TheVariants.{Read}
 use Rattle.apply_model.specs.Plan.ResourceChange.{ResourceChange}
 use Rattle.apply_model.specs.Plan.StepKind.{is_kind}
-use Rattle.apply_model.specs.Script.Limits.{max_outputs, max_provisioners, max_seconds}
+use Rattle.apply_model.specs.Script.Limits.{max_outputs, max_provisioners}
 use Rattle.apply_plan.specs.Script.Refusals.{takes_provisioners}
 use Rattle.apply_validate.specs.declared.findings.finding.Finding.{Finding}
 use Rattle.apply_validate.specs.declared.findings.name.Name.{Name}
@@ -21,33 +21,25 @@ use Rattle.apply_validate.specs.declared.findings.part.Part.{Part}
 use Rattle.apply_validate.specs.declared.findings.part.Part.TheVariants.{Item, Member}
 use Rattle.apply_validate.specs.declared.findings.want.Want.TheVariants as want
 use Rattle.apply_validate.specs.declared.findings.what.What.TheVariants as what
-use Rattle.apply_validate.specs.declared.walks.mark.Mark.{Mark}
-use Rattle.apply_validate.specs.Beside.{again_mark, beyond_at, beyond_in, change_at, has_address, is_deposed, kind_marks, kind_of, named_first, object_named, only_warns, place_unknown, step_mark, steps_mark, unknown_mark, unknown_marks, waits_beyond, waits_in, waits_in_all, waits_left}
+use Rattle.apply_validate.specs.Beside.{again_mark, beyond_at, beyond_in, change_at, has_address, is_deposed, kind_marks, kind_of, named_first, object_named, only_warns, step_mark, steps_mark, unknown_mark, unknown_marks, waits_beyond, waits_in, waits_in_all, waits_left}
 use Rattle.apply_validate.specs.Findings.{finding_here, under}
 use Rattle.apply_validate.specs.Names.{name_text}
 use Rattle.apply_validate.specs.PlanFindings.{name_read}
-use Rattle.apply_validate.specs.ScriptFindings.{comes_after, diagnostic_names, diagnostic_table, entry_names, entry_table, failure_names, failure_table, growth_of_provisioner, has_failed, in_diagnostic, in_entry, in_entry_behind, in_failure, in_output, in_outputs, in_provisioner, in_script, in_step, in_wait, is_over, is_skipped, output_marks, output_names, output_table, outputs_behind, provisioner_mark, provisioner_names, provisioner_table, script_names, seconds_in_all, skipped_marks, step_marks, step_names, step_table, wait_names, wait_table, whole_at}
-use Rattle.apply_validate.specs.Walks.{fault_of, faults_of, in_items, in_list, inside, items_at, items_behind, known, marked, member_at, unless_suits, unread, where_suits}
+use Rattle.apply_validate.specs.ScriptFindings.{comes_after, diagnostic_names, diagnostic_table, entry_names, entry_table, failure_names, failure_table, growth_of_provisioner, has_failed, in_diagnostic, in_entry, in_entry_behind, in_failure, in_output, in_outputs, in_provisioner, in_script, in_step, in_wait, is_skipped, output_marks, output_names, output_table, outputs_behind, provisioner_mark, provisioner_names, provisioner_table, script_names, skipped_marks, step_marks, step_names, step_table, wait_names, wait_table, whole_at}
+use Rattle.apply_validate.specs.Walks.{fault_of, faults_of, in_items, items_at, items_behind, known, marked, member_at, unless_suits, unread, where_suits}
 use Rattle.apply_validate_laws.specs.Unread.{IsRead, entry, failure, failure_of_provisioner, output, provisioner, step, top, wait, warning}
-use Rattle.apply_validate_laws.proofs.Joined.{joined}
-use Rattle.apply_validate_laws.proofs.Marks.{HasPlace, holding, holding_some, is_plain, is_there, marks_right, over_found, over_most, there, there_items, there_non_empty, there_text, there_whole}
-use Rattle.apply_validate_laws.proofs.Placing.{AreRight, StandFrom, all_under, behind_right, below, both, fault_right, faults_right, first_there, inside_right, item_right, items_right, joined_right, list_right, listed_right, object_right, optional_right, rest_there, unless_right, unread_right, where_right, whole_there, within}
+use Rattle.apply_validate_laws.proofs.Marks.{HasPlace, holding, holding_some, is_plain, is_there, marks_right, of_marks, over_found, over_most, there, there_items, there_non_empty, there_text, there_whole}
+use Rattle.apply_validate_laws.proofs.Placing.{AreRight, StandFrom, all_under, behind_right, below, both, first_there, item_right, items_right, listed_right, object_right, of_member, of_table, of_unread, optional_right, rest_there, unless_right, where_right, whole_there, within, within_list, within_member}
 
 -- ---- diagnostics
 
 diagnostic_right : (R : List Part → List Name → Type 0) → R [] diagnostic_names → (d : Data) → AreRight R d (in_diagnostic d)
 unfolding in_diagnostic
-diagnostic_right R r d =
-    let members : List Finding = faults_of diagnostic_table d in
-    where_right R want.Diagnostic d (members ++ unread diagnostic_names d) (λ o.
-    both R d members (unread diagnostic_names d) (faults_right R diagnostic_table d o) (unread_right R diagnostic_names d r))
+diagnostic_right R r d = where_right R want.Diagnostic d (λ o. o) (of_table R diagnostic_table d) (of_unread R diagnostic_names d r ∷ [])
 
 failure_right : (R : List Part → List Name → Type 0) → R [] failure_names → (d : Data) → AreRight R d (in_failure d)
 unfolding in_failure
-failure_right R r d =
-    let members : List Finding = faults_of failure_table d in
-    where_right R want.Diagnostic d (members ++ unread failure_names d) (λ o.
-    both R d members (unread failure_names d) (faults_right R failure_table d o) (unread_right R failure_names d r))
+failure_right R r d = where_right R want.Diagnostic d (λ o. o) (of_table R failure_table d) (of_unread R failure_names d r ∷ [])
 
 -- ---- provisioners
 
@@ -57,22 +49,16 @@ pub record ReadsProvisioner (R : List Part → List Name → Type 0) : Type 0 wh
   pub failed : R (Member name.Failed ∷ []) diagnostic_names
   pub output : (n : ℕ) → R (Member name.Output ∷ Item n ∷ []) output_names
 
+output_places : (seconds before : Option ℕ) (d : Data) → AllByRecursion (HasPlace d) (output_marks seconds before d)
+output_places seconds before d = (
+  (refl, λ h. there_whole name.After d (over_found seconds (whole_at name.After d) h)),
+  ((refl, λ h. there_whole name.After d (over_most (whole_at name.After d) before h)), tt),
+)
+
 output_right : (R : List Part → List Name → Type 0) → R [] output_names → (seconds before : Option ℕ) (d : Data) → AreRight R d (in_output seconds before d)
 unfolding in_output
 output_right R r seconds before d =
-    let members : List Finding = faults_of output_table d in
-    let marks : List Finding = marked (output_marks seconds before d) in
-    object_right R d (members ++ marks ++ unread output_names d) (λ o.
-    joined_right R d members (faults_right R output_table d o)
-    ((
-      marks,
-      marks_right R d (output_marks seconds before d) (
-        (refl, λ h. there_whole name.After d (over_found seconds (whole_at name.After d) h)),
-        ((refl, λ h. there_whole name.After d (over_most (whole_at name.After d) before h)), tt),
-      ),
-    )
-    ∷ (unread output_names d, unread_right R output_names d r)
-    ∷ []))
+    object_right R d (of_table R output_table d) (of_marks R d (output_marks seconds before d) (output_places seconds before d) ∷ of_unread R output_names d r ∷ [])
 
 outputs_by : (R : List Part → List Name → Type 0) → ((n : ℕ) → R (Item n ∷ []) output_names) → (d : Data) (seconds before : Option ℕ) (n : ℕ) (ds : List Data)
     → StandFrom n (list_of (items_in d)) ds → AreRight R d (outputs_behind seconds before n ds)
@@ -85,17 +71,12 @@ outputs_by R r d seconds before n (e ∷ ds) stand =
 provisioner_right : (R : List Part → List Name → Type 0) → ReadsProvisioner R → (d : Data) → AreRight R d (in_provisioner d)
 unfolding in_provisioner
 provisioner_right R r d =
-    let members : List Finding = faults_of provisioner_table d in
-    let outputs : List Finding = in_list (λ number. unless_suits want.Output) (known name.Output want.ArrayOrAbsent) d in
-    let marks : List Finding = marked (provisioner_mark d ∷ []) in
-    let failed : List Finding = inside in_diagnostic name.Failed d in
-    where_right R want.Provisioner d (members ++ outputs ++ marks ++ failed ++ unread provisioner_names d) (λ o.
-    joined_right R d members (faults_right R provisioner_table d o)
-    ((outputs, list_right R (λ number. unless_suits want.Output) (known name.Output want.ArrayOrAbsent) d o (λ n e. unless_right (below (Item n) (below (Member name.Output) R)) want.Output e))
-    ∷ (marks, marks_right R d (provisioner_mark d ∷ []) ((refl, there_items name.Output d max_outputs), tt))
-    ∷ (failed, inside_right R in_diagnostic name.Failed d (diagnostic_right (below (Member name.Failed) R) r.failed))
-    ∷ (unread provisioner_names d, unread_right R provisioner_names d r.itself)
-    ∷ []))
+    where_right R want.Provisioner d (λ o. o) (of_table R provisioner_table d)
+    (within_list R (λ number. unless_suits want.Output) (known name.Output want.ArrayOrAbsent) d (λ n e. unless_right (below (Item n) (below (Member name.Output) R)) want.Output e)
+    ∷ of_marks R d (provisioner_mark d ∷ []) ((refl, there_items name.Output d max_outputs), tt)
+    ∷ within_member R in_diagnostic name.Failed d (diagnostic_right (below (Member name.Failed) R) r.failed)
+    ∷ of_unread R provisioner_names d r.itself
+    ∷ [])
 
 growth_right : (R : List Part → List Name → Type 0) → ReadsProvisioner R → (d : Data) → AreRight R d (growth_of_provisioner d)
 unfolding growth_of_provisioner
@@ -161,19 +142,11 @@ wait_by : (R : List Part → List Name → Type 0) → R [] wait_names → (chan
     (faults_of wait_table d ++ marked (unknown_marks changes d) ++ marked (step_mark (change_at changes d) (whole_at name.Step d) ∷ []) ++ unread wait_names d))
 wait_by R r changes d true is = marks_right R d (unknown_marks changes d) (unknown_places changes d)
 wait_by R r changes d false is =
-    let members : List Finding = faults_of wait_table d in
-    let unknown : List Finding = marked (unknown_marks changes d) in
-    let lacks : List Finding = marked (step_mark (change_at changes d) (whole_at name.Step d) ∷ []) in
-    where_right R want.Wait d (members ++ unknown ++ lacks ++ unread wait_names d) (λ o.
-    joined_right R d members (faults_right R wait_table d (other (is_some (as_str d)) (is_some (as_object d)) is o))
-    ((unknown, marks_right R d (unknown_marks changes d) (unknown_places changes d))
-    ∷ (
-      lacks,
-      marks_right R d (step_mark (change_at changes d) (whole_at name.Step d) ∷ [])
-          ((refl, λ h. there_whole name.Step d (named_step (change_at changes d) (whole_at name.Step d) h)), tt),
-    )
-    ∷ (unread wait_names d, unread_right R wait_names d r)
-    ∷ []))
+    where_right R want.Wait d (other (is_some (as_str d)) (is_some (as_object d)) is) (of_table R wait_table d)
+    (of_marks R d (unknown_marks changes d) (unknown_places changes d)
+    ∷ of_marks R d (step_mark (change_at changes d) (whole_at name.Step d) ∷ []) ((refl, λ h. there_whole name.Step d (named_step (change_at changes d) (whole_at name.Step d) h)), tt)
+    ∷ of_unread R wait_names d r
+    ∷ [])
 
 wait_right : (R : List Part → List Name → Type 0) → R [] wait_names → (changes : Option (List ResourceChange)) (d : Data) → AreRight R d (in_wait changes d)
 unfolding in_wait
@@ -239,37 +212,23 @@ kind_places change number d = (
   ((refl, warns_there d (kind_of change number)), tt),
 )
 
-pub step_right : (R : List Part → List Name → Type 0) → ReadsStep R → (changes : Option (List ResourceChange)) (change : Option ResourceChange) (number : ℕ) (d : Data)
+step_right : (R : List Part → List Name → Type 0) → ReadsStep R → (changes : Option (List ResourceChange)) (change : Option ResourceChange) (number : ℕ) (d : Data)
     → AreRight R d (in_step changes change number d)
 unfolding in_step
 step_right R r changes change number d =
-    let members : List Finding = faults_of (step_table (is_skipped d)) d in
-    let warnings : List Finding = inside in_diagnostic name.Warning d in
-    let failed : List Finding = inside in_failure name.Failed d in
-    let provisioners : List Finding = in_list (λ number. in_provisioner) (known name.Provisioners want.ArrayOrAbsent) d in
-    let tests : List Finding = marked (step_marks d) in
-    let kinds : List Finding = marked (kind_marks change number d) in
-    let flag : List Finding = faults_of (known name.Skipped want.FlagOrAbsent ∷ []) d in
-    let skipped : List Finding = marked (skipped_marks d) in
-    let growths : List Finding = inside (in_items (λ number. growth_of_provisioner)) name.Provisioners d in
-    let waits : List Finding = in_list (λ item. in_wait changes) (known name.After want.ArrayOrAbsent) d in
-    where_right R want.Step d (members ++ warnings ++ failed ++ provisioners ++ tests ++ kinds ++ flag ++ skipped ++ growths ++ waits ++ unread step_names d) (λ o.
-    joined_right R d members (faults_right R (step_table (is_skipped d)) d o)
-    ((warnings, inside_right R in_diagnostic name.Warning d (diagnostic_right (below (Member name.Warning) R) r.warning))
-    ∷ (failed, inside_right R in_failure name.Failed d (failure_right (below (Member name.Failed) R) r.failed))
-    ∷ (provisioners, list_right R (λ number. in_provisioner) (known name.Provisioners want.ArrayOrAbsent) d o (λ n e. provisioner_right (below (Item n) (below (Member name.Provisioners) R)) (r.provisioner n) e))
-    ∷ (tests, marks_right R d (step_marks d) (test_places d))
-    ∷ (kinds, marks_right R d (kind_marks change number d) (kind_places change number d))
-    ∷ (flag, faults_right R (known name.Skipped want.FlagOrAbsent ∷ []) d o)
-    ∷ (skipped, marks_right R d (skipped_marks d) (skipped_places d))
-    ∷ (
-      growths,
-      inside_right R (in_items (λ number. growth_of_provisioner)) name.Provisioners d (λ list.
-          items_right (below (Member name.Provisioners) R) (λ number. growth_of_provisioner) list (λ n e. growth_right (below (Item n) (below (Member name.Provisioners) R)) (r.provisioner n) e)),
-    )
-    ∷ (waits, list_right R (λ item. in_wait changes) (known name.After want.ArrayOrAbsent) d o (λ n e. wait_right (below (Item n) (below (Member name.After) R)) (r.wait n) changes e))
-    ∷ (unread step_names d, unread_right R step_names d r.itself)
-    ∷ []))
+    where_right R want.Step d (λ o. o) (of_table R (step_table (is_skipped d)) d)
+    (within_member R in_diagnostic name.Warning d (diagnostic_right (below (Member name.Warning) R) r.warning)
+    ∷ within_member R in_failure name.Failed d (failure_right (below (Member name.Failed) R) r.failed)
+    ∷ within_list R (λ number. in_provisioner) (known name.Provisioners want.ArrayOrAbsent) d (λ n e. provisioner_right (below (Item n) (below (Member name.Provisioners) R)) (r.provisioner n) e)
+    ∷ of_marks R d (step_marks d) (test_places d)
+    ∷ of_marks R d (kind_marks change number d) (kind_places change number d)
+    ∷ of_table R (known name.Skipped want.FlagOrAbsent ∷ []) d
+    ∷ of_marks R d (skipped_marks d) (skipped_places d)
+    ∷ within_member R (in_items (λ number. growth_of_provisioner)) name.Provisioners d (λ list.
+    items_right (below (Member name.Provisioners) R) (λ number. growth_of_provisioner) list (λ n e. growth_right (below (Item n) (below (Member name.Provisioners) R)) (r.provisioner n) e))
+    ∷ within_list R (λ item. in_wait changes) (known name.After want.ArrayOrAbsent) d (λ n e. wait_right (below (Item n) (below (Member name.After) R)) (r.wait n) changes e)
+    ∷ of_unread R step_names d r.itself
+    ∷ [])
 
 -- ---- items of `after` beyond those that a script may have
 
@@ -310,48 +269,36 @@ entry_right : (R : List Part → List Name → Type 0) → ReadsEntry R → (cha
 unfolding in_entry
 entry_right R r changes first left d =
     let change : Option ResourceChange = change_at changes d in
-    let members : List Finding = faults_of entry_table d in
-    let unknown : List Finding = marked (unknown_marks changes d) in
-    let again : List Finding = marked (again_mark change first ∷ []) in
-    let list : List Finding = fault_of d (known name.Steps want.Array) in
-    let many : List Finding = marked (steps_mark change d ∷ []) in
-    let steps : List Finding = inside (in_items (in_step changes change)) name.Steps d in
-    let beyond : List Finding = beyond_in (is_some changes) left d in
-    where_right R want.Entry d (members ++ unknown ++ again ++ list ++ many ++ steps ++ beyond ++ unread entry_names d) (λ o.
-    joined_right R d members (faults_right R entry_table d o)
-    ((unknown, marks_right R d (unknown_marks changes d) (unknown_places changes d))
-    ∷ (again, marks_right R d (again_mark change first ∷ []) ((refl, λ h. refl), tt))
-    ∷ (list, fault_right R (known name.Steps want.Array) d o)
-    ∷ (many, marks_right R d (steps_mark change d ∷ []) ((refl, many_steps change d), tt))
-    ∷ (
-      steps,
-      inside_right R (in_items (in_step changes change)) name.Steps d (λ all.
-          items_right (below (Member name.Steps) R) (in_step changes change) all (λ n e. step_right (below (Item n) (below (Member name.Steps) R)) (r.step n) changes change n e)),
-    )
-    ∷ (beyond, beyond_right R d (is_some changes) left)
-    ∷ (unread entry_names d, unread_right R entry_names d r.itself)
-    ∷ []))
+    where_right R want.Entry d (λ o. o) (of_table R entry_table d)
+    (of_marks R d (unknown_marks changes d) (unknown_places changes d)
+    ∷ of_marks R d (again_mark change first ∷ []) ((refl, λ h. refl), tt)
+    ∷ of_member R (known name.Steps want.Array) d
+    ∷ of_marks R d (steps_mark change d ∷ []) ((refl, many_steps change d), tt)
+    ∷ within_member R (in_items (in_step changes change)) name.Steps d (λ list.
+    items_right (below (Member name.Steps) R) (in_step changes change) list (λ n e. step_right (below (Item n) (below (Member name.Steps) R)) (r.step n) changes change n e))
+    ∷ (beyond_in (is_some changes) left d, λ o. beyond_right R d (is_some changes) left)
+    ∷ of_unread R entry_names d r.itself
+    ∷ [])
 
 pub record ReadsScript (R : List Part → List Name → Type 0) : Type 0 where
   pub itself : R [] script_names
   pub entry : (n : ℕ) → ReadsEntry (below (Item n) (below (Member name.Changes) R))
 
+entries_right : (R : List Part → List Name → Type 0) → ((n : ℕ) → ReadsEntry (below (Item n) (below (Member name.Changes) R))) → (changes : Option (List ResourceChange)) (d : Data)
+    → AreRight R d (map (under (Member name.Changes)) (items_behind (in_entry_behind changes) [] (items_at name.Changes d)))
+entries_right R r changes d =
+    listed_right R name.Changes d (items_behind (in_entry_behind changes) []) refl (λ list.
+    behind_right (below (Member name.Changes) R) (in_entry_behind changes) list (λ before n e.
+    entry_right (below (Item n) (below (Member name.Changes) R)) (r n) changes (named_first before e) (waits_left (sum_by waits_in_all before)) e)
+    [] (list_of (items_in list)) (whole_there (list_of (items_in list))))
+
 script_by : (R : List Part → List Name → Type 0) → ReadsScript R → (changes : Option (List ResourceChange)) (d : Data) → AreRight R d (in_script changes d)
 unfolding in_script
 script_by R r changes d =
-    let list : List Finding = fault_of d (known name.Changes want.Array) in
-    let entries : List Finding = map (under (Member name.Changes)) (items_behind (in_entry_behind changes) [] (items_at name.Changes d)) in
-    where_right R want.Object d (list ++ entries ++ unread script_names d) (λ o.
-    joined_right R d list (fault_right R (known name.Changes want.Array) d o)
-    ((
-      entries,
-      listed_right R name.Changes d (items_behind (in_entry_behind changes) []) refl (λ all.
-          behind_right (below (Member name.Changes) R) (in_entry_behind changes) all (λ before n e.
-          entry_right (below (Item n) (below (Member name.Changes) R)) (r.entry n) changes (named_first before e) (waits_left (sum_by waits_in_all before)) e)
-          [] (list_of (items_in all)) (whole_there (list_of (items_in all)))),
-    )
-    ∷ (unread script_names d, unread_right R script_names d r.itself)
-    ∷ []))
+    where_right R want.Object d (λ o. o) (of_member R (known name.Changes want.Array) d)
+    ((map (under (Member name.Changes)) (items_behind (in_entry_behind changes) [] (items_at name.Changes d)), λ o. entries_right R r.entry changes d)
+    ∷ of_unread R script_names d r.itself
+    ∷ [])
 
 -- what a run reads
 read : ReadsScript IsRead

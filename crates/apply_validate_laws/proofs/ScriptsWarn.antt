@@ -1,9 +1,9 @@
 -- Of each object of a script it is warned of the members that no run reads of it.
-use Rattle.std.proofs.Common.{◌≡◌, ℕ, zero, suc, ◌+◌, List, [], ◌∷◌, ◌++◌, length, map, Bool, true, false, ◌||◌, is_some, slice_get, Option, Some, None, if◌then◌else◌, refl, sym, ap, subst, ◌∙◌, arith}
+use Rattle.std.proofs.Common.{◌≡◌, ℕ, zero, suc, ◌+◌, List, [], ◌∷◌, map, Bool, true, false, ◌||◌, is_some, slice_get, Option, Some, None, if◌then◌else◌, refl, sym, subst, arith}
 use Rattle.std.specs.List.{sum_by}
 use Rattle.serde_json.specs.Data.{Data}
 use Rattle.serde_json.specs.Find.{as_object, as_str}
-use Rattle.apply_json.specs.Seen.{items_in, members_in}
+use Rattle.apply_json.specs.Seen.{items_in}
 use Rattle.apply_json.specs.Tree.{list_of}
 use Rattle.apply_model.specs.Plan.ResourceChange.{ResourceChange}
 use Rattle.apply_validate.specs.declared.findings.finding.Finding.{Finding}
@@ -17,9 +17,8 @@ use Rattle.apply_validate.specs.declared.findings.what.What.TheVariants.{IsNot}
 use Rattle.apply_validate.specs.Beside.{again_mark, beyond_in, change_at, kind_marks, named_first, step_mark, steps_mark, unknown_marks, waits_in_all, waits_left}
 use Rattle.apply_validate.specs.Findings.{finding_here, under}
 use Rattle.apply_validate.specs.ScriptFindings.{comes_after, diagnostic_names, diagnostic_table, entry_names, entry_table, failure_names, failure_table, growth_of_provisioner, in_diagnostic, in_entry, in_entry_behind, in_failure, in_output, in_outputs, in_provisioner, in_script, in_step, in_wait, is_skipped, output_marks, output_names, output_table, outputs_behind, provisioner_mark, provisioner_names, provisioner_table, script_names, skipped_marks, step_marks, step_names, step_table, wait_names, wait_table, whole_at}
-use Rattle.apply_validate.specs.Walks.{fault_of, faults_of, in_items, in_list, inside, items_at, items_behind, known, marked, texts_in, unless_suits, unread, where_suits}
+use Rattle.apply_validate.specs.Walks.{fault_of, faults_of, in_items, in_list, inside, items_at, items_behind, known, marked, unless_suits, unread, where_suits}
 use Rattle.apply_validate.specs.Wants.{suits}
-use Rattle.apply_validate_laws.specs.Paths.{value_at}
 use Rattle.apply_validate_laws.specs.Unread.{IsRead, entry, failure, failure_of_provisioner, output, provisioner, step, top, wait, warning, warning_at}
 use Rattle.apply_validate_laws.proofs.Joined.{joined}
 use Rattle.apply_validate_laws.proofs.Warning.{Has, Warns, behind_warn, begins_in_object, has_left, has_right, has_under, inside_warns, item_value, items_warn, listed_warns, not_text, same_some, unread_warns, warns_part, warns_where}

@@ -1,7 +1,7 @@
 -- The walks over values of any shape warn of each member that nobody reads.
-use Rattle.std.proofs.Common.{◌≡◌, ℕ, zero, suc, ◌+◌, ◌<◌, ◌⊎◌, inl, inr, List, [], ◌∷◌, ◌++◌, length, map, Bool, true, false, is_some, slice_get, Contains, Option, Some, None, if◌then◌else◌, refl, sym, ap, subst, ◌∙◌, arith, length-append}
+use Rattle.std.proofs.Common.{◌≡◌, ℕ, zero, suc, ◌+◌, ◌⊎◌, inl, inr, List, [], ◌∷◌, ◌++◌, length, map, Bool, true, false, is_some, slice_get, Contains, Option, Some, None, if◌then◌else◌, refl, sym, ap, subst, ◌∙◌, arith, length-append}
 use Rattle.std.specs.Option.{option_and_then, option_map_or}
-use Rattle.std.proofs.lemmas.List.Elements.{Contains-append_left, Contains-append_right}
+use Rattle.std.proofs.lemmas.List.Elements.{Contains-append_right}
 use Rattle.serde_json.specs.Data.{Data, null, boolean, number, string, array, object}
 use Rattle.serde_json.specs.Find.{as_object, as_str, get}
 use Rattle.apply_json.specs.Seen.{items_in, members_in}
@@ -10,13 +10,11 @@ use Rattle.apply_validate.specs.declared.findings.finding.Finding.{Finding}
 use Rattle.apply_validate.specs.declared.findings.name.Name.{Name}
 use Rattle.apply_validate.specs.declared.findings.part.Part.{Part}
 use Rattle.apply_validate.specs.declared.findings.part.Part.TheVariants.{Item, Member, Other}
-use Rattle.apply_validate.specs.declared.findings.want.Want.{Want}
 use Rattle.apply_validate.specs.declared.findings.what.What.TheVariants.{NotRead}
 use Rattle.apply_validate.specs.Findings.{finding_at, under}
 use Rattle.apply_validate.specs.Names.{name_text}
-use Rattle.apply_validate.specs.Walks.{fault_of, in_items, inside, is_known, items_at, items_behind, items_from, member_at, texts_in, unless_known, unread, unread_from, where_suits}
-use Rattle.apply_validate.specs.Wants.{suits}
-use Rattle.apply_validate_laws.specs.Paths.{value_at, value_by}
+use Rattle.apply_validate.specs.Walks.{in_items, inside, is_known, items_at, items_behind, items_from, texts_in, unless_known, unread, unread_from}
+use Rattle.apply_validate_laws.specs.Paths.{value_at}
 use Rattle.apply_validate_laws.specs.Unread.{warning_at}
 use Rattle.apply_validate_laws.proofs.Joined.{joined}
 
@@ -125,7 +123,7 @@ begins_in_object (Item n ∷ front) = false
 is_object : (front : List Part) → begins_in_object front ≡ true → (d value : Data) (n : ℕ) (text : List ℕ) → value_at front d ≡ Some value → slice_get (texts_in (members_in value)) n ≡ Some text
     → is_some (as_object d) ≡ true
 is_object [] begins d value n text is at = text_in_object d n text (ap (λ (v : Data). slice_get (texts_in (members_in v)) n) (same_some d value is) ∙ at)
-is_object (Member at_name ∷ front) begins d value n text is at = member_in_object front at_name d value is
+is_object (Member member ∷ front) begins d value n text is at = member_in_object front member d value is
 is_object (Other m ∷ front) begins d value n text is at = absurd cc
 is_object (Item m ∷ front) begins d value n text is at = absurd cc
 
@@ -148,7 +146,7 @@ warns_where front names d all found begins same h value n text is at unknown =
 -- no object stands in `null`
 nothing_there : (front : List Part) (value : Data) (n : ℕ) (text : List ℕ) → value_at front null ≡ Some value → slice_get (texts_in (members_in value)) n ≡ Some text → ⊥
 nothing_there [] value n text is at = absurd (let none : (let o : Option (List ℕ) = None in o) ≡ Some text = ap (λ (v : Data). slice_get (texts_in (members_in v)) n) (same_some null value is) ∙ at in cc)
-nothing_there (Member at_name ∷ front) value n text is at = absurd cc
+nothing_there (Member _ ∷ front) value n text is at = absurd cc
 nothing_there (Other m ∷ front) value n text is at = absurd cc
 nothing_there (Item m ∷ front) value n text is at = absurd cc
 

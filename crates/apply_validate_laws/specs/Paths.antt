@@ -1,5 +1,5 @@
 -- Where a path leads in the tree of a plan or of a script.
-use Rattle.std.specs.Prelude.{◌≡◌, ℕ, List, [], ◌∷◌, ◌++◌, All, true, is_some, slice_get, Option, Some, None, option_and_then}
+use Rattle.std.specs.Prelude.{◌≡◌, List, [], ◌∷◌, ◌++◌, All, true, is_some, slice_get, Option, Some, None, option_and_then}
 use Rattle.serde_json.specs.Data.{Data, object, Members, no_members, member}
 use Rattle.serde_json.specs.Find.{get, get_member}
 use Rattle.apply_json.specs.Seen.{items_in, members_in}
