@@ -1,0 +1,10 @@
+pub mod BytesPlaced
+pub mod Joined
+pub mod Marks
+pub mod Placing
+pub mod PlansPlaced
+pub mod RefusalsPlaced
+pub mod ScriptsPlaced
+pub mod ScriptsWarn
+pub mod Warned
+pub mod Warning

@@ -1,0 +1,226 @@
+-- What a run refuses a script for beside the plan is told in its place.
+use Rattle.std.proofs.Common.{◌≡◌, ℕ, suc, ◌+◌, ◌<◌, List, [], ◌∷◌, length, map, take, Bool, true, false, cond, not, ◌&&◌, is_ok, is_some, slice_get, Option, Some, None, Result, Ok, Err, unwrap_or, if◌then◌else◌, refl, sym, ap, subst, ◌∙◌, arith}
+use Rattle.std.specs.Prelude.{codes, nat_lt}
+use Rattle.std.specs.List.{enumerate_from, list_all, position_from}
+use Rattle.std.specs.Option.{option_and_then, option_map, option_map_or}
+use Rattle.std.proofs.lemmas.Bool.{and_from, and_parts}
+use Rattle.std.proofs.lemmas.List.{length-map}
+use Rattle.std.proofs.lemmas.List.FromFn.{length-enumerate_from}
+use Rattle.std.proofs.lemmas.Option.{slice_get_within}
+use Rattle.serde_json.specs.Data.{Data, Items}
+use Rattle.apply_json.specs.Keeping.{keeping_tree_of}
+use Rattle.apply_json.specs.Tree.{list_of, member_of, tree_of}
+use Rattle.apply_model.specs.Plan.SavedPlan.{SavedPlan}
+use Rattle.apply_model.specs.Script.OutcomeMap.{OutcomeMap}
+use Rattle.apply_model.specs.Script.Waits.{has_waits}
+use Rattle.apply_plan.specs.Bytes.{max_bytes}
+use Rattle.apply_plan.specs.declared.plan.plan_error.PlanError.{PlanError}
+use Rattle.apply_plan.specs.declared.script.script_error.ScriptError.{ScriptError}
+use Rattle.apply_plan.specs.declared.script.script_error.ScriptError.TheVariants.{NeverBegins}
+use Rattle.apply_plan.specs.Results as results
+use Rattle.apply_plan.specs.Results.{all_or_first, each_with_earlier, or_refuse, unless_refused}
+use Rattle.apply_plan.specs.Script.Entry.{is_kept}
+use Rattle.apply_plan.specs.Script.OutcomeMap.{Said, by_number, elements_of, entry_at, is_stuck, script_of, script_of_entries, script_of_tree, unless_stuck}
+use Rattle.apply_validate.specs.declared.findings.finding.Finding.{Finding}
+use Rattle.apply_validate.specs.declared.findings.name.Name.{Name}
+use Rattle.apply_validate.specs.declared.findings.name.Name.TheVariants as name
+use Rattle.apply_validate.specs.declared.findings.part.Part.{Part}
+use Rattle.apply_validate.specs.declared.findings.part.Part.TheVariants.{Item, Member}
+use Rattle.apply_validate.specs.declared.findings.what.What.TheVariants as what
+use Rattle.apply_validate.specs.Beside.{first_waiting, has_waiting, is_waiting, path_to, place_of_waits, step_waiting, waits_in}
+use Rattle.apply_validate.specs.Findings.{finding_at, finding_here, under}
+use Rattle.apply_validate.specs.Laws.{has_refusal, is_entry, is_script}
+use Rattle.apply_validate.specs.ScriptFindings.{is_skipped}
+use Rattle.apply_validate.specs.Walks.{items_at}
+use Rattle.apply_validate.specs.Whole.{beside_plan, entry_of_refusal, given_findings, placed, refusals_of, script_findings, unless_waits, waits_at}
+use Rattle.apply_validate.proofs.Alike.{Alike, both_trees, bytes_alike}
+use Rattle.apply_validate.proofs.Clean.{clean}
+use Rattle.apply_validate.proofs.Members.{count_same}
+use Rattle.apply_validate.proofs.Refused.{each_taken, elements_in}
+use Rattle.apply_validate.proofs.Scripts.{clean_bytes, entries_fit, is_script_beside}
+use Rattle.apply_validate_laws.specs.Paths.{ArePlaced}
+use Rattle.apply_validate_laws.specs.Unread.{IsRead}
+use Rattle.apply_validate_laws.proofs.BytesPlaced.{AreTold, both_told, none_told, script_told, told_placed}
+use Rattle.apply_validate_laws.proofs.Marks.{member_leads, there_items}
+use Rattle.apply_validate_laws.proofs.Placing.{AreRight, below, item_right, within}
+
+some_is : {A : Type 0} (x y : A) → Some x ≡ Some y → x ≡ y
+some_is x y e = cc
+
+err_is : {A E : Type 0} (x y : E) → (let r : Result A E = Err x in r) ≡ Err y → x ≡ y
+err_is x y e = cc
+
+-- ---- where the first step waits
+
+-- the value of that number passes the test
+record StandsAt {A : Type 0} (test : A → Bool) (i : ℕ) (xs : List A) (n : ℕ) : Type 0 where
+  number : ℕ
+  value : A
+  number_is : n ≡ i + number
+  value_is : slice_get xs number ≡ Some value
+  passes : test value ≡ true
+
+position_one : {A : Type 0} (test : A → Bool) (i : ℕ) (x : A) (xs : List A) (n : ℕ) (b : Bool) → test x ≡ b → (let o : Option ℕ = cond b (Some i) (position_from test (i + 1) xs) in o) ≡ Some n
+    → (position_from test (i + 1) xs ≡ Some n → StandsAt test (i + 1) xs n) → StandsAt test i (x ∷ xs) n
+position_one test i x xs n true is e rest =
+    let same : i ≡ n = some_is i n e in
+    record { number = 0; value = x; number_is = omega (arith, same); value_is = refl; passes = is }
+position_one test i x xs n false is e rest =
+    let at = rest e in
+    record { number = suc at.number; value = at.value; number_is = omega (arith, at.number_is); value_is = at.value_is; passes = at.passes }
+
+position_at : {A : Type 0} (test : A → Bool) (i : ℕ) (xs : List A) (n : ℕ) → position_from test i xs ≡ Some n → StandsAt test i xs n
+position_at test i [] n e = absurd cc
+position_at test i (x ∷ xs) n e = position_one test i x xs n (test x) refl e (position_at test (i + 1) xs n)
+
+first_at : {A : Type 0} (test : A → Bool) (xs : List A) (n : ℕ) → position_from test 0 xs ≡ Some n → (x : A) × (slice_get xs n ≡ Some x) × (test x ≡ true)
+first_at test xs n e =
+    let at = position_at test 0 xs n e in
+    let same : at.number ≡ n = omega (arith, at.number_is) in
+    (at.value, ap (slice_get xs) (sym same) ∙ at.value_is, at.passes)
+
+step_by : (R : List Part → List Name → Type 0) (d : Data) (o : Option ℕ) → first_waiting d ≡ o → is_some o ≡ true
+    → AreRight R d (map (under (Member name.Steps)) (map (under (Item (unwrap_or o 0))) (finding_at (Member name.After) what.Waits ∷ [])))
+step_by R d None is some = absurd cc
+step_by R d (Some m) is some =
+    let step = first_at is_waiting (items_at name.Steps d) m is in
+    let waits : nat_lt 0 (waits_in step.0) ≡ true = (and_parts (not (is_skipped step.0)) (nat_lt 0 (waits_in step.0)) step.2).1 in
+    item_right R name.Steps d m step.0 (finding_at (Member name.After) what.Waits ∷ []) step.1
+    (member_leads name.After step.0 (there_items name.After step.0 0 waits), tt)
+
+step_is : (ds : List Data) (n : ℕ) (d : Data) → slice_get ds n ≡ Some d → step_waiting ds n ≡ unwrap_or (first_waiting d) 0
+step_is ds n d is = ap (λ (o : Option Data). unwrap_or (option_and_then first_waiting o) 0) is
+
+waits_by : (R : List Part → List Name → Type 0) (d : Data) (o : Option ℕ) → position_from has_waiting 0 (items_at name.Changes d) ≡ o
+    → AreRight R d (record { path = option_map_or (λ n. path_to n (step_waiting (items_at name.Changes d) n)) o []; what = what.Waits } ∷ [])
+waits_by R d None is = (refl, tt)
+waits_by R d (Some n) is =
+    let entry = first_at has_waiting (items_at name.Changes d) n is in
+    let step : ℕ = unwrap_or (first_waiting entry.0) 0 in
+    let told : List Finding = map (under (Member name.Steps)) (map (under (Item step)) (finding_at (Member name.After) what.Waits ∷ [])) in
+    subst (λ (m : ℕ). AreRight R d (record { path = path_to n m; what = what.Waits } ∷ [])) (sym (step_is (items_at name.Changes d) n entry.0 entry.1))
+    (item_right R name.Changes d n entry.0 told entry.1 (step_by (below (Item n) (below (Member name.Changes) R)) entry.0 (first_waiting entry.0) refl entry.2))
+
+waits_right : (R : List Part → List Name → Type 0) (d : Data) → AreRight R d (record { path = place_of_waits d; what = what.Waits } ∷ [])
+waits_right R d = waits_by R d (position_from has_waiting 0 (items_at name.Changes d)) refl
+
+waits_in_tree : (large : Bool) (o : Option Data) → AreTold IsRead o (record { path = if large then [] else option_map_or place_of_waits o []; what = what.Waits } ∷ [])
+waits_in_tree true None = (refl, tt)
+waits_in_tree true (Some d) = (refl, tt)
+waits_in_tree false None = (refl, tt)
+waits_in_tree false (Some d) = waits_right IsRead d
+
+only_where : (o : Option Data) (b : Bool) (xs : List Finding) → AreTold IsRead o xs → AreTold IsRead o (if b then xs else [])
+only_where o true xs h = h
+only_where o false xs h = none_told IsRead o
+
+waits_told : (lanes : Bool) (bytes : List ℕ) (script : OutcomeMap) → AreTold IsRead (tree_of bytes) (unless_waits lanes bytes script)
+waits_told lanes bytes script =
+    only_where (tree_of bytes) (not lanes && has_waits script) (record { path = waits_at bytes; what = what.Waits } ∷ []) (waits_in_tree (nat_lt max_bytes (length bytes)) (tree_of bytes))
+
+-- ---- the entry that a refusal names, of a script in which nothing else is found
+
+kept_tree : (large : Bool) (test : Data → Bool) (o : Option Data) → (if large then false else option_map_or test o false) ≡ true
+    → (large ≡ false) × (k : Data) × (o ≡ Some k) × (test k ≡ true)
+kept_tree true test o e = absurd cc
+kept_tree false test None e = absurd cc
+kept_tree false test (Some k) e = (refl, k, refl, e)
+
+kept_elements : (test : Items → Bool) (o : Option Items) → option_map_or test o false ≡ true → (es : Items) × (o ≡ Some es) × (test es ≡ true)
+kept_elements test None e = absurd cc
+kept_elements test (Some es) e = (es, refl, e)
+
+ok_is : {A E : Type 0} (x y : A) → (let r : Result A E = Ok x in r) ≡ Ok y → x ≡ y
+ok_is x y e = cc
+
+-- as many are read as stand there
+rest_read : {A E : Type 0} (r : Result (List A) E) (x : A) (xs : List A) → results.◌>>=◌ r (λ ys. let q : Result (List A) E = Ok (x ∷ ys) in q) ≡ Ok xs
+    → (ys : List A) × (r ≡ Ok ys) × (length xs ≡ length (x ∷ ys))
+rest_read {A} {E} (Ok ys) x xs e = (ys, refl, ap (λ (zs : List A). length zs) (sym (ok_is {E = E} (x ∷ ys) xs e)))
+rest_read (Err refusal) x xs e = absurd cc
+
+count_read : {A E : Type 0} (answers : List (Result A E)) (xs : List A) → all_or_first answers ≡ Ok xs → length xs ≡ length answers
+count_read [] [] e = refl
+count_read [] (x ∷ xs) e = absurd cc
+count_read (Err x ∷ answers) xs e = absurd cc
+count_read (Ok x ∷ answers) xs e =
+    let rest = rest_read (all_or_first answers) x xs e in
+    rest.2 ∙ ap suc (count_read answers rest.0 rest.1)
+
+never_begins : (script : OutcomeMap) (o : Option ℕ) (refusal : ScriptError) (n : ℕ) → unless_refused (option_map NeverBegins o) script ≡ Err refusal → entry_of_refusal refusal ≡ Some n → o ≡ Some n
+never_begins script None refusal n e named = absurd cc
+never_begins script (Some m) refusal n e named = ap entry_of_refusal (err_is {A = OutcomeMap} (NeverBegins m) refusal e) ∙ named
+
+stuck_number : (plan : SavedPlan) (ds : List Data) (refusal : ScriptError) (n : ℕ) (r : Result (List Said) ScriptError) → all_or_first (each_with_earlier (entry_at plan.changes) ds) ≡ r → is_ok r ≡ true
+    → results.◌>>=◌ r (λ entries. unless_stuck entries (by_number (length plan.changes) entries)) ≡ Err refusal → entry_of_refusal refusal ≡ Some n → n < length ds
+stuck_number plan ds refusal n (Err x) is ok e named = absurd cc
+stuck_number plan ds refusal n (Ok entries) is ok e named =
+    let script : OutcomeMap = by_number (length plan.changes) entries in
+    let at = first_at (is_stuck script) entries n (never_begins script (position_from (is_stuck script) 0 entries) refusal n e named) in
+    let long : length entries ≡ length ds =
+    count_read (each_with_earlier (entry_at plan.changes) ds) entries is
+    ∙ length-map (enumerate_from 0 ds) (λ p. entry_at plan.changes (take p.0 ds) p.1)
+    ∙ length-enumerate_from 0 ds in
+    let inside : n < length entries = slice_get_within entries n at.0 at.1 in
+    omega (arith, inside, long)
+
+script_stuck : (plan : SavedPlan) (bytes : List ℕ) (k : Data) (es : Items) (refusal : ScriptError) (n : ℕ) → nat_lt max_bytes (length bytes) ≡ false → keeping_tree_of is_kept bytes ≡ Some k → elements_of k ≡ Some es
+    → is_ok (all_or_first (each_with_earlier (entry_at plan.changes) (list_of es))) ≡ true → script_of plan bytes ≡ Err refusal → entry_of_refusal refusal ≡ Some n → n < length (list_of es)
+unfolding script_of script_of_tree script_of_entries
+script_stuck plan bytes k es refusal n small kept elements ok e named =
+    let here : results.◌>>=◌ (all_or_first (each_with_earlier (entry_at plan.changes) (list_of es))) (λ entries. unless_stuck entries (by_number (length plan.changes) entries)) ≡ Err refusal =
+    rw (small, kept, elements) at e in
+    stuck_number plan (list_of es) refusal n (all_or_first (each_with_earlier (entry_at plan.changes) (list_of es))) refl ok here named
+
+no_tree : (plan : SavedPlan) (bytes : List ℕ) → tree_of bytes ≡ None → clean (script_findings (Some plan.changes) bytes) ≡ true → ⊥
+no_tree plan bytes tree none =
+    let kept = kept_tree (nat_lt max_bytes (length bytes)) (is_script_beside (Some plan.changes)) (keeping_tree_of is_kept bytes) (sym (clean_bytes (Some plan.changes) bytes) ∙ none) in
+    let never : false ≡ true = sym (ap (λ (o : Option Data). is_some o) tree) ∙ both_trees bytes ∙ ap (λ (o : Option Data). is_some o) kept.2 in
+    absurd cc
+
+-- the entry that the refusal names is there, of a script in which nothing else is found
+named_entry : (plan : SavedPlan) (bytes : List ℕ) (d : Data) (refusal : ScriptError) (n : ℕ) → clean (script_findings (Some plan.changes) bytes) ≡ true → tree_of bytes ≡ Some d
+    → script_of plan bytes ≡ Err refusal → entry_of_refusal refusal ≡ Some n → n < length (items_at name.Changes d)
+named_entry plan bytes d refusal n none tree e named =
+    let kept = kept_tree (nat_lt max_bytes (length bytes)) (is_script_beside (Some plan.changes)) (keeping_tree_of is_kept bytes) (sym (clean_bytes (Some plan.changes) bytes) ∙ none) in
+    let k : Data = kept.1 in
+    let both_hold = and_parts (is_script k) (entries_fit (Some plan.changes) [] (items_at name.Changes k)) kept.3 in
+    let elements = kept_elements (λ es. list_all is_entry (list_of es)) (elements_of k) both_hold.0 in
+    let es : Items = elements.0 in
+    let listed : items_at name.Changes k ≡ list_of es = elements_in (member_of (codes "changes") k) es elements.1 in
+    let fit : (list_all is_entry (list_of es) && entries_fit (Some plan.changes) [] (list_of es)) ≡ true =
+    and_from (list_all is_entry (list_of es)) (entries_fit (Some plan.changes) [] (list_of es)) elements.2 (ap (entries_fit (Some plan.changes) []) (sym listed) ∙ both_hold.1) in
+    let inside : n < length (list_of es) = script_stuck plan bytes k es refusal n kept.0 kept.2 elements.1 (each_taken plan (list_of es) ∙ fit) e named in
+    let alike : Alike d k = bytes_alike bytes d k tree kept.2 in
+    let long : length (items_at name.Changes d) ≡ length (list_of es) = count_same name.Changes refl d k alike ∙ ap (λ (ds : List Data). length ds) listed in
+    omega (arith, inside, long)
+
+-- ---- a script for a plan
+
+refusal_by : (plan : SavedPlan) (bytes : List ℕ) (refusal : ScriptError) (o : Option ℕ) (tree : Option Data) → entry_of_refusal refusal ≡ o → tree_of bytes ≡ tree
+    → clean (script_findings (Some plan.changes) bytes) ≡ true → script_of plan bytes ≡ Err refusal → AreTold IsRead tree (placed o (what.ForPlan refusal))
+refusal_by plan bytes refusal None None is tree none e = (refl, tt)
+refusal_by plan bytes refusal None (Some d) is tree none e = (refl, tt)
+refusal_by plan bytes refusal (Some n) None is tree none e = absurd (no_tree plan bytes tree none)
+refusal_by plan bytes refusal (Some n) (Some d) is tree none e =
+    let entry = within (items_at name.Changes d) n (named_entry plan bytes d refusal n none tree e is) in
+    item_right IsRead name.Changes d n entry.0 (finding_here (what.ForPlan refusal) ∷ []) entry.1 (refl, tt)
+
+refusals_told : (lanes : Bool) (plan : SavedPlan) (bytes : List ℕ) (r : Result OutcomeMap ScriptError) → script_of plan bytes ≡ r → clean (script_findings (Some plan.changes) bytes) ≡ true
+    → AreTold IsRead (tree_of bytes) (refusals_of lanes bytes r)
+refusals_told lanes plan bytes (Ok script) e none = waits_told lanes bytes script
+refusals_told lanes plan bytes (Err refusal) e none = refusal_by plan bytes refusal (entry_of_refusal refusal) (tree_of bytes) refl refl none e
+
+beside_by : (lanes : Bool) (plan : SavedPlan) (bytes : List ℕ) (b : Bool) → has_refusal (script_findings (Some plan.changes) bytes) ≡ b
+    → AreTold IsRead (tree_of bytes) (if b then [] else refusals_of lanes bytes (script_of plan bytes))
+beside_by lanes plan bytes true is = none_told IsRead (tree_of bytes)
+beside_by lanes plan bytes false is = refusals_told lanes plan bytes (script_of plan bytes) refl (ap not is)
+
+pub given_told : (lanes : Bool) (plan : Result SavedPlan PlanError) (bytes : List ℕ) → AreTold IsRead (tree_of bytes) (given_findings lanes plan (Some bytes))
+given_told lanes (Err refusal) bytes = script_told None bytes
+given_told lanes (Ok plan) bytes =
+    both_told IsRead (tree_of bytes) (script_findings (Some plan.changes) bytes) (beside_plan lanes plan bytes) (script_told (Some plan.changes) bytes)
+    (beside_by lanes plan bytes (has_refusal (script_findings (Some plan.changes) bytes)) refl)
+
+pub script_placed : (lanes : Bool) (plan : Result SavedPlan PlanError) (bytes : List ℕ) → ArePlaced (tree_of bytes) (given_findings lanes plan (Some bytes))
+script_placed lanes plan bytes = told_placed IsRead (tree_of bytes) (given_findings lanes plan (Some bytes)) (given_told lanes plan bytes)

@@ -1,0 +1,47 @@
+//! What holds of what `validate` finds in plans and scripts. No code calls it, so that no program waits for its proof. Each function
+//! does nothing; its contract is the law.
+#![tactic(auto)]
+
+ghost use Rattle.std.specs.Prelude.{◌≡◌, ◌↔◌, [], ◌∷◌, ◌++◌, ℕ, All, Bool, List, Result, Some, false, length, nat_lt, slice_get, true};
+ghost use Rattle.std.specs.List.{Contains};
+ghost use Rattle.serde_json.specs.Data.{Data};
+ghost use Rattle.apply_json.specs.Seen.{members_in};
+ghost use Rattle.apply_json.specs.Tree.{tree_of};
+ghost use Rattle.apply_model.specs.Plan.SavedPlan.{SavedPlan};
+ghost use Rattle.apply_plan.specs.Bytes.{max_bytes};
+ghost use Rattle.apply_plan.specs.declared.plan.plan_error.PlanError.{PlanError};
+ghost use Rattle.apply_validate.specs.Findings.{is_refusal};
+ghost use Rattle.apply_validate.specs.Walks.{is_known, texts_in};
+ghost use Rattle.apply_validate.specs.Whole.{given_findings, plan_findings};
+ghost use Rattle.apply_validate.specs.declared.findings.name.Name.{Name};
+ghost use Rattle.apply_validate.specs.declared.findings.part.Part.{Part};
+ghost use Rattle.apply_validate.specs.declared.findings.part.Part.TheVariants.{Other};
+ghost use Rattle.apply_validate_laws.specs.Paths.{ArePlaced, value_at};
+ghost use Rattle.apply_validate_laws.specs.Unread.{IsRead, IsUnread, warning_at};
+
+/// The path of each finding in a plan leads to a value of its tree, or, where something is missing, to the object that lacks it. None
+/// of them is a warning.
+pub fn findings_in_plans_are_placed()
+    ensures placed { (bytes : List ℕ) → ArePlaced (tree_of bytes) (plan_findings bytes) }
+    ensures refusals { (bytes : List ℕ) → All (λ finding. is_refusal finding ≡ true) (plan_findings bytes) }
+{}
+
+/// The path of each finding in a script, beside the plan where that is not refused, leads to a value of the script's tree, or, where
+/// something is missing, to the object that lacks it.
+pub fn findings_in_scripts_are_placed()
+    ensures { (lanes : Bool) (plan : Result SavedPlan PlanError) (script : List ℕ)
+        → ArePlaced (tree_of script) (given_findings lanes plan (Some script)) }
+{}
+
+/// Of a script that is no larger than a run reads, a warning is told of exactly the members of its objects that no run reads (`exactly`):
+/// of each member of an object to which the path of one leads, where its name is none of those that a run reads there (`each`).
+pub fn warnings_are_told_of_what_no_run_reads()
+    ensures exactly { (lanes : Bool) (plan : Result SavedPlan PlanError) (script : List ℕ) (tree : Data) (path : List Part)
+        → nat_lt max_bytes (length script) ≡ false → tree_of script ≡ Some tree
+        → Contains (given_findings lanes plan (Some script)) (warning_at path) ↔ IsUnread IsRead tree path }
+    ensures each { (lanes : Bool) (plan : Result SavedPlan PlanError) (script : List ℕ) (tree : Data) (front : List Part)
+        (names : List Name) (value : Data) (n : ℕ) (text : List ℕ)
+        → nat_lt max_bytes (length script) ≡ false → tree_of script ≡ Some tree → IsRead front names
+        → value_at front tree ≡ Some value → slice_get (texts_in (members_in value)) n ≡ Some text
+        → Contains (given_findings lanes plan (Some script)) (warning_at (front ++ Other n ∷ [])) ↔ (is_known names text ≡ false) }
+{}
