@@ -65,3 +65,13 @@ WasRefused given options (Fault fault) before after =
     (plan : SavedPlan) × (script : OutcomeMap) × IsRead given plan script × IsInRange options
     × HasFailed fault.why (record { plan = plan; script = script; hooks = given.hooks }) options fault.report before after
     × (has_waits script ≡ false)
+
+-- the same of reading alone: the plan is refused, else the script, and there is no other answer
+abbrev pub WasUnread : (plan_bytes : List ℕ) (script_bytes : Option (List ℕ)) → Refusal → Type 0
+WasUnread plan_bytes script_bytes (Plan refusal) = ((refusal ≡ plan_error.Memory) × (length plan_bytes ≤ max_bytes)) ⊎ (plan_of plan_bytes ≡ Err refusal)
+WasUnread plan_bytes script_bytes (Script refusal) =
+    (plan : SavedPlan) × (plan_of plan_bytes ≡ Ok plan)
+    × (((refusal ≡ script_error.Memory) × MayBeRead script_bytes) ⊎ (given_script plan script_bytes ≡ Err refusal))
+WasUnread plan_bytes script_bytes Waits = ⊥
+WasUnread plan_bytes script_bytes Size = ⊥
+WasUnread plan_bytes script_bytes (Fault fault) = ⊥

@@ -1,21 +1,19 @@
 //! The run of a plan that is read from bytes.
 
-ghost use Rattle.std.specs.Prelude.{◌≡◌, ◌<◌, ◌-◌, ◌^◌, Err, IfErr, IfOk};
+ghost use Rattle.std.specs.Prelude.{◌≡◌, ◌<◌, ◌-◌, ◌^◌, ℕ, List, Option, IfErr, IfOk};
 ghost use Rattle.std.specs.Option.{option_copied};
 ghost use Rattle.apply_hooks.specs.Registry.{rules_of};
-ghost use Rattle.apply_plan.specs.declared.script.script_error.ScriptError.TheVariants as script_error;
-ghost use Rattle.apply_plan.specs.Results.{Gives};
-ghost use Rattle.apply_run.specs.Bytes.{given_script, MayBeRead, WasApplied, WasRefused};
+ghost use Rattle.apply_run.specs.Bytes.{IsRead, WasApplied, WasRefused};
 ghost use Rattle.apply_run.specs.Run.{sight_of};
 
 use crate::applying::apply_stream;
 use crate::options::Options;
+use crate::read_bytes::{ReadBytes, read_bytes};
 use crate::refusal::Refusal;
 use crate::report::Report;
 use crate::sinks::sink::Sink;
 use crate::worker::gate::Gate;
 use apply_hooks::Registry;
-use apply_plan::{Plan, Script, ScriptError, read_plan, read_script};
 use std::alloc::Global;
 use std::sync::Wait;
 use std::thread::Threads;
@@ -48,38 +46,52 @@ pub fn apply_bytes<S: Sink + Drop, G: Gate, R: Threads + Wait + Sync>(
         (record { plan = plan.now; script = option_copied script.entry; hooks = rules_of registry.now }) options refusal
         (sight_of S.bytes S.failed sink) (sight_of S.bytes S.failed result.0)) }
 {
-    let plan = match read_plan(alloc, plan) {
-        Ok(plan) => plan,
-        Err(refusal) => return (sink, Err(Refusal::Plan(refusal))),
-    };
-    let script = match read_given(alloc, script, &plan) {
-        Ok(script) => script,
-        Err(refusal) => return (sink, Err(Refusal::Script(refusal))),
-    };
-    if script.has_waits() {
+    match read_bytes(alloc, plan, script) {
+        Ok(read) => apply_read(rt, alloc, &read, registry, options, sink, gate),
+        Err(refusal) => (sink, Err(refusal)),
+    }
+}
+
+/// Applies what was read of bytes.
+fn apply_read<S: Sink + Drop, G: Gate, R: Threads + Wait + Sync>(
+    rt: &R,
+    alloc: Global,
+    read: &ReadBytes,
+    registry: &Registry,
+    options: Options,
+    sink: S,
+    gate: &G,
+) -> (S, Result<Report, Refusal>)
+    requires { S.failed sink < 2 ^ 64 - 1 }
+
+    ensures ok { (plan : List ℕ) (script : Option (List ℕ))
+        → IsRead (record { plan = plan; script = script; hooks = rules_of registry.now }) read.now.plan read.now.script
+        → IfOk result.1 (λ report. WasApplied (record { plan = plan; script = script; hooks = rules_of registry.now }) options report
+        (sight_of S.bytes S.failed sink) (sight_of S.bytes S.failed result.0)) }
+
+    ensures err { (plan : List ℕ) (script : Option (List ℕ))
+        → IsRead (record { plan = plan; script = script; hooks = rules_of registry.now }) read.now.plan read.now.script
+        → IfErr result.1 (λ refusal. WasRefused (record { plan = plan; script = script; hooks = rules_of registry.now }) options refusal
+        (sight_of S.bytes S.failed sink) (sight_of S.bytes S.failed result.0)) }
+{
+    if read.script.has_waits() {
         return (sink, Err(Refusal::Waits));
     }
     if !options.in_range() {
         return (sink, Err(Refusal::Size));
     }
-    let (sink, result) = apply_stream(rt, alloc, &plan, &script, registry, options, sink, gate);
+    let (sink, result) = apply_stream(
+        rt,
+        alloc,
+        &read.plan,
+        &read.script,
+        registry,
+        options,
+        sink,
+        gate,
+    );
     match result {
         Ok(report) => (sink, Ok(report)),
         Err(fault) => (sink, Err(Refusal::Fault(fault))),
-    }
-}
-
-/// The script that the bytes are for the plan; the empty one where there are none.
-pub(crate) fn read_given(
-    alloc: Global,
-    bytes: Option<&[u8]>,
-    plan: &Plan,
-) -> Result<Script, ScriptError>
-    ensures defined { Gives script_error.Memory (λ script. script) result (given_script plan.now (option_copied bytes.entry)) }
-    ensures memory { result ≡ Err script_error.Memory → MayBeRead (option_copied bytes.entry) }
-{
-    match bytes {
-        Some(bytes) => read_script(alloc, bytes, plan),
-        None => Ok(Script::empty()),
     }
 }

@@ -1,9 +1,10 @@
 //! The run of a plan that is read from bytes, in the form that is asked for.
 
-ghost use Rattle.std.specs.Prelude.{◌≡◌, ◌<◌, ◌-◌, ◌^◌, [], IfErr, IfOk};
+ghost use Rattle.std.specs.Prelude.{◌≡◌, ◌<◌, ◌-◌, ◌^◌, ℕ, List, [], Option, IfErr, IfOk};
 ghost use Rattle.std.specs.Option.{option_copied};
 ghost use Rattle.apply_hooks.specs.Registry.{rules_of};
 ghost use Rattle.apply_run.specs.InForm.{WasAppliedAsTold, WasAppliedAsToldInLanes, WasAppliedInForm, WasAppliedInFormAndLanes, WasNotApplied, WasNotAppliedInLanes, WasRefusedInForm, WasRefusedInFormAndLanes};
+ghost use Rattle.apply_run.specs.Read.{WasRead};
 ghost use Rattle.apply_run.specs.Run.{sight_of};
 ghost use Rattle.apply_run.specs.Stream.Terraform.{tells_error};
 
@@ -11,7 +12,7 @@ use crate::applying::apply_in_form;
 use crate::bytes::apply_bytes;
 use crate::fault::Fault;
 use crate::form_report::FormReport;
-use crate::forms::read_besides::read_besides;
+use crate::forms::read_besides::{ReadBesides, read_besides};
 use crate::forms::terraform_lines::TerraformLines;
 use crate::lanes::{apply_bytes_in_lanes, apply_lanes_in_form, are_lanes};
 use crate::options::Options;
@@ -70,7 +71,10 @@ pub fn apply_bytes_in_form<S: Sink + Drop, G: Gate, R: Threads + Wait + Sync>(
                 Err(refusal) => (sink, Err(refusal)),
             }
         }
-        Form::Terraform => apply_as_told(rt, alloc, plan, script, registry, options, sink, gate),
+        Form::Terraform => match read_besides(alloc, plan, script) {
+            Ok(read) => apply_as_told(rt, alloc, &read, registry, options, sink, gate),
+            Err(refusal) => (sink, Err(refusal)),
+        },
     }
 }
 
@@ -91,12 +95,11 @@ fn is_unfinished(counts: &Counts) -> bool
     0 < counts.failed || 0 < counts.halted
 }
 
-/// The same in Terraform's own form.
+/// Applies what was read for Terraform's own form.
 fn apply_as_told<S: Sink + Drop, G: Gate, R: Threads + Wait + Sync>(
     rt: &R,
     alloc: Global,
-    plan: &[u8],
-    script: Option<&[u8]>,
+    read: &ReadBesides,
     registry: &Registry,
     options: Options,
     sink: S,
@@ -104,18 +107,14 @@ fn apply_as_told<S: Sink + Drop, G: Gate, R: Threads + Wait + Sync>(
 ) -> (S, Result<FormReport, Refusal>)
     requires { S.failed sink < 2 ^ 64 - 1 }
 
-    ensures ok { IfOk result.1 (λ report. WasAppliedAsTold
-        (record { plan = plan.now; script = option_copied script.entry; hooks = rules_of registry.now }) options report
+    ensures ok { (plan : List ℕ) (script : Option (List ℕ)) → WasRead plan script read.now
+        → IfOk result.1 (λ report. WasAppliedAsTold (record { plan = plan; script = script; hooks = rules_of registry.now }) options report
         (sight_of S.bytes S.failed sink) (sight_of S.bytes S.failed result.0)) }
 
-    ensures err { IfErr result.1 (λ refusal. WasNotApplied
-        (record { plan = plan.now; script = option_copied script.entry; hooks = rules_of registry.now }) options refusal
+    ensures err { (plan : List ℕ) (script : Option (List ℕ)) → WasRead plan script read.now
+        → IfErr result.1 (λ refusal. WasNotApplied (record { plan = plan; script = script; hooks = rules_of registry.now }) options refusal
         (sight_of S.bytes S.failed sink) (sight_of S.bytes S.failed result.0)) }
 {
-    let read = match read_besides(alloc, plan, script) {
-        Ok(read) => read,
-        Err(refusal) => return (sink, Err(refusal)),
-    };
     if read.has_waits {
         return (sink, Err(Refusal::Waits));
     }
@@ -189,17 +188,19 @@ pub fn apply_bytes_in_form_and_lanes<S: Sink + Drop>(
                 Err(refusal) => (sink, Err(refusal)),
             }
         }
-        Form::Terraform => apply_as_told_in_lanes(
-            alloc, plan, script, registry, lanes, start, operation, sink,
-        ),
+        Form::Terraform => match read_besides(alloc, plan, script) {
+            Ok(read) => apply_as_told_in_lanes(
+                alloc, &read, registry, lanes, start, operation, sink,
+            ),
+            Err(refusal) => (sink, Err(refusal)),
+        },
     }
 }
 
-/// The same in Terraform's own form.
+/// Applies in lanes what was read for Terraform's own form.
 fn apply_as_told_in_lanes<S: Sink + Drop>(
     alloc: Global,
-    plan: &[u8],
-    script: Option<&[u8]>,
+    read: &ReadBesides,
     registry: &Registry,
     lanes: u8,
     start: Start,
@@ -208,18 +209,14 @@ fn apply_as_told_in_lanes<S: Sink + Drop>(
 ) -> (S, Result<FormReport, Refusal>)
     requires { S.failed sink < 2 ^ 64 - 1 }
 
-    ensures ok { IfOk result.1 (λ report. WasAppliedAsToldInLanes
-        (record { plan = plan.now; script = option_copied script.entry; hooks = rules_of registry.now }) lanes start operation report
-        (sight_of S.bytes S.failed sink) (sight_of S.bytes S.failed result.0)) }
+    ensures ok { (plan : List ℕ) (script : Option (List ℕ)) → WasRead plan script read.now
+        → IfOk result.1 (λ report. WasAppliedAsToldInLanes (record { plan = plan; script = script; hooks = rules_of registry.now })
+        lanes start operation report (sight_of S.bytes S.failed sink) (sight_of S.bytes S.failed result.0)) }
 
-    ensures err { IfErr result.1 (λ refusal. WasNotAppliedInLanes
-        (record { plan = plan.now; script = option_copied script.entry; hooks = rules_of registry.now }) lanes start operation refusal
-        (sight_of S.bytes S.failed sink) (sight_of S.bytes S.failed result.0)) }
+    ensures err { (plan : List ℕ) (script : Option (List ℕ)) → WasRead plan script read.now
+        → IfErr result.1 (λ refusal. WasNotAppliedInLanes (record { plan = plan; script = script; hooks = rules_of registry.now })
+        lanes start operation refusal (sight_of S.bytes S.failed sink) (sight_of S.bytes S.failed result.0)) }
 {
-    let read = match read_besides(alloc, plan, script) {
-        Ok(read) => read,
-        Err(refusal) => return (sink, Err(refusal)),
-    };
     if !are_lanes(lanes) {
         return (sink, Err(Refusal::Size));
     }

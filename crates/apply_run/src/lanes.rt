@@ -1,19 +1,20 @@
 //! The run of a plan in lanes: changes are under way at once in the stream's own time, and no thread is started.
 
-ghost use Rattle.std.specs.Prelude.{◌≡◌, ◌<◌, ◌-◌, ◌^◌, ◌↔◌, Err, IfErr, IfOk, IsTrue};
+ghost use Rattle.std.specs.Prelude.{◌≡◌, ◌<◌, ◌-◌, ◌^◌, ◌↔◌, ℕ, List, Option, IfErr, IfOk, IsTrue};
 ghost use Rattle.std.specs.Option.{option_copied};
 ghost use Rattle.apply_hooks.specs.Registry.{rules_of};
 ghost use Rattle.apply_events.specs.Lanes.{AreLanes};
 ghost use Rattle.apply_events.specs.Lanes.ToCome.{to_come, told_count, work_of};
+ghost use Rattle.apply_run.specs.Bytes.{IsRead};
 ghost use Rattle.apply_run.specs.Lanes.{HasFailedInFormAndLanes, HasFailedInLanes, HasStreamedInFormAndLanes, HasStreamedInLanes, WasAppliedInLanes, WasRefusedInLanes};
 ghost use Rattle.apply_run.specs.Run.{sight_of};
 ghost use Rattle.apply_run.specs.Stream.Counting.{CountsFit, IsNew};
 ghost use Rattle.apply_run.specs.Stream.Telling.{IsSameStream, IsToldSince, telling_of};
 
-use crate::bytes::read_given;
 use crate::fault::Fault;
 use crate::forms::form_lines::FormLines;
 use crate::forms::plain_lines::PlainLines;
+use crate::read_bytes::{ReadBytes, read_bytes};
 use crate::refusal::Refusal;
 use crate::report::Report;
 use crate::sinks::sink::Sink;
@@ -21,7 +22,7 @@ use crate::stream::StreamWriter;
 use crate::why::Why;
 use apply_events::{Lanes, MAX_LANES, there_is_a_time_line};
 use apply_hooks::Registry;
-use apply_plan::{Plan, Script, read_plan};
+use apply_plan::{Plan, Script};
 use apply_text::{Operation, Start};
 use std::alloc::Global;
 
@@ -153,19 +154,46 @@ pub fn apply_bytes_in_lanes<S: Sink + Drop>(
         (record { plan = plan.now; script = option_copied script.entry; hooks = rules_of registry.now }) lanes start operation refusal
         (sight_of S.bytes S.failed sink) (sight_of S.bytes S.failed result.0)) }
 {
-    let plan = match read_plan(alloc, plan) {
-        Ok(plan) => plan,
-        Err(refusal) => return (sink, Err(Refusal::Plan(refusal))),
-    };
-    let script = match read_given(alloc, script, &plan) {
-        Ok(script) => script,
-        Err(refusal) => return (sink, Err(Refusal::Script(refusal))),
-    };
+    match read_bytes(alloc, plan, script) {
+        Ok(read) => apply_read(alloc, &read, registry, lanes, start, operation, sink),
+        Err(refusal) => (sink, Err(refusal)),
+    }
+}
+
+/// Applies what was read of bytes.
+fn apply_read<S: Sink + Drop>(
+    alloc: Global,
+    read: &ReadBytes,
+    registry: &Registry,
+    lanes: u8,
+    start: Start,
+    operation: Operation,
+    sink: S,
+) -> (S, Result<Report, Refusal>)
+    requires { S.failed sink < 2 ^ 64 - 1 }
+
+    ensures ok { (plan : List ℕ) (script : Option (List ℕ))
+        → IsRead (record { plan = plan; script = script; hooks = rules_of registry.now }) read.now.plan read.now.script
+        → IfOk result.1 (λ report. WasAppliedInLanes (record { plan = plan; script = script; hooks = rules_of registry.now })
+        lanes start operation report (sight_of S.bytes S.failed sink) (sight_of S.bytes S.failed result.0)) }
+
+    ensures err { (plan : List ℕ) (script : Option (List ℕ))
+        → IsRead (record { plan = plan; script = script; hooks = rules_of registry.now }) read.now.plan read.now.script
+        → IfErr result.1 (λ refusal. WasRefusedInLanes (record { plan = plan; script = script; hooks = rules_of registry.now })
+        lanes start operation refusal (sight_of S.bytes S.failed sink) (sight_of S.bytes S.failed result.0)) }
+{
     if !are_lanes(lanes) {
         return (sink, Err(Refusal::Size));
     }
     let (sink, result) = apply_in_lanes(
-        alloc, &plan, &script, registry, lanes, start, operation, sink,
+        alloc,
+        &read.plan,
+        &read.script,
+        registry,
+        lanes,
+        start,
+        operation,
+        sink,
     );
     match result {
         Ok(report) => (sink, Ok(report)),

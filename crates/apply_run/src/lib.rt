@@ -11,6 +11,7 @@ mod in_form;
 mod lanes;
 mod laws;
 mod options;
+mod read_bytes;
 mod refusal;
 mod report;
 mod run;

@@ -3,9 +3,9 @@
 ghost use Rattle.std.specs.Prelude.{◌≡◌, ◌≤◌, ◌∷◌, [], Some, false, Ok, IfOk, IfErr, IfSome, codes, map, string_bytes};
 ghost use Rattle.std.specs.Option.{option_map_or};
 ghost use Rattle.clap.specs.Matches.{found_of};
-ghost use Rattle.clap.specs.Simple.{app_of};
+ghost use Rattle.clap.specs.Simple.{App, app_of, with_rule};
 ghost use Rattle.clap.specs.Values.{kind_of};
-ghost use Rattle.clap.specs.Walk.{first_of, one_of, rows_of, rule_of};
+ghost use Rattle.clap.specs.Walk.{Rule, first_of, one_of, rows_of, rule_of};
 ghost use Rattle.apply_settings.specs.CommandLine as said;
 ghost use Rattle.apply_settings.specs.CommandLine.{Answers, AreSaid, HaveSaid, IsNumber, IsOneOf, AreSaidWrong, SayNoSettings};
 ghost use Rattle.apply_settings.specs.CommandLine.{halts_said, kind_of_word};
@@ -84,76 +84,92 @@ pub fn read_words(alloc: Global, words: &[String]) -> Result<Settings, Usage>
 
 /// All options, and their help.
 pub(crate) fn command<'a>(alloc: Global) -> Result<Command<'a>, AllocError>
-    ensures { IfOk result (λ command. (choices : said.Choices) × said.AreChoices choices
-        × (app_of command ≡ said.command_line choices)) }
+    ensures { (choices : said.Choices) × said.AreChoices choices
+        × IfOk result (λ command. app_of command ≡ said.command_line choices) }
 {
-    settings_command(alloc)?
-        .arg(parallelism(alloc))?
-        .arg(form(alloc))
+    let settings = settings_command(alloc);
+    let lanes = add(settings, parallelism(alloc));
+    add(lanes, form(alloc))
 }
 
 /// The options that say the settings, and their help.
 fn settings_command<'a>(alloc: Global) -> Result<Command<'a>, AllocError>
-    ensures { IfOk result (λ command. (kinds : _) × IsOneOf said.kind_words kinds
-        × (app_of command ≡ said.settings_line kinds)) }
+    ensures { (kinds : _) × IsOneOf said.kind_words kinds
+        × IfOk result (λ command. app_of command ≡ said.settings_line kinds) }
 {
-    Command::new(alloc, "applystream")
-        .no_binary_name(true)
-        .about(ABOUT)
-        .version(VERSION)
-        .after_help(AFTER)
-        .arg(at(alloc))?
-        .arg(script(alloc))?
-        .arg(workers(alloc))?
-        .arg(queue(alloc))?
-        .arg(destroy(alloc))?
-        .arg(halt_before(alloc))?
-        .arg(halt_in(alloc))
+    let line = Ok(
+        Command::new(alloc, "applystream")
+            .no_binary_name(true)
+            .about(ABOUT)
+            .version(VERSION)
+            .after_help(AFTER),
+    );
+    let line = add(line, at(alloc));
+    let line = add(line, script(alloc));
+    let line = add(line, workers(alloc));
+    let line = add(line, queue(alloc));
+    let line = add(line, destroy(alloc));
+    let line = add(line, halt_before(alloc));
+    add(line, halt_in(alloc))
+}
+
+/// The command, where there is one, with an option more. A list of options by this has one way out, and not one for each.
+fn add<'a>(
+    command: Result<Command<'a>, AllocError>,
+    option: Arg<'a>,
+) -> Result<Command<'a>, AllocError>
+    ensures { (app : App) (rule : Rule) → IfOk command.entry (λ without. app_of without ≡ app)
+        → rule_of option.entry ≡ rule → option.entry.global ≡ false
+        → IfOk result (λ with. app_of with ≡ with_rule app rule) }
+{
+    match command {
+        Ok(command) => command.arg(option),
+        Err(refused) => Err(refused),
+    }
+}
+
+/// `--NAME VALUE`, and what is said of it.
+fn option_named<'a>(alloc: Global, name: &'a str, value: &'a str, help: &'a str) -> Arg<'a>
+    ensures { (rule_of result ≡ said.option_named name.entry.now) × (result.global ≡ false) }
+{
+    Arg::new(alloc, name)
+        .long(name)
+        .value_name(value)
+        .help(help)
 }
 
 fn at<'a>(alloc: Global) -> Arg<'a>
     ensures { (rule_of result ≡ record (said.option_named (codes "at")) { defaults = codes "1970-01-01T00:00:00Z" ∷ [] }) × (result.global ≡ false) }
 {
-    Arg::new(alloc, "at")
-        .long("at")
-        .value_name("MOMENT")
-        .default_value("1970-01-01T00:00:00Z")
-        .help(
-            "When the first steps begin, in whole seconds: 1970-01-01T00:00:00Z to 8999-12-31T23:59:59Z, with any offset",
-        )
+    let help =
+        "When the first steps begin, in whole seconds: 1970-01-01T00:00:00Z to 8999-12-31T23:59:59Z, with any offset";
+    option_named(alloc, "at", "MOMENT", help).default_value("1970-01-01T00:00:00Z")
 }
 
 fn script<'a>(alloc: Global) -> Arg<'a>
     ensures { (rule_of result ≡ said.option_named (codes "script")) × (result.global ≡ false) }
 {
-    Arg::new(alloc, "script")
-        .long("script")
-        .value_name("FILE")
-        .help(
-            "A script in JSON, which says how many seconds each step takes, which fail and what each comes after, with at most 67108864 bytes. Without it each step is done at once",
-        )
+    let help =
+        "A script in JSON, which says how many seconds each step takes, which fail and what each comes after, with at most 67108864 bytes. Without it each step is done at once";
+    option_named(alloc, "script", "FILE", help)
 }
 
 fn workers<'a>(alloc: Global) -> Arg<'a>
     ensures { (rule_of result ≡ said.number_named (codes "workers") 8 (codes "1")) × (result.global ≡ false) }
 {
-    Arg::new(alloc, "workers")
-        .long("workers")
-        .value_name("N")
+    let help = "How many workers apply the changes at once, 1 to 8";
+    option_named(alloc, "workers", "N", help)
         .value_parser(value_parser!(u8).range(1..=8))
         .default_value("1")
-        .help("How many workers apply the changes at once, 1 to 8")
 }
 
 fn queue<'a>(alloc: Global) -> Arg<'a>
     ensures { (rule_of result ≡ said.number_named (codes "queue") 1024 (codes "64")) × (result.global ≡ false) }
 {
-    Arg::new(alloc, "queue")
-        .long("queue")
-        .value_name("N")
+    let help = "How many messages may wait to be written, 1 to 1024";
+    option_named(alloc, "queue", "N", help)
         .value_parser(value_parser!(u16).range(1..=1024))
         .default_value("64")
-        .help("How many messages may wait to be written, 1 to 1024")
 }
 
 fn destroy<'a>(alloc: Global) -> Arg<'a>
@@ -170,36 +186,27 @@ fn halt_before<'a>(alloc: Global) -> Arg<'a>
         × (rule_of result ≡ record (said.list_named (codes "halt-before")) { parser = Some kinds })
         × (result.global ≡ false) }
 {
-    Arg::new(alloc, "halt-before")
-        .long("halt-before")
-        .value_name("KIND")
+    let help =
+        "Halts each step of this kind before it begins. May be given again: 32 halts at most";
+    option_named(alloc, "halt-before", "KIND", help)
         .action(ArgAction::Append)
         .value_parser(KINDS.as_slice())
-        .help("Halts each step of this kind before it begins. May be given again: 32 halts at most")
 }
 
 fn halt_in<'a>(alloc: Global) -> Arg<'a>
     ensures { (rule_of result ≡ said.list_named (codes "halt-in")) × (result.global ≡ false) }
 {
-    Arg::new(alloc, "halt-in")
-        .long("halt-in")
-        .value_name("PREFIX")
-        .action(ArgAction::Append)
-        .help(
-            "Halts each step of a resource whose address begins so before it begins, as module.a. May be given again: 32 halts at most",
-        )
+    let help =
+        "Halts each step of a resource whose address begins so before it begins, as module.a. May be given again: 32 halts at most";
+    option_named(alloc, "halt-in", "PREFIX", help).action(ArgAction::Append)
 }
 
 fn parallelism<'a>(alloc: Global) -> Arg<'a>
     ensures { (rule_of result ≡ said.parallelism_rule) × (result.global ≡ false) }
 {
-    Arg::new(alloc, "parallelism")
-        .long("parallelism")
-        .value_name("N")
-        .value_parser(value_parser!(u8).range(1..=64))
-        .help(
-            "How many changes are under way at once in the stream's own time, as `terraform apply -parallelism=N` has it: the same input gives the same messages. Not together with --workers or --queue. 1 to 64",
-        )
+    let help =
+        "How many changes are under way at once in the stream's own time, as `terraform apply -parallelism=N` has it: the same input gives the same messages. Not together with --workers or --queue. 1 to 64";
+    option_named(alloc, "parallelism", "N", help).value_parser(value_parser!(u8).range(1..=64))
 }
 
 fn form<'a>(alloc: Global) -> Arg<'a>
@@ -207,14 +214,11 @@ fn form<'a>(alloc: Global) -> Arg<'a>
         × (rule_of result ≡ said.form_rule forms)
         × (result.global ≡ false) }
 {
-    Arg::new(alloc, "form")
-        .long("form")
-        .value_name("FORM")
+    let help =
+        "In which form the stream is written: applystream, or terraform for the bytes that Terraform 1.11 prints";
+    option_named(alloc, "form", "FORM", help)
         .value_parser(FORMS.as_slice())
         .default_value("applystream")
-        .help(
-            "In which form the stream is written: applystream, or terraform for the bytes that Terraform 1.11 prints",
-        )
 }
 
 /// Whether a parallelism stands beside workers or a queue.

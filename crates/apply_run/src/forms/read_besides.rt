@@ -1,25 +1,27 @@
 //! What is read of a plan and a script for Terraform's form.
 
-ghost use Rattle.std.specs.Prelude.{◌≡◌, ◌≤◌, length, Err, IfErr, IfOk, IfSome};
+ghost use Rattle.std.specs.Prelude.{◌≡◌, ◌≤◌, [], length, if◌then◌else◌, Err, IfErr, IfOk, IfSome};
 ghost use Rattle.std.specs.Option.{option_copied};
 ghost use Rattle.apply_plan.specs.declared.script.script_error.ScriptError.TheVariants as script_error;
 ghost use Rattle.apply_plan.specs.Bytes.{max_bytes};
 ghost use Rattle.apply_plan.specs.Results.{Gives};
 ghost use Rattle.apply_form_plan.specs.Extras.{seen_extras};
+ghost use Rattle.apply_form_plan.specs.Notes as said;
+ghost use Rattle.apply_form_plan.specs.Outputs as told;
 ghost use Rattle.apply_form_plan.specs.Outputs.{seen_outputs};
 ghost use Rattle.apply_form_plan.specs.Told.{seen_details};
 ghost use Rattle.apply_run.specs.Bytes.{MayBeRead};
-ghost use Rattle.apply_run.specs.Read.{given_extras, IsReadAsTold, WasNotRead, WasRead};
+ghost use Rattle.apply_run.specs.Read.{given_extras, is_unfinished, IsReadAsTold, WasNotRead, WasRead};
 
-use crate::bytes::read_given;
 use crate::forms::told_besides::ToldBesides;
+use crate::read_bytes::{ReadBytes, read_bytes};
 use crate::refusal::Refusal;
 use apply_form_plan::{
     Details, Extras, PlanDetails, PlanNote, PlanOutputs, read_details, read_extras, told_notes,
     told_outputs,
 };
 use apply_model::{ChangeDetails, Note, Output, Text};
-use apply_plan::{Plan, PlanError, Script, ScriptError, read_plan};
+use apply_plan::{Plan, PlanError, Script, ScriptError};
 use std::alloc::{AllocError, Global};
 
 /// What is read of a plan and a script for Terraform's form.
@@ -67,14 +69,7 @@ pub(crate) fn read_besides(
     ensures ok { IfOk result (WasRead plan.now (option_copied script.entry)) }
     ensures err { IfErr result (WasNotRead plan.now (option_copied script.entry)) }
 {
-    let saved = match read_plan(alloc, plan) {
-        Ok(saved) => saved,
-        Err(refusal) => return Err(Refusal::Plan(refusal)),
-    };
-    let outcomes = match read_given(alloc, script, &saved) {
-        Ok(outcomes) => outcomes,
-        Err(refusal) => return Err(Refusal::Script(refusal)),
-    };
+    let read = read_bytes(alloc, plan, script)?;
     let Ok(details) = read_details(alloc, plan) else {
         return Err(Refusal::Plan(PlanError::Memory));
     };
@@ -82,7 +77,7 @@ pub(crate) fn read_besides(
         Ok(extras) => extras,
         Err(refusal) => return Err(Refusal::Script(refusal)),
     };
-    match as_told(alloc, saved, outcomes, details, extras) {
+    match as_told(alloc, read, details, extras) {
         Ok(read) => Ok(read),
         Err(_) => Err(Refusal::Plan(PlanError::Memory)),
     }
@@ -108,33 +103,25 @@ fn read_given_extras(
 /// What was read, as it is applied. `Err` where memory is refused.
 fn as_told(
     alloc: Global,
-    plan: Plan,
-    script: Script,
+    read: ReadBytes,
     details: Details,
     extras: Extras,
 ) -> Result<ReadBesides, AllocError>
     ensures { IfOk result (IsReadAsTold (record {
-      plan = plan;
-      script = script;
+      plan = read.plan;
+      script = read.script;
       details = seen_details details;
       extras = seen_extras extras;
     })) }
 {
+    let has_waits = read.script.has_waits();
     let Details {
         plan: said,
         outputs,
     } = details;
     let PlanDetails { changes, note } = said;
-    let mut extras = extras;
-    let notes = told_notes(alloc, note, extras.take_notes(alloc))?;
-    let outputs = told_outputs(alloc, outputs, extras)?;
-    let has_waits = script.has_waits();
-    let (plan, script) = if note == Some(PlanNote::Unfinished) {
-        let version = Text::new(alloc, plan.version())?;
-        (Plan::new(version, Vec::new(alloc)), Script::empty())
-    } else {
-        (plan, script)
-    };
+    let ReadBytes { plan, script } = as_applied(alloc, read, note)?;
+    let (notes, outputs) = as_besides(alloc, note, outputs, extras)?;
     Ok(ReadBesides {
         plan,
         script,
@@ -143,4 +130,39 @@ fn as_told(
         outputs,
         has_waits,
     })
+}
+
+/// The plan and the script, as they are applied. `Err` where memory is refused.
+fn as_applied(
+    alloc: Global,
+    read: ReadBytes,
+    note: Option<PlanNote>,
+) -> Result<ReadBytes, AllocError>
+    ensures plan { IfOk result (λ applied. applied.plan ≡
+        (if is_unfinished note then record { version = read.plan.version; changes = [] } else read.plan)) }
+    ensures script { IfOk result (λ applied. applied.script ≡ (if is_unfinished note then [] else read.script)) }
+{
+    if note != Some(PlanNote::Unfinished) {
+        return Ok(read);
+    }
+    let version = Text::new(alloc, read.plan.version())?;
+    Ok(ReadBytes {
+        plan: Plan::new(version, Vec::new(alloc)),
+        script: Script::empty(),
+    })
+}
+
+/// The diagnostics of no step, and the outputs. `Err` where memory is refused.
+fn as_besides(
+    alloc: Global,
+    note: Option<PlanNote>,
+    outputs: PlanOutputs,
+    mut extras: Extras,
+) -> Result<(Vec<Note>, Vec<Output>), AllocError>
+    ensures notes { IfOk result (λ both. both.0.items ≡ said.told_notes note (seen_extras extras).notes) }
+    ensures outputs { IfOk result (λ both. both.1.items ≡ told.told_outputs (seen_outputs outputs) (seen_extras extras).outputs) }
+{
+    let notes = told_notes(alloc, note, extras.take_notes(alloc))?;
+    let outputs = told_outputs(alloc, outputs, extras)?;
+    Ok((notes, outputs))
 }
