@@ -77,7 +77,7 @@ impl LineBuffer {
     }
 
     /// No line, and room for one of up to 1,024 bytes, whose texts have up to 256, without a further growth; only what lines
-    /// of a step have in common takes more, once for each step. `Err` where memory is refused.
+    /// of a step have in common takes more, until there is room for that too. `Err` where memory is refused.
     pub fn with_room(alloc: Global) -> Result<LineBuffer, AllocError>
         ensures { IfOk result (λ buffer. buffer ≡ []) }
     {
