@@ -2,6 +2,7 @@ pub mod Absent
 pub mod Cuts
 pub mod Escapes
 pub mod Events
+pub mod HookLines
 pub mod LinesAdded
 pub mod Members
 pub mod Moments

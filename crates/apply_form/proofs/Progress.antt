@@ -38,7 +38,7 @@ ends_in_decimals : (text : List ℕ) → quoted (text ++ codes ".000000Z") ≡ (
 unfolding json_on_literals
 ends_in_decimals text = ap (λ t. 34 ∷ (t ++ 34 ∷ [])) (joined text (codes ".000000Z")) ∙ ap (λ t. 34 ∷ t) (append_assoc (escape text) (codes ".000000Z") (34 ∷ []))
 
-fine_is : (moment : ℕ) → (open_date (moment / 86400) ++ time_of_day (moment % 86400)) ++ codes ".000000Z\"" ≡ quoted (fine_text moment)
+pub fine_is : (moment : ℕ) → (open_date (moment / 86400) ++ time_of_day (moment % 86400)) ++ codes ".000000Z\"" ≡ quoted (fine_text moment)
 unfolding moment_text fine_text
 fine_is moment =
     let text = option_map_or date_text (date_of_day (moment / 86400)) [] ++ codes "T" ++ time_text (moment % 86400) in
@@ -125,9 +125,9 @@ line_is change step moment seconds =
 
 -- ---- what is kept
 
-pub resource_is : (bytes : List ℕ) (change : ResourceChange) → bytes ≡ quoted (codes "resource") ++ 58 ∷ compact_text (resource_object change) → bytes ≡ codes "\"resource\":" ++ compact_text (resource_object change)
+pub resource_is : (bytes first : List ℕ) (change : ResourceChange) → bytes ≡ first ++ (quoted (codes "resource") ++ 58 ∷ compact_text (resource_object change)) → bytes ≡ first ++ (codes "\"resource\":" ++ compact_text (resource_object change))
 unfolding json_on_literals
-resource_is bytes change is = is
+resource_is bytes first change is = is
 
 pub middle_is : (bytes resource action : List ℕ) (change : ResourceChange) (step : StepKind) → bytes ≡ codes ".000000Z\",\"hook\":{" ++ (resource ++ (codes ",\"action\":\"" ++ (action ++ codes "\",\"elapsed_seconds\":")))
     → resource ≡ codes "\"resource\":" ++ compact_text (resource_object change) → action ≡ action_word step → bytes ≡ middle_text change step

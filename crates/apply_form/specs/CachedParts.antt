@@ -3,7 +3,7 @@ use Rattle.std.specs.Prelude.{ℕ, List, ◌++◌, codes, Some, None}
 use Rattle.serde_json.specs.Written.{compact_text}
 use Rattle.apply_model.specs.declared.plan.step_kind.StepKind.{StepKind}
 use Rattle.apply_model.specs.Plan.ResourceChange.{ResourceChange}
-use Rattle.apply_text.specs.CachedParts.{KeptStep, ProgressPieces, front_text}
+use Rattle.apply_text.specs.CachedParts.{KeptStep, StepPieces, front_text}
 use Rattle.apply_text.specs.Lines.{message_object, typed}
 use Rattle.apply_text.specs.Message.{progress_message}
 use Rattle.apply_text.specs.Words.{action_word}
@@ -17,7 +17,7 @@ middle_text change step =
     codes ".000000Z\",\"hook\":{" ++ ((codes "\"resource\":" ++ compact_text (resource_object change)) ++ (codes ",\"action\":\"" ++ (action_word step ++ codes "\",\"elapsed_seconds\":")))
 
 -- the texts that a progress line of a step is put together of: what may have escapes has them
-abbrev pub form_pieces : KeptStep → ProgressPieces
+abbrev pub form_pieces : KeptStep → StepPieces
 form_pieces kept = record {
   front = escaped (front_text kept.change.address kept.step);
   middle = escaped (middle_text kept.change kept.step);

@@ -2,6 +2,7 @@ pub mod AppliedStep
 pub mod CachedParts
 pub mod Details
 pub mod Escapes
+pub mod HookLines
 pub mod Kept
 pub mod Laws
 pub mod Lines

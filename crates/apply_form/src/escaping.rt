@@ -7,7 +7,7 @@ ghost use Rattle.apply_form.specs.Escapes.{begins_with, escaped, is_special};
 ghost use Rattle.apply_form.specs.Lines.{line_of_text};
 
 use memchr::{memchr, memchr3};
-use std::alloc::{AllocError, Global};
+use std::alloc::AllocError;
 
 /// How far the next character with an escape is looked for at a time, so that no long text is looked through anew for each.
 const SEARCH_LEN: usize = 1_024;
@@ -28,11 +28,13 @@ pub fn push_line(lines: &mut Vec<u8>, text: &[u8]) -> Result<(), AllocError>
     }
 }
 
-/// The text with its escapes. `Err` where memory is refused.
-pub fn escaped_text(alloc: Global, text: &str) -> Result<String, AllocError>
+/// The text with its escapes, in the place of what is in `room`. `Err` where memory is refused.
+pub fn escaped_text(room: String, text: &str) -> Result<String, AllocError>
     ensures { IfOk result (λ whole. string_bytes whole ≡ escaped text.now) }
 {
-    let mut bytes = Vec::with_capacity(alloc, text.len())?;
+    let mut bytes = room.into_bytes();
+    bytes.clear();
+    bytes.reserve(text.len())?;
     push_escaped(&mut bytes, text.as_bytes())?;
     Ok(String::from_utf8(bytes).unwrap())
 }

@@ -1,26 +1,30 @@
 //! A buffer of lines.
 
-ghost use Rattle.std.specs.Prelude.{◌≡◌, ◌≤◌, ◌+◌, ◌++◌, [], IfOk, IsOk, List, OnOk, OnErr, ℕ};
+ghost use Rattle.std.specs.Prelude.{◌≡◌, ◌≤◌, ◌+◌, ◌++◌, [], true, IfOk, IsOk, List, OnOk, OnErr, ℕ};
 ghost use Rattle.std.specs.Option.{option_copied};
 ghost use Rattle.json.specs.Print.{print};
 ghost use Rattle.apply_events.specs.Fits.{HasStep, last_moment};
 ghost use Rattle.apply_text.specs.AppliedStep.{diag_view};
+ghost use Rattle.apply_text.specs.HookLines.{told_view};
 ghost use Rattle.apply_form.specs.AppliedStep.{line_of_event};
 ghost use Rattle.apply_form.specs.CachedParts.{progress_text};
+ghost use Rattle.apply_form.specs.HookLines.{IsPlainId, hook_text};
 ghost use Rattle.apply_form.specs.Kept.{kept_members, note_end};
 ghost use Rattle.apply_form.specs.Lines.{event_text, line_of_text, message_line, note_text, outputs_text, planned_text, summary_text, version_text};
 ghost use Rattle.apply_form.specs.Message.{is_silent as is_silent_event, planned_message};
 
 use crate::cached_parts::frame::FormFrame;
+use crate::cached_parts::hook_frame::HookFrame;
 use crate::escaping::push_line;
 use crate::kept_members::put_kept;
 use crate::messages::{put_event, put_note, put_planned, put_summary, put_version};
 use crate::moment::FineMoment;
 use crate::outputs::push_outputs;
 use crate::planned::planned_word;
+use crate::told::told_of;
 use apply_events::{Counts, Event, What};
 use apply_model::{Change, ChangeDetails, Note, Output, Plan, Script, StepKind};
-use apply_text::parts::{AppliedStep, DiagTexts, ProgressFrames};
+use apply_text::parts::{AppliedStep, DiagTexts, StepFrames, ToldStep};
 use apply_text::{Operation, Start};
 use json::Writer;
 use std::alloc::{AllocError, Global};
@@ -37,7 +41,7 @@ const FIRST_PROGRESS: u32 = 10;
 const TEXT_LEN: usize = 256;
 
 /// Lines of a stream in Terraform's form, one behind the other. Room that was made once is kept, so that a further line costs
-/// no growth, but where a line of progress keeps what it has in common with those behind it.
+/// no growth, but where a line keeps what it has in common with others of its step.
 ///
 /// Contracts see the bytes of the lines.
 #[derive(Drop)]
@@ -46,10 +50,12 @@ pub struct FormBuffer {
     bytes: Vec<u8>,
     // A line before its escapes.
     line: Vec<u8>,
-    // The texts that a message is put together of, one after the other, or a line of progress.
+    // The texts that a message is put together of, one after the other, or a line of kept texts.
     scratch: String,
     // What lines of progress have in common with those before them.
-    kept: ProgressFrames<FormFrame>,
+    progress: StepFrames<FormFrame>,
+    // What the lines of a step's start and end have in common.
+    hooks: StepFrames<HookFrame>,
 }
 
 impl Model for FormBuffer {
@@ -70,12 +76,13 @@ impl FormBuffer {
             bytes: Vec::new(alloc),
             line: Vec::new(alloc),
             scratch: String::new(alloc),
-            kept: ProgressFrames::new(alloc),
+            progress: StepFrames::new(alloc),
+            hooks: StepFrames::new(alloc),
         }
     }
 
     /// No line, and room for one of up to 1,024 bytes, whose texts have up to 256, without a further growth; only what lines
-    /// of progress have in common takes more, once for each step. `Err` where memory is refused.
+    /// of a step have in common takes more, until there is room for that too. `Err` where memory is refused.
     pub fn with_room(alloc: Global) -> Result<FormBuffer, AllocError>
         ensures { IfOk result (λ buffer. buffer ≡ []) }
     {
@@ -84,7 +91,8 @@ impl FormBuffer {
             bytes: Vec::with_capacity(alloc, LINE_LEN)?,
             line: Vec::with_capacity(alloc, LINE_LEN)?,
             scratch: String::with_capacity(alloc, TEXT_LEN)?,
-            kept: ProgressFrames::new(alloc),
+            progress: StepFrames::new(alloc),
+            hooks: StepFrames::new(alloc),
         })
     }
 
@@ -242,8 +250,8 @@ impl FormBuffer {
         self.end_line(out, written)
     }
 
-    /// Appends the line of an event of a step of the change with that number. Of a line of progress that is not the step's
-    /// first, what it has in common with later ones is kept.
+    /// Appends the line of an event of a step of the change with that number. Of the lines of its start and its end, and of
+    /// those of progress but for the first, what they have in common is kept.
     fn push_step(
         &mut self,
         start: Start,
@@ -262,6 +270,9 @@ impl FormBuffer {
             if seconds > FIRST_PROGRESS {
                 return self.push_progress(start, latest, number, step.change, step.kind, seconds);
             }
+        }
+        if let Some(told) = told_of(step, planned, what) {
+            return self.push_told(start, latest, number, step.change, step.kind, told);
         }
         let moment = FineMoment::new(start, latest);
         let mut out = self.begin_line();
@@ -289,8 +300,31 @@ impl FormBuffer {
         ensures err { OnErr result (self.new ≡ self.old) }
     {
         let moment = start.seconds() + latest;
-        self.kept
+        self.progress
             .put_line(&mut self.scratch, change, step, number, moment, seconds)?;
+        self.bytes.extend_from_slice(self.scratch.as_bytes())
+    }
+
+    /// Appends the line of a step's start or end, put together of what is kept.
+    fn push_told(
+        &mut self,
+        start: Start,
+        latest: u64,
+        number: u32,
+        change: &Change,
+        step: StepKind,
+        told: ToldStep<'_>,
+    ) -> Result<(), AllocError>
+        requires in_time { latest ≤ last_moment }
+        requires id { IsPlainId (option_copied told.id) }
+        requires order { told.id_first ≡ true }
+        ensures ok { OnOk result (self.new ≡ self.old
+            ++ line_of_text (hook_text (start + latest) change.now step (told_view told.entry))) }
+        ensures err { OnErr result (self.new ≡ self.old) }
+    {
+        let moment = start.seconds() + latest;
+        self.hooks
+            .put_hook(&mut self.scratch, change, step, number, moment, told)?;
         self.bytes.extend_from_slice(self.scratch.as_bytes())
     }
 

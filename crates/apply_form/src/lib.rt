@@ -14,6 +14,7 @@ mod note_words;
 mod objects;
 mod outputs;
 mod planned;
+mod told;
 
 pub use apply_model::{ChangeDetails, Importing, Note, Output, PreviousResource, Reason, Severity};
 pub use form::Form;

@@ -205,7 +205,7 @@ fn say_complete(
 }
 
 /// The id that is told when the step completes: the provider's, else the planned one. `None` for a delete.
-fn told_id<'a>(step: AppliedStep<'a>, planned: Option<&'a str>) -> Option<&'a str>
+pub fn told_id<'a>(step: AppliedStep<'a>, planned: Option<&'a str>) -> Option<&'a str>
     ensures { option_copied result
         ≡ end_id step.entry.kind (outcome_view step.entry).result (option_copied planned.entry) }
 {

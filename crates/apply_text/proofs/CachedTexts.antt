@@ -16,7 +16,7 @@ use Rattle.serde_json.proofs.Texts.{print-outline}
 use Rattle.apply_model.specs.declared.plan.step_kind.StepKind.{StepKind}
 use Rattle.apply_model.specs.Plan.ResourceChange.{ResourceChange}
 use Rattle.apply_text.specs.Calendar.{date_of_day}
-use Rattle.apply_text.specs.CachedParts.{KeptPieces, ProgressPieces, back_text, front_text, kept_step, line_pieces, middle_text, open_date, open_text, time_of_day}
+use Rattle.apply_text.specs.CachedParts.{KeptPieces, StepPieces, back_text, front_text, kept_step, line_pieces, middle_text, open_date, open_text, time_of_day}
 use Rattle.apply_text.specs.Moment.{date_text, moment_text, time_text, two_digits}
 use Rattle.apply_text.specs.Objects.{resource_object}
 use Rattle.apply_text.specs.Sending.{member_tokens}
@@ -44,18 +44,21 @@ at_quote s text n is len =
     let at : n - 1 ≡ length text = omega (arith, size s text n is len) in
     ap (λ k. slice_index s k) at ∙ ap (λ t. slice_index t (length text)) is ∙ get_or-append_seam text 34 [] 0
 
--- ---- what a writer of nothing else wrote
+-- ---- what a writer wrote behind a text
 
-pub printed_text : (items before : List ℕ) (start tokens : List Token) (text : List ℕ) → before ≡ [] → start ≡ [] → tokens ≡ start ++ Token.string text ∷ [] → items ≡ before ++ print tokens → items ≡ open_text text ++ 34 ∷ []
+pub printed_text : (items before first : List ℕ) (start tokens : List Token) (text : List ℕ) → before ≡ first → start ≡ [] → tokens ≡ start ++ Token.string text ∷ [] → items ≡ before ++ print tokens
+    → items ≡ (first ++ open_text text) ++ 34 ∷ []
 unfolding print_from
-printed_text items before start tokens text none begun grown is =
-    is ∙ ap (λ b. b ++ print tokens) none ∙ ap print grown ∙ ap (λ s. print (s ++ Token.string text ∷ [])) begun ∙ append-nil (quoted text)
+printed_text items before first start tokens text behind begun grown is =
+    is ∙ ap (λ b. b ++ print tokens) behind ∙ ap (λ ts. first ++ print ts) (grown ∙ ap (λ s. s ++ Token.string text ∷ []) begun) ∙ ap (λ t. first ++ t) (append-nil (quoted text))
+    ∙ sym (append_assoc first (open_text text) (34 ∷ []))
 
-pub printed_member : (items before : List ℕ) (start tokens : List Token) (name : List ℕ) (d : Data) → before ≡ [] → start ≡ [] → tokens ≡ start ++ member_tokens name d → items ≡ before ++ print tokens → items ≡ quoted name ++ 58 ∷ compact_text d
+pub printed_member : (items before first : List ℕ) (start tokens : List Token) (name : List ℕ) (d : Data) → before ≡ first → start ≡ [] → tokens ≡ start ++ member_tokens name d → items ≡ before ++ print tokens
+    → items ≡ first ++ (quoted name ++ 58 ∷ compact_text d)
 unfolding print_from
-printed_member items before start tokens name d none begun grown is =
-    is ∙ ap (λ b. b ++ print tokens) none ∙ ap print grown ∙ ap (λ s. print (s ++ member_tokens name d)) begun
-    ∙ append_assoc (quoted name) (58 ∷ []) _ ∙ ap (λ t. quoted name ++ 58 ∷ t) (print-outline d)
+printed_member items before first start tokens name d behind begun grown is =
+    is ∙ ap (λ b. b ++ print tokens) behind ∙ ap (λ ts. first ++ print ts) (grown ∙ ap (λ s. s ++ member_tokens name d) begun)
+    ∙ ap (λ t. first ++ t) (append_assoc (quoted name) (58 ∷ []) _ ∙ ap (λ t. quoted name ++ 58 ∷ t) (print-outline d))
 
 -- ---- the two ends of a line
 
@@ -65,9 +68,9 @@ front_is front opened slice text slice₂ word address new step fronts slices op
     let same : slice₂ ≡ open_text (address ++ (codes ": Still " ++ (still_word step ++ codes "... ["))) = slices ∙ opens ∙ ap open_text (texts ∙ are ∙ ap (λ w. address ++ (codes ": Still " ++ (w ++ codes "... ["))) words) in
     grown ∙ ap (λ f. f ++ slice₂) fronts ∙ ap (λ s. codes "{\"@level\":\"info\",\"@message\":" ++ s) same
 
-pub resource_is : (bytes : List ℕ) (change : ResourceChange) → bytes ≡ quoted (codes "resource") ++ 58 ∷ compact_text (resource_object change) → bytes ≡ codes "\"resource\":" ++ compact_text (resource_object change)
+pub resource_is : (bytes first : List ℕ) (change : ResourceChange) → bytes ≡ first ++ (quoted (codes "resource") ++ 58 ∷ compact_text (resource_object change)) → bytes ≡ first ++ (codes "\"resource\":" ++ compact_text (resource_object change))
 unfolding json_on_literals
-resource_is bytes change is = is
+resource_is bytes first change is = is
 
 pub middle_is : (action new : List ℕ) (step : StepKind) → action ≡ action_word step → new ≡ codes "Z\",\"hook\":{\"action\":\"" ++ (action ++ codes "\",\"elapsed_seconds\":") → new ≡ middle_text step
 unfolding middle_text
@@ -83,9 +86,9 @@ unfolding back_text resource_object
 back_shown change step = refl
 
 -- texts that were put together
-pub pieces_same : (pieces : ProgressPieces) (front middle back : List ℕ) → pieces.front ≡ front → pieces.middle ≡ middle → pieces.back ≡ back → pieces ≡ record { front = front; middle = middle; back = back }
+pub pieces_same : (pieces : StepPieces) (front middle back : List ℕ) → pieces.front ≡ front → pieces.middle ≡ middle → pieces.back ≡ back → pieces ≡ record { front = front; middle = middle; back = back }
 pieces_same pieces front middle back fronts middles backs =
-    let of : List ℕ → List ℕ → List ℕ → ProgressPieces = λ f m b. record { front = f; middle = m; back = b } in
+    let of : List ℕ → List ℕ → List ℕ → StepPieces = λ f m b. record { front = f; middle = m; back = b } in
     ap₂ (λ f m. of f m pieces.back) fronts middles ∙ ap (λ b. of front middle b) backs
 
 pub pieces_of : (kept : KeptPieces) (change : ResourceChange) (step : StepKind) → kept.step ≡ kept_step change step → kept.pieces.front ≡ front_text change.address step → kept.pieces.middle ≡ middle_text step → kept.pieces.back ≡ back_text change

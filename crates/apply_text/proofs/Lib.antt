@@ -1,6 +1,7 @@
 pub mod CachedTexts
 mod Dates
 pub mod Feeds
+pub mod HookLines
 pub mod Hooks
 pub mod LinesAdded
 pub mod Moments

@@ -68,7 +68,7 @@ back_text change =
     codes "," ++ ((codes "\"resource\":" ++ compact_text (resource_object change)) ++ codes "},\"type\":\"apply_progress\"}\n")
 
 -- the texts that a progress line is put together of, but for what stands between them
-pub record ProgressPieces : Type 0 where
+pub record StepPieces : Type 0 where
   -- up to the time in its message
   pub front : List ℕ
   -- from behind the second of its moment up to its seconds
@@ -79,10 +79,10 @@ pub record ProgressPieces : Type 0 where
 -- a step with those of its lines, in one form
 pub record KeptPieces : Type 0 where
   pub step : KeptStep
-  pub pieces : ProgressPieces
+  pub pieces : StepPieces
 
 -- those of this program's own form
-abbrev pub line_pieces : KeptStep → ProgressPieces
+abbrev pub line_pieces : KeptStep → StepPieces
 line_pieces kept = record {
   front = front_text kept.change.address kept.step;
   middle = middle_text kept.step;
@@ -90,7 +90,7 @@ line_pieces kept = record {
 }
 
 -- the line of them, so many seconds after the start of 1970
-abbrev pub progress_line : ProgressPieces → (moment seconds : ℕ) → List ℕ
+abbrev pub progress_line : StepPieces → (moment seconds : ℕ) → List ℕ
 progress_line pieces moment seconds =
     (pieces.front ++ (elapsed_of seconds ++ codes " elapsed]\",\"@module\":\"terraform.ui\",\"@timestamp\":"))
     ++ (open_date (moment / 86400) ++ time_of_day (moment % 86400))

@@ -2,6 +2,7 @@ pub mod AppliedStep
 pub mod CachedParts
 pub mod Calendar
 pub mod Elapsed
+pub mod HookLines
 pub mod Latest
 pub mod Laws
 pub mod Lines

@@ -3,9 +3,13 @@
 pub mod frame;
 pub mod frames;
 pub mod front;
+pub mod hook_frame;
 pub mod kept_date;
 pub mod key;
 pub mod open_text;
-pub mod progress_frame;
-pub mod progress_texts;
+pub mod places;
 pub mod shown_step;
+pub mod step_frame;
+pub mod step_point;
+pub mod step_texts;
+pub mod told_step;

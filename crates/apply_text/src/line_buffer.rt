@@ -1,16 +1,20 @@
 //! A buffer of lines.
 
-ghost use Rattle.std.specs.Prelude.{◌≡◌, ◌≤◌, ◌+◌, ◌∷◌, ◌++◌, [], length, take, string_bytes, IfOk, IsOk, OnOk, OnErr};
+ghost use Rattle.std.specs.Prelude.{◌≡◌, ◌≤◌, ◌+◌, ◌∷◌, ◌++◌, [], false, length, take, string_bytes, IfOk, IsOk, OnOk, OnErr};
+ghost use Rattle.std.specs.Option.{option_copied};
 ghost use Rattle.std.specs.Str.{IsUtf8};
 ghost use Rattle.json.specs.Print.{print};
 ghost use Rattle.apply_events.specs.Fits.{HasStep, last_moment};
 ghost use Rattle.apply_text.specs.AppliedStep.{message_of};
+ghost use Rattle.apply_text.specs.HookLines.{IsPlainId, told_message, told_view};
 ghost use Rattle.apply_text.specs.Lines.{event_text, message_line, summary_text, version_text};
 ghost use Rattle.apply_text.specs.Message.{progress_message};
 
 use crate::applied_step::AppliedStep;
 use crate::cached_parts::frame::LineFrame;
-use crate::cached_parts::frames::ProgressFrames;
+use crate::cached_parts::frames::StepFrames;
+use crate::cached_parts::hook_frame::HookFrame;
+use crate::cached_parts::told_step::ToldStep;
 use crate::display::moment::Moment;
 use crate::messages::{put_event, put_summary, put_version};
 use crate::operation::Operation;
@@ -32,17 +36,19 @@ const FIRST_PROGRESS: u32 = 10;
 const TEXT_LEN: usize = 256;
 
 /// Lines of a stream, one behind the other. Room that was made once is kept, so that a further line costs no growth, but
-/// where a line of progress keeps what it has in common with those behind it.
+/// where a line keeps what it has in common with others of its step.
 ///
 /// Contracts see the bytes of the lines.
 #[derive(Drop)]
 pub struct LineBuffer {
     alloc: Global,
     bytes: Vec<u8>,
-    // The texts that a message is put together of, one after the other, or a line of progress.
+    // The texts that a message is put together of, one after the other, or a line of kept texts.
     scratch: String,
     // What lines of progress have in common with those before them.
-    kept: ProgressFrames<LineFrame>,
+    progress: StepFrames<LineFrame>,
+    // What the lines of a step's start and end have in common.
+    hooks: StepFrames<HookFrame>,
 }
 
 impl Model for LineBuffer {
@@ -65,12 +71,13 @@ impl LineBuffer {
             alloc,
             bytes: Vec::new(alloc),
             scratch: String::new(alloc),
-            kept: ProgressFrames::new(alloc),
+            progress: StepFrames::new(alloc),
+            hooks: StepFrames::new(alloc),
         }
     }
 
     /// No line, and room for one of up to 1,024 bytes, whose texts have up to 256, without a further growth; only what lines
-    /// of progress have in common takes more, once for each step. `Err` where memory is refused.
+    /// of a step have in common takes more, until there is room for that too. `Err` where memory is refused.
     pub fn with_room(alloc: Global) -> Result<LineBuffer, AllocError>
         ensures { IfOk result (λ buffer. buffer ≡ []) }
     {
@@ -78,7 +85,8 @@ impl LineBuffer {
             alloc,
             bytes: Vec::with_capacity(alloc, LINE_LEN)?,
             scratch: String::with_capacity(alloc, TEXT_LEN)?,
-            kept: ProgressFrames::new(alloc),
+            progress: StepFrames::new(alloc),
+            hooks: StepFrames::new(alloc),
         })
     }
 
@@ -162,8 +170,8 @@ impl LineBuffer {
         self.end_line(out, before, written)
     }
 
-    /// Appends the line of an event of a step of the change with that number. Of a line of progress that is not the step's
-    /// first, what it has in common with later ones is kept.
+    /// Appends the line of an event of a step of the change with that number. Of the lines of its start and its end, and of
+    /// those of progress but for the first, what they have in common is kept.
     fn push_step(
         &mut self,
         start: Start,
@@ -181,6 +189,9 @@ impl LineBuffer {
             if seconds > FIRST_PROGRESS {
                 return self.push_progress(start, latest, number, step.change, step.kind, seconds);
             }
+        }
+        if let Some(told) = ToldStep::of_event(step, what) {
+            return self.push_told(start, latest, number, step.change, step.kind, told);
         }
         let moment = Moment::new(start, latest);
         let before = self.bytes.len();
@@ -205,8 +216,32 @@ impl LineBuffer {
         ensures err { OnErr result (self.new ≡ self.old) }
     {
         let moment = start.seconds() + latest;
-        self.kept
+        self.progress
             .put_line(&mut self.scratch, change, step, number, moment, seconds)?;
+        self.bytes
+            .extend_from_slice(self.scratch.as_str().as_bytes())
+    }
+
+    /// Appends the line of a step's start or end, put together of what is kept.
+    fn push_told(
+        &mut self,
+        start: Start,
+        latest: u64,
+        number: u32,
+        change: &Change,
+        step: StepKind,
+        told: ToldStep<'_>,
+    ) -> Result<(), AllocError>
+        requires in_time { latest ≤ last_moment }
+        requires id { IsPlainId (option_copied told.id) }
+        requires order { told.id_first ≡ false }
+        ensures ok { OnOk result (self.new ≡ self.old
+            ++ message_line (start + latest) (told_message change.now step (told_view told.entry))) }
+        ensures err { OnErr result (self.new ≡ self.old) }
+    {
+        let moment = start.seconds() + latest;
+        self.hooks
+            .put_hook(&mut self.scratch, change, step, number, moment, told)?;
         self.bytes
             .extend_from_slice(self.scratch.as_str().as_bytes())
     }

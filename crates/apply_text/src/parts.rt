@@ -2,11 +2,14 @@
 //! members.
 
 pub use crate::applied_step::{AppliedStep, DiagTexts};
-pub use crate::cached_parts::frames::ProgressFrames;
+pub use crate::cached_parts::frames::StepFrames;
 pub use crate::cached_parts::front::progress_front;
-pub use crate::cached_parts::progress_frame::ProgressFrame;
-pub use crate::cached_parts::progress_texts::ProgressTexts;
+pub use crate::cached_parts::hook_frame::hook_front;
 pub use crate::cached_parts::shown_step::ShownStep;
+pub use crate::cached_parts::step_frame::StepFrame;
+pub use crate::cached_parts::step_point::StepPoint;
+pub use crate::cached_parts::step_texts::StepTexts;
+pub use crate::cached_parts::told_step::ToldStep;
 pub use crate::display::elapsed::Elapsed;
 pub use crate::display::id_note::IdNote;
 pub use crate::messages::{level, say_event, type_name};

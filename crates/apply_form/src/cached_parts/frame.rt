@@ -2,23 +2,27 @@
 
 ghost use Rattle.std.specs.Prelude.{◌≡◌, ◌++◌, codes, string_bytes, IfOk};
 ghost use Rattle.serde_json.specs.Written.{compact_text};
+ghost use Rattle.apply_text.specs.CachedParts.{kept_step};
 ghost use Rattle.apply_form.specs.CachedParts.{middle_text};
 ghost use Rattle.apply_form.specs.Objects.{resource_object};
 
 use crate::escaping::escaped_text;
 use crate::objects::resource_object::put_resource;
 use apply_model::{Change, StepKind};
-use apply_text::parts::{ProgressFrame, ProgressTexts, ShownStep, StepWords, progress_front};
+use apply_text::parts::{ShownStep, StepFrame, StepTexts, StepWords, progress_front};
 use json::Writer;
 use std::alloc::{AllocError, Global};
 use std::marker::Model;
+
+// More bytes than most resources take, their quotes escaped.
+const RESOURCE_LEN: usize = 512;
 
 /// What the progress lines of a step have in common, its escapes done.
 ///
 /// Contracts see the step, with what is shown of its change.
 #[derive(Drop)]
 pub struct FormFrame {
-    texts: ProgressTexts,
+    texts: StepTexts,
 }
 
 impl Model for FormFrame {
@@ -33,26 +37,33 @@ impl Model for FormFrame {
     ghost invariant = { λ frame. frame.texts.pieces ≡ form_pieces frame.texts.step };
 }
 
-impl ProgressFrame for FormFrame {
+impl StepFrame for FormFrame {
     ghost use Rattle.apply_form.specs.CachedParts.{form_pieces};
 
     ghost kept = { λ frame. frame };
 
     ghost pieces = { form_pieces };
 
-    fn new(alloc: Global, change: &Change, step: StepKind) -> Result<FormFrame, AllocError> {
+    fn new(
+        alloc: Global,
+        _old: Option<FormFrame>,
+        change: &Change,
+        step: StepKind,
+    ) -> Result<FormFrame, AllocError>
+        ensures { IfOk result (λ frame. frame ≡ kept_step change.now step) }
+    {
         let front = progress_front(alloc, change.address(), step)?;
-        let front = escaped_text(alloc, front.as_str())?;
+        let front = escaped_text(String::new(alloc), front.as_str())?;
         let middle = middle_of(alloc, change, step)?;
-        let middle = escaped_text(alloc, middle.as_str())?;
+        let middle = escaped_text(String::new(alloc), middle.as_str())?;
         let back = String::from_str(alloc, "},\"type\":\"apply_progress\"}\n")?;
         let shown = ShownStep::new(alloc, change, step)?;
         Ok(FormFrame {
-            texts: ProgressTexts::new(shown, front, middle, back),
+            texts: StepTexts::new(shown, front, middle, back),
         })
     }
 
-    fn texts(&self) -> &ProgressTexts {
+    fn texts(&self) -> &StepTexts {
         &self.texts
     }
 }
@@ -74,7 +85,15 @@ fn resource_of(alloc: Global, change: &Change) -> Result<String, AllocError>
     ensures { IfOk result (λ resource. string_bytes resource
         ≡ codes "\"resource\":" ++ compact_text (resource_object change.now)) }
 {
-    let mut out = Writer::new(Vec::new(alloc));
+    with_resource(String::with_capacity(alloc, RESOURCE_LEN)?, change)
+}
+
+/// The text, and behind it the member `resource`. `Err` where memory is refused.
+pub fn with_resource(text: String, change: &Change) -> Result<String, AllocError>
+    ensures { IfOk result (λ whole. string_bytes whole
+        ≡ string_bytes text ++ (codes "\"resource\":" ++ compact_text (resource_object change.now))) }
+{
+    let mut out = Writer::new(text.into_bytes());
     put_resource(&mut out, change)?;
     Ok(String::from_utf8(out.into_inner()).unwrap())
 }

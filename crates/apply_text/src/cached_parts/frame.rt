@@ -2,13 +2,13 @@
 
 ghost use Rattle.std.specs.Prelude.{◌≡◌, ◌++◌, codes, string_bytes, IfOk};
 ghost use Rattle.serde_json.specs.Written.{compact_text};
-ghost use Rattle.apply_text.specs.CachedParts.{back_text, middle_text};
+ghost use Rattle.apply_text.specs.CachedParts.{back_text, kept_step, middle_text};
 ghost use Rattle.apply_text.specs.Objects.{resource_object};
 
 use crate::cached_parts::front::progress_front;
-use crate::cached_parts::progress_frame::ProgressFrame;
-use crate::cached_parts::progress_texts::ProgressTexts;
 use crate::cached_parts::shown_step::ShownStep;
+use crate::cached_parts::step_frame::StepFrame;
+use crate::cached_parts::step_texts::StepTexts;
 use crate::objects::resource_object::put_resource;
 use crate::step_words::StepWords;
 use apply_model::{Change, StepKind};
@@ -16,12 +16,15 @@ use json::Writer;
 use std::alloc::{AllocError, Global};
 use std::marker::Model;
 
+// More bytes than most resources take.
+const RESOURCE_LEN: usize = 512;
+
 /// What the progress lines of a step have in common, in the form of this program's own.
 ///
 /// Contracts see the step, with what is shown of its change.
 #[derive(Drop)]
 pub struct LineFrame {
-    texts: ProgressTexts,
+    texts: StepTexts,
 }
 
 impl Model for LineFrame {
@@ -35,24 +38,31 @@ impl Model for LineFrame {
     ghost invariant = { λ frame. frame.texts.pieces ≡ line_pieces frame.texts.step };
 }
 
-impl ProgressFrame for LineFrame {
+impl StepFrame for LineFrame {
     ghost use Rattle.apply_text.specs.CachedParts.{line_pieces};
 
     ghost kept = { λ frame. frame };
 
     ghost pieces = { line_pieces };
 
-    fn new(alloc: Global, change: &Change, step: StepKind) -> Result<LineFrame, AllocError> {
+    fn new(
+        alloc: Global,
+        _old: Option<LineFrame>,
+        change: &Change,
+        step: StepKind,
+    ) -> Result<LineFrame, AllocError>
+        ensures { IfOk result (λ frame. frame ≡ kept_step change.now step) }
+    {
         let front = progress_front(alloc, change.address(), step)?;
         let middle = middle_of(alloc, step)?;
         let back = back_of(alloc, change)?;
         let shown = ShownStep::new(alloc, change, step)?;
         Ok(LineFrame {
-            texts: ProgressTexts::new(shown, front, middle, back),
+            texts: StepTexts::new(shown, front, middle, back),
         })
     }
 
-    fn texts(&self) -> &ProgressTexts {
+    fn texts(&self) -> &StepTexts {
         &self.texts
     }
 }
@@ -79,7 +89,15 @@ fn resource_of(alloc: Global, change: &Change) -> Result<String, AllocError>
     ensures { IfOk result (λ resource. string_bytes resource
         ≡ codes "\"resource\":" ++ compact_text (resource_object change.now)) }
 {
-    let mut out = Writer::new(Vec::new(alloc));
+    with_resource(String::with_capacity(alloc, RESOURCE_LEN)?, change)
+}
+
+/// The text, and behind it the member `resource`. `Err` where memory is refused.
+pub fn with_resource(text: String, change: &Change) -> Result<String, AllocError>
+    ensures { IfOk result (λ whole. string_bytes whole
+        ≡ string_bytes text ++ (codes "\"resource\":" ++ compact_text (resource_object change.now))) }
+{
+    let mut out = Writer::new(text.into_bytes());
     put_resource(&mut out, change)?;
     Ok(String::from_utf8(out.into_inner()).unwrap())
 }

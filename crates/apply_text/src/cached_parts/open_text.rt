@@ -6,20 +6,30 @@ ghost use Rattle.apply_text.specs.CachedParts.{open_text as open_text_of};
 use json::Writer;
 use std::alloc::{AllocError, Global};
 
+// More bytes than most texts take, with their quotes.
+const TEXT_LEN: usize = 256;
+
 /// The text in JSON, but for its closing quote. `Err` where memory is refused.
 pub fn open_text(alloc: Global, text: &str) -> Result<String, AllocError>
     ensures { IfOk result (λ begun. string_bytes begun ≡ open_text_of text.now) }
 {
-    let mut open = quoted_text(alloc, text)?;
-    open.truncate(open.len() - 1);
-    Ok(open)
+    with_open_text(String::with_capacity(alloc, TEXT_LEN)?, text)
 }
 
-/// The text in JSON. `Err` where memory is refused.
-fn quoted_text(alloc: Global, text: &str) -> Result<String, AllocError>
-    ensures { IfOk result (λ whole. string_bytes whole ≡ open_text_of text.now ++ 34 ∷ []) }
+/// The first text, and behind it the other in JSON, but for its closing quote. `Err` where memory is refused.
+pub fn with_open_text(first: String, text: &str) -> Result<String, AllocError>
+    ensures { IfOk result (λ whole. string_bytes whole ≡ string_bytes first ++ open_text_of text.now) }
 {
-    let mut out = Writer::new(Vec::new(alloc));
+    let mut whole = with_quoted(first, text)?;
+    whole.truncate(whole.len() - 1);
+    Ok(whole)
+}
+
+/// The first text, and behind it the other in JSON. `Err` where memory is refused.
+fn with_quoted(first: String, text: &str) -> Result<String, AllocError>
+    ensures { IfOk result (λ whole. string_bytes whole ≡ (string_bytes first ++ open_text_of text.now) ++ 34 ∷ []) }
+{
+    let mut out = Writer::new(first.into_bytes());
     out.string(text)?;
     Ok(String::from_utf8(out.into_inner()).unwrap())
 }

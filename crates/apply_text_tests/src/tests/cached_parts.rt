@@ -123,7 +123,7 @@ fn updates(rt: &impl Abort, alloc: Global, count: u32) -> &'static Plan {
     plan_of(rt, alloc, kept(rt, alloc, text).as_str())
 }
 
-/// Numbers of changes, and after how many seconds they are told: the same place, once and again, and others beside it.
+/// Numbers of changes, and after how many seconds they are told: in the same row, once and again, and others beside them.
 const PLACES: &str = "0 20
 64 20
 128 20
@@ -140,7 +140,7 @@ const PLACES: &str = "0 20
 0 50";
 
 #[test]
-fn changes_that_share_a_place_are_told_in_turn(rt: HostRuntime) {
+fn changes_that_share_a_row_are_told_in_turn(rt: HostRuntime) {
     let alloc = rt.alloc();
     let plan = updates(&rt, alloc, 129);
     let mut buffer = LineBuffer::new(alloc);

@@ -1,0 +1,218 @@
+//! The texts that lines of a step are put together of.
+
+ghost use Rattle.std.specs.Prelude.{◌≡◌, ◌/◌, ◌++◌, codes, decimal, string_bytes, IsTrue, OnOk};
+ghost use Rattle.std.specs.Option.{option_copied};
+ghost use Rattle.apply_text.specs.CachedParts.{kept_step, progress_line};
+ghost use Rattle.apply_text.specs.Elapsed.{elapsed_of};
+ghost use Rattle.apply_text.specs.HookLines.{hook_line, lead_text, point_type, seconds_words, told_view};
+ghost use Rattle.apply_text.specs.HookLines.{id_text, seconds_text, told_members};
+ghost use Rattle.apply_text.specs.Message.{id_note};
+
+use crate::cached_parts::kept_date::KeptDate;
+use crate::cached_parts::shown_step::ShownStep;
+use crate::cached_parts::step_point::StepPoint;
+use crate::cached_parts::told_step::ToldStep;
+use crate::display::elapsed::Elapsed;
+use crate::display::id_note::IdNote;
+use crate::display::told_seconds::ToldSeconds;
+use apply_model::{Change, StepKind};
+use std::alloc::{AllocError, Global};
+use std::marker::Model;
+
+/// A step, with three texts that lines of it have in common, in one form: lines of its progress, or of its start and end.
+///
+/// Contracts see the step, with what is shown of its change, and the texts.
+#[derive(Drop)]
+pub struct StepTexts {
+    step: ShownStep,
+    front: String,
+    middle: String,
+    back: String,
+}
+
+impl Model for StepTexts {
+    ghost use Rattle.std.specs.Prelude.{string_bytes};
+    ghost use Rattle.apply_text.specs.CachedParts.{KeptPieces};
+
+    ghost Value = { KeptPieces };
+
+    ghost view = { λ texts. record {
+      step = texts.step;
+      pieces = record {
+        front = string_bytes texts.front;
+        middle = string_bytes texts.middle;
+        back = string_bytes texts.back;
+      };
+    } };
+}
+
+impl StepTexts {
+    /// A step with these texts: of a line of progress up to the time in its message, from behind the second of its moment up
+    /// to its seconds, and from behind these on; of another one up to what is said of the address, from behind the second of
+    /// its moment up to what stands behind the action, and from behind the seconds and the id up to its type.
+    pub fn new(step: ShownStep, front: String, middle: String, back: String) -> StepTexts
+        ensures step { result.step ≡ step }
+        ensures front { result.pieces.front ≡ string_bytes front }
+        ensures middle { result.pieces.middle ≡ string_bytes middle }
+        ensures back { result.pieces.back ≡ string_bytes back }
+    {
+        StepTexts {
+            step,
+            front,
+            middle,
+            back,
+        }
+    }
+
+    /// No texts, of a step of which nothing is known. Takes no memory.
+    pub fn empty(alloc: Global) -> StepTexts {
+        StepTexts {
+            step: ShownStep::empty(alloc),
+            front: String::new(alloc),
+            middle: String::new(alloc),
+            back: String::new(alloc),
+        }
+    }
+
+    /// The step and its texts, so that others may take their room.
+    pub fn into_parts(self) -> (ShownStep, String, String, String) {
+        (self.step, self.front, self.middle, self.back)
+    }
+
+    /// Whether they are those of such a step, of a change that shows as this one does.
+    pub fn is_of(&self, change: &Change, step: StepKind) -> bool
+        ensures { IsTrue result → self.now.step ≡ kept_step change.now step }
+    {
+        self.step.is_of(change, step)
+    }
+
+    /// Puts a line of progress into `line`, in the place of what stood there: so many seconds after the start of 1970, on that date.
+    /// `Err` where memory is refused.
+    pub fn put_line(
+        &self,
+        line: &mut String,
+        date: &KeptDate,
+        moment: u64,
+        seconds: u32,
+    ) -> Result<(), AllocError>
+        requires { date.now ≡ moment / 86400 }
+        ensures { OnOk result (string_bytes line.new ≡ progress_line self.now.pieces moment seconds) }
+    {
+        line.clear();
+        self.push_front(line, seconds)?;
+        date.push_second(line, moment)?;
+        self.push_back(line, seconds)
+    }
+
+    /// Puts a line of the step's start or end into `line`, in the place of what stood there: so many seconds after the start
+    /// of 1970, on that date. `Err` where memory is refused.
+    pub fn put_hook(
+        &self,
+        line: &mut String,
+        step: StepKind,
+        date: &KeptDate,
+        moment: u64,
+        told: ToldStep<'_>,
+    ) -> Result<(), AllocError>
+        requires { date.now ≡ moment / 86400 }
+        ensures { OnOk result
+            (string_bytes line.new ≡ hook_line self.now.pieces step moment (told_view told.entry)) }
+    {
+        line.clear();
+        self.push_said(line, step, told)?;
+        date.push_second(line, moment)?;
+        line.push_str(self.middle.as_str())?;
+        push_members(line, told)?;
+        self.push_type(line, told.point)
+    }
+
+    /// Appends a line up to its moment.
+    fn push_said(
+        &self,
+        line: &mut String,
+        step: StepKind,
+        told: ToldStep<'_>,
+    ) -> Result<(), AllocError>
+        ensures { OnOk result (string_bytes line.new ≡ string_bytes line.old ++ (self.now.pieces.front
+            ++ (lead_text told.entry.point step ++ (seconds_words told.entry.seconds ++ (id_note (option_copied told.entry.id)
+            ++ codes "\",\"@module\":\"terraform.ui\",\"@timestamp\":"))))) }
+    {
+        let front = self.front.as_str();
+        let lead = told.point.lead(step);
+        let elapsed = ToldSeconds {
+            seconds: told.seconds,
+        };
+        let note = IdNote { id: told.id };
+        write!(
+            line,
+            "{front}{lead}{elapsed}{note}\",\"@module\":\"terraform.ui\",\"@timestamp\":"
+        )
+    }
+
+    /// Appends a line from behind the seconds and the id on.
+    fn push_type(&self, line: &mut String, point: StepPoint) -> Result<(), AllocError>
+        ensures { OnOk result (string_bytes line.new
+            ≡ string_bytes line.old ++ (self.now.pieces.back ++ (point_type point ++ codes "\"}\n"))) }
+    {
+        let back = self.back.as_str();
+        let type_name = point.type_name();
+        write!(line, "{back}{type_name}\"}}\n")
+    }
+
+    /// Appends a line of progress up to its moment.
+    fn push_front(&self, line: &mut String, seconds: u32) -> Result<(), AllocError>
+        ensures { OnOk result (string_bytes line.new ≡ string_bytes line.old
+            ++ (self.now.pieces.front ++ (elapsed_of seconds ++ codes " elapsed]\",\"@module\":\"terraform.ui\",\"@timestamp\":"))) }
+    {
+        let front = self.front.as_str();
+        let elapsed = Elapsed { seconds };
+        write!(
+            line,
+            "{front}{elapsed} elapsed]\",\"@module\":\"terraform.ui\",\"@timestamp\":"
+        )
+    }
+
+    /// Appends a line of progress from behind the second of its moment on.
+    fn push_back(&self, line: &mut String, seconds: u32) -> Result<(), AllocError>
+        ensures { OnOk result (string_bytes line.new ≡ string_bytes line.old
+            ++ (self.now.pieces.middle ++ (decimal seconds ++ self.now.pieces.back))) }
+    {
+        let middle = self.middle.as_str();
+        let back = self.back.as_str();
+        write!(line, "{middle}{seconds}{back}")
+    }
+}
+
+/// Appends the members for the seconds and the id.
+fn push_members(line: &mut String, told: ToldStep<'_>) -> Result<(), AllocError>
+    ensures { OnOk result (string_bytes line.new ≡ string_bytes line.old ++ told_members (told_view told.entry)) }
+{
+    if told.id_first {
+        push_id(line, told.id)?;
+        push_seconds(line, told.seconds)
+    } else {
+        push_seconds(line, told.seconds)?;
+        push_id(line, told.id)
+    }
+}
+
+/// Appends the member for the seconds, where they are told.
+fn push_seconds(line: &mut String, seconds: Option<u32>) -> Result<(), AllocError>
+    ensures { OnOk result (string_bytes line.new ≡ string_bytes line.old ++ seconds_text seconds) }
+{
+    match seconds {
+        Some(seconds) => write!(line, ",\"elapsed_seconds\":{seconds}"),
+        None => Ok(()),
+    }
+}
+
+/// Appends the two members of an id, where it is told.
+fn push_id(line: &mut String, id: Option<&str>) -> Result<(), AllocError>
+    ensures { OnOk result
+        (string_bytes line.new ≡ string_bytes line.old ++ id_text (option_copied id.entry)) }
+{
+    match id {
+        Some(id) => write!(line, ",\"id_key\":\"id\",\"id_value\":\"{id}\""),
+        None => Ok(()),
+    }
+}
