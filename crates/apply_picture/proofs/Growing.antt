@@ -3,7 +3,7 @@ use Rattle.std.proofs.Common.{◌≡◌, ◌∙◌, ℕ, ◌≤◌, ◌∷◌, [
 use Rattle.std.specs.Prelude.{OnOk}
 use Rattle.std.specs.List.{AllZip}
 use Rattle.std.proofs.lemmas.Grind.{fold-append}
-use Rattle.apply_picture.specs.Fitting.{without_blanks}
+use Rattle.apply_fitting.specs.Fitting.{without_blanks}
 use Rattle.apply_picture.specs.Lines.{HasMore, line_with, text_line, with_character, with_characters, with_styled}
 use Rattle.apply_picture.specs.Texts.{IsHeadedBy}
 use Rattle.apply_picture.specs.declared.text.paint.Paint.{Paint}

@@ -3,59 +3,46 @@ use Rattle.std.proofs.Common.{◌≡◌, ◌∙◌, ℕ, ◌+◌, ◌-◌, ◌<�
 use Rattle.std.specs.Prelude.{map}
 use Rattle.std.specs.List.{AllZip}
 use Rattle.std.proofs.lemmas.List.{map-append, take_all}
-use Rattle.apply_picture.specs.Columns.{columns_of}
-use Rattle.apply_picture.specs.Fitting.{without_blanks}
+use Rattle.apply_fitting.specs.Columns.{columns_of}
+use Rattle.apply_fitting.specs.Fitting.{without_blanks}
 use Rattle.apply_picture.specs.LeftOut.{IsLeftOutAs}
 use Rattle.apply_picture.specs.Lines.{HasMore, line_with, text_line}
 use Rattle.apply_picture.specs.Texts.{IsHeadedBy}
 use Rattle.apply_picture.specs.declared.text.line.Line.{Line}
 use Rattle.apply_picture.specs.declared.text.paint.Paint.{Paint}
 use Rattle.apply_picture.specs.declared.text.paint.Paint.TheVariants as paint
-use Rattle.apply_picture.specs.declared.words.shown_text.ShownText.{ShownText}
-use Rattle.apply_picture.proofs.Blanks.{twice}
+use Rattle.apply_fitting.proofs.Blanks.{twice}
 use Rattle.apply_picture.proofs.Growing.{one_line}
 use Rattle.apply_picture.proofs.Sent.{zip_more}
 
 -- the line shows the text
-abbrev pub Shows : (width indent : ℕ) → Option Paint → ShownText → Line → Type 0
-Shows width indent paint text line = line.pieces.items ≡ text_line width indent paint text.characters.items
-
--- where all stands on one line, that line is all
-pub wrapped_one : (text given line : List ℕ) (shown : ShownText) (limit : ℕ) (before first after : List ShownText) → given ≡ text
-    → (columns_of given ≤ limit → line ≡ without_blanks given) → shown.characters.items ≡ line → before ≡ [] → first ≡ before ++ shown ∷ []
-    → (columns_of text ≤ limit → after ≡ first) → columns_of text ≤ limit
-    → (x : ShownText) × (after ≡ x ∷ []) × (x.characters.items ≡ without_blanks text)
-wrapped_one text given line shown limit before first after is trims copied none pushed stays fits = (
-  shown,
-  stays fits ∙ pushed ∙ ap (λ xs. xs ++ shown ∷ []) none,
-  copied ∙ subst (λ t. columns_of t ≤ limit → line ≡ without_blanks t) is trims fits,
-)
+abbrev pub Shows : (width indent : ℕ) → Option Paint → (text : List ℕ) → Line → Type 0
+Shows width indent paint text line = line.pieces.items ≡ text_line width indent paint text
 
 -- a line more of a text
-pub shown_more : (width indent : ℕ) (paint : Option Paint) (items : List ShownText) (i : ℕ) (item : ShownText) (old older newer news : List Line)
+pub shown_more : (width indent : ℕ) (paint : Option Paint) (items : List (List ℕ)) (i : ℕ) (item : List ℕ) (old older newer news : List Line)
     (line : Line) → i < length items → item ≡ get_or items i item → older ≡ old ++ news → newer ≡ older ++ line ∷ []
     → AllZip (Shows width indent paint) (take i items) news → Shows width indent paint item line
     → (more : List Line) × (newer ≡ old ++ more) × AllZip (Shows width indent paint) (take (i + 1) items) more
 shown_more width indent paint items i item old older newer news line below is had pushed all here = (
   news ++ line ∷ [],
   pushed ∙ ap (λ ls. ls ++ line ∷ []) had ∙ append_assoc old news (line ∷ []),
-  zip_more (Shows width indent paint) items i item news line below all (subst (λ (x : ShownText). Shows width indent paint x line) is here),
+  zip_more (Shows width indent paint) items i item news line below all (subst (λ (x : List ℕ). Shows width indent paint x line) is here),
 )
 
 -- the only line of a text
-pub shown_line : (width indent limit : ℕ) (paint : Option Paint) (text : List ℕ) (lines items : List ShownText) (i : ℕ) (old new news : List Line)
+pub shown_line : (width indent limit : ℕ) (paint : Option Paint) (text : List ℕ) (lines items : List (List ℕ)) (i : ℕ) (old new news : List Line)
     → items ≡ lines → length items ≤ i
-    → (columns_of text ≤ limit → (x : ShownText) × (lines ≡ x ∷ []) × (x.characters.items ≡ without_blanks text)) → limit ≡ width - indent
+    → (columns_of text ≤ limit → lines ≡ without_blanks text ∷ []) → limit ≡ width - indent
     → new ≡ old ++ news → AllZip (Shows width indent paint) (take i items) news → columns_of text ≤ width - indent
     → (line : Line) × (new ≡ old ++ line ∷ []) × (line.pieces.items ≡ text_line width indent paint text)
 shown_line width indent limit paint text lines items i old new news are ends one is had all fits =
     let room : columns_of text ≤ limit = omega (arith, fits, is) in
-    let only = one room in
-    let all_of = subst (λ (xs : List ShownText). AllZip (Shows width indent paint) xs news) (take_all i items ends ∙ are) all in
-    let shown = one_line (Shows width indent paint) lines only.0 news only.1 all_of in (
+    let all_of = subst (λ (xs : List (List ℕ)). AllZip (Shows width indent paint) xs news) (take_all i items ends ∙ are) all in
+    let shown = one_line (Shows width indent paint) lines (without_blanks text) news (one room) all_of in (
       shown.0,
       had ∙ ap (λ ls. old ++ ls) shown.1,
-      shown.2 ∙ ap (λ cs. line_with width indent paint (without_blanks cs)) only.2 ∙ ap (line_with width indent paint) (twice text),
+      shown.2 ∙ ap (line_with width indent paint) (twice text),
     )
 
 -- ---- what was done

@@ -8,11 +8,13 @@ use Rattle.std.proofs.lemmas.List.FromFn.{map-range_with_len_more}
 use Rattle.std.proofs.lemmas.List.Sums.{fold_more}
 use Rattle.apply_view.specs.Steps.{ToldStep}
 use Rattle.apply_view.specs.declared.told.moments.Moments.{Moments}
-use Rattle.apply_picture.specs.Columns.{columns_of}
-use Rattle.apply_picture.specs.Fitting.{at_left, at_right, fitted, without_blanks}
+use Rattle.apply_fitting.specs.Columns.{columns_of}
+use Rattle.apply_fitting.specs.Fitting.{at_left, at_right, fitted, without_blanks}
+use Rattle.apply_picture.specs.Columns.{column_text, columns_at, widest}
 use Rattle.apply_picture.specs.Lines.{with_character, with_characters, with_styled}
-use Rattle.apply_picture.specs.Rows.{Layout, bar_character, bar_of, columns_at, end_half_of, first_half_of, layout_of, length_words, mark_of, paint_of, row_at, row_of, widest, with_bar, with_dim, with_length, with_names, with_row}
-use Rattle.apply_picture.specs.Shown.{shown_characters}
+use Rattle.apply_picture.specs.Rows.{Layout, bar_character, bar_of, end_half_of, first_half_of, layout_of, length_words, mark_of, paint_of, row_at, row_of, with_bar, with_dim, with_length, with_names, with_row}
+use Rattle.apply_fitting.specs.Shown.{shown_characters}
+use Rattle.apply_picture.specs.declared.column.Column.TheVariants as column
 use Rattle.apply_picture.specs.declared.picture.Picture.{Picture}
 use Rattle.apply_picture.specs.declared.text.paint.Paint.{Paint}
 use Rattle.apply_picture.specs.declared.text.paint.Paint.TheVariants as paint
@@ -197,8 +199,8 @@ label_is width action widest_address columns address room label counted is_addre
 
 -- the columns of a line, by the widest texts
 pub layout_is : (width widest_action widest_address action label cells : ℕ) (picture : Picture)
-    → widest_action ≡ widest (λ step. step.action) picture.told.now.steps picture.rows.places.items
-    → widest_address ≡ widest (λ step. step.address) picture.told.now.steps picture.rows.places.items
+    → widest_action ≡ widest (column_text column.Action) picture.told.now.steps picture.rows.places.items
+    → widest_address ≡ widest (column_text column.Address) picture.told.now.steps picture.rows.places.items
     → action ≡ min widest_action 8 → label ≡ min (max 7 widest_address) ((width - (action + 12)) * 11 / 20)
     → cells ≡ max (min (width - (action + 12) - label) 400) 1
     → record { action = action; label = label; cells = cells } ≡ layout_of width picture
@@ -209,7 +211,7 @@ layout_is width widest_action widest_address action label cells picture are_acti
     let cells_by : ℕ → ℕ → ℕ = λ a l. max (min (width - (a + 12) - l) 400) 1 in
     ap (made action label) is_cells ∙ ap (λ l. made action l (cells_by action l)) is_label
     ∙ ap (λ a. made a (label_by a widest_address) (cells_by a (label_by a widest_address))) (is_action ∙ ap (λ w. min w 8) are_actions)
-    ∙ ap (λ w. made (min (widest (λ step. step.action) picture.told.now.steps picture.rows.places.items) 8)
-    (label_by (min (widest (λ step. step.action) picture.told.now.steps picture.rows.places.items) 8) w)
-    (cells_by (min (widest (λ step. step.action) picture.told.now.steps picture.rows.places.items) 8)
-    (label_by (min (widest (λ step. step.action) picture.told.now.steps picture.rows.places.items) 8) w))) are_addresses
+    ∙ ap (λ w. made (min (widest (column_text column.Action) picture.told.now.steps picture.rows.places.items) 8)
+    (label_by (min (widest (column_text column.Action) picture.told.now.steps picture.rows.places.items) 8) w)
+    (cells_by (min (widest (column_text column.Action) picture.told.now.steps picture.rows.places.items) 8)
+    (label_by (min (widest (column_text column.Action) picture.told.now.steps picture.rows.places.items) 8) w))) are_addresses

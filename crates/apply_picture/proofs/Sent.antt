@@ -1,5 +1,5 @@
 -- What was written, with more of it.
-use Rattle.std.proofs.Common.{◌≡◌, ◌∙◌, ℕ, ◌+◌, ◌<◌, ◌≤◌, ◌∷◌, [], ◌++◌, List, Bool, Option, None, Some, ap, subst, sym, get_or, length, take, append-nil, append_assoc, codes, arith}
+use Rattle.std.proofs.Common.{◌≡◌, ◌∙◌, ℕ, ◌+◌, ◌<◌, ◌≤◌, ◌∷◌, [], ◌++◌, List, Bool, Option, None, Some, ap, ap₂, subst, sym, get_or, length, take, append-nil, append_assoc, codes, arith}
 use Rattle.std.specs.Prelude.{All, IfSome, map}
 use Rattle.std.specs.List.{AllZip, flat_map, slice_get}
 use Rattle.std.specs.Io.KnownBytes.{Appends, Keeps}
@@ -9,15 +9,11 @@ use Rattle.std.proofs.lemmas.List.{map-append, map_more, take_all, take_more}
 use Rattle.std.proofs.lemmas.List.Elements.{All-append}
 use Rattle.apply_view.specs.Steps.{ToldStep}
 use Rattle.apply_view.specs.declared.rows.choosing.Rows.{Rows}
-use Rattle.apply_picture.specs.Heading.{heading_words}
 use Rattle.apply_picture.specs.LeftOut.{IsLeftOutAs, left_out_said}
 use Rattle.apply_picture.specs.Lines.{IsLine, LinesWritten, line_bytes, text_bytes}
-use Rattle.apply_picture.specs.Markup.{GroupWritten, GroupsWritten, HeadWritten, IsGroupAt, IsGroupOf, MarkupWritten, SvgWritten, TitleWritten, escaped, group_bytes, heading_bytes, part_bytes, title_bytes}
 use Rattle.apply_picture.specs.Rows.{AreTicks, Layout, layout_of, row_at, rows_of}
-use Rattle.apply_picture.specs.Shown.{shown_characters}
 use Rattle.apply_picture.specs.Texts.{HeadLinesWritten, IsHeadedBy, LeftOutWritten, RowsWritten, TextWritten, heading_characters}
 use Rattle.apply_picture.specs.declared.picture.Picture.{Picture}
-use Rattle.apply_picture.specs.declared.svg.part.Part.{Part}
 use Rattle.apply_picture.specs.declared.text.line.Line.{Line}
 use Rattle.apply_picture.specs.declared.text.piece.Piece.{Piece}
 use Rattle.apply_picture.specs.declared.text.style.Style.{Style}
@@ -153,122 +149,3 @@ pub as_lines : (width : ℕ) (colour : Bool) (picture : Picture) (a b : Option (
     → LinesWritten width colour a b
 as_lines width colour picture a b text =
     record { lines = text.head ++ rows_of width picture text.ticks ++ text.left_out ++ text.tail; fine = text.fine; written = text.written }
-
--- ---- markup
-
-pub no_markup : (a : Option (List ℕ)) → MarkupWritten a a
-no_markup a = record { parts = []; written = Appends-nil a }
-
-pub more_markup : (a b c : Option (List ℕ)) (parts : List Part) → MarkupWritten a b → Appends b c (flat_map part_bytes parts) → MarkupWritten a c
-more_markup a b c parts before more = record {
-  parts = before.parts ++ parts;
-  written = subst (Appends a c) (sym (flat_map-append part_bytes before.parts parts)) (Appends-trans a b c _ _ before.written more);
-}
-
-pub markup_then : (a b c : Option (List ℕ)) → MarkupWritten a b → MarkupWritten b c → MarkupWritten a c
-markup_then a b c before more = more_markup a b c more.parts before more.written
-
-pub no_groups : (steps : List ToldStep) (a : Option (List ℕ)) → GroupsWritten steps [] a a
-no_groups steps a = record { groups = []; each = tt; written = Appends-nil a }
-
-pub group_more : (steps : List ToldStep) (places : List ℕ) (i : ℕ) (a b c : Option (List ℕ)) → i < length places
-    → GroupsWritten steps (take i places) a b → GroupWritten steps (get_or places i 0) b c
-    → GroupsWritten steps (take (i + 1) places) a c
-group_more steps places i a b c below before more =
-    let one : flat_map group_bytes (more.group ∷ []) ≡ group_bytes more.group = append-nil (group_bytes more.group) in
-    record {
-      groups = before.groups ++ more.group ∷ [];
-      each = zip_more (IsGroupAt steps) places i 0 before.groups more.group below before.each more.is;
-      written = subst (Appends a c)
-          (sym (flat_map-append group_bytes before.groups (more.group ∷ []) ∙ ap (λ bs. flat_map group_bytes before.groups ++ bs) one))
-          (Appends-trans a b c _ _ before.written more.written);
-    }
-
-pub svg_written : (picture : Picture) (a b c d e f g : Option (List ℕ)) (others tail : List Part) → HeadWritten picture a b
-    → Appends b c (flat_map part_bytes others) → MarkupWritten c d → GroupsWritten picture.told.now.steps picture.rows.places.items d e
-    → Appends e f (flat_map part_bytes tail) → Appends f g (codes "</svg>\n") → (h : Option (List ℕ)) → Keeps g h → SvgWritten picture a h
-svg_written picture a b c d e f g others tail head others_sent grid groups tail_sent end h kept =
-    let front = markup_then b c d (more_markup b b c others (no_markup b) others_sent) grid in
-    let more = front.parts in
-    let back = head.titled.back ++ more in
-    record {
-      head = head.parts ++ more;
-      groups = groups.groups;
-      tail = tail;
-      titled = record {
-        front = head.titled.front;
-        back = back;
-        is = flat_map-append part_bytes head.parts more ∙ ap (λ bs. bs ++ flat_map part_bytes more) head.titled.is
-            ∙ append_assoc _ (flat_map part_bytes head.titled.back) (flat_map part_bytes more)
-            ∙ ap (λ bs. flat_map part_bytes head.titled.front ++ codes "<title>" ++ heading_bytes picture ++ codes "</title>" ++ bs)
-            (sym (flat_map-append part_bytes head.titled.back more));
-      };
-      each = groups.each;
-      written = subst (λ bs. Appends a h (bs ++ flat_map group_bytes groups.groups ++ flat_map part_bytes tail ++ codes "</svg>\n"))
-          (sym (flat_map-append part_bytes head.parts more))
-          (Appends-kept a g h _ (Appends-trans a f g _ _ (Appends-trans a e f _ _ (Appends-trans a d e _ _
-          (Appends-trans a b d _ _ head.written front.written) groups.written) tail_sent) end) kept);
-    }
-
-pub title_written : (what : List ℕ) (a b : Option (List ℕ)) (old title : List Part) → old ≡ []
-    → flat_map part_bytes title ≡ flat_map part_bytes old ++ codes "<title>" ++ flat_map escaped what ++ codes "</title>"
-    → Appends a b (flat_map part_bytes title) → TitleWritten what a b
-title_written what a b old title none told sent = record {
-  parts = title;
-  is = told ∙ ap (λ ps. flat_map part_bytes ps ++ codes "<title>" ++ flat_map escaped what ++ codes "</title>") none;
-  written = sent;
-}
-
--- what was done stands between two tags, behind what came before
-pub head_written : (picture : Picture) (a b c d : Option (List ℕ)) (what : List ℕ)
-    → what ≡ shown_characters (heading_words picture.moments picture.told.now picture.numbers)
-    → MarkupWritten a b → TitleWritten what b c → MarkupWritten c d → HeadWritten picture a d
-head_written picture a b c d what is opening title style =
-    let F = flat_map part_bytes opening.parts in
-    let S = flat_map part_bytes style.parts in
-    let is_title : flat_map part_bytes title.parts ≡ codes "<title>" ++ heading_bytes picture ++ codes "</title>" =
-    title.is ∙ ap (λ cs. codes "<title>" ++ flat_map escaped cs ++ codes "</title>") is in
-    let joined : F ++ (codes "<title>" ++ heading_bytes picture ++ codes "</title>")
-    ≡ F ++ codes "<title>" ++ heading_bytes picture ++ codes "</title>" =
-    sym (append_assoc F (codes "<title>" ++ heading_bytes picture) (codes "</title>"))
-    ∙ ap (λ bs. bs ++ codes "</title>") (sym (append_assoc F (codes "<title>") (heading_bytes picture))) in
-    record {
-      parts = opening.parts ++ title.parts ++ style.parts;
-      titled = record {
-        front = opening.parts;
-        back = style.parts;
-        is = flat_map-append part_bytes (opening.parts ++ title.parts) style.parts
-            ∙ ap (λ bs. bs ++ S) (flat_map-append part_bytes opening.parts title.parts ∙ ap (λ bs. F ++ bs) is_title ∙ joined);
-      };
-      written = subst (Appends a d)
-          (sym (flat_map-append part_bytes (opening.parts ++ title.parts) style.parts
-          ∙ ap (λ bs. bs ++ S) (flat_map-append part_bytes opening.parts title.parts)))
-          (Appends-trans a c d _ _ (Appends-trans a b c _ _ opening.written title.written) style.written);
-    }
-
--- ---- the row of a step
-
-group_if : (step : Option ToldStep) (title rest : List Part) → IfSome step (λ step. flat_map part_bytes title ≡ title_bytes step)
-    → IfSome step (IsGroupOf (title ++ rest))
-group_if None title rest told = tt
-group_if (Some step) title rest told =
-    record { rest = rest; begins = flat_map-append part_bytes title rest ∙ ap (λ bs. bs ++ flat_map part_bytes rest) told }
-
-pub group_sent : (a b c d e : Option (List ℕ)) (title rest : List Part) → Appends a b (codes "<g>") → Appends b c (flat_map part_bytes title)
-    → Appends c d (flat_map part_bytes rest) → Appends d e (codes "</g>\n")
-    → Appends a e (codes "<g>" ++ flat_map part_bytes title ++ flat_map part_bytes rest ++ codes "</g>\n")
-group_sent a b c d e title rest begin_sent title_sent rest_sent end_sent =
-    Appends-trans a d e _ _ (Appends-trans a c d _ _ (Appends-trans a b c _ _ begin_sent title_sent) rest_sent) end_sent
-
-pub group_written : (steps : List ToldStep) (place : ℕ) (a b : Option (List ℕ)) (old title rest : List Part) → old ≡ []
-    → IfSome (slice_get steps place) (λ step. flat_map part_bytes title ≡ flat_map part_bytes old ++ title_bytes step)
-    → Appends a b (codes "<g>" ++ flat_map part_bytes title ++ flat_map part_bytes rest ++ codes "</g>\n") → GroupWritten steps place a b
-group_written steps place a b old title rest none told sent = record {
-  group = title ++ rest;
-  is = group_if (slice_get steps place) title rest
-      (subst (λ (ps : List Part). IfSome (slice_get steps place) (λ step. flat_map part_bytes title ≡ flat_map part_bytes ps ++ title_bytes step)) none told);
-  written = subst (λ bs. Appends a b (bs ++ codes "</g>\n"))
-      (append_assoc (codes "<g>") (flat_map part_bytes title) (flat_map part_bytes rest)
-      ∙ ap (λ bs. codes "<g>" ++ bs) (sym (flat_map-append part_bytes title rest)))
-      sent;
-}

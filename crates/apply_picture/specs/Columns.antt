@@ -1,12 +1,24 @@
--- How many columns of a terminal texts take.
-use Rattle.std.specs.Prelude.{ℕ, List, unwrap_or, false}
-use Rattle.std.specs.List.{sum_by}
-use Rattle.unicode_width.specs.Width.{char_width}
+-- What of steps stands in a column, and how wide that is.
+use Rattle.std.specs.Prelude.{ℕ, List, max}
+use Rattle.std.specs.List.{fold, slice_get}
+use Rattle.std.specs.Option.{option_map_or}
+use Rattle.apply_view.specs.Steps.{ToldStep}
+use Rattle.apply_fitting.specs.Columns.{columns_of}
+use Rattle.apply_fitting.specs.Fitting.{fitted}
+use Rattle.apply_fitting.specs.Shown.{shown_characters}
+use Rattle.apply_picture.specs.declared.column.Column.{Column}
+use Rattle.apply_picture.specs.declared.column.Column.TheVariants as column
 
--- those of a character; none of a control, nor of one that joins another
-abbrev pub column_count : ℕ → ℕ
-column_count character = unwrap_or (char_width false character) 0
+-- a label has 64 columns at most
+abbrev pub column_text : Column → ToldStep → List ℕ
+column_text column.Action step = shown_characters step.action
+column_text column.Address step = shown_characters step.address
+column_text column.Label step = fitted 64 (shown_characters step.address)
 
--- those of the characters, one beside another
-abbrev pub columns_of : List ℕ → ℕ
-columns_of characters = sum_by column_count characters
+-- how many columns that of the step at a place takes
+abbrev pub columns_at : (ToldStep → List ℕ) → List ToldStep → (place : ℕ) → ℕ
+columns_at text steps place = option_map_or (λ step. columns_of (text step)) (slice_get steps place) 0
+
+-- the most that one of the steps at the places takes
+abbrev pub widest : (ToldStep → List ℕ) → List ToldStep → (places : List ℕ) → ℕ
+widest text steps places = fold (λ most place. max most (columns_at text steps place)) 0 places

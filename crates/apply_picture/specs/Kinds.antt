@@ -3,6 +3,8 @@ use Rattle.std.specs.Prelude.{ℕ, List, codes, if◌then◌else◌}
 use Rattle.std.specs.Str.{bytes_eq}
 use Rattle.apply_picture.specs.declared.kind.Kind.{Kind}
 use Rattle.apply_picture.specs.declared.kind.Kind.TheVariants as kind
+use Rattle.apply_picture.specs.declared.svg.word.Word.{Word}
+use Rattle.apply_picture.specs.declared.svg.word.Word.TheVariants as word
 use Rattle.apply_picture.specs.declared.text.paint.Paint.{Paint}
 use Rattle.apply_picture.specs.declared.text.paint.Paint.TheVariants as paint
 
@@ -15,6 +17,15 @@ kind_of action =
     else if bytes_eq action (codes "read") then kind.Read
     else if bytes_eq action (codes "refresh") then kind.Refresh
     else kind.Other
+
+-- its name in an SVG
+abbrev pub kind_name : Kind → Word
+kind_name kind.Create = word.Create
+kind_name kind.Update = word.Update
+kind_name kind.Delete = word.Delete
+kind_name kind.Read = word.Read
+kind_name kind.Refresh = word.Refresh
+kind_name kind.Other = word.Other
 
 -- how it is shown in a text with colours
 abbrev pub kind_paint : Kind → Paint

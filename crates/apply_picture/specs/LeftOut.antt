@@ -1,9 +1,9 @@
 -- What is said of the steps that have no row.
 use Rattle.std.specs.Prelude.{◌≡◌, ◌≤◌, ◌-◌, ◌++◌, ◌∷◌, ◌==◌, [], ℕ, List, Option, None, Some, codes, if◌then◌else◌}
 use Rattle.apply_view.specs.declared.rows.choosing.Rows.{Rows}
-use Rattle.apply_picture.specs.Columns.{columns_of}
+use Rattle.apply_fitting.specs.Columns.{columns_of}
 use Rattle.apply_picture.specs.Lines.{text_line}
-use Rattle.apply_picture.specs.Shown.{shown_characters}
+use Rattle.apply_fitting.specs.Shown.{shown_characters}
 use Rattle.apply_picture.specs.Words.{duration_words, number_words}
 use Rattle.apply_picture.specs.declared.text.paint.Paint.TheVariants as paint
 use Rattle.apply_picture.specs.declared.text.piece.Piece.{Piece}

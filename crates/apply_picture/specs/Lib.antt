@@ -1,15 +1,15 @@
+pub mod Axes
 pub mod Charts
 pub mod Columns
 pub mod CommandLine
-pub mod Fitting
 pub mod Heading
 pub mod Kinds
 pub mod LeftOut
 pub mod Lines
 pub mod Markup
 pub mod Rows
-pub mod Shown
 pub mod Texts
 pub mod Usages
 pub mod Viewed
+pub mod Vocabulary
 pub mod Words

@@ -2,9 +2,8 @@
 use Rattle.std.specs.Prelude.{◌≡◌, ◌≤◌, ◌+◌, ◌++◌, ◌∷◌, ◌&&◌, [], ℕ, List, Bool, true, false, All, Option, None, Some, codes, encode_utf8, if◌then◌else◌, is_some, nat_le, replicate}
 use Rattle.std.specs.List.{flat_map, fold, list_all, sum_by}
 use Rattle.std.specs.Io.KnownBytes.{Appends}
-use Rattle.unicode_width.specs.Width.{char_width}
-use Rattle.apply_picture.specs.Columns.{column_count}
-use Rattle.apply_picture.specs.Fitting.{without_blanks}
+use Rattle.apply_fitting.specs.Columns.{column_count, width_of}
+use Rattle.apply_fitting.specs.Fitting.{without_blanks}
 use Rattle.apply_picture.specs.declared.text.paint.Paint.{Paint}
 use Rattle.apply_picture.specs.declared.text.paint.Paint.TheVariants as paint
 use Rattle.apply_picture.specs.declared.text.piece.Piece.{Piece}
@@ -37,7 +36,7 @@ piece_columns piece.End = 0
 
 -- a control has no width
 abbrev pub is_no_control : Piece → Bool
-is_no_control (piece.Character character) = is_some (char_width false character)
+is_no_control (piece.Character character) = is_some (width_of character)
 is_no_control (piece.Begin paint) = true
 is_no_control piece.End = true
 
@@ -71,7 +70,7 @@ pub record LinesWritten (width : ℕ) (has_colour : Bool) (before after : Option
 -- a character more, where it is no control and has room; else it is left out
 abbrev pub with_character : (width : ℕ) → List Piece → ℕ → List Piece
 with_character width pieces character =
-    if is_some (char_width false character) && nat_le (sum_by piece_columns pieces + column_count character) width
+    if is_some (width_of character) && nat_le (sum_by piece_columns pieces + column_count character) width
     then pieces ++ piece.Character character ∷ [] else pieces
 
 abbrev pub with_characters : (width : ℕ) → List Piece → List ℕ → List Piece

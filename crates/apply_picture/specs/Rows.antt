@@ -1,18 +1,19 @@
 -- The row of a step in a text: its action, its address, how long it took, and its bar.
 use Rattle.std.specs.Prelude.{◌≡◌, ◌+◌, ◌-◌, ◌*◌, ◌/◌, ◌++◌, ◌∷◌, ◌&&◌, ◌⊎◌, [], ℕ, List, All, Bool, Option, None, Some, drop, encode_utf8, if◌then◌else◌, is_none, is_some, length, map, max, min, nat_le, nat_lt, not, take}
-use Rattle.std.specs.List.{fold, range_with_len, slice_get}
+use Rattle.std.specs.List.{range_with_len, slice_get}
 use Rattle.std.specs.Int.{int_gap}
 use Rattle.std.specs.Option.{option_map_or}
 use Rattle.apply_view.specs.Bars.{end_half, first_half}
 use Rattle.apply_view.specs.Intervals.{length_of, span_of, until_of}
 use Rattle.apply_view.specs.Steps.{ToldStep}
 use Rattle.apply_view.specs.declared.told.moments.Moments.{Moments}
-use Rattle.apply_picture.specs.Columns.{columns_of}
-use Rattle.apply_picture.specs.Fitting.{at_left, at_right, fitted, without_blanks}
+use Rattle.apply_fitting.specs.Fitting.{at_left, at_right, fitted, without_blanks}
+use Rattle.apply_picture.specs.Columns.{column_text, widest}
 use Rattle.apply_picture.specs.Kinds.{kind_of, kind_paint}
 use Rattle.apply_picture.specs.Lines.{with_character, with_characters, with_styled}
-use Rattle.apply_picture.specs.Shown.{shown_characters}
+use Rattle.apply_fitting.specs.Shown.{shown_characters}
 use Rattle.apply_picture.specs.Words.{duration_words}
+use Rattle.apply_picture.specs.declared.column.Column.TheVariants as column
 use Rattle.apply_picture.specs.declared.picture.Picture.{Picture}
 use Rattle.apply_picture.specs.declared.text.paint.Paint.{Paint}
 use Rattle.apply_picture.specs.declared.text.paint.Paint.TheVariants as paint
@@ -26,14 +27,6 @@ pub record Layout : Type 0 where
   pub label : ℕ
   pub cells : ℕ
 
--- how many columns a text of the step at a place takes, as it is shown
-abbrev pub columns_at : (ToldStep → List ℕ) → List ToldStep → (place : ℕ) → ℕ
-columns_at text steps place = option_map_or (λ step. columns_of (shown_characters (text step))) (slice_get steps place) 0
-
--- the most that one of the steps at the places takes
-abbrev pub widest : (ToldStep → List ℕ) → List ToldStep → (places : List ℕ) → ℕ
-widest text steps places = fold (λ most place. max most (columns_at text steps place)) 0 places
-
 -- the actions take 8 columns at most, and the addresses 7 at least and eleven twentieths of the others at most; twelve more are
 -- for blanks, a mark and a duration
 abbrev pub with_label : (width action label : ℕ) → Layout
@@ -46,8 +39,8 @@ with_action width action address = with_label width action (min (max 7 address) 
 -- the columns of a line of that width, by the rows of the picture
 unfoldable pub layout_of : (width : ℕ) → Picture → Layout
 layout_of width picture =
-    with_action width (min (widest (λ step. step.action) picture.told.now.steps picture.rows.places.items) 8)
-    (widest (λ step. step.address) picture.told.now.steps picture.rows.places.items)
+    with_action width (min (widest (column_text column.Action) picture.told.now.steps picture.rows.places.items) 8)
+    (widest (column_text column.Address) picture.told.now.steps picture.rows.places.items)
 
 -- ---- before the bar
 

@@ -2,12 +2,12 @@
 use Rattle.std.specs.Prelude.{◌≡◌, ◌≤◌, ◌+◌, ◌++◌, ◌∷◌, ℕ, List, Bool, All, Option, Some, map}
 use Rattle.std.specs.Io.KnownBytes.{Appends}
 use Rattle.apply_view.specs.declared.rows.choosing.Rows.{Rows}
-use Rattle.apply_picture.specs.Columns.{columns_of}
+use Rattle.apply_fitting.specs.Columns.{columns_of}
 use Rattle.apply_picture.specs.Heading.{heading_words}
 use Rattle.apply_picture.specs.LeftOut.{IsLeftOutAs, left_out_said}
 use Rattle.apply_picture.specs.Lines.{IsLine, text_bytes, text_line}
 use Rattle.apply_picture.specs.Rows.{AreTicks, layout_of, row_at, rows_of}
-use Rattle.apply_picture.specs.Shown.{shown_characters}
+use Rattle.apply_fitting.specs.Shown.{shown_characters}
 use Rattle.apply_picture.specs.declared.picture.Picture.{Picture}
 use Rattle.apply_picture.specs.declared.text.paint.Paint.TheVariants as paint
 use Rattle.apply_picture.specs.declared.text.piece.Piece.{Piece}

@@ -1,8 +1,9 @@
 //! The kinds of steps.
 
 ghost use Rattle.std.specs.Prelude.{◌≡◌};
-ghost use Rattle.apply_picture.specs.Kinds.{kind_of, kind_paint};
+ghost use Rattle.apply_picture.specs.Kinds.{kind_name, kind_of, kind_paint};
 
+use crate::svg::word::Word;
 use crate::text::paint::Paint;
 
 /// What a step does, by its action.
@@ -31,15 +32,17 @@ impl Kind {
         }
     }
 
-    /// Its name.
-    pub fn name(self) -> &'static str {
+    /// Its name in an SVG.
+    pub fn name(self) -> Word
+        ensures { result ≡ kind_name self }
+    {
         match self {
-            Kind::Create => "create",
-            Kind::Update => "update",
-            Kind::Delete => "delete",
-            Kind::Read => "read",
-            Kind::Refresh => "refresh",
-            Kind::Other => "other",
+            Kind::Create => Word::Create,
+            Kind::Update => Word::Update,
+            Kind::Delete => Word::Delete,
+            Kind::Read => Word::Read,
+            Kind::Refresh => Word::Refresh,
+            Kind::Other => Word::Other,
         }
     }
 

@@ -1,9 +1,12 @@
 //! Laws of pictures. Each function does nothing; its contract is the law.
 
 ghost use Rattle.std.specs.Prelude.{◌≡◌, ◌≤◌, ◌<◌, ◌⊎◌, ℕ, List, false, true, filter};
-ghost use Rattle.std.specs.List.{flat_map};
+ghost use Rattle.std.specs.Int.{int_gap};
+ghost use Rattle.apply_view.specs.Intervals.{until_of};
+ghost use Rattle.apply_view.specs.Steps.{ToldStep};
+ghost use Rattle.apply_view.specs.declared.told.moments.Moments.{Moments};
 ghost use Rattle.apply_picture.specs.Lines.{is_character, is_no_control, line_bytes};
-ghost use Rattle.apply_picture.specs.Markup.{IsEscaped, escaped};
+ghost use Rattle.apply_picture.specs.Markup.{Axis, bar_left, bar_right};
 ghost use Rattle.apply_picture.specs.declared.text.piece.Piece.{Piece as piece};
 ghost use Rattle.apply_picture.specs.declared.text.piece.Piece.TheVariants.{Character};
 
@@ -19,8 +22,12 @@ pub fn colours_are_sequences_alone()
     ensures { (pieces : List piece) → line_bytes false pieces ≡ line_bytes true (filter is_character pieces) }
 {}
 
-/// A text in the SVG is entities, and characters that are not markup: `<` stands nowhere in it, and `&` only where an entity
-/// begins.
-pub fn what_is_escaped_is_no_markup()
-    ensures { (characters : List ℕ) → IsEscaped (flat_map escaped characters) }
+/// Of two steps the bar of the one that begins no later begins no further to the right in an SVG, and that of the one that ends
+/// no later ends no further, before it is given its least width.
+pub fn what_comes_no_later_has_its_bar_no_further()
+    ensures begin { (axis : Axis) (moments : Moments) (sooner later : ToldStep) → int_gap moments.first sooner.begin ≤ int_gap moments.first later.begin
+        → bar_left axis moments sooner ≤ bar_left axis moments later }
+    ensures end { (axis : Axis) (moments : Moments) (sooner later : ToldStep)
+        → int_gap moments.first (until_of moments sooner) ≤ int_gap moments.first (until_of moments later)
+        → bar_right axis moments sooner ≤ bar_right axis moments later }
 {}

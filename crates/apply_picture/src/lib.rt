@@ -1,6 +1,7 @@
 //! What a stream of an apply tells, drawn for people: which steps ran when, as a text or as one SVG.
 #![tactic(auto)]
 
+mod column;
 mod command;
 mod draw_fault;
 mod kind;
@@ -21,10 +22,13 @@ pub use command::outcome::Outcome;
 pub use command::picture_fault::PictureFault;
 pub use command::settings::Settings;
 pub use draw_fault::DrawFault;
-pub use laws::{colours_are_sequences_alone, no_line_has_a_control, what_is_escaped_is_no_markup};
+pub use laws::{
+    colours_are_sequences_alone, no_line_has_a_control, what_comes_no_later_has_its_bar_no_further,
+};
 pub use picture::Picture;
 pub use svg::drawing::draw_svg;
 pub use svg::part::Part;
+pub use svg::word::Word;
 pub use text::drawing::draw_text;
 pub use text::paint::Paint;
 pub use text::piece::Piece;

@@ -8,6 +8,8 @@ pub(crate) mod legend;
 pub(crate) mod markup;
 pub(crate) mod part;
 pub(crate) mod row;
+pub(crate) mod rows;
 pub(crate) mod scale;
 pub(crate) mod sheet;
 pub(crate) mod style;
+pub(crate) mod word;

@@ -4,6 +4,7 @@ use crate::picture::Picture;
 use crate::svg::markup::Markup;
 use crate::svg::part::Part;
 use crate::svg::scale::Scale;
+use crate::svg::word::Word;
 use crate::words::count::Count;
 use apply_view::levels_of;
 use std::alloc::{AllocError, Global};
@@ -28,16 +29,17 @@ pub fn push_at_once(
         bottom,
     )?;
     markup.add(&[
-        Part::Own("<path d=\"M"),
+        Part::Own(Word::PathBegin),
+        Part::Own(Word::MoveTo),
         Part::Tenths(scale.left),
-        Part::Own(" "),
+        Part::Own(Word::Space),
         Part::Number(bottom),
     ])?;
     push_levels(alloc, markup, picture, scale, bottom)?;
     markup.add(&[
-        Part::Own("V"),
+        Part::Own(Word::DownTo),
         Part::Number(bottom),
-        Part::Own("Z\" class=\"level\"/>\n"),
+        Part::Own(Word::LevelEnd),
     ])?;
     Ok(HIGH + 4)
 }
@@ -52,7 +54,7 @@ fn push_peak(
 ) -> Result<(), AllocError> {
     let peak = Count(picture.numbers.peak as u64);
     let text = format!(in alloc; "at once, at most {peak}")?;
-    markup.line_of(alloc, x, y, "small soft end", text.as_str())
+    markup.line_of(alloc, x, y, Word::SmallSoftEnd, text.as_str())
 }
 
 /// Adds the line above the area.
@@ -70,15 +72,18 @@ fn push_levels(
         if *level != before {
             let high = height_of(*level, picture.numbers.peak);
             markup.add(&[
-                Part::Own("H"),
+                Part::Own(Word::AcrossTo),
                 Part::Tenths(end_of(scale, cell as u64)),
-                Part::Own("V"),
+                Part::Own(Word::DownTo),
                 Part::Tenths(bottom.saturating_mul(10).saturating_sub(high)),
             ])?;
             before = *level;
         }
     }
-    markup.add(&[Part::Own("H"), Part::Tenths(end_of(scale, cells as u64))])
+    markup.add(&[
+        Part::Own(Word::AcrossTo),
+        Part::Tenths(end_of(scale, cells as u64)),
+    ])
 }
 
 /// Where a pixel begins, to which the line goes.

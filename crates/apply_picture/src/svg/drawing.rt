@@ -1,23 +1,23 @@
 //! The whole SVG.
 
-ghost use Rattle.std.specs.Prelude.{◌≡◌, ◌++◌, IfSome, OnOk, codes};
-ghost use Rattle.std.specs.Io.KnownBytes.{Appends};
-ghost use Rattle.std.specs.List.{flat_map, slice_get};
-ghost use Rattle.apply_picture.specs.Markup.{GroupWritten, GroupsWritten, HeadWritten, MarkupWritten, SomeSvgWritten, SvgWritten, TitleWritten, escaped, part_bytes, title_bytes};
+ghost use Rattle.std.specs.Prelude.{◌≡◌, ◌++◌, OnOk};
+ghost use Rattle.apply_picture.specs.Axes.{axis_in};
+ghost use Rattle.apply_picture.specs.LeftOut.{left_out_said};
+ghost use Rattle.apply_picture.specs.Markup.{HeadWritten, IsLeftOutIn, MarkupWritten, PartsWritten, SomeSvgWritten, SvgWritten, axis_of, whole_title};
 
 use crate::draw_fault::DrawFault;
 use crate::picture::Picture;
-use crate::svg::back::push_back;
+use crate::svg::back::Back;
 use crate::svg::front::{push_front, push_grid};
 use crate::svg::markup::Markup;
 use crate::svg::part::Part;
-use crate::svg::row::{begin_title, push_row};
+use crate::svg::rows::draw_rows;
 use crate::svg::scale::Scale;
 use crate::svg::sheet::{EDGE, ROW, WIDTH};
-use crate::svg::style::STYLE;
+use crate::svg::word::Word;
 use crate::telling::heading::heading;
-use crate::words::shown_text::ShownText;
 use crate::writing::{flush, write_text};
+use apply_fitting::ShownText;
 use std::alloc::{AllocError, Global};
 use std::io::Write;
 
@@ -35,14 +35,12 @@ pub fn draw_svg<W: Write>(
     let scale = Scale::of(alloc, picture)?;
     let mut front = Markup::new(alloc);
     let top = push_front(alloc, &mut front, picture, scale)?;
-    let count = picture.rows.places.len() as u64;
-    let bottom = top.saturating_add(count.saturating_mul(ROW));
-    let mut back = Markup::new(alloc);
-    let height = push_back(alloc, &mut back, picture, scale, bottom)?;
+    let bottom = y_of(top, picture.rows.places.len() as u64);
+    let mut back = Back::of(alloc, picture, scale, bottom)?;
     let heights = Heights {
         top,
         bottom,
-        height,
+        height: back.height,
     };
     draw_parts(alloc, picture, scale, heights, &mut front, &mut back, out)
 }
@@ -54,9 +52,11 @@ fn draw_parts<W: Write>(
     scale: Scale,
     heights: Heights,
     front: &mut Markup,
-    back: &mut Markup,
+    back: &mut Back,
     out: &mut W,
 ) -> Result<(), DrawFault>
+    requires axis { axis_in scale ≡ axis_of picture.now }
+    requires left_out { IsLeftOutIn (left_out_said picture.now.rows) back.old.left_out.parts.items }
     ensures { OnOk result (SvgWritten picture.now (W.contents out.old) (W.contents out.new)) }
 {
     draw_head(alloc, picture, heights.height, out)?;
@@ -110,7 +110,7 @@ fn draw_opening<W: Write>(
 
 /// Writes the title of the whole.
 fn draw_title<W: Write>(alloc: Global, title: &ShownText, out: &mut W) -> Result<(), DrawFault>
-    ensures { OnOk result (TitleWritten title.now.characters.items (W.contents out.old) (W.contents out.new)) }
+    ensures { OnOk result (PartsWritten (whole_title title.now) (W.contents out.old) (W.contents out.new)) }
 {
     let mut markup = Markup::new(alloc);
     push_title(&mut markup, title)?;
@@ -131,46 +131,37 @@ fn draw_style<W: Write>(alloc: Global, height: u64, out: &mut W) -> Result<(), D
 /// Adds what stands before the title.
 fn push_opening(markup: &mut Markup, title: &ShownText, height: u64) -> Result<(), AllocError> {
     markup.add(&[
-        Part::Own("<svg xmlns=\"http://www.w3.org/2000/svg\" width=\""),
+        Part::Own(Word::SvgBegin),
         Part::Number(WIDTH),
-        Part::Own("\" height=\""),
+        Part::Own(Word::Height),
         Part::Number(height),
-        Part::Own("\" viewBox=\"0 0 "),
+        Part::Own(Word::ViewBox),
         Part::Number(WIDTH),
-        Part::Own(" "),
+        Part::Own(Word::Space),
         Part::Number(height),
-        Part::Own("\" role=\"img\" aria-label=\""),
+        Part::Own(Word::AriaLabel),
     ])?;
     markup.text(title)?;
-    markup.own("\">\n")
+    markup.own(Word::SvgTagEnd)
 }
 
 /// Adds the title of the whole.
 fn push_title(markup: &mut Markup, title: &ShownText) -> Result<(), AllocError>
-    ensures { OnOk result (flat_map part_bytes markup.new.parts.items ≡ flat_map part_bytes markup.old.parts.items
-        ++ codes "<title>" ++ flat_map escaped title.now.characters.items ++ codes "</title>") }
+    ensures { OnOk result (markup.new.parts.items ≡ markup.old.parts.items ++ whole_title title.now) }
 {
-    markup.own("<title>")?;
+    markup.own(Word::TitleBegin)?;
     markup.text(title)?;
-    markup.own("</title>")
+    markup.own(Word::TitleEnd)
 }
 
 /// Adds how it looks.
 fn push_style(markup: &mut Markup, height: u64) -> Result<(), AllocError> {
-    markup.own("\n<style>")?;
-    for rules in STYLE {
-        markup.own(rules)?;
-    }
     markup.add(&[
-        Part::Own("</style>\n<defs><pattern id=\"stripes\" width=\"6\" height=\"6\" "),
-        Part::Own("patternUnits=\"userSpaceOnUse\" patternTransform=\"rotate(45)\">"),
-        Part::Own(
-            "<path d=\"M0 0V6\" class=\"stripe\" stroke-width=\"6\"/></pattern></defs>\n<rect width=\"",
-        ),
+        Part::Own(Word::Style),
         Part::Number(WIDTH),
-        Part::Own("\" height=\""),
+        Part::Own(Word::Height),
         Part::Number(height),
-        Part::Own("\" class=\"ground\"/>\n"),
+        Part::Own(Word::GroundEnd),
     ])
 }
 
@@ -195,91 +186,6 @@ fn draw_grid<W: Write>(
     Ok(())
 }
 
-/// Writes the rows from that height on, a group for each.
-fn draw_rows<W: Write>(
-    alloc: Global,
-    picture: &Picture<'_>,
-    scale: Scale,
-    top: u64,
-    out: &mut W,
-) -> Result<(), DrawFault>
-    ensures { OnOk result (GroupsWritten picture.now.told.now.steps picture.now.rows.places.items (W.contents out.old) (W.contents out.new)) }
-{
-    let mut y = top;
-    for place in &picture.rows.places {
-        draw_row(alloc, picture, scale, *place, y, out)?;
-        y = y.saturating_add(ROW);
-    }
-    Ok(())
-}
-
-/// Writes the row of the step at that place, at that height; an empty group where none is.
-fn draw_row<W: Write>(
-    alloc: Global,
-    picture: &Picture<'_>,
-    scale: Scale,
-    place: usize,
-    y: u64,
-    out: &mut W,
-) -> Result<(), DrawFault>
-    ensures { OnOk result (GroupWritten picture.now.told.now.steps place (W.contents out.old) (W.contents out.new)) }
-{
-    let mut title = Markup::new(alloc);
-    begin_row(alloc, &mut title, picture, place)?;
-    let mut rest = Markup::new(alloc);
-    push_step(alloc, &mut rest, picture, scale, place, y)?;
-    draw_group(alloc, &mut title, &mut rest, out)?;
-    Ok(())
-}
-
-/// Writes a group with a title and what comes behind that.
-fn draw_group<W: Write>(
-    alloc: Global,
-    title: &mut Markup,
-    rest: &mut Markup,
-    out: &mut W,
-) -> Result<(), DrawFault>
-    ensures { OnOk result (Appends (W.contents out.old) (W.contents out.new)
-        (codes "<g>" ++ flat_map part_bytes title.old.parts.items ++ flat_map part_bytes rest.old.parts.items ++ codes "</g>\n")) }
-{
-    write_text("<g>", out)?;
-    title.send(alloc, out)?;
-    rest.send(alloc, out)?;
-    write_text("</g>\n", out)?;
-    Ok(())
-}
-
-/// Adds what the row of the step at that place begins with.
-fn begin_row(
-    alloc: Global,
-    markup: &mut Markup,
-    picture: &Picture<'_>,
-    place: usize,
-) -> Result<(), AllocError>
-    ensures { OnOk result (IfSome (slice_get picture.now.told.now.steps place)
-        (λ step. flat_map part_bytes markup.new.parts.items ≡ flat_map part_bytes markup.old.parts.items ++ title_bytes step)) }
-{
-    match picture.told.steps().get(place) {
-        Some(step) => begin_title(alloc, markup, step),
-        None => Ok(()),
-    }
-}
-
-/// Adds the rest of it, at that height.
-fn push_step(
-    alloc: Global,
-    markup: &mut Markup,
-    picture: &Picture<'_>,
-    scale: Scale,
-    place: usize,
-    y: u64,
-) -> Result<(), AllocError> {
-    match picture.told.steps().get(place) {
-        Some(step) => push_row(alloc, markup, picture, scale, place, step, y),
-        None => Ok(()),
-    }
-}
-
 /// Writes what stands behind every second of so many rows.
 fn draw_bands<W: Write>(alloc: Global, count: usize, top: u64, out: &mut W) -> Result<(), DrawFault>
     ensures { OnOk result (MarkupWritten (W.contents out.old) (W.contents out.new)) }
@@ -300,14 +206,14 @@ fn y_of(top: u64, row: u64) -> u64 {
 /// Adds what stands behind every second row.
 fn push_band(markup: &mut Markup, y: u64) -> Result<(), AllocError> {
     markup.add(&[
-        Part::Own("<rect x=\""),
+        Part::Own(Word::RectX),
         Part::Number(EDGE - 6),
-        Part::Own("\" y=\""),
+        Part::Own(Word::Y),
         Part::Number(y),
-        Part::Own("\" width=\""),
+        Part::Own(Word::Width),
         Part::Number(WIDTH - 2 * EDGE + 12),
-        Part::Own("\" height=\""),
+        Part::Own(Word::Height),
         Part::Number(ROW),
-        Part::Own("\" class=\"band\"/>\n"),
+        Part::Own(Word::BandEnd),
     ])
 }

@@ -7,6 +7,7 @@ use crate::svg::markup::Markup;
 use crate::svg::part::Part;
 use crate::svg::scale::Scale;
 use crate::svg::sheet::EDGE;
+use crate::svg::word::Word;
 use crate::telling::heading::heading;
 use crate::telling::overlap::overlap;
 use crate::words::tick::Tick;
@@ -39,11 +40,16 @@ fn push_heading(
     markup: &mut Markup,
     picture: &Picture<'_>,
 ) -> Result<u64, AllocError> {
-    markup.line(EDGE * 10, EDGE + 16, "head ink", &heading(alloc, picture)?)?;
+    markup.line(
+        EDGE * 10,
+        EDGE + 16,
+        Word::HeadInk,
+        &heading(alloc, picture)?,
+    )?;
     let Some(how) = overlap(alloc, picture)? else {
         return Ok(EDGE + 24);
     };
-    markup.line(EDGE * 10, EDGE + 37, "sub soft", &how)?;
+    markup.line(EDGE * 10, EDGE + 37, Word::SubSoft, &how)?;
     Ok(EDGE + 44)
 }
 
@@ -61,9 +67,9 @@ pub fn push_ticks(
         };
         let text = format!(in alloc; "{tick}")?;
         let class = if count == 0 {
-            "small soft"
+            Word::SmallSoft
         } else {
-            "small soft mid"
+            Word::SmallSoftMid
         };
         markup.line_of(alloc, scale.x_of(offset), y, class, text.as_str())?;
     }
@@ -77,16 +83,16 @@ pub fn push_grid(
     top: u64,
     bottom: u64,
 ) -> Result<(), AllocError> {
-    markup.own("<path d=\"")?;
+    markup.own(Word::PathBegin)?;
     for count in 0..scale.ticks() {
         markup.add(&[
-            Part::Own("M"),
+            Part::Own(Word::MoveTo),
             Part::Tenths(scale.x_of(scale.step.saturating_mul(count))),
-            Part::Own(" "),
+            Part::Own(Word::Space),
             Part::Number(top),
-            Part::Own("V"),
+            Part::Own(Word::DownTo),
             Part::Number(bottom),
         ])?;
     }
-    markup.own("\" class=\"grid\"/>\n")
+    markup.own(Word::GridEnd)
 }

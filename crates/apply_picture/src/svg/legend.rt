@@ -5,6 +5,7 @@ use crate::picture::Picture;
 use crate::svg::markup::Markup;
 use crate::svg::part::Part;
 use crate::svg::sheet::{BAR, EDGE};
+use crate::svg::word::Word;
 use apply_view::Step;
 use std::alloc::{AllocError, Global};
 
@@ -44,7 +45,7 @@ impl Entry {
     /// How many characters its words have.
     fn len(self) -> u64 {
         match self {
-            Entry::Kind(kind) => kind.name().len() as u64 + 2,
+            Entry::Kind(kind) => kind.name().text().len() as u64 + 2,
             Entry::Provisioner => 11,
             Entry::Failed => 6,
             Entry::Open => 9,
@@ -104,9 +105,9 @@ fn push_entry(
     y: u64,
 ) -> Result<(), AllocError> {
     push_sign(markup, entry, first, x, y)?;
-    markup.begin_text(x.saturating_add(190), y.saturating_add(13), "small soft")?;
+    markup.begin_text(x.saturating_add(190), y.saturating_add(13), Word::SmallSoft)?;
     push_words(markup, entry)?;
-    markup.own("</text>\n")
+    markup.own(Word::TextLineEnd)
 }
 
 /// Adds what an entry explains; `first` is the kind that stands for any.
@@ -117,54 +118,45 @@ fn push_sign(
     x: u64,
     y: u64,
 ) -> Result<(), AllocError> {
-    let kind = match entry {
-        Entry::Kind(kind) => kind,
-        _ => first,
+    let (kind, end) = match entry {
+        Entry::Kind(kind) => (kind, Word::WholeEnd),
+        Entry::Provisioner => (first, Word::WholeEnd),
+        Entry::Failed | Entry::Open => (first, Word::OpenEnd),
     };
-    let rest = match entry {
-        Entry::Failed | Entry::Open => " open\"/>",
-        _ => "\"/>",
-    };
-    push_box(markup, x, y, [" class=\"", kind.name(), rest])?;
-    match entry {
-        Entry::Provisioner => markup.add(&[
-            Part::Own("<rect x=\""),
-            Part::Tenths(x),
-            Part::Own("\" y=\""),
-            Part::Number(y.saturating_add(7)),
-            Part::Own("\" width=\"14\" height=\"4\" class=\"inner\"/>"),
-        ])?,
-        Entry::Failed => push_stripes(markup, x, y)?,
-        _ => {}
-    }
-    markup.own("\n")
+    push_box(markup, x, y, Word::RoundedClass)?;
+    markup.add(&[Part::Own(kind.name()), Part::Own(end)])?;
+    push_over(markup, entry, x, y)?;
+    markup.own(Word::NewLine)
 }
 
-/// Adds the stripes and the edge of a small bar.
-fn push_stripes(markup: &mut Markup, x: u64, y: u64) -> Result<(), AllocError> {
-    push_box(
-        markup,
-        x,
-        y,
-        [" fill=\"url(#stripes)\"", " fill-opacity=\".6\"", "/>"],
-    )?;
-    push_box(markup, x, y, [" class=\"", "edge", "\"/>"])
+/// Adds what is drawn over the small bar of an entry.
+fn push_over(markup: &mut Markup, entry: Entry, x: u64, y: u64) -> Result<(), AllocError> {
+    match entry {
+        Entry::Provisioner => markup.add(&[
+            Part::Own(Word::RectX),
+            Part::Tenths(x),
+            Part::Own(Word::Y),
+            Part::Number(y.saturating_add(7)),
+            Part::Own(Word::SmallInnerEnd),
+        ]),
+        Entry::Failed => {
+            push_box(markup, x, y, Word::StripesEnd)?;
+            push_box(markup, x, y, Word::EdgeEnd)
+        }
+        Entry::Kind(_) | Entry::Open => Ok(()),
+    }
 }
 
 /// Adds a small bar, which ends so.
-fn push_box(markup: &mut Markup, x: u64, y: u64, end: [&'static str; 3]) -> Result<(), AllocError> {
-    let [first, second, third] = end;
+fn push_box(markup: &mut Markup, x: u64, y: u64, end: Word) -> Result<(), AllocError> {
     markup.add(&[
-        Part::Own("<rect x=\""),
+        Part::Own(Word::RectX),
         Part::Tenths(x),
-        Part::Own("\" y=\""),
+        Part::Own(Word::Y),
         Part::Number(y.saturating_add(4)),
-        Part::Own("\" width=\"14\" height=\""),
+        Part::Own(Word::SmallWidth),
         Part::Number(BAR - 2),
-        Part::Own("\" rx=\"2\""),
-        Part::Own(first),
-        Part::Own(second),
-        Part::Own(third),
+        Part::Own(end),
     ])
 }
 
@@ -173,11 +165,11 @@ fn push_words(markup: &mut Markup, entry: Entry) -> Result<(), AllocError> {
     match entry {
         Entry::Kind(kind) => markup.add(&[
             Part::Character(kind.sign()),
-            Part::Own(" "),
+            Part::Own(Word::Space),
             Part::Own(kind.name()),
         ]),
-        Entry::Provisioner => markup.own("provisioner"),
-        Entry::Failed => markup.own("failed"),
-        Entry::Open => markup.own("not ended"),
+        Entry::Provisioner => markup.own(Word::ProvisionerBar),
+        Entry::Failed => markup.own(Word::FailedBar),
+        Entry::Open => markup.own(Word::NotEndedBar),
     }
 }

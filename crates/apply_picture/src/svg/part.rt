@@ -1,15 +1,17 @@
 //! What the SVG is made of.
 
 ghost use Rattle.std.specs.Prelude.{◌≡◌, ◌++◌, OnOk, string_bytes};
-ghost use Rattle.apply_picture.specs.Markup.{escaped, part_bytes, tenths};
+ghost use Rattle.apply_picture.specs.Markup.{part_bytes, tenths};
 
+use crate::svg::word::Word;
+use apply_fitting::push_escaped;
 use std::alloc::AllocError;
 
 /// What the SVG is made of.
-#[derive(Clone, Copy, Debug, PartialEq, Eq)]
+#[derive(Clone, Copy)]
 pub enum Part {
-    /// Text of ours, as it stands.
-    Own(&'static str),
+    /// What it says of its own.
+    Own(Word),
     /// A whole number.
     Number(u64),
     /// So many tenths.
@@ -24,7 +26,7 @@ impl Part {
         ensures { OnOk result (string_bytes text.new ≡ string_bytes text.old ++ part_bytes self) }
     {
         match self {
-            Part::Own(own) => text.push_str(own),
+            Part::Own(word) => text.push_str(word.text()),
             Part::Number(number) => {
                 write!(text, "{number}")?;
                 Ok(())
@@ -47,17 +49,4 @@ fn push_tenths(text: &mut String, count: u64) -> Result<(), AllocError>
         write!(text, "{whole}.{rest}")?;
     }
     Ok(())
-}
-
-/// Adds a character, as an entity (XML 1.0, section 4.6) where it would be read as markup.
-fn push_escaped(text: &mut String, character: char) -> Result<(), AllocError>
-    ensures { OnOk result (string_bytes text.new ≡ string_bytes text.old ++ escaped character) }
-{
-    match character {
-        '&' => text.push_str("&amp;"),
-        '<' => text.push_str("&lt;"),
-        '>' => text.push_str("&gt;"),
-        '"' => text.push_str("&quot;"),
-        _ => text.push(character),
-    }
 }

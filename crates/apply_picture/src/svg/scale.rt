@@ -1,11 +1,14 @@
 //! Where the moments stand.
 
+ghost use Rattle.std.specs.Prelude.{◌≡◌, ◌-◌, IfOk};
+ghost use Rattle.apply_picture.specs.Axes.{axis_in};
+ghost use Rattle.apply_picture.specs.Markup.{axis_of, x_at};
+
+use crate::column::{Column, LABEL, widest};
 use crate::picture::Picture;
-use crate::svg::sheet::{CHARACTER, EDGE, LABEL, LEAST_LABEL, WIDTH};
-use crate::words::fitting::fitted;
-use crate::words::shown_text::ShownText;
+use crate::svg::sheet::{CHARACTER, EDGE, LEAST_LABEL, WIDTH};
 use crate::words::tick_step::tick_step;
-use apply_view::{Step, place_on};
+use apply_view::place_on;
 use std::alloc::{AllocError, Global};
 
 /// The room between an address and the begin of the axis, and behind its end for a duration, in tenths of a pixel.
@@ -29,17 +32,14 @@ pub struct Scale {
 
 impl Scale {
     /// That of the picture's rows.
-    pub fn of(alloc: Global, picture: &Picture<'_>) -> Result<Scale, AllocError> {
-        let mut widest = LEAST_LABEL;
-        for place in &picture.rows.places {
-            if let Some(step) = picture.told.steps().get(*place) {
-                let columns = label_of(alloc, step)?.columns();
-                widest = widest.max(columns.min(LABEL) as u64);
-            }
-        }
+    pub fn of(alloc: Global, picture: &Picture<'_>) -> Result<Scale, AllocError>
+        ensures { IfOk result (λ scale. axis_in scale ≡ axis_of picture.now) }
+    {
+        let widest = widest(alloc, picture, Column::Label)?;
+        let columns = widest.max(LEAST_LABEL).min(LABEL) as u64;
         let span = picture.span().max(1);
         Ok(Scale {
-            left: EDGE * 10 + (widest + 2) * CHARACTER + BEFORE,
+            left: EDGE * 10 + (columns + 2) * CHARACTER + BEFORE,
             right: (WIDTH - EDGE) * 10 - BEHIND,
             span,
             step: tick_step(span, TICKS),
@@ -47,27 +47,28 @@ impl Scale {
     }
 
     /// How long the axis is, in tenths of a pixel.
-    pub fn width(self) -> u64 {
+    pub fn width(self) -> u64
+        ensures { result ≡ self.right - self.left }
+    {
         self.right.saturating_sub(self.left)
     }
 
     /// Where a moment stands, in tenths of a pixel. It is given by how long after the first it comes, in microseconds.
     pub fn x_of(self, offset: u64) -> u64 {
-        let place = place_on(self.width(), self.span, offset);
-        self.left.saturating_add(u64::try_from(place).unwrap_or(0))
+        self.x_in(self.span, offset)
+    }
+
+    /// The same, for a stream as long as `span`.
+    pub fn x_in(self, span: u64, offset: u64) -> u64
+        ensures { result ≡ x_at (axis_in self) span offset }
+    {
+        let place = place_on(self.width(), span, offset);
+        let x = (self.left as u128).saturating_add(place);
+        x.min(u64::MAX as u128) as u64
     }
 
     /// How many ticks there are, with that at 0.
     pub fn ticks(self) -> u64 {
         (self.span / self.step.max(1)).saturating_add(1)
     }
-}
-
-/// The address of a step, as it stands beside its bar.
-pub fn label_of(alloc: Global, step: &Step) -> Result<ShownText, AllocError> {
-    fitted(
-        alloc,
-        &ShownText::of(alloc, step.address().as_bytes())?,
-        LABEL,
-    )
 }

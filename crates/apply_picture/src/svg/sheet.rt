@@ -14,11 +14,8 @@ pub const BAR: u64 = 12;
 /// How many tenths of a pixel a character takes.
 pub const CHARACTER: u64 = 72;
 
-/// The most columns of an address.
-pub const LABEL: usize = 64;
-
 /// The least columns of an address.
-pub const LEAST_LABEL: u64 = 8;
+pub const LEAST_LABEL: usize = 8;
 
 /// The least width of a bar, in tenths of a pixel.
 pub const LEAST_BAR: u64 = 15;

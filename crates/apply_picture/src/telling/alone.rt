@@ -2,7 +2,7 @@
 
 use crate::picture::Picture;
 use crate::words::duration::Duration;
-use crate::words::shown_text::ShownText;
+use apply_fitting::ShownText;
 use apply_view::Step;
 use std::alloc::{AllocError, Global};
 use std::cmp::Reverse;

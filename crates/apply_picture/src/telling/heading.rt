@@ -4,20 +4,20 @@ ghost use Rattle.std.specs.Prelude.{◌≡◌, ◌++◌, IfOk, OnOk, length, str
 ghost use Rattle.std.specs.List.{count_by, list_any};
 ghost use Rattle.apply_view.specs.Intervals.{span_of};
 ghost use Rattle.apply_picture.specs.Heading.{agrees, completed_words, disagreement_words, heading_words, imported_words, is_change, is_not_ended, lacks_summary, summary_words, total_words, uncompleted_words, version_words, words_if_any};
-ghost use Rattle.apply_picture.specs.Shown.{shown_characters};
+ghost use Rattle.apply_fitting.specs.Shown.{shown_characters};
 
 use crate::picture::Picture;
 use crate::words::count::Count;
 use crate::words::duration::Duration;
 use crate::words::number::Number;
-use crate::words::shown_text::ShownText;
+use apply_fitting::ShownText;
 use apply_view::{Step, Totals};
 use std::alloc::{AllocError, Global};
 
 /// What was done: the version of Terraform, how many steps there were and how long they took, what was completed, and what
 /// was not. `Err` where memory is refused.
 pub fn heading(alloc: Global, picture: &Picture<'_>) -> Result<ShownText, AllocError>
-    ensures { IfOk result (λ text. text.characters.items ≡ shown_characters (heading_words picture.now.moments picture.now.told.now picture.now.numbers)) }
+    ensures { IfOk result (λ text. text ≡ shown_characters (heading_words picture.now.moments picture.now.told.now picture.now.numbers)) }
 {
     let mut text = String::new(alloc);
     push_version(&mut text, picture)?;

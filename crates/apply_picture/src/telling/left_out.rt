@@ -1,18 +1,18 @@
 //! What has no row.
 
-ghost use Rattle.std.specs.Prelude.{◌≡◌, IfOk, option_map};
+ghost use Rattle.std.specs.Prelude.{◌≡◌, IfOk};
 ghost use Rattle.apply_picture.specs.LeftOut.{left_out_said, left_out_words};
-ghost use Rattle.apply_picture.specs.Shown.{shown_characters};
+ghost use Rattle.apply_fitting.specs.Shown.{shown_characters};
 
 use crate::picture::Picture;
 use crate::words::duration::Duration;
 use crate::words::number::Number;
-use crate::words::shown_text::ShownText;
+use apply_fitting::ShownText;
 use std::alloc::{AllocError, Global};
 
 /// How many steps have no row, and how long they took; none where each has one. `Err` where memory is refused.
 pub fn left_out(alloc: Global, picture: &Picture<'_>) -> Result<Option<ShownText>, AllocError>
-    ensures { IfOk result (λ text. option_map (λ said. said.characters.items) text ≡ left_out_said picture.now.rows) }
+    ensures { IfOk result (λ text. text ≡ left_out_said picture.now.rows) }
 {
     if picture.rows.left_out == 0 {
         Ok(None)
@@ -23,7 +23,7 @@ pub fn left_out(alloc: Global, picture: &Picture<'_>) -> Result<Option<ShownText
 
 /// How many steps have no row, the greatest of their lengths, and the sum.
 fn left_out_text(alloc: Global, picture: &Picture<'_>) -> Result<ShownText, AllocError>
-    ensures { IfOk result (λ text. text.characters.items ≡ shown_characters (left_out_words picture.now.rows)) }
+    ensures { IfOk result (λ text. text ≡ shown_characters (left_out_words picture.now.rows)) }
 {
     let steps = Number {
         count: picture.rows.left_out as u64,

@@ -1,6 +1,6 @@
 //! Lines of diagnostics.
 
-use crate::words::shown_text::ShownText;
+use apply_fitting::ShownText;
 
 /// What a line of the diagnostics is.
 #[derive(Clone, Copy)]

@@ -2,9 +2,8 @@
 
 use crate::picture::Picture;
 use crate::telling::note::{Note, Voice};
-use crate::words::fitting::fitted;
 use crate::words::number::Number;
-use crate::words::shown_text::ShownText;
+use apply_fitting::{ShownText, fitted};
 use apply_view::Diagnostic;
 use std::alloc::{AllocError, Global};
 

@@ -3,7 +3,7 @@
 use crate::picture::Picture;
 use crate::words::count::Count;
 use crate::words::duration::Duration;
-use crate::words::shown_text::ShownText;
+use apply_fitting::ShownText;
 use std::alloc::{AllocError, Global};
 
 /// How long nothing has to be under way to be told, in microseconds, and which part of the span.

@@ -2,7 +2,7 @@
 
 use crate::picture::Picture;
 use crate::words::number::Number;
-use crate::words::shown_text::ShownText;
+use apply_fitting::ShownText;
 use std::alloc::{AllocError, Global};
 
 /// How many lines were passed over; none where none was. `Err` where memory is refused.

@@ -7,8 +7,7 @@ use crate::text::chart::{Chart, DURATION};
 use crate::text::line::Line;
 use crate::text::page::Page;
 use crate::words::count::Count;
-use crate::words::fitting::fitted;
-use crate::words::shown_text::{ShownText, without_blanks};
+use apply_fitting::{ShownText, fitted, without_blanks};
 use apply_view::levels_of;
 use std::alloc::{AllocError, Global};
 

@@ -8,8 +8,8 @@ use crate::picture::Picture;
 use crate::text::chart::Chart;
 use crate::text::line::Line;
 use crate::text::page::Page;
-use crate::words::shown_text::without_blanks;
 use crate::words::tick::Tick;
+use apply_fitting::without_blanks;
 use std::alloc::{AllocError, Global};
 
 /// How many ticks an axis has at most.

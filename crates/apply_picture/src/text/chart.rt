@@ -1,12 +1,10 @@
 //! The columns of the rows.
 
-ghost use Rattle.std.specs.Prelude.{◌≡◌, ◌≤◌, ◌+◌, IfOk, min};
-ghost use Rattle.apply_picture.specs.Columns.{columns_of};
-ghost use Rattle.apply_picture.specs.Rows.{columns_at, layout_of, widest};
-ghost use Rattle.apply_picture.specs.Shown.{shown_characters};
+ghost use Rattle.std.specs.Prelude.{◌≡◌, ◌≤◌, ◌+◌, IfOk};
+ghost use Rattle.apply_picture.specs.Rows.{layout_of};
 
+use crate::column::{Column, widest};
 use crate::picture::Picture;
-use crate::words::shown_text::ShownText;
 use crate::words::tick_step::tick_step;
 use apply_view::place_on;
 use std::alloc::{AllocError, Global};
@@ -51,8 +49,8 @@ impl Chart {
     pub fn of(alloc: Global, picture: &Picture<'_>, width: usize) -> Result<Chart, AllocError>
         ensures { IfOk result (λ chart. layout_in chart ≡ layout_of width picture.now) }
     {
-        let action = widest_action(alloc, picture)?.min(MOST_ACTION);
-        let address = widest_address(alloc, picture)?.max(LEAST_LABEL);
+        let action = widest(alloc, picture, Column::Action)?.min(MOST_ACTION);
+        let address = widest(alloc, picture, Column::Address)?.max(LEAST_LABEL);
         let room = width.saturating_sub(action + OTHERS);
         let label = address.min(room / 20 * 11 + room % 20 * 11 / 20);
         let cells = room.saturating_sub(label).min(MOST_CELLS).max(1) as u32;
@@ -89,57 +87,4 @@ impl Chart {
             None
         }
     }
-}
-
-/// How many columns the widest action of a row takes.
-fn widest_action(alloc: Global, picture: &Picture<'_>) -> Result<usize, AllocError>
-    ensures { IfOk result (λ most. most
-        ≡ min (widest (λ step. step.action) picture.now.told.now.steps picture.now.rows.places.items) usize.MAX) }
-{
-    let mut most = 0;
-    for place in &picture.rows.places {
-        most = most.max(action_columns(alloc, picture, *place)?);
-    }
-    Ok(most)
-}
-
-/// How many columns the action of the step at that place takes; 0 where none is.
-fn action_columns(alloc: Global, picture: &Picture<'_>, place: usize) -> Result<usize, AllocError>
-    ensures { IfOk result (λ columns. columns
-        ≡ min (columns_at (λ step. step.action) picture.now.told.now.steps place) usize.MAX) }
-{
-    match picture.told.steps().get(place) {
-        Some(step) => columns_of(alloc, step.action()),
-        None => Ok(0),
-    }
-}
-
-/// How many columns the widest address of a row takes.
-fn widest_address(alloc: Global, picture: &Picture<'_>) -> Result<usize, AllocError>
-    ensures { IfOk result (λ most. most
-        ≡ min (widest (λ step. step.address) picture.now.told.now.steps picture.now.rows.places.items) usize.MAX) }
-{
-    let mut most = 0;
-    for place in &picture.rows.places {
-        most = most.max(address_columns(alloc, picture, *place)?);
-    }
-    Ok(most)
-}
-
-/// How many columns the address of the step at that place takes; 0 where none is.
-fn address_columns(alloc: Global, picture: &Picture<'_>, place: usize) -> Result<usize, AllocError>
-    ensures { IfOk result (λ columns. columns
-        ≡ min (columns_at (λ step. step.address) picture.now.told.now.steps place) usize.MAX) }
-{
-    match picture.told.steps().get(place) {
-        Some(step) => columns_of(alloc, step.address()),
-        None => Ok(0),
-    }
-}
-
-/// How many columns a text takes as it is shown.
-fn columns_of(alloc: Global, text: &str) -> Result<usize, AllocError>
-    ensures { IfOk result (λ columns. columns ≡ min (columns_of (shown_characters text.now)) usize.MAX) }
-{
-    Ok(ShownText::of(alloc, text.as_bytes())?.columns())
 }

@@ -25,9 +25,8 @@ use crate::text::paint::Paint;
 use crate::text::row::row_of;
 use crate::text::style::Style;
 use crate::text::writing::write_line;
-use crate::words::fitting::fitted;
-use crate::words::shown_text::ShownText;
 use crate::writing::flush;
+use apply_fitting::{ShownText, fitted};
 use std::alloc::{AllocError, Global};
 use std::io::Write;
 
@@ -127,7 +126,8 @@ fn push_head(alloc: Global, page: &mut Page, picture: &Picture<'_>) -> Result<()
     ensures headed { page.old.lines.items ≡ [] → OnOk result (IsHeadedBy page.old.style.width (heading_characters picture.now)
         (map (λ line. line.pieces.items) page.new.lines.items)) }
 {
-    page.push_wrapped(alloc, 0, &heading(alloc, picture)?, Some(Paint::Bold))?;
+    let what = heading(alloc, picture)?;
+    page.push_wrapped(alloc, 0, &what, Some(Paint::Bold))?;
     match overlap(alloc, picture)? {
         Some(text) => page.push_wrapped(alloc, 0, &text, None),
         None => Ok(()),

@@ -2,15 +2,14 @@
 
 ghost use Rattle.std.specs.Prelude.{◌≡◌, ◌≤◌, ◌++◌, ◌∷◌, [], IsTrue, OnOk, Some, replicate};
 ghost use Rattle.std.specs.List.{list_all, sum_by};
-ghost use Rattle.apply_picture.specs.Fitting.{at_left, at_right};
+ghost use Rattle.apply_fitting.specs.Fitting.{at_left, at_right};
 ghost use Rattle.apply_picture.specs.Lines.{is_no_control, piece_columns, with_character, with_characters, with_styled};
 ghost use Rattle.apply_picture.specs.declared.text.piece.Piece.TheVariants.{Begin, End};
 
 use crate::text::paint::Paint;
 use crate::text::piece::Piece;
-use crate::words::shown_text::ShownText;
+use apply_fitting::{ShownText, width_of};
 use std::alloc::{AllocError, Global};
-use unicode_width::UnicodeWidthChar;
 
 /// A line of the text, which is never wider than it may be, and has no control character.
 #[derive(Drop)]
@@ -48,7 +47,7 @@ impl Line {
         ensures width { OnOk result (self.new.width ≡ self.old.width) }
         ensures pieces { OnOk result (self.new.pieces.items ≡ with_character self.old.width self.old.pieces.items character) }
     {
-        let Some(columns) = character.width() else {
+        let Some(columns) = width_of(character) else {
             return Ok(());
         };
         if columns > self.width - self.columns {
@@ -128,7 +127,7 @@ impl Line {
     pub fn push_left(&mut self, text: &ShownText, columns: usize) -> Result<(), AllocError>
         ensures width { OnOk result (self.new.width ≡ self.old.width) }
         ensures pieces { OnOk result (self.new.pieces.items
-            ≡ with_characters self.old.width self.old.pieces.items (at_left columns text.now.characters.items)) }
+            ≡ with_characters self.old.width self.old.pieces.items (at_left columns text.now)) }
     {
         self.push_all(text.characters())?;
         self.push_blanks(columns.saturating_sub(text.columns()))
@@ -138,7 +137,7 @@ impl Line {
     pub fn push_right(&mut self, text: &ShownText, columns: usize) -> Result<(), AllocError>
         ensures width { OnOk result (self.new.width ≡ self.old.width) }
         ensures pieces { OnOk result (self.new.pieces.items
-            ≡ with_characters self.old.width self.old.pieces.items (at_right columns text.now.characters.items)) }
+            ≡ with_characters self.old.width self.old.pieces.items (at_right columns text.now)) }
     {
         self.push_blanks(columns.saturating_sub(text.columns()))?;
         self.push_all(text.characters())

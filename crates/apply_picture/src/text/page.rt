@@ -3,7 +3,7 @@
 ghost use Rattle.std.specs.Prelude.{◌≡◌, ◌==◌, ◌≤◌, ◌-◌, ◌++◌, ◌∷◌, [], All, IfOk, IsTrue, OnOk, map};
 ghost use Rattle.std.specs.Io.KnownBytes.{Appends};
 ghost use Rattle.std.specs.List.{list_all};
-ghost use Rattle.apply_picture.specs.Columns.{columns_of};
+ghost use Rattle.apply_fitting.specs.Columns.{columns_of};
 ghost use Rattle.apply_picture.specs.Lines.{HasMore, text_line};
 ghost use Rattle.apply_picture.specs.declared.text.line.Line.{Line as line_type};
 
@@ -12,8 +12,7 @@ use crate::text::line::Line;
 use crate::text::paint::Paint;
 use crate::text::style::Style;
 use crate::text::writing::write_lines;
-use crate::words::shown_text::{ShownText, without_blanks};
-use crate::words::wrapping::wrapped;
+use apply_fitting::{ShownText, without_blanks, wrapped};
 use std::alloc::{AllocError, Global};
 use std::io::Write;
 
@@ -74,7 +73,7 @@ impl Page {
     ) -> Result<(), AllocError>
         ensures style { OnOk result (self.new.style ≡ self.old.style) }
         ensures line { OnOk result ((line : line_type) × (self.new.lines.items ≡ self.old.lines.items ++ line ∷ [])
-            × (line.pieces.items ≡ text_line self.old.style.width indent paint text.now.characters.items)) }
+            × (line.pieces.items ≡ text_line self.old.style.width indent paint text.now)) }
     {
         let line = text_line(alloc, self.style.width, indent, text, paint)?;
         self.push(line)
@@ -90,9 +89,9 @@ impl Page {
     ) -> Result<(), AllocError>
         ensures style { OnOk result (self.new.style ≡ self.old.style) }
         ensures more { OnOk result (HasMore self.old.lines.items self.new.lines.items) }
-        ensures line { OnOk result (columns_of text.now.characters.items ≤ self.old.style.width - indent
+        ensures line { OnOk result (columns_of text.now ≤ self.old.style.width - indent
             → (line : line_type) × (self.new.lines.items ≡ self.old.lines.items ++ line ∷ [])
-            × (line.pieces.items ≡ text_line self.old.style.width indent paint text.now.characters.items)) }
+            × (line.pieces.items ≡ text_line self.old.style.width indent paint text.now)) }
     {
         let lines = wrapped(alloc, text, self.style.width.saturating_sub(indent))?;
         for line in &lines {
@@ -123,7 +122,7 @@ fn text_line(
     paint: Option<Paint>,
 ) -> Result<Line, AllocError>
     ensures width { IfOk result (λ line. line.width ≡ width) }
-    ensures pieces { IfOk result (λ line. line.pieces.items ≡ text_line width indent paint text.now.characters.items) }
+    ensures pieces { IfOk result (λ line. line.pieces.items ≡ text_line width indent paint text.now) }
 {
     let characters = without_blanks(text.characters());
     let mut line = Line::new(alloc, width);

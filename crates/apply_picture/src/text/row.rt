@@ -2,10 +2,10 @@
 
 ghost use Rattle.std.specs.Prelude.{◌≡◌, ◌∷◌, [], IfOk, OnOk, is_some};
 ghost use Rattle.apply_picture.specs.Charts.{layout_in};
-ghost use Rattle.apply_picture.specs.Fitting.{at_left, at_right, fitted};
+ghost use Rattle.apply_fitting.specs.Fitting.{at_left, at_right, fitted};
 ghost use Rattle.apply_picture.specs.Lines.{with_characters};
 ghost use Rattle.apply_picture.specs.Rows.{bar_of, bound_words, end_half_of, first_half_of, length_words, mark_of, paint_of, with_bar, with_dim, with_length, with_names, with_row};
-ghost use Rattle.apply_picture.specs.Shown.{shown_characters};
+ghost use Rattle.apply_fitting.specs.Shown.{shown_characters};
 
 use crate::kind::Kind;
 use crate::picture::Picture;
@@ -14,8 +14,7 @@ use crate::text::chart::{Chart, DURATION};
 use crate::text::line::Line;
 use crate::text::paint::Paint;
 use crate::words::duration::Duration;
-use crate::words::fitting::fitted;
-use crate::words::shown_text::{ShownText, without_blanks};
+use apply_fitting::{ShownText, fitted, without_blanks};
 use apply_view::{Step, halves_of};
 use std::alloc::{AllocError, Global};
 
@@ -113,7 +112,7 @@ fn mark_of(step: &Step) -> char
 
 /// How long a step took, and whether that is a bound.
 fn length_text(alloc: Global, picture: &Picture<'_>, step: &Step) -> Result<ShownText, AllocError>
-    ensures { IfOk result (λ text. text.characters.items ≡ shown_characters (length_words picture.now.moments step.now)) }
+    ensures { IfOk result (λ text. text ≡ shown_characters (length_words picture.now.moments step.now)) }
 {
     let length = Duration::of(step.length(picture.moments));
     let bound = bound_of(step);
@@ -138,7 +137,7 @@ fn bound_of(step: &Step) -> &'static str
 fn push_marked(line: &mut Line, mark: char, text: &ShownText) -> Result<(), AllocError>
     ensures width { OnOk result (line.new.width ≡ line.old.width) }
     ensures pieces { OnOk result (line.new.pieces.items
-        ≡ with_characters line.old.width line.old.pieces.items (mark ∷ at_right 8 text.now.characters.items)) }
+        ≡ with_characters line.old.width line.old.pieces.items (mark ∷ at_right 8 text.now)) }
 {
     line.push(mark)?;
     line.push_right(text, DURATION)

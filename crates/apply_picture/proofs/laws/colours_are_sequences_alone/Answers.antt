@@ -1,5 +1,5 @@
 use Rattle.std.proofs.Common.{[], ◌∷◌, ◌++◌, ap}
-use Rattle.apply_picture.proofs.Escapes.{without_colours}
+use Rattle.apply_picture.proofs.Controls.{without_colours}
 use Rattle.apply_picture.proofs.laws.colours_are_sequences_alone.Goals as goal
 
 pub returns : goal.returns

@@ -1,4 +1,4 @@
-use Rattle.apply_picture.proofs.Sent.{more_markup}
+use Rattle.apply_picture.proofs.Parts.{more_markup}
 use Rattle.apply_picture.proofs.svg.drawing.draw_bands.Goals as goal
 
 pub loop-pair-preserved : goal.loop-pair-preserved

@@ -1,4 +1,4 @@
-use Rattle.apply_picture.proofs.Sent.{more_markup}
+use Rattle.apply_picture.proofs.Parts.{more_markup}
 use Rattle.apply_picture.proofs.svg.drawing.draw_grid.Goals as goal
 
 pub returns : goal.returns

@@ -1,4 +1,4 @@
-use Rattle.apply_picture.proofs.Sent.{more_markup, no_markup}
+use Rattle.apply_picture.proofs.Parts.{more_markup, no_markup}
 use Rattle.apply_picture.proofs.svg.drawing.draw_opening.Goals as goal
 
 pub returns : goal.returns

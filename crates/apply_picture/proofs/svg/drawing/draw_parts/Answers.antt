@@ -1,7 +1,10 @@
-use Rattle.apply_picture.proofs.Sent.{svg_written}
+use Rattle.apply_picture.specs.Axes.{axis_in}
+use Rattle.apply_picture.proofs.Parts.{svg_written}
 use Rattle.apply_picture.proofs.svg.drawing.draw_parts.Goals as goal
 
 pub returns : goal.returns
 returns g c =
-    svg_written c.args.picture.now _ _ _ _ _ _ _ c.args.front.now.parts.items c.args.back.now.parts.items c.in_ok-draw_head.ensures
-    c.in_ok-send.ensures c.in_ok-draw_grid.ensures c.in_ok-draw_rows.ensures c.in_ok-send-2.ensures c.in_ok-write_text.ensures _ c.flush.ensures
+    let back = c.args.back.now in
+    svg_written (axis_in c.args.scale) c.args.picture.now _ _ _ _ _ _ _ _ c.args.front.now.parts.items back.axis.parts.items back.left_out.parts.items
+    back.rest.parts.items c.requires.axis c.requires.left_out c.in_ok-draw_head.ensures c.in_ok-send.ensures c.in_ok-draw_grid.ensures
+    c.in_ok-draw_rows.ensures c.in_ok-send-2.ensures c.in_ok-write_text.ensures c.flush.ensures

@@ -1,7 +1,7 @@
 use Rattle.std.proofs.Common.{◌≡◌, ◌∙◌, ◌++◌, ℕ, List, ap, append_assoc, codes, sym}
 use Rattle.std.proofs.lemmas.Result.{IfOk-weaker}
 use Rattle.apply_picture.specs.LeftOut.{left_out_words}
-use Rattle.apply_picture.specs.Shown.{shown_characters}
+use Rattle.apply_fitting.specs.Shown.{shown_characters}
 use Rattle.apply_picture.specs.Words.{duration_words, number_words}
 use Rattle.apply_picture.proofs.telling.left_out.left_out_text.Goals as goal
 

@@ -5,18 +5,13 @@ use Rattle.apply_picture.proofs.Growing.{headed_more, on_ok}
 use Rattle.apply_picture.proofs.Heads.{headed_first, pieces_more}
 use Rattle.apply_picture.proofs.text.drawing.push_head.Goals as goal
 
-pub returns-in-None-clause-headed : goal.returns-in-None-clause-headed
-returns-in-None-clause-headed c = λ none.
-    headed_first c.args.page.now.style.width (heading_characters c.args.picture.now) c.in_ok-heading.field-0.characters.items c.args.page.now.lines.items
-    c.push_wrapped.new.self.lines.items c.in_ok-heading.ensures none c.in_ok-push_wrapped.ensures.line
-
 pub returns-in-Some-clause-headed : goal.returns-in-Some-clause-headed
 returns-in-Some-clause-headed c = λ none.
     let first = c.push_wrapped.new.self.lines.items in
     let all = c.push_wrapped-in-Some.new.self.lines.items in
     let heading = heading_characters c.args.picture.now in
     let width = c.args.page.now.style.width in
-    let headed = headed_first width heading c.in_ok-heading.field-0.characters.items c.args.page.now.lines.items first c.in_ok-heading.ensures none
+    let headed = headed_first width heading c.in_ok-what.what c.args.page.now.lines.items first c.in_ok-what.ensures none
     c.in_ok-push_wrapped.ensures.line in
     on_ok c.push_wrapped-in-Some.result
     (λ more. headed_more width heading (map (λ (line : Line). line.pieces.items) first) (map (λ (line : Line). line.pieces.items) all) headed

@@ -1,6 +1,6 @@
 use Rattle.std.proofs.Common.{◌∙◌, ap, take, drop}
 use Rattle.std.proofs.lemmas.List.{take_rest}
-use Rattle.apply_picture.specs.Fitting.{without_blanks}
+use Rattle.apply_fitting.specs.Fitting.{without_blanks}
 use Rattle.apply_picture.proofs.Growing.{on_ok}
 use Rattle.apply_picture.proofs.Rows.{bar_pushed}
 use Rattle.apply_picture.proofs.text.row.push_bar.Goals as goal

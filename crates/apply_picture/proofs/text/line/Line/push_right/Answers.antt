@@ -8,6 +8,6 @@ returns-clause-pieces c =
     let mid = c.push_blanks.new.self in
     on_ok c.push_all.result
     (λ is. right_pushed c.args.self.now.width mid.width c.args.columns c.columns.result c.saturating_sub.result c.args.self.now.pieces.items
-    mid.pieces.items c.push_all.new.self.pieces.items c.args.text.now.characters.items c.characters.result.now c.characters.ensures
+    mid.pieces.items c.push_all.new.self.pieces.items c.args.text.now c.characters.result.now c.characters.ensures
     c.in_ok-push_blanks.ensures.width c.columns.ensures c.saturating_sub.ensures (omega arith) c.in_ok-push_blanks.ensures.pieces is)
     c.push_all.ensures.pieces

@@ -23,6 +23,6 @@ returns-clause-line c =
     let i = c.loop-line.line-index in
     let ends : length items ≤ i = omega arith in
     let had = c.loop-line.invariant.1 in
-    shown_line c.args.self.now.style.width c.args.indent c.saturating_sub.result c.args.paint c.args.text.now.characters.items c.in_ok-lines.lines.items
+    shown_line c.args.self.now.style.width c.args.indent c.saturating_sub.result c.args.paint c.args.text.now c.in_ok-lines.lines.items
     items i c.args.self.now.lines.items c.loop-line.self.lines.items had.0 c.deref-line-items.ensures.value ends c.in_ok-lines.ensures
     c.saturating_sub.ensures had.1 had.2

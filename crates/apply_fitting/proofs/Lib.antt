@@ -1,0 +1,4 @@
+pub mod Blanks
+pub mod Escapes
+pub mod Fits
+pub mod Lines

@@ -1,0 +1,4 @@
+pub mod Columns
+pub mod Escaped
+pub mod Fitting
+pub mod Shown

@@ -1,0 +1,141 @@
+-- Parts of the SVG that were written, one behind another.
+use Rattle.std.proofs.Common.{◌≡◌, ◌∙◌, ℕ, ◌+◌, ◌<◌, ◌∷◌, [], ◌++◌, List, Option, None, Some, ap, ap₂, subst, sym, get_or, length, take, append-nil, append_assoc, codes}
+use Rattle.std.specs.Prelude.{IfSome, map}
+use Rattle.std.specs.List.{AllZip, flat_map, slice_get}
+use Rattle.std.specs.Io.KnownBytes.{Appends, Keeps}
+use Rattle.std.proofs.KnownBytes.{Appends-kept, Appends-nil, Appends-trans}
+use Rattle.std.proofs.lemmas.Grind.{flat_map-append}
+use Rattle.apply_view.specs.Steps.{ToldStep}
+use Rattle.apply_view.specs.declared.told.moments.Moments.{Moments}
+use Rattle.apply_fitting.specs.Shown.{shown_characters}
+use Rattle.apply_picture.specs.Heading.{heading_words}
+use Rattle.apply_picture.specs.LeftOut.{left_out_said}
+use Rattle.apply_picture.specs.Markup.{Axis, GroupWritten, GroupsWritten, HeadWritten, IsGroupAt, IsGroupOf, IsLeftOutIn, MarkupWritten, PartsWritten, SvgWritten, axis_of, bar_left, bar_parts, bar_width, heading_title, joined, line_parts, part_bytes, title_parts, whole_title}
+use Rattle.apply_picture.specs.declared.picture.Picture.{Picture}
+use Rattle.apply_picture.specs.declared.svg.part.Part.{Part}
+use Rattle.apply_picture.specs.declared.svg.part.Part.TheVariants as part
+use Rattle.apply_picture.specs.declared.svg.word.Word.TheVariants as word
+use Rattle.apply_picture.proofs.Sent.{zip_more}
+
+pub parts_then : (ps qs : List Part) (a b c : Option (List ℕ)) → PartsWritten ps a b → PartsWritten qs b c → PartsWritten (ps ++ qs) a c
+parts_then ps qs a b c first second = subst (Appends a c) (sym (flat_map-append part_bytes ps qs)) (Appends-trans a b c _ _ first second)
+
+-- what was added to none
+pub parts_sent : (ps old new : List Part) (a b : Option (List ℕ)) → old ≡ [] → new ≡ old ++ ps → PartsWritten new a b → PartsWritten ps a b
+parts_sent ps old new a b none told sent =
+    subst (λ (qs : List Part). PartsWritten qs a b) (told ∙ ap (λ (qs : List Part). qs ++ ps) none) sent
+
+-- some, and one behind them
+pub ended_by : (end : Part) (ps new : List Part) (a b : Option (List ℕ)) → new ≡ ps ++ end ∷ [] → PartsWritten new a b
+    → (back : List Part) × PartsWritten (back ++ end ∷ []) a b
+ended_by end ps new a b is sent = (ps, subst (λ (qs : List Part). PartsWritten qs a b) is sent)
+
+-- ---- any parts
+
+pub no_markup : (a : Option (List ℕ)) → MarkupWritten a a
+no_markup a = record { parts = []; written = Appends-nil a }
+
+pub more_markup : (a b c : Option (List ℕ)) (parts : List Part) → MarkupWritten a b → PartsWritten parts b c → MarkupWritten a c
+more_markup a b c parts before more =
+    record { parts = before.parts ++ parts; written = parts_then before.parts parts a b c before.written more }
+
+-- ---- the row of a step
+
+-- the title of a step, other parts, its bar, and other parts again
+pub step_written : (axis : Axis) (moments : Moments) (step : ToldStep) (left width top : ℕ) (a b c d e : Option (List ℕ)) (back : List Part)
+    → left ≡ bar_left axis moments step → width ≡ bar_width axis moments step → PartsWritten (title_parts step) a b → MarkupWritten b c
+    → PartsWritten (bar_parts left width top step) c d → PartsWritten (back ++ part.Own word.GroupEnd ∷ []) d e
+    → (group : List Part) × IsGroupOf axis moments group step × PartsWritten group a e
+step_written axis moments step left width top a b c d e back is_left is_width title front bar behind =
+    let bar_at : ℕ → ℕ → List Part = λ l w. title_parts step ++ front.parts ++ bar_parts l w top step ++ (back ++ part.Own word.GroupEnd ∷ []) in (
+      bar_at left width,
+      record { front = front.parts; top = top; back = back; is = ap₂ bar_at is_left is_width },
+      parts_then (title_parts step ++ front.parts ++ bar_parts left width top step) (back ++ part.Own word.GroupEnd ∷ []) a d e
+          (parts_then (title_parts step ++ front.parts) (bar_parts left width top step) a c d
+          (parts_then (title_parts step) front.parts a b c title front.written) bar) behind,
+    )
+
+pub group_written : (axis : Axis) (picture : Picture) (place : ℕ) (step : ToldStep) (a b : Option (List ℕ)) → slice_get picture.told.now.steps place ≡ Some step
+    → (group : List Part) × IsGroupOf axis picture.moments group step × PartsWritten group a b → GroupWritten axis picture place a b
+group_written axis picture place step a b found of_step = record {
+  group = of_step.0;
+  is = subst (λ (o : Option ToldStep). IfSome o (IsGroupOf axis picture.moments of_step.0)) (sym found) of_step.1;
+  written = of_step.2;
+}
+
+pub empty_group : (axis : Axis) (picture : Picture) (place : ℕ) (a b : Option (List ℕ)) → slice_get picture.told.now.steps place ≡ None
+    → Appends a b (codes "<g></g>\n") → GroupWritten axis picture place a b
+empty_group axis picture place a b none sent =
+    let group : List Part = part.Own word.GroupBegin ∷ part.Own word.GroupEnd ∷ [] in
+    record {
+      group = group;
+      is = subst (λ (o : Option ToldStep). IfSome o (IsGroupOf axis picture.moments group)) (sym none) tt;
+      written = sent;
+    }
+
+-- ---- rows
+
+pub no_groups : (axis : Axis) (picture : Picture) (a : Option (List ℕ)) → GroupsWritten axis picture [] a a
+no_groups axis picture a = record { groups = []; each = tt; written = Appends-nil a }
+
+pub group_more : (axis : Axis) (picture : Picture) (places : List ℕ) (i : ℕ) (a b c : Option (List ℕ)) → i < length places
+    → GroupsWritten axis picture (take i places) a b → GroupWritten axis picture (get_or places i 0) b c
+    → GroupsWritten axis picture (take (i + 1) places) a c
+group_more axis picture places i a b c below before more =
+    let all : joined (before.groups ++ more.group ∷ []) ≡ joined before.groups ++ more.group =
+    flat_map-append (λ (group : List Part). group) before.groups (more.group ∷ []) ∙ ap (λ (ps : List Part). joined before.groups ++ ps) (append-nil more.group) in
+    record {
+      groups = before.groups ++ more.group ∷ [];
+      each = zip_more (IsGroupAt axis picture) places i 0 before.groups more.group below before.each more.is;
+      written = subst (λ (ps : List Part). PartsWritten ps a c) (sym all) (parts_then (joined before.groups) more.group a b c before.written more.written);
+    }
+
+-- ---- the whole
+
+-- what was done stands between two tags, behind what came before
+pub head_written : (picture : Picture) (a b c d : Option (List ℕ)) (what : List ℕ)
+    → what ≡ shown_characters (heading_words picture.moments picture.told.now picture.numbers)
+    → MarkupWritten a b → PartsWritten (whole_title what) b c → MarkupWritten c d → HeadWritten picture a d
+head_written picture a b c d what is opening title style = record {
+  parts = opening.parts ++ whole_title what ++ style.parts;
+  titled = record { front = opening.parts; back = style.parts; is = ap (λ (cs : List ℕ). opening.parts ++ whole_title cs ++ style.parts) is };
+  written = parts_then (opening.parts ++ whole_title what) style.parts a c d
+      (parts_then opening.parts (whole_title what) a b c opening.written title) style.written;
+}
+
+regrouped : (x b o g : List Part) → ((x ++ b) ++ o) ++ g ≡ x ++ ((b ++ o) ++ g)
+regrouped x b o g = simp append_assoc
+
+pub svg_written : (axis : Axis) (picture : Picture) (a b c d e f g h : Option (List ℕ)) (others below left tail : List Part) → axis ≡ axis_of picture
+    → IsLeftOutIn (left_out_said picture.rows) left → HeadWritten picture a b → PartsWritten others b c → MarkupWritten c d
+    → GroupsWritten axis picture picture.rows.places.items d e → PartsWritten (below ++ left ++ tail) e f → Appends f g (codes "</svg>\n")
+    → Keeps g h → SvgWritten picture a h
+svg_written axis picture a b c d e f g h others below left tail is_axis is_left head front grid groups back end kept = record {
+  head = head.parts ++ others ++ grid.parts;
+  groups = groups.groups;
+  below = below;
+  left_out = left;
+  tail = tail;
+  titled = record {
+    front = head.titled.front;
+    back = head.titled.back ++ others ++ grid.parts;
+    is = ap (λ (ps : List Part). ps ++ others ++ grid.parts) head.titled.is
+        ∙ regrouped (head.titled.front ++ heading_title picture) head.titled.back others grid.parts;
+  };
+  each = subst (λ (x : Axis). AllZip (IsGroupAt x picture) picture.rows.places.items groups.groups) is_axis groups.each;
+  is_left_out = is_left;
+  written = Appends-kept a g h _ (parts_then (head.parts ++ others ++ grid.parts ++ joined groups.groups ++ (below ++ left ++ tail)) (part.Own word.SvgEnd ∷ []) a f g
+      (parts_then (head.parts ++ others ++ grid.parts ++ joined groups.groups) (below ++ left ++ tail) a e f
+      (parts_then (head.parts ++ others ++ grid.parts) (joined groups.groups) a d e
+      (parts_then (head.parts ++ others) grid.parts a c d (parts_then head.parts others a b c head.written front) grid.written)
+      groups.written) back) end) kept;
+}
+
+-- what is said of the steps that have no row
+pub said_in : (y : ℕ) (said : Option (List ℕ)) (text : List ℕ) (old new : List Part) → Some text ≡ said → old ≡ []
+    → new ≡ old ++ line_parts 160 y word.SmallSoft text → IsLeftOutIn said new
+said_in y said text old new is none told =
+    subst (λ (o : Option (List ℕ)). IsLeftOutIn o new) is (y, told ∙ ap (λ (ps : List Part). ps ++ line_parts 160 y word.SmallSoft text) none)
+
+pub nothing_said : (said : Option (List ℕ)) (parts : List Part) → None ≡ said → parts ≡ [] → IsLeftOutIn said parts
+nothing_said said parts is none = subst (λ (o : Option (List ℕ)). IsLeftOutIn o parts) is none

@@ -1,0 +1,13 @@
+use Rattle.std.proofs.Common.{◌++◌}
+use Rattle.apply_picture.proofs.Growing.{on_ok}
+use Rattle.apply_picture.proofs.Parts.{parts_then}
+use Rattle.apply_picture.proofs.svg.back.Back.send.Goals as goal
+
+pub returns : goal.returns
+returns g c =
+    let axis = c.args.self.now.axis.parts.items in
+    let left_out = c.args.self.now.left_out.parts.items in
+    on_ok c.send-3.result
+    (parts_then (axis ++ left_out) c.args.self.now.rest.parts.items _ _ _
+    (parts_then axis left_out _ _ _ c.in_ok-send.ensures c.in_ok-send-2.ensures))
+    c.send-3.ensures

@@ -1,0 +1,10 @@
+use Rattle.apply_picture.specs.Markup.{bar_parts}
+use Rattle.apply_picture.proofs.Growing.{on_ok}
+use Rattle.apply_picture.proofs.Parts.{parts_sent}
+use Rattle.apply_picture.proofs.svg.rows.draw_bar.Goals as goal
+
+pub returns : goal.returns
+returns g c =
+    on_ok c.send.result
+    (parts_sent (bar_parts c.args.bar.left c.args.bar.width c.args.bar.top c.args.step.now) c.new-markup.result.parts.items c.push_bar.new.markup.parts.items _ _ c.new-markup.ensures c.in_ok-push_bar.ensures)
+    c.send.ensures

@@ -1,0 +1,10 @@
+use Rattle.apply_picture.specs.Markup.{title_parts}
+use Rattle.apply_picture.proofs.Growing.{on_ok}
+use Rattle.apply_picture.proofs.Parts.{parts_sent}
+use Rattle.apply_picture.proofs.svg.rows.draw_begin.Goals as goal
+
+pub returns : goal.returns
+returns g c =
+    on_ok c.send.result
+    (parts_sent (title_parts c.args.step.now) c.new-markup.result.parts.items c.begin_row.new.markup.parts.items _ _ c.new-markup.ensures c.in_ok-begin_row.ensures)
+    c.send.ensures
