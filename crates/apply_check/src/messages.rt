@@ -12,5 +12,6 @@ pub(crate) mod message;
 pub(crate) mod named_slot;
 pub(crate) mod path;
 pub(crate) mod stage;
+pub(crate) mod text_test;
 pub(crate) mod timed_stage;
 pub(crate) mod totals;

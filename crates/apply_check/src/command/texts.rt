@@ -82,8 +82,7 @@ fn counts_text(alloc: Global, totals: Totals) -> Result<String, AllocError> {
 fn open_text(alloc: Global, open: &[OpenEntry<'_>]) -> Result<String, AllocError> {
     let mut text = String::new(alloc);
     if open.len() != 1 {
-        let count = open.len();
-        text.push_str(format!(in alloc; "{count} stand open: ")?.as_str())?;
+        push_count(alloc, &mut text, open.len() as u64, " stand open: ")?;
     }
     for (index, entry) in open.iter().take(MAX_OPEN).enumerate() {
         if index > 0 {
@@ -92,8 +91,8 @@ fn open_text(alloc: Global, open: &[OpenEntry<'_>]) -> Result<String, AllocError
         push_entry(alloc, &mut text, *entry)?;
     }
     if open.len() > MAX_OPEN {
-        let more = open.len() - MAX_OPEN;
-        text.push_str(format!(in alloc; ", and {more} more")?.as_str())?;
+        text.push_str(", and ")?;
+        push_count(alloc, &mut text, (open.len() - MAX_OPEN) as u64, " more")?;
     }
     Ok(text)
 }

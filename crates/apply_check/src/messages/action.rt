@@ -3,6 +3,8 @@
 ghost use Rattle.std.specs.Prelude.{◌≡◌};
 ghost use Rattle.apply_check.specs.Words.{action_named, action_word};
 
+use crate::messages::text_test::is_text;
+
 /// What a step does to its object (`hook.action`). A refresh has no such word: its messages have types of their own.
 #[derive(Clone, Copy, Debug, PartialEq, Eq)]
 pub enum Action {
@@ -18,13 +20,13 @@ impl Action {
     pub fn named(word: &str) -> Option<Action>
         ensures { result ≡ action_named word.now }
     {
-        if word == "create" {
+        if is_text(word, "create") {
             Some(Action::Create)
-        } else if word == "update" {
+        } else if is_text(word, "update") {
             Some(Action::Update)
-        } else if word == "delete" {
+        } else if is_text(word, "delete") {
             Some(Action::Delete)
-        } else if word == "read" {
+        } else if is_text(word, "read") {
             Some(Action::Read)
         } else {
             None

@@ -11,6 +11,7 @@ use crate::messages::action::Action;
 use crate::messages::message::{Message, Subject};
 use crate::messages::named_slot::read_member;
 use crate::messages::stage::Stage;
+use crate::messages::text_test::is_text;
 use crate::messages::timed_stage::TimedStage;
 use apply_json::{ReadFault, Reader, Scalar, Slots, pass, read_object, read_scalar};
 use std::alloc::Global;
@@ -110,13 +111,13 @@ impl<'a> Slots<'a> for HookSlots<'a> {
         reader: &mut Reader<'a>,
         depth: usize,
     ) -> Result<(), ReadFault> {
-        if name == "resource" {
+        if is_text(name, "resource") {
             self.address = read_member(alloc, reader, depth, "addr")?;
             Ok(())
-        } else if name == "action" {
+        } else if is_text(name, "action") {
             self.action = read_scalar(reader, depth)?;
             Ok(())
-        } else if name == "elapsed_seconds" {
+        } else if is_text(name, "elapsed_seconds") {
             self.seconds = read_scalar(reader, depth)?;
             Ok(())
         } else {

@@ -4,6 +4,7 @@ ghost use Rattle.std.specs.Prelude.{◌≡◌};
 ghost use Rattle.apply_check.specs.MessageKinds.{general_kind, kind_named, stepless_kind};
 
 use crate::messages::stage::Stage;
+use crate::messages::text_test::is_text;
 
 /// What a message of a type tells of (Machine-Readable UI, "Message Types").
 #[derive(Clone, Copy)]
@@ -30,15 +31,15 @@ impl Kind {
     pub fn named(name: &str) -> Kind
         ensures { result ≡ kind_named name.now }
     {
-        if name == "version" {
+        if is_text(name, "version") {
             Kind::Version
-        } else if name == "apply_start" {
+        } else if is_text(name, "apply_start") {
             Kind::Start
-        } else if name == "apply_progress" {
+        } else if is_text(name, "apply_progress") {
             Kind::Timed(Stage::Progress)
-        } else if name == "apply_complete" {
+        } else if is_text(name, "apply_complete") {
             Kind::Timed(Stage::Complete)
-        } else if name == "apply_errored" {
+        } else if is_text(name, "apply_errored") {
             Kind::Timed(Stage::Errored)
         } else {
             Kind::of_no_step(name)
@@ -49,17 +50,17 @@ impl Kind {
     fn of_no_step(name: &str) -> Kind
         ensures { result ≡ stepless_kind name.now }
     {
-        if name == "refresh_start" {
+        if is_text(name, "refresh_start") {
             Kind::Refresh(Stage::Start)
-        } else if name == "refresh_complete" {
+        } else if is_text(name, "refresh_complete") {
             Kind::Refresh(Stage::Complete)
-        } else if name == "provision_start" {
+        } else if is_text(name, "provision_start") {
             Kind::Provision(Stage::Start)
-        } else if name == "provision_progress" {
+        } else if is_text(name, "provision_progress") {
             Kind::Provision(Stage::Progress)
-        } else if name == "provision_complete" {
+        } else if is_text(name, "provision_complete") {
             Kind::Provision(Stage::Complete)
-        } else if name == "provision_errored" {
+        } else if is_text(name, "provision_errored") {
             Kind::Provision(Stage::Errored)
         } else {
             Kind::of_no_object(name)
@@ -70,13 +71,13 @@ impl Kind {
     fn of_no_object(name: &str) -> Kind
         ensures { result ≡ general_kind name.now }
     {
-        if name == "planned_change" {
+        if is_text(name, "planned_change") {
             Kind::Planned
-        } else if name == "change_summary" {
+        } else if is_text(name, "change_summary") {
             Kind::Summary
-        } else if name == "diagnostic" {
+        } else if is_text(name, "diagnostic") {
             Kind::Diagnostic
-        } else if name == "outputs" {
+        } else if is_text(name, "outputs") {
             Kind::Outputs
         } else {
             Kind::Other

@@ -3,6 +3,7 @@
 ghost use Rattle.std.specs.Prelude.{◌≡◌};
 ghost use Rattle.apply_check.specs.Selection.{is_scalar_of_changes, line_selection, member_shape, scalar_where};
 
+use crate::messages::text_test::is_text;
 use apply_json::Shape;
 
 /// What of a value in a line is looked at (Machine-Readable UI, "Message Types"). A shape is named after the value that it
@@ -32,10 +33,12 @@ impl Shape for LineShape {
         match self {
             LineShape::Line => member_of_line(name),
             LineShape::Hook => member_of_hook(name),
-            LineShape::Resource => scalar_where(name == "addr"),
-            LineShape::Change => scalar_where(name == "action"),
+            LineShape::Resource => scalar_where(is_text(name, "addr")),
+            LineShape::Change => scalar_where(is_text(name, "action")),
             LineShape::Changes => scalar_where(is_scalar_of_changes(name)),
-            LineShape::Diagnostic => scalar_where(name == "severity" || name == "address"),
+            LineShape::Diagnostic => scalar_where(
+                is_text(name, "severity") || is_text(name, "address"),
+            ),
             LineShape::Scalar => None,
         }
     }
@@ -62,21 +65,24 @@ fn scalar_where(is_known: bool) -> Option<LineShape>
 fn is_scalar_of_changes(name: &str) -> bool
     ensures { result ≡ is_scalar_of_changes name.now }
 {
-    name == "operation" || name == "add" || name == "change" || name == "remove"
+    is_text(name, "operation")
+        || is_text(name, "add")
+        || is_text(name, "change")
+        || is_text(name, "remove")
 }
 
 fn member_of_line(name: &str) -> Option<LineShape>
     ensures { result ≡ member_shape LineShape.Line name.now }
 {
-    if name == "hook" {
+    if is_text(name, "hook") {
         Some(LineShape::Hook)
-    } else if name == "type" {
+    } else if is_text(name, "type") {
         Some(LineShape::Scalar)
-    } else if name == "change" {
+    } else if is_text(name, "change") {
         Some(LineShape::Change)
-    } else if name == "changes" {
+    } else if is_text(name, "changes") {
         Some(LineShape::Changes)
-    } else if name == "diagnostic" {
+    } else if is_text(name, "diagnostic") {
         Some(LineShape::Diagnostic)
     } else {
         None
@@ -86,9 +92,13 @@ fn member_of_line(name: &str) -> Option<LineShape>
 fn member_of_hook(name: &str) -> Option<LineShape>
     ensures { result ≡ member_shape LineShape.Hook name.now }
 {
-    if name == "resource" {
+    if is_text(name, "resource") {
         Some(LineShape::Resource)
     } else {
-        scalar_where(name == "action" || name == "elapsed_seconds" || name == "provisioner")
+        scalar_where(
+            is_text(name, "action")
+                || is_text(name, "elapsed_seconds")
+                || is_text(name, "provisioner"),
+        )
     }
 }

@@ -10,6 +10,7 @@ use crate::messages::intent::Intent;
 use crate::messages::kind::Kind;
 use crate::messages::message::Message;
 use crate::messages::named_slot::read_member;
+use crate::messages::text_test::is_text;
 use crate::messages::timed_stage::TimedStage;
 use crate::rules::limits::MAX_BYTES;
 use apply_json::{ReadFault, Reader, Scalar, Scratch, Slots, pass, read_scalar, read_slots};
@@ -88,13 +89,13 @@ impl<'a> Slots<'a> for LineSlots<'a> {
         reader: &mut Reader<'a>,
         depth: usize,
     ) -> Result<(), ReadFault> {
-        if name == "hook" {
+        if is_text(name, "hook") {
             self.hook = HookSlots::read(alloc, reader, depth)?;
             Ok(())
-        } else if name == "type" {
+        } else if is_text(name, "type") {
             self.type_name = read_scalar(reader, depth)?;
             Ok(())
-        } else if name == "change" {
+        } else if is_text(name, "change") {
             self.planned = read_member(alloc, reader, depth, "action")?;
             Ok(())
         } else {
@@ -104,8 +105,12 @@ impl<'a> Slots<'a> for LineSlots<'a> {
     }
 }
 
-/// The message of a text. `None` where it is none, or the members that are kept do not tell, and where memory is refused.
-/// `scratch` grows to the length of the text.
+/// How many bytes of a text are read into slots. What these do not tell the tree has to tell, which would pass over a longer text a
+/// second time.
+const MAX_SLOTTED: usize = 65_536;
+
+/// The message of a text. `None` where it is none, or the members that are kept do not tell, where it is long, and where memory is
+/// refused. `scratch` grows to the length of the text.
 pub fn message_in<'a>(
     alloc: Global,
     scratch: &'a mut Scratch,
@@ -114,6 +119,9 @@ pub fn message_in<'a>(
 ) -> Option<Message<'a>>
     ensures { Fits (option_map message_view result) (text_message find text.now) }
 {
+    if text.len() > MAX_SLOTTED {
+        return None;
+    }
     let mut slots = LineSlots::new();
     match read_slots(alloc, scratch, text, MAX_BYTES, &mut slots) {
         Ok(()) => slots.message(find),

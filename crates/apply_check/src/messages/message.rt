@@ -14,6 +14,7 @@ use crate::messages::kind::Kind;
 use crate::messages::members::{count_at, object_at, text_at};
 use crate::messages::path::Path;
 use crate::messages::stage::Stage;
+use crate::messages::text_test::is_text;
 use crate::messages::timed_stage::TimedStage;
 use crate::messages::totals::Totals;
 use crate::rules::fault::Fault;
@@ -156,9 +157,9 @@ impl<'a> Message<'a> {
     fn of_totals(operation: &str, totals: Totals) -> Message<'a>
         ensures { message_view result ≡ summary_named operation.now totals }
     {
-        if operation == "apply" || operation == "destroy" {
+        if is_text(operation, "apply") || is_text(operation, "destroy") {
             Message::Summary { totals }
-        } else if operation == "plan" {
+        } else if is_text(operation, "plan") {
             Message::PlanSummary { totals }
         } else {
             Message::Other
@@ -184,7 +185,7 @@ impl<'a> Message<'a> {
         let members = object_at(Path::Severity, "diagnostic", Path::Diagnostic, tree)?;
         let severity = text_at(Path::Severity, "severity", members)?;
         Ok(Message::Diagnostic {
-            is_error: severity == "error",
+            is_error: is_text(severity, "error"),
             address: text_member(members, "address"),
         })
     }

@@ -6,6 +6,7 @@ ghost use Rattle.apply_json.specs.Seen.{scalar_view};
 ghost use Rattle.apply_json.specs.Tokens.{IsNoValue, IsRead};
 ghost use Rattle.apply_check.specs.Kept.{HoldsNamed, seen_in};
 
+use crate::messages::text_test::is_text;
 use apply_json::{ReadFault, Reader, Scalar, Slots, pass, read_object, read_scalar};
 use std::alloc::Global;
 
@@ -26,7 +27,7 @@ impl<'a> Slots<'a> for NamedSlot<'a> {
         reader: &mut Reader<'a>,
         depth: usize,
     ) -> Result<(), ReadFault> {
-        if name == self.name {
+        if is_text(name, self.name) {
             self.found = read_scalar(reader, depth)?;
             Ok(())
         } else {

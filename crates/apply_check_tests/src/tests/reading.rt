@@ -1,6 +1,5 @@
 //! Streams that a reader gives.
 
-use super::commands::{checked_input, outcome_is};
 use super::*;
 
 /// A whole stream.
@@ -10,83 +9,24 @@ const WHOLE: &str = r#"{"type":"version"}
 {"type":"change_summary","changes":{"operation":"apply","add":1,"change":0,"remove":0}}
 "#;
 
-/// Streams, with `|` for a line feed and `~` for a carriage return, and what is found.
-const TABLE: &str =
-    r#"{"type":"version"}|{"type":"diagnostic","diagnostic":{"severity":"error"}} => 0 0 0 in 2 lines with errors
-{"type":"version"}|{"type":"diagnostic","diagnostic":{"severity":"error"}}| => 0 0 0 in 2 lines with errors
-{"type":"version"}~|{"type":"diagnostic","diagnostic":{"severity":"error"}}~| => 0 0 0 in 2 lines with errors
-{"type":"version"}|{"type":"diagnostic","diagnostic":{"severity":"error"}}|| => line 3 is not a message
-|{"type":"version"}| => line 1 is not a message
-{"type":"version"}|module.a: Creating...|{"type":"log"}| => line 2 is not a message
-{"type":"version"}|{"type":"log"} => line 2 is the last, and no summary came
-{"type":"version"}|{"type":"apply_start" => line 2 is not a message
-{"type":"version"}|[] => line 2 is not a message
-{"type":"version"}|{"type":null} => line 2 is not a message
-| => line 1 is not a message
-"#;
+/// What it tells.
+const TOLD: Whole = Whole {
+    totals: Totals {
+        added: 1,
+        changed: 0,
+        removed: 0,
+    },
+    has_errors: false,
+    lines: 4,
+    is_plan: false,
+    passed: None,
+};
 
-/// What is found in what the reader gives.
-fn found<R: BufRead>(rt: &impl Abort, alloc: Global, reader: &mut R) -> &'static str {
-    match check(alloc, Mode::PLAIN, reader) {
-        Ok(whole) => whole_found(rt, alloc, whole),
-        Err(fault) => kept_text(rt, alloc, fault.to_string(alloc)),
-    }
-}
-
-/// The totals of a whole stream, how many lines it has, and whether there was an error.
-fn whole_found(rt: &impl Abort, alloc: Global, whole: Whole) -> &'static str {
-    let added = whole.totals.added;
-    let changed = whole.totals.changed;
-    let removed = whole.totals.removed;
-    let lines = whole.lines;
-    let errors = if whole.has_errors { " with errors" } else { "" };
-    let text = format!(in alloc; "{added} {changed} {removed} in {lines} lines{errors}");
-    kept_text(rt, alloc, text)
-}
-
-/// Fails where something else is found in what the reader gives.
-fn found_is<R: BufRead>(rt: &impl Abort, alloc: Global, reader: &mut R, wanted: &str) {
-    text_is(rt, wanted, found(rt, alloc, reader), wanted);
-}
-
-/// Fails where something else is found in the stream of that row than the row says.
-fn stream_is_found(rt: &impl Abort, alloc: Global, row: &str) {
-    let (stream, wanted) = cells(rt, row);
-    let stream = kept_text(rt, alloc, stream.replace(alloc, "|", "\n"));
-    let stream = kept_text(rt, alloc, stream.replace(alloc, "~", "\r"));
-    found_is(rt, alloc, &mut stream.as_bytes(), wanted);
-}
-
-#[test]
-fn streams(rt: HostRuntime) {
-    for row in TABLE.trim().lines() {
-        stream_is_found(&rt, rt.alloc(), row);
-    }
-}
-
-#[test]
-fn no_bytes(rt: HostRuntime) {
-    let none: &[u8] = b"";
-    let mut reader = none;
-    found_is(
-        &rt,
-        rt.alloc(),
-        &mut reader,
-        "line 0 is the last, and no summary came",
-    );
-}
-
-#[test]
-fn byte_order_mark(rt: HostRuntime) {
-    let mut reader: &[u8] = b"\xef\xbb\xbf{\"type\":\"version\"}\n";
-    found_is(&rt, rt.alloc(), &mut reader, "line 1 is not a message");
-}
-
-/// Fails where something else is found through a buffer of that size.
+/// Fails where something else is told of the whole stream through a buffer of that size.
 fn whole_is_found(rt: &impl Abort, alloc: Global, capacity: usize) {
     let reader = BufReader::with_capacity(alloc, capacity, WHOLE.as_bytes());
     let reader = kept(rt, alloc, reader.expect(rt, "memory"));
-    found_is(rt, alloc, reader, "1 0 0 in 4 lines");
+    holds(rt, "whole", check(alloc, Mode::PLAIN, reader) == Ok(TOLD));
 }
 
 /// Through a buffer of any size the answer is the same, so that lines are put together well.
@@ -99,9 +39,19 @@ fn buffers(rt: HostRuntime) {
 
 /// A reader that is interrupted at each second read, gives one byte at a time, and fails behind its bytes.
 #[derive(Drop)]
-pub(super) struct Broken<'a> {
-    pub bytes: &'a [u8],
-    pub is_interrupted: bool,
+struct Broken<'a> {
+    bytes: &'a [u8],
+    is_interrupted: bool,
+}
+
+impl<'a> Broken<'a> {
+    /// With those bytes.
+    fn of(bytes: &'a [u8]) -> Broken<'a> {
+        Broken {
+            bytes,
+            is_interrupted: false,
+        }
+    }
 }
 
 impl Read for Broken<'_> {
@@ -121,18 +71,20 @@ impl Read for Broken<'_> {
     }
 }
 
-/// Fails where something else is found in those bytes, behind which the reader fails.
+/// Fails where something else is said of those bytes, behind which the reader fails.
 fn broken_is_found(rt: &impl Abort, alloc: Global, bytes: &[u8], wanted: &str) {
-    let broken = Broken {
-        bytes,
-        is_interrupted: false,
-    };
-    let reader = kept(
-        rt,
-        alloc,
-        BufReader::new(alloc, broken).expect(rt, "memory"),
-    );
-    found_is(rt, alloc, reader, wanted);
+    let reader = BufReader::new(alloc, Broken::of(bytes));
+    let reader = kept(rt, alloc, reader.expect(rt, "memory"));
+    match check(alloc, Mode::PLAIN, reader) {
+        Ok(_) => rt.panic(wanted),
+        Err(fault) => fault_is(rt, alloc, fault, wanted),
+    }
+}
+
+/// Fails where the fault has another text.
+fn fault_is(rt: &impl Abort, alloc: Global, fault: ReadFault, wanted: &str) {
+    let text = kept(rt, alloc, fault.to_string(alloc).expect(rt, "memory"));
+    text_is(rt, wanted, text.as_str(), wanted);
 }
 
 #[test]
@@ -141,67 +93,54 @@ fn reader_fails(rt: HostRuntime) {
     broken_is_found(&rt, rt.alloc(), bytes, "the stream could not be read");
 }
 
+/// What is wrong is found before the reader fails behind it.
+#[test]
+fn finding_comes_first(rt: HostRuntime) {
+    let alloc = rt.alloc();
+    let first = b"{\"type\":\"log\"}\n";
+    broken_is_found(&rt, alloc, first, "line 1 comes before the version");
+    broken_is_found(&rt, alloc, b"[\n", "line 1 is not a message");
+    broken_is_found(&rt, alloc, b"[]\n", "line 1 is not a message");
+}
+
+/// Bytes that have to be text.
+fn text_of<'a>(rt: &impl Abort, bytes: &'a [u8]) -> &'a str {
+    str::from_utf8(bytes).ok().expect(rt, "a text")
+}
+
+/// Fails where the check of what the reader gives prints something, says something else, or ends with another status, or where
+/// no read fails behind it.
+fn input_is_told<R: Read>(
+    rt: &impl Abort,
+    alloc: Global,
+    form: Form,
+    input: &mut R,
+    status: u8,
+    said: &str,
+) {
+    let printed = kept(rt, alloc, Vec::new(alloc));
+    let faults = kept(rt, alloc, Vec::new(alloc));
+    let checked = check_input(alloc, Mode::PLAIN, form, None, input, printed, faults);
+    holds(rt, "printed", printed.is_empty());
+    text_is(rt, "said", text_of(rt, faults.as_slice()), said);
+    holds(rt, "status", checked.status == status);
+    holds(rt, "not read to its end", checked.rest.is_err());
+}
+
 /// That is no verdict, and so no object.
 #[test]
 fn reader_fails_where_objects_are_wanted(rt: HostRuntime) {
-    let mut broken = Broken {
-        bytes: WHOLE.as_bytes(),
-        is_interrupted: false,
-    };
-    let (alloc, mode) = (rt.alloc(), Mode::PLAIN);
-    let told = checked_input(&rt, alloc, mode, Form::Json, None, &mut broken);
+    let mut input = Broken::of(WHOLE.as_bytes());
     let said = "applystream: the stream could not be read\n";
-    outcome_is(&rt, told, 2, "", said);
+    input_is_told(&rt, rt.alloc(), Form::Json, &mut input, 2, said);
+    holds(&rt, "all that there is", input.bytes.is_empty());
 }
 
-/// A reader that fails with an error of the system.
-#[derive(Drop)]
-struct Unreadable;
-
-impl Read for Unreadable {
-    fn read(&mut self, _buf: &mut [u8]) -> io::Result<usize> {
-        Err(io::Error::from_raw_os_error(5))
-    }
-}
-
-/// Fails where something else is said of a reader that fails, which the file of that name gives.
-fn unreadable_is(rt: &impl Abort, alloc: Global, name: Option<&str>, said: &str) {
-    let (mode, form) = (Mode::PLAIN, Form::Text);
-    let told = checked_input(rt, alloc, mode, form, name, &mut Unreadable);
-    outcome_is(rt, told, 2, "", said);
-}
-
-/// Of a file its name is told, so that it steers no terminal, and the reason.
+/// A read that fails behind a fault ends it, and what was said stays so; one that is interrupted does not.
 #[test]
-fn file_fails(rt: HostRuntime) {
-    let alloc = rt.alloc();
-    let said = "applystream: the stream could not be read\n";
-    unreadable_is(&rt, alloc, None, said);
-    let said =
-        "applystream: the file a\\n\\u001b[2J could not be read: Input/output error (os error 5)\n";
-    unreadable_is(&rt, alloc, Some("a\n\u{1b}[2J"), said);
-}
-
-/// A text that is longer than what goes out at once goes out whole all the same, with its line feed.
-#[test]
-fn a_long_name_goes_out_whole(rt: HostRuntime) {
-    for length in 940..960 {
-        long_name_is(&rt, rt.alloc(), length);
-    }
-}
-
-/// Fails where the file whose name has so many letters is told otherwise, which can't be read.
-fn long_name_is(rt: &impl Abort, alloc: Global, length: usize) {
-    let name = kept_text(rt, alloc, "a".repeat(alloc, length));
-    let said = format!(in alloc;
-        "applystream: the file {name} could not be read: Input/output error (os error 5)\n"
-    );
-    unreadable_is(rt, alloc, Some(name), kept_text(rt, alloc, said));
-}
-
-/// What is wrong is told before the reader fails behind it.
-#[test]
-fn finding_comes_first(rt: HostRuntime) {
-    let bytes = b"{\"type\":\"log\"}\n";
-    broken_is_found(&rt, rt.alloc(), bytes, "line 1 comes before the version");
+fn behind_a_fault_a_read_fails(rt: HostRuntime) {
+    let mut input = Broken::of(b"no message\nand more\n");
+    let said = "applystream: line 1 is not a message: no message\n";
+    input_is_told(&rt, rt.alloc(), Form::Text, &mut input, 4, said);
+    holds(&rt, "all that there is", input.bytes.is_empty());
 }

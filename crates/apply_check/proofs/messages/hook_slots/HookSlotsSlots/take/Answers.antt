@@ -11,7 +11,7 @@ returns-in_ok-self-clause-ok c =
     let k = c.args.name.now in
     let done = c.in_ok-self.ensures.ok in
     let d = done.0 in
-    let here : bytes_eq k (codes "resource") ≡ true = sym c.eq.ensures ∙ c.if-eq.true in (
+    let here : bytes_eq k (codes "resource") ≡ true = sym c.is_text.ensures ∙ c.if-is_text.true in (
       d,
       done.1,
       λ start ms holds. record {
@@ -26,7 +26,7 @@ returns-in_ok-self-2-clause-ok c =
     let k = c.args.name.now in
     let done = c.in_ok-self-2.ensures.ok in
     let d = done.0 in
-    let here : bytes_eq k (codes "action") ≡ true = sym c.eq-else-eq.ensures ∙ c.if-eq-2.true in (
+    let here : bytes_eq k (codes "action") ≡ true = sym c.is_text-else-is_text.ensures ∙ c.if-is_text-2.true in (
       d,
       done.1,
       λ start ms holds. record {
@@ -41,7 +41,7 @@ returns-in_ok-self-3-clause-ok c =
     let k = c.args.name.now in
     let done = c.in_ok-self-3.ensures.ok in
     let d = done.0 in
-    let here : bytes_eq k (codes "elapsed_seconds") ≡ true = sym c.eq-else-eq-2.ensures ∙ c.if-eq-3.true in (
+    let here : bytes_eq k (codes "elapsed_seconds") ≡ true = sym c.is_text-else-is_text-2.ensures ∙ c.if-is_text-3.true in (
       d,
       done.1,
       λ start ms holds. record {
@@ -59,8 +59,8 @@ returns-in_ok-pass-clause-ok c =
       d,
       done.1,
       λ start ms holds. record {
-        address = left (seen_in (codes "addr")) (codes "resource") k d ms _ (sym c.eq.ensures ∙ c.if-eq.false) holds.address;
-        action = left seen (codes "action") k d ms _ (sym c.eq-else-eq.ensures ∙ c.if-eq-2.false) holds.action;
-        seconds = left seen (codes "elapsed_seconds") k d ms _ (sym c.eq-else-eq-2.ensures ∙ c.if-eq-3.false) holds.seconds;
+        address = left (seen_in (codes "addr")) (codes "resource") k d ms _ (sym c.is_text.ensures ∙ c.if-is_text.false) holds.address;
+        action = left seen (codes "action") k d ms _ (sym c.is_text-else-is_text.ensures ∙ c.if-is_text-2.false) holds.action;
+        seconds = left seen (codes "elapsed_seconds") k d ms _ (sym c.is_text-else-is_text-2.ensures ∙ c.if-is_text-3.false) holds.seconds;
       },
     )

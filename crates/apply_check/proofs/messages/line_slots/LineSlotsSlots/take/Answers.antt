@@ -13,7 +13,7 @@ returns-in_ok-self-clause-ok c =
     let k = c.args.name.now in
     let done = c.in_ok-self.ensures.ok in
     let d = done.0 in
-    let here : bytes_eq k (codes "hook") ≡ true = sym c.eq.ensures ∙ c.if-eq.true in (
+    let here : bytes_eq k (codes "hook") ≡ true = sym c.is_text.ensures ∙ c.if-is_text.true in (
       d,
       done.1,
       λ start ms holds. record {
@@ -28,7 +28,7 @@ returns-in_ok-self-2-clause-ok c =
     let k = c.args.name.now in
     let done = c.in_ok-self-2.ensures.ok in
     let d = done.0 in
-    let here : bytes_eq k (codes "type") ≡ true = sym c.eq-else-eq.ensures ∙ c.if-eq-2.true in (
+    let here : bytes_eq k (codes "type") ≡ true = sym c.is_text-else-is_text.ensures ∙ c.if-is_text-2.true in (
       d,
       done.1,
       λ start ms holds. record {
@@ -43,7 +43,7 @@ returns-in_ok-self-3-clause-ok c =
     let k = c.args.name.now in
     let done = c.in_ok-self-3.ensures.ok in
     let d = done.0 in
-    let here : bytes_eq k (codes "change") ≡ true = sym c.eq-else-eq-2.ensures ∙ c.if-eq-3.true in (
+    let here : bytes_eq k (codes "change") ≡ true = sym c.is_text-else-is_text-2.ensures ∙ c.if-is_text-3.true in (
       d,
       done.1,
       λ start ms holds. record {
@@ -61,8 +61,8 @@ returns-in_ok-pass-clause-ok c =
       d,
       done.1,
       λ start ms holds. record {
-        type_name = left seen (codes "type") k d ms _ (sym c.eq-else-eq.ensures ∙ c.if-eq-2.false) holds.type_name;
-        hook = subst (λ (o : Option Data). HoldsHook c.args.self.now.hook (inside o)) (left (λ o. o) (codes "hook") k d ms (get_member (codes "hook") ms) (sym c.eq.ensures ∙ c.if-eq.false) refl) holds.hook;
-        planned = left (seen_in (codes "action")) (codes "change") k d ms _ (sym c.eq-else-eq-2.ensures ∙ c.if-eq-3.false) holds.planned;
+        type_name = left seen (codes "type") k d ms _ (sym c.is_text-else-is_text.ensures ∙ c.if-is_text-2.false) holds.type_name;
+        hook = subst (λ (o : Option Data). HoldsHook c.args.self.now.hook (inside o)) (left (λ o. o) (codes "hook") k d ms (get_member (codes "hook") ms) (sym c.is_text.ensures ∙ c.if-is_text.false) refl) holds.hook;
+        planned = left (seen_in (codes "action")) (codes "change") k d ms _ (sym c.is_text-else-is_text-2.ensures ∙ c.if-is_text-3.false) holds.planned;
       },
     )

@@ -13,7 +13,7 @@ returns-in_ok-self-clause-ok c =
       done.1,
       λ start ms holds. record {
         named = holds.named;
-        found = taken seen start.name.now k d ms _ (ap (λ (q : List ℕ). bytes_eq k q) (sym holds.named) ∙ sym c.eq.ensures ∙ c.if-eq.true) done.2;
+        found = taken seen start.name.now k d ms _ (ap (λ (q : List ℕ). bytes_eq k q) (sym holds.named) ∙ sym c.is_text.ensures ∙ c.if-is_text.true) done.2;
       },
     )
 
@@ -26,6 +26,6 @@ returns-in_ok-pass-clause-ok c =
       done.1,
       λ start ms holds. record {
         named = holds.named;
-        found = left seen start.name.now k d ms _ (ap (λ (q : List ℕ). bytes_eq k q) (sym holds.named) ∙ sym c.eq.ensures ∙ c.if-eq.false) holds.found;
+        found = left seen start.name.now k d ms _ (ap (λ (q : List ℕ). bytes_eq k q) (sym holds.named) ∙ sym c.is_text.ensures ∙ c.if-is_text.false) holds.found;
       },
     )
