@@ -19,7 +19,7 @@ use Rattle.apply_validate.specs.declared.findings.what.What.{What}
 use Rattle.apply_validate.specs.declared.findings.what.What.TheVariants.{IsMissing, NotRead}
 use Rattle.apply_validate.specs.declared.form.Form.{Form}
 use Rattle.apply_validate.specs.declared.form.Form.TheVariants.{Applystream, Terraform}
-use Rattle.apply_validate.specs.Extras.{extras_findings, in_extras, outputs_unless}
+use Rattle.apply_validate.specs.Extras.{extras_findings, in_extras, note_names, outputs_unless, plan_output_names}
 use Rattle.apply_validate.specs.Findings.{is_refusal}
 use Rattle.apply_validate.specs.InForm.{extras_for, findings_in}
 use Rattle.apply_validate.specs.Walks.{is_known, texts_in}
@@ -95,11 +95,11 @@ found_warns {form} {front} {names} (always reads) lanes plan script tree small i
 found_warns (plan_output k) lanes plan script tree small is value n text at has unknown =
     let outputs : Option OutputsOfPlan = outputs_unless (list_any is_refusal (plan_findings plan)) plan in
     has_right (warning_at (Member name.Outputs ∷ Other k ∷ Other n ∷ [])) (given_findings lanes (plan_of plan) (Some script)) (extras_findings outputs script)
-    (in_extras_found (Member name.Outputs ∷ Other k ∷ []) _ outputs script tree small is (outputs_warn outputs tree k) value n text at has unknown)
+    (in_extras_found (Member name.Outputs ∷ Other k ∷ []) plan_output_names outputs script tree small is (outputs_warn outputs tree k) value n text at has unknown)
 found_warns (note k) lanes plan script tree small is value n text at has unknown =
     let outputs : Option OutputsOfPlan = outputs_unless (list_any is_refusal (plan_findings plan)) plan in
     has_right (warning_at (Member name.Diagnostics ∷ Item k ∷ Other n ∷ [])) (given_findings lanes (plan_of plan) (Some script)) (extras_findings outputs script)
-    (in_extras_found (Member name.Diagnostics ∷ Item k ∷ []) _ outputs script tree small is (notes_warn outputs tree k) value n text at has unknown)
+    (in_extras_found (Member name.Diagnostics ∷ Item k ∷ []) note_names outputs script tree small is (notes_warn outputs tree k) value n text at has unknown)
 
 unread_found : (form : Form) (lanes : Bool) (plan script : List ℕ) (tree : Data) (path : List Part) → nat_lt max_bytes (length script) ≡ false → tree_of script ≡ Some tree → IsUnread (IsReadIn form) tree path
     → Contains (findings_in form lanes plan (Some script)) (warning_at path)
