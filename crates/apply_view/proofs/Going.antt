@@ -1,9 +1,11 @@
 -- From what is known before a line, or before what it says, to the answer.
-use Rattle.std.proofs.Common.{◌≡◌, ◌<◌, ℕ, ◌+◌, List, false, Result, Ok, Err, refl, sym, ap, ◌∙◌, subst, arith}
+use Rattle.std.proofs.Common.{◌≡◌, ◌<◌, ℕ, ◌+◌, ℤ, List, false, Option, Some, Result, Ok, Err, refl, sym, ap, ◌∙◌, subst, arith}
 use Rattle.apply_view.specs.declared.told.view_fault.ViewFault.{ViewFault}
 use Rattle.apply_view.specs.declared.told.view_fault.ViewFault.TheVariants as fault
 use Rattle.apply_view.specs.declared.told.viewer.Viewer.{Viewer}
-use Rattle.apply_view.specs.Messages.{message_of}
+use Rattle.apply_view.specs.LineSlots.{at_moment}
+use Rattle.apply_view.specs.Messages.{Message, message_of}
+use Rattle.apply_view.specs.Moments.{with_moment}
 use Rattle.apply_view.specs.declared.told.open_places.OpenPlaces.{OpenPlaces}
 use Rattle.apply_view.specs.OpenPlaces.{HoldsPlaces}
 use Rattle.apply_view.specs.Telling.{Telling, max_lines, is_blank_line, with_line_said, with_message_or_passed}
@@ -41,10 +43,16 @@ counted_takes old new t h is room at =
 pub not_blank : (line : List ℕ) (t : Telling) → is_blank_line line ≡ false → with_message_or_passed (message_of line) t ≡ with_line_said line t
 not_blank line t other = rw other refl
 
--- ---- the moment of a message is seen
-
--- ---- a tree, by its type and moment
-
--- ---- what changes neither steps nor lines
-
--- ---- one more than there may be
+-- one that tells its moment alone
+pub seen_alone : (counted new : Viewer) (t : Telling) (line : List ℕ) (moment : ℤ) → Takes counted t → new.told ≡ record counted.told { moments = Some (with_moment moment counted.told.moments) }
+    → new.opened ≡ counted.opened → is_blank_line line ≡ false → message_of line ≡ Some (at_moment moment) → HasTold new (with_line_said line t)
+seen_alone counted new t line moment takes is at other found =
+    let held : HasTold new (record t { moments = Some (with_moment moment t.moments) }) = record {
+      is = is ∙ ap (λ (x : Telling). record x { moments = Some (with_moment moment x.moments) }) takes.is;
+      opened = subst (λ (o : OpenPlaces). HoldsPlaces o t.steps) (sym at) takes.opened;
+      lines = takes.lines;
+      passed = omega (arith, takes.passed);
+      errors = omega (arith, takes.errors);
+      warnings = omega (arith, takes.warnings);
+    } in
+    subst (λ (u : Telling). HasTold new u) (ap (λ (m : Option Message). with_message_or_passed m t) (sym found) ∙ not_blank line t other) held

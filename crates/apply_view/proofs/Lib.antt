@@ -19,6 +19,7 @@ pub mod KeptBytes
 pub mod LastOne
 pub mod Levels
 pub mod Marking
+pub mod MomentAlone
 pub mod NumberLaws
 pub mod OpenAt
 pub mod PlaceBytes

@@ -4,6 +4,7 @@ pub mod Edges
 pub mod Faults
 pub mod Intervals
 pub mod Laws
+pub mod LineSlots
 pub mod Lines
 pub mod Memory
 pub mod Messages

@@ -5,6 +5,7 @@ pub(crate) mod diagnostic;
 pub(crate) mod diagnostics;
 pub(crate) mod limits;
 pub(crate) mod line_shape;
+pub(crate) mod line_slots;
 pub(crate) mod moments;
 pub(crate) mod open_places;
 pub(crate) mod provisioner;

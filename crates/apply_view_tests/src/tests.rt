@@ -82,6 +82,25 @@ const NUMBERS: &str = r#"
 0:V => busy 0 peak 0 work 0 alone
 "#;
 
+/// What one line tells behind a version, which comes at the second 0: at which second the stream ends, and how many lines were
+/// passed over.
+const LINES: &str = r#"
+{"@timestamp":"2024-05-01T12:00:09Z","type":"apply_progress"} => 9 0
+{"type":"outputs","hook":[{}],"@timestamp":"2024-05-01T12:00:09.9Z"} => 9 0
+{"@timestamp":"2024-05-01T12:00:08Z","type":"apply_start","type":"other","@timestamp":"2024-05-01T12:00:09Z"} => 9 0
+{"@timestamp":"2024-05-01T12:00:09Z","type":"apply_progress","type":"apply_start"} => 9 1
+{"@timestamp":"2024-05-01T12:00:09Z","type":"apply_progress","type":null} => 0 1
+{"@timestamp":"2024-05-01T12:00:09Z","type":7} => 0 1
+{"@timestamp":"2024-05-01T12:00:09Z","hook":{"type":"apply_progress"}} => 0 1
+{"@timestamp":"yesterday","type":"apply_progress"} => 0 1
+{"@timestamp":9,"type":"apply_progress"} => 0 1
+{"type":"apply_progress"} => 0 1
+["@timestamp","2024-05-01T12:00:09Z","type","apply_progress"] => 0 1
+{"@timestamp":"2024-05-01T12:00:09Z","type":"apply_progress"}} => 0 1
+{"@timestamp":"2024-05-01T12:00:09Z","type":"apply_progress" => 0 1
+"apply_progress" => 0 1
+"#;
+
 /// What a row says of a stream.
 #[derive(Clone, Copy)]
 enum Asked {
@@ -173,6 +192,53 @@ fn numbers(rt: HostRuntime) {
     for row in NUMBERS.trim().lines() {
         row_is(&rt, rt.alloc(), row, Asked::Numbers);
     }
+}
+
+/// What a line tells behind a version.
+fn line_said(rt: &impl Abort, alloc: Global, line: &str) -> String {
+    let version = line_of(rt, alloc, "V", 0);
+    let stream = format!(in alloc; "{version}\n{line}").expect(rt, "memory");
+    let told = read(alloc, &mut stream.as_bytes()).expect(rt, "a message");
+    let end = moments_of(&told).span() / 1_000_000;
+    let passed = told.passed();
+    format!(in alloc; "{end} {passed}").expect(rt, "memory")
+}
+
+#[test]
+fn lines(rt: HostRuntime) {
+    for row in LINES.trim().lines() {
+        let (line, wanted) = row.split_once(" => ").expect(&rt, "two cells");
+        assert_eq!(rt; line_said(&rt, rt.alloc(), line).as_str(), wanted, "{line}");
+    }
+}
+
+/// Arrays and objects nest at most 127 deep, and a line may be long.
+#[test]
+fn deep_and_long_lines(rt: HostRuntime) {
+    let alloc = rt.alloc();
+    for (open, value, close, count, wanted) in [
+        ("[", "", "]", 126, "9 0"),
+        ("[", "", "]", 127, "0 1"),
+        (" ", "0", " ", 70_000, "9 0"),
+    ] {
+        let open = open.repeat(alloc, count).expect(&rt, "memory");
+        let close = close.repeat(alloc, count).expect(&rt, "memory");
+        let more = format!(in alloc; "{open}{value}{close}").expect(&rt, "memory");
+        let line = format!(in alloc;
+            "{{\"@timestamp\":\"2024-05-01T12:00:09Z\",\"type\":\"other\",\"more\":{more}}}"
+        ).expect(&rt, "memory");
+        assert_eq!(rt; line_said(&rt, alloc, line.as_str()).as_str(), wanted);
+    }
+}
+
+/// What is not UTF-8 is no message.
+#[test]
+fn bytes(rt: HostRuntime) {
+    let stream =
+        b"{\"@timestamp\":\"2024-05-01T12:00:09Z\",\"type\":\"other\"}\n{\"@timestamp\":\"2024-05-01T12:00:10Z\",\"type\":\"other\",\"\xFF\":0}";
+    let told = read(rt.alloc(), &mut stream.as_slice()).expect(&rt, "a message");
+    assert_eq!(rt; told.passed(), 1);
+    assert_eq!(rt; moments_of(&told).span(), 0);
 }
 
 /// The first lines of a detail are kept without blanks at their ends, and empty lines at its end are not.

@@ -4,6 +4,7 @@ ghost use Rattle.std.specs.Prelude.{◌≡◌, ◌||◌, codes, option_map, List
 ghost use Rattle.std.specs.Option.{option_copied};
 ghost use Rattle.std.specs.Str.{bytes_eq};
 ghost use Rattle.serde_json.specs.View.{view};
+ghost use Rattle.apply_view.specs.LineSlots.{is_other};
 ghost use Rattle.apply_view.specs.Messages.{address_of, begin_of, diagnostic_said, diagnostic_with, end_of, general_said, hook_text, moment_of, other_step_said, provisioner_begin_of, provisioner_end_of, provisioner_said, refresh_begin_of, refresh_end_of, said_of, summary_in, summary_of, totals_in};
 
 use crate::told::diagnostic::{count_of, text_or_empty};
@@ -102,6 +103,16 @@ fn totals_in(changes: &Value) -> Totals
 
 impl<'a> Said<'a> {
     ghost use Rattle.apply_view.specs.Views.{said_view};
+
+    /// Whether it tells nothing that is told again.
+    pub fn is_other(self) -> bool
+        ensures { result ≡ is_other (said_view self.entry) }
+    {
+        match self {
+            Said::Other => true,
+            _ => false,
+        }
+    }
 
     /// What the begin of a step says.
     fn of_begin(tree: &'a Value) -> Said<'a>

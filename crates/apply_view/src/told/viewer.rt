@@ -7,6 +7,7 @@ ghost use Rattle.serde_json.specs.View.{view};
 use crate::told::details::is_blank_line;
 use crate::told::limits::MAX_LINES;
 use crate::told::line_shape::LineShape;
+use crate::told::line_slots::moment_in;
 use crate::told::open_places::OpenPlaces;
 use crate::told::said::{Said, moment_of};
 use crate::told::stream_told::Told;
@@ -27,8 +28,9 @@ pub struct Viewer {
 
 impl Viewer {
     ghost use Rattle.apply_view.specs.Details.{diagnostic_of};
+    ghost use Rattle.apply_view.specs.Messages.{message_of};
     ghost use Rattle.apply_view.specs.Steps.{first_of, is_open_at, is_open_with, last_of, places};
-    ghost use Rattle.apply_view.specs.Telling.{Telling, max_lines, nothing_told, with_begin, with_end, with_error, with_line, with_provisioner_begin, with_provisioner_end, with_said, with_tree};
+    ghost use Rattle.apply_view.specs.Telling.{Telling, max_lines, nothing_told, with_begin, with_end, with_error, with_line, with_message_or_passed, with_provisioner_begin, with_provisioner_end, with_said, with_tree};
     ghost use Rattle.apply_view.specs.Viewing.{Goes, HasTold, Takes};
     ghost use Rattle.apply_view.specs.Views.{said_view};
     ghost use Rattle.apply_view.specs.declared.told.view_fault.ViewFault.TheVariants.{NoMessage};
@@ -63,6 +65,19 @@ impl Viewer {
         if is_blank_line(line) {
             return Ok(());
         }
+        match moment_in(alloc, &mut self.scratch, line) {
+            Some(moment) => {
+                self.told.see(moment);
+                Ok(())
+            }
+            None => self.line_as_tree(alloc, line),
+        }
+    }
+
+    /// Takes a line by its tree, which tells what slots do not.
+    fn line_as_tree(&mut self, alloc: Global, line: &[u8]) -> Result<(), ViewFault>
+        ensures { Goes (Takes self.old) self.new (with_message_or_passed (message_of line.now)) result }
+    {
         match parse_trimmed(alloc, &mut self.scratch, line, line.len(), LineShape::Line) {
             Ok(tree) => self.tree(alloc, &tree),
             Err(JsonFault::Memory) => Err(ViewFault::Memory),
