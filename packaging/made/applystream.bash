@@ -14,7 +14,7 @@ _applystream() {
     return
   fi
   if [ "${COMP_WORDS[1]}" = validate ] && [ "$COMP_CWORD" -gt 1 ]; then
-    COMPREPLY=($(compgen -W "--script --parallelism --help" -- "$word") $(compgen -f -- "$word"))
+    COMPREPLY=($(compgen -W "--script --parallelism --form --help" -- "$word") $(compgen -f -- "$word"))
     return
   fi
   case $before in

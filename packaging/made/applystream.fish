@@ -28,4 +28,5 @@ complete -c applystream -n '__fish_seen_subcommand_from view' -l color -x -a 'au
 complete -c applystream -n '__fish_seen_subcommand_from view' -s h -l help -d 'Print help'
 complete -c applystream -n '__fish_seen_subcommand_from validate' -l script -r -F -d 'The script of the run'
 complete -c applystream -n '__fish_seen_subcommand_from validate' -l parallelism -x -d 'The run has so many changes under way at once, 1 to 64; without it no step of a script may wait for others'
+complete -c applystream -n '__fish_seen_subcommand_from validate' -l form -x -a 'applystream terraform' -d 'The form of the run\'s stream: applystream, or terraform, which reads `outputs` and `diagnostics` at the top of the script too [default: applystream] [possible values: applystream, terraform]'
 complete -c applystream -n '__fish_seen_subcommand_from validate' -s h -l help -d 'Print help'

@@ -47,14 +47,14 @@ impl PlanOutputs {
     }
 
     /// For each name of an output that the plan has a text for, whether it knows the output. `Err` where memory is refused.
-    pub(crate) fn names(&self, alloc: Global) -> Result<BTreeMap<&str, bool>, AllocError>
+    pub fn names(&self, alloc: Global) -> Result<BTreeMap<&str, bool>, AllocError>
         ensures { IfOk result (KnowsAs (seen_outputs self.now)) }
     {
         names_of(alloc, self.known.as_slice())
     }
 
     /// Whether the plan has an output of that name behind the apply, by the names of those that it knows.
-    pub(crate) fn has(&self, names: &BTreeMap<&str, bool>, name: &str) -> bool
+    pub fn has(&self, names: &BTreeMap<&str, bool>, name: &str) -> bool
         requires { KnowsAs (seen_outputs self.now) names.now }
         ensures { result ≡ said.has_output (seen_outputs self.now) name.now }
     {

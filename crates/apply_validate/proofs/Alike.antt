@@ -163,14 +163,14 @@ mutual
       one.2 other.2
 
 -- what stands in a text
-abbrev parsed : List ℕ → Option json.Json
+abbrev pub parsed : List ℕ → Option json.Json
 parsed text = option_and_then (λ p. json.if_last p.0 p.1) (value max_depth (tokens text))
 
-last_is : (x : json.Json) (rest : List Token) (j : json.Json) → json.if_last x rest ≡ Some j → x ≡ j
+pub last_is : (x : json.Json) (rest : List Token) (j : json.Json) → json.if_last x rest ≡ Some j → x ≡ j
 last_is x [] j e = some_is x j e
 last_is x (t ∷ ts) j e = absurd cc
 
-has_numbers : (text : List ℕ) (j : json.Json) → parsed text ≡ Some j → HasNumbers j
+pub has_numbers : (text : List ℕ) (j : json.Json) → parsed text ≡ Some j → HasNumbers j
 has_numbers text j e =
     let p = behind (value max_depth (tokens text)) (λ q. json.if_last q.0 q.1) j e in
     subst HasNumbers (last_is p.0.0 p.0.1 j p.2) (value-HasNumbers max_depth (tokens text) p.0.1 p.0.0 (ArePrintableOrBad-tokens text) p.1)

@@ -5,7 +5,11 @@ pub mod Collected
 pub mod Diagnostics
 pub mod Elements
 pub mod Entries
+pub mod ExtrasRead
 pub mod FirstNames
+pub mod FormRefusals
+pub mod FormRuns
+pub mod KeptBeside
 pub mod Members
 pub mod Named
 pub mod Options
@@ -17,6 +21,7 @@ pub mod Refusals
 pub mod Refused
 pub mod Runs
 pub mod Scripts
+pub mod Spelt
 pub mod Steps
 pub mod Taken
 pub mod Trees

@@ -77,7 +77,7 @@ by_size : (large : Bool) (r : Result OutcomeMap ScriptError) (b : Bool) → (is_
 by_size true r b is e = absurd cc
 by_size false r b is e = is e
 
-script_ok : (plan : SavedPlan) (bytes : List ℕ) → is_ok (script_of plan bytes) ≡ true → are_script_beside (Some plan.changes) bytes ≡ true
+pub script_ok : (plan : SavedPlan) (bytes : List ℕ) → is_ok (script_of plan bytes) ≡ true → are_script_beside (Some plan.changes) bytes ≡ true
 unfolding script_of
 script_ok plan bytes e =
     by_size (nat_lt max_bytes (length bytes)) (results.◌>>=◌ (or_refuse NotJson (keeping_tree_of is_kept bytes)) (script_of_tree plan))

@@ -1,5 +1,5 @@
 -- Where findings are told, and what a run does.
-use Rattle.std.specs.Prelude.{ℕ, List, ◌∷◌, length, Bool, true, false, ◌&&◌, not, nat_eq, nat_lt, if◌then◌else◌, Option, Some, None, Result, Ok, Err}
+use Rattle.std.specs.Prelude.{ℕ, List, ◌∷◌, length, Bool, true, false, ◌&&◌, ◌||◌, not, is_err, nat_eq, nat_lt, if◌then◌else◌, Option, Some, None, Result, Ok, Err}
 use Rattle.std.specs.List.{list_all, list_any}
 use Rattle.std.specs.Option.{option_map_or}
 use Rattle.serde_json.specs.Data.{Data}
@@ -13,13 +13,18 @@ use Rattle.apply_model.specs.Script.Waits.{has_waits}
 use Rattle.apply_plan.specs.Bytes.{max_bytes}
 use Rattle.apply_plan.specs.declared.plan.plan_error.PlanError.{PlanError}
 use Rattle.apply_plan.specs.declared.script.script_error.ScriptError.{ScriptError}
+use Rattle.apply_plan.specs.declared.script.script_error.ScriptError.TheVariants as error
 use Rattle.apply_plan.specs.Plan.SavedPlan.{plan_of}
 use Rattle.apply_plan.specs.Script.Entry.{EntryStep, entry_of, is_kept}
 use Rattle.apply_plan.specs.Script.OutcomeMap.{elements_of, script_of}
+use Rattle.apply_form_plan.specs.Extras.{extras_of_bytes}
+use Rattle.apply_form_plan.specs.Told.{DetailsOfPlan, details_of}
 use Rattle.apply_validate.specs.declared.findings.finding.Finding.{Finding}
 use Rattle.apply_validate.specs.declared.findings.name.Name.TheVariants as name
 use Rattle.apply_validate.specs.declared.findings.part.Part.{Part}
-use Rattle.apply_validate.specs.declared.findings.part.Part.TheVariants.{Item, Member}
+use Rattle.apply_validate.specs.declared.findings.part.Part.TheVariants.{Item, Member, Other}
+use Rattle.apply_validate.specs.declared.form.Form.{Form}
+use Rattle.apply_validate.specs.declared.form.Form.TheVariants.{Applystream, Terraform}
 use Rattle.apply_validate.specs.Findings.{is_refusal}
 
 -- one of them is something for which a run refuses
@@ -71,3 +76,30 @@ refuses_given lanes (Ok plan) (Some bytes) = refuses_read lanes (script_of plan 
 -- a run refuses the bytes of a plan, or those of a script for it, memory aside
 abbrev pub run_refuses : (lanes : Bool) → List ℕ → Option (List ℕ) → Bool
 run_refuses lanes plan script = refuses_given lanes (plan_of plan) script
+
+-- what the script says for Terraform's form alone is refused, beside what a plan says of outputs
+abbrev pub refuses_extras : Option DetailsOfPlan → List ℕ → Bool
+refuses_extras details bytes = option_map_or (λ it. is_err (extras_of_bytes it.outputs bytes)) details true
+
+-- the same in a form, where a script is given
+abbrev pub refuses_besides : Form → List ℕ → Option (List ℕ) → Bool
+refuses_besides Applystream plan script = false
+refuses_besides Terraform plan None = false
+refuses_besides Terraform plan (Some bytes) = refuses_extras (details_of plan) bytes
+
+-- a run in that form refuses the bytes, memory aside
+abbrev pub run_refuses_in : Form → (lanes : Bool) → List ℕ → Option (List ℕ) → Bool
+run_refuses_in form lanes plan script = run_refuses lanes plan script || refuses_besides form plan script
+
+-- a path goes to what a refusal names of what a script says for Terraform's form alone
+abbrev pub goes_to : ScriptError → List Part → Bool
+goes_to (error.BadShape None) (Member name.Outputs ∷ parts) = true
+goes_to (error.BadShape None) (Member name.Diagnostics ∷ parts) = true
+goes_to (error.BadOutput n) (Member name.Outputs ∷ Other m ∷ parts) = nat_eq m n
+goes_to (error.UnknownOutput n) (Member name.Outputs ∷ Other m ∷ parts) = nat_eq m n
+goes_to (error.BadDiagnostic n) (Member name.Diagnostics ∷ Item m ∷ parts) = nat_eq m n
+goes_to _ _ = false
+
+-- one of them is something there for which a run refuses
+abbrev pub has_refusal_to : ScriptError → List Finding → Bool
+has_refusal_to refusal all = list_any (λ finding. is_refusal finding && goes_to refusal finding.path) all

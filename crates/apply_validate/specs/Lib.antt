@@ -1,6 +1,8 @@
 pub mod Beside
+pub mod Extras
 pub mod Findings
 pub mod FirstNamed
+pub mod InForm
 pub mod Laws
 pub mod Names
 pub mod Near

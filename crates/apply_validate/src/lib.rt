@@ -2,7 +2,9 @@
 #![tactic(auto)]
 
 mod beside;
+mod extras;
 mod findings;
+mod form;
 mod laws;
 mod near;
 mod plan;
@@ -17,9 +19,11 @@ pub use findings::part::Part;
 pub use findings::path::Path;
 pub use findings::want::Want;
 pub use findings::what::What;
+pub use form::Form;
 pub use laws::{
-    findings_are_refusals_of_a_run, findings_of_plans_are_refusals,
-    findings_of_scripts_are_refusals, the_refusal_of_a_run_is_found,
+    findings_are_refusals_of_a_run, findings_are_refusals_of_a_run_in_its_form,
+    findings_of_plans_are_refusals, findings_of_scripts_are_refusals,
+    the_refusal_of_a_run_in_terraforms_form_is_found, the_refusal_of_a_run_is_found,
     the_refusal_of_a_run_is_found_in_its_entry,
 };
 pub use near::nearest;

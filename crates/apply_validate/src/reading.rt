@@ -6,16 +6,19 @@ ghost use Rattle.serde_json.specs.View.{view};
 ghost use Rattle.apply_plan.specs.Plan.SavedPlan.{plan_of};
 ghost use Rattle.apply_plan.specs.Script.OutcomeMap.{script_of};
 ghost use Rattle.apply_validate.specs.Findings.{told};
+ghost use Rattle.apply_validate.specs.InForm.{findings_in};
 ghost use Rattle.apply_validate.specs.ScriptFindings.{in_script};
 ghost use Rattle.apply_validate.specs.Whole.{beside_plan, changes_in, entry_of_refusal, given_findings, plan_findings, refusals_of, refused_for, script_findings, script_findings_for, unless_waits, waits_at};
 
 use crate::beside::planned::Planned;
 use crate::beside::waiting::place_of_waits;
+use crate::extras::bytes::extras_for;
 use crate::findings::list::Findings;
 use crate::findings::name::Name;
 use crate::findings::part::Part;
 use crate::findings::path::Path;
 use crate::findings::what::What;
+use crate::form::Form;
 use crate::plan::top_level::walk_plan;
 use crate::script::top_level::walk_script;
 use apply_json::{JsonFault, parse};
@@ -78,23 +81,26 @@ pub struct Found {
 }
 
 /// What is found in the bytes of a saved plan, and in those of a script for it, where one is given: something for which a run
-/// refuses exactly where a run with the same bytes refuses. `lanes` says that the run has `--parallelism`, without which no step
-/// may wait. What the script has wrong beside the plan is looked for where nothing is found in the plan. `Err` where memory is
+/// refuses exactly where a run with the same bytes in that form refuses. `lanes` says that the run has `--parallelism`, without
+/// which no step may wait. What the script has wrong beside the plan is looked for where nothing is found in the plan. `Err` where memory is
 /// refused.
 pub fn findings_of(
     alloc: Global,
     plan: &[u8],
     script: Option<&[u8]>,
     lanes: bool,
+    form: Form,
 ) -> Result<Found, AllocError>
     ensures plan { IfOk result (λ found. found.plan ≡ told (plan_findings plan.now)) }
-    ensures script { IfOk result (λ found. found.script ≡ told (given_findings lanes (plan_of plan.now) (option_copied script.entry))) }
+    ensures script { IfOk result (λ found. found.script ≡ told (findings_in form lanes plan.now (option_copied script.entry))) }
 {
     let of_plan = findings_of_plan(alloc, plan)?;
     let of_script = findings_given(alloc, plan, script, lanes)?;
+    let extras = extras_for(alloc, form, of_plan.refuses(), plan, script)?;
+    let all = of_script.then(extras)?;
     Ok(Found {
         plan: of_plan,
-        script: of_script,
+        script: all,
     })
 }
 

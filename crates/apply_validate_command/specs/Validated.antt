@@ -3,11 +3,12 @@ use Rattle.std.specs.Prelude.{◌≡◌, ◌+◌, ◌<◌, ◌⊎◌, ⊤, ℕ, 
 use Rattle.std.specs.Io.KnownBytes.{Appends, Keeps}
 use Rattle.clap.specs.Walk.{Text}
 use Rattle.apply_plan.specs.Bytes.{max_bytes}
-use Rattle.apply_plan.specs.Plan.SavedPlan.{plan_of}
 use Rattle.apply_words.specs.Words.{AskForHelp}
 use Rattle.apply_validate.specs.Findings.{Told, told}
-use Rattle.apply_validate.specs.Whole.{given_findings, plan_findings}
-use Rattle.apply_validate_command.specs.CommandLine.{HaveSaid, command_line}
+use Rattle.apply_validate.specs.declared.form.Form.{Form}
+use Rattle.apply_validate.specs.InForm.{findings_in}
+use Rattle.apply_validate.specs.Whole.{plan_findings}
+use Rattle.apply_validate_command.specs.CommandLine.{ByCommand, HaveSaid}
 use Rattle.apply_validate_command.specs.Statuses.{status_for}
 use Rattle.apply_validate_command.specs.declared.command.settings.Settings.{Settings}
 
@@ -25,9 +26,9 @@ pub record TellsOf (plan script : Told) (has_script : Bool) (text : List ℕ) : 
   pub accepts : plan ≡ nothing → script ≡ nothing → text ≡ accepted has_script
 
 -- what is found in a plan, and in a script for it, is told: a text that tells of it is written
-pub record IsToldOf (lanes : Bool) (plan : List ℕ) (script : Option (List ℕ)) (before after : Option (List ℕ)) : Type 0 where
+pub record IsToldOf (form : Form) (lanes : Bool) (plan : List ℕ) (script : Option (List ℕ)) (before after : Option (List ℕ)) : Type 0 where
   pub text : List ℕ
-  pub tells : TellsOf (told (plan_findings plan)) (told (given_findings lanes (plan_of plan) script)) (is_some script) text
+  pub tells : TellsOf (told (plan_findings plan)) (told (findings_in form lanes plan script)) (is_some script) text
   pub written : Appends before after text
 
 -- bytes that were read of what was given: all of it, or as much as shows that it is too much
@@ -50,11 +51,11 @@ pub record WasValidated {File : Type 0} (remaining : File → Option (List ℕ))
   pub script : Option (List ℕ)
   pub plan_read : IsReadOf input plan
   pub script_read : IsScriptOf remaining settings.script script
-  pub written : IsToldOf settings.lanes plan script before after
-  pub by_findings : status ≡ status_for settings.lanes plan script
+  pub written : IsToldOf settings.form settings.lanes plan script before after
+  pub by_findings : status ≡ status_for settings.form settings.lanes plan script
 
 -- Nothing was validated: help was asked for, with status 0; or the words were refused, or an input could not be read, with status 2
 -- and the output as it was; or memory was refused, or the output could not be written, with status 3.
 abbrev pub WasNotValidated : (words : List Text) → (before after : Option (List ℕ)) → (status : ℕ) → Type 0
 WasNotValidated words before after status =
-    ((status ≡ 0) × AskForHelp command_line words) ⊎ ((status ≡ 2) × Keeps before after) ⊎ (status ≡ 3)
+    ((status ≡ 0) × ByCommand (λ app. AskForHelp app words)) ⊎ ((status ≡ 2) × Keeps before after) ⊎ (status ≡ 3)

@@ -8,4 +8,5 @@ pub mod found;
 pub mod near;
 pub mod place;
 pub mod plan_names;
+pub mod plan_outputs;
 pub mod wants;

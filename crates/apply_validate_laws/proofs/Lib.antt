@@ -1,4 +1,6 @@
 pub mod BytesPlaced
+pub mod ExtrasPlaced
+pub mod ExtrasWarn
 pub mod Joined
 pub mod Marks
 pub mod Placing
@@ -7,4 +9,5 @@ pub mod RefusalsPlaced
 pub mod ScriptsPlaced
 pub mod ScriptsWarn
 pub mod Warned
+pub mod WarnedInForm
 pub mod Warning

@@ -28,7 +28,7 @@ suited true xs y e = refl
 suited false xs y e = absurd cc
 
 -- what is looked at only in an object, in parts
-warns_in : (front : List Part) (names : List Name) (wanted : Want) (d : Data) (all : List Finding) (parts : List (List Finding)) (k : ℕ) (part : List Finding)
+pub warns_in : (front : List Part) (names : List Name) (wanted : Want) (d : Data) (all : List Finding) (parts : List (List Finding)) (k : ℕ) (part : List Finding)
     → begins_in_object front ≡ true → (is_some (as_object d) ≡ true → suits wanted d ≡ true) → slice_get parts k ≡ Some part → Warns front names d part
     → Warns front names d (where_suits wanted d (joined all parts))
 warns_in front names wanted d all parts k part begins fits is h =
@@ -36,7 +36,7 @@ warns_in front names wanted d all parts k part begins fits is h =
     (λ o. suited (suits wanted d) (joined all parts) (finding_here (IsNot wanted)) (fits o))
     (warns_part front names d all parts k part is h)
 
-in_list_warns : (front : List Part) (names : List Name) (found : ℕ → Data → List Finding) (at : Name) (wanted : Want) (d : Data) → ((m : ℕ) (e : Data) → Warns front names e (found m e))
+pub in_list_warns : (front : List Part) (names : List Name) (found : ℕ → Data → List Finding) (at : Name) (wanted : Want) (d : Data) → ((m : ℕ) (e : Data) → Warns front names e (found m e))
     → (i : ℕ) → Warns (Member at ∷ Item i ∷ front) names d (in_list found (known at wanted) d)
 in_list_warns front names found at wanted d h i =
     warns_part (Member at ∷ Item i ∷ front) names d (fault_of d (known at wanted)) (inside (in_items found) at d ∷ []) 0 (inside (in_items found) at d) refl

@@ -43,7 +43,7 @@ in_findings changes script tree path small is h =
     (in_tree (nat_lt max_bytes (length script)) (tree_of script) tree changes (warning_at (h.front ++ Other h.number ∷ [])) small is
     (script_warns h.reads changes tree h.value h.number h.text h.value_is h.text_is h.unknown))
 
-in_given : (lanes : Bool) (plan : Result SavedPlan PlanError) (script : List ℕ) (tree : Data) (path : List Part) → nat_lt max_bytes (length script) ≡ false → tree_of script ≡ Some tree → IsUnread IsRead tree path
+pub in_given : (lanes : Bool) (plan : Result SavedPlan PlanError) (script : List ℕ) (tree : Data) (path : List Part) → nat_lt max_bytes (length script) ≡ false → tree_of script ≡ Some tree → IsUnread IsRead tree path
     → Has (warning_at path) (given_findings lanes plan (Some script))
 in_given lanes (Err refusal) script tree path small is h = in_findings None script tree path small is h
 in_given lanes (Ok plan) script tree path small is h =
@@ -58,7 +58,7 @@ warned lanes plan script tree path small is = (
 
 -- ---- of which members
 
-unique : {front : List Part} {names others : List Name} → IsRead front names → IsRead front others → names ≡ others
+pub unique : {front : List Part} {names others : List Name} → IsRead front names → IsRead front others → names ≡ others
 unique top top = refl
 unique (entry e) (entry f) = refl
 unique (step e s) (step f t) = refl
@@ -87,11 +87,13 @@ same_ends (a ∷ xs) (b ∷ ys) x y e =
 same_number : (n m : ℕ) → (let part : Part = Other n in part) ≡ Other m → n ≡ m
 same_number n m e = cc
 
-unknown_in : (front : List Part) (names : List Name) (tree value : Data) (n : ℕ) (text : List ℕ) → IsRead front names → value_at front tree ≡ Some value
-    → slice_get (texts_in (members_in value)) n ≡ Some text → IsUnread IsRead tree (front ++ Other n ∷ []) → is_known names text ≡ false
-unknown_in front names tree value n text reads is has h =
+-- where a path has the names of one table
+pub unknown_in : (R : List Part → List Name → Type 0) → ((front : List Part) (names others : List Name) → R front names → R front others → names ≡ others)
+    → (front : List Part) (names : List Name) (tree value : Data) (n : ℕ) (text : List ℕ) → R front names → value_at front tree ≡ Some value
+    → slice_get (texts_in (members_in value)) n ≡ Some text → IsUnread R tree (front ++ Other n ∷ []) → is_known names text ≡ false
+unknown_in R one front names tree value n text reads is has h =
     let ends = same_ends front h.front (Other n) (Other h.number) h.path_is in
-    let names_same : names ≡ h.names = unique (subst (λ (path : List Part). IsRead path names) ends.0 reads) h.reads in
+    let names_same : names ≡ h.names = one h.front names h.names (subst (λ (path : List Part). R path names) ends.0 reads) h.reads in
     let value_same : value ≡ h.value = same_some value h.value (sym is ∙ ap (λ (path : List Part). value_at path tree) ends.0 ∙ h.value_is) in
     let number_same : n ≡ h.number = same_number n h.number ends.1 in
     let text_same : text ≡ h.text =
@@ -103,7 +105,7 @@ pub warned_of : (lanes : Bool) (plan : Result SavedPlan PlanError) (script : Lis
     → Contains (given_findings lanes plan (Some script)) (warning_at (front ++ Other n ∷ [])) ↔ (is_known names text ≡ false)
 warned_of lanes plan script tree front names value n text small is reads at has =
     let both_ways = warned lanes plan script tree (front ++ Other n ∷ []) small is in (
-      λ c. unknown_in front names tree value n text reads at has (both_ways.0 c),
+      λ c. unknown_in IsRead (λ path one other. unique) front names tree value n text reads at has (both_ways.0 c),
       λ unknown. both_ways.1
           (record { front = front; number = n; names = names; value = value; text = text; reads = reads; path_is = refl; value_is = at; text_is = has; unknown = unknown }),
     )

@@ -11,13 +11,16 @@ ghost use Rattle.apply_model.specs.Plan.SavedPlan.{SavedPlan};
 ghost use Rattle.apply_plan.specs.Bytes.{max_bytes};
 ghost use Rattle.apply_plan.specs.declared.plan.plan_error.PlanError.{PlanError};
 ghost use Rattle.apply_validate.specs.Findings.{is_refusal};
+ghost use Rattle.apply_validate.specs.InForm.{findings_in};
 ghost use Rattle.apply_validate.specs.Walks.{is_known, texts_in};
 ghost use Rattle.apply_validate.specs.Whole.{given_findings, plan_findings};
 ghost use Rattle.apply_validate.specs.declared.findings.name.Name.{Name};
 ghost use Rattle.apply_validate.specs.declared.findings.part.Part.{Part};
 ghost use Rattle.apply_validate.specs.declared.findings.part.Part.TheVariants.{Other};
+ghost use Rattle.apply_validate.specs.declared.form.Form.{Form};
 ghost use Rattle.apply_validate_laws.specs.Paths.{ArePlaced, value_at};
 ghost use Rattle.apply_validate_laws.specs.Unread.{IsRead, IsUnread, warning_at};
+ghost use Rattle.apply_validate_laws.specs.UnreadInForm.{IsReadIn};
 
 /// The path of each finding in a plan leads to a value of its tree, or, where something is missing, to the object that lacks it. None
 /// of them is a warning.
@@ -44,4 +47,22 @@ pub fn warnings_are_told_of_what_no_run_reads()
         → nat_lt max_bytes (length script) ≡ false → tree_of script ≡ Some tree → IsRead front names
         → value_at front tree ≡ Some value → slice_get (texts_in (members_in value)) n ≡ Some text
         → Contains (given_findings lanes plan (Some script)) (warning_at (front ++ Other n ∷ [])) ↔ (is_known names text ≡ false) }
+{}
+
+/// The same for a run in a form: in Terraform's what a script says for that form alone is looked into too.
+pub fn findings_in_scripts_are_placed_in_each_form()
+    ensures { (form : Form) (lanes : Bool) (plan script : List ℕ)
+        → ArePlaced (tree_of script) (findings_in form lanes plan (Some script)) }
+{}
+
+/// The same of warnings: a run in Terraform's form reads the members of outputs and of diagnostics of no step too.
+pub fn warnings_are_told_of_what_no_run_in_a_form_reads()
+    ensures exactly { (form : Form) (lanes : Bool) (plan script : List ℕ) (tree : Data) (path : List Part)
+        → nat_lt max_bytes (length script) ≡ false → tree_of script ≡ Some tree
+        → Contains (findings_in form lanes plan (Some script)) (warning_at path) ↔ IsUnread (IsReadIn form) tree path }
+    ensures each { (form : Form) (lanes : Bool) (plan script : List ℕ) (tree : Data) (front : List Part)
+        (names : List Name) (value : Data) (n : ℕ) (text : List ℕ)
+        → nat_lt max_bytes (length script) ≡ false → tree_of script ≡ Some tree → IsReadIn form front names
+        → value_at front tree ≡ Some value → slice_get (texts_in (members_in value)) n ≡ Some text
+        → Contains (findings_in form lanes plan (Some script)) (warning_at (front ++ Other n ∷ [])) ↔ (is_known names text ≡ false) }
 {}

@@ -3,4 +3,6 @@
 #![tactic(auto)]
 
 #[cfg(test)]
+mod extras;
+#[cfg(test)]
 mod tests;

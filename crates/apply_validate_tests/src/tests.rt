@@ -1,6 +1,6 @@
 //! What no clause says: the texts of findings, and which exit status follows.
 
-use apply_validate::findings_of;
+use apply_validate::{Form, findings_of};
 use apply_validate_command::{found_text, validate};
 use std::alloc::Global;
 use std::process::Abort;
@@ -24,7 +24,7 @@ fn told(
         Some(text) => Some(text.as_bytes()),
         None => None,
     };
-    let found = findings_of(alloc, plan, script, lanes).expect(rt, "memory");
+    let found = findings_of(alloc, plan, script, lanes, Form::Applystream).expect(rt, "memory");
     let text = found_text(alloc, &found, plan, script).expect(rt, "memory");
     (text, found.plan.refuses() || found.script.refuses())
 }
@@ -401,7 +401,15 @@ fn ends_with(rt: &impl Abort, alloc: Global, plan: &str, script: Option<&str>, s
     let mut out = Vec::new(alloc);
     let mut faults = Vec::new(alloc);
     let plan = plan.as_bytes();
-    let found = validate(alloc, false, plan, script, &mut out, &mut faults);
+    let found = validate(
+        alloc,
+        Form::Applystream,
+        false,
+        plan,
+        script,
+        &mut out,
+        &mut faults,
+    );
     assert_eq!(rt; found, status);
     assert!(rt; faults.is_empty());
 }

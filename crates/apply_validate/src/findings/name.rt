@@ -31,6 +31,7 @@ pub enum Name {
     ResourceChanges,
     Schema,
     Seconds,
+    Sensitive,
     Severity,
     Skipped,
     Snippet,
@@ -39,6 +40,7 @@ pub enum Name {
     Summary,
     TerraformVersion,
     Text,
+    Value,
     Warning,
 }
 
@@ -73,6 +75,7 @@ impl Name {
             Name::ResourceChanges => "resource_changes",
             Name::Schema => "$schema",
             Name::Seconds => "seconds",
+            Name::Sensitive => "sensitive",
             Name::Severity => "severity",
             Name::Skipped => "skipped",
             Name::Snippet => "snippet",
@@ -81,6 +84,7 @@ impl Name {
             Name::Summary => "summary",
             Name::TerraformVersion => "terraform_version",
             Name::Text => "text",
+            Name::Value => "value",
             Name::Warning => "warning",
         }
     }

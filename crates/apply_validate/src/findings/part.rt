@@ -7,7 +7,7 @@ use crate::findings::name::Name;
 pub enum Part {
     /// The member of that name.
     Member(Name),
-    /// A member that no run looks at, by its number among the members of its object, in the order of their names' bytes.
+    /// A member of any other name, by its number among the members of its object, in the order of their names' bytes.
     Other(usize),
     /// The item of that number, counted from 0.
     Item(usize),

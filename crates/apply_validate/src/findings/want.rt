@@ -29,6 +29,12 @@ pub enum Want {
     Mode,
     /// A text of one byte at least.
     NonEmptyText,
+    /// An object with a `severity` and a `summary`.
+    Note,
+    /// How severe a diagnostic of no step is: `error` or `warning`.
+    NoteSeverity,
+    /// Any value but `null`.
+    NotNull,
     /// An object.
     Object,
     /// An object, or nothing.
@@ -39,6 +45,8 @@ pub enum Want {
     Output,
     /// A plan.
     Plan,
+    /// An object with a `type`, which is an output of a plan.
+    PlanOutput,
     /// An object with a `provisioner` and `seconds`.
     Provisioner,
     /// A whole number of 64 bits, which a limit of its own holds down to a day.
@@ -93,9 +101,11 @@ impl Want {
             Want::Array | Want::ArrayOrAbsent => value.as_array().is_some(),
             Want::Diagnostic
             | Want::Entry
+            | Want::Note
             | Want::Object
             | Want::ObjectOrAbsent
             | Want::Plan
+            | Want::PlanOutput
             | Want::Provisioner
             | Want::Step => value.is_object(),
             Want::FlagOrAbsent => value.as_bool().is_some(),
@@ -103,9 +113,10 @@ impl Want {
             Want::Key => is_key(value),
             Want::Mode => is_mode(value),
             Want::NonEmptyText => is_text_with_a_byte(value),
+            Want::NotNull => true,
             Want::OnFailure => is_on_failure(value),
             Want::Seconds | Want::WholeOrAbsent => value.as_u64().is_some(),
-            Want::Severity => is_severity(value),
+            Want::NoteSeverity | Want::Severity => is_severity(value),
             Want::Text | Want::TextOrAbsent => value.as_str().is_some(),
             Want::Output | Want::Wait => value.as_str().is_some() || value.is_object(),
         }

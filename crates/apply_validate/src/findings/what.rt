@@ -51,6 +51,8 @@ pub enum What {
     OnlyWarns(StepKind),
     /// The change has no such step, but those of these kinds.
     NoSuchStep(Option<StepKind>, Option<StepKind>),
+    /// The plan has no output of that name, or deletes it.
+    UnknownOutput,
     /// The script has more items of `after` than a run takes, this first.
     TooManyWaits,
     /// The output comes behind the end of its provisioner, which takes so many seconds.

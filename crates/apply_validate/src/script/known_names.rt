@@ -1,5 +1,6 @@
 //! The members that a run reads.
 
+use crate::extras::{note, outputs};
 use crate::findings::name::Name;
 use crate::script::{diagnostic, entry, failure, output, provisioner, step, top_level, wait};
 
@@ -10,6 +11,8 @@ pub fn known_names(around: Option<Name>, within: Option<Name>) -> &'static [Name
         (_, None) => &top_level::NAMES,
         (_, Some(Name::Changes)) => &entry::NAMES,
         (_, Some(Name::Steps)) => &step::NAMES,
+        (_, Some(Name::Outputs)) => &outputs::NAMES,
+        (_, Some(Name::Diagnostics)) => &note::NAMES,
         (_, Some(Name::Provisioners)) => &provisioner::NAMES,
         (_, Some(Name::Output)) => &output::NAMES,
         (_, Some(Name::After)) => &wait::NAMES,

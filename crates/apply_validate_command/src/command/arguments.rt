@@ -4,13 +4,16 @@ ghost use Rattle.std.specs.Prelude.{◌≡◌, IfOk, IfErr, false, codes, is_som
 ghost use Rattle.clap.specs.Matches.{found_of};
 ghost use Rattle.clap.specs.Simple.{app_of};
 ghost use Rattle.clap.specs.Walk.{first_of, rows_of, rule_of};
-ghost use Rattle.apply_words.specs.Words.{WereRefused};
-ghost use Rattle.apply_validate_command.specs.CommandLine.{AreSaid, HaveSaid, command_line, parallelism_rule, script_rule};
+ghost use Rattle.apply_validate_command.specs.CommandLine.{AreSaid, HaveSaid, SayNoSettings, TakesForms, command_line, form_of_word, form_rule, form_said, parallelism_rule, script_rule};
 
 use crate::command::settings::Settings;
+use apply_validate::Form;
 use apply_words::{Usage, matches_of};
 use clap::{Arg, ArgMatches, Command, value_parser};
 use std::alloc::{AllocError, Global};
+
+/// The forms of a stream, as words.
+static FORMS: [&str; 2] = ["applystream", "terraform"];
 
 const ABOUT: &str =
     "Says every fault of a plan and of a script at once, each with its place as jq takes it.
@@ -32,7 +35,7 @@ Exit status:
 /// where they are none of this command, and with `Usage::Memory` where memory is refused.
 pub fn read_words(alloc: Global, words: &[String]) -> Result<Settings, Usage>
     ensures said { IfOk result (HaveSaid (map string_bytes words.now)) }
-    ensures refused { IfErr result (WereRefused command_line (map string_bytes words.now)) }
+    ensures refused { IfErr result (SayNoSettings (map string_bytes words.now)) }
 {
     let command = command(alloc)?;
     match matches_of(alloc, command, words) {
@@ -43,14 +46,15 @@ pub fn read_words(alloc: Global, words: &[String]) -> Result<Settings, Usage>
 
 /// The options, and their help.
 fn command<'a>(alloc: Global) -> Result<Command<'a>, AllocError>
-    ensures { IfOk result (λ command. app_of command ≡ command_line) }
+    ensures { IfOk result (λ command. (forms : _) × TakesForms forms × (app_of command ≡ command_line forms)) }
 {
     Command::new(alloc, "applystream validate")
         .no_binary_name(true)
         .about(ABOUT)
         .after_help(AFTER)
         .arg(script(alloc))?
-        .arg(parallelism(alloc))
+        .arg(parallelism(alloc))?
+        .arg(form(alloc))
 }
 
 fn script<'a>(alloc: Global) -> Arg<'a>
@@ -74,6 +78,19 @@ fn parallelism<'a>(alloc: Global) -> Arg<'a>
         )
 }
 
+fn form<'a>(alloc: Global) -> Arg<'a>
+    ensures { (forms : _) × TakesForms forms × (rule_of result ≡ form_rule forms) × (result.global ≡ false) }
+{
+    Arg::new(alloc, "form")
+        .long("form")
+        .value_name("FORM")
+        .value_parser(FORMS.as_slice())
+        .default_value("applystream")
+        .help(
+            "The form of the run's stream: applystream, or terraform, which reads `outputs` and `diagnostics` at the top of the script too",
+        )
+}
+
 /// What the matches say.
 fn settings_of(alloc: Global, matches: &ArgMatches<'_>) -> Result<Settings, AllocError>
     ensures { IfOk result (AreSaid (rows_of (found_of matches.now))) }
@@ -82,6 +99,7 @@ fn settings_of(alloc: Global, matches: &ArgMatches<'_>) -> Result<Settings, Allo
     Ok(Settings {
         script,
         lanes: has_parallelism(matches),
+        form: form_of(matches),
     })
 }
 
@@ -102,5 +120,25 @@ fn has_parallelism(matches: &ArgMatches<'_>) -> bool
     match matches.get_str("parallelism") {
         Some(_) => true,
         None => false,
+    }
+}
+
+/// The form that is said, and else the program's own.
+fn form_of(matches: &ArgMatches<'_>) -> Form
+    ensures { result ≡ form_said (rows_of (found_of matches.now)) }
+{
+    match matches.get_str("form") {
+        Some(word) => form_named(word),
+        None => Form::Applystream,
+    }
+}
+
+/// The form that a word says. The parser takes two words.
+fn form_named(word: &str) -> Form
+    ensures { result ≡ form_of_word word.now }
+{
+    match word {
+        "terraform" => Form::Terraform,
+        _ => Form::Applystream,
     }
 }

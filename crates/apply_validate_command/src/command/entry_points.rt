@@ -10,7 +10,7 @@ use crate::command::arguments::read_words;
 use crate::command::inputs::{InputFault, read_all, read_script_file};
 use crate::command::settings::Settings;
 use crate::command::telling::found_text;
-use apply_validate::{Found, findings_of};
+use apply_validate::{Form, Found, findings_of};
 use apply_words::{FAILED, REFUSED, answer_usage, refuse_memory, report};
 use std::alloc::Global;
 use std::io::{self, ErrorKind, Read, Write};
@@ -46,7 +46,15 @@ pub fn follow<F: Files, R: Read, W: Write, E: Write>(
     match read_all(alloc, input, InputFault::Plan) {
         Ok(plan) => {
             let script = bytes_of(&script);
-            validate(alloc, settings.lanes, &plan, script, out, faults)
+            validate(
+                alloc,
+                settings.form,
+                settings.lanes,
+                &plan,
+                script,
+                out,
+                faults,
+            )
         }
         Err(fault) => refuse(faults, fault),
     }
@@ -89,19 +97,20 @@ fn refuse<E: Write>(faults: &mut E, fault: InputFault) -> u8
 
 /// Says what is found in the bytes of a plan, and in those of a script for it, where one is given, and answers the exit status: 2
 /// where something is found for which a run refuses, 1 where only warnings are, 0 where nothing is; but 3 where memory was refused
-/// or `out` could not be written. `lanes` says that the run has `--parallelism`.
+/// or `out` could not be written. The run writes its stream in that form; `lanes` says that it has `--parallelism`.
 pub fn validate<W: Write, E: Write>(
     alloc: Global,
+    form: Form,
     lanes: bool,
     plan: &[u8],
     script: Option<&[u8]>,
     out: &mut W,
     faults: &mut E,
 ) -> u8
-    ensures { (IsToldOf lanes plan.now (option_copied script.entry) (W.contents out.old) (W.contents out.new)
-        × (result ≡ status_for lanes plan.now (option_copied script.entry))) ⊎ (result ≡ 3) }
+    ensures { (IsToldOf form lanes plan.now (option_copied script.entry) (W.contents out.old) (W.contents out.new)
+        × (result ≡ status_for form lanes plan.now (option_copied script.entry))) ⊎ (result ≡ 3) }
 {
-    let Ok(found) = findings_of(alloc, plan, script, lanes) else {
+    let Ok(found) = findings_of(alloc, plan, script, lanes, form) else {
         return refuse_memory(faults);
     };
     let Ok(text) = found_text(alloc, &found, plan, script) else {

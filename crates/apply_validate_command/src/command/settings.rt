@@ -1,5 +1,7 @@
 //! What the words of the command line say.
 
+use apply_validate::Form;
+
 /// What the words behind `validate` say.
 #[derive(Debug, Drop)]
 pub struct Settings {
@@ -7,4 +9,6 @@ pub struct Settings {
     pub script: Option<String>,
     /// Whether the run has `--parallelism`.
     pub lanes: bool,
+    /// In which form the run writes its stream; this program's own where none is said.
+    pub form: Form,
 }

@@ -15,7 +15,7 @@ use std::alloc::{AllocError, Global};
 /// How many findings are told.
 const MOST_TOLD: usize = 1000;
 
-/// For how many unknown addresses near ones are looked for, as each is compared with all of the plan's.
+/// For how many unknown names near ones are looked for, as each is compared with all of the plan's.
 const MOST_SOUGHT: usize = 10;
 
 /// What is told, as lines: the first 1,000 findings, and how many more there are. `Err` where memory is refused.
@@ -162,7 +162,7 @@ fn push_tree(
     let mut unknown = 0usize;
     for finding in findings.kept().iter().take(most) {
         let has_near = unknown < MOST_SOUGHT;
-        if matches!(finding.what, What::UnknownAddress) {
+        if matches!(finding.what, What::UnknownAddress | What::UnknownOutput) {
             unknown = unknown.saturating_add(1);
         }
         text.push_str(finding_text(alloc, input, tree, finding, names, has_near)?.as_str())?;

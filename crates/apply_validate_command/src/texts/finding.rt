@@ -9,6 +9,7 @@ use crate::texts::found::{found_text, shortened_json};
 use crate::texts::near::not_read_text;
 use crate::texts::place::{path_text, value_at};
 use crate::texts::plan_names::PlanNames;
+use crate::texts::plan_outputs::unknown_output_text;
 use crate::texts::wants::want_text;
 use apply_plan::{
     MAX_BYTES, MAX_CHANGES, MAX_OUTPUTS, MAX_PROVISIONERS, MAX_SECONDS, MAX_WAITS, ScriptError,
@@ -118,6 +119,10 @@ fn what_text(
             unknown_address_text(alloc, tree, finding, near)
         }
         What::UnknownObject => unknown_object_text(alloc, tree, finding, names),
+        What::UnknownOutput => {
+            let near = if has_near { Some(names) } else { None };
+            unknown_output_text(alloc, tree, finding, near)
+        }
         What::AboutAgain(number) => {
             let address = address_text(alloc, found)?;
             format!(in alloc; "is about the change of .changes[{number}] again: {address}")

@@ -3,6 +3,7 @@
 use crate::texts::edits::edits;
 use crate::texts::found::json_text;
 use crate::texts::near::{first_near, push_near};
+use crate::texts::plan_outputs::output_names;
 use apply_validate::{Name, nearest};
 use serde_json::Value;
 use std::alloc::{AllocError, Global};
@@ -16,6 +17,8 @@ const MOST_KEYS: usize = 3;
 pub struct PlanNames<'a> {
     /// Each address once.
     addresses: Vec<&'a str>,
+    /// The outputs that it has behind the apply, each once.
+    outputs: Vec<&'a str>,
     /// What each change names.
     changes: Vec<(&'a str, Option<&'a str>)>,
 }
@@ -25,6 +28,7 @@ impl<'a> PlanNames<'a> {
     pub fn of(alloc: Global, plan: Option<&'a Value>) -> Result<PlanNames<'a>, AllocError> {
         let mut names = PlanNames {
             addresses: Vec::new(alloc),
+            outputs: output_names(alloc, plan)?,
             changes: Vec::new(alloc),
         };
         let mut seen = BTreeSet::new(alloc);
@@ -46,26 +50,17 @@ impl<'a> PlanNames<'a> {
         text: &mut String,
         found: &str,
     ) -> Result<(), AllocError> {
-        let len = found.chars().count();
-        let reach = (len / 3).max(1);
-        let mut names = Vec::new(alloc);
-        // Those that are farther than another take no comparison as a whole.
-        let mut least = reach;
-        for address in &self.addresses {
-            if address.chars().count().abs_diff(len) <= reach {
-                match edits(alloc, found, address)? {
-                    Some(count) if count > least => {}
-                    Some(count) => {
-                        least = count;
-                        names.push(*address)?;
-                    }
-                    None => names.push(*address)?,
-                }
-            }
-        }
-        let near = nearest(alloc, found, &names, reach)?;
-        let shown = first_near(alloc, &names, &near)?;
-        push_near(text, &shown)
+        push_near_among(alloc, text, found, &self.addresses)
+    }
+
+    /// Adds which outputs are near to one that the plan does not have.
+    pub fn push_near_outputs(
+        &self,
+        alloc: Global,
+        text: &mut String,
+        found: &str,
+    ) -> Result<(), AllocError> {
+        push_near_among(alloc, text, found, &self.outputs)
     }
 
     /// Which objects the plan has at an address: none for the one that is not deposed, or the key of one that is.
@@ -83,6 +78,35 @@ impl<'a> PlanNames<'a> {
         }
         Ok(text)
     }
+}
+
+/// Adds which of the names are near to one that is none of them.
+fn push_near_among(
+    alloc: Global,
+    text: &mut String,
+    found: &str,
+    all: &[&str],
+) -> Result<(), AllocError> {
+    let len = found.chars().count();
+    let reach = (len / 3).max(1);
+    let mut names = Vec::new(alloc);
+    // Those that are farther than another take no comparison as a whole.
+    let mut least = reach;
+    for name in all {
+        if name.chars().count().abs_diff(len) <= reach {
+            match edits(alloc, found, name)? {
+                Some(count) if count > least => {}
+                Some(count) => {
+                    least = count;
+                    names.push(*name)?;
+                }
+                None => names.push(*name)?,
+            }
+        }
+    }
+    let near = nearest(alloc, found, &names, reach)?;
+    let shown = first_near(alloc, &names, &near)?;
+    push_near(text, &shown)
 }
 
 /// Adds the key of a deposed object, or that there is none.

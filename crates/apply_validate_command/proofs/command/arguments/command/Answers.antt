@@ -13,4 +13,6 @@ returns c =
     ap app_of_fields c.after_help.ensures ∙ ap app_of_fields c.about.ensures ∙ ap app_of_fields c.no_binary_name.ensures
     ∙ ap (on_top (λ shape. record shape { no_binary_name = true })) c.new.ensures.app in
     let script = c.in_ok-arg.ensures.shape c.script.ensures.1 ∙ ap₂ with_rule none c.script.ensures.0 in
-    IfOk-weaker c.arg-2.result _ _ (λ command added. added.shape c.parallelism.ensures.1 ∙ ap₂ with_rule script c.parallelism.ensures.0) c.arg-2.ensures
+    let parallelism = c.in_ok-arg-2.ensures.shape c.parallelism.ensures.1 ∙ ap₂ with_rule script c.parallelism.ensures.0 in
+    let forms = c.form.ensures in
+    IfOk-weaker c.arg-3.result _ _ (λ command added. (forms.0, forms.1, added.shape forms.3 ∙ ap₂ with_rule parallelism forms.2)) c.arg-3.ensures

@@ -1,4 +1,4 @@
-use Rattle.std.proofs.Common.{List, subst}
+use Rattle.std.proofs.Common.{List, inr, subst}
 use Rattle.clap.specs.Walk.{Row}
 use Rattle.apply_validate_command.specs.CommandLine.{AreSaid, command_line}
 use Rattle.apply_validate_command.proofs.Parsed.{line_is_free, line_is_simple}
@@ -6,11 +6,16 @@ use Rattle.apply_validate_command.proofs.command.arguments.read_words.Goals as g
 
 pub returns-in_ok-settings_of-in-Ok-clause-said : goal.returns-in_ok-settings_of-in-Ok-clause-said
 returns-in_ok-settings_of-in-Ok-clause-said c =
-    let is = c.in-Ok.ensures.said command_line c.in_ok-command.ensures line_is_simple line_is_free in
+    let made = c.in_ok-command.ensures in
+    let is = c.in-Ok.ensures.said (command_line made.0) made.2 (line_is_simple made.0) (line_is_free made.0) in
     record {
+      forms = made.0;
+      are_forms = made.1;
       taken = is.0;
       said = subst (λ (rows : List Row). AreSaid rows c.in_ok-settings_of-in-Ok.field-0) is.1 c.in_ok-settings_of-in-Ok.ensures;
     }
 
 pub returns-in-Err-clause-refused : goal.returns-in-Err-clause-refused
-returns-in-Err-clause-refused c = c.in-Err.ensures.refused command_line c.in_ok-command.ensures line_is_free
+returns-in-Err-clause-refused c =
+    let made = c.in_ok-command.ensures in
+    inr (made.0, made.1, c.in-Err.ensures.refused (command_line made.0) made.2 (line_is_free made.0))
