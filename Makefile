@@ -1,6 +1,6 @@
 # Proves and builds the program out of the crates that crates.txt lists, each over what those below it state.
 #   make                          the program with its tools, out/applystream; after a failure it goes on with what is left
-#   make out/applystream_alone    the same without the tools, which needs fewer crates: what ./applystream builds first
+#   make out/applystream_alone    the same without the tools, which needs fewer crates: what ./applystream builds first, by Rattle's own compiler, the quicker one
 #   make install PREFIX=/usr/local    the program, its man pages and completions
 #   make static · make deb        it without need of a C library; a Debian package
 #   make check                    the gate: every proof, edit, test and script
@@ -36,7 +36,7 @@ $(LIBS)/%.stamp: out/toolchain
 	@cd crates/$* && nice -n $(if $(filter $*,$(ASIDE)),19,$(if $(filter $*,$(BESIDE)),5,0)) $(KIT)/bin/rattle build --crate-name $* --jobs $(if $(filter $*,$(BESIDE)),$$((($(JOBS) + 1) / 2)),$(JOBS)) -L dependency=$(KIT)/rlibs -L dependency=$(LIBS) \
 	  --antt-project $(KIT)/rattle/logic/antt-project.json --logic-built $(KIT)/logic_built \
 	  $(foreach it,std $(call uses,$*),--extern $(it)=$(if $(filter $(it),$(OWN)),$(LIBS),$(KIT)/rlibs)/$(it).rlib) \
-	  $(if $(filter applystream%,$*),src/main.rt --toolchain $(KIT)/toolchain --backend llvm -o $(CURDIR)/out/$*.o,src/lib.rt --statements -o $(LIBS)/$*.rlib) \
+	  $(if $(filter applystream%,$*),src/main.rt --toolchain $(KIT)/toolchain --backend $(if $(filter %_alone,$*),rattle,llvm) -o $(CURDIR)/out/$*.o,src/lib.rt --statements -o $(LIBS)/$*.rlib) \
 	  </dev/null >$(CURDIR)/out/$*.log 2>&1 || { echo "applystream: $* was not proved or not built; out/$*.log says why" >&2; false; }
 	@touch $@
 $(foreach crate,$(CRATES),$(eval $(LIBS)/$(crate).stamp: $(call files,$(crate)) $(patsubst %,$(LIBS)/%.stamp,$(call below,$(crate)))))
