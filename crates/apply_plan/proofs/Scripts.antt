@@ -1,5 +1,4 @@
 -- Lemmas on scripts.
-pub mod Beginning
 pub mod Entries
 pub mod Forgotten
 pub mod Found
@@ -10,9 +9,7 @@ pub mod Numbers
 pub mod OneEntry
 pub mod Read
 pub mod Refusals
-pub mod Rounds
 pub mod Slots
-pub mod Stuck
 pub mod Timed
 pub mod TreeSteps
 pub mod Waited

@@ -8,11 +8,11 @@ ghost use Rattle.apply_plan.specs.Script.Entry.{is_kept};
 ghost use Rattle.apply_plan.specs.Script.EntriesView.{AreCovered, HoldsEntries, KeepsOneMore};
 ghost use Rattle.apply_plan.specs.Script.OutcomeMap.{by_number, script_of_entries};
 
-use crate::script::beginning::first_stuck;
 use crate::script::change_numbers::ChangeNumbers;
 use crate::script::said::said_by_entry;
 use crate::script::script_error::ScriptError;
 use crate::script::tree_entry::TreeEntry;
+use apply_beginning::first_stuck;
 use apply_json::{KeepingCollector, ReadFault, Reader, pass};
 use apply_model::{Plan, Script, StepOutcomes};
 use std::alloc::{AllocError, Global};

@@ -10,13 +10,12 @@ use Rattle.std.proofs.lemmas.Option.{get_or_from_slice_get, slice_get_cases, sli
 use Rattle.apply_model.specs.declared.script.wait.Wait.{Wait}
 use Rattle.apply_model.specs.Script.OutcomeMap.{OutcomeMap}
 use Rattle.apply_model.specs.Script.Waits.{could_begin, waits_told}
-use Rattle.apply_plan.specs.declared.script.beginning.Visit.{Visit}
-use Rattle.apply_plan.specs.declared.script.mark.Mark.{Mark}
-use Rattle.apply_plan.specs.declared.script.mark.Mark.TheVariants.{Unseen, OnPath, Begins}
-use Rattle.apply_plan.specs.Script.Beginning.{AreAllPlaced, AreSettled, MarkedBegin, has_begun}
-use Rattle.apply_plan.specs.Script.Marks.{index_of, mark_of}
-use Rattle.apply_plan.specs.Script.Placed.{IsPlaced}
-use Rattle.apply_plan.proofs.Scripts.Rounds.{IsChain, begins_at, chain_front, chain_more, is_step, none_of_circle, one_round_more, same_step, steps_equal, within_more}
+use Rattle.apply_beginning.specs.declared.beginning.Visit.{Visit}
+use Rattle.apply_beginning.specs.declared.mark.Mark.{Mark}
+use Rattle.apply_beginning.specs.declared.mark.Mark.TheVariants.{Unseen, OnPath, Begins}
+use Rattle.apply_beginning.specs.Marks.{AreSettled, MarkedBegin, has_begun, index_of, mark_of}
+use Rattle.apply_beginning.specs.Placed.{AreAllPlaced, IsPlaced}
+use Rattle.apply_beginning.proofs.Rounds.{IsChain, begins_at, chain_front, chain_more, is_step, none_of_circle, one_round_more, same_step, steps_equal, within_more}
 
 -- ---- lists
 

@@ -4,11 +4,12 @@ ghost use Rattle.std.specs.Prelude.{◌≡◌, ◌<◌, ◌≤◌, All, IfOk, On
 ghost use Rattle.std.specs.List.{position_from};
 ghost use Rattle.apply_model.specs.Script.Limits.{max_waits};
 ghost use Rattle.apply_model.specs.Script.Waits.{could_begin, named_for, waits_told};
-ghost use Rattle.apply_plan.specs.Script.Beginning.{AreAllPlaced, AreSettled, is_stuck_at};
-ghost use Rattle.apply_plan.specs.Script.Placed.{IsPlaced};
+ghost use Rattle.apply_beginning.specs.Marks.{AreSettled};
+ghost use Rattle.apply_beginning.specs.Placed.{AreAllPlaced, IsPlaced};
+ghost use Rattle.apply_beginning.specs.Stuck.{is_stuck_at};
 
-use crate::script::mark::Mark;
-use crate::script::marks::Marks;
+use crate::mark::Mark;
+use crate::marks::Marks;
 use apply_model::{Script, Wait};
 use std::alloc::{AllocError, Global};
 

@@ -7,10 +7,10 @@ use Rattle.std.proofs.lemmas.List.Folds.{list_any-append}
 use Rattle.apply_model.proofs.Lists.{left_at}
 use Rattle.apply_model.specs.Script.OutcomeMap.{OutcomeMap}
 use Rattle.apply_model.specs.Script.Waits.{could_begin}
-use Rattle.apply_plan.specs.declared.script.mark.Mark.{Mark}
-use Rattle.apply_plan.specs.declared.script.mark.Mark.TheVariants.{Unseen, OnPath, Begins}
-use Rattle.apply_plan.specs.Script.Beginning.{AreSettled, is_stuck_at}
-use Rattle.apply_plan.specs.Script.Marks.{index_of, mark_of}
+use Rattle.apply_beginning.specs.declared.mark.Mark.{Mark}
+use Rattle.apply_beginning.specs.declared.mark.Mark.TheVariants.{Unseen, OnPath, Begins}
+use Rattle.apply_beginning.specs.Marks.{AreSettled, index_of, mark_of}
+use Rattle.apply_beginning.specs.Stuck.{is_stuck_at}
 
 -- ---- the steps of one entry
 

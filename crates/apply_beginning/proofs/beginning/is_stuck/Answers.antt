@@ -1,6 +1,6 @@
 use Rattle.std.proofs.Common.{◌≡◌, ap, refl, sym, ◌∙◌, arith}
-use Rattle.apply_plan.proofs.Scripts.Stuck.{none_stuck_more, stuck_below}
-use Rattle.apply_plan.proofs.script.beginning.is_stuck.Goals as goal
+use Rattle.apply_beginning.proofs.Stuck.{none_stuck_more, stuck_below}
+use Rattle.apply_beginning.proofs.beginning.is_stuck.Goals as goal
 
 pub loop-step-init : goal.loop-step-init
 loop-step-init c = (c.requires.settled, refl)

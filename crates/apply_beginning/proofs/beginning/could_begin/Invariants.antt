@@ -1,5 +1,5 @@
-use Rattle.apply_plan.proofs.Scripts.Beginning.{IsSearching, left_of}
-use Rattle.apply_plan.proofs.script.beginning.could_begin.Given as goal
+use Rattle.apply_beginning.proofs.Searching.{IsSearching, left_of}
+use Rattle.apply_beginning.proofs.beginning.could_begin.Given as goal
 
 abbrev pub invariant-loop-visit : goal.invariant-loop-visit
 invariant-loop-visit l = IsSearching l.script l.fn.step l.marks l.path.items

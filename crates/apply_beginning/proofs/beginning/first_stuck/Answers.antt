@@ -1,7 +1,7 @@
 use Rattle.std.proofs.Common.{ℕ, get_or, refl, sym, ◌∙◌}
 use Rattle.std.proofs.lemmas.List.{get_or_default}
-use Rattle.apply_plan.proofs.Scripts.Stuck.{no_entry_left, none_seen, not_here, stuck_here}
-use Rattle.apply_plan.proofs.script.beginning.first_stuck.Goals as goal
+use Rattle.apply_beginning.proofs.Stuck.{no_entry_left, none_seen, not_here, stuck_here}
+use Rattle.apply_beginning.proofs.beginning.first_stuck.Goals as goal
 
 pub loop-number-init : goal.loop-number-init
 loop-number-init c = (none_seen c.args.script.now c.args.changes c.in_ok-marks.marks c.requires.changes c.in_ok-marks.ensures, refl)

@@ -1,12 +1,12 @@
 use Rattle.std.proofs.Common.{◌≡◌, ◌++◌, ◌∷◌, [], List, true, false, ap, refl, sym, ◌∙◌, arith}
 use Rattle.std.proofs.lemmas.List.{nil_from_length}
 use denote.Enum.Bare.{sameb}
-use Rattle.apply_plan.specs.contracts.script.mark.Mark.{the_type}
-use Rattle.apply_plan.specs.declared.script.beginning.Visit.{Visit}
-use Rattle.apply_plan.specs.declared.script.mark.Mark.{Mark}
-use Rattle.apply_plan.specs.declared.script.mark.Mark.TheVariants.{Unseen, OnPath, Begins}
-use Rattle.apply_plan.proofs.Scripts.Beginning.{already, begins_now, begins_then, below, goes_on, less_to_begin, less_to_pass, less_to_see, never, next_below, passes, settled_then, starts}
-use Rattle.apply_plan.proofs.script.beginning.could_begin.Goals as goal
+use Rattle.apply_beginning.specs.contracts.mark.Mark.{the_type}
+use Rattle.apply_beginning.specs.declared.beginning.Visit.{Visit}
+use Rattle.apply_beginning.specs.declared.mark.Mark.{Mark}
+use Rattle.apply_beginning.specs.declared.mark.Mark.TheVariants.{Unseen, OnPath, Begins}
+use Rattle.apply_beginning.proofs.Searching.{already, begins_now, begins_then, below, goes_on, less_to_begin, less_to_pass, less_to_see, never, next_below, passes, settled_then, starts}
+use Rattle.apply_beginning.proofs.beginning.could_begin.Goals as goal
 
 is_begins : (mark : Mark) → true ≡ sameb the_type mark Begins → mark ≡ Begins
 is_begins Unseen e = absurd cc

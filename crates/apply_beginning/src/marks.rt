@@ -1,9 +1,9 @@
 //! The marks of all steps.
 
 ghost use Rattle.std.specs.Prelude.{◌≡◌, ◌+◌, ◌*◌, ◌<◌, IfOk, length, replicate, slice_set};
-ghost use Rattle.apply_plan.specs.Script.Marks.{index_of, mark_of};
+ghost use Rattle.apply_beginning.specs.Marks.{index_of, mark_of};
 
-use crate::script::mark::Mark;
+use crate::mark::Mark;
 use apply_model::Wait;
 use std::alloc::{AllocError, Global};
 use std::marker::Model;
@@ -16,7 +16,7 @@ pub struct Marks {
 
 impl Model for Marks {
     ghost use Rattle.std.specs.Prelude.{List};
-    ghost use Rattle.apply_plan.specs.declared.script.mark.Mark.{Mark};
+    ghost use Rattle.apply_beginning.specs.declared.mark.Mark.{Mark};
 
     ghost Value = { List Mark };
 
