@@ -3,7 +3,6 @@ pub mod Details
 pub mod Edges
 pub mod Faults
 pub mod Intervals
-pub mod Laws
 pub mod LineSlots
 pub mod Lines
 pub mod Memory

@@ -1,6 +1,12 @@
+pub mod BeginLines
 pub mod Counting
 pub mod Counts
+pub mod DiagnosticBytes
+pub mod InSpan
+pub mod ItsLines
+pub mod KeptBytes
 pub mod Looking
 pub mod Matching
+pub mod NumberLaws
 pub mod Streams
 pub mod Types

@@ -4,7 +4,7 @@ use Rattle.std.specs.Option.{option_map_or}
 use Rattle.std.specs.Str.{bytes_eq}
 use Rattle.apply_json.specs.Tree.{◌>>=◌, text_of, tree_of}
 use Rattle.apply_check.specs.declared.messages.totals.Totals.{Totals}
-use Rattle.apply_view.specs.Laws.{message_in}
+use Rattle.apply_view_laws.specs.Messages.{message_in}
 use Rattle.apply_view.specs.Messages.{hook_text}
 use Rattle.apply_view.specs.Numbers.{completed_of}
 use Rattle.apply_view.specs.Steps.{ToldStep}

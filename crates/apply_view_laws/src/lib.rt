@@ -1,4 +1,5 @@
-//! What holds of a picture of a stream that is accepted. No code calls it, so that no program waits for its proof.
+//! What holds of what a stream tells, of its numbers and rows, and of a picture of one that is accepted. No code calls these
+//! laws, so that no program waits for their proofs.
 #![tactic(auto)]
 
 ghost use Rattle.std.specs.Prelude.{◌≡◌, All, List, Ok, false, ℕ};
@@ -8,7 +9,21 @@ ghost use Rattle.apply_check.specs.declared.verdict.whole.Whole.{Whole};
 ghost use Rattle.apply_view.specs.Telling.{told_of};
 ghost use Rattle.apply_view_laws.specs.Agreement.{AreCounted, IsTimed};
 
+mod numbers;
+mod rows;
+mod told;
+
 use apply_check::each_step_ends_once;
+pub use numbers::{
+    alone_is_at_most_busy, busy_is_at_most_the_span, busy_is_at_most_the_work,
+    no_step_ends_before_it_begins, work_is_at_most_the_peak_times_busy,
+    work_is_the_number_under_way_times_the_length,
+};
+pub use rows::{shown_and_left_out_are_all, what_comes_no_later_stands_no_further};
+pub use told::{
+    each_begin_gives_one_step, memory_is_kept_for_steps_and_few_diagnostics,
+    progress_takes_no_memory, steps_are_of_their_lines,
+};
 
 /// Of a stream that is accepted as that of an apply, each of whose lines tells a moment, and in which no ephemeral
 /// operation calls itself a create, an update or a delete: the creates, updates and deletes that are completed are its

@@ -1,5 +1,5 @@
 use Rattle.apply_view.proofs.BarLaws.{end_rises, first_rises, place_rises}
-use Rattle.apply_view.proofs.laws.what_comes_no_later_stands_no_further.Goals as goal
+use Rattle.apply_view_laws.proofs.rows.what_comes_no_later_stands_no_further.Goals as goal
 
 pub returns-clause-place : goal.returns-clause-place
 returns-clause-place c = place_rises

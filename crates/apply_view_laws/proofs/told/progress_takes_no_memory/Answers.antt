@@ -1,5 +1,5 @@
-use Rattle.apply_view.proofs.KeptBytes.{line_same, progress_is_not_kept}
-use Rattle.apply_view.proofs.laws.progress_takes_no_memory.Goals as goal
+use Rattle.apply_view_laws.proofs.KeptBytes.{line_same, progress_is_not_kept}
+use Rattle.apply_view_laws.proofs.told.progress_takes_no_memory.Goals as goal
 
 pub returns-clause-lines : goal.returns-clause-lines
 returns-clause-lines c = line_same

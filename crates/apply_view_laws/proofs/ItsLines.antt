@@ -8,7 +8,7 @@ use Rattle.std.proofs.lemmas.Bool.{and_parts, cases_Bool}
 use Rattle.std.proofs.lemmas.List.{length-take-le, take_all}
 use Rattle.std.proofs.lemmas.List.Elements.{All-from_recursion}
 use Rattle.std.proofs.lemmas.Slice.Eq.{bytes_eq-Decides}
-use Rattle.apply_view.specs.Laws.{IsOfItsLines, message_at, message_in, says}
+use Rattle.apply_view_laws.specs.Messages.{IsOfItsLines, message_at, message_in, says}
 use Rattle.apply_view.specs.Messages.{Message, Said, begins, ends, begins_provisioner, ends_provisioner, error, warning, version, plan_summary, summary, other, lacking, message_of}
 use Rattle.apply_view.specs.Steps.{ToldStep, at_place, begun_step, ended, first_of, is_open_at, is_open_with, last_of, marked_by_error, passes_at, places, provisions, with_provisioner, with_provisioner_ended}
 use Rattle.apply_view.specs.Telling.{Telling, is_blank_line, told_of, with_line, with_message_or_passed, with_passed, with_provisioner_end_at, with_said}

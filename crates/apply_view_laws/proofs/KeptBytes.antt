@@ -9,13 +9,14 @@ use Rattle.std.proofs.lemmas.List.Sums.{sum_by-cons}
 use Rattle.std.proofs.lemmas.Slice.Eq.{bytes_eq-Decides}
 use Rattle.serde_json.specs.Data.{Data}
 use Rattle.apply_json.specs.Tree.{◌>>=◌, text_of, tree_of}
-use Rattle.apply_view.specs.Laws.{message_in}
-use Rattle.apply_view.specs.Memory.{allowed_bytes, is_kept, is_kept_line, is_progress, is_progress_line, is_progress_type, kept_bytes, provisioner_bytes, step_bytes}
+use Rattle.apply_view_laws.specs.Messages.{message_in}
+use Rattle.apply_view.specs.Memory.{kept_bytes, provisioner_bytes, step_bytes}
+use Rattle.apply_view_laws.specs.Memory.{allowed_bytes, is_kept, is_kept_line, is_progress, is_progress_line, is_progress_type}
 use Rattle.apply_view.specs.Messages.{Message, Said, begins, ends, begins_provisioner, ends_provisioner, error, warning, version, plan_summary, summary, other, lacking, message_at, message_of, moment_of, said_of, tree_message}
 use Rattle.apply_view.specs.OpenPlaces.{index_bytes, text_bytes}
 use Rattle.apply_view.specs.Steps.{ToldProvisioner, ToldStep, at_place, ended, ended_with_step, first_of, is_open_at, is_open_with, last_of, passes_at, places, provisions, with_last_ended, with_provisioner_ended}
 use Rattle.apply_view.specs.Telling.{Telling, is_blank_line, nothing_told, told_of, with_line, with_message_or_passed, with_passed, with_provisioner_end_at, with_said}
-use Rattle.apply_view.proofs.DiagnosticBytes.{AreFew, Fits, one_more_fits, said_fits}
+use Rattle.apply_view_laws.proofs.DiagnosticBytes.{AreFew, Fits, one_more_fits, said_fits}
 use Rattle.apply_view.proofs.Holding.{placed_index}
 
 -- ---- how much it is at most
