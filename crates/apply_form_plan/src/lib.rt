@@ -10,7 +10,6 @@ mod extras;
 mod flags;
 mod kept;
 mod notes;
-mod output_changes;
 mod outputs;
 mod plan_details;
 mod plan_outputs;

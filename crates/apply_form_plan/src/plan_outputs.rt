@@ -16,8 +16,7 @@ ghost use Rattle.apply_form_plan.specs.Outputs.{members_or_none, seen_outputs};
 use crate::kept::found_outputs::FoundOutputs;
 use crate::kept::kept_output::KeptOutput;
 use crate::kept::sought::Sought;
-use crate::output_changes::{change_of, is_changed, is_gone};
-use crate::outputs::is_typed;
+use apply_outputs::{change_of, is_changed, is_gone, is_kind};
 use serde_json::Value;
 use std::alloc::{AllocError, Global};
 use std::collections::BTreeMap;
@@ -83,7 +82,7 @@ fn names_of<'a>(
 {
     let mut names = BTreeMap::new(alloc);
     for entry in outputs {
-        names.insert(entry.0.as_str(), is_typed(&entry.1))?;
+        names.insert(entry.0.as_str(), is_kind(entry.1.kind()))?;
     }
     Ok(names)
 }

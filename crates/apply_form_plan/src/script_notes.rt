@@ -5,13 +5,12 @@ ghost use Rattle.std.specs.Option.{option_copied};
 ghost use Rattle.serde_json.specs.View.{view};
 ghost use Rattle.apply_plan.specs.Results.{Gives};
 ghost use Rattle.apply_form_plan.specs.Notes as specs;
-ghost use Rattle.apply_form_plan.specs.Outputs.{as_text};
 
-use crate::outputs::is_that;
 use crate::texts::items::read_items;
 use apply_json::ReadFault;
 use apply_json::members::non_empty;
 use apply_model::{Diag, Note, Severity, Text};
+use apply_outputs::{is_that, text_of};
 use apply_plan::ScriptError;
 use serde_json::Value;
 use std::alloc::{AllocError, Global};
@@ -31,13 +30,6 @@ pub fn notes_in(alloc: Global, found: Option<&Value>) -> Result<Vec<Note>, Scrip
         },
         None => Ok(Vec::new(alloc)),
     }
-}
-
-/// The text that a value is.
-fn text_of(value: Option<&Value>) -> Option<&str>
-    ensures { option_copied result ≡ as_text (option_map (λ value. view value.now) value.entry) }
-{
-    value?.as_str()
 }
 
 /// Those of an array that is kept as text.

@@ -12,11 +12,11 @@ ghost use Rattle.apply_form_plan.specs.Outputs.{seen_outputs};
 use crate::extras::Extras;
 use crate::kept::by_name::by_name;
 use crate::kept::kept_output::KeptOutput;
-use crate::output_changes::is_told;
 use crate::outputs::output_of;
 use crate::plan_outputs::PlanOutputs;
 use crate::told_of_plan::PlanNote;
 use apply_model::{Note, Output};
+use apply_outputs::is_told;
 use serde_json::{Map, Value};
 use std::alloc::{AllocError, Global};
 
@@ -107,7 +107,7 @@ fn push_told(
     ensures { OnOk result (outputs.new.items ≡ outputs.old.items
         ++ told_one (option_map (λ value. view value.now) changes.entry) name.now (kept.view output.now)) }
 {
-    if is_told(changes, name, output) {
+    if is_told(changes, name, output.kind()) {
         outputs.push(output_of(alloc, name, output)?)?;
     }
     Ok(())
@@ -126,7 +126,7 @@ fn beside(
     let mut known = known;
     let mut found = found;
     while let Some((name, output)) = known.pop_first() {
-        if is_told(changes, name.as_str(), &output) && !found.contains_key(name.as_str()) {
+        if is_told(changes, name.as_str(), output.kind()) && !found.contains_key(name.as_str()) {
             drop(found.insert(name, output)?);
         }
     }

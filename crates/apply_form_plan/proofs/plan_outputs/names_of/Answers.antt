@@ -17,10 +17,10 @@ loop-entry-preserved c =
     let at : get_or outputs l.entry-index entry ≡ entry = search rules in
     let more : take (l.entry-index + 1) outputs ≡ before ++ entry ∷ [] = take_more outputs l.entry-index entry c.loop-entry-test.true ∙ ap (λ e. before ++ e ∷ []) at in
     let name : c.as_str.result.now ≡ string_bytes entry.0 = search rules in
-    let typed : c.is_typed.result ≡ is_typed (view entry.1) = search rules in
+    let typed : c.is_kind.result ≡ is_typed (view entry.1) = search rules in
     λ q.
     btree_map_updates_str c.as_str.result.now l.names c.insert.new.self _ c.in_ok-insert.ensures.updates q
-    ∙ named_last before entry c.as_str.result.now c.is_typed.result q _ name typed (l.invariant q)
+    ∙ named_last before entry c.as_str.result.now c.is_kind.result q _ name typed (l.invariant q)
     ∙ ap (λ es. option_map is_typed (get_member q (put_all es no_members))) (sym more)
 
 pub returns : goal.returns

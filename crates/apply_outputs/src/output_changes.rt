@@ -3,11 +3,9 @@
 ghost use Rattle.std.specs.Prelude.{◌≡◌, option_map};
 ghost use Rattle.std.specs.Option.{option_copied};
 ghost use Rattle.serde_json.specs.View.{view};
-ghost use Rattle.apply_form_plan.specs.Kept as kept;
-ghost use Rattle.apply_form_plan.specs.Outputs as said;
+ghost use Rattle.apply_outputs.specs.Outputs as said;
 
-use crate::kept::kept_output::KeptOutput;
-use crate::outputs::{is_that, is_typed};
+use crate::outputs::{is_kind, is_that};
 use serde_json::Value;
 
 /// What is planned of the output of that name.
@@ -56,17 +54,17 @@ pub fn is_changed(change: Option<&Value>) -> bool
 }
 
 /// The text that a value is.
-fn text_of(value: Option<&Value>) -> Option<&str>
+pub fn text_of(value: Option<&Value>) -> Option<&str>
     ensures { option_copied result ≡ said.as_text (option_map (λ value. view value.now) value.entry) }
 {
     value?.as_str()
 }
 
-/// Whether the plan's own output of that name is told.
-pub fn is_told(changes: Option<&Value>, name: &str, output: &KeptOutput) -> bool
-    ensures { result ≡ said.is_told (option_map (λ value. view value.now) changes.entry)
-        name.now (kept.view output.now) }
+/// Whether the plan's own output of that name is told, which has that type.
+pub fn is_told(changes: Option<&Value>, name: &str, kind: Option<&str>) -> bool
+    ensures { result ≡ said.tells (option_map (λ value. view value.now) changes.entry)
+        name.now (option_copied kind.entry) }
 {
     let change = change_of(changes, name);
-    is_typed(output) && !(is_unknown(change) || is_gone(change))
+    is_kind(kind) && !(is_unknown(change) || is_gone(change))
 }
