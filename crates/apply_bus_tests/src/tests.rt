@@ -10,13 +10,12 @@ use apply_bus::{
     open, salvage, settle,
 };
 use apply_events::{Event, What};
-use std::alloc::{AllocError, Global};
+use std::alloc::Global;
 use std::fmt::Display;
 use std::process::Abort;
-use std::snapshot::Snapshot;
 use std::sync::Wait;
 use std::thread;
-use std::thread::{Promise, PromisedHandle, Scope, Threads};
+use std::thread::Threads;
 
 /// An event that tells its worker and its number.
 fn event(worker: u8, change: u32) -> Event
@@ -38,41 +37,38 @@ fn holds(rt: &impl Abort, case: &str, is_so: bool) {
 
 /// Fails where a number is another.
 fn number_is(rt: &impl Abort, case: &str, found: u32, wanted: u32) {
-    assert!(rt; found == wanted, "{case}: {found}");
+    holds(rt, case, found == wanted);
 }
 
-/// Fails where a bus of these sizes opens otherwise than with that many closes to come.
-fn opens(rt: &impl Abort, alloc: Global, workers: u8, capacity: u16, wanted: Result<u8, BusError>) {
-    let opened = open(alloc, workers, capacity).map(|bus| bus.1.open_left());
-    holds(rt, "a bus", opened == wanted);
+/// Fails where a bus of these sizes opens otherwise than with that many closes to come, of none as one that is out of range.
+fn opens(rt: &impl Abort, alloc: Global, workers: u8, capacity: u16, wanted: u32) {
+    match open(alloc, workers, capacity) {
+        Ok((_senders, rx)) => number_is(rt, "a bus", u32::from(rx.open_left()), wanted),
+        Err(error) => holds(rt, "no bus", error == BusError::BadSize && wanted == 0),
+    }
 }
 
-/// Fails where claims of these sizes open otherwise than with that many drawers.
-fn claims_open(
-    rt: &impl Abort,
-    alloc: Global,
-    workers: u8,
-    n: u32,
-    wanted: Result<usize, BusError>,
-) {
-    let opened = Claims::open(alloc, workers, n).map(|opened| opened.1.len());
-    holds(rt, "claims", opened == wanted);
+/// Fails where claims of these sizes open otherwise than with that many drawers, of none as those that are out of range.
+fn claims_open(rt: &impl Abort, alloc: Global, workers: u8, n: u32, wanted: usize) {
+    match Claims::open(alloc, workers, n) {
+        Ok((_claims, drawers)) => holds(rt, "claims", drawers.len() == wanted),
+        Err(error) => holds(rt, "no claims", error == BusError::BadSize && wanted == 0),
+    }
 }
 
 #[test]
 fn sizes_and_limits(rt: HostRuntime) {
     let alloc = rt.alloc();
-    let bad_size = BusError::BadSize;
-    opens(&rt, alloc, 0, 1, Err(bad_size));
-    opens(&rt, alloc, 9, 1, Err(bad_size));
-    opens(&rt, alloc, 1, 0, Err(bad_size));
-    opens(&rt, alloc, 1, 1025, Err(bad_size));
-    opens(&rt, alloc, 1, 1, Ok(1));
-    opens(&rt, alloc, 8, 1024, Ok(8));
-    claims_open(&rt, alloc, 0, 3, Err(bad_size));
-    claims_open(&rt, alloc, 9, 3, Err(bad_size));
-    claims_open(&rt, alloc, 1, 0, Ok(1));
-    claims_open(&rt, alloc, 8, u32::MAX, Ok(8));
+    opens(&rt, alloc, 0, 1, 0);
+    opens(&rt, alloc, 9, 1, 0);
+    opens(&rt, alloc, 1, 0, 0);
+    opens(&rt, alloc, 1, 1025, 0);
+    opens(&rt, alloc, 1, 1, 1);
+    opens(&rt, alloc, 8, 1024, 8);
+    claims_open(&rt, alloc, 0, 3, 0);
+    claims_open(&rt, alloc, 9, 3, 0);
+    claims_open(&rt, alloc, 1, 0, 1);
+    claims_open(&rt, alloc, 8, u32::MAX, 8);
     holds(&rt, "the most that is taken", MAX_TAKEN == 1 << 29);
 }
 

@@ -30,12 +30,7 @@ fn expect_item<R: Wait + Abort>(rt: &R, rx: &mut Rx, wanted: Item)
     ensures { rx.new.bus ≡ rx.old.bus }
 {
     assert!(rt; rx.open_left() > 0);
-    is_taken(rt, rx.take(rt), wanted);
-}
-
-/// Fails where another item was taken.
-fn is_taken(rt: &impl Abort, found: Result<Item, Lost>, wanted: Item) {
-    assert!(rt; found == Ok(wanted));
+    assert!(rt; rx.take(rt) == Ok(wanted));
 }
 
 /// Fails where the event was not delivered.
@@ -44,29 +39,28 @@ fn is_sent(rt: &impl Abort, sent: Result<(), Undelivered>) {
 }
 
 /// Settles a bus with one worker.
-fn settle_one(alloc: Global, rx: Rx, closed: Closed) -> Result<(), AllocError>
+fn settle_one(rt: &impl Abort, alloc: Global, rx: Rx, closed: Closed)
     requires left { closes rx.taken ≡ rx.workers }
     requires bus { closed.bus ≡ rx.bus }
 {
-    let _settled = settle(rx, vec![in alloc; closed]?);
-    Ok(())
+    let closed = vec![in alloc; closed].ok().expect(rt, "memory");
+    let _settled = settle(rx, closed);
 }
 
 /// Salvages a bus with two workers, neither closed.
-fn salvage_two(alloc: Global, taken: Taken, first: Tx, second: Tx) -> Result<(), AllocError>
+fn salvage_two(rt: &impl Abort, alloc: Global, taken: Taken, first: Tx, second: Tx)
     requires first { first.bus ≡ taken.bus }
     requires second { second.bus ≡ taken.bus }
 {
-    let _salvaged = salvage(taken, Vec::new(alloc), vec![in alloc; first, second]?);
-    Ok(())
+    let open = vec![in alloc; first, second].ok().expect(rt, "memory");
+    let _salvaged = salvage(taken, Vec::new(alloc), open);
 }
 
 /// Fails where the closes of another number of workers are still to come.
 fn left_is(rt: &impl Abort, after: &str, rx: &Rx, wanted: u8)
     ensures { wanted + closes rx.now.taken ≡ rx.now.workers }
 {
-    let left = rx.open_left();
-    assert!(rt; left == wanted, "after {after}");
+    assert!(rt; rx.open_left() == wanted, "after {after}");
 }
 
 #[test]
@@ -84,7 +78,7 @@ fn bus_by_hand(rt: HostRuntime) {
     left_is(&rt, "the second event", &rx, 1);
     expect_item(&rt, &mut rx, Item::Close(0));
     left_is(&rt, "the close", &rx, 0);
-    settle_one(alloc, rx, closed).ok().expect(&rt, "memory");
+    settle_one(&rt, alloc, rx, closed);
 }
 
 /// Fails where the event was delivered, or another one came back.
@@ -108,8 +102,7 @@ fn receiving_ends_early(rt: HostRuntime) {
     is_refused(&rt, first.send(&rt, event(0, 2)), event(0, 2));
     let second = second.close(&rt).err().expect(&rt, "the sender");
     number_is(&rt, "the second worker", u32::from(second.worker()), 1);
-    let salvaged = salvage_two(alloc, taken, first, second);
-    salvaged.ok().expect(&rt, "memory");
+    salvage_two(&rt, alloc, taken, first, second);
 }
 
 /// Fails where something could be taken.
