@@ -2,7 +2,7 @@
 
 /// What decides whether the step at that place gets a row: whether it failed or has no end, and its length in
 /// microseconds.
-#[derive(Clone, Copy, Debug, PartialEq, Eq)]
+#[derive(Clone, Copy)]
 pub struct Candidate {
     pub marked: bool,
     pub length: u64,

@@ -1,7 +1,10 @@
 //! Reading a whole stream.
 
-ghost use Rattle.std.specs.Prelude.{IfSome};
+ghost use Rattle.std.specs.Prelude.{◌≡◌, Err, IfErr, IfSome, OnOk};
+ghost use Rattle.apply_lines.specs.Cut.{cut_lines};
 ghost use Rattle.apply_view.specs.Lines.{IsToldOf};
+ghost use Rattle.apply_view.specs.Telling.{nothing_told, told_of};
+ghost use Rattle.apply_view.specs.Viewing.{HasTold};
 
 use crate::told::stream_told::Told;
 use crate::told::view_fault::ViewFault;
@@ -23,20 +26,35 @@ pub fn read<R: BufRead>(alloc: Global, reader: &mut R) -> Result<Told, ViewFault
 {
     let mut viewer = Viewer::new(alloc);
     let mut line = Vec::new(alloc);
+    match take_lines(alloc, reader, &mut line, &mut viewer) {
+        Ok(()) => viewer.end(),
+        Err(fault) => Err(fault),
+    }
+}
+
+/// Lets a viewer take all lines, each in place of what `line` had. What it reads into is lent, so that no way out of the loop has
+/// anything to drop.
+fn take_lines<R: BufRead>(
+    alloc: Global,
+    reader: &mut R,
+    line: &mut Vec<u8>,
+    viewer: &mut Viewer,
+) -> Result<(), ViewFault>
+    requires { HasTold viewer.old nothing_told }
+    ensures told { OnOk result (IfSome (R.remaining reader.old)
+        (λ bytes. viewer.new.told ≡ told_of (cut_lines bytes))) }
+    ensures fault { IfErr result (λ fault. IfSome (R.remaining reader.old) (λ bytes. IsToldOf bytes (Err fault))) }
+{
     'lines: for before in 0..u64::MAX {
-        let next = match next_line(reader, &mut line) {
-            Ok(next) => next,
-            Err(fault) => return Err(ViewFault::from(fault)),
-        };
-        match next {
-            LineEnd::End => return viewer.end(),
+        match next_line(reader, line)? {
+            LineEnd::End => return Ok(()),
             LineEnd::TooLong => return Err(ViewFault::TooLong(before + 1)),
             LineEnd::Line { has_feed: _ } => {}
         }
         if viewer.is_full() {
             return Err(ViewFault::TooManyLines);
         }
-        match viewer.line(alloc, &line) {
+        match viewer.line(alloc, line) {
             Ok(()) => {}
             Err(fault) => return Err(fault),
         }

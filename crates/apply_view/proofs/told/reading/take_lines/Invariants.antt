@@ -1,5 +1,5 @@
 use Rattle.apply_view.proofs.FromReader.{Leads}
-use Rattle.apply_view.proofs.told.reading.read.Given as goal
+use Rattle.apply_view.proofs.told.reading.take_lines.Given as goal
 
 -- so many lines were told
 abbrev pub invariant-lines : goal.invariant-lines
