@@ -18,7 +18,7 @@ use crate::command::form::Form;
 use crate::command::object::{Object, message_tree};
 use crate::command::status::NOT_WHOLE;
 use crate::command::telling::told_line;
-use crate::command::texts::finding_text;
+use crate::command::texts::finding_line;
 use crate::command::told::Told;
 use crate::command::writing::write_line;
 use crate::rules::checker::Checker;
@@ -80,10 +80,7 @@ fn is_cut_off(line: &Line, fault: Fault) -> bool
 fn tell_text<E: Write>(alloc: Global, told: &Told<'_>, faults: &mut E) -> u8
     ensures { (result ≡ 3) ⊎ (result ≡ 4) }
 {
-    let Ok(text) = finding_text(alloc, told) else {
-        return refuse_memory(faults);
-    };
-    let Ok(line) = format!(in alloc; "applystream: {text}\n") else {
+    let Ok(line) = finding_line(alloc, told) else {
         return refuse_memory(faults);
     };
     let _ = faults.write_all(line.as_str().as_bytes());

@@ -1,7 +1,7 @@
 //! Verdicts as texts for people. What comes from the stream is shown with escapes, so that no stream steers a terminal or
 //! the log of a job.
 
-ghost use Rattle.std.specs.Prelude.{◌≡◌, ◌++◌, [], IfOk, OnOk, codes, decimal, false, if◌then◌else◌, string_bytes, true};
+ghost use Rattle.std.specs.Prelude.{◌≡◌, ◌++◌, [], IfOk, OnOk, codes, decimal, if◌then◌else◌, string_bytes};
 ghost use Rattle.apply_check.specs.Telling.{passed_text, totals_text, whole_text};
 
 use crate::command::object::Object;
@@ -10,7 +10,7 @@ use crate::messages::totals::Totals;
 use crate::rules::fault::Fault;
 use crate::rules::open_entry::OpenEntry;
 use crate::verdict::whole::Whole;
-use apply_shown::{front, shown, shown_within};
+use apply_shown::{front, push_shown, shown_within};
 use std::alloc::{AllocError, Global};
 
 /// How many bytes of one text of the stream are shown.
@@ -22,87 +22,106 @@ pub const LINE_FRONT: usize = 80;
 /// How many of the things that stand open are named.
 const MAX_OPEN: usize = 10;
 
-/// What is said of a stream that is not whole, behind `applystream: `.
-pub fn finding_text(alloc: Global, told: &Told<'_>) -> Result<String, AllocError> {
-    let finding = told.finding;
-    match finding.fault {
-        Fault::NotJson | Fault::NoType => unread_text(alloc, told),
+/// What is said of a stream that is not whole, as a line.
+pub fn finding_line(alloc: Global, told: &Told<'_>) -> Result<String, AllocError> {
+    let mut text = String::from_str(alloc, "applystream: ")?;
+    push_finding(alloc, &mut text, told)?;
+    push_details(alloc, &mut text, told)?;
+    text.push_str("\n")?;
+    Ok(text)
+}
+
+/// Adds the line and what is wrong with it.
+fn push_finding(alloc: Global, text: &mut String, told: &Told<'_>) -> Result<(), AllocError> {
+    if told.is_cut_off {
+        text.push_str("line ")?;
+        return push_count(alloc, text, told.finding.line, " is cut off");
+    }
+    let finding = told.finding.to_string(alloc)?;
+    text.push_str(finding.as_str())
+}
+
+/// Adds what else is known of it.
+fn push_details(alloc: Global, text: &mut String, told: &Told<'_>) -> Result<(), AllocError> {
+    match told.finding.fault {
+        Fault::NotJson | Fault::NoType => {
+            text.push_str(": ")?;
+            push_shown(text, front(told.text, LINE_FRONT))
+        }
         Fault::Unended => {
-            let open = open_text(alloc, told.open)?;
-            format!(in alloc; "{finding}: {open}")
+            text.push_str(": ")?;
+            push_open(alloc, text, told.open)
         }
         Fault::WrongTotals(says, counted) => {
-            let counts = counts_text(alloc, counted)?;
-            format!(in alloc;
-                "{finding}: says {} added, {} changed, {} destroyed, and {counts} were",
-                says.added, says.changed, says.removed
-            )
+            text.push_str(": says ")?;
+            push_totals(
+                alloc,
+                text,
+                says,
+                " added, ",
+                " changed, ",
+                " destroyed, and ",
+            )?;
+            push_totals(alloc, text, counted, ", ", ", ", " were")
         }
         Fault::WrongPlanTotals(says, counted) => {
-            let counts = counts_text(alloc, counted)?;
-            format!(in alloc;
-                "{finding}: says {} to add, {} to change, {} to destroy, and {counts} were planned",
-                says.added, says.changed, says.removed
-            )
+            text.push_str(": says ")?;
+            push_totals(
+                alloc,
+                text,
+                says,
+                " to add, ",
+                " to change, ",
+                " to destroy, and ",
+            )?;
+            push_totals(alloc, text, counted, ", ", ", ", " were planned")
         }
         _ => match told.object {
-            Some(object) => {
-                let object = object_text(alloc, object)?;
-                format!(in alloc; "{finding}: {object}")
-            }
-            None => format!(in alloc; "{finding}"),
+            Some(object) => push_object(alloc, text, object),
+            None => Ok(()),
         },
     }
 }
 
-/// What is said of a line that is not a message.
-fn unread_text(alloc: Global, told: &Told<'_>) -> Result<String, AllocError> {
-    let line = told.finding.line;
-    let text = shown(alloc, front(told.text, LINE_FRONT))?;
-    if told.is_cut_off {
-        format!(in alloc; "line {line} is cut off: {text}")
-    } else {
-        format!(in alloc; "line {line} is not a message: {text}")
-    }
+/// Adds a text of the stream as it is shown.
+fn push_text(alloc: Global, text: &mut String, said: &str) -> Result<(), AllocError> {
+    let shown = shown_within(alloc, MAX_SHOWN, said.as_bytes())?;
+    text.push_str(shown.as_str())
 }
 
-/// What a message is about.
-fn object_text(alloc: Global, object: Object<'_>) -> Result<String, AllocError> {
-    let word = shown_within(alloc, MAX_SHOWN, object.word().as_bytes())?;
-    let address = shown_within(alloc, MAX_SHOWN, object.address().as_bytes())?;
-    format!(in alloc; "{word} of {address}")
+/// Adds what a message is about.
+fn push_object(alloc: Global, text: &mut String, object: Object<'_>) -> Result<(), AllocError> {
+    text.push_str(": ")?;
+    push_text(alloc, text, object.word())?;
+    text.push_str(" of ")?;
+    push_text(alloc, text, object.address())
 }
 
-/// Three counts.
-fn counts_text(alloc: Global, totals: Totals) -> Result<String, AllocError> {
-    format!(in alloc; "{}, {}, {}", totals.added, totals.changed, totals.removed)
-}
-
-/// What stands open: by itself where it is one thing, else behind their number the first ten of them.
-fn open_text(alloc: Global, open: &[OpenEntry<'_>]) -> Result<String, AllocError> {
-    let mut text = String::new(alloc);
+/// Adds what stands open: by itself where it is one thing, else behind their number the first ten of them.
+fn push_open(alloc: Global, text: &mut String, open: &[OpenEntry<'_>]) -> Result<(), AllocError> {
     if open.len() != 1 {
-        push_count(alloc, &mut text, open.len() as u64, " stand open: ")?;
+        push_count(alloc, text, open.len() as u64, " stand open: ")?;
     }
     for (index, entry) in open.iter().take(MAX_OPEN).enumerate() {
         if index > 0 {
             text.push_str(", ")?;
         }
-        push_entry(alloc, &mut text, *entry)?;
+        push_entry(alloc, text, *entry)?;
     }
     if open.len() > MAX_OPEN {
         text.push_str(", and ")?;
-        push_count(alloc, &mut text, (open.len() - MAX_OPEN) as u64, " more")?;
+        push_count(alloc, text, (open.len() - MAX_OPEN) as u64, " more")?;
     }
-    Ok(text)
+    Ok(())
 }
 
 /// Adds one of the things that stand open.
 fn push_entry(alloc: Global, text: &mut String, entry: OpenEntry<'_>) -> Result<(), AllocError> {
-    let kind = entry.kind.word();
-    let address = shown_within(alloc, MAX_SHOWN, entry.address.as_bytes())?;
-    let line = entry.line;
-    text.push_str(format!(in alloc; "{kind} of {address} since line {line}")?.as_str())
+    text.push_str(entry.kind.word())?;
+    text.push_str(" of ")?;
+    push_text(alloc, text, entry.address)?;
+    text.push_str(" since line ")?;
+    push_count(alloc, text, entry.line, "")
 }
 
 /// What is said of a whole stream.
@@ -142,32 +161,45 @@ fn totals_text(alloc: Global, is_plan: bool, totals: Totals) -> Result<String, A
     ensures { IfOk result (λ text. string_bytes text ≡ totals_text is_plan totals) }
 {
     if is_plan {
-        planned_text(alloc, totals)
+        let mut text = String::from_str(alloc, "the plan's stream is whole: ")?;
+        push_totals(
+            alloc,
+            &mut text,
+            totals,
+            " to add, ",
+            " to change, ",
+            " to destroy",
+        )?;
+        Ok(text)
     } else {
-        done_text(alloc, totals)
+        let mut text = String::from_str(alloc, "the stream is whole: ")?;
+        push_totals(
+            alloc,
+            &mut text,
+            totals,
+            " added, ",
+            " changed, ",
+            " destroyed",
+        )?;
+        Ok(text)
     }
 }
 
-/// What was done.
-fn done_text(alloc: Global, totals: Totals) -> Result<String, AllocError>
-    ensures { IfOk result (λ text. string_bytes text ≡ totals_text false totals) }
+/// Adds three counts, and what stands behind each.
+fn push_totals(
+    alloc: Global,
+    text: &mut String,
+    totals: Totals,
+    behind_added: &str,
+    behind_changed: &str,
+    behind_removed: &str,
+) -> Result<(), AllocError>
+    ensures { OnOk result (string_bytes text.new ≡ string_bytes text.old ++ decimal totals.added ++ behind_added.now
+        ++ decimal totals.changed ++ behind_changed.now ++ decimal totals.removed ++ behind_removed.now) }
 {
-    let mut text = String::from_str(alloc, "the stream is whole: ")?;
-    push_count(alloc, &mut text, totals.added, " added, ")?;
-    push_count(alloc, &mut text, totals.changed, " changed, ")?;
-    push_count(alloc, &mut text, totals.removed, " destroyed")?;
-    Ok(text)
-}
-
-/// What is to be done.
-fn planned_text(alloc: Global, totals: Totals) -> Result<String, AllocError>
-    ensures { IfOk result (λ text. string_bytes text ≡ totals_text true totals) }
-{
-    let mut text = String::from_str(alloc, "the plan's stream is whole: ")?;
-    push_count(alloc, &mut text, totals.added, " to add, ")?;
-    push_count(alloc, &mut text, totals.changed, " to change, ")?;
-    push_count(alloc, &mut text, totals.removed, " to destroy")?;
-    Ok(text)
+    push_count(alloc, text, totals.added, behind_added)?;
+    push_count(alloc, text, totals.changed, behind_changed)?;
+    push_count(alloc, text, totals.removed, behind_removed)
 }
 
 /// Adds a count, and what stands behind it.
@@ -176,6 +208,5 @@ fn push_count(alloc: Global, text: &mut String, count: u64, behind: &str) -> Res
 {
     let count = count.to_string(alloc)?;
     text.push_str(count.as_str())?;
-    text.push_str(behind)?;
-    Ok(())
+    text.push_str(behind)
 }

@@ -8,82 +8,59 @@ use crate::messages::lack::Lack;
 use crate::messages::path::Path;
 use crate::messages::totals::Totals;
 use std::alloc::{AllocError, AllocFailed};
-use thiserror::Error;
+use std::error::Error;
+use std::fmt;
 
 /// Why a line does not fit behind the lines before it. The variants are tested in this order.
-#[derive(Clone, Copy, Debug, Drop, Error, PartialEq, Eq)]
+#[derive(Clone, Copy, Drop, PartialEq, Eq)]
 pub enum Fault {
     /// The line has more than 67,108,864 bytes.
-    #[error("is longer than 67108864 bytes")]
     TooLong,
     /// The line, or the message that begins in a line of a log, is no JSON (RFC 8259), or nested more than 127 deep.
-    #[error("is not a message")]
     NotJson,
     /// The line is no JSON object with a text `type`.
-    #[error("is not a message")]
     NoType,
     /// A member that its type has is missing, or is not what it has to be.
-    #[error("is malformed: {0} {1}")]
     Malformed(Path, Lack),
     /// The first message is not `version`.
-    #[error("comes before the version")]
     NoVersion,
     /// `version` stands a second time, behind that line.
-    #[error("repeats the version of line {0}")]
     VersionAgain(u64),
     /// A message about a step or a plan, or a summary, behind the summary of that line.
-    #[error("comes after the summary of line {0}")]
     AfterSummary(u64),
     /// The summary of a plan stands a second time, behind that line.
-    #[error("repeats the summary of a plan of line {0}")]
     PlanAgain(u64),
     /// Outputs where no summary came, or outputs came since.
-    #[error("has outputs that follow no summary")]
     OutputsAlone,
     /// A step starts that began on that line and has not ended.
-    #[error("starts again what line {0} started")]
     StartsAgain(u64),
     /// Too many steps of one address overlap; the first of them began on that line.
-    #[error("is one of more than 10000 that overlap since line {0}")]
     TooMany(u64),
     /// A step starts, and as many of its kind as were planned have begun.
-    #[error("begins one more than was planned")]
     NotPlanned,
     /// A message about a step that does not stand open.
-    #[error("tells of a step that is not open")]
     NotOpen,
     /// The seconds of a step do not rise: those of that line are not less.
-    #[error("tells of seconds that do not rise since line {0}")]
     NotLater(u64),
     /// An end leaves a provisioner that began on that line behind.
-    #[error("ends what the provisioner of line {0} runs in")]
     LeavesProvisioner(u64),
     /// A message about a provisioner where no create or delete of its address stands open.
-    #[error("tells of a provisioner outside of a create or a delete")]
     NoStep,
     /// A provisioner starts where one that began on that line runs.
-    #[error("starts a provisioner while that of line {0} runs")]
     ProvisionerRuns(u64),
     /// A message about a provisioner that does not run.
-    #[error("tells of a provisioner that does not run")]
     NoProvisioner,
     /// A step or a provisioner has not ended where it has to, or no error explained a failure.
-    #[error("comes before all has ended and each failure is explained")]
     Unended,
     /// The summary says the first totals, and the lines have the second.
-    #[error("has totals that do not agree")]
     WrongTotals(Totals, Totals),
     /// The summary of a plan says the first totals, and the second were planned.
-    #[error("has totals that do not agree")]
     WrongPlanTotals(Totals, Totals),
     /// The stream ends without a summary and without an error.
-    #[error("is the last, and no summary came")]
     NoEnd,
     /// The stream ends behind the summary of a plan, as that of a plan does.
-    #[error("is the last, and no summary of an apply came (--plan takes a plan's stream)")]
     NoApply,
     /// Memory was refused.
-    #[error("out of memory")]
     Memory,
 }
 
@@ -152,7 +129,68 @@ impl Fault {
             _ => None,
         }
     }
+
+    /// The text of the fault, up to the first thing that it names.
+    fn text(self) -> &'static str {
+        match self {
+            Fault::TooLong => "is longer than 67108864 bytes",
+            Fault::NotJson | Fault::NoType => "is not a message",
+            Fault::Malformed(..) => "is malformed: ",
+            Fault::NoVersion => "comes before the version",
+            Fault::VersionAgain(_) => "repeats the version of line ",
+            Fault::AfterSummary(_) => "comes after the summary of line ",
+            Fault::PlanAgain(_) => "repeats the summary of a plan of line ",
+            Fault::OutputsAlone => "has outputs that follow no summary",
+            Fault::StartsAgain(_) => "starts again what line ",
+            Fault::TooMany(_) => "is one of more than 10000 that overlap since line ",
+            Fault::NotPlanned => "begins one more than was planned",
+            Fault::NotOpen => "tells of a step that is not open",
+            Fault::NotLater(_) => "tells of seconds that do not rise since line ",
+            Fault::LeavesProvisioner(_) => "ends what the provisioner of line ",
+            Fault::NoStep => "tells of a provisioner outside of a create or a delete",
+            Fault::ProvisionerRuns(_) => "starts a provisioner while that of line ",
+            Fault::NoProvisioner => "tells of a provisioner that does not run",
+            Fault::Unended => "comes before all has ended and each failure is explained",
+            Fault::WrongTotals(..) | Fault::WrongPlanTotals(..) => "has totals that do not agree",
+            Fault::NoEnd => "is the last, and no summary came",
+            Fault::NoApply =>
+                "is the last, and no summary of an apply came (--plan takes a plan's stream)",
+            Fault::Memory => "out of memory",
+        }
+    }
+
+    /// The text of the fault behind the line that it names.
+    fn text_behind(self) -> &'static str {
+        match self {
+            Fault::StartsAgain(_) => " started",
+            Fault::LeavesProvisioner(_) => " runs in",
+            Fault::ProvisionerRuns(_) => " runs",
+            _ => "",
+        }
+    }
 }
+
+// By hand: a derived one is proved with a way out for each text.
+impl fmt::Display for Fault {
+    fn fmt<W: fmt::Write>(&self, f: &mut fmt::Formatter<W>) -> fmt::Result {
+        f.write_str(self.text())?;
+        match *self {
+            Fault::Malformed(path, lack) => write!(f, "{path} {lack}"),
+            _ => match self.other() {
+                Some(line) => write!(f, "{line}{}", self.text_behind()),
+                None => Ok(()),
+            },
+        }
+    }
+}
+
+impl fmt::Debug for Fault {
+    fn fmt<W: fmt::Write>(&self, f: &mut fmt::Formatter<W>) -> fmt::Result {
+        write!(f, "{self}")
+    }
+}
+
+impl Error for Fault {}
 
 impl From<AllocError> for Fault {
     ghost from_gives = { λ _ fault. fault ≡ Memory };
