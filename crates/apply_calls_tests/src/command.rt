@@ -1,28 +1,13 @@
-//! The command: its input, its words, and all of it.
+//! The words of the command.
 
-use crate::readers::ONE_CREATE;
-use crate::telling::{answer, begin, kept, lines};
-use apply_cli::{Settings, read_all, read_invocation, read_words, run_command, run_in_lanes};
-use apply_hooks::Registry;
-use apply_run::StdSink;
-use apply_text::{Operation, Start};
+use crate::telling::{answer, begin, kept};
+use apply_settings::{read_invocation, read_words};
 use std::alloc::Global;
 use std::io;
-use std::sync::Wait;
-use std::thread::Threads;
 
 /// Words, of which each stands alone.
 const WORDS: &str =
     "--halt-in module.a --halt-before read --workers 8 --queue 1 --script script.json --at 2021-05-25T13:32:41Z";
-
-/// Reads the input.
-pub fn all_bytes(rt: &impl Print, alloc: Global) -> io::Result<()> {
-    begin(rt)?;
-    match read_all(alloc, ONE_CREATE.as_bytes()) {
-        Ok(bytes) => println!(rt; "Ok {:?}", bytes.as_slice()),
-        Err(fault) => println!(rt; "Err({fault:?})"),
-    }
-}
 
 /// Adds a word, in a text of its own.
 fn push_word(alloc: Global, words: &mut Vec<String>, word: &str) -> io::Result<()> {
@@ -51,62 +36,4 @@ pub fn settings(rt: &impl Print, alloc: Global) -> io::Result<()> {
     let words = all_words(alloc)?;
     begin(rt)?;
     answer(rt, &read_words(alloc, words))
-}
-
-/// What no words say.
-fn defaults(alloc: Global) -> Settings {
-    Settings {
-        at: Start::zero(),
-        script: None,
-        workers: 1,
-        queue: 64,
-        operation: Operation::Apply,
-        halts: Vec::new(alloc),
-    }
-}
-
-/// Tells a status, and what was written.
-fn tell(rt: &impl Print, status: u8, written: Vec<u8>) -> io::Result<()> {
-    answer(rt, &status)?;
-    lines(rt, written.as_slice())
-}
-
-/// Runs the command on one create. What it says of faults stands before the answer.
-pub fn whole<R: Print + Threads + Wait + Sync>(rt: &R, alloc: Global) -> io::Result<()> {
-    let settings = kept(alloc, defaults(alloc))?;
-    let registry = kept(alloc, Registry::new(alloc))?;
-    begin(rt)?;
-    let output = StdSink::new(Vec::new(alloc));
-    let (input, mut faults) = (ONE_CREATE.as_bytes(), io::writer(rt));
-    let (output, status) = run_command(
-        rt,
-        alloc,
-        settings,
-        registry,
-        None,
-        input,
-        output,
-        &mut faults,
-    );
-    tell(rt, status, output.into_inner())
-}
-
-/// Runs one create with two changes under way at once. What it says of faults stands before the answer.
-pub fn in_lanes(rt: &impl Print, alloc: Global) -> io::Result<()> {
-    let settings = kept(alloc, defaults(alloc))?;
-    let registry = kept(alloc, Registry::new(alloc))?;
-    begin(rt)?;
-    let output = StdSink::new(Vec::new(alloc));
-    let (input, mut faults) = (ONE_CREATE.as_bytes(), io::writer(rt));
-    let (output, status) = run_in_lanes(
-        alloc,
-        settings,
-        2,
-        registry,
-        None,
-        input,
-        output,
-        &mut faults,
-    );
-    tell(rt, status, output.into_inner())
 }

@@ -1,2 +1,1 @@
 pub mod Halting
-pub mod Scripts

@@ -10,18 +10,12 @@ ghost use Rattle.apply_events_tests.specs.Halting.{halting};
 mod asking;
 mod changes;
 mod counting;
-mod deletes;
 mod fitting;
 mod lanes;
-mod notes;
 mod outputs;
-mod provisioners;
-mod skipped;
-mod warned;
 
 use apply_events::{Counts, Event, LATEST, Lanes, Runner, What, fits, is_of_plan};
 use apply_hooks::{FnHook, HookCall, HookClosure, Phase, Registry, Rules, Verdict};
-use apply_model::{Diag, Text};
 use apply_plan::{Plan, Script, StepKind, read_plan, read_script};
 use std::alloc::Global;
 use std::fmt::Debug;
@@ -88,6 +82,12 @@ fn push(rt: &impl Abort, text: &mut String, piece: &str) {
     text.push_str(piece).expect(rt, "memory");
 }
 
+/// Adds what `Debug` prints of a value, and what stands behind it.
+fn push_value(rt: &impl Abort, alloc: Global, text: &mut String, value: &impl Debug, behind: &str) {
+    push(rt, text, printed(rt, alloc, value));
+    push(rt, text, behind);
+}
+
 /// What stands before the first mark of a row, and behind it.
 fn parted<'a>(rt: &impl Abort, row: &'a str) -> (&'a str, &'a str) {
     row.split_once(" => ").expect(rt, "a mark")
@@ -97,21 +97,6 @@ fn parted<'a>(rt: &impl Abort, row: &'a str) -> (&'a str, &'a str) {
 fn put(rt: &impl Abort, alloc: Global, text: &str, cell: &str) -> &'static str {
     let text = text.replace(alloc, "CELL", cell).expect(rt, "memory");
     kept(rt, alloc, text).as_str()
-}
-
-/// A copy of a text.
-fn copied(rt: &impl Abort, alloc: Global, text: &str) -> Text {
-    Text::new(alloc, text).ok().expect(rt, "memory")
-}
-
-/// A diagnostic with that summary.
-fn diag(rt: &impl Abort, alloc: Global, summary: &str) -> Diag {
-    Diag {
-        summary: copied(rt, alloc, summary),
-        detail: copied(rt, alloc, ""),
-        range: None,
-        snippet: None,
-    }
 }
 
 /// The plan of that text.
@@ -139,122 +124,88 @@ fn script_of(rt: &impl Abort, alloc: Global, plan: &Plan, steps: &str) -> &'stat
     script_in(rt, alloc, plan, put(rt, alloc, SCRIPT, steps))
 }
 
-/// Adds all events that a runner gives. When its change has ended.
-fn add_events(rt: &impl Abort, all: &mut Vec<Event>, mut runner: Runner<'_>) -> u64 {
+/// All events that a runner gives.
+fn all_events(rt: &impl Abort, alloc: Global, mut runner: Runner<'_>) -> &'static [Event] {
+    let mut all = Vec::new(alloc);
     while let Some(event) = runner.next() {
         all.push(event).ok().expect(rt, "memory");
     }
-    runner.ended_at()
-}
-
-/// All events that a runner gives.
-fn all_events(rt: &impl Abort, alloc: Global, runner: Runner<'_>) -> &'static [Event] {
-    let mut all = Vec::new(alloc);
-    let _ended_at = add_events(rt, &mut all, runner);
     kept(rt, alloc, all).as_slice()
 }
 
-/// Adds when and in which step what happens to the first change. Fails where another worker than 3 tells it.
+/// Adds the moment, the worker or the lane, the change with its step, and what happens.
 fn push_event(rt: &impl Abort, alloc: Global, text: &mut String, event: &Event) {
-    number_is(rt, "worker", event.worker as u64, 3);
-    number_is(rt, "change", event.change as u64, 0);
-    push(rt, text, printed(rt, alloc, &event.at));
-    push(rt, text, " step ");
-    push(rt, text, printed(rt, alloc, &event.step));
-    push(rt, text, " ");
-    push(rt, text, printed(rt, alloc, &event.what));
-    push(rt, text, "; ");
+    push_value(rt, alloc, text, &event.at, " ");
+    push_value(rt, alloc, text, &event.worker, " ");
+    push_value(rt, alloc, text, &event.change, ".");
+    push_value(rt, alloc, text, &event.step, " ");
+    push_value(rt, alloc, text, &event.what, "; ");
 }
 
-/// All events of the first change, begun at 0: of each the moment, the step, and what happens.
-fn told(
+/// Adds when the change has ended so far, where that is another moment than before, and which step begins next, if any does.
+/// That moment.
+fn push_stand(
+    rt: &impl Abort,
+    alloc: Global,
+    text: &mut String,
+    runner: &Runner<'_>,
+    before: u64,
+) -> u64 {
+    let ended = runner.ended_at();
+    if ended != before {
+        push(rt, text, "ended ");
+        push_value(rt, alloc, text, &ended, "; ");
+    }
+    if let Some(step) = runner.begins() {
+        push(rt, text, "begins ");
+        push_value(rt, alloc, text, &step, "; ");
+    }
+    ended
+}
+
+/// All events of a change that begins at that moment, and how it stands between them.
+fn told(rt: &impl Abort, alloc: Global, mut runner: Runner<'_>, begin: u64) -> &'static str {
+    let mut text = String::new(alloc);
+    let mut ended = push_stand(rt, alloc, &mut text, &runner, begin);
+    while let Some(event) = runner.next() {
+        push_event(rt, alloc, &mut text, &event);
+        ended = push_stand(rt, alloc, &mut text, &runner, ended);
+    }
+    holds(rt, "nothing behind the last event", runner.next().is_none());
+    kept(rt, alloc, text).as_str()
+}
+
+/// Fails where the one change of the plan, which worker 7 begins at that moment, is told otherwise.
+fn is_told(
     rt: &impl Abort,
     alloc: Global,
     plan: &Plan,
     script: &Script,
     registry: &Registry,
-) -> &'static str {
-    holds(rt, "a change", plan.len() > 0);
-    let mut text = String::new(alloc);
-    for event in all_events(rt, alloc, Runner::start(plan, script, registry, 3, 0, 0)) {
-        push_event(rt, alloc, &mut text, event);
-    }
-    kept(rt, alloc, text).as_str()
-}
-
-/// Fails where the change with those actions, whose steps the script tells so, has other events.
-fn tells(
-    rt: &impl Abort,
-    alloc: Global,
-    actions: &str,
-    steps: &str,
-    registry: &Registry,
+    begin: u64,
     wanted: &str,
 ) {
-    let plan = plan_of(rt, alloc, actions);
-    let script = script_of(rt, alloc, plan, steps);
-    let found = told(rt, alloc, plan, script, registry);
-    text_is(rt, steps, found.trim_end(), wanted);
+    holds(rt, "one change", plan.len() == 1);
+    holds(rt, "in time", begin <= LAST_BEGIN);
+    let runner = Runner::start(plan, script, registry, 7, 0, begin);
+    text_is(
+        rt,
+        wanted,
+        told(rt, alloc, runner, begin).trim_end(),
+        wanted,
+    );
 }
 
-/// Fails where the change with those actions is told otherwise under the script.
-fn tells_by(rt: &impl Abort, alloc: Global, actions: &str, script: &Script, wanted: &str) {
-    let registry = Registry::new(alloc);
-    let found = told(rt, alloc, plan_of(rt, alloc, actions), script, &registry);
-    text_is(rt, actions, found.trim_end(), wanted);
-}
-
-/// Fails where a row of a table has other events: the actions, the steps, and the events.
-fn rows_are_told(rt: &impl Abort, alloc: Global, registry: &Registry, table: &str) {
+/// Fails where a row of a table is told otherwise: the actions, the steps, and the events of a change that begins at that
+/// moment.
+fn rows_are_told(rt: &impl Abort, alloc: Global, registry: &Registry, begin: u64, table: &str) {
     for row in table.lines() {
         let (actions, rest) = parted(rt, row);
         let (steps, wanted) = parted(rt, rest);
-        tells(rt, alloc, actions, steps, registry, wanted);
+        let plan = plan_of(rt, alloc, actions);
+        let script = script_of(rt, alloc, plan, steps);
+        is_told(rt, alloc, plan, script, registry, begin, wanted);
     }
-}
-
-/// Adds which step begins next, if any, and when the change has ended so far.
-fn push_stand(rt: &impl Abort, alloc: Global, text: &mut String, runner: &Runner<'_>) {
-    if let Some(step) = runner.begins() {
-        push(rt, text, "begins ");
-        push(rt, text, printed(rt, alloc, &step));
-        push(rt, text, " ");
-    }
-    push(rt, text, "ended ");
-    push(rt, text, printed(rt, alloc, &runner.ended_at()));
-    push(rt, text, "\n");
-}
-
-/// How it stands before, between and behind the events of a change, a line for each: the moment, the worker, the change
-/// with its step and what happens, and then how it stands.
-fn stands_of(rt: &impl Abort, alloc: Global, mut runner: Runner<'_>) -> &'static str {
-    let mut text = String::new(alloc);
-    push_stand(rt, alloc, &mut text, &runner);
-    while let Some(event) = runner.next() {
-        lanes::push_event(rt, alloc, &mut text, &event);
-        push_stand(rt, alloc, &mut text, &runner);
-    }
-    holds(rt, "nothing behind the last event", runner.next().is_none());
-    push_stand(rt, alloc, &mut text, &runner);
-    kept(rt, alloc, text).as_str()
-}
-
-/// Fails where it stands otherwise with the change that has those actions and steps, which worker 7 begins at that moment.
-fn stands(
-    rt: &impl Abort,
-    alloc: Global,
-    actions: &str,
-    steps: &str,
-    registry: &Registry,
-    at: u64,
-    wanted: &str,
-) {
-    let plan = plan_of(rt, alloc, actions);
-    let script = script_of(rt, alloc, plan, steps);
-    holds(rt, "one change", plan.len() == 1);
-    holds(rt, "in time", at <= LAST_BEGIN);
-    let runner = Runner::start(plan, script, registry, 7, 0, at);
-    text_is(rt, steps, stands_of(rt, alloc, runner), wanted);
 }
 
 /// A list of one rule, which halts steps of that kind in that phase, or of each kind.
@@ -314,5 +265,5 @@ fn rows_are_told_under(rt: &impl Abort, alloc: Global, hooks: &Hooks, table: &st
         .expect(rt, "memory");
         add_hook(rt, &mut registry, rules, answer);
     }
-    rows_are_told(rt, alloc, &registry, table);
+    rows_are_told(rt, alloc, &registry, 0, table);
 }

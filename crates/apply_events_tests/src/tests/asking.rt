@@ -1,67 +1,6 @@
-//! The events of a change under hooks, and when the hooks are asked.
+//! How often hooks are asked.
 
 use super::*;
-
-/// Under three hooks, of which the second and the third halt deletes before they start: the second is told.
-const BEFORE: &str = r#"["delete","create"] => no script => 0 step 0 Halted { phase: Pre, hook: 1 };
-["create","delete"] => no script => 0 step 0 Start; 0 step 0 Complete(0); 0 step 1 Halted { phase: Pre, hook: 1 };"#;
-
-#[test]
-fn hooks_halt_before_a_step(rt: HostRuntime) {
-    let hooks = Hooks {
-        quiet: 1,
-        halting: 2,
-        phase: Phase::Pre,
-        kind: Some(StepKind::Delete),
-    };
-    rows_are_told_under(&rt, rt.alloc(), &hooks, BEFORE);
-}
-
-/// Under a hook that halts what has failed.
-const AFTER_A_FAILURE: &str =
-    r#"["create"] => [{"seconds":5,"failed":{"summary":"boom"}}] => 0 step 0 Start; 5 step 0 Errored(5); 5 step 0 ErrorNote; 5 step 0 Halted { phase: PostFailed, hook: 0 };
-["create"] => [{"seconds":5}] => 0 step 0 Start; 5 step 0 Complete(5);"#;
-
-#[test]
-fn hooks_halt_after_a_failed_step(rt: HostRuntime) {
-    let hooks = Hooks {
-        quiet: 0,
-        halting: 1,
-        phase: Phase::PostFailed,
-        kind: None,
-    };
-    rows_are_told_under(&rt, rt.alloc(), &hooks, AFTER_A_FAILURE);
-}
-
-/// How it stands between the events of a replacement whose first step takes a second, and is halted after it.
-const BEFORE_THE_HALT: &str = "begins 0 ended 0
-0 7 0.0 Start; ended 0
-1 7 0.0 Complete(1); ended 0
-1 7 0.0 Halted { phase: PostDone, hook: 0 }; ended 1
-ended 1
-";
-
-#[test]
-fn hooks_halt_between_the_steps_of_a_replacement(rt: HostRuntime) {
-    let alloc = rt.alloc();
-    let mut registry = Registry::new(alloc);
-    let rules = halting(&rt, alloc, Phase::PostDone, Some(StepKind::Delete));
-    let answer: HookClosure = Box::new(alloc, |call: &HookCall<'_>| {
-        halts(call, Phase::PostDone, Some(StepKind::Delete))
-    })
-    .expect(&rt, "memory");
-    add_hook(&rt, &mut registry, rules, answer);
-    let steps = r#"[{"seconds":1},{"seconds":2}]"#;
-    stands(
-        &rt,
-        alloc,
-        REPLACEMENT,
-        steps,
-        &registry,
-        0,
-        BEFORE_THE_HALT,
-    );
-}
 
 /// Fails where the closure was asked another number of times so far, before looking at the runner or after.
 fn asked_are(rt: &impl Abort, calls: &AtomicU64, runner: &Runner<'_>, asked: u64) {
@@ -114,7 +53,7 @@ fn asked_in_a_lane(
 
 /// A stored closure is asked once for each phase of each step: before the step by the call that gives its first event,
 /// after it by the call that gives the last event that comes whatever the hooks say. Lanes ask it once more, when they
-/// start.
+/// start. It is not asked of a step that is skipped.
 #[test]
 fn hooks_are_asked_once_for_each_phase(rt: HostRuntime) {
     let alloc = rt.alloc();
@@ -132,4 +71,15 @@ fn hooks_are_asked_once_for_each_phase(rt: HostRuntime) {
     asked_along(&rt, plan, script, &registry, &calls);
     calls.store(0, Ordering::SeqCst);
     asked_in_a_lane(&rt, alloc, plan, script, &registry, &calls);
+    calls.store(0, Ordering::SeqCst);
+    let skipped = script_of(&rt, alloc, plan, r#"[{"skipped":true},{"seconds":5}]"#);
+    is_told(&rt, alloc, plan, skipped, &registry, 0, "");
+    let given = lanes::lane_events(&rt, alloc, plan, skipped, &registry, 2);
+    holds(&rt, "no event in lanes", given.is_empty());
+    number_is(
+        &rt,
+        "asked of a skipped step",
+        calls.load(Ordering::SeqCst),
+        0,
+    );
 }

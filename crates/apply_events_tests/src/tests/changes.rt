@@ -1,111 +1,168 @@
-//! The events of a change, without hooks.
+//! The events of a change, and how it stands between them.
 
 use super::*;
 
-/// A change's actions, the steps of its script, and its events, for each row.
+/// A change's actions, the steps of its script, and its events with how it stands, for each row: the step that begins next,
+/// and when the change has ended so far.
 const WORKED: &str =
-    r#"["delete","create"] => [{"seconds":1},{"seconds":2,"id":"42"}] => 0 step 0 Start; 1 step 0 Complete(1); 1 step 1 Start; 3 step 1 Complete(2);
-["create","delete"] => [{"seconds":0},{"seconds":4,"failed":{"summary":"boom"}}] => 0 step 0 Start; 0 step 0 Complete(0); 0 step 1 Start; 4 step 1 Errored(4); 4 step 1 ErrorNote;
-["delete","create"] => [{"seconds":4,"failed":{"summary":"boom"}}] => 0 step 0 Start; 4 step 0 Errored(4); 4 step 0 ErrorNote;
-["update"] => [{"seconds":25}] => 0 step 0 Start; 10 step 0 Progress(10); 20 step 0 Progress(20); 25 step 0 Complete(25);
-["update"] => [{"seconds":10}] => 0 step 0 Start; 10 step 0 Complete(10);
-["update"] => [{"seconds":11}] => 0 step 0 Start; 10 step 0 Progress(10); 11 step 0 Complete(11);
-["update"] => [{"seconds":0,"id":"i-1","warning":{"summary":"slow"}}] => 0 step 0 Start; 0 step 0 Complete(0); 0 step 0 WarnNote;
-["delete","create"] => [{"seconds":1,"warning":{"summary":"slow"}},{"seconds":2}] => 0 step 0 Start; 1 step 0 Complete(1); 1 step 0 WarnNote; 1 step 1 Start; 3 step 1 Complete(2);
-["read"] => [] => 0 step 0 Start; 0 step 0 Complete(0);
+    r#"["delete","create"] => [{"seconds":1},{"seconds":2,"id":"42"}] => begins 0; 0 7 0.0 Start; 1 7 0.0 Complete(1); ended 1; begins 1; 1 7 0.1 Start; 3 7 0.1 Complete(2); ended 3;
+["create","delete"] => [{"seconds":0},{"seconds":4,"failed":{"summary":"boom"}}] => begins 0; 0 7 0.0 Start; 0 7 0.0 Complete(0); begins 1; 0 7 0.1 Start; 4 7 0.1 Errored(4); 4 7 0.1 ErrorNote; ended 4;
+["delete","create"] => [{"seconds":4,"failed":{"summary":"boom"}}] => begins 0; 0 7 0.0 Start; 4 7 0.0 Errored(4); 4 7 0.0 ErrorNote; ended 4;
+["update"] => [{"seconds":25}] => begins 0; 0 7 0.0 Start; 10 7 0.0 Progress(10); 20 7 0.0 Progress(20); 25 7 0.0 Complete(25); ended 25;
+["update"] => [{"seconds":10}] => begins 0; 0 7 0.0 Start; 10 7 0.0 Complete(10); ended 10;
+["update"] => [{"seconds":11}] => begins 0; 0 7 0.0 Start; 10 7 0.0 Progress(10); 11 7 0.0 Complete(11); ended 11;
+["update"] => [{"seconds":0,"id":"i-1","warning":{"summary":"slow"}}] => begins 0; 0 7 0.0 Start; 0 7 0.0 Complete(0); 0 7 0.0 WarnNote;
+["delete","create"] => [{"seconds":1,"warning":{"summary":"slow"}},{"seconds":2}] => begins 0; 0 7 0.0 Start; 1 7 0.0 Complete(1); 1 7 0.0 WarnNote; ended 1; begins 1; 1 7 0.1 Start; 3 7 0.1 Complete(2); ended 3;
+["read"] => [] => begins 0; 0 7 0.0 Start; 0 7 0.0 Complete(0);
 ["no-op"] => [] => 
 ["forget"] => [] => "#;
+
+/// The same of creates with provisioners. One that fails leaves the rest of its change undone.
+const PROVISIONED: &str =
+    r#"["create"] => [{"seconds":4,"id":"7","provisioners":[{"provisioner":"local-exec","seconds":12,"output":["hi"]}]}] => begins 0; 0 7 0.0 Start; 4 7 0.0 ProvisionStart(0); 10 7 0.0 Progress(10); 16 7 0.0 ProvisionOutput { prov: 0, line: 0 }; 16 7 0.0 ProvisionComplete(0); 16 7 0.0 Complete(16); ended 16;
+["create"] => [{"seconds":1,"provisioners":[{"provisioner":"a","seconds":2,"failed":{"summary":"boom"}},{"provisioner":"b","seconds":3}]}] => begins 0; 0 7 0.0 Start; 1 7 0.0 ProvisionStart(0); 3 7 0.0 ProvisionErrored(0); 3 7 0.0 Errored(3); 3 7 0.0 ErrorNote; ended 3;
+["create"] => [{"seconds":10,"provisioners":[{"provisioner":"a","seconds":5}]}] => begins 0; 0 7 0.0 Start; 10 7 0.0 Progress(10); 10 7 0.0 ProvisionStart(0); 15 7 0.0 ProvisionComplete(0); 15 7 0.0 Complete(15); ended 15;
+["create"] => [{"seconds":10,"provisioners":[{"provisioner":"a","seconds":0}]}] => begins 0; 0 7 0.0 Start; 10 7 0.0 ProvisionStart(0); 10 7 0.0 ProvisionComplete(0); 10 7 0.0 Complete(10); ended 10;
+["create"] => [{"seconds":0,"provisioners":[{"provisioner":"a","seconds":0},{"provisioner":"b","seconds":0,"output":["",""]}]}] => begins 0; 0 7 0.0 Start; 0 7 0.0 ProvisionStart(0); 0 7 0.0 ProvisionComplete(0); 0 7 0.0 ProvisionStart(1); 0 7 0.0 ProvisionOutput { prov: 1, line: 0 }; 0 7 0.0 ProvisionOutput { prov: 1, line: 1 }; 0 7 0.0 ProvisionComplete(1); 0 7 0.0 Complete(0);
+["create"] => [{"seconds":3,"provisioners":[{"provisioner":"a","seconds":7,"output":["x"]},{"provisioner":"b","seconds":1}]}] => begins 0; 0 7 0.0 Start; 3 7 0.0 ProvisionStart(0); 10 7 0.0 Progress(10); 10 7 0.0 ProvisionOutput { prov: 0, line: 0 }; 10 7 0.0 ProvisionComplete(0); 10 7 0.0 ProvisionStart(1); 11 7 0.0 ProvisionComplete(1); 11 7 0.0 Complete(11); ended 11;
+["create"] => [{"seconds":9,"provisioners":[{"provisioner":"a","seconds":2},{"provisioner":"b","seconds":30}]}] => begins 0; 0 7 0.0 Start; 9 7 0.0 ProvisionStart(0); 10 7 0.0 Progress(10); 11 7 0.0 ProvisionComplete(0); 11 7 0.0 ProvisionStart(1); 20 7 0.0 Progress(20); 30 7 0.0 Progress(30); 40 7 0.0 Progress(40); 41 7 0.0 ProvisionComplete(1); 41 7 0.0 Complete(41); ended 41;
+["create"] => [{"seconds":25,"provisioners":[{"provisioner":"a","seconds":5}]}] => begins 0; 0 7 0.0 Start; 10 7 0.0 Progress(10); 20 7 0.0 Progress(20); 25 7 0.0 ProvisionStart(0); 30 7 0.0 ProvisionComplete(0); 30 7 0.0 Complete(30); ended 30;
+["create"] => [{"seconds":1,"warning":{"summary":"slow"},"provisioners":[{"provisioner":"a","seconds":1}]}] => begins 0; 0 7 0.0 Start; 1 7 0.0 ProvisionStart(0); 2 7 0.0 ProvisionComplete(0); 2 7 0.0 Complete(2); 2 7 0.0 WarnNote; ended 2;
+["create"] => [{"seconds":1,"warning":{"summary":"slow"},"provisioners":[{"provisioner":"a","seconds":0},{"provisioner":"b","seconds":1,"output":["x","y"],"failed":{"summary":"boom"}},{"provisioner":"c","seconds":9}]}] => begins 0; 0 7 0.0 Start; 1 7 0.0 ProvisionStart(0); 1 7 0.0 ProvisionComplete(0); 1 7 0.0 ProvisionStart(1); 2 7 0.0 ProvisionOutput { prov: 1, line: 0 }; 2 7 0.0 ProvisionOutput { prov: 1, line: 1 }; 2 7 0.0 ProvisionErrored(1); 2 7 0.0 Errored(2); 2 7 0.0 ErrorNote; ended 2;
+["create"] => [{"seconds":0,"provisioners":[{"provisioner":"a","seconds":9,"failed":{"summary":"boom"}},{"provisioner":"b","seconds":86391}]}] => begins 0; 0 7 0.0 Start; 0 7 0.0 ProvisionStart(0); 9 7 0.0 ProvisionErrored(0); 9 7 0.0 Errored(9); 9 7 0.0 ErrorNote; ended 9;
+["create","delete"] => [{"seconds":1,"provisioners":[{"provisioner":"a","seconds":1,"failed":{"summary":"boom"}}]},{"seconds":9}] => begins 0; 0 7 0.0 Start; 1 7 0.0 ProvisionStart(0); 2 7 0.0 ProvisionErrored(0); 2 7 0.0 Errored(2); 2 7 0.0 ErrorNote; ended 2;
+["create","delete"] => [{"seconds":1,"provisioners":[{"provisioner":"a","seconds":1}]},{"seconds":2}] => begins 0; 0 7 0.0 Start; 1 7 0.0 ProvisionStart(0); 2 7 0.0 ProvisionComplete(0); 2 7 0.0 Complete(2); ended 2; begins 1; 2 7 0.1 Start; 4 7 0.1 Complete(2); ended 4;"#;
+
+/// Deletes with provisioners, and such as may fail: in a delete they run before the provider, in a create behind it. One that
+/// makes the delete fail leaves the rest undone. Progress comes within a provisioner, and behind the last one.
+const OF_DELETES: &str =
+    r#"["delete"] => [{"seconds":9,"provisioners":[{"provisioner":"local-exec","seconds":2,"output":["bye"],"failed":{"summary":"boom"},"on_failure":"continue"},{"provisioner":"local-exec","seconds":1,"output":["bye"]}]}] => begins 0; 0 7 0.0 Start; 0 7 0.0 ProvisionStart(0); 2 7 0.0 ProvisionOutput { prov: 0, line: 0 }; 2 7 0.0 ProvisionErrored(0); 2 7 0.0 ProvisionStart(1); 3 7 0.0 ProvisionOutput { prov: 1, line: 0 }; 3 7 0.0 ProvisionComplete(1); 10 7 0.0 Progress(10); 12 7 0.0 Complete(12); ended 12;
+["create"] => [{"seconds":9,"provisioners":[{"provisioner":"local-exec","seconds":2,"output":["bye"],"failed":{"summary":"boom"},"on_failure":"continue"},{"provisioner":"local-exec","seconds":1,"output":["bye"]}]}] => begins 0; 0 7 0.0 Start; 9 7 0.0 ProvisionStart(0); 10 7 0.0 Progress(10); 11 7 0.0 ProvisionOutput { prov: 0, line: 0 }; 11 7 0.0 ProvisionErrored(0); 11 7 0.0 ProvisionStart(1); 12 7 0.0 ProvisionOutput { prov: 1, line: 0 }; 12 7 0.0 ProvisionComplete(1); 12 7 0.0 Complete(12); ended 12;
+["delete"] => [{"seconds":5,"provisioners":[{"provisioner":"local-exec","seconds":3,"output":["bye"],"failed":{"summary":"boom"}},{"provisioner":"local-exec","seconds":4,"output":["bye"]}]}] => begins 0; 0 7 0.0 Start; 0 7 0.0 ProvisionStart(0); 3 7 0.0 ProvisionOutput { prov: 0, line: 0 }; 3 7 0.0 ProvisionErrored(0); 3 7 0.0 Errored(3); 3 7 0.0 ErrorNote; ended 3;
+["delete"] => [{"seconds":25,"provisioners":[{"provisioner":"local-exec","seconds":0,"output":["bye"],"on_failure":"continue"},{"provisioner":"local-exec","seconds":15,"output":["bye"]}]}] => begins 0; 0 7 0.0 Start; 0 7 0.0 ProvisionStart(0); 0 7 0.0 ProvisionOutput { prov: 0, line: 0 }; 0 7 0.0 ProvisionComplete(0); 0 7 0.0 ProvisionStart(1); 10 7 0.0 Progress(10); 15 7 0.0 ProvisionOutput { prov: 1, line: 0 }; 15 7 0.0 ProvisionComplete(1); 20 7 0.0 Progress(20); 30 7 0.0 Progress(30); 40 7 0.0 Complete(40); ended 40;"#;
+
+/// Outputs in their seconds, at one moment behind the progress.
+const OUTPUTS: &str =
+    r#"["create"] => [{"seconds":3,"provisioners":[{"provisioner":"local-exec","seconds":12,"output":[{"after":0,"text":"hi"},{"after":7,"text":"hi"},{"after":12,"text":"hi"},{"after":12,"text":"hi"}]}]}] => begins 0; 0 7 0.0 Start; 3 7 0.0 ProvisionStart(0); 3 7 0.0 ProvisionOutput { prov: 0, line: 0 }; 10 7 0.0 Progress(10); 10 7 0.0 ProvisionOutput { prov: 0, line: 1 }; 15 7 0.0 ProvisionOutput { prov: 0, line: 2 }; 15 7 0.0 ProvisionOutput { prov: 0, line: 3 }; 15 7 0.0 ProvisionComplete(0); 15 7 0.0 Complete(15); ended 15;
+["delete"] => [{"seconds":3,"provisioners":[{"provisioner":"local-exec","seconds":12,"output":[{"after":0,"text":"hi"},{"after":7,"text":"hi"},{"after":12,"text":"hi"},{"after":12,"text":"hi"}]}]}] => begins 0; 0 7 0.0 Start; 0 7 0.0 ProvisionStart(0); 0 7 0.0 ProvisionOutput { prov: 0, line: 0 }; 7 7 0.0 ProvisionOutput { prov: 0, line: 1 }; 10 7 0.0 Progress(10); 12 7 0.0 ProvisionOutput { prov: 0, line: 2 }; 12 7 0.0 ProvisionOutput { prov: 0, line: 3 }; 12 7 0.0 ProvisionComplete(0); 15 7 0.0 Complete(15); ended 15;
+["create"] => [{"seconds":10,"provisioners":[{"provisioner":"local-exec","seconds":25,"output":[{"after":0,"text":"hi"},{"after":10,"text":"hi"},{"after":25,"text":"hi"},{"after":25,"text":"hi"}]}]}] => begins 0; 0 7 0.0 Start; 10 7 0.0 Progress(10); 10 7 0.0 ProvisionStart(0); 10 7 0.0 ProvisionOutput { prov: 0, line: 0 }; 20 7 0.0 Progress(20); 20 7 0.0 ProvisionOutput { prov: 0, line: 1 }; 30 7 0.0 Progress(30); 35 7 0.0 ProvisionOutput { prov: 0, line: 2 }; 35 7 0.0 ProvisionOutput { prov: 0, line: 3 }; 35 7 0.0 ProvisionComplete(0); 35 7 0.0 Complete(35); ended 35;"#;
+
+/// A change ends before the first step that is skipped.
+const SKIPPED: &str =
+    r#"["delete","create"] => [{"seconds":3},{"skipped":true}] => begins 0; 0 7 0.0 Start; 3 7 0.0 Complete(3); ended 3;
+["delete","create"] => [{"skipped":true},{"seconds":5}] => 
+["delete","create"] => [{"skipped":true},{"skipped":true}] => 
+["create"] => [{"skipped":true}] => "#;
+
+/// A read that only warns has the warning in place of an end.
+const WARNED: &str =
+    r#"["read"] => [{"seconds":11,"failed":{"severity":"warning","summary":"no"}}] => begins 0; 0 7 0.0 Start; 10 7 0.0 Progress(10); 11 7 0.0 WarnNote; ended 11;
+["read"] => [{"seconds":0,"failed":{"severity":"warning","summary":"no"}}] => begins 0; 0 7 0.0 Start; 0 7 0.0 WarnNote;"#;
 
 #[test]
 fn worked_changes(rt: HostRuntime) {
     let alloc = rt.alloc();
-    rows_are_told(&rt, alloc, &Registry::new(alloc), WORKED);
+    let none = Registry::new(alloc);
+    rows_are_told(&rt, alloc, &none, 0, WORKED);
+    rows_are_told(&rt, alloc, &none, 0, PROVISIONED);
+    rows_are_told(&rt, alloc, &none, 0, OF_DELETES);
+    rows_are_told(&rt, alloc, &none, 0, OUTPUTS);
+    rows_are_told(&rt, alloc, &none, 0, SKIPPED);
+    rows_are_told(&rt, alloc, &none, 0, WARNED);
 }
 
-/// How much progress is told behind the event, of which so much was told before. Fails where it is not told each ten
-/// seconds, when it has come.
-fn told_behind(rt: &impl Abort, event: &Event, told: u64) -> u64 {
-    let What::Progress(seconds) = event.what else {
-        return told;
-    };
-    let told = told.wrapping_add(1);
-    number_is(rt, "the seconds", seconds as u64, told.wrapping_mul(10));
-    number_is(rt, "the moment", event.at, seconds as u64);
-    told
-}
+/// A replacement that begins at 5.
+const FROM_5: &str =
+    r#"["delete","create"] => [{"seconds":11},{"seconds":2,"warning":{"summary":"slow"}}] => begins 0; 5 7 0.0 Start; 15 7 0.0 Progress(10); 16 7 0.0 Complete(11); ended 16; begins 1; 16 7 0.1 Start; 18 7 0.1 Complete(2); 18 7 0.1 WarnNote; ended 18;"#;
 
-/// How much progress the events tell.
-fn progress_of(rt: &impl Abort, events: &[Event]) -> u64 {
-    let mut told = 0;
-    for event in events {
-        told = told_behind(rt, event, told);
-    }
-    told
-}
-
-/// Fails where an update with these steps has another number of events, or of those that tell progress.
-fn progress_is(rt: &impl Abort, alloc: Global, steps: &str, events: u64, progress: u64) {
-    let registry = Registry::new(alloc);
-    let plan = plan_of(rt, alloc, r#"["update"]"#);
-    let script = script_of(rt, alloc, plan, steps);
-    holds(rt, "one change", plan.len() == 1);
-    let all = all_events(rt, alloc, Runner::start(plan, script, &registry, 0, 0, 0));
-    number_is(rt, steps, all.len() as u64, events);
-    number_is(rt, steps, progress_of(rt, all), progress);
-}
-
-#[test]
-fn hour_of_progress(rt: HostRuntime) {
-    progress_is(&rt, rt.alloc(), r#"[{"seconds":3605}]"#, 362, 360);
-    progress_is(&rt, rt.alloc(), r#"[{"seconds":86400}]"#, 8_641, 8_639);
-}
-
-/// Worker 7 applies a replacement under an empty script at the last begin.
-const LATE: &str = "begins 0 ended 1727827200
-1727827200 7 0.0 Start; ended 1727827200
-1727827200 7 0.0 Complete(0); begins 1 ended 1727827200
-1727827200 7 0.1 Start; ended 1727827200
-1727827200 7 0.1 Complete(0); ended 1727827200
-ended 1727827200
-";
-
-#[test]
-fn a_default_script_and_a_late_begin(rt: HostRuntime) {
-    let alloc = rt.alloc();
-    let registry = Registry::new(alloc);
-    stands(
-        &rt,
-        alloc,
-        REPLACEMENT,
-        NO_SCRIPT,
-        &registry,
-        LAST_BEGIN,
-        LATE,
-    );
-}
-
-/// Between all events of a replacement that begins at 5: which step begins next, and when the change has ended so far.
-const BETWEEN: &str = "begins 0 ended 5
-5 7 0.0 Start; ended 5
-15 7 0.0 Progress(10); ended 5
-16 7 0.0 Complete(11); begins 1 ended 16
-16 7 0.1 Start; ended 16
-18 7 0.1 Complete(2); ended 16
-18 7 0.1 WarnNote; ended 18
-ended 18
-";
+/// One under an empty script, at the last moment at which a change may begin.
+const LATE: &str =
+    r#"["delete","create"] => no script => begins 0; 1727827200 7 0.0 Start; 1727827200 7 0.0 Complete(0); begins 1; 1727827200 7 0.1 Start; 1727827200 7 0.1 Complete(0);"#;
 
 #[test]
 fn between_the_events_of_a_replacement(rt: HostRuntime) {
     let alloc = rt.alloc();
-    let registry = Registry::new(alloc);
-    stands(
-        &rt,
-        alloc,
-        REPLACEMENT,
-        ELEVEN_AND_TWO,
-        &registry,
-        5,
-        BETWEEN,
+    let none = Registry::new(alloc);
+    rows_are_told(&rt, alloc, &none, 5, FROM_5);
+    rows_are_told(&rt, alloc, &none, LAST_BEGIN, LATE);
+}
+
+/// The change goes on behind a read that only warns. Such a script is of no replacement: it was read for another plan.
+const GOES_ON: &str =
+    "begins 0; 0 7 0.0 Start; 10 7 0.0 Progress(10); 11 7 0.0 WarnNote; ended 11; begins 1; 11 7 0.1 Start; 11 7 0.1 Complete(0);";
+
+/// A script for more steps than the change has.
+const BEHIND_THE_LAST: &str = "begins 0; 0 7 0.0 Start; 3 7 0.0 Complete(3); ended 3;";
+
+#[test]
+fn scripts_of_other_plans(rt: HostRuntime) {
+    let alloc = rt.alloc();
+    let none = Registry::new(alloc);
+    let (create, replacement) = (
+        plan_of(&rt, alloc, CREATE),
+        plan_of(&rt, alloc, REPLACEMENT),
     );
+    let warned = r#"[{"seconds":11,"failed":{"severity":"warning","summary":"no"}}]"#;
+    let script = script_of(&rt, alloc, plan_of(&rt, alloc, r#"["read"]"#), warned);
+    is_told(&rt, alloc, replacement, script, &none, 0, GOES_ON);
+    let second = r#"[{"seconds":3},{"skipped":true}]"#;
+    let script = script_of(&rt, alloc, replacement, second);
+    is_told(&rt, alloc, create, script, &none, 0, BEHIND_THE_LAST);
+    let first = r#"[{"skipped":true},{"seconds":5}]"#;
+    let script = script_of(&rt, alloc, replacement, first);
+    is_told(&rt, alloc, create, script, &none, 0, "");
+}
+
+/// Under three hooks, of which the second and the third halt deletes before they start: the second is told.
+const BEFORE: &str =
+    r#"["delete","create"] => no script => begins 0; 0 7 0.0 Halted { phase: Pre, hook: 1 };
+["create","delete"] => no script => begins 0; 0 7 0.0 Start; 0 7 0.0 Complete(0); begins 1; 0 7 0.1 Halted { phase: Pre, hook: 1 };"#;
+
+#[test]
+fn hooks_halt_before_a_step(rt: HostRuntime) {
+    let hooks = Hooks {
+        quiet: 1,
+        halting: 2,
+        phase: Phase::Pre,
+        kind: Some(StepKind::Delete),
+    };
+    rows_are_told_under(&rt, rt.alloc(), &hooks, BEFORE);
+}
+
+/// Under a hook that halts what has failed, also by a provisioner. A read that only warns has not failed.
+const AFTER_A_FAILURE: &str =
+    r#"["create"] => [{"seconds":5,"failed":{"summary":"boom"}}] => begins 0; 0 7 0.0 Start; 5 7 0.0 Errored(5); 5 7 0.0 ErrorNote; 5 7 0.0 Halted { phase: PostFailed, hook: 0 }; ended 5;
+["create"] => [{"seconds":5}] => begins 0; 0 7 0.0 Start; 5 7 0.0 Complete(5); ended 5;
+["create"] => [{"seconds":1,"provisioners":[{"provisioner":"a","seconds":2,"output":["x"],"failed":{"summary":"boom"}}]}] => begins 0; 0 7 0.0 Start; 1 7 0.0 ProvisionStart(0); 3 7 0.0 ProvisionOutput { prov: 0, line: 0 }; 3 7 0.0 ProvisionErrored(0); 3 7 0.0 Errored(3); 3 7 0.0 ErrorNote; 3 7 0.0 Halted { phase: PostFailed, hook: 0 }; ended 3;
+["create"] => [{"seconds":1,"provisioners":[{"provisioner":"a","seconds":2,"output":["x"]}]}] => begins 0; 0 7 0.0 Start; 1 7 0.0 ProvisionStart(0); 3 7 0.0 ProvisionOutput { prov: 0, line: 0 }; 3 7 0.0 ProvisionComplete(0); 3 7 0.0 Complete(3); ended 3;
+["read"] => [{"seconds":1,"failed":{"severity":"warning","summary":"no"}}] => begins 0; 0 7 0.0 Start; 1 7 0.0 WarnNote; ended 1;"#;
+
+#[test]
+fn hooks_halt_after_a_failed_step(rt: HostRuntime) {
+    let hooks = Hooks {
+        quiet: 0,
+        halting: 1,
+        phase: Phase::PostFailed,
+        kind: None,
+    };
+    rows_are_told_under(&rt, rt.alloc(), &hooks, AFTER_A_FAILURE);
+}
+
+/// Under a hook that halts what is done: between the steps of a replacement, behind provisioners, and behind a read that only
+/// warns. It is not asked where a provisioner fails.
+const AFTER_A_DONE_STEP: &str =
+    r#"["delete","create"] => [{"seconds":1},{"seconds":2}] => begins 0; 0 7 0.0 Start; 1 7 0.0 Complete(1); 1 7 0.0 Halted { phase: PostDone, hook: 0 }; ended 1;
+["create"] => [{"seconds":1,"provisioners":[{"provisioner":"a","seconds":2,"output":["x"]}]}] => begins 0; 0 7 0.0 Start; 1 7 0.0 ProvisionStart(0); 3 7 0.0 ProvisionOutput { prov: 0, line: 0 }; 3 7 0.0 ProvisionComplete(0); 3 7 0.0 Complete(3); 3 7 0.0 Halted { phase: PostDone, hook: 0 }; ended 3;
+["create"] => [{"seconds":1,"provisioners":[{"provisioner":"a","seconds":2,"output":["x"],"failed":{"summary":"boom"}}]}] => begins 0; 0 7 0.0 Start; 1 7 0.0 ProvisionStart(0); 3 7 0.0 ProvisionOutput { prov: 0, line: 0 }; 3 7 0.0 ProvisionErrored(0); 3 7 0.0 Errored(3); 3 7 0.0 ErrorNote; ended 3;
+["read"] => [{"seconds":1,"failed":{"severity":"warning","summary":"no"}}] => begins 0; 0 7 0.0 Start; 1 7 0.0 WarnNote; 1 7 0.0 Halted { phase: PostDone, hook: 0 }; ended 1;"#;
+
+#[test]
+fn hooks_halt_after_a_step_that_is_done(rt: HostRuntime) {
+    let hooks = Hooks {
+        quiet: 0,
+        halting: 1,
+        phase: Phase::PostDone,
+        kind: None,
+    };
+    rows_are_told_under(&rt, rt.alloc(), &hooks, AFTER_A_DONE_STEP);
 }

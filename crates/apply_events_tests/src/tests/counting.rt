@@ -2,29 +2,19 @@
 
 use super::*;
 
-fn counts(added: u64, changed: u64, removed: u64, failed: u64, halted: u64) -> Counts {
-    Counts {
-        added,
-        changed,
-        removed,
-        failed,
-        halted,
-    }
-}
+/// A change's actions, the steps of its script, and its counts whenever they are others than before, for each row: how many
+/// objects were added, changed and removed, and how many steps failed and were halted. A create is counted once, with its
+/// provisioners, and not where one of them fails: then it is one step that failed.
+const COUNTED: &str = r#"["delete","create"] => [] => 0 0 1 0 0; 1 0 1 0 0;
+["create","delete"] => [{"seconds":0},{"seconds":4,"failed":{"summary":"boom"}}] => 1 0 0 0 0; 1 0 0 1 0;
+["update"] => [{"seconds":25}] => 0 1 0 0 0;
+["read"] => [] => 
+["create"] => [{"seconds":1,"provisioners":[{"provisioner":"a","seconds":1,"output":["x"]},{"provisioner":"b","seconds":0}]}] => 1 0 0 0 0;
+["create"] => [{"seconds":1,"provisioners":[{"provisioner":"a","seconds":1,"failed":{"summary":"boom"}}]}] => 0 0 0 1 0;"#;
 
-/// Nothing is counted.
-pub(super) const NOTHING: Counts = Counts {
-    added: 0,
-    changed: 0,
-    removed: 0,
-    failed: 0,
-    halted: 0,
-};
-
-/// Fails where other counts were found.
-fn counted_is(rt: &impl Abort, case: &str, found: &Counts, wanted: &Counts) {
-    holds(rt, case, *found == *wanted);
-}
+/// A read that only warns.
+const WARNED: &str =
+    r#"["read"] => [{"seconds":11,"failed":{"severity":"warning","summary":"no"}}] => "#;
 
 /// Counts one more event. The counts of a test are small.
 fn count(rt: &impl Abort, counted: &mut Counts, plan: &Plan, script: &Script, event: &Event) {
@@ -37,98 +27,61 @@ fn count(rt: &impl Abort, counted: &mut Counts, plan: &Plan, script: &Script, ev
     counted.count(plan, event);
 }
 
-/// Whether a second step starts.
-fn starts_second(event: &Event) -> bool {
-    match event.what {
-        What::Start => event.step == 1,
-        _ => false,
-    }
+/// Adds what was counted.
+fn push_counts(rt: &impl Abort, alloc: Global, text: &mut String, counted: &Counts) {
+    push_value(rt, alloc, text, &counted.added, " ");
+    push_value(rt, alloc, text, &counted.changed, " ");
+    push_value(rt, alloc, text, &counted.removed, " ");
+    push_value(rt, alloc, text, &counted.failed, " ");
+    push_value(rt, alloc, text, &counted.halted, "; ");
 }
 
-/// Fails where the change with those actions and steps is counted otherwise, at the end or where its second step starts.
-fn counts_are(
-    rt: &impl Abort,
-    alloc: Global,
-    actions: &str,
-    steps: &str,
-    between: Counts,
-    wanted: Counts,
-) {
-    let plan = plan_of(rt, alloc, actions);
-    let script = script_of(rt, alloc, plan, steps);
-    counts_by(rt, alloc, actions, script, between, wanted);
-}
-
-/// Fails where the change with those actions is counted otherwise under the script.
-pub(super) fn counts_by(
-    rt: &impl Abort,
-    alloc: Global,
-    actions: &str,
-    script: &Script,
-    between: Counts,
-    wanted: Counts,
-) {
-    let registry = Registry::new(alloc);
-    let plan = plan_of(rt, alloc, actions);
+/// The counts of the plan's one change whenever they are others than before.
+fn counted(rt: &impl Abort, alloc: Global, plan: &Plan, script: &Script) -> &'static str {
     holds(rt, "one change", plan.len() == 1);
+    let registry = Registry::new(alloc);
+    let mut text = String::new(alloc);
     let mut counted = Counts::new();
-    counted_is(rt, "at first", &counted, &NOTHING);
     for event in all_events(rt, alloc, Runner::start(plan, script, &registry, 0, 0, 0)) {
-        if starts_second(event) {
-            counted_is(rt, actions, &counted, &between);
-        }
+        let before = counted;
         count(rt, &mut counted, plan, script, event);
+        if counted != before {
+            push_counts(rt, alloc, &mut text, &counted);
+        }
     }
-    counted_is(rt, actions, &counted, &wanted);
+    kept(rt, alloc, text).as_str()
+}
+
+/// Fails where a row of a table is counted otherwise: the actions, the steps, and the counts.
+fn rows_are_counted(rt: &impl Abort, alloc: Global, table: &str) {
+    for row in table.lines() {
+        let (actions, rest) = parted(rt, row);
+        let (steps, wanted) = parted(rt, rest);
+        let plan = plan_of(rt, alloc, actions);
+        let found = counted(rt, alloc, plan, script_of(rt, alloc, plan, steps));
+        text_is(rt, row, found.trim_end(), wanted);
+    }
 }
 
 #[test]
 fn counts_of_changes(rt: HostRuntime) {
-    let alloc = rt.alloc();
-    let removed = counts(0, 0, 1, 0, 0);
-    let replaced = counts(1, 0, 1, 0, 0);
-    counts_are(&rt, alloc, REPLACEMENT, "[]", removed, replaced);
-    let fails = r#"[{"seconds":0},{"seconds":4,"failed":{"summary":"boom"}}]"#;
-    let added = counts(1, 0, 0, 0, 0);
-    let failed = counts(1, 0, 0, 1, 0);
-    counts_are(&rt, alloc, CREATES_FIRST, fails, added, failed);
-    let long = r#"[{"seconds":25}]"#;
-    let changed = counts(0, 1, 0, 0, 0);
-    counts_are(&rt, alloc, r#"["update"]"#, long, NOTHING, changed);
-    counts_are(&rt, alloc, r#"["read"]"#, "[]", NOTHING, NOTHING);
+    rows_are_counted(&rt, rt.alloc(), COUNTED);
 }
 
-/// A create is counted once, with its provisioners, and not where one of them fails: then it is one step that failed.
 #[test]
-fn counts_of_creates_with_provisioners(rt: HostRuntime) {
-    let alloc = rt.alloc();
-    let done =
-        r#"[{"seconds":1,"provisioners":[{"provisioner":"a","seconds":1,"output":["x"]},{"provisioner":"b","seconds":0}]}]"#;
-    let added = counts(1, 0, 0, 0, 0);
-    counts_are(&rt, alloc, CREATE, done, NOTHING, added);
-    let fails =
-        r#"[{"seconds":1,"provisioners":[{"provisioner":"a","seconds":1,"failed":{"summary":"boom"}}]}]"#;
-    let failed = counts(0, 0, 0, 1, 0);
-    counts_are(&rt, alloc, CREATE, fails, NOTHING, failed);
+fn a_read_that_only_warns_counts_nowhere(rt: HostRuntime) {
+    rows_are_counted(&rt, rt.alloc(), WARNED);
 }
 
 #[test]
 fn a_halt_is_counted(rt: HostRuntime) {
     let alloc = rt.alloc();
-    let plan = plan_of(&rt, alloc, CREATE);
-    let event = Event {
-        worker: 0,
-        change: 0,
-        step: 0,
-        what: What::Halted {
-            phase: Phase::Pre,
-            hook: 1,
-        },
-        at: 0,
-    };
-    let script = Script::empty();
-    holds(&rt, "an event that fits", fits(plan, &script, &event));
+    let (plan, script) = (plan_of(&rt, alloc, CREATE), Script::empty());
+    let phase = Phase::Pre;
+    let halt = fitting::event(0, 0, What::Halted { phase, hook: 1 }, 0);
     let mut counted = Counts::new();
-    counted.count(plan, &event);
-    counted_is(&rt, "a halt", &counted, &counts(0, 0, 0, 0, 1));
+    count(&rt, &mut counted, plan, &script, &halt);
+    number_is(&rt, "a halt", counted.halted, 1);
+    counted.halted = 0;
+    holds(&rt, "nothing else", counted == Counts::new());
 }

@@ -1,51 +1,137 @@
-//! What lanes report, in the order of time: rows by hand, and drawn ones, which a plain body meets too.
+//! What lanes report, in the order of time: rows by hand, and drawn ones, which a clock meets too.
 
 ghost use Rattle.std.specs.Prelude.{◌<◌, ◌≤◌};
 
 mod clock;
 mod drawn;
-mod drawn_waits;
-mod plain;
-mod waiting;
 
 use super::*;
+use clock::clock_events;
 use drawn::drawn_changes_agree;
-use drawn_waits::drawn_waits_agree;
-use plain::plain_events;
 
-/// Of each change its actions and its steps in the script: three creates of twelve seconds each.
-const TWELVE_EACH: &str = r#"["create"] => [{"seconds":12}]
+/// Of each change its actions and its steps in the script, and then how many lanes there are and what they report. At each
+/// moment the lower lane comes first, with all that it does then; a lane that is free takes the next change.
+const REPORTED: &str = r#"["create"] => [{"seconds":12}]
 ["create"] => [{"seconds":12}]
-["create"] => [{"seconds":12}]"#;
+["create"] => [{"seconds":12}]
+in 1 => 0 0 0.0 Start; 10 0 0.0 Progress(10); 12 0 0.0 Complete(12); 12 0 1.0 Start; 22 0 1.0 Progress(10); 24 0 1.0 Complete(12); 24 0 2.0 Start; 34 0 2.0 Progress(10); 36 0 2.0 Complete(12);
+in 2 => 0 0 0.0 Start; 0 1 1.0 Start; 10 0 0.0 Progress(10); 10 1 1.0 Progress(10); 12 0 0.0 Complete(12); 12 0 2.0 Start; 12 1 1.0 Complete(12); 22 0 2.0 Progress(10); 24 0 2.0 Complete(12);
+in 3 => 0 0 0.0 Start; 0 1 1.0 Start; 0 2 2.0 Start; 10 0 0.0 Progress(10); 10 1 1.0 Progress(10); 10 2 2.0 Progress(10); 12 0 0.0 Complete(12); 12 1 1.0 Complete(12); 12 2 2.0 Complete(12);
+in 64 => 0 0 0.0 Start; 0 1 1.0 Start; 0 2 2.0 Start; 10 0 0.0 Progress(10); 10 1 1.0 Progress(10); 10 2 2.0 Progress(10); 12 0 0.0 Complete(12); 12 1 1.0 Complete(12); 12 2 2.0 Complete(12);
 
-/// Five, of which four end in pairs at one moment.
-const ENDS_IN_PAIRS: &str = r#"["create"] => [{"seconds":3}]
+["create"] => [{"seconds":3}]
 ["create"] => [{"seconds":3}]
 ["create"] => [{"seconds":2}]
 ["create"] => [{"seconds":2}]
-["create"] => [{"seconds":1}]"#;
+["create"] => [{"seconds":1}]
+in 2 => 0 0 0.0 Start; 0 1 1.0 Start; 3 0 0.0 Complete(3); 3 0 2.0 Start; 3 1 1.0 Complete(3); 3 1 3.0 Start; 5 0 2.0 Complete(2); 5 0 4.0 Start; 5 1 3.0 Complete(2); 6 0 4.0 Complete(1);
 
-/// The first is replaced beside a longer create, and the third begins where the first ends.
-const REPLACED: &str = r#"["delete","create"] => [{"seconds":5},{"seconds":4}]
+["delete","create"] => [{"seconds":5},{"seconds":4}]
 ["create"] => [{"seconds":11}]
-["create"] => [{"seconds":1}]"#;
+["create"] => [{"seconds":1}]
+in 2 => 0 0 0.0 Start; 0 1 1.0 Start; 5 0 0.0 Complete(5); 5 0 0.1 Start; 9 0 0.1 Complete(4); 9 0 2.0 Start; 10 0 2.0 Complete(1); 10 1 1.0 Progress(10); 11 1 1.0 Complete(11);
 
-/// The first fails, and the others go on.
-const FAILED: &str = r#"["create"] => [{"seconds":5,"failed":{"summary":"x"}}]
+["create"] => [{"seconds":5,"failed":{"summary":"x"}}]
 ["create"] => [{"seconds":7}]
-["create"] => [{"seconds":2}]"#;
+["create"] => [{"seconds":2}]
+in 2 => 0 0 0.0 Start; 0 1 1.0 Start; 5 0 0.0 Errored(5); 5 0 0.0 ErrorNote; 5 0 2.0 Start; 7 0 2.0 Complete(2); 7 1 1.0 Complete(7);
 
-/// A provisioner runs after the first, while the third has begun.
-const PROVISIONED: &str =
-    r#"["create"] => [{"seconds":2,"provisioners":[{"provisioner":"a","seconds":3,"output":["x"]}]}]
+["create"] => [{"seconds":2,"provisioners":[{"provisioner":"a","seconds":3,"output":["x"]}]}]
 ["create"] => [{"seconds":4}]
-["create"] => [{"seconds":1}]"#;
+["create"] => [{"seconds":1}]
+in 2 => 0 0 0.0 Start; 0 1 1.0 Start; 2 0 0.0 ProvisionStart(0); 4 1 1.0 Complete(4); 4 1 2.0 Start; 5 0 0.0 ProvisionOutput { prov: 0, line: 0 }; 5 0 0.0 ProvisionComplete(0); 5 0 0.0 Complete(5); 5 1 2.0 Complete(1);
 
-/// Nothing takes time, and one change has no step.
-const AT_ONCE: &str = r#"["create"] => []
+["create"] => []
 ["no-op"] => []
 ["create"] => []
-["create"] => []"#;
+["create"] => []
+in 2 => 0 0 0.0 Start; 0 0 0.0 Complete(0); 0 0 2.0 Start; 0 0 2.0 Complete(0); 0 0 3.0 Start; 0 0 3.0 Complete(0);
+in 64 => 0 0 0.0 Start; 0 0 0.0 Complete(0); 0 0 2.0 Start; 0 0 2.0 Complete(0); 0 0 3.0 Start; 0 0 3.0 Complete(0);
+
+["create"] => [{"seconds":2,"failed":{"summary":"boom"}}]
+["read"] => [{"seconds":9,"failed":{"severity":"warning","summary":"no"}}]
+in 1 => 0 0 0.0 Start; 2 0 0.0 Errored(2); 2 0 0.0 ErrorNote; 2 0 1.0 Start; 11 0 1.0 WarnNote;"#;
+
+/// Steps that wait for others.
+const WAITING: &str = r#"["create"] => [{"seconds":2}]
+["create"] => [{"seconds":1,"after":["null_resource.r0"]}]
+["create"] => [{"seconds":4}]
+in 2 => 0 0 0.0 Start; 0 1 2.0 Start; 2 0 0.0 Complete(2); 2 0 1.0 Start; 3 0 1.0 Complete(1); 4 1 2.0 Complete(4);
+in 1 => 0 0 0.0 Start; 2 0 0.0 Complete(2); 2 0 2.0 Start; 6 0 2.0 Complete(4); 6 0 1.0 Start; 7 0 1.0 Complete(1);
+
+["create"] => [{"seconds":0,"after":["null_resource.r2"]}]
+["create"] => [{"seconds":0,"after":["null_resource.r0"]}]
+["create"] => [{"seconds":0}]
+in 2 => 0 0 2.0 Start; 0 0 2.0 Complete(0); 0 0 0.0 Start; 0 0 0.0 Complete(0); 0 1 1.0 Start; 0 1 1.0 Complete(0);
+
+["create"] => [{"seconds":1}]
+["create"] => [{"seconds":3}]
+["create"] => [{"seconds":1,"after":["null_resource.r1"]}]
+["create"] => [{"seconds":1,"after":["null_resource.r1"]}]
+in 2 => 0 0 0.0 Start; 0 1 1.0 Start; 1 0 0.0 Complete(1); 3 1 1.0 Complete(3); 3 0 2.0 Start; 3 1 3.0 Start; 4 0 2.0 Complete(1); 4 1 3.0 Complete(1);
+
+["create"] => [{"seconds":2,"failed":{"summary":"boom"}}]
+["create"] => [{"seconds":1,"after":["null_resource.r0"]}]
+["create"] => [{"seconds":1,"after":["null_resource.r1","null_resource.r3"]}]
+["create"] => [{"seconds":3}]
+in 10 => 0 0 0.0 Start; 0 1 3.0 Start; 2 0 0.0 Errored(2); 2 0 0.0 ErrorNote; 3 1 3.0 Complete(3);
+
+["delete"] => [{"seconds":1,"after":["null_resource.r1","null_resource.r2"]}]
+["delete"] => [{"seconds":2}]
+["delete"] => [{"seconds":3}]
+in 10 => 0 0 1.0 Start; 0 1 2.0 Start; 2 0 1.0 Complete(2); 3 1 2.0 Complete(3); 3 2 0.0 Start; 4 2 0.0 Complete(1);
+
+["create"] => [{"seconds":1}]
+["create"] => [{"seconds":1,"after":["null_resource.r3"]}]
+["create"] => [{"seconds":1,"after":["null_resource.r0"]}]
+["create"] => [{"seconds":1}]
+["create"] => [{"seconds":5}]
+in 1 => 0 0 0.0 Start; 1 0 0.0 Complete(1); 1 0 3.0 Start; 2 0 3.0 Complete(1); 2 0 4.0 Start; 7 0 4.0 Complete(5); 7 0 2.0 Start; 8 0 2.0 Complete(1); 8 0 1.0 Start; 9 0 1.0 Complete(1);
+
+["read"] => [{"seconds":3,"failed":{"severity":"warning","summary":"no"}}]
+["create"] => [{"seconds":2,"after":["null_resource.r0"]}]
+in 1 => 0 0 0.0 Start; 3 0 0.0 WarnNote; 3 0 1.0 Start; 5 0 1.0 Complete(2);
+
+["no-op"] => []
+["delete"] => [{"seconds":1,"after":["null_resource.r2"]}]
+["update"] => [{"seconds":2,"after":["null_resource.r0"]}]
+in 2 => 0 0 2.0 Start; 2 0 2.0 Complete(2); 2 1 1.0 Start; 3 1 1.0 Complete(1);"#;
+
+/// Steps of replacements that wait, or that are waited for. Where a second step names what it waits for, the lane is given away
+/// between the two.
+const WAITING_REPLACEMENTS: &str =
+    r#"["delete","create"] => [{"seconds":1,"after":[{"address":"null_resource.r1","step":0}]},{"seconds":2}]
+["delete","create"] => [{"seconds":2},{"seconds":1,"after":["null_resource.r0"]}]
+in 10 => 0 0 1.0 Start; 2 0 1.0 Complete(2); 2 1 0.0 Start; 3 1 0.0 Complete(1); 3 1 0.1 Start; 5 1 0.1 Complete(2); 5 2 1.1 Start; 6 2 1.1 Complete(1);
+
+["create","delete"] => [{"seconds":1},{"seconds":2,"after":["null_resource.r1"]}]
+["update"] => [{"seconds":3,"after":[{"address":"null_resource.r0","step":0}]}]
+in 10 => 0 0 0.0 Start; 1 0 0.0 Complete(1); 1 1 1.0 Start; 4 1 1.0 Complete(3); 4 2 0.1 Start; 6 2 0.1 Complete(2);
+
+["create","delete"] => [{"seconds":1},{"seconds":2,"after":["null_resource.r1"]}]
+["update"] => [{"seconds":3,"failed":{"summary":"x"},"after":[{"address":"null_resource.r0","step":0}]}]
+in 10 => 0 0 0.0 Start; 1 0 0.0 Complete(1); 1 1 1.0 Start; 4 1 1.0 Errored(3); 4 1 1.0 ErrorNote;
+
+["delete","create"] => [{"seconds":1},{"seconds":1}]
+["create"] => []
+["create"] => [{"seconds":1,"after":[{"address":"null_resource.r0","step":0}]}]
+in 1 => 0 0 0.0 Start; 1 0 0.0 Complete(1); 1 0 0.1 Start; 2 0 0.1 Complete(1); 2 0 1.0 Start; 2 0 1.0 Complete(0); 2 0 2.0 Start; 3 0 2.0 Complete(1);
+in 2 => 0 0 0.0 Start; 0 1 1.0 Start; 0 1 1.0 Complete(0); 1 0 0.0 Complete(1); 1 0 0.1 Start; 1 1 2.0 Start; 2 0 0.1 Complete(1); 2 1 2.0 Complete(1);
+
+["delete","create"] => [{"seconds":1},{"seconds":1,"after":[{"address":"null_resource.r0","step":0}]}]
+["create"] => [{"seconds":2}]
+in 1 => 0 0 0.0 Start; 1 0 0.0 Complete(1); 1 0 1.0 Start; 3 0 1.0 Complete(2); 3 0 0.1 Start; 4 0 0.1 Complete(1);"#;
+
+/// Each delete is halted before it starts, and takes no time. What waits for it is left out.
+const HALTED: &str = r#"["delete","create"] => [{"seconds":5},{"seconds":4}]
+["create"] => [{"seconds":11}]
+["create"] => [{"seconds":1}]
+in 2 => 0 0 0.0 Halted { phase: Pre, hook: 0 }; 0 0 1.0 Start; 0 1 2.0 Start; 1 1 2.0 Complete(1); 10 0 1.0 Progress(10); 11 0 1.0 Complete(11);
+
+["delete"] => [{"seconds":2}]
+["create"] => [{"seconds":1,"after":["null_resource.r0"]}]
+["create"] => [{"seconds":1}]
+in 2 => 0 0 0.0 Halted { phase: Pre, hook: 0 }; 0 0 2.0 Start; 1 0 2.0 Complete(1);"#;
 
 /// A plan with the changes in the place of `CELL`.
 const CHANGES: &str = r#"{"format_version":"1.2","resource_changes":[CELL]}"#;
@@ -71,55 +157,30 @@ fn add(rt: &impl Abort, alloc: Global, list: &mut String, text: &str, number: u3
     push(rt, list, kept(rt, alloc, text.expect(rt, "memory")));
 }
 
-/// The changes, `null_resource.r0` and so on, for a plan.
-fn planned(rt: &impl Abort, alloc: Global, changes: &str) -> &'static str {
-    let mut planned = String::new(alloc);
-    let mut number: u32 = 0;
-    for change in changes.lines() {
-        add(
-            rt,
-            alloc,
-            &mut planned,
-            CHANGE,
-            number,
-            parted(rt, change).0,
-        );
-        number = number.wrapping_add(1);
-    }
-    kept(rt, alloc, planned).as_str()
-}
-
-/// A plan of them.
-pub(super) fn plan_of_all(rt: &impl Abort, alloc: Global, changes: &str) -> &'static Plan {
-    let planned = planned(rt, alloc, changes);
-    plan_in(rt, alloc, put(rt, alloc, CHANGES, planned))
-}
-
-/// The entries of those that have steps, for a script.
-fn scripted(rt: &impl Abort, alloc: Global, changes: &str) -> &'static str {
-    let mut scripted = String::new(alloc);
+/// The plan of changes `null_resource.r0` and so on, and the script, where it is one: of some a step could never begin.
+fn read_both(
+    rt: &impl Abort,
+    alloc: Global,
+    changes: &str,
+) -> (&'static Plan, Option<&'static Script>) {
+    let (mut planned, mut scripted) = (String::new(alloc), String::new(alloc));
     let mut number: u32 = 0;
     for change in changes.lines() {
         let (actions, steps) = parted(rt, change);
-        if actions != NO_OP {
-            add(rt, alloc, &mut scripted, ENTRY, number, steps);
-        }
+        add(rt, alloc, &mut planned, CHANGE, number, actions);
+        add(rt, alloc, &mut scripted, ENTRY, number, steps);
         number = number.wrapping_add(1);
     }
-    kept(rt, alloc, scripted).as_str()
+    let plan = plan_in(rt, alloc, put(rt, alloc, CHANGES, planned.as_str()));
+    let scripted = put(rt, alloc, ENTRIES, scripted.as_str());
+    match read_script(alloc, scripted.as_bytes(), plan) {
+        Ok(script) => (plan, Some(kept(rt, alloc, script))),
+        Err(_) => (plan, None),
+    }
 }
-
-/// A script of them.
-fn script_of_all(rt: &impl Abort, alloc: Global, plan: &Plan, changes: &str) -> &'static Script {
-    let scripted = scripted(rt, alloc, changes);
-    script_in(rt, alloc, plan, put(rt, alloc, ENTRIES, scripted))
-}
-
-/// The actions of a change without steps.
-const NO_OP: &str = r#"["no-op"]"#;
 
 /// All events that so many lanes give.
-fn lane_events(
+pub(super) fn lane_events(
     rt: &impl Abort,
     alloc: Global,
     plan: &Plan,
@@ -138,20 +199,6 @@ fn lane_events(
     kept(rt, alloc, events).as_slice()
 }
 
-/// Adds the moment, the lane, the change with its step, and what happens.
-pub(super) fn push_event(rt: &impl Abort, alloc: Global, text: &mut String, event: &Event) {
-    push(rt, text, printed(rt, alloc, &event.at));
-    push(rt, text, " ");
-    push(rt, text, printed(rt, alloc, &event.worker));
-    push(rt, text, " ");
-    push(rt, text, printed(rt, alloc, &event.change));
-    push(rt, text, ".");
-    push(rt, text, printed(rt, alloc, &event.step));
-    push(rt, text, " ");
-    push(rt, text, printed(rt, alloc, &event.what));
-    push(rt, text, "; ");
-}
-
 /// Of each event the moment, the lane, the change with its step, and what happens.
 fn text_of(rt: &impl Abort, alloc: Global, events: &[Event]) -> &'static str {
     let mut text = String::new(alloc);
@@ -161,114 +208,67 @@ fn text_of(rt: &impl Abort, alloc: Global, events: &[Event]) -> &'static str {
     kept(rt, alloc, text).as_str()
 }
 
-/// Fails where so many lanes report something else of the plan under the script.
-pub(super) fn lanes_tell(
+/// Fails where so many lanes report something else than the clock, and otherwise gives that as text.
+fn reported(
     rt: &impl Abort,
     alloc: Global,
     plan: &Plan,
     script: &Script,
-    count: u8,
-    wanted: &str,
-) {
-    holds(rt, "some lanes", 0 < count);
-    holds(rt, "64 lanes at most", count <= 64);
-    let events = lane_events(rt, alloc, plan, script, &Registry::new(alloc), count);
-    text_is(rt, "lanes", text_of(rt, alloc, events).trim_end(), wanted);
-}
-
-/// Fails where so many lanes report something else than the plain body, and otherwise gives that as text.
-fn reported(
-    rt: &impl Abort,
-    alloc: Global,
-    changes: &str,
     registry: &Registry,
     count: u8,
 ) -> &'static str {
     holds(rt, "some lanes", 0 < count);
     holds(rt, "64 lanes at most", count <= 64);
-    let plan = plan_of_all(rt, alloc, changes);
-    let script = script_of_all(rt, alloc, plan, changes);
     let events = lane_events(rt, alloc, plan, script, registry, count);
     let found = text_of(rt, alloc, events);
-    let events = plain_events(rt, alloc, plan, script, registry, count);
-    let plain = text_of(rt, alloc, events);
-    text_is(rt, changes, found, plain);
+    let events = clock_events(rt, alloc, plan, script, registry, count);
+    text_is(rt, found, text_of(rt, alloc, events), found);
     found
 }
 
-/// Fails where so many lanes report something else.
-fn lanes_report(
-    rt: &impl Abort,
-    alloc: Global,
-    changes: &str,
-    registry: &Registry,
-    count: u8,
-    wanted: &str,
-) {
-    let found = reported(rt, alloc, changes, registry, count);
-    text_is(rt, changes, found.trim_end(), wanted);
+/// Fails where lanes report something else of the changes of a block than its rows have.
+fn block_is_reported(rt: &impl Abort, alloc: Global, registry: &Registry, block: &str) {
+    let (changes, rows) = block.split_once("\nin ").expect(rt, "a row");
+    let (plan, script) = read_both(rt, alloc, changes);
+    let script = script.expect(rt, "a script");
+    for row in rows.split("\nin ") {
+        let (count, wanted) = parted(rt, row);
+        let count = count.parse::<u8>().ok().expect(rt, count);
+        let found = reported(rt, alloc, plan, script, registry, count);
+        text_is(rt, changes, found.trim_end(), wanted);
+    }
 }
 
-/// The same where there are no hooks.
-fn lanes_give(rt: &impl Abort, alloc: Global, changes: &str, count: u8, wanted: &str) {
-    lanes_report(rt, alloc, changes, &Registry::new(alloc), count, wanted);
+/// Fails where lanes report something else than a table has.
+fn lanes_report(rt: &impl Abort, alloc: Global, registry: &Registry, table: &str) {
+    for block in table.split("\n\n") {
+        block_is_reported(rt, alloc, registry, block);
+    }
 }
-
-/// Three starts, three beats and three ends, each at one moment.
-const ALL_AT_ONCE: &str =
-    "0 0 0.0 Start; 0 1 1.0 Start; 0 2 2.0 Start; 10 0 0.0 Progress(10); 10 1 1.0 Progress(10); 10 2 2.0 Progress(10); 12 0 0.0 Complete(12); 12 1 1.0 Complete(12); 12 2 2.0 Complete(12);";
-
-/// Two lanes, and the third change behind the first.
-const TWO_AND_ONE: &str =
-    "0 0 0.0 Start; 0 1 1.0 Start; 10 0 0.0 Progress(10); 10 1 1.0 Progress(10); 12 0 0.0 Complete(12); 12 0 2.0 Start; 12 1 1.0 Complete(12); 22 0 2.0 Progress(10); 24 0 2.0 Complete(12);";
-
-/// One after another.
-const IN_TURN: &str =
-    "0 0 0.0 Start; 10 0 0.0 Progress(10); 12 0 0.0 Complete(12); 12 0 1.0 Start; 22 0 1.0 Progress(10); 24 0 1.0 Complete(12); 24 0 2.0 Start; 34 0 2.0 Progress(10); 36 0 2.0 Complete(12);";
-
-/// At each moment the lower lane comes first, with all that it does then.
-const PAIRS: &str =
-    "0 0 0.0 Start; 0 1 1.0 Start; 3 0 0.0 Complete(3); 3 0 2.0 Start; 3 1 1.0 Complete(3); 3 1 3.0 Start; 5 0 2.0 Complete(2); 5 0 4.0 Start; 5 1 3.0 Complete(2); 6 0 4.0 Complete(1);";
 
 #[test]
-fn creates_in_lanes(rt: HostRuntime) {
+fn changes_in_lanes(rt: HostRuntime) {
     let alloc = rt.alloc();
-    lanes_give(&rt, alloc, TWELVE_EACH, 1, IN_TURN);
-    lanes_give(&rt, alloc, TWELVE_EACH, 2, TWO_AND_ONE);
-    lanes_give(&rt, alloc, TWELVE_EACH, 3, ALL_AT_ONCE);
-    lanes_give(&rt, alloc, TWELVE_EACH, 64, ALL_AT_ONCE);
-    lanes_give(&rt, alloc, ENDS_IN_PAIRS, 2, PAIRS);
+    lanes_report(&rt, alloc, &Registry::new(alloc), REPORTED);
 }
-
-/// The third change begins where the first has ended, in its lane.
-const BESIDE_A_LONG_ONE: &str =
-    "0 0 0.0 Start; 0 1 1.0 Start; 5 0 0.0 Complete(5); 5 0 0.1 Start; 9 0 0.1 Complete(4); 9 0 2.0 Start; 10 0 2.0 Complete(1); 10 1 1.0 Progress(10); 11 1 1.0 Complete(11);";
-
-/// The other lane goes on.
-const BESIDE_A_FAILURE: &str =
-    "0 0 0.0 Start; 0 1 1.0 Start; 5 0 0.0 Errored(5); 5 0 0.0 ErrorNote; 5 0 2.0 Start; 7 0 2.0 Complete(2); 7 1 1.0 Complete(7);";
-
-/// A lane is free where the last provisioner of its change ends.
-const BESIDE_A_PROVISIONER: &str =
-    "0 0 0.0 Start; 0 1 1.0 Start; 2 0 0.0 ProvisionStart(0); 4 1 1.0 Complete(4); 4 1 2.0 Start; 5 0 0.0 ProvisionOutput { prov: 0, line: 0 }; 5 0 0.0 ProvisionComplete(0); 5 0 0.0 Complete(5); 5 1 2.0 Complete(1);";
-
-/// A lane that is free at once takes the next change too.
-const IN_ONE_LANE: &str =
-    "0 0 0.0 Start; 0 0 0.0 Complete(0); 0 0 2.0 Start; 0 0 2.0 Complete(0); 0 0 3.0 Start; 0 0 3.0 Complete(0);";
 
 #[test]
-fn changes_of_other_lengths_in_lanes(rt: HostRuntime) {
+fn steps_wait_for_others(rt: HostRuntime) {
     let alloc = rt.alloc();
-    lanes_give(&rt, alloc, REPLACED, 2, BESIDE_A_LONG_ONE);
-    lanes_give(&rt, alloc, FAILED, 2, BESIDE_A_FAILURE);
-    lanes_give(&rt, alloc, PROVISIONED, 2, BESIDE_A_PROVISIONER);
-    lanes_give(&rt, alloc, AT_ONCE, 2, IN_ONE_LANE);
-    lanes_give(&rt, alloc, AT_ONCE, 64, IN_ONE_LANE);
+    lanes_report(&rt, alloc, &Registry::new(alloc), WAITING);
 }
 
-/// The halted change takes no time, so that the other two begin at once.
-const BESIDE_A_HALT: &str =
-    "0 0 0.0 Halted { phase: Pre, hook: 0 }; 0 0 1.0 Start; 0 1 2.0 Start; 1 1 2.0 Complete(1); 10 0 1.0 Progress(10); 11 0 1.0 Complete(11);";
+#[test]
+fn steps_of_replacements_wait(rt: HostRuntime) {
+    let alloc = rt.alloc();
+    lanes_report(&rt, alloc, &Registry::new(alloc), WAITING_REPLACEMENTS);
+}
+
+#[test]
+fn drawn_waits_in_lanes(rt: HostRuntime) {
+    let alloc = rt.alloc();
+    drawn_changes_agree(&rt, alloc, &Registry::new(alloc));
+}
 
 /// A hook halts each delete before it starts.
 #[test]
@@ -281,7 +281,6 @@ fn halted_changes_beside_others(rt: HostRuntime) {
     })
     .expect(&rt, "memory");
     add_hook(&rt, &mut registry, rules, answer);
-    lanes_report(&rt, alloc, REPLACED, &registry, 2, BESIDE_A_HALT);
+    lanes_report(&rt, alloc, &registry, HALTED);
     drawn_changes_agree(&rt, alloc, &registry);
-    drawn_waits_agree(&rt, alloc, &registry);
 }

@@ -7,7 +7,7 @@ use super::*;
 type Moment = (u64, u32);
 
 /// The last second that the clock shows.
-const LAST_SECOND: u64 = 64;
+const LAST_SECOND: u64 = 320;
 
 /// When a step begins and ends where its change begins at 0, and whether it goes on.
 #[derive(Clone, Copy)]
