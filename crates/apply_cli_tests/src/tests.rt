@@ -332,18 +332,27 @@ impl Write for FailingWriter {
     }
 }
 
-/// A writer that has room for so many bytes, and fails to flush.
-fn unflushed(alloc: Global, room: usize) -> FailingWriter {
+/// A writer that takes so many bytes a call, and has room for so many in all.
+fn with_room(alloc: Global, per_write: usize, room: usize) -> FailingWriter {
+    FailingWriter {
+        taken: Vec::new(alloc),
+        per_write,
+        room,
+        fails_to_flush: false,
+        error: ErrorKind::StorageFull,
+    }
+}
+
+/// A writer that has room for so many bytes, and fails to flush, with that error.
+fn unflushed(alloc: Global, room: usize, error: ErrorKind) -> FailingWriter {
     FailingWriter {
         taken: Vec::new(alloc),
         per_write: 7,
         room,
         fails_to_flush: true,
-        error: ErrorKind::StorageFull,
+        error,
     }
 }
 
-/// A writer that takes nothing, and fails to flush too.
-fn full(alloc: Global) -> FailingWriter {
-    unflushed(alloc, 0)
-}
+/// What is said of an output that fails.
+const UNWRITTEN: &str = "applystream: the output could not be written\n";

@@ -41,7 +41,8 @@ fn each_usage_has_its_answer(rt: HostRuntime) {
 /// Fails where the status is another when neither stream takes anything.
 fn is_dropped(rt: &impl Abort, alloc: Global, usage: Usage, status: u8) {
     let usage = kept(rt, alloc, usage);
-    let (mut printed, mut said) = (full(alloc), full(alloc));
+    let mut printed = unflushed(alloc, 0, ErrorKind::StorageFull);
+    let mut said = unflushed(alloc, 0, ErrorKind::StorageFull);
     let found = answer_usage(usage, &mut printed, &mut said);
     status_is(rt, name_of(usage), found, status);
 }

@@ -1,8 +1,6 @@
 //! Outputs that fail at each byte, and faults that go out in one write.
 
-use super::faults::{UNWRITTEN, with_room};
 use super::*;
-use apply_hooks::HookError;
 use std::fmt::Display;
 
 /// A replacement that creates first.
@@ -24,20 +22,6 @@ const FAILED_DESTROY_STREAM: &str =
 {"@level":"info","@message":"Apply complete! Resources: 1 added, 0 changed, 0 destroyed.","@module":"terraform.ui","@timestamp":"1970-01-01T00:00:04Z","changes":{"add":1,"change":0,"operation":"apply","remove":0},"type":"change_summary"}
 "#;
 
-/// Runs both by so many workers into an output that fails, with a place for faults.
-fn run_to_failure<E: Write, T: Threads + Wait + Sync + Abort>(
-    rt: &T,
-    alloc: Global,
-    workers: u8,
-    output: FailingWriter,
-    said: &mut E,
-) -> (FailingWriter, u8) {
-    let settings = kept(rt, alloc, with_workers(alloc, workers));
-    let script = Some(FAILED_DESTROY_SCRIPT.as_bytes());
-    let plan = FAILED_DESTROY.as_bytes();
-    command(rt, alloc, settings, script, plan, output, said)
-}
-
 /// Fails where so many workers write something else than the first bytes of the stream, so many, or the status or what is
 /// said is another.
 fn fails_so<T: Threads + Wait + Sync + Abort>(
@@ -49,8 +33,13 @@ fn fails_so<T: Threads + Wait + Sync + Abort>(
     status: u8,
     text: &str,
 ) {
+    let settings = kept(rt, alloc, with_workers(alloc, workers));
+    let (plan, script) = (
+        FAILED_DESTROY.as_bytes(),
+        Some(FAILED_DESTROY_SCRIPT.as_bytes()),
+    );
     let mut said = Vec::new(alloc);
-    let (output, found) = run_to_failure(rt, alloc, workers, output, &mut said);
+    let (output, found) = command(rt, alloc, settings, script, plan, output, &mut said);
     let outcome = outcome_of(rt, alloc, found, output.taken, said);
     let front = front_of(rt, FAILED_DESTROY_STREAM, room);
     outcome_is(rt, front, outcome, status, front, text);
@@ -118,35 +107,16 @@ fn an_output_of_whole_lines_fails_under_eight_workers(rt: HostRuntime) {
     fails_with_each_write(&rt, rt.alloc(), 8, 4096);
 }
 
-/// Fails where so many workers do not end so over an output that takes all and fails to flush.
-fn fails_to_flush<T: Threads + Wait + Sync + Abort>(rt: &T, alloc: Global, workers: u8) {
-    let room = FAILED_DESTROY_STREAM.len();
-    let output = unflushed(alloc, room);
-    fails_so(rt, alloc, workers, output, room, 3, UNWRITTEN);
-}
-
+/// An output that takes all is not flushed: that is said, unless its reader is gone.
 #[test]
 fn a_flush_that_fails_is_said_so(rt: HostRuntime) {
-    let alloc = rt.alloc();
-    fails_to_flush(&rt, alloc, 1);
-    fails_to_flush(&rt, alloc, 2);
-    fails_to_flush(&rt, alloc, 8);
-}
-
-/// Where the place for faults takes nothing either, the status is the same.
-#[test]
-fn an_output_and_the_place_for_faults_fail(rt: HostRuntime) {
-    let alloc = rt.alloc();
-    let (output, mut said) = (with_room(alloc, 7, 100), full(alloc));
-    let (output, status) = run_to_failure(&rt, alloc, 1, output, &mut said);
-    let found = kept_bytes(&rt, alloc, output.taken);
-    text_is(
-        &rt,
-        "a front",
-        found,
-        front_of(&rt, FAILED_DESTROY_STREAM, 100),
-    );
-    status_is(&rt, "both fail", status, 3);
+    let (alloc, room) = (rt.alloc(), FAILED_DESTROY_STREAM.len());
+    for workers in [1, 2, 8] {
+        let output = unflushed(alloc, room, ErrorKind::StorageFull);
+        fails_so(&rt, alloc, workers, output, room, 3, UNWRITTEN);
+    }
+    let output = unflushed(alloc, room, ErrorKind::BrokenPipe);
+    fails_so(&rt, alloc, 1, output, room, 3, "");
 }
 
 /// Keeps what it is given, and counts the writes.
@@ -180,41 +150,23 @@ fn goes_out<D: Display + Drop>(rt: &impl Abort, alloc: Global, fault: D, wanted:
     writes
 }
 
-/// Fails where the fault has another text, or goes out in another number of writes than one.
-pub(super) fn goes_out_at_once<D: Display + Drop>(
-    rt: &impl Abort,
-    alloc: Global,
-    fault: D,
-    wanted: &str,
-) {
-    let writes = goes_out(rt, alloc, fault, wanted);
-    holds(rt, wanted, writes == 1);
-}
-
 #[test]
 fn a_fault_goes_out_in_one_write(rt: HostRuntime) {
     let alloc = rt.alloc();
     let unknown = Refusal::Script(ScriptError::TooManySteps(9999));
-    let text = "script entry 9999 has too many steps";
-    goes_out_at_once(&rt, alloc, unknown, text);
-    let address = Refusal::Plan(PlanError::BadAddress(9999));
-    let text = "change 9999 has an address that does not fit its module";
-    goes_out_at_once(&rt, alloc, address, text);
-    goes_out_at_once(&rt, alloc, HookError::Memory, "out of memory");
-    goes_out_at_once(&rt, alloc, "", "");
-}
-
-/// Fails where a text of so many letters is not said whole.
-fn goes_out_whole(rt: &impl Abort, alloc: Global, length: usize) {
-    let text = "a".repeat(alloc, length).expect(rt, "memory");
-    let text = kept_text(rt, alloc, text);
-    let _writes = goes_out(rt, alloc, text, text);
+    let writes = goes_out(&rt, alloc, unknown, "script entry 9999 has too many steps");
+    holds(&rt, "a fault", writes == 1);
+    holds(&rt, "nothing", goes_out(&rt, alloc, "", "") == 1);
 }
 
 /// A text that is longer than any fault's goes out whole all the same.
 #[test]
 fn a_long_fault_goes_out_whole(rt: HostRuntime) {
+    let alloc = rt.alloc();
+    let text = "a".repeat(alloc, 260).expect(&rt, "memory");
+    let text = kept_text(&rt, alloc, text);
     for length in 240..260 {
-        goes_out_whole(&rt, rt.alloc(), length);
+        let text = front_of(&rt, text, length);
+        let _writes = goes_out(&rt, alloc, text, text);
     }
 }

@@ -1,6 +1,5 @@
 //! Streams in Terraform's form, over outputs that fail.
 
-use super::faults::{UNWRITTEN, with_reader_gone, with_room};
 use super::*;
 use apply_cli::{run_command_in_form, run_in_form_and_lanes};
 
@@ -72,7 +71,7 @@ fn front_is<T: Threads + Wait + Sync + Abort>(rt: &T, alloc: Global, room: usize
     let output = with_room(alloc, 7, room);
     let outcome = told_by_worker(rt, alloc, output);
     outcome_is(rt, "a worker", outcome, 3, front, UNWRITTEN);
-    let output = with_reader_gone(alloc, room);
+    let output = unflushed(alloc, room, ErrorKind::BrokenPipe);
     let outcome = told_in_lanes(rt, alloc, output);
     outcome_is(rt, "two lanes", outcome, 3, front, "");
 }

@@ -1,6 +1,5 @@
 //! Runs with so many changes under way at once in the stream's own time.
 
-use super::faults::{UNWRITTEN, with_room};
 use super::*;
 use apply_cli::run_in_lanes;
 
@@ -54,14 +53,9 @@ pub(super) fn run_lanes<R: Read + Drop>(
     outcome_of(rt, alloc, status, printed, said)
 }
 
-/// What so many lanes make of the texts.
-fn lanes_make(rt: &impl Abort, alloc: Global, lanes: u8, plan: &str, script: &str) -> Outcome {
-    run_lanes(rt, alloc, lanes, script, plan.as_bytes())
-}
-
 /// Fails where so many lanes do not refuse the texts with this fault.
 fn is_refused(rt: &impl Abort, alloc: Global, lanes: u8, plan: &str, script: &str, fault: &str) {
-    let outcome = lanes_make(rt, alloc, lanes, plan, script);
+    let outcome = run_lanes(rt, alloc, lanes, script, plan.as_bytes());
     outcome_fails(rt, fault, outcome, 2, fault);
 }
 
@@ -78,21 +72,9 @@ fn lanes_are_looked_at_last(rt: &impl Abort, alloc: Global, lanes: u8) {
 #[test]
 fn what_is_refused_in_lanes_is_refused_in_its_order(rt: HostRuntime) {
     let alloc = rt.alloc();
-    lanes_are_looked_at_last(&rt, alloc, 0);
-    lanes_are_looked_at_last(&rt, alloc, 65);
-    lanes_are_looked_at_last(&rt, alloc, 255);
-}
-
-#[test]
-fn a_reader_that_fails_is_said_so_in_lanes(rt: HostRuntime) {
-    let input = FailingReader {
-        bytes: CREATES.as_bytes(),
-        before: 100,
-        fault: ErrorKind::Other,
-    };
-    let outcome = run_lanes(&rt, rt.alloc(), 2, NO_SCRIPT, input);
-    let fault = "the plan could not be read";
-    outcome_fails(&rt, fault, outcome, 2, fault);
+    for lanes in [0, 65, 255] {
+        lanes_are_looked_at_last(&rt, alloc, lanes);
+    }
 }
 
 /// Runs both creates at once into an output that fails.
@@ -120,6 +102,6 @@ fn an_output_that_fails_in_lanes_is_said_so(rt: HostRuntime) {
     }
     let outcome = run_to_failure(&rt, alloc, with_room(alloc, 7, whole));
     outcome_is(&rt, "all of it", outcome, 1, stream, "");
-    let outcome = run_to_failure(&rt, alloc, unflushed(alloc, whole));
+    let outcome = run_to_failure(&rt, alloc, unflushed(alloc, whole, ErrorKind::StorageFull));
     outcome_is(&rt, "no flush", outcome, 3, stream, UNWRITTEN);
 }
