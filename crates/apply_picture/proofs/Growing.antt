@@ -1,7 +1,6 @@
 -- Lines and pages that grow.
-use Rattle.std.proofs.Common.{◌≡◌, ◌∙◌, ℕ, ◌≤◌, ◌∷◌, [], ◌++◌, List, Option, Result, Ok, Err, ap, refl, subst, length, replicate, arith}
+use Rattle.std.proofs.Common.{◌≡◌, ◌∙◌, ℕ, ◌≤◌, ◌∷◌, [], ◌++◌, List, Option, Result, Ok, Err, ap, length, replicate, arith}
 use Rattle.std.specs.Prelude.{OnOk}
-use Rattle.std.specs.List.{AllZip}
 use Rattle.std.proofs.lemmas.Grind.{fold-append}
 use Rattle.apply_fitting.specs.Fitting.{without_blanks}
 use Rattle.apply_picture.specs.Lines.{HasMore, line_with, text_line, with_character, with_characters, with_styled}
@@ -27,16 +26,6 @@ pub headed_more : (width : ℕ) (heading : List ℕ) (lines more : List (List Pi
 headed_more width heading lines more headed grown fits =
     let h = headed fits in
     (h.0 ++ grown.0, grown.1 ∙ ap (λ ls. ls ++ grown.0) h.1)
-
-only : {A B : Type 0} (R : A → B → Type 0) (x : A) (ys : List B) → AllZip R (x ∷ []) ys → (y : B) × (ys ≡ y ∷ []) × R x y
-only R x [] all = absurd all
-only R x (y ∷ []) all = (y, refl, all.0)
-only R x (y ∷ (z ∷ ys)) all = absurd all.1
-
--- the only line
-pub one_line : {A B : Type 0} (R : A → B → Type 0) (xs : List A) (x : A) (ys : List B) → xs ≡ x ∷ [] → AllZip R xs ys
-    → (y : B) × (ys ≡ y ∷ []) × R x y
-one_line R xs x ys is all = only R x ys (subst (λ zs. AllZip R zs ys) is all)
 
 -- ---- a line with a text
 

@@ -1,84 +1,81 @@
--- What a page begins with.
-use Rattle.std.proofs.Common.{◌≡◌, ◌∙◌, ℕ, ◌+◌, ◌-◌, ◌<◌, ◌≤◌, ◌∷◌, [], ◌++◌, List, Option, None, Some, ap, subst, get_or, length, take, append_assoc, arith}
-use Rattle.std.specs.Prelude.{map}
-use Rattle.std.specs.List.{AllZip}
-use Rattle.std.proofs.lemmas.List.{map-append, take_all}
+-- What a page begins with, and what it has more.
+use Rattle.std.proofs.Common.{◌≡◌, ◌∙◌, ℕ, ◌+◌, ◌-◌, ◌<◌, ◌≤◌, ◌∷◌, [], ◌++◌, List, Bool, Option, None, Some, true, false, ap, subst, sym, get_or, length, take, append_assoc, arith}
+use Rattle.std.specs.Prelude.{◌==◌, if◌then◌else◌, map}
+use Rattle.std.proofs.lemmas.Bool.Decides.{nat_tests}
+use Rattle.std.proofs.lemmas.List.{map_more, take_all}
+use Rattle.apply_view.specs.declared.rows.choosing.Rows.{Rows}
 use Rattle.apply_fitting.specs.Columns.{columns_of}
-use Rattle.apply_fitting.specs.Fitting.{without_blanks}
-use Rattle.apply_picture.specs.LeftOut.{IsLeftOutAs}
-use Rattle.apply_picture.specs.Lines.{HasMore, line_with, text_line}
+use Rattle.apply_fitting.specs.Shown.{shown_characters}
+use Rattle.apply_picture.specs.Growth.{HasLines, HasMoreLines, lines_in}
+use Rattle.apply_picture.specs.LeftOut.{IsLeftOutAs, left_out_said, left_out_words}
+use Rattle.apply_picture.specs.Lines.{text_line}
 use Rattle.apply_picture.specs.Texts.{IsHeadedBy}
 use Rattle.apply_picture.specs.declared.text.line.Line.{Line}
-use Rattle.apply_picture.specs.declared.text.paint.Paint.{Paint}
+use Rattle.apply_picture.specs.declared.text.page.Page.{Page}
 use Rattle.apply_picture.specs.declared.text.paint.Paint.TheVariants as paint
-use Rattle.apply_fitting.proofs.Blanks.{twice}
-use Rattle.apply_picture.proofs.Growing.{one_line}
-use Rattle.apply_picture.proofs.Sent.{zip_more}
+use Rattle.apply_picture.specs.declared.text.piece.Piece.{Piece}
 
--- the line shows the text
-abbrev pub Shows : (width indent : ℕ) → Option Paint → (text : List ℕ) → Line → Type 0
-Shows width indent paint text line = line.pieces.items ≡ text_line width indent paint text
+-- ---- lines that a page has more
 
--- a line more of a text
-pub shown_more : (width indent : ℕ) (paint : Option Paint) (items : List (List ℕ)) (i : ℕ) (item : List ℕ) (old older newer news : List Line)
-    (line : Line) → i < length items → item ≡ get_or items i item → older ≡ old ++ news → newer ≡ older ++ line ∷ []
-    → AllZip (Shows width indent paint) (take i items) news → Shows width indent paint item line
-    → (more : List Line) × (newer ≡ old ++ more) × AllZip (Shows width indent paint) (take (i + 1) items) more
-shown_more width indent paint items i item old older newer news line below is had pushed all here = (
-  news ++ line ∷ [],
-  pushed ∙ ap (λ ls. ls ++ line ∷ []) had ∙ append_assoc old news (line ∷ []),
-  zip_more (Shows width indent paint) items i item news line below all (subst (λ (x : List ℕ). Shows width indent paint x line) is here),
-)
+pub lines_then : (a b c : Page) (xs ys : List (List Piece)) → HasLines a b xs → HasLines b c ys → HasMoreLines a c
+lines_then a b c xs ys first second whole =
+    let later = second whole in
+    let sooner = first later.0 in
+    (sooner.0, (xs ++ ys, later.1 ∙ ap (λ (ls : List (List Piece)). ls ++ ys) sooner.1 ∙ append_assoc (lines_in a) xs ys))
 
--- the only line of a text
-pub shown_line : (width indent limit : ℕ) (paint : Option Paint) (text : List ℕ) (lines items : List (List ℕ)) (i : ℕ) (old new news : List Line)
-    → items ≡ lines → length items ≤ i
-    → (columns_of text ≤ limit → lines ≡ without_blanks text ∷ []) → limit ≡ width - indent
-    → new ≡ old ++ news → AllZip (Shows width indent paint) (take i items) news → columns_of text ≤ width - indent
-    → (line : Line) × (new ≡ old ++ line ∷ []) × (line.pieces.items ≡ text_line width indent paint text)
-shown_line width indent limit paint text lines items i old new news are ends one is had all fits =
-    let room : columns_of text ≤ limit = omega (arith, fits, is) in
-    let all_of = subst (λ (xs : List (List ℕ)). AllZip (Shows width indent paint) xs news) (take_all i items ends ∙ are) all in
-    let shown = one_line (Shows width indent paint) lines (without_blanks text) news (one room) all_of in (
-      shown.0,
-      had ∙ ap (λ ls. old ++ ls) shown.1,
-      shown.2 ∙ ap (line_with width indent paint) (twice text),
+-- a text more
+pub texts_more : (first mid last : Page) (f : List ℕ → List Piece) (items : List (List ℕ)) (i : ℕ) (item : List ℕ) → i < length items
+    → item ≡ get_or items i item → HasLines first mid (map f (take i items)) → HasLines mid last (f item ∷ [])
+    → HasLines first last (map f (take (i + 1) items))
+texts_more first mid last f items i item below is before more whole =
+    let later = more whole in
+    let sooner = before later.0 in
+    let grown : map f (take i items) ++ f item ∷ [] ≡ map f (take (i + 1) items) =
+    ap (λ (x : List ℕ). map f (take i items) ++ f x ∷ []) is ∙ sym (map_more f items i item below) in (
+      sooner.0,
+      later.1 ∙ ap (λ (ls : List (List Piece)). ls ++ f item ∷ []) sooner.1 ∙ append_assoc (lines_in first) (map f (take i items)) (f item ∷ [])
+          ∙ ap (λ (ls : List (List Piece)). lines_in first ++ ls) grown,
     )
+
+pub texts_all : (first last : Page) (f : List ℕ → List Piece) (items : List (List ℕ)) (i : ℕ) → length items ≤ i
+    → HasLines first last (map f (take i items)) → HasLines first last (map f items)
+texts_all first last f items i ends has = subst (λ (xs : List (List ℕ)). HasLines first last (map f xs)) (take_all i items ends) has
 
 -- ---- what was done
 
-pub headed_first : (width : ℕ) (heading given : List ℕ) (old new : List Line) → given ≡ heading → old ≡ []
-    → (columns_of given ≤ width - 0 → (line : Line) × (new ≡ old ++ line ∷ []) × (line.pieces.items ≡ text_line width 0 (Some paint.Bold) given))
-    → IsHeadedBy width heading (map (λ (line : Line). line.pieces.items) new)
-headed_first width heading given old new is none told fits =
-    let same : columns_of given ≡ columns_of heading = ap columns_of is in
-    let room : columns_of given ≤ width - 0 = omega (arith, fits, same) in
-    let first = told room in (
-      [],
-      ap (map (λ (line : Line). line.pieces.items)) (first.1 ∙ ap (λ ls. ls ++ first.0 ∷ []) none)
-          ∙ ap (λ ps. ps ∷ []) (first.2 ∙ ap (text_line width 0 (Some paint.Bold)) is),
-    )
+pub headed : (width : ℕ) (heading : List ℕ) (old mid new : Page) → old.lines.items ≡ []
+    → (columns_of heading ≤ width - 0 → HasLines old mid (text_line width 0 (Some paint.Bold) heading ∷ [])) → HasMoreLines mid new
+    → new.is_whole ≡ true → IsHeadedBy width heading (lines_in new)
+headed width heading old mid new none told more whole fits =
+    let later = more whole in
+    let room : columns_of heading ≤ width - 0 = omega (arith, fits) in
+    let line = text_line width 0 (Some paint.Bold) heading in
+    let first = told room later.0 in
+    let only : lines_in mid ≡ line ∷ [] = first.1 ∙ ap (λ (ls : List Line). map (λ (l : Line). l.pieces.items) ls ++ line ∷ []) none in
+    (later.1.0, later.1.1 ∙ ap (λ (ls : List (List Piece)). ls ++ later.1.0) only)
 
 -- ---- what has no row
 
-pub left_out_line : (width indent told : ℕ) (said : Option (List ℕ)) (text : List ℕ) (old new : List Line) → Some text ≡ said → told ≡ indent → old ≡ []
-    → (columns_of text ≤ width - told → (line : Line) × (new ≡ old ++ line ∷ []) × (line.pieces.items ≡ text_line width told (Some paint.Dim) text))
-    → IsLeftOutAs width indent said (map (λ (line : Line). line.pieces.items) new)
-left_out_line width indent told said text old new is same none line =
-    subst (λ s. IsLeftOutAs width indent s (map (λ (line : Line). line.pieces.items) new)) is
-    (subst (λ n. columns_of text ≤ width - n → map (λ (line : Line). line.pieces.items) new ≡ text_line width n (Some paint.Dim) text ∷ []) same
-    (λ fits.
-    let only = line fits in
-    ap (map (λ (line : Line). line.pieces.items)) (only.1 ∙ ap (λ ls. ls ++ only.0 ∷ []) none) ∙ ap (λ ps. ps ∷ []) only.2))
+some_said : (n : ℕ) (said : List ℕ) → 1 ≤ n → (if n == 0 then None else Some said) ≡ Some said
+some_said n said some =
+    let test : (n == 0) ≡ false = grind (arith, nat_tests) in
+    ap (λ (none : Bool). if none then None else Some said) test
 
-pub left_out_none : (width indent : ℕ) (said : Option (List ℕ)) (lines : List Line) → None ≡ said → lines ≡ []
-    → IsLeftOutAs width indent said (map (λ (line : Line). line.pieces.items) lines)
-left_out_none width indent said lines is none =
-    subst (λ s. IsLeftOutAs width indent s (map (λ (line : Line). line.pieces.items) lines)) is (ap (map (λ (line : Line). line.pieces.items)) none)
+pub left_out_line : (width indent told : ℕ) (rows : Rows) (old new : Page) → 1 ≤ rows.left_out → told ≡ indent → old.lines.items ≡ []
+    → (columns_of (shown_characters (left_out_words rows)) ≤ width - told
+    → HasLines old new (text_line width told (Some paint.Dim) (shown_characters (left_out_words rows)) ∷ []))
+    → new.is_whole ≡ true → IsLeftOutAs width indent (left_out_said rows) (lines_in new)
+left_out_line width indent told rows old new some same none has whole =
+    let said = shown_characters (left_out_words rows) in
+    let line = text_line width told (Some paint.Dim) said in
+    subst (λ (s : Option (List ℕ)). IsLeftOutAs width indent s (lines_in new)) (sym (some_said rows.left_out said some))
+    (subst (λ (n : ℕ). columns_of said ≤ width - n → lines_in new ≡ text_line width n (Some paint.Dim) said ∷ []) same
+    (λ fits. (has fits whole).1 ∙ ap (λ (ls : List Line). map (λ (l : Line). l.pieces.items) ls ++ line ∷ []) none))
 
-pub pieces_more : (before after : List Line) → HasMore before after
-    → HasMore (map (λ (line : Line). line.pieces.items) before) (map (λ (line : Line). line.pieces.items) after)
-pieces_more before after grown = (
-  map (λ (line : Line). line.pieces.items) grown.0,
-  ap (map (λ (line : Line). line.pieces.items)) grown.1 ∙ map-append (λ (line : Line). line.pieces.items) before grown.0,
-)
+pub left_out_none : (width indent : ℕ) (rows : Rows) (page : Page) → rows.left_out ≡ 0 → page.lines.items ≡ []
+    → IsLeftOutAs width indent (left_out_said rows) (lines_in page)
+left_out_none width indent rows page left none =
+    let said = shown_characters (left_out_words rows) in
+    let unsaid : left_out_said rows ≡ None = ap (λ (n : ℕ). if n == 0 then None else Some said) left in
+    subst (λ (s : Option (List ℕ)). IsLeftOutAs width indent s (lines_in page)) (sym unsaid)
+    (ap (λ (ls : List Line). map (λ (l : Line). l.pieces.items) ls) none)

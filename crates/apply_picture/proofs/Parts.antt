@@ -1,17 +1,19 @@
 -- Parts of the SVG that were written, one behind another.
 use Rattle.std.proofs.Common.{◌≡◌, ◌∙◌, ℕ, ◌+◌, ◌<◌, ◌∷◌, [], ◌++◌, List, Option, None, Some, ap, ap₂, subst, sym, get_or, length, take, append-nil, append_assoc, codes}
-use Rattle.std.specs.Prelude.{IfSome, map}
-use Rattle.std.specs.List.{AllZip, flat_map, slice_get}
+use Rattle.std.specs.Prelude.{IfSome}
+use Rattle.std.specs.List.{AllZip, slice_get}
 use Rattle.std.specs.Io.KnownBytes.{Appends, Keeps}
 use Rattle.std.proofs.KnownBytes.{Appends-kept, Appends-nil, Appends-trans}
 use Rattle.std.proofs.lemmas.Grind.{flat_map-append}
 use Rattle.apply_view.specs.Steps.{ToldStep}
 use Rattle.apply_view.specs.declared.told.moments.Moments.{Moments}
 use Rattle.apply_fitting.specs.Shown.{shown_characters}
+use Rattle.apply_picture.specs.Growth.{HasParts}
 use Rattle.apply_picture.specs.Heading.{heading_words}
 use Rattle.apply_picture.specs.LeftOut.{left_out_said}
 use Rattle.apply_picture.specs.Markup.{Axis, GroupWritten, GroupsWritten, HeadWritten, IsGroupAt, IsGroupOf, IsLeftOutIn, MarkupWritten, PartsWritten, SvgWritten, axis_of, bar_left, bar_parts, bar_width, heading_title, joined, line_parts, part_bytes, title_parts, whole_title}
 use Rattle.apply_picture.specs.declared.picture.Picture.{Picture}
+use Rattle.apply_picture.specs.declared.svg.markup.Markup.{Markup}
 use Rattle.apply_picture.specs.declared.svg.part.Part.{Part}
 use Rattle.apply_picture.specs.declared.svg.part.Part.TheVariants as part
 use Rattle.apply_picture.specs.declared.svg.word.Word.TheVariants as word
@@ -29,6 +31,17 @@ parts_sent ps old new a b none told sent =
 pub ended_by : (end : Part) (ps new : List Part) (a b : Option (List ℕ)) → new ≡ ps ++ end ∷ [] → PartsWritten new a b
     → (back : List Part) × PartsWritten (back ++ end ∷ []) a b
 ended_by end ps new a b is sent = (ps, subst (λ (qs : List Part). PartsWritten qs a b) is sent)
+
+-- ---- parts that the markup has more
+
+pub parts_more : (a b c : Markup) (ps qs : List Part) → HasParts a b ps → HasParts b c qs → HasParts a c (ps ++ qs)
+parts_more a b c ps qs first second whole =
+    let later = second whole in
+    let sooner = first later.0 in
+    (sooner.0, later.1 ∙ ap (λ (xs : List Part). xs ++ qs) sooner.1 ∙ append_assoc a.parts.items ps qs)
+
+pub some_parts : (a b : Markup) (ps : List Part) → HasParts a b ps → (parts : List Part) × HasParts a b parts
+some_parts a b ps has = (ps, has)
 
 -- ---- any parts
 
@@ -93,15 +106,17 @@ group_more axis picture places i a b c below before more =
 -- ---- the whole
 
 -- what was done stands between two tags, behind what came before
-pub head_written : (picture : Picture) (a b c d : Option (List ℕ)) (what : List ℕ)
+pub head_written : (picture : Picture) (a d : Option (List ℕ)) (what : List ℕ) (opening style p0 p1 p2 p3 : List Part)
     → what ≡ shown_characters (heading_words picture.moments picture.told.now picture.numbers)
-    → MarkupWritten a b → PartsWritten (whole_title what) b c → MarkupWritten c d → HeadWritten picture a d
-head_written picture a b c d what is opening title style = record {
-  parts = opening.parts ++ whole_title what ++ style.parts;
-  titled = record { front = opening.parts; back = style.parts; is = ap (λ (cs : List ℕ). opening.parts ++ whole_title cs ++ style.parts) is };
-  written = parts_then (opening.parts ++ whole_title what) style.parts a c d
-      (parts_then opening.parts (whole_title what) a b c opening.written title) style.written;
-}
+    → p0 ≡ [] → p1 ≡ p0 ++ opening → p2 ≡ p1 ++ whole_title what → p3 ≡ p2 ++ style → PartsWritten p3 a d → HeadWritten picture a d
+head_written picture a d what opening style p0 p1 p2 p3 is none opened titled styled sent =
+    let title : p2 ≡ opening ++ heading_title picture =
+    titled ∙ ap₂ (λ (ps : List Part) (cs : List ℕ). ps ++ whole_title cs) (opened ∙ ap (λ (ps : List Part). ps ++ opening) none) is in
+    record {
+      parts = p3;
+      titled = record { front = opening; back = style; is = styled ∙ ap (λ (ps : List Part). ps ++ style) title };
+      written = sent;
+    }
 
 regrouped : (x b o g : List Part) → ((x ++ b) ++ o) ++ g ≡ x ++ ((b ++ o) ++ g)
 regrouped x b o g = simp append_assoc

@@ -1,5 +1,5 @@
 -- The row of a step, made of one thing behind another.
-use Rattle.std.proofs.Common.{◌≡◌, ◌∙◌, ℕ, ◌+◌, ◌-◌, ◌*◌, ◌/◌, ◌%◌, ◌<◌, ◌≤◌, ◌∷◌, [], ◌++◌, List, Bool, true, false, Option, None, Some, ap, ap₂, refl, sym, get_or, length, take, drop, replicate, arith}
+use Rattle.std.proofs.Common.{◌≡◌, ◌∙◌, ℕ, ◌+◌, ◌-◌, ◌*◌, ◌/◌, ◌%◌, ◌<◌, ◌≤◌, ◌∷◌, [], ◌++◌, List, Bool, true, false, None, Some, ap, ap₂, refl, sym, get_or, length, take, drop, replicate, arith}
 use Rattle.std.specs.Prelude.{if◌then◌else◌, is_some, map, max, min}
 use Rattle.std.specs.List.{range_with_len, slice_get}
 use Rattle.std.specs.Option.{option_map_or}
@@ -12,7 +12,7 @@ use Rattle.apply_fitting.specs.Columns.{columns_of}
 use Rattle.apply_fitting.specs.Fitting.{at_left, at_right, fitted, without_blanks}
 use Rattle.apply_picture.specs.Columns.{column_text, columns_at, widest}
 use Rattle.apply_picture.specs.Lines.{with_character, with_characters, with_styled}
-use Rattle.apply_picture.specs.Rows.{Layout, bar_character, bar_of, end_half_of, first_half_of, layout_of, length_words, mark_of, paint_of, row_at, row_of, with_bar, with_dim, with_length, with_names, with_row}
+use Rattle.apply_picture.specs.Rows.{Layout, bar_character, bar_of, end_half_of, first_half_of, layout_of, length_characters, length_words, mark_of, paint_of, row_at, row_of, with_bar, with_dim, with_length, with_names, with_row}
 use Rattle.apply_fitting.specs.Shown.{shown_characters}
 use Rattle.apply_picture.specs.declared.column.Column.TheVariants as column
 use Rattle.apply_picture.specs.declared.picture.Picture.{Picture}
@@ -64,25 +64,25 @@ names_pushed width w1 w2 w3 w4 layout step paint old p1 p2 p3 p4 p5 action addre
     (at_left layout.label (fitted layout.label (shown_characters a))) in
     is5 ∙ ap₂ (λ w ps. with_characters w ps (at_left layout.label (fitted layout.label (shown_characters address)))) width4 blank ∙ ap named is_address
 
--- what is told of the length of a step
-abbrev length_characters : Moments → ToldStep → List ℕ
-length_characters moments step = mark_of step ∷ at_right 8 (fitted 8 (shown_characters (length_words moments step)))
+-- its mark, and how long it took
+pub marked_pushed : (width w1 : ℕ) (moments : Moments) (step : ToldStep) (old p1 p2 : List Piece) (mark : ℕ) (text : List ℕ) → mark ≡ mark_of step
+    → text ≡ fitted 8 (shown_characters (length_words moments step)) → w1 ≡ width → p1 ≡ with_character width old mark
+    → p2 ≡ with_characters w1 p1 (at_right 8 text) → p2 ≡ with_characters width old (length_characters moments step)
+marked_pushed width w1 moments step old p1 p2 mark text is_mark is_text same is1 is2 =
+    is2 ∙ ap₂ (λ w ps. with_characters w ps (at_right 8 text)) same is1
+    ∙ ap₂ (λ m t. with_characters width old (m ∷ at_right 8 t)) is_mark is_text
 
-pub red_pushed : (width w1 : ℕ) (moments : Moments) (step : ToldStep) (old p1 p2 p3 : List Piece) (mark : ℕ) (text : List ℕ) → step.failed ≡ true
-    → mark ≡ mark_of step → text ≡ fitted 8 (shown_characters (length_words moments step)) → w1 ≡ width → p1 ≡ old ++ piece.Begin paint.Red ∷ []
-    → p2 ≡ with_characters w1 p1 (mark ∷ at_right 8 text) → p3 ≡ p2 ++ piece.End ∷ [] → p3 ≡ with_length width moments step old
-red_pushed width w1 moments step old p1 p2 p3 mark text failed is_mark is_text same is1 is2 is3 =
-    let told = is2 ∙ ap₂ (λ w ps. with_characters w ps (mark ∷ at_right 8 text)) same is1
-    ∙ ap₂ (λ m t. with_characters width (old ++ piece.Begin paint.Red ∷ []) (m ∷ at_right 8 t)) is_mark is_text in
-    is3 ∙ ap (λ ps. ps ++ piece.End ∷ []) told
+pub red_pushed : (width w1 : ℕ) (moments : Moments) (step : ToldStep) (old p1 p2 p3 : List Piece) → step.failed ≡ true → w1 ≡ width
+    → p1 ≡ old ++ piece.Begin paint.Red ∷ [] → p2 ≡ with_characters w1 p1 (length_characters moments step) → p3 ≡ p2 ++ piece.End ∷ []
+    → p3 ≡ with_length width moments step old
+red_pushed width w1 moments step old p1 p2 p3 failed same is1 is2 is3 =
+    is3 ∙ ap (λ ps. ps ++ piece.End ∷ []) (is2 ∙ ap₂ (λ w ps. with_characters w ps (length_characters moments step)) same is1)
     ∙ sym (ap (λ b. with_styled width old (if b then Some paint.Red else None) (length_characters moments step)) failed)
 
-pub plain_pushed : (width : ℕ) (moments : Moments) (step : ToldStep) (old new : List Piece) (mark : ℕ) (text : List ℕ) → step.failed ≡ false
-    → mark ≡ mark_of step → text ≡ fitted 8 (shown_characters (length_words moments step))
-    → new ≡ with_characters width old (mark ∷ at_right 8 text) → new ≡ with_length width moments step old
-plain_pushed width moments step old new mark text failed is_mark is_text is =
-    is ∙ ap₂ (λ m t. with_characters width old (m ∷ at_right 8 t)) is_mark is_text
-    ∙ sym (ap (λ b. with_styled width old (if b then Some paint.Red else None) (length_characters moments step)) failed)
+pub plain_pushed : (width : ℕ) (moments : Moments) (step : ToldStep) (old new : List Piece) → step.failed ≡ false
+    → new ≡ with_characters width old (length_characters moments step) → new ≡ with_length width moments step old
+plain_pushed width moments step old new failed is =
+    is ∙ sym (ap (λ b. with_styled width old (if b then Some paint.Red else None) (length_characters moments step)) failed)
 
 -- ---- the bar
 
@@ -94,16 +94,20 @@ pub dim_none : (width : ℕ) (ps : List Piece) (cs : List ℕ) → length cs ≡
 dim_none width ps [] none = refl
 dim_none width ps (c ∷ cs) none = absurd (omega (arith, none))
 
-abbrev bar_characters : (failed ended : Bool) → (first_half end_half first end : ℕ) → List ℕ
+abbrev pub bar_characters : (failed ended : Bool) → (first_half end_half first end : ℕ) → List ℕ
 bar_characters failed ended first_half end_half first end = map (bar_character failed ended first_half end_half) (range_with_len first (end - first))
 
 -- one cell more
-pub bar_more : (F : ℕ → ℕ) (first cell x : ℕ) (old new : List ℕ) → first ≤ cell → old ≡ map F (range_with_len first (cell - first)) → x ≡ F cell
-    → new ≡ old ++ x ∷ [] → new ≡ map F (range_with_len first (cell + 1 - first))
-bar_more F first cell x old new from before is more =
+pub bar_more : (F : ℕ → ℕ) (width w first cell x : ℕ) (start old new : List Piece) → first ≤ cell → w ≡ width
+    → old ≡ with_characters width start (map F (range_with_len first (cell - first))) → x ≡ F cell → new ≡ with_character w old x
+    → new ≡ with_characters width start (map F (range_with_len first (cell + 1 - first)))
+bar_more F width w first cell x start old new from same before is more =
     let next : cell + 1 - first ≡ cell - first + 1 = omega (arith, from) in
-    more ∙ ap₂ (λ cs c. cs ++ c ∷ []) before is
-    ∙ sym (ap (λ n. map F (range_with_len first n)) next ∙ map-range_with_len_more F first (cell - first) cell (omega (arith, from)))
+    let cells = map F (range_with_len first (cell - first)) in
+    let grown : cells ++ F cell ∷ [] ≡ map F (range_with_len first (cell + 1 - first)) =
+    sym (ap (λ n. map F (range_with_len first n)) next ∙ map-range_with_len_more F first (cell - first) cell (omega (arith, from))) in
+    more ∙ ap₂ (λ v ps. with_character v ps x) same before ∙ ap (with_character width (with_characters width start cells)) is
+    ∙ sym (characters-append width start cells (F cell ∷ [])) ∙ ap (with_characters width start) grown
 
 -- ticks, the bar, and ticks
 pub bar_pushed : (width w1 w2 cells : ℕ) (moments : Moments) (step : ToldStep) (paint : Paint) (ticks : List ℕ) (old p1 p2 p3 : List Piece)
@@ -135,11 +139,11 @@ bar_pushed width w1 w2 cells moments step paint ticks old p1 p2 p3 failed ended 
 
 -- ---- the whole row
 
-pub row_pushed : (width w0 w1 w2 w3 w4 : ℕ) (layout : Layout) (moments : Moments) (ticks : List ℕ) (step : ToldStep) (paint : Paint)
-    (p0 p1 p2 p3 p4 p5 : List Piece) → paint ≡ paint_of step → w0 ≡ width → w1 ≡ w0 → w2 ≡ w1 → w3 ≡ w2 → w4 ≡ w3 → p0 ≡ []
+pub row_pushed : (width w0 w1 w2 w3 w4 : ℕ) (layout : Layout) (moments : Moments) (ticks : List ℕ) (step : ToldStep)
+    (p0 p1 p2 p3 p4 p5 : List Piece) → w0 ≡ width → w1 ≡ w0 → w2 ≡ w1 → w3 ≡ w2 → w4 ≡ w3 → p0 ≡ []
     → p1 ≡ with_names w0 layout step p0 → p2 ≡ with_character w1 p1 32 → p3 ≡ with_length w2 moments step p2 → p4 ≡ with_character w3 p3 32
-    → p5 ≡ with_bar w4 paint ticks (bar_of layout.cells moments step) p4 → p5 ≡ with_row width layout moments ticks step []
-row_pushed width w0 w1 w2 w3 w4 layout moments ticks step paint p0 p1 p2 p3 p4 p5 is_paint v0 v1 v2 v3 v4 is0 is1 is2 is3 is4 is5 =
+    → p5 ≡ with_bar w4 (paint_of step) ticks (bar_of layout.cells moments step) p4 → p5 ≡ with_row width layout moments ticks step []
+row_pushed width w0 w1 w2 w3 w4 layout moments ticks step p0 p1 p2 p3 p4 p5 v0 v1 v2 v3 v4 is0 is1 is2 is3 is4 is5 =
     let width1 = v1 ∙ v0 in
     let width2 = v2 ∙ width1 in
     let width3 = v3 ∙ width2 in
@@ -148,9 +152,7 @@ row_pushed width w0 w1 w2 w3 w4 layout moments ticks step paint p0 p1 p2 p3 p4 p
     let first = is2 ∙ ap₂ (λ w ps. with_character w ps 32) width1 names in
     let length = is3 ∙ ap₂ (λ w ps. with_length w moments step ps) width2 first in
     let second = is4 ∙ ap₂ (λ w ps. with_character w ps 32) width3 length in
-    is5 ∙ ap₂ (λ w ps. with_bar w paint ticks (bar_of layout.cells moments step) ps) width4 second
-    ∙ ap (λ p. with_bar width p ticks (bar_of layout.cells moments step)
-    (with_character width (with_length width moments step (with_character width (with_names width layout step []) 32)) 32)) is_paint
+    is5 ∙ ap₂ (λ w ps. with_bar w (paint_of step) ticks (bar_of layout.cells moments step) ps) width4 second
 
 -- that of the step at a place
 pub row_placed : (width place : ℕ) (layout : Layout) (picture : Picture) (ticks : List ℕ) (step : ToldStep) (row : List Piece)

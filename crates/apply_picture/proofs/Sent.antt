@@ -1,13 +1,12 @@
 -- What was written, with more of it.
-use Rattle.std.proofs.Common.{◌≡◌, ◌∙◌, ℕ, ◌+◌, ◌<◌, ◌≤◌, ◌∷◌, [], ◌++◌, List, Bool, Option, None, Some, ap, ap₂, subst, sym, get_or, length, take, append-nil, append_assoc, codes, arith}
-use Rattle.std.specs.Prelude.{All, IfSome, map}
-use Rattle.std.specs.List.{AllZip, flat_map, slice_get}
+use Rattle.std.proofs.Common.{◌≡◌, ◌∙◌, ℕ, ◌+◌, ◌<◌, ◌≤◌, ◌∷◌, [], ◌++◌, List, Bool, Option, ap, subst, sym, get_or, length, take, append-nil, arith}
+use Rattle.std.specs.Prelude.{All, map}
+use Rattle.std.specs.List.{AllZip, flat_map}
 use Rattle.std.specs.Io.KnownBytes.{Appends, Keeps}
 use Rattle.std.proofs.KnownBytes.{Appends-kept, Appends-nil, Appends-trans}
 use Rattle.std.proofs.lemmas.Grind.{flat_map-append}
 use Rattle.std.proofs.lemmas.List.{map-append, map_more, take_all, take_more}
 use Rattle.std.proofs.lemmas.List.Elements.{All-append}
-use Rattle.apply_view.specs.Steps.{ToldStep}
 use Rattle.apply_view.specs.declared.rows.choosing.Rows.{Rows}
 use Rattle.apply_picture.specs.LeftOut.{IsLeftOutAs, left_out_said}
 use Rattle.apply_picture.specs.Lines.{IsLine, LinesWritten, line_bytes, text_bytes}

@@ -2,12 +2,14 @@ pub mod Axes
 pub mod Charts
 pub mod Columns
 pub mod CommandLine
+pub mod Growth
 pub mod Heading
 pub mod Kinds
 pub mod LeftOut
 pub mod Lines
 pub mod Markup
 pub mod Rows
+pub mod Sayings
 pub mod Texts
 pub mod Usages
 pub mod Viewed

@@ -1,5 +1,5 @@
 -- The row of a step in a text: its action, its address, how long it took, and its bar.
-use Rattle.std.specs.Prelude.{◌≡◌, ◌+◌, ◌-◌, ◌*◌, ◌/◌, ◌++◌, ◌∷◌, ◌&&◌, ◌⊎◌, [], ℕ, List, All, Bool, Option, None, Some, drop, encode_utf8, if◌then◌else◌, is_none, is_some, length, map, max, min, nat_le, nat_lt, not, take}
+use Rattle.std.specs.Prelude.{◌≡◌, ◌+◌, ◌-◌, ◌*◌, ◌/◌, ◌++◌, ◌∷◌, ◌&&◌, ◌⊎◌, [], ℕ, List, All, Bool, None, Some, drop, encode_utf8, if◌then◌else◌, is_none, is_some, length, map, max, min, nat_le, nat_lt, not, take}
 use Rattle.std.specs.List.{range_with_len, slice_get}
 use Rattle.std.specs.Int.{int_gap}
 use Rattle.std.specs.Option.{option_map_or}
@@ -67,11 +67,15 @@ with_names width layout step pieces =
     (with_character width (with_styled width pieces (Some (paint_of step)) (at_left layout.action (fitted layout.action (shown_characters step.action)))) 32)
     (at_left layout.label (fitted layout.label (shown_characters step.address)))
 
--- its mark, and how long it took, red where it failed
+-- its mark, and how long it took
+abbrev pub length_characters : Moments → ToldStep → List ℕ
+length_characters moments step = mark_of step ∷ at_right 8 (fitted 8 (shown_characters (length_words moments step)))
+
+-- the same, red where it failed
 abbrev pub with_length : (width : ℕ) → Moments → ToldStep → List Piece → List Piece
 with_length width moments step pieces =
     with_styled width pieces (if step.failed then Some paint.Red else None)
-    (mark_of step ∷ at_right 8 (fitted 8 (shown_characters (length_words moments step))))
+    (length_characters moments step)
 
 -- ---- the bar
 

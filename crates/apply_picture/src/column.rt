@@ -7,7 +7,8 @@ ghost use Rattle.apply_fitting.specs.Shown.{shown_characters};
 ghost use Rattle.apply_picture.specs.Columns.{column_text, columns_at, widest};
 
 use crate::picture::Picture;
-use apply_fitting::{ShownText, fitted};
+use crate::words::within::shown_within;
+use apply_fitting::ShownText;
 use apply_view::Step;
 use std::alloc::{AllocError, Global};
 
@@ -40,8 +41,7 @@ impl Column {
 pub fn label_of(alloc: Global, step: &Step) -> Result<ShownText, AllocError>
     ensures { IfOk result (λ text. text ≡ fitted 64 (shown_characters step.now.address)) }
 {
-    let address = ShownText::of(alloc, step.address().as_bytes())?;
-    fitted(alloc, &address, LABEL)
+    shown_within(alloc, step.address().as_bytes(), LABEL)
 }
 
 /// How many columns the widest of the rows takes there.

@@ -1,7 +1,5 @@
 //! How durations and numbers are said.
 
-pub(crate) mod count;
-pub(crate) mod duration;
-pub(crate) mod number;
-pub(crate) mod tick;
+pub(crate) mod saying;
 pub(crate) mod tick_step;
+pub(crate) mod within;

@@ -2,8 +2,8 @@
 
 ghost use Rattle.std.specs.Prelude.{◌≡◌, None, Some, false, true, IfErr, IfOk, IfSome, codes, map, string_bytes};
 ghost use Rattle.clap.specs.Matches.{found_of};
-ghost use Rattle.clap.specs.Simple.{app_of};
-ghost use Rattle.clap.specs.Walk.{one_of, rows_of as found_rows, rule_of};
+ghost use Rattle.clap.specs.Simple.{App, app_of, with_rule};
+ghost use Rattle.clap.specs.Walk.{Rule, one_of, rows_of as found_rows, rule_of};
 ghost use Rattle.apply_picture.specs.CommandLine.{AreRowsSaid, AreSaid, HaveSaid, IsNumber, IsTextSaid, SayNoSettings, TakesColours, are_beside, colour_of_word, colour_rule, colour_said, command_line, flag_named, is_given, number_named, rows_of_form, width_rule};
 ghost use Rattle.apply_picture.specs.Usages.{IsWordsOrMemory};
 ghost use Rattle.apply_picture.specs.declared.command.form.Form.TheVariants as form;
@@ -79,7 +79,7 @@ fn usage_beside(alloc: Global, words: &[String]) -> Usage
 
 /// The options, and their help.
 fn command<'a>(alloc: Global) -> Result<Command<'a>, AllocError>
-    ensures { IfOk result (λ command. (colours : _) × TakesColours colours × (app_of command ≡ command_line colours)) }
+    ensures { (colours : _) × TakesColours colours × IfOk result (λ command. app_of command ≡ command_line colours) }
 {
     command_of(alloc, svg(alloc), all(alloc))
 }
@@ -95,18 +95,35 @@ fn strict_command<'a>(alloc: Global) -> Result<Command<'a>, AllocError> {
 fn command_of<'a>(alloc: Global, svg: Arg<'a>, all: Arg<'a>) -> Result<Command<'a>, AllocError>
     ensures { rule_of svg.entry ≡ flag_named (codes "svg") → svg.entry.global ≡ false
         → rule_of all.entry ≡ flag_named (codes "all") → all.entry.global ≡ false
-        → IfOk result (λ command. (colours : _) × TakesColours colours × (app_of command ≡ command_line colours)) }
+        → (colours : _) × TakesColours colours × IfOk result (λ command. app_of command ≡ command_line colours) }
 {
-    Command::new(alloc, "applystream view")
-        .no_binary_name(true)
-        .about(ABOUT)
-        .after_help(AFTER)
-        .arg(svg)?
-        .arg(rows(alloc))?
-        .arg(all)?
-        .arg(width(alloc))?
-        .arg(color(alloc))?
-        .arg(file(alloc))
+    let line = Ok(
+        Command::new(alloc, "applystream view")
+            .no_binary_name(true)
+            .about(ABOUT)
+            .after_help(AFTER),
+    );
+    let line = add(line, svg);
+    let line = add(line, rows(alloc));
+    let line = add(line, all);
+    let line = add(line, width(alloc));
+    let line = add(line, color(alloc));
+    add(line, file(alloc))
+}
+
+/// The command, where there is one, with an option more. A list of options by this has one way out, and not one for each.
+fn add<'a>(
+    command: Result<Command<'a>, AllocError>,
+    option: Arg<'a>,
+) -> Result<Command<'a>, AllocError>
+    ensures { (app : App) (rule : Rule) → IfOk command.entry (λ without. app_of without ≡ app)
+        → rule_of option.entry ≡ rule → option.entry.global ≡ false
+        → IfOk result (λ with. app_of with ≡ with_rule app rule) }
+{
+    match command {
+        Ok(command) => command.arg(option),
+        Err(refused) => Err(refused),
+    }
 }
 
 fn svg<'a>(alloc: Global) -> Arg<'a>

@@ -5,68 +5,65 @@ use crate::svg::markup::Markup;
 use crate::svg::part::Part;
 use crate::svg::scale::Scale;
 use crate::svg::word::Word;
-use crate::words::count::Count;
+use crate::words::saying::Saying;
 use apply_view::levels_of;
-use std::alloc::{AllocError, Global};
 
 /// How high the area is.
 const HIGH: u64 = 30;
 
-/// Adds the area at that height, with a level for each pixel; answers how high it is.
-pub fn push_at_once(
-    alloc: Global,
-    markup: &mut Markup,
-    picture: &Picture<'_>,
-    scale: Scale,
-    y: u64,
-) -> Result<u64, AllocError> {
+/// Adds the area at that height, with a level for each pixel, where two steps were ever at once; answers how high it is.
+pub fn push_at_once(markup: &mut Markup, picture: &Picture<'_>, scale: Scale, y: u64) -> u64 {
+    if picture.numbers.peak <= 1 {
+        return 0;
+    }
     let bottom = y.saturating_add(HIGH);
-    push_peak(
-        alloc,
-        markup,
-        picture,
-        scale.left.saturating_sub(80),
-        bottom,
-    )?;
+    push_peak(markup, picture, scale.left.saturating_sub(80), bottom);
     markup.add(&[
         Part::Own(Word::PathBegin),
         Part::Own(Word::MoveTo),
         Part::Tenths(scale.left),
         Part::Own(Word::Space),
         Part::Number(bottom),
-    ])?;
-    push_levels(alloc, markup, picture, scale, bottom)?;
+    ]);
+    push_levels(markup, picture, scale, bottom);
     markup.add(&[
         Part::Own(Word::DownTo),
         Part::Number(bottom),
         Part::Own(Word::LevelEnd),
-    ])?;
-    Ok(HIGH + 4)
+    ]);
+    HIGH + 4
 }
 
 /// Adds how many there were at most.
-fn push_peak(
-    alloc: Global,
-    markup: &mut Markup,
-    picture: &Picture<'_>,
-    x: u64,
-    y: u64,
-) -> Result<(), AllocError> {
-    let peak = Count(picture.numbers.peak as u64);
-    let text = format!(in alloc; "at once, at most {peak}")?;
-    markup.line_of(alloc, x, y, Word::SmallSoftEnd, text.as_str())
+fn push_peak(markup: &mut Markup, picture: &Picture<'_>, x: u64, y: u64) {
+    let mut text = Saying::new(markup.alloc());
+    text.text("at once, at most ");
+    text.count(picture.numbers.peak as u64);
+    markup.line_of(x, y, Word::SmallSoftEnd, &text);
 }
 
 /// Adds the line above the area.
-fn push_levels(
-    alloc: Global,
+fn push_levels(markup: &mut Markup, picture: &Picture<'_>, scale: Scale, bottom: u64) {
+    let cells = u32::try_from(scale.width() / 10).unwrap_or(0);
+    let stretches = &picture.numbers.stretches;
+    match levels_of(markup.alloc(), stretches, scale.span, cells) {
+        Ok(levels) => push_line(markup, picture, scale, bottom, &levels),
+        Err(_) => markup.keep(false),
+    }
+    markup.add(&[
+        Part::Own(Word::AcrossTo),
+        Part::Tenths(end_of(scale, cells as u64)),
+    ]);
+}
+
+/// Adds where the level changes, from pixel to pixel.
+fn push_line(
     markup: &mut Markup,
     picture: &Picture<'_>,
     scale: Scale,
     bottom: u64,
-) -> Result<(), AllocError> {
-    let cells = u32::try_from(scale.width() / 10).unwrap_or(0);
-    let levels = levels_of(alloc, &picture.numbers.stretches, scale.span, cells)?;
+    levels: &[usize],
+) {
     let mut before = 0;
     for (cell, level) in levels.iter().enumerate() {
         if *level != before {
@@ -76,14 +73,10 @@ fn push_levels(
                 Part::Tenths(end_of(scale, cell as u64)),
                 Part::Own(Word::DownTo),
                 Part::Tenths(bottom.saturating_mul(10).saturating_sub(high)),
-            ])?;
+            ]);
             before = *level;
         }
     }
-    markup.add(&[
-        Part::Own(Word::AcrossTo),
-        Part::Tenths(end_of(scale, cells as u64)),
-    ])
 }
 
 /// Where a pixel begins, to which the line goes.

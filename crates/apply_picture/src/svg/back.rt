@@ -1,6 +1,6 @@
 //! What stands below the rows.
 
-ghost use Rattle.std.specs.Prelude.{◌≡◌, ◌++◌, [], IfOk, OnOk};
+ghost use Rattle.std.specs.Prelude.{◌≡◌, ◌++◌, [], OnOk, true};
 ghost use Rattle.apply_picture.specs.LeftOut.{left_out_said};
 ghost use Rattle.apply_picture.specs.Markup.{IsLeftOutIn, PartsWritten};
 
@@ -11,14 +11,16 @@ use crate::svg::markup::Markup;
 use crate::svg::scale::Scale;
 use crate::svg::sheet::{CHARACTER, EDGE, ROW, ROWS_IN_SIGHT, WIDTH};
 use crate::svg::word::Word;
-use crate::telling::alone::{alone_places, alone_text, alone_time};
+use crate::telling::alone::{alone_text, alone_time, long_alone};
 use crate::telling::left_out::left_out;
 use crate::telling::note::{Note, Voice};
-use crate::telling::notes::notes;
+use crate::telling::notes::Notes;
 use crate::telling::passed::passed;
-use apply_fitting::wrapped;
+use crate::words::saying::Saying;
+use apply_fitting::{ShownText, wrapped};
 use apply_view::Step;
-use std::alloc::{AllocError, Global};
+use std::alloc::Global;
+use std::cmp::Reverse;
 use std::io::Write;
 
 /// Where the columns of what was alone under way stand, in tenths of a pixel from the edge.
@@ -49,173 +51,152 @@ pub struct Back {
 }
 
 impl Back {
-    /// What stands below the rows, from that height on. `Err` where memory is refused.
-    pub fn of(
-        alloc: Global,
-        picture: &Picture<'_>,
-        scale: Scale,
-        y: u64,
-    ) -> Result<Back, AllocError>
-        ensures { IfOk result (λ back. IsLeftOutIn (left_out_said picture.now.rows) back.left_out.parts.items) }
+    /// What stands below the rows, from that height on.
+    pub fn of(alloc: Global, picture: &Picture<'_>, scale: Scale, y: u64) -> Back
+        ensures { result.left_out.is_whole ≡ true → IsLeftOutIn (left_out_said picture.now.rows) result.left_out.parts.items }
     {
         let mut axis = Markup::new(alloc);
-        let y = push_axis(alloc, &mut axis, picture, scale, y)?;
+        let y = push_axis(&mut axis, picture, scale, y);
         let mut left_out = Markup::new(alloc);
-        let y = push_left_out(alloc, &mut left_out, picture, y)?;
+        let y = push_left_out(&mut left_out, picture, y);
         let mut rest = Markup::new(alloc);
-        let height = push_rest(alloc, &mut rest, picture, y)?;
-        Ok(Back {
+        let height = push_rest(&mut rest, picture, y);
+        Back {
             axis,
             left_out,
             rest,
             height,
-        })
+        }
     }
 
     /// Writes it, and forgets it.
-    pub fn send<W: Write>(&mut self, alloc: Global, out: &mut W) -> Result<(), DrawFault>
-        ensures { OnOk result (PartsWritten (self.old.axis.parts.items ++ self.old.left_out.parts.items ++ self.old.rest.parts.items)
+    pub fn send<W: Write>(&mut self, out: &mut W) -> Result<(), DrawFault>
+        ensures { OnOk result ((self.old.left_out.is_whole ≡ true)
+            × PartsWritten (self.old.axis.parts.items ++ self.old.left_out.parts.items ++ self.old.rest.parts.items)
             (W.contents out.old) (W.contents out.new)) }
     {
-        self.axis.send(alloc, out)?;
-        self.left_out.send(alloc, out)?;
-        self.rest.send(alloc, out)
+        self.axis.send(out)?;
+        self.left_out.send(out)?;
+        self.rest.send(out)
     }
 }
 
 /// Adds the axis again at that height, where there are many rows; answers where what is below begins.
-fn push_axis(
-    alloc: Global,
-    markup: &mut Markup,
-    picture: &Picture<'_>,
-    scale: Scale,
-    y: u64,
-) -> Result<u64, AllocError> {
+fn push_axis(markup: &mut Markup, picture: &Picture<'_>, scale: Scale, y: u64) -> u64 {
     if picture.rows.places.len() <= ROWS_IN_SIGHT {
-        return Ok(y);
+        return y;
     }
-    push_ticks(alloc, markup, scale, y.saturating_add(13))?;
-    Ok(y.saturating_add(ROW))
+    push_ticks(markup, scale, y.saturating_add(13));
+    y.saturating_add(ROW)
 }
 
 /// Adds what has no row.
-fn push_left_out(
-    alloc: Global,
-    markup: &mut Markup,
-    picture: &Picture<'_>,
-    y: u64,
-) -> Result<u64, AllocError>
-    ensures { markup.old.parts.items ≡ [] → OnOk result (IsLeftOutIn (left_out_said picture.now.rows) markup.new.parts.items) }
+fn push_left_out(markup: &mut Markup, picture: &Picture<'_>, y: u64) -> u64
+    ensures { markup.old.parts.items ≡ [] → markup.new.is_whole ≡ true → IsLeftOutIn (left_out_said picture.now.rows) markup.new.parts.items }
 {
-    match left_out(alloc, picture)? {
-        Some(text) => {
-            markup.line(EDGE * 10, y.saturating_add(14), Word::SmallSoft, &text)?;
-            Ok(y.saturating_add(ROW))
-        }
-        None => Ok(y),
+    if picture.rows.left_out == 0 {
+        return y;
     }
+    let text = left_out(markup.alloc(), picture);
+    markup.line_of(EDGE * 10, y.saturating_add(14), Word::SmallSoft, &text);
+    y.saturating_add(ROW)
 }
 
 /// Adds the rest, from that height on; answers how high the whole is.
-fn push_rest(
-    alloc: Global,
-    markup: &mut Markup,
-    picture: &Picture<'_>,
-    y: u64,
-) -> Result<u64, AllocError> {
-    let y = push_alone(alloc, markup, picture, y)?;
-    let y = push_notes(alloc, markup, picture, y)?;
-    let y = push_passed(alloc, markup, picture, y)?;
-    Ok(y.saturating_add(EDGE))
+fn push_rest(markup: &mut Markup, picture: &Picture<'_>, y: u64) -> u64 {
+    let y = push_alone(markup, picture, y);
+    let y = push_notes(markup, picture, y);
+    let y = push_passed(markup, picture, y);
+    y.saturating_add(EDGE)
 }
 
 /// Adds the diagnostics.
-fn push_notes(
-    alloc: Global,
-    markup: &mut Markup,
-    picture: &Picture<'_>,
-    y: u64,
-) -> Result<u64, AllocError> {
+fn push_notes(markup: &mut Markup, picture: &Picture<'_>, y: u64) -> u64 {
+    let notes = Notes::of(markup.alloc(), picture);
+    markup.keep(notes.is_whole());
     let mut y = y;
-    for note in &notes(alloc, picture)? {
-        y = push_note(alloc, markup, note, y)?;
+    for note in notes.list() {
+        y = push_note(markup, note, y);
     }
-    Ok(y)
+    y
 }
 
 /// Adds how many lines were passed over.
-fn push_passed(
-    alloc: Global,
-    markup: &mut Markup,
-    picture: &Picture<'_>,
-    y: u64,
-) -> Result<u64, AllocError> {
-    let Some(text) = passed(alloc, picture)? else {
-        return Ok(y);
+fn push_passed(markup: &mut Markup, picture: &Picture<'_>, y: u64) -> u64 {
+    let Some(text) = passed(markup.alloc(), picture) else {
+        return y;
     };
     let y = y.saturating_add(GAP);
-    markup.line(EDGE * 10, y.saturating_add(12), Word::SmallSoft, &text)?;
-    Ok(y.saturating_add(LINE))
+    markup.line_of(EDGE * 10, y.saturating_add(12), Word::SmallSoft, &text);
+    y.saturating_add(LINE)
 }
 
 /// Adds the steps that everything else waited for.
-fn push_alone(
-    alloc: Global,
+fn push_alone(markup: &mut Markup, picture: &Picture<'_>, y: u64) -> u64 {
+    match long_alone(markup.alloc(), picture) {
+        Ok(found) if !found.is_empty() => push_lines(markup, picture, &found, y),
+        Ok(_) => y,
+        Err(_) => {
+            markup.keep(false);
+            y
+        }
+    }
+}
+
+/// Adds the lines of the steps at those places, with what stands above them.
+fn push_lines(
     markup: &mut Markup,
     picture: &Picture<'_>,
+    found: &[(Reverse<u64>, usize)],
     y: u64,
-) -> Result<u64, AllocError> {
-    let places = alone_places(alloc, picture)?;
-    if places.is_empty() {
-        return Ok(y);
-    }
-    let mut y = y.saturating_add(GAP);
-    markup.line_of(
-        alloc,
-        EDGE * 10,
-        y.saturating_add(12),
-        Word::SubInk,
-        "Alone under way",
-    )?;
-    y = y.saturating_add(20);
-    for place in &places {
+) -> u64 {
+    let mut title = Saying::new(markup.alloc());
+    title.text("Alone under way");
+    markup.line_of(EDGE * 10, y.saturating_add(GAP + 12), Word::SubInk, &title);
+    let mut y = y.saturating_add(GAP + 20);
+    for (_, place) in found {
         if let Some(step) = picture.told.steps().get(*place) {
-            push_alone_line(alloc, markup, picture, *place, step, y.saturating_add(12))?;
+            push_alone_line(markup, picture, *place, step, y.saturating_add(12));
             y = y.saturating_add(LINE);
         }
     }
-    Ok(y)
+    y
 }
 
 /// Adds the line of the step at that place.
-fn push_alone_line(
-    alloc: Global,
-    markup: &mut Markup,
-    picture: &Picture<'_>,
-    place: usize,
-    step: &Step,
-    y: u64,
-) -> Result<(), AllocError> {
-    let time = alone_time(alloc, picture, place)?;
-    markup.line_of(alloc, EDGE * 10 + ALONE_END, y, Word::InkEnd, time.as_str())?;
-    let text = alone_text(alloc, picture, step)?;
-    markup.line_of(alloc, EDGE * 10 + ALONE_TEXT, y, Word::Ink, text.as_str())
+fn push_alone_line(markup: &mut Markup, picture: &Picture<'_>, place: usize, step: &Step, y: u64) {
+    let time = alone_time(markup.alloc(), picture, place);
+    markup.line_of(EDGE * 10 + ALONE_END, y, Word::InkEnd, &time);
+    let text = alone_text(markup.alloc(), picture, step);
+    markup.line_of(EDGE * 10 + ALONE_TEXT, y, Word::Ink, &text);
 }
 
 /// Adds a line of the diagnostics.
-fn push_note(alloc: Global, markup: &mut Markup, note: &Note, y: u64) -> Result<u64, AllocError> {
+fn push_note(markup: &mut Markup, note: &Note, y: u64) -> u64 {
     let (indent, columns, class, gap) = match note.voice {
         Voice::Detail => (INDENT, COLUMNS - 2, Word::Soft, 0),
         Voice::Error => (0, COLUMNS, Word::Fail, GAP),
         Voice::Warning | Voice::Rest => (0, COLUMNS, Word::Ink, GAP),
     };
     if note.text.characters().is_empty() {
-        return Ok(y.saturating_add(GAP));
+        return y.saturating_add(GAP);
     }
-    let mut y = y.saturating_add(gap);
-    for line in &wrapped(alloc, &note.text, columns)? {
-        markup.line(EDGE * 10 + indent, y.saturating_add(12), class, line)?;
+    let y = y.saturating_add(gap);
+    match wrapped(markup.alloc(), &note.text, columns) {
+        Ok(lines) => push_wrapped(markup, EDGE * 10 + indent, class, &lines, y),
+        Err(_) => {
+            markup.keep(false);
+            y
+        }
+    }
+}
+
+/// Adds lines that look so.
+fn push_wrapped(markup: &mut Markup, x: u64, class: Word, lines: &[ShownText], y: u64) -> u64 {
+    let mut y = y;
+    for line in lines {
+        markup.line(x, y.saturating_add(12), class, line);
         y = y.saturating_add(LINE);
     }
-    Ok(y)
+    y
 }

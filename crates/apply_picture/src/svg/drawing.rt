@@ -1,9 +1,11 @@
 //! The whole SVG.
 
-ghost use Rattle.std.specs.Prelude.{◌≡◌, ◌++◌, OnOk};
+ghost use Rattle.std.specs.Prelude.{◌≡◌, List, OnOk, true};
 ghost use Rattle.apply_picture.specs.Axes.{axis_in};
+ghost use Rattle.apply_picture.specs.Growth.{HasParts};
 ghost use Rattle.apply_picture.specs.LeftOut.{left_out_said};
-ghost use Rattle.apply_picture.specs.Markup.{HeadWritten, IsLeftOutIn, MarkupWritten, PartsWritten, SomeSvgWritten, SvgWritten, axis_of, whole_title};
+ghost use Rattle.apply_picture.specs.Markup.{HeadWritten, IsLeftOutIn, MarkupWritten, SomeSvgWritten, SvgWritten, axis_of, whole_title};
+ghost use Rattle.apply_picture.specs.declared.svg.part.Part.{Part as part};
 
 use crate::draw_fault::DrawFault;
 use crate::picture::Picture;
@@ -18,7 +20,7 @@ use crate::svg::word::Word;
 use crate::telling::heading::heading;
 use crate::writing::{flush, write_text};
 use apply_fitting::ShownText;
-use std::alloc::{AllocError, Global};
+use std::alloc::Global;
 use std::io::Write;
 
 /// Writes the picture as one SVG, without scripts or other files; memory is taken for one row. `Err` with `DrawFault::Memory`
@@ -34,9 +36,9 @@ pub fn draw_svg<W: Write>(
 {
     let scale = Scale::of(alloc, picture)?;
     let mut front = Markup::new(alloc);
-    let top = push_front(alloc, &mut front, picture, scale)?;
+    let top = push_front(&mut front, picture, scale);
     let bottom = y_of(top, picture.rows.places.len() as u64);
-    let mut back = Back::of(alloc, picture, scale, bottom)?;
+    let mut back = Back::of(alloc, picture, scale, bottom);
     let heights = Heights {
         top,
         bottom,
@@ -56,14 +58,14 @@ fn draw_parts<W: Write>(
     out: &mut W,
 ) -> Result<(), DrawFault>
     requires axis { axis_in scale ≡ axis_of picture.now }
-    requires left_out { IsLeftOutIn (left_out_said picture.now.rows) back.old.left_out.parts.items }
+    requires left_out { back.old.left_out.is_whole ≡ true → IsLeftOutIn (left_out_said picture.now.rows) back.old.left_out.parts.items }
     ensures { OnOk result (SvgWritten picture.now (W.contents out.old) (W.contents out.new)) }
 {
     draw_head(alloc, picture, heights.height, out)?;
-    front.send(alloc, out)?;
+    front.send(out)?;
     draw_grid(alloc, picture, scale, heights.top, heights.bottom, out)?;
     draw_rows(alloc, picture, scale, heights.top, out)?;
-    back.send(alloc, out)?;
+    back.send(out)?;
     write_text("</svg>\n", out)?;
     flush(out)?;
     Ok(())
@@ -86,50 +88,18 @@ fn draw_head<W: Write>(
 ) -> Result<(), DrawFault>
     ensures { OnOk result (HeadWritten picture.now (W.contents out.old) (W.contents out.new)) }
 {
-    let what = heading(alloc, picture)?;
-    draw_opening(alloc, &what, height, out)?;
-    draw_title(alloc, &what, out)?;
-    draw_style(alloc, height, out)?;
-    Ok(())
-}
-
-/// Writes what stands before the title.
-fn draw_opening<W: Write>(
-    alloc: Global,
-    title: &ShownText,
-    height: u64,
-    out: &mut W,
-) -> Result<(), DrawFault>
-    ensures { OnOk result (MarkupWritten (W.contents out.old) (W.contents out.new)) }
-{
+    let what = heading(alloc, picture).shown()?;
     let mut markup = Markup::new(alloc);
-    push_opening(&mut markup, title, height)?;
-    markup.send(alloc, out)?;
-    Ok(())
-}
-
-/// Writes the title of the whole.
-fn draw_title<W: Write>(alloc: Global, title: &ShownText, out: &mut W) -> Result<(), DrawFault>
-    ensures { OnOk result (PartsWritten (whole_title title.now) (W.contents out.old) (W.contents out.new)) }
-{
-    let mut markup = Markup::new(alloc);
-    push_title(&mut markup, title)?;
-    markup.send(alloc, out)?;
-    Ok(())
-}
-
-/// Writes how it looks.
-fn draw_style<W: Write>(alloc: Global, height: u64, out: &mut W) -> Result<(), DrawFault>
-    ensures { OnOk result (MarkupWritten (W.contents out.old) (W.contents out.new)) }
-{
-    let mut markup = Markup::new(alloc);
-    push_style(&mut markup, height)?;
-    markup.send(alloc, out)?;
-    Ok(())
+    push_opening(&mut markup, &what, height);
+    push_title(&mut markup, &what);
+    push_style(&mut markup, height);
+    markup.send(out)
 }
 
 /// Adds what stands before the title.
-fn push_opening(markup: &mut Markup, title: &ShownText, height: u64) -> Result<(), AllocError> {
+fn push_opening(markup: &mut Markup, title: &ShownText, height: u64)
+    ensures { (parts : List part) × HasParts markup.old markup.new parts }
+{
     markup.add(&[
         Part::Own(Word::SvgBegin),
         Part::Number(WIDTH),
@@ -140,29 +110,31 @@ fn push_opening(markup: &mut Markup, title: &ShownText, height: u64) -> Result<(
         Part::Own(Word::Space),
         Part::Number(height),
         Part::Own(Word::AriaLabel),
-    ])?;
-    markup.text(title)?;
-    markup.own(Word::SvgTagEnd)
+    ]);
+    markup.text(title);
+    markup.own(Word::SvgTagEnd);
 }
 
 /// Adds the title of the whole.
-fn push_title(markup: &mut Markup, title: &ShownText) -> Result<(), AllocError>
-    ensures { OnOk result (markup.new.parts.items ≡ markup.old.parts.items ++ whole_title title.now) }
+fn push_title(markup: &mut Markup, title: &ShownText)
+    ensures { HasParts markup.old markup.new (whole_title title.now) }
 {
-    markup.own(Word::TitleBegin)?;
-    markup.text(title)?;
-    markup.own(Word::TitleEnd)
+    markup.own(Word::TitleBegin);
+    markup.text(title);
+    markup.own(Word::TitleEnd);
 }
 
 /// Adds how it looks.
-fn push_style(markup: &mut Markup, height: u64) -> Result<(), AllocError> {
+fn push_style(markup: &mut Markup, height: u64)
+    ensures { (parts : List part) × HasParts markup.old markup.new parts }
+{
     markup.add(&[
         Part::Own(Word::Style),
         Part::Number(WIDTH),
         Part::Own(Word::Height),
         Part::Number(height),
         Part::Own(Word::GroundEnd),
-    ])
+    ]);
 }
 
 /// Writes what stands behind the rows, between those heights, where there are any.
@@ -181,9 +153,8 @@ fn draw_grid<W: Write>(
     }
     draw_bands(alloc, picture.rows.places.len(), top, out)?;
     let mut markup = Markup::new(alloc);
-    push_grid(&mut markup, scale, top, bottom)?;
-    markup.send(alloc, out)?;
-    Ok(())
+    push_grid(&mut markup, scale, top, bottom);
+    markup.send(out)
 }
 
 /// Writes what stands behind every second of so many rows.
@@ -192,8 +163,8 @@ fn draw_bands<W: Write>(alloc: Global, count: usize, top: u64, out: &mut W) -> R
 {
     let mut markup = Markup::new(alloc);
     for pair in 0..count / 2 {
-        push_band(&mut markup, y_of(top, pair as u64 * 2 + 1))?;
-        markup.send(alloc, out)?;
+        push_band(&mut markup, y_of(top, pair as u64 * 2 + 1));
+        markup.send(out)?;
     }
     Ok(())
 }
@@ -204,16 +175,7 @@ fn y_of(top: u64, row: u64) -> u64 {
 }
 
 /// Adds what stands behind every second row.
-fn push_band(markup: &mut Markup, y: u64) -> Result<(), AllocError> {
-    markup.add(&[
-        Part::Own(Word::RectX),
-        Part::Number(EDGE - 6),
-        Part::Own(Word::Y),
-        Part::Number(y),
-        Part::Own(Word::Width),
-        Part::Number(WIDTH - 2 * EDGE + 12),
-        Part::Own(Word::Height),
-        Part::Number(ROW),
-        Part::Own(Word::BandEnd),
-    ])
+fn push_band(markup: &mut Markup, y: u64) {
+    markup.begin_box((EDGE - 6) * 10, y, (WIDTH - 2 * EDGE + 12) * 10, ROW);
+    markup.own(Word::BandEnd);
 }

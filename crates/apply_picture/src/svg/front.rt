@@ -10,80 +10,58 @@ use crate::svg::sheet::EDGE;
 use crate::svg::word::Word;
 use crate::telling::heading::heading;
 use crate::telling::overlap::overlap;
-use crate::words::tick::Tick;
-use std::alloc::{AllocError, Global};
+use crate::words::saying::Saying;
 
 /// Adds what stands above the rows; answers at which height these begin.
-pub fn push_front(
-    alloc: Global,
-    markup: &mut Markup,
-    picture: &Picture<'_>,
-    scale: Scale,
-) -> Result<u64, AllocError> {
-    let mut y = push_heading(alloc, markup, picture)?;
-    y = y
-        .saturating_add(push_legend(alloc, markup, picture, y)?)
+pub fn push_front(markup: &mut Markup, picture: &Picture<'_>, scale: Scale) -> u64 {
+    let y = push_heading(markup, picture);
+    let y = y
+        .saturating_add(push_legend(markup, picture, y))
         .saturating_add(6);
     if picture.rows.places.is_empty() {
-        return Ok(y);
+        return y;
     }
-    if picture.numbers.peak > 1 {
-        y = y.saturating_add(push_at_once(alloc, markup, picture, scale, y)?);
-    }
-    push_ticks(alloc, markup, scale, y.saturating_add(12))?;
-    Ok(y.saturating_add(18))
+    let y = y.saturating_add(push_at_once(markup, picture, scale, y));
+    push_ticks(markup, scale, y.saturating_add(12));
+    y.saturating_add(18)
 }
 
 /// Adds what was done, and what ran beside what; answers how far down that goes.
-fn push_heading(
-    alloc: Global,
-    markup: &mut Markup,
-    picture: &Picture<'_>,
-) -> Result<u64, AllocError> {
-    markup.line(
-        EDGE * 10,
-        EDGE + 16,
-        Word::HeadInk,
-        &heading(alloc, picture)?,
-    )?;
-    let Some(how) = overlap(alloc, picture)? else {
-        return Ok(EDGE + 24);
-    };
-    markup.line(EDGE * 10, EDGE + 37, Word::SubSoft, &how)?;
-    Ok(EDGE + 44)
+fn push_heading(markup: &mut Markup, picture: &Picture<'_>) -> u64 {
+    let what = heading(markup.alloc(), picture);
+    markup.line_of(EDGE * 10, EDGE + 16, Word::HeadInk, &what);
+    match overlap(markup.alloc(), picture) {
+        Some(how) => {
+            markup.line_of(EDGE * 10, EDGE + 37, Word::SubSoft, &how);
+            EDGE + 44
+        }
+        None => EDGE + 24,
+    }
 }
 
 /// Adds the texts of the axis at that height.
-pub fn push_ticks(
-    alloc: Global,
-    markup: &mut Markup,
-    scale: Scale,
-    y: u64,
-) -> Result<(), AllocError> {
+pub fn push_ticks(markup: &mut Markup, scale: Scale, y: u64) {
     for count in 0..scale.ticks() {
         let offset = scale.step.saturating_mul(count);
-        let tick = Tick {
-            milliseconds: offset / 1_000,
-        };
-        let text = format!(in alloc; "{tick}")?;
         let class = if count == 0 {
             Word::SmallSoft
         } else {
             Word::SmallSoftMid
         };
-        markup.line_of(alloc, scale.x_of(offset), y, class, text.as_str())?;
+        push_tick(markup, scale.x_of(offset), y, class, offset);
     }
-    Ok(())
+}
+
+/// Adds the text of a tick, so many microseconds after the first moment.
+fn push_tick(markup: &mut Markup, x: u64, y: u64, class: Word, offset: u64) {
+    let mut tick = Saying::new(markup.alloc());
+    tick.tick(offset / 1_000);
+    markup.line_of(x, y, class, &tick);
 }
 
 /// Adds the lines of the ticks, over so many rows from that height on.
-pub fn push_grid(
-    markup: &mut Markup,
-    scale: Scale,
-    top: u64,
-    bottom: u64,
-) -> Result<(), AllocError> {
-    markup.own(Word::PathBegin)?;
+pub fn push_grid(markup: &mut Markup, scale: Scale, top: u64, bottom: u64) {
+    markup.own(Word::PathBegin);
     for count in 0..scale.ticks() {
         markup.add(&[
             Part::Own(Word::MoveTo),
@@ -92,7 +70,7 @@ pub fn push_grid(
             Part::Number(top),
             Part::Own(Word::DownTo),
             Part::Number(bottom),
-        ])?;
+        ]);
     }
-    markup.own(Word::GridEnd)
+    markup.own(Word::GridEnd);
 }

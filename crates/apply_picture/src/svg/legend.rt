@@ -54,22 +54,27 @@ impl Entry {
 }
 
 /// Adds the legend at that height, where it has two entries at least; answers how high it is.
-pub fn push_legend(
-    alloc: Global,
-    markup: &mut Markup,
-    picture: &Picture<'_>,
-    y: u64,
-) -> Result<u64, AllocError> {
-    let entries = entries(alloc, picture)?;
+pub fn push_legend(markup: &mut Markup, picture: &Picture<'_>, y: u64) -> u64 {
+    match entries(markup.alloc(), picture) {
+        Ok(entries) => push_entries(markup, &entries, y),
+        Err(_) => {
+            markup.keep(false);
+            0
+        }
+    }
+}
+
+/// Adds the entries, where there are two at least; answers how high they are.
+fn push_entries(markup: &mut Markup, entries: &[Entry], y: u64) -> u64 {
     let (Some(Entry::Kind(first)), true) = (entries.first().copied(), entries.len() > 1) else {
-        return Ok(0);
+        return 0;
     };
     let mut x = EDGE * 10;
-    for entry in &entries {
-        push_entry(markup, *entry, first, x, y)?;
+    for entry in entries {
+        push_entry(markup, *entry, first, x, y);
         x = x.saturating_add(entry.len().saturating_mul(66).saturating_add(370));
     }
-    Ok(22)
+    22
 }
 
 /// What is to be explained of the steps that have a row.
@@ -97,40 +102,28 @@ fn has_row(picture: &Picture<'_>, entry: Entry) -> bool {
 }
 
 /// Adds an entry; `first` is the kind that stands for any.
-fn push_entry(
-    markup: &mut Markup,
-    entry: Entry,
-    first: Kind,
-    x: u64,
-    y: u64,
-) -> Result<(), AllocError> {
-    push_sign(markup, entry, first, x, y)?;
-    markup.begin_text(x.saturating_add(190), y.saturating_add(13), Word::SmallSoft)?;
-    push_words(markup, entry)?;
-    markup.own(Word::TextLineEnd)
+fn push_entry(markup: &mut Markup, entry: Entry, first: Kind, x: u64, y: u64) {
+    push_sign(markup, entry, first, x, y);
+    markup.begin_text(x.saturating_add(190), y.saturating_add(13), Word::SmallSoft);
+    push_words(markup, entry);
+    markup.own(Word::TextLineEnd);
 }
 
 /// Adds what an entry explains; `first` is the kind that stands for any.
-fn push_sign(
-    markup: &mut Markup,
-    entry: Entry,
-    first: Kind,
-    x: u64,
-    y: u64,
-) -> Result<(), AllocError> {
+fn push_sign(markup: &mut Markup, entry: Entry, first: Kind, x: u64, y: u64) {
     let (kind, end) = match entry {
         Entry::Kind(kind) => (kind, Word::WholeEnd),
         Entry::Provisioner => (first, Word::WholeEnd),
         Entry::Failed | Entry::Open => (first, Word::OpenEnd),
     };
-    push_box(markup, x, y, Word::RoundedClass)?;
-    markup.add(&[Part::Own(kind.name()), Part::Own(end)])?;
-    push_over(markup, entry, x, y)?;
-    markup.own(Word::NewLine)
+    push_box(markup, x, y, Word::RoundedClass);
+    markup.add(&[Part::Own(kind.name()), Part::Own(end)]);
+    push_over(markup, entry, x, y);
+    markup.own(Word::NewLine);
 }
 
 /// Adds what is drawn over the small bar of an entry.
-fn push_over(markup: &mut Markup, entry: Entry, x: u64, y: u64) -> Result<(), AllocError> {
+fn push_over(markup: &mut Markup, entry: Entry, x: u64, y: u64) {
     match entry {
         Entry::Provisioner => markup.add(&[
             Part::Own(Word::RectX),
@@ -140,15 +133,15 @@ fn push_over(markup: &mut Markup, entry: Entry, x: u64, y: u64) -> Result<(), Al
             Part::Own(Word::SmallInnerEnd),
         ]),
         Entry::Failed => {
-            push_box(markup, x, y, Word::StripesEnd)?;
-            push_box(markup, x, y, Word::EdgeEnd)
+            push_box(markup, x, y, Word::StripesEnd);
+            push_box(markup, x, y, Word::EdgeEnd);
         }
-        Entry::Kind(_) | Entry::Open => Ok(()),
+        Entry::Kind(_) | Entry::Open => {}
     }
 }
 
 /// Adds a small bar, which ends so.
-fn push_box(markup: &mut Markup, x: u64, y: u64, end: Word) -> Result<(), AllocError> {
+fn push_box(markup: &mut Markup, x: u64, y: u64, end: Word) {
     markup.add(&[
         Part::Own(Word::RectX),
         Part::Tenths(x),
@@ -157,11 +150,11 @@ fn push_box(markup: &mut Markup, x: u64, y: u64, end: Word) -> Result<(), AllocE
         Part::Own(Word::SmallWidth),
         Part::Number(BAR - 2),
         Part::Own(end),
-    ])
+    ]);
 }
 
 /// Adds the words of an entry.
-fn push_words(markup: &mut Markup, entry: Entry) -> Result<(), AllocError> {
+fn push_words(markup: &mut Markup, entry: Entry) {
     match entry {
         Entry::Kind(kind) => markup.add(&[
             Part::Character(kind.sign()),

@@ -1,7 +1,8 @@
 //! The row of a step.
 
-ghost use Rattle.std.specs.Prelude.{◌≡◌, ◌++◌, OnOk};
+ghost use Rattle.std.specs.Prelude.{◌≡◌};
 ghost use Rattle.apply_picture.specs.Axes.{axis_in};
+ghost use Rattle.apply_picture.specs.Growth.{HasParts};
 ghost use Rattle.apply_picture.specs.Markup.{bar_end, bar_left, bar_parts, bar_width, title_parts};
 
 use crate::column::label_of;
@@ -12,9 +13,8 @@ use crate::svg::part::Part;
 use crate::svg::scale::Scale;
 use crate::svg::sheet::{BAR, EDGE, LEAST_BAR, ROW};
 use crate::svg::word::Word;
-use crate::words::duration::Duration;
+use crate::words::saying::Saying;
 use apply_view::{Provisioner, Step};
-use std::alloc::{AllocError, Global};
 
 /// Where the bar of a step stands: its left and its width in tenths of a pixel, and its top in pixels.
 #[derive(Clone, Copy)]
@@ -39,57 +39,50 @@ pub fn place_of(picture: &Picture<'_>, scale: Scale, step: &Step, y: u64) -> Pla
 }
 
 /// Adds what a row begins with: the address and the action of its step, as its title.
-pub fn begin_row(alloc: Global, markup: &mut Markup, step: &Step) -> Result<(), AllocError>
-    ensures { OnOk result (markup.new.parts.items ≡ markup.old.parts.items ++ title_parts step.now) }
+pub fn begin_row(markup: &mut Markup, step: &Step)
+    ensures { HasParts markup.old markup.new (title_parts step.now) }
 {
-    markup.add(&[Part::Own(Word::GroupBegin), Part::Own(Word::TitleBegin)])?;
-    markup.shown(alloc, step.address().as_bytes())?;
-    markup.own(Word::NewLine)?;
-    markup.shown(alloc, step.action().as_bytes())
+    markup.add(&[Part::Own(Word::GroupBegin), Part::Own(Word::TitleBegin)]);
+    markup.shown(step.address().as_bytes());
+    markup.own(Word::NewLine);
+    markup.shown(step.action().as_bytes());
 }
 
 /// Adds what stands before the bar of the step at that place: what its title goes on with, and its label.
 pub fn push_before_bar(
-    alloc: Global,
     markup: &mut Markup,
     picture: &Picture<'_>,
     place: usize,
     step: &Step,
     y: u64,
-) -> Result<(), AllocError> {
-    push_title(alloc, markup, picture, place, step)?;
-    push_label(alloc, markup, step, y)
+) {
+    push_title(markup, picture, place, step);
+    push_label(markup, step, y);
 }
 
 /// Adds what stands behind it: what is drawn over it, and its length.
 pub fn push_behind_bar(
-    alloc: Global,
     markup: &mut Markup,
     picture: &Picture<'_>,
     scale: Scale,
     step: &Step,
     bar: Place,
     y: u64,
-) -> Result<(), AllocError> {
-    push_over(markup, picture, scale, step, bar)?;
-    push_length(alloc, markup, picture, step, bar, y)
+) {
+    push_over(markup, picture, scale, step, bar);
+    push_length(markup, picture, step, bar, y);
 }
 
 /// Adds what is told of a step besides, and ends the title.
-fn push_title(
-    alloc: Global,
-    markup: &mut Markup,
-    picture: &Picture<'_>,
-    place: usize,
-    step: &Step,
-) -> Result<(), AllocError> {
-    let before = before_length(step);
-    push_duration(alloc, markup, before, step.length(picture.moments))?;
-    push_duration(alloc, markup, Word::From, picture.begin_of(step))?;
-    push_duration(alloc, markup, Word::To, picture.until_of(step))?;
-    push_alone(alloc, markup, picture, place)?;
-    push_provisioners(alloc, markup, picture, step)?;
-    markup.own(title_end(step))
+fn push_title(markup: &mut Markup, picture: &Picture<'_>, place: usize, step: &Step) {
+    push_duration(markup, before_length(step), step.length(picture.moments));
+    push_duration(markup, Word::From, picture.begin_of(step));
+    push_duration(markup, Word::To, picture.until_of(step));
+    push_alone(markup, picture, place);
+    for provisioner in step.provisioners() {
+        push_provisioner(markup, picture, step, provisioner);
+    }
+    markup.own(title_end(step));
 }
 
 /// Whether the length of a step is a bound, as its title says it.
@@ -111,48 +104,26 @@ fn title_end(step: &Step) -> Word {
 }
 
 /// Adds for how long the step at that place was alone under way, where it was.
-fn push_alone(
-    alloc: Global,
-    markup: &mut Markup,
-    picture: &Picture<'_>,
-    place: usize,
-) -> Result<(), AllocError> {
+fn push_alone(markup: &mut Markup, picture: &Picture<'_>, place: usize) {
     let alone = picture.alone_of(place);
-    if alone == 0 {
-        return Ok(());
+    if alone > 0 {
+        push_duration(markup, Word::AloneFor, alone);
     }
-    push_duration(alloc, markup, Word::AloneFor, alone)
-}
-
-/// Adds what is told of the provisioners of a step.
-fn push_provisioners(
-    alloc: Global,
-    markup: &mut Markup,
-    picture: &Picture<'_>,
-    step: &Step,
-) -> Result<(), AllocError> {
-    for provisioner in step.provisioners() {
-        push_provisioner(alloc, markup, picture, step, provisioner)?;
-    }
-    Ok(())
 }
 
 /// Adds what is told of a provisioner of a step.
 fn push_provisioner(
-    alloc: Global,
     markup: &mut Markup,
     picture: &Picture<'_>,
     step: &Step,
     provisioner: &Provisioner,
-) -> Result<(), AllocError> {
+) {
     let (begin, end) = interval_of(picture, step, provisioner);
-    markup.own(Word::Provisioner)?;
-    markup.shown(alloc, provisioner.name().as_bytes())?;
-    push_duration(alloc, markup, Word::Colon, end.saturating_sub(begin))?;
+    markup.own(Word::Provisioner);
+    markup.shown(provisioner.name().as_bytes());
+    push_duration(markup, Word::Colon, end.saturating_sub(begin));
     if provisioner.has_failed() {
-        markup.own(Word::HasFailed)
-    } else {
-        Ok(())
+        markup.own(Word::HasFailed);
     }
 }
 
@@ -168,38 +139,30 @@ fn interval_of(picture: &Picture<'_>, step: &Step, provisioner: &Provisioner) ->
 }
 
 /// Adds the sign and the address of a step.
-fn push_label(alloc: Global, markup: &mut Markup, step: &Step, y: u64) -> Result<(), AllocError> {
+fn push_label(markup: &mut Markup, step: &Step, y: u64) {
     let class = if step.has_failed() {
         Word::Fail
     } else {
         Word::Ink
     };
     let sign = Kind::of(step.action()).sign();
-    markup.begin_text(EDGE * 10, y.saturating_add(14), class)?;
-    markup.add(&[Part::Character(sign), Part::Own(Word::Space)])?;
-    markup.text(&label_of(alloc, step)?)?;
-    markup.own(Word::TextEnd)
+    markup.begin_text(EDGE * 10, y.saturating_add(14), class);
+    markup.add(&[Part::Character(sign), Part::Own(Word::Space)]);
+    markup.text_if_any(&label_of(markup.alloc(), step));
+    markup.own(Word::TextEnd);
 }
 
 /// Adds the bar of a step.
-pub fn push_bar(markup: &mut Markup, step: &Step, bar: Place) -> Result<(), AllocError>
-    ensures { OnOk result (markup.new.parts.items ≡ markup.old.parts.items ++ bar_parts bar.left bar.width bar.top step.now) }
+pub fn push_bar(markup: &mut Markup, step: &Step, bar: Place)
+    ensures { HasParts markup.old markup.new (bar_parts bar.left bar.width bar.top step.now) }
 {
     let kind = Kind::of(step.action()).name();
-    let end = end_of(step);
+    markup.begin_box(bar.left, bar.top, bar.width, BAR);
     markup.add(&[
-        Part::Own(Word::RectX),
-        Part::Tenths(bar.left),
-        Part::Own(Word::Y),
-        Part::Number(bar.top),
-        Part::Own(Word::Width),
-        Part::Tenths(bar.width),
-        Part::Own(Word::Height),
-        Part::Number(BAR),
         Part::Own(Word::RoundedClass),
         Part::Own(kind),
-        Part::Own(end),
-    ])
+        Part::Own(end_of(step)),
+    ]);
 }
 
 /// What the bar of a step ends with: it is paler where the step failed or has no end.
@@ -214,111 +177,77 @@ fn end_of(step: &Step) -> Word
 }
 
 /// Adds what is drawn over the bar of a step: stripes and an edge where it failed, else the bars of its provisioners.
-fn push_over(
-    markup: &mut Markup,
-    picture: &Picture<'_>,
-    scale: Scale,
-    step: &Step,
-    bar: Place,
-) -> Result<(), AllocError> {
+fn push_over(markup: &mut Markup, picture: &Picture<'_>, scale: Scale, step: &Step, bar: Place) {
     if step.has_failed() {
-        push_box(markup, bar, Word::StripesEnd)?;
-        return push_box(markup, bar, Word::EdgeEnd);
+        push_box(markup, bar, Word::StripesEnd);
+        push_box(markup, bar, Word::EdgeEnd);
+    } else {
+        push_inner_bars(markup, picture, scale, step, bar.top.saturating_add(4));
     }
-    for provisioner in step.provisioners() {
-        let (begin, end) = interval_of(picture, step, provisioner);
-        push_inner(markup, scale.x_of(begin), scale.x_of(end), bar.top)?;
-    }
-    Ok(())
 }
 
 /// Adds a box where the bar stands, which ends so.
-fn push_box(markup: &mut Markup, bar: Place, end: Word) -> Result<(), AllocError> {
-    markup.add(&[
-        Part::Own(Word::RectX),
-        Part::Tenths(bar.left),
-        Part::Own(Word::Y),
-        Part::Number(bar.top),
-        Part::Own(Word::Width),
-        Part::Tenths(bar.width),
-        Part::Own(Word::Height),
-        Part::Number(BAR),
-        Part::Own(end),
-    ])
+fn push_box(markup: &mut Markup, bar: Place, end: Word) {
+    markup.begin_box(bar.left, bar.top, bar.width, BAR);
+    markup.own(end);
+}
+
+/// Adds the bars of the provisioners of a step at that height.
+fn push_inner_bars(markup: &mut Markup, picture: &Picture<'_>, scale: Scale, step: &Step, y: u64) {
+    for provisioner in step.provisioners() {
+        let (begin, end) = interval_of(picture, step, provisioner);
+        push_inner(markup, scale.x_of(begin), scale.x_of(end), y);
+    }
 }
 
 /// Adds the bar of a provisioner, which has no width of its own.
-fn push_inner(markup: &mut Markup, left: u64, right: u64, top: u64) -> Result<(), AllocError> {
-    if right <= left {
-        return Ok(());
+fn push_inner(markup: &mut Markup, left: u64, right: u64, y: u64) {
+    if right > left {
+        markup.begin_box(left, y, right - left, BAR - 8);
+        markup.own(Word::InnerEnd);
     }
-    markup.add(&[
-        Part::Own(Word::RectX),
-        Part::Tenths(left),
-        Part::Own(Word::Y),
-        Part::Number(top.saturating_add(4)),
-        Part::Own(Word::Width),
-        Part::Tenths(right - left),
-        Part::Own(Word::Height),
-        Part::Number(BAR - 8),
-        Part::Own(Word::InnerEnd),
-    ])
 }
 
 /// Adds how long a step took, behind its bar.
-fn push_length(
-    alloc: Global,
-    markup: &mut Markup,
-    picture: &Picture<'_>,
-    step: &Step,
-    bar: Place,
-    y: u64,
-) -> Result<(), AllocError> {
+fn push_length(markup: &mut Markup, picture: &Picture<'_>, step: &Step, bar: Place, y: u64) {
     let x = bar.left.saturating_add(bar.width).saturating_add(50);
     let class = if step.has_failed() {
         Word::SmallFail
     } else {
         Word::SmallSoft
     };
-    markup.begin_text(x, y.saturating_add(14), class)?;
-    push_bound(markup, step)?;
-    push_time(alloc, markup, step.length(picture.moments))?;
-    push_mark(markup, step)?;
-    markup.own(Word::TextEnd)
+    markup.begin_text(x, y.saturating_add(14), class);
+    push_bound(markup, step);
+    push_time(markup, step.length(picture.moments));
+    push_mark(markup, step);
+    markup.own(Word::TextEnd);
 }
 
 /// Adds whether the length of a step is a bound, as a sign.
-fn push_bound(markup: &mut Markup, step: &Step) -> Result<(), AllocError> {
-    if step.end().is_some() {
-        return Ok(());
+fn push_bound(markup: &mut Markup, step: &Step) {
+    if step.end().is_none() {
+        let sign = if step.has_failed() { '≤' } else { '≥' };
+        markup.add(&[Part::Character(sign), Part::Own(Word::Space)]);
     }
-    let sign = if step.has_failed() { '≤' } else { '≥' };
-    markup.add(&[Part::Character(sign), Part::Own(Word::Space)])
 }
 
 /// Adds whether a step failed or has no end, as a mark.
-fn push_mark(markup: &mut Markup, step: &Step) -> Result<(), AllocError> {
-    if !step.is_marked() {
-        return Ok(());
+fn push_mark(markup: &mut Markup, step: &Step) {
+    if step.is_marked() {
+        let mark = if step.has_failed() { '✗' } else { '…' };
+        markup.add(&[Part::Own(Word::Space), Part::Character(mark)]);
     }
-    let mark = if step.has_failed() { '✗' } else { '…' };
-    markup.add(&[Part::Own(Word::Space), Part::Character(mark)])
 }
 
 /// Adds a duration behind a word.
-fn push_duration(
-    alloc: Global,
-    markup: &mut Markup,
-    before: Word,
-    microseconds: u64,
-) -> Result<(), AllocError> {
-    markup.own(before)?;
-    push_time(alloc, markup, microseconds)
+fn push_duration(markup: &mut Markup, before: Word, microseconds: u64) {
+    markup.own(before);
+    push_time(markup, microseconds);
 }
 
 /// Adds a duration.
-fn push_time(alloc: Global, markup: &mut Markup, microseconds: u64) -> Result<(), AllocError> {
-    let duration = Duration::of(microseconds);
-    let text = format!(in alloc; "{duration}")?;
-    markup.shown(alloc, text.as_str().as_bytes())
+fn push_time(markup: &mut Markup, microseconds: u64) {
+    let mut time = Saying::new(markup.alloc());
+    time.duration(microseconds as u128);
+    markup.said(&time);
 }

@@ -79,8 +79,8 @@ fn draw_begin<W: Write>(alloc: Global, step: &Step, out: &mut W) -> Result<(), D
     ensures { OnOk result (PartsWritten (title_parts step.now) (W.contents out.old) (W.contents out.new)) }
 {
     let mut markup = Markup::new(alloc);
-    begin_row(alloc, &mut markup, step)?;
-    markup.send(alloc, out)
+    begin_row(&mut markup, step);
+    markup.send(out)
 }
 
 /// Writes what stands before its bar.
@@ -95,8 +95,8 @@ fn draw_before_bar<W: Write>(
     ensures { OnOk result (MarkupWritten (W.contents out.old) (W.contents out.new)) }
 {
     let mut markup = Markup::new(alloc);
-    push_before_bar(alloc, &mut markup, picture, place, step, y)?;
-    markup.send(alloc, out)
+    push_before_bar(&mut markup, picture, place, step, y);
+    markup.send(out)
 }
 
 /// Writes its bar.
@@ -104,8 +104,8 @@ fn draw_bar<W: Write>(alloc: Global, step: &Step, bar: Place, out: &mut W) -> Re
     ensures { OnOk result (PartsWritten (bar_parts bar.left bar.width bar.top step.now) (W.contents out.old) (W.contents out.new)) }
 {
     let mut markup = Markup::new(alloc);
-    push_bar(&mut markup, step, bar)?;
-    markup.send(alloc, out)
+    push_bar(&mut markup, step, bar);
+    markup.send(out)
 }
 
 /// Writes what stands behind its bar, and the end of the row.
@@ -121,7 +121,7 @@ fn draw_behind_bar<W: Write>(
     ensures { OnOk result ((back : List part) × PartsWritten (back ++ Own GroupEnd ∷ []) (W.contents out.old) (W.contents out.new)) }
 {
     let mut markup = Markup::new(alloc);
-    push_behind_bar(alloc, &mut markup, picture, scale, step, bar, y)?;
-    markup.own(Word::GroupEnd)?;
-    markup.send(alloc, out)
+    push_behind_bar(&mut markup, picture, scale, step, bar, y);
+    markup.own(Word::GroupEnd);
+    markup.send(out)
 }

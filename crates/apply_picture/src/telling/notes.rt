@@ -1,11 +1,13 @@
 //! The diagnostics.
 
+ghost use Rattle.std.specs.Prelude.{◌≤◌};
+
 use crate::picture::Picture;
 use crate::telling::note::{Note, Voice};
-use crate::words::number::Number;
-use apply_fitting::{ShownText, fitted};
+use crate::words::saying::Saying;
+use crate::words::within::shown_within;
 use apply_view::Diagnostic;
-use std::alloc::{AllocError, Global};
+use std::alloc::Global;
 
 /// How many diagnostics are told.
 const MOST: usize = 20;
@@ -13,135 +15,134 @@ const MOST: usize = 20;
 /// How many columns of a line are told.
 const COLUMNS: usize = 1_000;
 
-/// The lines of the first diagnostics, errors before warnings, and how many there are besides. `Err` where memory is refused.
-pub fn notes(alloc: Global, picture: &Picture<'_>) -> Result<Vec<Note>, AllocError> {
-    let errors = picture.told.errors();
-    let warnings = picture.told.warnings();
-    let mut notes = Vec::new(alloc);
-    let mut told = 0;
-    for diagnostic in errors.kept() {
-        if told < MOST {
-            push_diagnostic(alloc, &mut notes, Voice::Error, diagnostic)?;
-            told += 1;
+/// Lines of diagnostics.
+#[derive(Drop)]
+pub struct Notes {
+    alloc: Global,
+    list: Vec<Note>,
+    /// Whether memory was there for all of them.
+    is_whole: bool,
+}
+
+impl Notes {
+    /// The lines of the first diagnostics, errors before warnings, and how many there are besides.
+    pub fn of(alloc: Global, picture: &Picture<'_>) -> Notes {
+        let errors = picture.told.errors();
+        let warnings = picture.told.warnings();
+        let mut notes = Notes {
+            alloc,
+            list: Vec::new(alloc),
+            is_whole: true,
+        };
+        let told = notes.push_all(Voice::Error, errors.kept(), MOST);
+        let told = told + notes.push_all(Voice::Warning, warnings.kept(), MOST - told);
+        let all = errors.count().saturating_add(warnings.count());
+        notes.push_rest(all.saturating_sub(told as u64));
+        notes
+    }
+
+    /// The lines.
+    pub fn list(&self) -> &[Note] {
+        self.list.as_slice()
+    }
+
+    /// Whether memory was there for all of them.
+    pub fn is_whole(&self) -> bool {
+        self.is_whole
+    }
+
+    /// Adds the lines of at most so many diagnostics; answers of how many.
+    fn push_all(&mut self, voice: Voice, diagnostics: &[Diagnostic], most: usize) -> usize
+        ensures { result ≤ most }
+    {
+        for diagnostic in diagnostics.iter().take(most) {
+            self.push_diagnostic(voice, diagnostic);
+        }
+        diagnostics.len().min(most)
+    }
+
+    /// Adds how many diagnostics are not told, where some are not.
+    fn push_rest(&mut self, count: u64) {
+        if count > 0 {
+            let mut line = Saying::new(self.alloc);
+            line.text("and ");
+            line.things(count, "diagnostic");
+            line.text(" more");
+            self.push(Voice::Rest, &line);
         }
     }
-    for diagnostic in warnings.kept() {
-        if told < MOST {
-            push_diagnostic(alloc, &mut notes, Voice::Warning, diagnostic)?;
-            told += 1;
+
+    /// Adds the lines of a diagnostic.
+    fn push_diagnostic(&mut self, voice: Voice, diagnostic: &Diagnostic) {
+        self.push(voice, &short(self.alloc, voice, diagnostic));
+        for line in diagnostic.detail() {
+            self.push_line(Voice::Detail, line.as_slice());
+        }
+        self.push_more(diagnostic.more_lines());
+    }
+
+    /// Adds how many lines of it are not told, where some are not.
+    fn push_more(&mut self, count: u64) {
+        if count > 0 {
+            let mut line = Saying::new(self.alloc);
+            line.text("… ");
+            line.things(count, "line");
+            line.text(" more");
+            self.push(Voice::Detail, &line);
         }
     }
-    let all = errors.count().saturating_add(warnings.count());
-    push_rest(alloc, &mut notes, all.saturating_sub(told as u64))?;
-    Ok(notes)
-}
 
-/// Adds how many diagnostics are not told, where some are not.
-fn push_rest(alloc: Global, notes: &mut Vec<Note>, count: u64) -> Result<(), AllocError> {
-    if count == 0 {
-        return Ok(());
+    /// Adds a line.
+    fn push(&mut self, voice: Voice, line: &Saying) {
+        self.is_whole &= line.is_whole();
+        self.push_line(voice, line.as_bytes());
     }
-    let diagnostics = Number {
-        count,
-        noun: "diagnostic",
-    };
-    let text = format!(in alloc; "and {diagnostics} more")?;
-    push(alloc, notes, Voice::Rest, text.as_str().as_bytes())
-}
 
-/// Adds the lines of a diagnostic.
-fn push_diagnostic(
-    alloc: Global,
-    notes: &mut Vec<Note>,
-    voice: Voice,
-    diagnostic: &Diagnostic,
-) -> Result<(), AllocError> {
-    push_first(alloc, notes, voice, diagnostic)?;
-    for line in diagnostic.detail() {
-        push(alloc, notes, Voice::Detail, line.as_slice())?;
+    /// Adds a line of these bytes, without the blanks, tabs and carriage returns at its end.
+    fn push_line(&mut self, voice: Voice, line: &[u8]) {
+        match shown_within(self.alloc, without_blank_end(line), COLUMNS) {
+            Ok(text) => self.is_whole &= self.list.push(Note { voice, text }).is_ok(),
+            Err(_) => self.is_whole = false,
+        }
     }
-    push_more(alloc, notes, diagnostic.more_lines())
 }
 
-/// Adds what it says in short.
-fn push_first(
-    alloc: Global,
-    notes: &mut Vec<Note>,
-    voice: Voice,
-    diagnostic: &Diagnostic,
-) -> Result<(), AllocError> {
-    let mut line = Vec::new(alloc);
-    push_short(&mut line, voice, diagnostic)?;
-    push_place(alloc, &mut line, diagnostic)?;
-    push(alloc, notes, voice, &line)
-}
-
-/// Adds how many lines of it are not told, where some are not.
-fn push_more(alloc: Global, notes: &mut Vec<Note>, count: u64) -> Result<(), AllocError> {
-    if count == 0 {
-        return Ok(());
-    }
-    let lines = Number {
-        count,
-        noun: "line",
-    };
-    let text = format!(in alloc; "… {lines} more")?;
-    push(alloc, notes, Voice::Detail, text.as_str().as_bytes())
-}
-
-/// Adds a line.
-fn push(alloc: Global, notes: &mut Vec<Note>, voice: Voice, line: &[u8]) -> Result<(), AllocError> {
-    let line = ShownText::of(alloc, without_blank_end(line))?;
-    notes.push(Note {
-        voice,
-        text: fitted(alloc, &line, COLUMNS)?,
-    })?;
-    Ok(())
-}
-
-/// Adds what a diagnostic says in short.
-fn push_short(line: &mut Vec<u8>, voice: Voice, diagnostic: &Diagnostic) -> Result<(), AllocError> {
-    line.extend_from_slice(match voice {
-        Voice::Error => b"Error: ".as_slice(),
-        _ => b"Warning: ".as_slice(),
-    })?;
-    line.extend_from_slice(diagnostic.summary())
+/// What a diagnostic says in short, and of what.
+fn short(alloc: Global, voice: Voice, diagnostic: &Diagnostic) -> Saying {
+    let mut line = Saying::new(alloc);
+    line.text(match voice {
+        Voice::Error => "Error: ",
+        _ => "Warning: ",
+    });
+    line.bytes(diagnostic.summary());
+    push_place(&mut line, diagnostic);
+    line
 }
 
 /// Adds of what it says that, where that is known.
-fn push_place(
-    alloc: Global,
-    line: &mut Vec<u8>,
-    diagnostic: &Diagnostic,
-) -> Result<(), AllocError> {
-    let mut before = b" (".as_slice();
+fn push_place(line: &mut Saying, diagnostic: &Diagnostic) {
+    let mut before = " (";
     if let Some(address) = diagnostic.address() {
-        line.extend_from_slice(before)?;
-        line.extend_from_slice(address)?;
-        before = b", ".as_slice();
+        line.text(before);
+        line.bytes(address);
+        before = ", ";
     }
     if let Some(file) = diagnostic.file() {
-        line.extend_from_slice(before)?;
-        push_file(alloc, line, file, diagnostic.line())?;
+        line.text(before);
+        line.bytes(file);
+        push_number(line, diagnostic.line());
     } else if diagnostic.address().is_none() {
-        return Ok(());
+        return;
     }
-    line.extend_from_slice(b")")
+    line.text(")");
 }
 
-/// Adds the name of a file, and the line in it where one is known.
-fn push_file(
-    alloc: Global,
-    line: &mut Vec<u8>,
-    file: &[u8],
-    number: Option<u64>,
-) -> Result<(), AllocError> {
-    line.extend_from_slice(file)?;
+/// Adds the line in a file, where one is known.
+fn push_number(line: &mut Saying, number: Option<u64>) {
     if let Some(number) = number {
-        let text = format!(in alloc; ":{number}")?;
-        line.extend_from_slice(text.as_str().as_bytes())?;
+        line.text(":");
+        line.number(number);
     }
-    Ok(())
 }
 
 /// A line without the blanks, tabs and carriage returns at its end.

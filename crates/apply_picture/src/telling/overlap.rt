@@ -1,58 +1,50 @@
 //! What ran beside what.
 
 use crate::picture::Picture;
-use crate::words::count::Count;
-use crate::words::duration::Duration;
-use apply_fitting::ShownText;
-use std::alloc::{AllocError, Global};
+use crate::words::saying::Saying;
+use std::alloc::Global;
 
 /// How long nothing has to be under way to be told, in microseconds, and which part of the span.
 const IDLE: u64 = 1_000_000;
 
 const IDLE_PARTS: u128 = 50;
 
-/// How many steps were under way at once, and for how long none was; none where no step took any time. `Err` where memory is
-/// refused.
-pub fn overlap(alloc: Global, picture: &Picture<'_>) -> Result<Option<ShownText>, AllocError> {
+/// How many steps were under way at once, and for how long none was; none where no step took any time.
+pub fn overlap(alloc: Global, picture: &Picture<'_>) -> Option<Saying> {
     if picture.numbers.peak != 1 && picture.numbers.busy == 0 {
-        return Ok(None);
+        return None;
     }
-    let mut text = String::new(alloc);
-    push_overlap(&mut text, picture)?;
-    Ok(Some(ShownText::of(alloc, text.as_str().as_bytes())?))
+    let mut saying = Saying::new(alloc);
+    if picture.numbers.peak == 1 {
+        saying.text("one at a time");
+    } else {
+        push_average(&mut saying, picture);
+    }
+    push_idle(&mut saying, picture);
+    Some(saying)
 }
 
-/// Adds how many were under way, and for how long none was.
-fn push_overlap(text: &mut String, picture: &Picture<'_>) -> Result<(), AllocError> {
-    if picture.numbers.peak == 1 {
-        text.push_str("one at a time")?;
-    } else {
-        push_average(text, picture)?;
-    }
+/// Adds for how long no step was under way.
+fn push_idle(saying: &mut Saying, picture: &Picture<'_>) {
     let idle = picture.span().saturating_sub(picture.numbers.busy);
     if idle >= IDLE && idle as u128 * IDLE_PARTS >= picture.span() as u128 {
-        let idle = Duration::of(idle);
-        write!(text, "; nothing under way for {idle}")?;
+        saying.text("; nothing under way for ");
+        saying.duration(idle as u128);
     }
-    Ok(())
 }
 
-/// How many were under way at most, and on average.
-fn push_average(text: &mut String, picture: &Picture<'_>) -> Result<(), AllocError> {
-    let peak = Count(picture.numbers.peak as u64);
+/// Adds how many were under way at most, and on average.
+fn push_average(saying: &mut Saying, picture: &Picture<'_>) {
     let busy = picture.numbers.busy;
     let work = picture.numbers.work;
-    let whole = work / busy.max(1) as u128;
-    let rest = work % busy.max(1) as u128;
-    let average = Count(u64::try_from(whole).unwrap_or(u64::MAX));
-    let tenths = rest * 10 / busy.max(1) as u128;
-    let tenths = u64::try_from(tenths).unwrap_or(0);
-    write!(
-        text,
-        "{peak} at once at most, {average}.{tenths} on average; "
-    )?;
-    let work = Duration(work);
-    let busy = Duration::of(busy);
-    write!(text, "{work} of steps in {busy}")?;
-    Ok(())
+    let parts = busy.max(1) as u128;
+    saying.count(picture.numbers.peak as u64);
+    saying.text(" at once at most, ");
+    saying.count(u64::try_from(work / parts).unwrap_or(u64::MAX));
+    saying.text(".");
+    saying.number(u64::try_from(work % parts * 10 / parts).unwrap_or(0));
+    saying.text(" on average; ");
+    saying.duration(work);
+    saying.text(" of steps in ");
+    saying.duration(busy as u128);
 }

@@ -1,19 +1,16 @@
 //! The lines that tell nothing.
 
 use crate::picture::Picture;
-use crate::words::number::Number;
-use apply_fitting::ShownText;
-use std::alloc::{AllocError, Global};
+use crate::words::saying::Saying;
+use std::alloc::Global;
 
-/// How many lines were passed over; none where none was. `Err` where memory is refused.
-pub fn passed(alloc: Global, picture: &Picture<'_>) -> Result<Option<ShownText>, AllocError> {
+/// How many lines were passed over; none where none was.
+pub fn passed(alloc: Global, picture: &Picture<'_>) -> Option<Saying> {
     if picture.told.passed() == 0 {
-        return Ok(None);
+        return None;
     }
-    let lines = Number {
-        count: picture.told.passed(),
-        noun: "line",
-    };
-    let text = format!(in alloc; "{lines} passed over: no message, or of a step that is not open")?;
-    Ok(Some(ShownText::of(alloc, text.as_str().as_bytes())?))
+    let mut saying = Saying::new(alloc);
+    saying.things(picture.told.passed(), "line");
+    saying.text(" passed over: no message, or of a step that is not open");
+    Some(saying)
 }

@@ -1,87 +1,67 @@
 //! How many steps were under way at once.
 
-ghost use Rattle.std.specs.Prelude.{◌≡◌, OnOk};
+ghost use Rattle.std.specs.Prelude.{◌≡◌};
 
 use crate::picture::Picture;
 use crate::text::chart::{Chart, DURATION};
 use crate::text::line::Line;
 use crate::text::page::Page;
-use crate::words::count::Count;
-use apply_fitting::{ShownText, fitted, without_blanks};
+use crate::words::saying::Saying;
+use apply_fitting::without_blanks;
 use apply_view::levels_of;
 use std::alloc::{AllocError, Global};
 
 /// None, and one to eight eighths of a cell.
 const EIGHTHS: [char; 9] = [' ', '▁', '▂', '▃', '▄', '▅', '▆', '▇', '█'];
 
+/// What the line is of.
+const NAME: [char; 7] = ['a', 't', ' ', 'o', 'n', 'c', 'e'];
+
 /// Adds the line that says how many steps were under way at once, cell by cell, in eighths of the peak, rounded up; none where
 /// there was never more than one.
-pub fn push_at_once(
-    alloc: Global,
-    page: &mut Page,
-    picture: &Picture<'_>,
-    chart: &Chart,
-) -> Result<(), AllocError>
-    ensures { OnOk result (page.new.style ≡ page.old.style) }
+pub fn push_at_once(page: &mut Page, picture: &Picture<'_>, chart: &Chart)
+    ensures { page.new.style ≡ page.old.style }
 {
     if picture.numbers.peak <= 1 {
-        return Ok(());
+        return;
     }
-    let mut line = Line::new(alloc, page.width());
-    push_front(alloc, &mut line, picture, chart)?;
-    push_levels(alloc, &mut line, picture, chart)?;
-    page.push(line)
+    let mut line = page.line();
+    push_front(page.alloc(), &mut line, picture, chart);
+    push_levels(page.alloc(), &mut line, picture, chart);
+    page.push(line);
 }
 
 /// Adds what stands before the cells.
-fn push_front(
-    alloc: Global,
-    line: &mut Line,
-    picture: &Picture<'_>,
-    chart: &Chart,
-) -> Result<(), AllocError>
-    ensures { OnOk result (line.new.width ≡ line.old.width) }
+fn push_front(alloc: Global, line: &mut Line, picture: &Picture<'_>, chart: &Chart)
+    ensures { line.new.width ≡ line.old.width }
 {
-    line.push_blanks(chart.indent())?;
-    push_name(alloc, line, chart)?;
-    line.push_blanks(2)?;
-    push_peak(alloc, line, picture)?;
-    line.push(' ')
-}
-
-/// Adds what the line is of.
-fn push_name(alloc: Global, line: &mut Line, chart: &Chart) -> Result<(), AllocError>
-    ensures { OnOk result (line.new.width ≡ line.old.width) }
-{
-    let name = ShownText::of(alloc, b"at once")?;
-    line.push_left(&name, chart.label)
+    line.push_blanks(chart.indent());
+    line.push_all(&NAME);
+    line.push_blanks(chart.label.saturating_sub(NAME.len()).saturating_add(2));
+    push_peak(alloc, line, picture);
+    line.push(' ');
 }
 
 /// Adds the peak.
-fn push_peak(alloc: Global, line: &mut Line, picture: &Picture<'_>) -> Result<(), AllocError>
-    ensures { OnOk result (line.new.width ≡ line.old.width) }
+fn push_peak(alloc: Global, line: &mut Line, picture: &Picture<'_>)
+    ensures { line.new.width ≡ line.old.width }
 {
-    let peak = peak_text(alloc, picture)?;
-    line.push_right(&fitted(alloc, &peak, DURATION)?, DURATION)
-}
-
-fn peak_text(alloc: Global, picture: &Picture<'_>) -> Result<ShownText, AllocError> {
-    let peak = Count(picture.numbers.peak as u64);
-    let peak = format!(in alloc; "{peak}")?;
-    ShownText::of(alloc, peak.as_str().as_bytes())
+    let mut peak = Saying::new(alloc);
+    peak.count(picture.numbers.peak as u64);
+    match peak.within(DURATION) {
+        Ok(text) => line.push_right(&text, DURATION),
+        Err(_) => line.refuse(),
+    }
 }
 
 /// Adds the cells, without the blanks at their end.
-fn push_levels(
-    alloc: Global,
-    line: &mut Line,
-    picture: &Picture<'_>,
-    chart: &Chart,
-) -> Result<(), AllocError>
-    ensures { OnOk result (line.new.width ≡ line.old.width) }
+fn push_levels(alloc: Global, line: &mut Line, picture: &Picture<'_>, chart: &Chart)
+    ensures { line.new.width ≡ line.old.width }
 {
-    let cells = level_cells(alloc, picture, chart)?;
-    line.push_all(without_blanks(&cells))
+    match level_cells(alloc, picture, chart) {
+        Ok(cells) => line.push_all(without_blanks(&cells)),
+        Err(_) => line.refuse(),
+    }
 }
 
 /// The cells of that line.

@@ -1,14 +1,14 @@
 //! The axis above the bars.
 
-ghost use Rattle.std.specs.Prelude.{◌≡◌, All, IfOk, OnOk, length};
-ghost use Rattle.apply_picture.specs.Lines.{HasMore};
+ghost use Rattle.std.specs.Prelude.{◌≡◌, All, IfOk, length};
+ghost use Rattle.apply_picture.specs.Growth.{HasMoreLines};
 ghost use Rattle.apply_picture.specs.Rows.{IsTick};
 
 use crate::picture::Picture;
 use crate::text::chart::Chart;
 use crate::text::line::Line;
 use crate::text::page::Page;
-use crate::words::tick::Tick;
+use crate::words::saying::Saying;
 use apply_fitting::without_blanks;
 use std::alloc::{AllocError, Global};
 
@@ -16,31 +16,28 @@ use std::alloc::{AllocError, Global};
 const MOST_TICKS: u64 = 1_000;
 
 /// Adds an empty line and the axis, the text of each tick, where it fits; none where no step has a row.
-pub fn push_axis(
-    alloc: Global,
-    page: &mut Page,
-    picture: &Picture<'_>,
-    chart: &Chart,
-) -> Result<(), AllocError>
-    ensures style { OnOk result (page.new.style ≡ page.old.style) }
-    ensures more { OnOk result (HasMore page.old.lines.items page.new.lines.items) }
+pub fn push_axis(page: &mut Page, picture: &Picture<'_>, chart: &Chart)
+    ensures style { page.new.style ≡ page.old.style }
+    ensures more { HasMoreLines page.old page.new }
 {
     if picture.rows.places.is_empty() {
-        return Ok(());
+        return;
     }
-    page.push_empty(alloc)?;
-    let mut line = Line::new(alloc, page.width());
-    push_cells(alloc, &mut line, chart)?;
-    page.push(line)
+    let mut line = page.line();
+    push_cells(page.alloc(), &mut line, chart);
+    page.push_empty();
+    page.push(line);
 }
 
 /// Adds the characters above the bars, without the blanks at their end.
-fn push_cells(alloc: Global, line: &mut Line, chart: &Chart) -> Result<(), AllocError>
-    ensures { OnOk result (line.new.width ≡ line.old.width) }
+fn push_cells(alloc: Global, line: &mut Line, chart: &Chart)
+    ensures { line.new.width ≡ line.old.width }
 {
-    let cells = axis_cells(alloc, chart)?;
-    line.push_blanks(chart.front())?;
-    line.push_all(without_blanks(&cells))
+    line.push_blanks(chart.front());
+    match axis_cells(alloc, chart) {
+        Ok(cells) => line.push_all(without_blanks(&cells)),
+        Err(_) => line.refuse(),
+    }
 }
 
 /// The characters above the bars.
@@ -51,23 +48,20 @@ fn axis_cells(alloc: Global, chart: &Chart) -> Result<Vec<char>, AllocError> {
         let Some(cell) = chart.cell_of(offset) else {
             break;
         };
-        let tick = Tick {
-            milliseconds: offset / 1_000,
-        };
-        let text = format!(in alloc; "{tick}")?;
-        put(&mut cells, cell, text.as_str());
+        let mut tick = Saying::new(alloc);
+        tick.tick(offset / 1_000);
+        put(&mut cells, cell, tick.shown()?.characters());
     }
     Ok(cells)
 }
 
-/// Writes a text of one byte a character from a cell on, where all of it fits.
-fn put(cells: &mut [char], from: usize, text: &str) {
-    let bytes = text.as_bytes();
-    if from > cells.len() || bytes.len() > cells.len() - from {
+/// Writes a text from a cell on, where all of it fits.
+fn put(cells: &mut [char], from: usize, text: &[char]) {
+    if from > cells.len() || text.len() > cells.len() - from {
         return;
     }
-    for (place, byte) in bytes.iter().enumerate() {
-        cells[from + place] = char::from(*byte);
+    for (place, character) in text.iter().enumerate() {
+        cells[from + place] = *character;
     }
 }
 

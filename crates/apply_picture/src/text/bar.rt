@@ -1,11 +1,13 @@
 //! The bar of a row.
 
-ghost use Rattle.std.specs.Prelude.{◌≡◌, ◌<◌, ◌≤◌, ◌+◌, ◌-◌, ◌/◌, IfOk, map, min};
+ghost use Rattle.std.specs.Prelude.{◌≡◌, ◌<◌, ◌≤◌, ◌+◌, ◌-◌, ◌/◌, map, min};
 ghost use Rattle.std.specs.List.{range_with_len};
+ghost use Rattle.apply_picture.specs.Growth.{CameTo};
+ghost use Rattle.apply_picture.specs.Lines.{with_characters};
 ghost use Rattle.apply_picture.specs.Rows.{bar_character};
 
+use crate::text::line::Line;
 use apply_view::Halves;
-use std::alloc::{AllocError, Global};
 
 /// How the bar of a step looks.
 #[derive(Clone, Copy)]
@@ -32,17 +34,16 @@ impl Bar {
         end.min(cells as u128) as u32
     }
 
-    /// Its characters in the cells from one on, before another.
-    pub fn characters(self, alloc: Global, first: u32, end: u32) -> Result<Vec<char>, AllocError>
+    /// Adds its characters in the cells from one on, before another.
+    pub fn push_to(self, line: &mut Line, first: u32, end: u32)
         requires { end ≤ 400 }
-        ensures { IfOk result (λ characters. characters.items
-            ≡ map (bar_character self.has_failed self.has_ended self.halves.first self.halves.end) (range_with_len first (end - first))) }
+        ensures width { line.new.width ≡ line.old.width }
+        ensures pieces { CameTo line.old line.new (with_characters line.old.width line.old.pieces.items
+            (map (bar_character self.has_failed self.has_ended self.halves.first self.halves.end) (range_with_len first (end - first)))) }
     {
-        let mut characters = Vec::new(alloc);
         for cell in first..end {
-            characters.push(self.character(cell))?;
+            line.push(self.character(cell));
         }
-        Ok(characters)
     }
 
     /// Its character in a cell of which it covers a half.

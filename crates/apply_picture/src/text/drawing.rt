@@ -1,7 +1,8 @@
 //! The whole text.
 
-ghost use Rattle.std.specs.Prelude.{◌≡◌, ◌+◌, [], ℕ, List, IfOk, OnOk, map};
+ghost use Rattle.std.specs.Prelude.{◌≡◌, ◌+◌, [], ℕ, List, OnOk, true};
 ghost use Rattle.apply_picture.specs.Charts.{layout_in};
+ghost use Rattle.apply_picture.specs.Growth.{HasMoreLines, IsOf, lines_in};
 ghost use Rattle.apply_picture.specs.LeftOut.{IsLeftOutAs, left_out_said};
 ghost use Rattle.apply_picture.specs.Lines.{LinesWritten};
 ghost use Rattle.apply_picture.specs.Rows.{AreTicks, layout_of, row_at};
@@ -9,11 +10,11 @@ ghost use Rattle.apply_picture.specs.Texts.{HeadLinesWritten, IsHeadedBy, LeftOu
 
 use crate::draw_fault::DrawFault;
 use crate::picture::Picture;
-use crate::telling::alone::{alone_line, alone_places};
+use crate::telling::alone::{alone_line, long_alone};
 use crate::telling::heading::heading;
 use crate::telling::left_out::left_out;
 use crate::telling::note::{Note, Voice};
-use crate::telling::notes::notes;
+use crate::telling::notes::Notes;
 use crate::telling::overlap::overlap;
 use crate::telling::passed::passed;
 use crate::text::at_once::push_at_once;
@@ -25,9 +26,10 @@ use crate::text::paint::Paint;
 use crate::text::row::row_of;
 use crate::text::style::Style;
 use crate::text::writing::write_line;
+use crate::words::saying::Saying;
 use crate::writing::flush;
-use apply_fitting::{ShownText, fitted};
-use std::alloc::{AllocError, Global};
+use std::alloc::Global;
+use std::cmp::Reverse;
 use std::io::Write;
 
 /// Writes the picture as a text in lines of at most `width` columns, which is 60 at least, with the sequences of colours or
@@ -67,10 +69,9 @@ fn draw_head<W: Write>(
     ensures { OnOk result (HeadLinesWritten style.width style.has_colour picture.now (W.contents out.old) (W.contents out.new)) }
 {
     let mut page = Page::new(alloc, style);
-    push_head(alloc, &mut page, picture)?;
-    push_axis(alloc, &mut page, picture, chart)?;
-    page.send(alloc, out)?;
-    Ok(())
+    push_head(&mut page, picture);
+    push_axis(&mut page, picture, chart);
+    page.send(out)
 }
 
 /// Writes what has no row.
@@ -84,9 +85,8 @@ fn draw_left_out<W: Write>(
     ensures { OnOk result (LeftOutWritten style.width style.has_colour (chart.now.action + 1) picture.now.rows (W.contents out.old) (W.contents out.new)) }
 {
     let mut page = Page::new(alloc, style);
-    push_left_out(alloc, &mut page, picture, chart)?;
-    page.send(alloc, out)?;
-    Ok(())
+    push_left_out(&mut page, picture, chart);
+    page.send(out)
 }
 
 /// Writes what stands below them.
@@ -100,37 +100,31 @@ fn draw_tail<W: Write>(
     ensures { OnOk result (LinesWritten style.width style.has_colour (W.contents out.old) (W.contents out.new)) }
 {
     let mut page = Page::new(alloc, style);
-    push_tail(alloc, &mut page, picture, chart)?;
-    page.send(alloc, out)?;
-    Ok(())
-}
-
-/// Adds what stands below the rows.
-fn push_tail(
-    alloc: Global,
-    page: &mut Page,
-    picture: &Picture<'_>,
-    chart: &Chart,
-) -> Result<(), AllocError>
-    ensures { OnOk result (page.new.style ≡ page.old.style) }
-{
-    push_at_once(alloc, page, picture, chart)?;
-    push_alone(alloc, page, picture)?;
-    push_notes(alloc, page, picture)?;
-    push_passed(alloc, page, picture)
+    push_at_once(&mut page, picture, chart);
+    push_alone(&mut page, picture);
+    push_notes(&mut page, picture);
+    push_passed(&mut page, picture);
+    page.send(out)
 }
 
 /// Adds what was done, and what ran beside what.
-fn push_head(alloc: Global, page: &mut Page, picture: &Picture<'_>) -> Result<(), AllocError>
-    ensures style { OnOk result (page.new.style ≡ page.old.style) }
-    ensures headed { page.old.lines.items ≡ [] → OnOk result (IsHeadedBy page.old.style.width (heading_characters picture.now)
-        (map (λ line. line.pieces.items) page.new.lines.items)) }
+fn push_head(page: &mut Page, picture: &Picture<'_>)
+    ensures style { page.new.style ≡ page.old.style }
+    ensures headed { page.old.lines.items ≡ [] → page.new.is_whole ≡ true
+        → IsHeadedBy page.old.style.width (heading_characters picture.now) (lines_in page.new) }
 {
-    let what = heading(alloc, picture)?;
-    page.push_wrapped(alloc, 0, &what, Some(Paint::Bold))?;
-    match overlap(alloc, picture)? {
-        Some(text) => page.push_wrapped(alloc, 0, &text, None),
-        None => Ok(()),
+    let what = heading(page.alloc(), picture);
+    page.push_said(0, &what, Some(Paint::Bold));
+    push_overlap(page, picture);
+}
+
+/// Adds what ran beside what.
+fn push_overlap(page: &mut Page, picture: &Picture<'_>)
+    ensures style { page.new.style ≡ page.old.style }
+    ensures more { HasMoreLines page.old page.new }
+{
+    if let Some(text) = overlap(page.alloc(), picture) {
+        page.push_said(0, &text, None);
     }
 }
 
@@ -148,7 +142,7 @@ fn draw_rows<W: Write>(
 {
     let ticks = tick_cells(alloc, chart)?;
     for place in &picture.rows.places {
-        let line = line_of(alloc, picture, chart, &ticks, *place, style.width)?;
+        let line = line_of(alloc, picture, chart, &ticks, *place, style.width);
         write_line(alloc, &line, style.has_colour, out)?;
     }
     Ok(())
@@ -162,82 +156,83 @@ fn line_of(
     ticks: &[char],
     place: usize,
     width: usize,
-) -> Result<Line, AllocError>
+) -> Line
     requires { layout_in chart.now ≡ layout_of width picture.now }
-    ensures width { IfOk result (λ line. line.width ≡ width) }
-    ensures row { IfOk result (λ line. line.pieces.items ≡ row_at width picture.now ticks.now place) }
+    ensures width { result.width ≡ width }
+    ensures row { IsOf result (row_at width picture.now ticks.now place) }
 {
     match picture.told.steps().get(place) {
         Some(step) => row_of(alloc, picture, chart, ticks, step, width),
-        None => Ok(Line::new(alloc, width)),
+        None => Line::new(alloc, width),
     }
 }
 
 /// Adds what has no row.
-fn push_left_out(
-    alloc: Global,
-    page: &mut Page,
-    picture: &Picture<'_>,
-    chart: &Chart,
-) -> Result<(), AllocError>
-    ensures style { OnOk result (page.new.style ≡ page.old.style) }
-    ensures told { page.old.lines.items ≡ [] → OnOk result (IsLeftOutAs page.old.style.width (chart.now.action + 1) (left_out_said picture.now.rows)
-        (map (λ line. line.pieces.items) page.new.lines.items)) }
+fn push_left_out(page: &mut Page, picture: &Picture<'_>, chart: &Chart)
+    ensures style { page.new.style ≡ page.old.style }
+    ensures told { page.old.lines.items ≡ [] → page.new.is_whole ≡ true
+        → IsLeftOutAs page.old.style.width (chart.now.action + 1) (left_out_said picture.now.rows) (lines_in page.new) }
 {
-    match left_out(alloc, picture)? {
-        Some(text) => page.push_wrapped(alloc, chart.indent(), &text, Some(Paint::Dim)),
-        None => Ok(()),
+    if picture.rows.left_out == 0 {
+        return;
     }
+    let text = left_out(page.alloc(), picture);
+    page.push_said(chart.indent(), &text, Some(Paint::Dim));
 }
 
 /// Adds the steps that everything else waited for.
-fn push_alone(alloc: Global, page: &mut Page, picture: &Picture<'_>) -> Result<(), AllocError>
-    ensures { OnOk result (page.new.style ≡ page.old.style) }
+fn push_alone(page: &mut Page, picture: &Picture<'_>)
+    ensures { page.new.style ≡ page.old.style }
 {
-    let places = alone_places(alloc, picture)?;
-    if places.is_empty() {
-        return Ok(());
+    match long_alone(page.alloc(), picture) {
+        Ok(found) => push_alone_lines(page, picture, &found),
+        Err(_) => page.keep(false),
     }
-    page.push_empty(alloc)?;
-    let title = ShownText::of(alloc, b"Alone under way")?;
-    page.push_text(alloc, 0, &title, Some(Paint::Bold))?;
-    for place in &places {
-        push_alone_line(alloc, page, picture, *place)?;
+}
+
+/// Adds the lines of the steps at those places, with what stands above them, where there are any.
+fn push_alone_lines(page: &mut Page, picture: &Picture<'_>, found: &[(Reverse<u64>, usize)])
+    ensures { page.new.style ≡ page.old.style }
+{
+    if found.is_empty() {
+        return;
     }
-    Ok(())
+    let mut title = Saying::new(page.alloc());
+    title.text("Alone under way");
+    page.push_empty();
+    page.push_said(0, &title, Some(Paint::Bold));
+    for (_, place) in found {
+        push_alone_line(page, picture, *place);
+    }
 }
 
 /// Adds the line of the step at that place.
-fn push_alone_line(
-    alloc: Global,
-    page: &mut Page,
-    picture: &Picture<'_>,
-    place: usize,
-) -> Result<(), AllocError>
-    ensures { OnOk result (page.new.style ≡ page.old.style) }
+fn push_alone_line(page: &mut Page, picture: &Picture<'_>, place: usize)
+    ensures { page.new.style ≡ page.old.style }
 {
-    match picture.told.steps().get(place) {
-        Some(step) => {
-            let line = alone_line(alloc, picture, place, step)?;
-            let line = fitted(alloc, &line, page.width())?;
-            page.push_text(alloc, 0, &line, None)
-        }
-        None => Ok(()),
+    let Some(step) = picture.told.steps().get(place) else {
+        return;
+    };
+    match alone_line(page.alloc(), picture, place, step).within(page.width()) {
+        Ok(line) => page.push_text(0, &line, None),
+        Err(_) => page.keep(false),
     }
 }
 
 /// Adds the diagnostics.
-fn push_notes(alloc: Global, page: &mut Page, picture: &Picture<'_>) -> Result<(), AllocError>
-    ensures { OnOk result (page.new.style ≡ page.old.style) }
+fn push_notes(page: &mut Page, picture: &Picture<'_>)
+    ensures { page.new.style ≡ page.old.style }
 {
-    for note in &notes(alloc, picture)? {
-        push_note(alloc, page, note)?;
+    let notes = Notes::of(page.alloc(), picture);
+    page.keep(notes.is_whole());
+    for note in notes.list() {
+        push_note(page, note);
     }
-    Ok(())
 }
 
-fn push_note(alloc: Global, page: &mut Page, note: &Note) -> Result<(), AllocError>
-    ensures { OnOk result (page.new.style ≡ page.old.style) }
+/// Adds a line of the diagnostics, and an empty one before it, unless it is a detail.
+fn push_note(page: &mut Page, note: &Note)
+    ensures { page.new.style ≡ page.old.style }
 {
     let (indent, paint) = match note.voice {
         Voice::Detail => (2, None),
@@ -245,29 +240,18 @@ fn push_note(alloc: Global, page: &mut Page, note: &Note) -> Result<(), AllocErr
         Voice::Warning => (0, Some(Paint::Yellow)),
         Voice::Rest => (0, None),
     };
-    push_gap(alloc, page, note.voice)?;
-    page.push_wrapped(alloc, indent, &note.text, paint)
-}
-
-/// Adds an empty line, except before a detail.
-fn push_gap(alloc: Global, page: &mut Page, voice: Voice) -> Result<(), AllocError>
-    ensures { OnOk result (page.new.style ≡ page.old.style) }
-{
-    match voice {
-        Voice::Detail => Ok(()),
-        Voice::Error | Voice::Warning | Voice::Rest => page.push_empty(alloc),
+    if indent == 0 {
+        page.push_empty();
     }
+    page.push_wrapped(indent, &note.text, paint);
 }
 
 /// Adds how many lines were passed over.
-fn push_passed(alloc: Global, page: &mut Page, picture: &Picture<'_>) -> Result<(), AllocError>
-    ensures { OnOk result (page.new.style ≡ page.old.style) }
+fn push_passed(page: &mut Page, picture: &Picture<'_>)
+    ensures { page.new.style ≡ page.old.style }
 {
-    match passed(alloc, picture)? {
-        Some(text) => {
-            page.push_empty(alloc)?;
-            page.push_wrapped(alloc, 0, &text, None)
-        }
-        None => Ok(()),
+    if let Some(text) = passed(page.alloc(), picture) {
+        page.push_empty();
+        page.push_said(0, &text, None);
     }
 }

@@ -1,6 +1,6 @@
 //! Lines that are written.
 
-ghost use Rattle.std.specs.Prelude.{◌≡◌, ◌++◌, IfOk, OnOk, map, string_bytes};
+ghost use Rattle.std.specs.Prelude.{◌≡◌, ◌++◌, IfOk, OnOk, map, string_bytes, true};
 ghost use Rattle.std.specs.Io.KnownBytes.{Appends};
 ghost use Rattle.apply_picture.specs.Lines.{line_bytes, text_bytes};
 
@@ -26,18 +26,21 @@ pub fn write_lines<W: Write>(
     Ok(())
 }
 
-/// Writes a line, with the sequences of colours or without.
+/// Writes a line, with the sequences of colours or without. `Err` with `DrawFault::Memory` where memory is refused, or was.
 pub fn write_line<W: Write>(
     alloc: Global,
     line: &Line,
     has_colour: bool,
     out: &mut W,
 ) -> Result<(), DrawFault>
-    ensures { OnOk result (Appends (W.contents out.old) (W.contents out.new) (line_bytes has_colour line.now.pieces.items)) }
+    ensures { OnOk result ((line.now.is_whole ≡ true)
+        × Appends (W.contents out.old) (W.contents out.new) (line_bytes has_colour line.now.pieces.items)) }
 {
+    if !line.is_whole() {
+        return Err(DrawFault::Memory);
+    }
     let text = line_text(alloc, line, has_colour)?;
-    write_text(text.as_str(), out)?;
-    Ok(())
+    write_text(text.as_str(), out)
 }
 
 /// The text of a line, and its line feed.

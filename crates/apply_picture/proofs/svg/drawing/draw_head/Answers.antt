@@ -1,7 +1,15 @@
+use Rattle.apply_picture.proofs.Growing.{on_ok}
 use Rattle.apply_picture.proofs.Parts.{head_written}
 use Rattle.apply_picture.proofs.svg.drawing.draw_head.Goals as goal
 
 pub returns : goal.returns
 returns g c =
-    head_written c.args.picture.now _ _ _ _ c.in_ok-what.what c.in_ok-what.ensures c.in_ok-draw_opening.ensures
-    c.in_ok-draw_title.ensures c.in_ok-draw_style.ensures
+    on_ok c.send.result
+    (λ sent.
+    let styled = c.push_style.ensures.1 sent.0 in
+    let titled = c.push_title.ensures styled.0 in
+    let opened = c.push_opening.ensures.1 titled.0 in
+    head_written c.args.picture.now _ _ c.in_ok-what.what c.push_opening.ensures.0 c.push_style.ensures.0 c.new-markup.result.parts.items
+    c.push_opening.new.markup.parts.items c.push_title.new.markup.parts.items c.push_style.new.markup.parts.items
+    (c.in_ok-what.ensures _ c.heading.ensures) c.new-markup.ensures opened.1 titled.1 styled.1 sent.1)
+    c.send.ensures

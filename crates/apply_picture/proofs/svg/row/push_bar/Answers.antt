@@ -4,7 +4,7 @@ use Rattle.apply_picture.specs.declared.svg.part.Part.{Part}
 use Rattle.apply_picture.specs.declared.svg.part.Part.TheVariants as part
 use Rattle.apply_picture.specs.declared.svg.word.Word.{Word}
 use Rattle.apply_picture.specs.declared.svg.word.Word.TheVariants as word
-use Rattle.apply_picture.proofs.Growing.{on_ok}
+use Rattle.apply_picture.proofs.Parts.{parts_more}
 use Rattle.apply_picture.proofs.svg.row.push_bar.Goals as goal
 
 pub returns : goal.returns
@@ -14,4 +14,6 @@ returns c =
     part.Own word.RectX ∷ part.Tenths bar.left ∷ part.Own word.Y ∷ part.Number bar.top ∷ part.Own word.Width ∷ part.Tenths bar.width
     ∷ part.Own word.Height ∷ part.Number 12 ∷ part.Own word.RoundedClass ∷ part.Own kind ∷ part.Own end ∷ [] in
     let name = c.name-kind.ensures ∙ ap kind_name (c.of.ensures ∙ ap kind_of c.action.ensures) in
-    on_ok c.add.result (λ is. is ∙ ap₂ (λ (kind end : Word). c.args.markup.now.parts.items ++ parts kind end) name c.end_of-end.ensures) c.add.ensures
+    λ whole.
+    let both = parts_more c.args.markup.now c.begin_box.new.self c.add.new.self _ _ c.begin_box.ensures c.add.ensures whole in
+    (both.0, both.1 ∙ ap₂ (λ (kind end : Word). c.args.markup.now.parts.items ++ parts kind end) name c.end_of.ensures)

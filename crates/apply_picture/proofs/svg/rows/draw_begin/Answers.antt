@@ -6,5 +6,6 @@ use Rattle.apply_picture.proofs.svg.rows.draw_begin.Goals as goal
 pub returns : goal.returns
 returns g c =
     on_ok c.send.result
-    (parts_sent (title_parts c.args.step.now) c.new-markup.result.parts.items c.begin_row.new.markup.parts.items _ _ c.new-markup.ensures c.in_ok-begin_row.ensures)
+    (λ sent. parts_sent (title_parts c.args.step.now) c.new-markup.result.parts.items c.begin_row.new.markup.parts.items _ _ c.new-markup.ensures
+    (c.begin_row.ensures sent.0).1 sent.1)
     c.send.ensures

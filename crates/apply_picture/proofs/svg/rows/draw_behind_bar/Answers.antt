@@ -7,5 +7,5 @@ use Rattle.apply_picture.proofs.svg.rows.draw_behind_bar.Goals as goal
 pub returns : goal.returns
 returns g c =
     on_ok c.send.result
-    (ended_by (part.Own word.GroupEnd) c.push_behind_bar.new.markup.parts.items c.own.new.self.parts.items _ _ c.in_ok-own.ensures)
+    (λ sent. ended_by (part.Own word.GroupEnd) c.push_behind_bar.new.markup.parts.items c.own.new.self.parts.items _ _ (c.own.ensures sent.0).1 sent.1)
     c.send.ensures

@@ -1,12 +1,15 @@
-use Rattle.std.proofs.Common.{string_bytes}
-use Rattle.apply_picture.proofs.Growing.{on_ok}
-use Rattle.apply_picture.proofs.Saying.{uncompleted_added}
+use Rattle.std.proofs.Common.{◌∙◌, ℕ, ◌++◌, List, ap, ap₂, codes}
+use Rattle.std.specs.List.{count_by}
+use Rattle.apply_view.specs.Steps.{ToldStep}
+use Rattle.apply_picture.specs.Heading.{is_not_ended, uncompleted_words, words_if_any}
+use Rattle.apply_picture.proofs.Saying.{says_as, says_then}
 use Rattle.apply_picture.proofs.telling.heading.push_uncompleted.Goals as goal
 
 pub returns : goal.returns
 returns c =
-    on_ok c.push_if_any-2.result
-    (uncompleted_added (string_bytes c.args.text.now) (string_bytes c.push_if_any.new.text) (string_bytes c.push_if_any-2.new.text)
-    c.steps-steps.result.now c.args.picture.now.told.now.steps c.failed_count.result c.open_count.result c.steps-steps.ensures
-    c.failed_count.ensures c.open_count.ensures c.in_ok-push_if_any.ensures)
-    c.push_if_any-2.ensures
+    let s1 = says_then c.args.text.now c.push_if_any.new.text c.push_if_any-2.new.text _ _ c.push_if_any.ensures c.push_if_any-2.ensures in
+    let steps = c.args.picture.now.told.now.steps in
+    let words : ℕ → ℕ → List ℕ = λ failed unended. words_if_any failed (codes "failed") ++ words_if_any unended (codes "not ended") in
+    says_as c.args.text.now c.push_if_any-2.new.text (words c.failed_count.result c.open_count.result) (uncompleted_words steps)
+    (ap₂ words (c.failed_count.ensures ∙ ap (count_by (λ (step : ToldStep). step.failed)) c.steps-steps.ensures)
+    (c.open_count.ensures ∙ ap (count_by is_not_ended) c.steps-steps.ensures)) s1

@@ -1,14 +1,18 @@
-use Rattle.std.proofs.Common.{◌+◌, ◌∙◌, map, subst, sym}
+use Rattle.std.proofs.Common.{◌+◌, ◌∙◌, subst, sym}
+use Rattle.apply_picture.specs.Growth.{lines_in}
 use Rattle.apply_picture.specs.LeftOut.{IsLeftOutAs, left_out_said}
-use Rattle.apply_picture.specs.declared.text.line.Line.{Line}
 use Rattle.apply_picture.specs.declared.text.style.Style.{Style}
+use Rattle.apply_picture.proofs.Growing.{on_ok}
 use Rattle.apply_picture.proofs.Sent.{left_out_written}
 use Rattle.apply_picture.proofs.text.drawing.draw_left_out.Goals as goal
 
 pub returns : goal.returns
 returns g c =
-    let style = c.in_ok-push_left_out.ensures.style ∙ c.new-page.ensures.style in
-    let told = c.in_ok-push_left_out.ensures.told c.new-page.ensures.empty in
-    left_out_written c.args.style (c.args.chart.now.action + 1) c.args.picture.now.rows _ _ _ _ style c.in_ok-send.ensures.fine c.in_ok-send.ensures.sent
-    (subst (λ (s : Style). IsLeftOutAs s.width (c.args.chart.now.action + 1) (left_out_said c.args.picture.now.rows)
-    (map (λ (line : Line). line.pieces.items) c.push_left_out.new.page.lines.items)) (sym c.in_ok-push_left_out.ensures.style) told)
+    let page = c.push_left_out.new.page in
+    let rows = c.args.picture.now.rows in
+    let indent = c.args.chart.now.action + 1 in
+    on_ok c.send.result
+    (λ sent. left_out_written c.args.style indent rows _ _ (lines_in page) page.style (c.push_left_out.ensures.style ∙ c.new-page.ensures.style) sent.1 sent.2
+    (subst (λ (s : Style). IsLeftOutAs s.width indent (left_out_said rows) (lines_in page)) (sym c.push_left_out.ensures.style)
+    (c.push_left_out.ensures.told c.new-page.ensures.empty sent.0)))
+    c.send.ensures

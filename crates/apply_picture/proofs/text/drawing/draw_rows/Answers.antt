@@ -12,11 +12,11 @@ loop-place-preserved g c =
     let places = c.deref-place-items.result.now in
     let i = c.loop-place.place-index in
     let below : i < length places = omega arith in
-    let line = c.in_ok-line.line in
-    let row = c.in_ok-line.ensures.row
+    let line = c.line_of-line.result in
+    let row = c.line_of-line.ensures.row c.in_ok-write_line.ensures.0
     ∙ ap (λ ticks. row_at c.args.style.width c.args.picture.now ticks (get_or places i 0)) c.deref.ensures.value in
     row_more c.args.style.width c.args.style.has_colour c.args.picture.now c.in_ok-ticks.ticks.items places i _ _ _ line.pieces.items below
-    c.loop-place.invariant row (line_fine line c.args.style.width c.in_ok-line.ensures.width) c.in_ok-write_line.ensures
+    c.loop-place.invariant row (line_fine line c.args.style.width c.line_of-line.ensures.width) c.in_ok-write_line.ensures.1
 
 pub returns : goal.returns
 returns g c =

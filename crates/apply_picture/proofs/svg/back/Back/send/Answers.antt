@@ -8,6 +8,9 @@ returns g c =
     let axis = c.args.self.now.axis.parts.items in
     let left_out = c.args.self.now.left_out.parts.items in
     on_ok c.send-3.result
-    (parts_then (axis ++ left_out) c.args.self.now.rest.parts.items _ _ _
-    (parts_then axis left_out _ _ _ c.in_ok-send.ensures c.in_ok-send-2.ensures))
+    (λ rest. (
+      c.in_ok-send-2.ensures.0,
+      parts_then (axis ++ left_out) c.args.self.now.rest.parts.items _ _ _
+          (parts_then axis left_out _ _ _ c.in_ok-send.ensures.1 c.in_ok-send-2.ensures.1) rest.1,
+    ))
     c.send-3.ensures

@@ -1,6 +1,7 @@
-use Rattle.std.proofs.Common.{◌≡◌, ◌++◌, take}
+use Rattle.std.proofs.Common.{take}
+use Rattle.apply_picture.specs.Growth.{HasParts}
 use Rattle.apply_picture.specs.Markup.{text_parts}
 use Rattle.apply_picture.proofs.svg.markup.Markup.text.Given as goal
 
 abbrev pub invariant-loop-character : goal.invariant-loop-character
-invariant-loop-character l = l.self.parts.items ≡ l.initial.self.parts.items ++ text_parts (take l.character-index l.character-items)
+invariant-loop-character l = HasParts l.initial.self l.self (text_parts (take l.character-index l.character-items))

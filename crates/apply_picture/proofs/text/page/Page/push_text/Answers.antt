@@ -1,5 +1,8 @@
-use Rattle.apply_picture.proofs.Growing.{on_ok}
+use Rattle.std.proofs.Common.{◌∙◌, ◌∷◌, [], ◌++◌, ap}
+use Rattle.apply_picture.specs.Growth.{lines_in}
 use Rattle.apply_picture.proofs.text.page.Page.push_text.Goals as goal
 
 pub returns-clause-line : goal.returns-clause-line
-returns-clause-line c = on_ok c.push.result (λ is. (c.in_ok-line.line, is, c.in_ok-line.ensures.pieces)) c.push.ensures.lines
+returns-clause-line c = λ whole.
+    let pushed = c.push.ensures.lines whole in
+    (pushed.0, pushed.1 ∙ ap (λ ps. lines_in c.args.self.now ++ ps ∷ []) (c.text_line-line.ensures.pieces (c.push.ensures.line whole)))

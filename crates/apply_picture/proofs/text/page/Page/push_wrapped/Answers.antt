@@ -1,28 +1,23 @@
-use Rattle.std.proofs.Common.{◌∙◌, ◌<◌, ◌≤◌, length, arith, subst}
-use Rattle.apply_picture.specs.declared.text.style.Style.{Style}
-use Rattle.apply_picture.proofs.Heads.{Shows, shown_line, shown_more}
+use Rattle.std.proofs.Common.{◌≡◌, ◌∙◌, ◌≤◌, ◌∷◌, [], ℕ, List, ap, arith, subst}
+use Rattle.std.specs.Prelude.{map}
+use Rattle.apply_fitting.specs.Columns.{columns_of}
+use Rattle.apply_fitting.proofs.Blanks.{twice}
+use Rattle.apply_picture.specs.Growth.{HasLines}
+use Rattle.apply_picture.specs.Lines.{line_with, text_line}
+use Rattle.apply_picture.specs.declared.text.piece.Piece.{Piece}
 use Rattle.apply_picture.proofs.text.page.Page.push_wrapped.Goals as goal
 
-pub loop-line-preserved : goal.loop-line-preserved
-loop-line-preserved c =
-    let items = c.deref-line-items.result.now in
-    let i = c.loop-line.line-index in
-    let below : i < length items = omega arith in
-    let kept = c.loop-line.invariant.0 in
-    let had = c.loop-line.invariant.1 in
-    let told = c.in_ok-push_text.ensures.line in
-    let shows = subst (λ (s : Style). Shows s.width c.args.indent c.args.paint c.line-item.result told.0) kept told.2 in (
-      c.in_ok-push_text.ensures.style ∙ kept,
-      shown_more c.args.self.now.style.width c.args.indent c.args.paint items i c.line-item.result c.args.self.now.lines.items c.loop-line.self.lines.items
-          c.push_text.new.self.lines.items had.0 told.0 below c.line-item.is had.1 told.1 had.2 shows,
-    )
+pub returns-in-Ok-clause-more : goal.returns-in-Ok-clause-more
+returns-in-Ok-clause-more c = λ whole.
+    let has = c.push_texts.ensures.lines whole in
+    (has.0, (map (text_line c.args.self.now.style.width c.args.indent c.args.paint) c.deref.result.now, has.1))
 
-pub returns-clause-line : goal.returns-clause-line
-returns-clause-line c =
-    let items = c.deref-line-items.result.now in
-    let i = c.loop-line.line-index in
-    let ends : length items ≤ i = omega arith in
-    let had = c.loop-line.invariant.1 in
-    shown_line c.args.self.now.style.width c.args.indent c.saturating_sub.result c.args.paint c.args.text.now c.in_ok-lines.lines.items
-    items i c.args.self.now.lines.items c.loop-line.self.lines.items had.0 c.deref-line-items.ensures.value ends c.in_ok-lines.ensures
-    c.saturating_sub.ensures had.1 had.2
+pub returns-in-Ok-clause-line : goal.returns-in-Ok-clause-line
+returns-in-Ok-clause-line c = λ fits.
+    let text = c.args.text.now in
+    let line : List ℕ → List Piece = text_line c.args.self.now.style.width c.args.indent c.args.paint in
+    let room : columns_of text ≤ c.saturating_sub.result = omega (arith, fits, c.saturating_sub.ensures) in
+    let one : map line c.deref.result.now ≡ line text ∷ [] =
+    ap (map line) (c.deref.ensures.value ∙ c.in-Ok.ensures room)
+    ∙ ap (λ (cs : List ℕ). line_with c.args.self.now.style.width c.args.indent c.args.paint cs ∷ []) (twice text) in
+    subst (HasLines c.args.self.now c.push_texts.new.self) one c.push_texts.ensures.lines
