@@ -1,9 +1,15 @@
 //! The run of a plan.
 
-ghost use Rattle.std.specs.Prelude.{◌≡◌, ◌<◌, ◌-◌, ◌^◌, IfErr, IfOk};
+ghost use Rattle.std.specs.Prelude.{◌≡◌, ◌<◌, ◌≤◌, ◌-◌, ◌^◌, length, IfErr, IfOk};
 ghost use Rattle.apply_hooks.specs.Registry.{rules_of};
+ghost use Rattle.apply_plan.specs.Plan.SavedPlan.{max_changes};
 ghost use Rattle.apply_run.specs.Options.{IsInRange};
 ghost use Rattle.apply_run.specs.Run.{HasFailed, HasFailedInForm, HasStreamed, HasStreamedInForm, sight_of};
+ghost use Rattle.apply_run.specs.Run.Endpoints.{AreReady};
+ghost use Rattle.apply_run.specs.Run.Finished.{IsFinishedRun};
+ghost use Rattle.apply_run.specs.Run.NotBegun.{GivesBack};
+ghost use Rattle.apply_run.specs.Stream.Counting.{IsNew};
+ghost use Rattle.apply_run.specs.Stream.Telling.{telling_of};
 
 use crate::fault::Fault;
 use crate::forms::form_lines::FormLines;
@@ -16,6 +22,7 @@ use crate::sinks::sink::Sink;
 use crate::stream::StreamWriter;
 use crate::why::Why;
 use crate::worker::gate::Gate;
+use crate::worker::job::Job;
 use crate::worker::signal::Signal;
 use apply_hooks::Registry;
 use apply_plan::{Plan, Script};
@@ -100,11 +107,9 @@ pub(crate) fn apply_in_form<S: Sink + Drop, F: FormLines, G: Gate, R: Threads + 
     let Ok(prepared) = Prepared::new(alloc, options, plan.len()) else {
         return (sink, Err(Fault::at_once(Why::Memory)));
     };
-    let Prepared { claims, endpoints } = prepared;
-    let signal = Signal::new();
     let stream = StreamWriter::new(alloc, lines, sink);
-    let finished = run_workers::<Brand, S, F, G, R>(
-        rt, alloc, plan, script, registry, gate, &claims, &signal, endpoints, stream,
+    let finished = run_prepared::<S, F, G, R>(
+        rt, alloc, plan, script, registry, gate, prepared, stream,
     );
     match finished {
         Ok(FinishedRun { stream, whole }) => {
@@ -122,4 +127,39 @@ pub(crate) fn apply_in_form<S: Sink + Drop, F: FormLines, G: Gate, R: Threads + 
             (stream.into_sink(), Err(Fault::at_once(Why::Memory)))
         }
     }
+}
+
+/// Runs workers over what was made ready, and lets go of it behind them.
+fn run_prepared<S: Sink + Drop, F: FormLines, G: Gate, R: Threads + Wait + Sync>(
+    rt: &R,
+    alloc: Global,
+    plan: &Plan,
+    script: &Script,
+    registry: &Registry,
+    gate: &G,
+    prepared: Prepared,
+    stream: StreamWriter<S, F>,
+) -> Result<FinishedRun<S, F>, NotBegun<S, F>>
+    requires limit { prepared.claims.limit ≡ length plan.now.changes }
+    requires few { length plan.now.changes ≤ max_changes }
+    requires endpoints { AreReady prepared.claims prepared.endpoints.rx.bus prepared.endpoints }
+    requires stream { IsNew (telling_of S.bytes S.failed stream) }
+    requires plan { (F.form stream.lines).plan ≡ plan.now }
+
+    ensures finished { IfOk result (λ finished. IsFinishedRun S.bytes S.failed F.form
+        (record { plan = plan.now; script = script.now; hooks = rules_of registry.now }) prepared.claims.workers stream finished) }
+
+    ensures not_begun { IfErr result (λ not_begun. GivesBack stream prepared.endpoints not_begun) }
+{
+    let Prepared { claims, endpoints } = prepared;
+    let signal = Signal::new();
+    let job = Job {
+        plan,
+        script,
+        registry,
+        gate,
+        claims: &claims,
+        signal: &signal,
+    };
+    run_workers::<Brand, S, F, G, R>(rt, alloc, &job, endpoints, stream)
 }

@@ -24,10 +24,8 @@ use crate::sinks::sink::Sink;
 use crate::stream::StreamWriter;
 use crate::worker::StoppedWorker;
 use crate::worker::gate::Gate;
-use crate::worker::signal::Signal;
-use apply_bus::{Claims, Taken};
-use apply_hooks::Registry;
-use apply_plan::{Plan, Script};
+use crate::worker::job::Job;
+use apply_bus::Taken;
 use std::alloc::Global;
 use std::sync::Wait;
 use std::thread;
@@ -77,19 +75,14 @@ pub(crate) fn run_workers<
 >(
     rt: &R,
     alloc: Global,
-    plan: &Plan,
-    script: &Script,
-    registry: &Registry,
-    gate: &G,
-    claims: &Claims,
-    signal: &Signal,
+    job: &Job<'_, G>,
     endpoints: Endpoints,
     stream: StreamWriter<S, F>,
 ) -> Result<FinishedRun<S, F>, NotBegun<S, F>>
-    requires run { IsRun K.work K.claims plan.now script.now (rules_of registry.now) claims.now }
+    requires run { IsRun K.work K.claims job.now.plan.now job.now.script.now (rules_of job.now.registry.now) job.now.claims.now }
     requires endpoints { AreReady K.claims K.bus endpoints }
     requires stream { IsNew (telling_of S.bytes S.failed stream) }
-    requires plan { (F.form stream.lines).plan ≡ plan.now }
+    requires plan { (F.form stream.lines).plan ≡ job.now.plan.now }
     ensures finished { IfOk result (λ finished.
         IsFinishedRun S.bytes S.failed F.form K.work K.claims.workers stream finished) }
     ensures not_begun { IfErr result (λ not_begun. GivesBack stream endpoints not_begun) }
@@ -97,9 +90,7 @@ pub(crate) fn run_workers<
     let Ok(started) = Vec::with_capacity(alloc, endpoints.drawers.len()) else {
         return Err(NotBegun::NoMemory(stream, endpoints));
     };
-    match run_threads::<K, S, F, G, R>(
-        rt, plan, script, registry, gate, claims, signal, endpoints, started, stream,
-    ) {
+    match run_threads::<K, S, F, G, R>(rt, job, endpoints, started, stream) {
         Ok(finished) => Ok(finished),
         Err(stream) => Err(NotBegun::NoThread(stream)),
     }
@@ -115,20 +106,15 @@ fn run_threads<
     R: Threads + Wait + Sync,
 >(
     rt: &R,
-    plan: &Plan,
-    script: &Script,
-    registry: &Registry,
-    gate: &G,
-    claims: &Claims,
-    signal: &Signal,
+    job: &Job<'_, G>,
     endpoints: Endpoints,
     started: Vec<WorkerThread<K>>,
     stream: StreamWriter<S, F>,
 ) -> Result<FinishedRun<S, F>, StreamWriter<S, F>>
-    requires run { IsRun K.work K.claims plan.now script.now (rules_of registry.now) claims.now }
+    requires run { IsRun K.work K.claims job.now.plan.now job.now.script.now (rules_of job.now.registry.now) job.now.claims.now }
     requires endpoints { AreReady K.claims K.bus endpoints }
     requires stream { IsNew (telling_of S.bytes S.failed stream) }
-    requires plan { (F.form stream.lines).plan ≡ plan.now }
+    requires plan { (F.form stream.lines).plan ≡ job.now.plan.now }
     requires none { started.items ≡ [] }
     requires room { length endpoints.drawers.items ≤ vec_capacity started }
     ensures finished { IfOk result (λ finished.
@@ -139,7 +125,7 @@ fn run_threads<
         thread::scope_env(),
         rt,
         move |scope| -> Result<JoinedRun<S, F>, StreamWriter<S, F>>
-            requires run { IsRun K.work K.claims plan.now script.now (rules_of registry.now) claims.now }
+            requires run { IsRun K.work K.claims job.now.plan.now job.now.script.now (rules_of job.now.registry.now) job.now.claims.now }
             requires endpoints { AreReady K.claims K.bus endpoints }
             requires stream { IsNew (telling_of S.bytes S.failed stream) }
             requires none { started.items ≡ [] }
@@ -147,11 +133,7 @@ fn run_threads<
             ensures joined { IfOk result (λ joined.
                 IsJoinedRun S.bytes S.failed F.form K.work K.claims K.bus stream joined) }
             ensures not_begun { IfErr result (λ back. back ≡ stream) }
-        {
-            run_in_scope::<_, K, S, F, G, R>(
-                scope, rt, plan, script, registry, gate, claims, signal, endpoints, started, stream,
-            )
-        },
+        { run_in_scope::<_, K, S, F, G, R>(scope, rt, job, endpoints, started, stream) },
     );
     match joined {
         Ok(
@@ -162,7 +144,7 @@ fn run_threads<
                 lost,
             },
         ) => {
-            let whole = reconcile::<K>(claims, taken, stopped);
+            let whole = reconcile::<K>(job.claims, taken, stopped);
             Ok(FinishedRun {
                 stream,
                 whole: whole && !lost,
@@ -184,17 +166,12 @@ fn run_in_scope<
 >(
     scope: &'s Scope<'s, E>,
     rt: &'s R,
-    plan: &'s Plan,
-    script: &'s Script,
-    registry: &'s Registry,
-    gate: &'s G,
-    claims: &'s Claims,
-    signal: &'s Signal,
+    job: &'s Job<'s, G>,
     endpoints: Endpoints,
     mut started: Vec<WorkerThread<K>>,
     stream: StreamWriter<S, F>,
 ) -> Result<JoinedRun<S, F>, StreamWriter<S, F>>
-    requires run { IsRun K.work K.claims plan.now script.now (rules_of registry.now) claims.now }
+    requires run { IsRun K.work K.claims job.now.plan.now job.now.script.now (rules_of job.now.registry.now) job.now.claims.now }
     requires endpoints { AreReady K.claims K.bus endpoints }
     requires stream { IsNew (telling_of S.bytes S.failed stream) }
     requires none { started.items ≡ [] }
@@ -209,20 +186,8 @@ fn run_in_scope<
         rx,
         mut stopped,
     } = endpoints;
-    let all = start_all(
-        scope,
-        rt,
-        plan,
-        script,
-        registry,
-        gate,
-        claims,
-        signal,
-        drawers,
-        senders,
-        &mut started,
-    );
-    signal.announce(all);
+    let all = start_all(scope, rt, job, drawers, senders, &mut started);
+    job.signal.announce(all);
     if !all {
         join_all(rt, started, &mut stopped);
         return Err(stream);

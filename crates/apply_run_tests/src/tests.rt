@@ -159,46 +159,9 @@ fn apply_into_memory<R: Threads + Wait + Sync + Abort>(
     (kept(rt, alloc, sink), result)
 }
 
-/// The same of texts, where it has to succeed. What was written.
-fn applied<R: Threads + Wait + Sync + Abort>(
-    rt: &R,
-    alloc: Global,
-    plan: &str,
-    script: &str,
-    registry: &Registry,
-    options: Options,
-) -> &'static str {
-    let (bytes, script) = (plan.as_bytes(), script_bytes(script));
-    let (sink, result) = apply_into_memory(rt, alloc, bytes, script, registry, options);
-    has_all(rt, plan, sink, result);
-    text_of(rt, sink)
-}
-
-/// Fails where the run did not end well, or the sink has not as many bytes as are told, or a write failed.
-fn has_all(rt: &impl Abort, plan: &str, sink: &MemorySink, end: Result<Report, Refusal>) {
-    let report = end.ok().expect(rt, plan);
-    has_taken(rt, sink, report.written);
-    number_is(rt, "failed writes", sink.failures(), 0);
-}
-
 /// Fails where the sink has not as many bytes as are told.
 fn has_taken(rt: &impl Abort, sink: &MemorySink, written: u128) {
     assert!(rt; written == sink.bytes().len() as u128);
-}
-
-/// Fails where the stream of both texts is another.
-fn writes<R: Threads + Wait + Sync + Abort>(
-    rt: &R,
-    alloc: Global,
-    name: &str,
-    plan: &str,
-    script: &str,
-    options: Options,
-    wanted: &str,
-) {
-    let registry = no_hooks(rt, alloc);
-    let found = applied(rt, alloc, plan, script, registry, options);
-    text_is(rt, name, found, wanted);
 }
 
 /// Reads both texts and applies them, without hooks.
@@ -238,10 +201,7 @@ fn apply_plan<'a, S: Sink + Drop + 'a, G: Gate, R: Threads + Wait + Sync + Abort
 
 /// What a run has done that had to end well.
 fn report_of(rt: &impl Abort, end: Result<Report, Fault>) -> Report {
-    match end {
-        Ok(report) => report,
-        Err(fault) => panic!(rt; "{fault}"),
-    }
+    end.ok().expect(rt, "an end that is well")
 }
 
 /// Keeps what has passed it in one number, for one worker: a hexadecimal digit for each, the last pass last.
@@ -300,7 +260,7 @@ fn bytes_are(rt: &impl Abort, found: &[u8], wanted: &[u8]) {
 
 /// Fails where other steps were counted.
 fn counts_are(rt: &impl Abort, found: Counts, wanted: Counts) {
-    assert!(rt; found == wanted, "{found:?}");
+    holds(rt, "counts", found == wanted);
 }
 
 /// Fails where a flush ended otherwise.

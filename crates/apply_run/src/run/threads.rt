@@ -8,11 +8,8 @@ ghost use Rattle.apply_run.specs.Worker.Stopped.{IsStoppedWorker};
 use crate::run::run_name::RunName;
 use crate::worker::gate::Gate;
 use crate::worker::job::Job;
-use crate::worker::signal::Signal;
 use crate::worker::{StoppedWorker, work};
-use apply_bus::{Claims, Drawer, Tx};
-use apply_hooks::Registry;
-use apply_plan::{Plan, Script};
+use apply_bus::{Drawer, Tx};
 use std::marker::PhantomData;
 use std::sync::Wait;
 use std::thread::{Promise, PromisedHandle, Scope, Threads};
@@ -44,17 +41,12 @@ pub(crate) fn start_all<
 >(
     scope: &'s Scope<'s, E>,
     rt: &'s R,
-    plan: &'s Plan,
-    script: &'s Script,
-    registry: &'s Registry,
-    gate: &'s G,
-    claims: &'s Claims,
-    signal: &'s Signal,
+    job: &'s Job<'s, G>,
     drawers: Vec<Drawer>,
     senders: Vec<Tx>,
     started: &mut Vec<WorkerThread<K>>,
 ) -> bool
-    requires run { IsRun K.work K.claims plan.now script.now (rules_of registry.now) claims.now }
+    requires run { IsRun K.work K.claims job.now.plan.now job.now.script.now (rules_of job.now.registry.now) job.now.claims.now }
     requires drawers { EachAt (IsNewDrawer K.claims) drawers.items }
     requires senders { EachAt (IsNewSender K.bus) senders.items }
     requires none { started.old.items ≡ [] }
@@ -63,6 +55,9 @@ pub(crate) fn start_all<
     ensures few { length started.new.items ≤ length drawers.items }
     ensures all { result ≡ true → length started.new.items ≡ length drawers.items }
 {
+    // A thread takes what they share one by one: that a job may be shared among threads would be proved here at length.
+    let (plan, script, registry) = (job.plan, job.script, job.registry);
+    let (gate, claims, signal) = (job.gate, job.claims, job.signal);
     let mut senders = senders.into_iter();
     for drawer in drawers {
         let Some(tx) = senders.next() else {

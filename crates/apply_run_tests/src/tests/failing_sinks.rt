@@ -24,20 +24,13 @@ fn failed(counts: Counts, taken: u64, written: usize) -> Result<Report, Fault> {
 
 /// Fails where the bytes are not the first ones of the stream, so many.
 pub(super) fn is_cut_off(rt: &impl Abort, found: &[u8], stream: &str, room: usize) {
-    assert!(rt;
-        Some(found) == stream.as_bytes().get(..room),
-        "{room} bytes"
-    );
+    let front = stream.as_bytes().get(..room);
+    holds(rt, "a front", Some(found) == front);
 }
 
-/// Fails where the run into a sink with room for so many bytes ended otherwise.
-fn end_is(
-    rt: &impl Abort,
-    room: usize,
-    found: Result<Report, Fault>,
-    wanted: Result<Report, Fault>,
-) {
-    assert!(rt; found == wanted, "{room} bytes");
+/// Fails where a run ended otherwise.
+fn end_is(rt: &impl Abort, found: Result<Report, Fault>, wanted: Result<Report, Fault>) {
+    holds(rt, "an end", found == wanted);
 }
 
 /// Applies one create into the sink.
@@ -78,7 +71,7 @@ fn short_and_full_sinks(rt: HostRuntime) {
     holds(&rt, "an end that is well", result.is_ok());
     let full = MemorySink::new(alloc, 1000, Some(100));
     let result = create_into_memory(&rt, alloc, full, A_HUNDRED_BYTES, 1);
-    end_is(&rt, 100, result, failed(counts(1, 0, 0, 0), 2, 100));
+    end_is(&rt, result, failed(counts(1, 0, 0, 0), 2, 100));
 }
 
 /// Says that it took nothing.
@@ -99,7 +92,7 @@ impl Write for Idle {
 fn ok_of_nothing(rt: HostRuntime) {
     let (sink, result) = create_into(&rt, rt.alloc(), 1, StdSink::new(Idle));
     let sink = kept(&rt, rt.alloc(), sink);
-    end_is(&rt, 0, result, failed(counts(1, 0, 0, 0), 2, 0));
+    end_is(&rt, result, failed(counts(1, 0, 0, 0), 2, 0));
     number_is(&rt, "failed writes", sink.failures(), 1);
 }
 
@@ -234,7 +227,7 @@ fn fails_once_cut_off(
     room: usize,
 ) {
     if room < run.stream.len() {
-        end_is(rt, room, end, failed(run.counts, run.taken, room));
+        end_is(rt, end, failed(run.counts, run.taken, room));
         number_is(rt, "failed writes", failures, 1);
     } else {
         holds(rt, "an end that is well", end.is_ok());

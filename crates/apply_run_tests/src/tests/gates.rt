@@ -114,7 +114,7 @@ fn was_begun_by_its_worker(
     workers: u64,
 ) {
     let worker = worker_of(passed, change);
-    assert!(rt; 1 <= worker && worker <= workers, "{message} {passed:x}");
+    holds(rt, message, 1 <= worker && worker <= workers);
     let own = own_begin_of(passed, change);
     let (above, found) = moments_at(rt, text, message);
     let (above, found) = (seconds_of(rt, above), seconds_of(rt, found));
@@ -153,9 +153,9 @@ fn one_worker_passes_as_the_first(rt: HostRuntime) {
 #[test]
 fn each_worker_passes_as_itself(rt: HostRuntime) {
     let two = workers_pass(&rt, rt.alloc(), 2);
-    assert!(rt; two == 0x0202_0201 || two == 0x0101_0102, "{two:x}");
+    holds(&rt, "two", two == 0x0202_0201 || two == 0x0101_0102);
     let eight = workers_pass(&rt, rt.alloc(), 8);
-    assert!(rt; worker_of(eight, 0) != worker_of(eight, 1), "{eight:x}");
+    holds(&rt, "eight", worker_of(eight, 0) != worker_of(eight, 1));
 }
 
 /// A sink that counts the starts of steps that it has taken.

@@ -3,7 +3,7 @@
 ghost use Rattle.std.specs.Prelude.{◌<◌, ◌≤◌, ◌-◌, ◌^◌};
 
 use super::failing_sinks::is_cut_off;
-use super::refusals::{is_untouched, refusal_is};
+use super::refusals::is_refused;
 use super::*;
 
 /// Applies what both texts say in so many lanes.
@@ -75,8 +75,7 @@ fn lanes_refuse(
 ) {
     let (sink, result) = apply_texts_in_lanes(rt, alloc, plan, script, lanes, memory(alloc));
     let sink = kept(rt, alloc, sink);
-    assert!(rt; result == Err(wanted), "{plan} {script} in {lanes} lanes");
-    is_untouched(rt, plan, script, sink);
+    is_refused(rt, plan, script, sink, result == Err(wanted));
 }
 
 /// The plan is refused before the script, and the script before the number of lanes.
@@ -87,9 +86,9 @@ fn refusals_in_lanes(rt: HostRuntime) {
     lanes_refuse(&rt, alloc, "[", "{", 0, no_json);
     let no_script = Refusal::Script(ScriptError::NotJson);
     lanes_refuse(&rt, alloc, ONE_CREATE, "{", 65, no_script);
-    lanes_refuse(&rt, alloc, ONE_CREATE, NO_SCRIPT, 0, Refusal::Size);
-    lanes_refuse(&rt, alloc, ONE_CREATE, NO_SCRIPT, 65, Refusal::Size);
-    lanes_refuse(&rt, alloc, ONE_CREATE, NO_SCRIPT, 255, Refusal::Size);
+    for lanes in [0, 65, 255] {
+        lanes_refuse(&rt, alloc, ONE_CREATE, NO_SCRIPT, lanes, Refusal::Size);
+    }
 }
 
 /// Whatever byte is the first that the sink does not take: it has all before it and nothing more, and all events are
@@ -115,9 +114,6 @@ fn is_cut_off_in_lanes(rt: &impl Abort, alloc: Global, room: usize) {
     };
     let why = Why::Write;
     let wanted = Refusal::Fault(Fault { why, report });
-    let failures = sink.failures();
-    assert!(rt;
-        result == Err(wanted) && failures == 1,
-        "{room} bytes, {failures} failed writes"
-    );
+    holds(rt, "an end", result == Err(wanted));
+    number_is(rt, "failed writes", sink.failures(), 1);
 }

@@ -14,30 +14,19 @@ fn refuses<R: Threads + Wait + Sync + Abort>(
 ) {
     let (registry, bytes) = (no_hooks(rt, alloc), script_bytes(script));
     let (sink, result) = apply_into_memory(rt, alloc, plan.as_bytes(), bytes, registry, options);
-    refusal_is(rt, plan, script, result, wanted);
-    is_untouched(rt, plan, script, sink);
+    is_refused(rt, plan, script, sink, result == Err(wanted));
 }
 
-/// Fails where it is not so of a plan and a script.
-fn of_both(rt: &impl Abort, plan: &str, script: &str, is_so: bool) {
-    assert!(rt; is_so, "{plan} {script}");
-}
-
-/// Fails where the answer is not that refusal.
-pub(super) fn refusal_is(
+/// Fails where the texts were not refused as they have to be, or the sink took anything, or failed.
+pub(super) fn is_refused(
     rt: &impl Abort,
     plan: &str,
     script: &str,
-    found: Result<Report, Refusal>,
-    wanted: Refusal,
+    sink: &MemorySink,
+    is_so: bool,
 ) {
-    of_both(rt, plan, script, found == Err(wanted));
-}
-
-/// Fails where the sink took anything, or failed.
-pub(super) fn is_untouched(rt: &impl Abort, plan: &str, script: &str, sink: &MemorySink) {
-    of_both(rt, plan, script, sink.bytes().is_empty());
-    of_both(rt, plan, script, sink.failures() == 0);
+    let untouched = sink.bytes().is_empty() && sink.failures() == 0;
+    assert!(rt; is_so && untouched, "{plan} {script}");
 }
 
 /// A number of workers, a capacity, and whether they are in range.
@@ -61,23 +50,13 @@ fn sizes_of(rt: &impl Abort, workers: &str, capacity: &str) -> Options {
     options(workers, capacity)
 }
 
-/// Fails where the sizes of the line are taken for others, or one create does not end so.
+/// Fails where the sizes of the line are taken for others, or one create is not refused where they are out of range.
 fn sizes_are<R: Threads + Wait + Sync + Abort>(rt: &R, alloc: Global, line: &str) {
     let (workers, rest) = parted(rt, line, " ");
     let (capacity, wanted) = parted(rt, rest, " ");
     let options = sizes_of(rt, workers, capacity);
     holds(rt, line, options.in_range() == (wanted == "in"));
-    if wanted == "in" {
-        writes(
-            rt,
-            alloc,
-            line,
-            ONE_CREATE,
-            NO_SCRIPT,
-            options,
-            ONE_CREATE_STREAM,
-        );
-    } else {
+    if wanted == "out" {
         refuses(rt, alloc, ONE_CREATE, NO_SCRIPT, options, Refusal::Size);
     }
 }
@@ -135,51 +114,20 @@ pub(super) fn shows<E: Display>(rt: &impl Abort, alloc: Global, error: &E, wante
     text_is(rt, "error", text.as_str(), wanted);
 }
 
-fn fault(why: Why) -> Fault {
-    Fault {
-        why,
-        report: Report {
-            counts: counts(1, 2, 3, 4),
-            taken: 5,
-            written: 6,
-        },
-    }
-}
-
+/// What no run of the built program says.
 #[test]
 fn errors_have_their_texts(rt: HostRuntime) {
-    shows(&rt, rt.alloc(), &Why::Bus, "the event bus failed");
-    shows(
-        &rt,
-        rt.alloc(),
-        &Why::Workers,
-        "a worker could not be started",
-    );
-    shows(&rt, rt.alloc(), &Why::Memory, "out of memory");
-    shows(
-        &rt,
-        rt.alloc(),
-        &Why::Write,
-        "the output could not be written",
-    );
-    shows(&rt, rt.alloc(), &fault(Why::Bus), "the event bus failed");
-    shows(
-        &rt,
-        rt.alloc(),
-        &Refusal::Size,
-        "the sizes are out of range",
-    );
-    let no_json = Refusal::Plan(PlanError::NotJson);
-    shows(&rt, rt.alloc(), &no_json, "the plan is not JSON");
-    let unknown = Refusal::Script(ScriptError::UnknownChange(3));
-    shows(
-        &rt,
-        rt.alloc(),
-        &unknown,
-        "script entry 3 names an unknown change",
-    );
-    let text = "the script says what steps wait for, which takes --parallelism";
-    shows(&rt, rt.alloc(), &Refusal::Waits, text);
-    let no_worker = Refusal::Fault(fault(Why::Workers));
-    shows(&rt, rt.alloc(), &no_worker, "a worker could not be started");
+    let alloc = rt.alloc();
+    shows(&rt, alloc, &Why::Bus, "the event bus failed");
+    shows(&rt, alloc, &Refusal::Size, "the sizes are out of range");
+    let report = Report {
+        counts: counts(1, 2, 3, 4),
+        taken: 5,
+        written: 6,
+    };
+    let why = Why::Bus;
+    let lost = Fault { why, report };
+    shows(&rt, alloc, &lost, "the event bus failed");
+    let lost = Refusal::Fault(lost);
+    shows(&rt, alloc, &lost, "the event bus failed");
 }

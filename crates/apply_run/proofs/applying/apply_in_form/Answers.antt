@@ -54,8 +54,8 @@ returns-then-whole-clause-err g c =
     told (h before.bytes before.failed events told.told)))
     c.end.ensures.err
 
-pub returns-in-Ok-finished-clause-err : goal.returns-in-Ok-finished-clause-err
-returns-in-Ok-finished-clause-err g c =
+pub returns-else-whole-clause-err : goal.returns-else-whole-clause-err
+returns-else-whole-clause-err g c =
     let work : Work = record { plan = c.args.plan.now; script = c.args.script.now; hooks = rules_of c.args.registry.now } in
     let workers = c.args.options.workers in let form = g.F.FormLines.form c.args.lines in
     let before : Sight = sight_of g.S.Sink.bytes g.S.Sink.failed c.args.sink in
@@ -83,8 +83,8 @@ returns-in-Err-NoThread-clause-err g c =
     let fault = c.at_once-in-Err-NoThread in
     not_started form work workers fault.result.why fault.result.report before after fault.ensures.why fault.ensures.nothing same
 
-pub returns-clause-err : goal.returns-clause-err
-returns-clause-err g c =
+pub returns-in-Err-NoMemory-clause-err : goal.returns-in-Err-NoMemory-clause-err
+returns-in-Err-NoMemory-clause-err g c =
     let work : Work = record { plan = c.args.plan.now; script = c.args.script.now; hooks = rules_of c.args.registry.now } in
     let workers = c.args.options.workers in let form = g.F.FormLines.form c.args.lines in
     let before : Sight = sight_of g.S.Sink.bytes g.S.Sink.failed c.args.sink in
