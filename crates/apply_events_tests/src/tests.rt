@@ -9,7 +9,6 @@ ghost use Rattle.apply_events_tests.specs.Halting.{halting};
 
 mod asking;
 mod changes;
-mod counting;
 mod fitting;
 mod lanes;
 mod outputs;
@@ -36,9 +35,6 @@ const NO_SCRIPT: &str = "no script";
 /// The actions of a create.
 const CREATE: &str = r#"["create"]"#;
 
-/// The actions of a replacement that creates first.
-const CREATES_FIRST: &str = r#"["create","delete"]"#;
-
 /// The actions of a replacement that destroys first.
 const REPLACEMENT: &str = r#"["delete","create"]"#;
 
@@ -62,7 +58,7 @@ fn text_is(rt: &impl Abort, case: &str, found: &str, wanted: &str) {
 
 /// Fails where a number is another.
 fn number_is(rt: &impl Abort, case: &str, found: u64, wanted: u64) {
-    assert!(rt; found == wanted, "{case}: {found}");
+    holds(rt, case, found == wanted);
 }
 
 /// The value, for as long as the test runs: a proof grows with each place at which something has to be dropped.
@@ -124,15 +120,6 @@ fn script_of(rt: &impl Abort, alloc: Global, plan: &Plan, steps: &str) -> &'stat
     script_in(rt, alloc, plan, put(rt, alloc, SCRIPT, steps))
 }
 
-/// All events that a runner gives.
-fn all_events(rt: &impl Abort, alloc: Global, mut runner: Runner<'_>) -> &'static [Event] {
-    let mut all = Vec::new(alloc);
-    while let Some(event) = runner.next() {
-        all.push(event).ok().expect(rt, "memory");
-    }
-    kept(rt, alloc, all).as_slice()
-}
-
 /// Adds the moment, the worker or the lane, the change with its step, and what happens.
 fn push_event(rt: &impl Abort, alloc: Global, text: &mut String, event: &Event) {
     push_value(rt, alloc, text, &event.at, " ");
@@ -163,12 +150,46 @@ fn push_stand(
     ended
 }
 
-/// All events of a change that begins at that moment, and how it stands between them.
-fn told(rt: &impl Abort, alloc: Global, mut runner: Runner<'_>, begin: u64) -> &'static str {
+/// Counts one more event. The counts of a test are small.
+fn count(rt: &impl Abort, counted: &mut Counts, plan: &Plan, script: &Script, event: &Event) {
+    holds(rt, "an event that fits", fits(plan, script, event));
+    holds(rt, "few added", counted.added < 9);
+    holds(rt, "few changed", counted.changed < 9);
+    holds(rt, "few removed", counted.removed < 9);
+    holds(rt, "few failed", counted.failed < 9);
+    holds(rt, "few halted", counted.halted < 9);
+    counted.count(plan, event);
+}
+
+/// Adds how many objects were added, changed and removed so far, and how many steps failed and were halted.
+fn push_counts(rt: &impl Abort, alloc: Global, text: &mut String, counted: &Counts) {
+    push(rt, text, "counted ");
+    push_value(rt, alloc, text, &counted.added, " ");
+    push_value(rt, alloc, text, &counted.changed, " ");
+    push_value(rt, alloc, text, &counted.removed, " ");
+    push_value(rt, alloc, text, &counted.failed, " ");
+    push_value(rt, alloc, text, &counted.halted, "; ");
+}
+
+/// All events of a change that begins at that moment, the counts where they are others than before, and how it stands between.
+fn told(
+    rt: &impl Abort,
+    alloc: Global,
+    plan: &Plan,
+    script: &Script,
+    mut runner: Runner<'_>,
+    begin: u64,
+) -> &'static str {
     let mut text = String::new(alloc);
+    let mut counted = Counts::new();
     let mut ended = push_stand(rt, alloc, &mut text, &runner, begin);
     while let Some(event) = runner.next() {
+        let before = counted;
         push_event(rt, alloc, &mut text, &event);
+        count(rt, &mut counted, plan, script, &event);
+        if counted != before {
+            push_counts(rt, alloc, &mut text, &counted);
+        }
         ended = push_stand(rt, alloc, &mut text, &runner, ended);
     }
     holds(rt, "nothing behind the last event", runner.next().is_none());
@@ -188,12 +209,8 @@ fn is_told(
     holds(rt, "one change", plan.len() == 1);
     holds(rt, "in time", begin <= LAST_BEGIN);
     let runner = Runner::start(plan, script, registry, 7, 0, begin);
-    text_is(
-        rt,
-        wanted,
-        told(rt, alloc, runner, begin).trim_end(),
-        wanted,
-    );
+    let found = told(rt, alloc, plan, script, runner, begin);
+    text_is(rt, wanted, found.trim_end(), wanted);
 }
 
 /// Fails where a row of a table is told otherwise: the actions, the steps, and the events of a change that begins at that
@@ -238,26 +255,17 @@ fn add_hook(rt: &impl Abort, registry: &mut Registry, rules: Rules, answer: Hook
     holds(rt, "a hook was added", added.is_ok());
 }
 
-/// Hooks, of which so many have no rules and so many behind them halt steps of that kind in that phase.
-#[derive(Drop)]
-struct Hooks {
-    quiet: u8,
-    halting: u8,
+/// Fails where a table has other events, of changes or in lanes, than are told under three hooks: one that halts updates in
+/// that phase, which the table has none of, and two that halt steps of that kind in it.
+fn rows_are_told_under(
+    rt: &impl Abort,
+    alloc: Global,
     phase: Phase,
     kind: Option<StepKind>,
-}
-
-/// Fails where a row of the table is told otherwise under the hooks.
-fn rows_are_told_under(rt: &impl Abort, alloc: Global, hooks: &Hooks, table: &str) {
+    table: &str,
+) {
     let mut registry = Registry::new(alloc);
-    let (phase, kind) = (hooks.phase, hooks.kind);
-    for _ in 0..hooks.quiet {
-        let answer: HookClosure = Box::new(alloc, |_call: &HookCall<'_>| Verdict::Continue).expect(
-            rt, "memory",
-        );
-        add_hook(rt, &mut registry, Rules::new(alloc), answer);
-    }
-    for _ in 0..hooks.halting {
+    for kind in [Some(StepKind::Update), kind, kind] {
         let rules = halting(rt, alloc, phase, kind);
         let answer: HookClosure = Box::new(alloc, move |call: &HookCall<'_>| {
             halts(call, phase, kind)
@@ -265,5 +273,9 @@ fn rows_are_told_under(rt: &impl Abort, alloc: Global, hooks: &Hooks, table: &st
         .expect(rt, "memory");
         add_hook(rt, &mut registry, rules, answer);
     }
-    rows_are_told(rt, alloc, &registry, 0, table);
+    if table.contains("\nin ") {
+        lanes::lanes_report(rt, alloc, &registry, table);
+    } else {
+        rows_are_told(rt, alloc, &registry, 0, table);
+    }
 }

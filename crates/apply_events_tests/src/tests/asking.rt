@@ -51,6 +51,26 @@ fn asked_in_a_lane(
     }
 }
 
+/// A change with each phase of each step, by a runner and in a lane, and one of which the first step is skipped.
+fn asked_of_changes(rt: &impl Abort, alloc: Global, registry: &Registry, calls: &AtomicU64) {
+    let plan = plan_of(rt, alloc, REPLACEMENT);
+    let script = script_of(rt, alloc, plan, ELEVEN_AND_TWO);
+    asked_along(rt, plan, script, registry, calls);
+    calls.store(0, Ordering::SeqCst);
+    asked_in_a_lane(rt, alloc, plan, script, registry, calls);
+    calls.store(0, Ordering::SeqCst);
+    let skipped = script_of(rt, alloc, plan, r#"[{"skipped":true},{"seconds":5}]"#);
+    is_told(rt, alloc, plan, skipped, registry, 0, "");
+    let given = lanes::reported(rt, alloc, plan, skipped, registry, 2);
+    text_is(rt, "in lanes", given, "");
+    number_is(
+        rt,
+        "asked of a skipped step",
+        calls.load(Ordering::SeqCst),
+        0,
+    );
+}
+
 /// A stored closure is asked once for each phase of each step: before the step by the call that gives its first event,
 /// after it by the call that gives the last event that comes whatever the hooks say. Lanes ask it once more, when they
 /// start. It is not asked of a step that is skipped.
@@ -66,20 +86,5 @@ fn hooks_are_asked_once_for_each_phase(rt: HostRuntime) {
     })
     .expect(&rt, "memory");
     add_hook(&rt, &mut registry, Rules::new(alloc), answer);
-    let plan = plan_of(&rt, alloc, REPLACEMENT);
-    let script = script_of(&rt, alloc, plan, ELEVEN_AND_TWO);
-    asked_along(&rt, plan, script, &registry, &calls);
-    calls.store(0, Ordering::SeqCst);
-    asked_in_a_lane(&rt, alloc, plan, script, &registry, &calls);
-    calls.store(0, Ordering::SeqCst);
-    let skipped = script_of(&rt, alloc, plan, r#"[{"skipped":true},{"seconds":5}]"#);
-    is_told(&rt, alloc, plan, skipped, &registry, 0, "");
-    let given = lanes::lane_events(&rt, alloc, plan, skipped, &registry, 2);
-    holds(&rt, "no event in lanes", given.is_empty());
-    number_is(
-        &rt,
-        "asked of a skipped step",
-        calls.load(Ordering::SeqCst),
-        0,
-    );
+    asked_of_changes(&rt, alloc, &registry, &calls);
 }

@@ -1,55 +1,55 @@
-//! The events of a change, and how it stands between them.
+//! The events of a change, their counts, and how it stands between them.
 
 use super::*;
 
-/// A change's actions, the steps of its script, and its events with how it stands, for each row: the step that begins next,
-/// and when the change has ended so far.
+/// A change's actions, the steps of its script, and its events, for each row. Between them stand the step that begins next, when
+/// the change has ended so far, and how many objects were added, changed and removed and how many steps failed and were halted.
 const WORKED: &str =
-    r#"["delete","create"] => [{"seconds":1},{"seconds":2,"id":"42"}] => begins 0; 0 7 0.0 Start; 1 7 0.0 Complete(1); ended 1; begins 1; 1 7 0.1 Start; 3 7 0.1 Complete(2); ended 3;
-["create","delete"] => [{"seconds":0},{"seconds":4,"failed":{"summary":"boom"}}] => begins 0; 0 7 0.0 Start; 0 7 0.0 Complete(0); begins 1; 0 7 0.1 Start; 4 7 0.1 Errored(4); 4 7 0.1 ErrorNote; ended 4;
-["delete","create"] => [{"seconds":4,"failed":{"summary":"boom"}}] => begins 0; 0 7 0.0 Start; 4 7 0.0 Errored(4); 4 7 0.0 ErrorNote; ended 4;
-["update"] => [{"seconds":25}] => begins 0; 0 7 0.0 Start; 10 7 0.0 Progress(10); 20 7 0.0 Progress(20); 25 7 0.0 Complete(25); ended 25;
-["update"] => [{"seconds":10}] => begins 0; 0 7 0.0 Start; 10 7 0.0 Complete(10); ended 10;
-["update"] => [{"seconds":11}] => begins 0; 0 7 0.0 Start; 10 7 0.0 Progress(10); 11 7 0.0 Complete(11); ended 11;
-["update"] => [{"seconds":0,"id":"i-1","warning":{"summary":"slow"}}] => begins 0; 0 7 0.0 Start; 0 7 0.0 Complete(0); 0 7 0.0 WarnNote;
-["delete","create"] => [{"seconds":1,"warning":{"summary":"slow"}},{"seconds":2}] => begins 0; 0 7 0.0 Start; 1 7 0.0 Complete(1); 1 7 0.0 WarnNote; ended 1; begins 1; 1 7 0.1 Start; 3 7 0.1 Complete(2); ended 3;
+    r#"["delete","create"] => [{"seconds":1},{"seconds":2,"id":"42"}] => begins 0; 0 7 0.0 Start; 1 7 0.0 Complete(1); counted 0 0 1 0 0; ended 1; begins 1; 1 7 0.1 Start; 3 7 0.1 Complete(2); counted 1 0 1 0 0; ended 3;
+["create","delete"] => [{"seconds":0},{"seconds":4,"failed":{"summary":"boom"}}] => begins 0; 0 7 0.0 Start; 0 7 0.0 Complete(0); counted 1 0 0 0 0; begins 1; 0 7 0.1 Start; 4 7 0.1 Errored(4); counted 1 0 0 1 0; 4 7 0.1 ErrorNote; ended 4;
+["delete","create"] => [{"seconds":4,"failed":{"summary":"boom"}}] => begins 0; 0 7 0.0 Start; 4 7 0.0 Errored(4); counted 0 0 0 1 0; 4 7 0.0 ErrorNote; ended 4;
+["update"] => [{"seconds":25}] => begins 0; 0 7 0.0 Start; 10 7 0.0 Progress(10); 20 7 0.0 Progress(20); 25 7 0.0 Complete(25); counted 0 1 0 0 0; ended 25;
+["update"] => [{"seconds":10}] => begins 0; 0 7 0.0 Start; 10 7 0.0 Complete(10); counted 0 1 0 0 0; ended 10;
+["update"] => [{"seconds":11}] => begins 0; 0 7 0.0 Start; 10 7 0.0 Progress(10); 11 7 0.0 Complete(11); counted 0 1 0 0 0; ended 11;
+["update"] => [{"seconds":0,"id":"i-1","warning":{"summary":"slow"}}] => begins 0; 0 7 0.0 Start; 0 7 0.0 Complete(0); counted 0 1 0 0 0; 0 7 0.0 WarnNote;
+["delete","create"] => [{"seconds":1,"warning":{"summary":"slow"}},{"seconds":2}] => begins 0; 0 7 0.0 Start; 1 7 0.0 Complete(1); counted 0 0 1 0 0; 1 7 0.0 WarnNote; ended 1; begins 1; 1 7 0.1 Start; 3 7 0.1 Complete(2); counted 1 0 1 0 0; ended 3;
 ["read"] => [] => begins 0; 0 7 0.0 Start; 0 7 0.0 Complete(0);
 ["no-op"] => [] => 
 ["forget"] => [] => "#;
 
 /// The same of creates with provisioners. One that fails leaves the rest of its change undone.
 const PROVISIONED: &str =
-    r#"["create"] => [{"seconds":4,"id":"7","provisioners":[{"provisioner":"local-exec","seconds":12,"output":["hi"]}]}] => begins 0; 0 7 0.0 Start; 4 7 0.0 ProvisionStart(0); 10 7 0.0 Progress(10); 16 7 0.0 ProvisionOutput { prov: 0, line: 0 }; 16 7 0.0 ProvisionComplete(0); 16 7 0.0 Complete(16); ended 16;
-["create"] => [{"seconds":1,"provisioners":[{"provisioner":"a","seconds":2,"failed":{"summary":"boom"}},{"provisioner":"b","seconds":3}]}] => begins 0; 0 7 0.0 Start; 1 7 0.0 ProvisionStart(0); 3 7 0.0 ProvisionErrored(0); 3 7 0.0 Errored(3); 3 7 0.0 ErrorNote; ended 3;
-["create"] => [{"seconds":10,"provisioners":[{"provisioner":"a","seconds":5}]}] => begins 0; 0 7 0.0 Start; 10 7 0.0 Progress(10); 10 7 0.0 ProvisionStart(0); 15 7 0.0 ProvisionComplete(0); 15 7 0.0 Complete(15); ended 15;
-["create"] => [{"seconds":10,"provisioners":[{"provisioner":"a","seconds":0}]}] => begins 0; 0 7 0.0 Start; 10 7 0.0 ProvisionStart(0); 10 7 0.0 ProvisionComplete(0); 10 7 0.0 Complete(10); ended 10;
-["create"] => [{"seconds":0,"provisioners":[{"provisioner":"a","seconds":0},{"provisioner":"b","seconds":0,"output":["",""]}]}] => begins 0; 0 7 0.0 Start; 0 7 0.0 ProvisionStart(0); 0 7 0.0 ProvisionComplete(0); 0 7 0.0 ProvisionStart(1); 0 7 0.0 ProvisionOutput { prov: 1, line: 0 }; 0 7 0.0 ProvisionOutput { prov: 1, line: 1 }; 0 7 0.0 ProvisionComplete(1); 0 7 0.0 Complete(0);
-["create"] => [{"seconds":3,"provisioners":[{"provisioner":"a","seconds":7,"output":["x"]},{"provisioner":"b","seconds":1}]}] => begins 0; 0 7 0.0 Start; 3 7 0.0 ProvisionStart(0); 10 7 0.0 Progress(10); 10 7 0.0 ProvisionOutput { prov: 0, line: 0 }; 10 7 0.0 ProvisionComplete(0); 10 7 0.0 ProvisionStart(1); 11 7 0.0 ProvisionComplete(1); 11 7 0.0 Complete(11); ended 11;
-["create"] => [{"seconds":9,"provisioners":[{"provisioner":"a","seconds":2},{"provisioner":"b","seconds":30}]}] => begins 0; 0 7 0.0 Start; 9 7 0.0 ProvisionStart(0); 10 7 0.0 Progress(10); 11 7 0.0 ProvisionComplete(0); 11 7 0.0 ProvisionStart(1); 20 7 0.0 Progress(20); 30 7 0.0 Progress(30); 40 7 0.0 Progress(40); 41 7 0.0 ProvisionComplete(1); 41 7 0.0 Complete(41); ended 41;
-["create"] => [{"seconds":25,"provisioners":[{"provisioner":"a","seconds":5}]}] => begins 0; 0 7 0.0 Start; 10 7 0.0 Progress(10); 20 7 0.0 Progress(20); 25 7 0.0 ProvisionStart(0); 30 7 0.0 ProvisionComplete(0); 30 7 0.0 Complete(30); ended 30;
-["create"] => [{"seconds":1,"warning":{"summary":"slow"},"provisioners":[{"provisioner":"a","seconds":1}]}] => begins 0; 0 7 0.0 Start; 1 7 0.0 ProvisionStart(0); 2 7 0.0 ProvisionComplete(0); 2 7 0.0 Complete(2); 2 7 0.0 WarnNote; ended 2;
-["create"] => [{"seconds":1,"warning":{"summary":"slow"},"provisioners":[{"provisioner":"a","seconds":0},{"provisioner":"b","seconds":1,"output":["x","y"],"failed":{"summary":"boom"}},{"provisioner":"c","seconds":9}]}] => begins 0; 0 7 0.0 Start; 1 7 0.0 ProvisionStart(0); 1 7 0.0 ProvisionComplete(0); 1 7 0.0 ProvisionStart(1); 2 7 0.0 ProvisionOutput { prov: 1, line: 0 }; 2 7 0.0 ProvisionOutput { prov: 1, line: 1 }; 2 7 0.0 ProvisionErrored(1); 2 7 0.0 Errored(2); 2 7 0.0 ErrorNote; ended 2;
-["create"] => [{"seconds":0,"provisioners":[{"provisioner":"a","seconds":9,"failed":{"summary":"boom"}},{"provisioner":"b","seconds":86391}]}] => begins 0; 0 7 0.0 Start; 0 7 0.0 ProvisionStart(0); 9 7 0.0 ProvisionErrored(0); 9 7 0.0 Errored(9); 9 7 0.0 ErrorNote; ended 9;
-["create","delete"] => [{"seconds":1,"provisioners":[{"provisioner":"a","seconds":1,"failed":{"summary":"boom"}}]},{"seconds":9}] => begins 0; 0 7 0.0 Start; 1 7 0.0 ProvisionStart(0); 2 7 0.0 ProvisionErrored(0); 2 7 0.0 Errored(2); 2 7 0.0 ErrorNote; ended 2;
-["create","delete"] => [{"seconds":1,"provisioners":[{"provisioner":"a","seconds":1}]},{"seconds":2}] => begins 0; 0 7 0.0 Start; 1 7 0.0 ProvisionStart(0); 2 7 0.0 ProvisionComplete(0); 2 7 0.0 Complete(2); ended 2; begins 1; 2 7 0.1 Start; 4 7 0.1 Complete(2); ended 4;"#;
+    r#"["create"] => [{"seconds":4,"id":"7","provisioners":[{"provisioner":"local-exec","seconds":12,"output":["hi"]}]}] => begins 0; 0 7 0.0 Start; 4 7 0.0 ProvisionStart(0); 10 7 0.0 Progress(10); 16 7 0.0 ProvisionOutput { prov: 0, line: 0 }; 16 7 0.0 ProvisionComplete(0); 16 7 0.0 Complete(16); counted 1 0 0 0 0; ended 16;
+["create"] => [{"seconds":1,"provisioners":[{"provisioner":"a","seconds":2,"failed":{"summary":"boom"}},{"provisioner":"b","seconds":3}]}] => begins 0; 0 7 0.0 Start; 1 7 0.0 ProvisionStart(0); 3 7 0.0 ProvisionErrored(0); 3 7 0.0 Errored(3); counted 0 0 0 1 0; 3 7 0.0 ErrorNote; ended 3;
+["create"] => [{"seconds":10,"provisioners":[{"provisioner":"a","seconds":5}]}] => begins 0; 0 7 0.0 Start; 10 7 0.0 Progress(10); 10 7 0.0 ProvisionStart(0); 15 7 0.0 ProvisionComplete(0); 15 7 0.0 Complete(15); counted 1 0 0 0 0; ended 15;
+["create"] => [{"seconds":10,"provisioners":[{"provisioner":"a","seconds":0}]}] => begins 0; 0 7 0.0 Start; 10 7 0.0 ProvisionStart(0); 10 7 0.0 ProvisionComplete(0); 10 7 0.0 Complete(10); counted 1 0 0 0 0; ended 10;
+["create"] => [{"seconds":0,"provisioners":[{"provisioner":"a","seconds":0},{"provisioner":"b","seconds":0,"output":["",""]}]}] => begins 0; 0 7 0.0 Start; 0 7 0.0 ProvisionStart(0); 0 7 0.0 ProvisionComplete(0); 0 7 0.0 ProvisionStart(1); 0 7 0.0 ProvisionOutput { prov: 1, line: 0 }; 0 7 0.0 ProvisionOutput { prov: 1, line: 1 }; 0 7 0.0 ProvisionComplete(1); 0 7 0.0 Complete(0); counted 1 0 0 0 0;
+["create"] => [{"seconds":3,"provisioners":[{"provisioner":"a","seconds":7,"output":["x"]},{"provisioner":"b","seconds":1}]}] => begins 0; 0 7 0.0 Start; 3 7 0.0 ProvisionStart(0); 10 7 0.0 Progress(10); 10 7 0.0 ProvisionOutput { prov: 0, line: 0 }; 10 7 0.0 ProvisionComplete(0); 10 7 0.0 ProvisionStart(1); 11 7 0.0 ProvisionComplete(1); 11 7 0.0 Complete(11); counted 1 0 0 0 0; ended 11;
+["create"] => [{"seconds":9,"provisioners":[{"provisioner":"a","seconds":2},{"provisioner":"b","seconds":30}]}] => begins 0; 0 7 0.0 Start; 9 7 0.0 ProvisionStart(0); 10 7 0.0 Progress(10); 11 7 0.0 ProvisionComplete(0); 11 7 0.0 ProvisionStart(1); 20 7 0.0 Progress(20); 30 7 0.0 Progress(30); 40 7 0.0 Progress(40); 41 7 0.0 ProvisionComplete(1); 41 7 0.0 Complete(41); counted 1 0 0 0 0; ended 41;
+["create"] => [{"seconds":25,"provisioners":[{"provisioner":"a","seconds":5}]}] => begins 0; 0 7 0.0 Start; 10 7 0.0 Progress(10); 20 7 0.0 Progress(20); 25 7 0.0 ProvisionStart(0); 30 7 0.0 ProvisionComplete(0); 30 7 0.0 Complete(30); counted 1 0 0 0 0; ended 30;
+["create"] => [{"seconds":1,"warning":{"summary":"slow"},"provisioners":[{"provisioner":"a","seconds":1}]}] => begins 0; 0 7 0.0 Start; 1 7 0.0 ProvisionStart(0); 2 7 0.0 ProvisionComplete(0); 2 7 0.0 Complete(2); counted 1 0 0 0 0; 2 7 0.0 WarnNote; ended 2;
+["create"] => [{"seconds":1,"warning":{"summary":"slow"},"provisioners":[{"provisioner":"a","seconds":0},{"provisioner":"b","seconds":1,"output":["x","y"],"failed":{"summary":"boom"}},{"provisioner":"c","seconds":9}]}] => begins 0; 0 7 0.0 Start; 1 7 0.0 ProvisionStart(0); 1 7 0.0 ProvisionComplete(0); 1 7 0.0 ProvisionStart(1); 2 7 0.0 ProvisionOutput { prov: 1, line: 0 }; 2 7 0.0 ProvisionOutput { prov: 1, line: 1 }; 2 7 0.0 ProvisionErrored(1); 2 7 0.0 Errored(2); counted 0 0 0 1 0; 2 7 0.0 ErrorNote; ended 2;
+["create"] => [{"seconds":0,"provisioners":[{"provisioner":"a","seconds":9,"failed":{"summary":"boom"}},{"provisioner":"b","seconds":86391}]}] => begins 0; 0 7 0.0 Start; 0 7 0.0 ProvisionStart(0); 9 7 0.0 ProvisionErrored(0); 9 7 0.0 Errored(9); counted 0 0 0 1 0; 9 7 0.0 ErrorNote; ended 9;
+["create","delete"] => [{"seconds":1,"provisioners":[{"provisioner":"a","seconds":1,"failed":{"summary":"boom"}}]},{"seconds":9}] => begins 0; 0 7 0.0 Start; 1 7 0.0 ProvisionStart(0); 2 7 0.0 ProvisionErrored(0); 2 7 0.0 Errored(2); counted 0 0 0 1 0; 2 7 0.0 ErrorNote; ended 2;
+["create","delete"] => [{"seconds":1,"provisioners":[{"provisioner":"a","seconds":1}]},{"seconds":2}] => begins 0; 0 7 0.0 Start; 1 7 0.0 ProvisionStart(0); 2 7 0.0 ProvisionComplete(0); 2 7 0.0 Complete(2); counted 1 0 0 0 0; ended 2; begins 1; 2 7 0.1 Start; 4 7 0.1 Complete(2); counted 1 0 1 0 0; ended 4;"#;
 
 /// Deletes with provisioners, and such as may fail: in a delete they run before the provider, in a create behind it. One that
 /// makes the delete fail leaves the rest undone. Progress comes within a provisioner, and behind the last one.
 const OF_DELETES: &str =
-    r#"["delete"] => [{"seconds":9,"provisioners":[{"provisioner":"local-exec","seconds":2,"output":["bye"],"failed":{"summary":"boom"},"on_failure":"continue"},{"provisioner":"local-exec","seconds":1,"output":["bye"]}]}] => begins 0; 0 7 0.0 Start; 0 7 0.0 ProvisionStart(0); 2 7 0.0 ProvisionOutput { prov: 0, line: 0 }; 2 7 0.0 ProvisionErrored(0); 2 7 0.0 ProvisionStart(1); 3 7 0.0 ProvisionOutput { prov: 1, line: 0 }; 3 7 0.0 ProvisionComplete(1); 10 7 0.0 Progress(10); 12 7 0.0 Complete(12); ended 12;
-["create"] => [{"seconds":9,"provisioners":[{"provisioner":"local-exec","seconds":2,"output":["bye"],"failed":{"summary":"boom"},"on_failure":"continue"},{"provisioner":"local-exec","seconds":1,"output":["bye"]}]}] => begins 0; 0 7 0.0 Start; 9 7 0.0 ProvisionStart(0); 10 7 0.0 Progress(10); 11 7 0.0 ProvisionOutput { prov: 0, line: 0 }; 11 7 0.0 ProvisionErrored(0); 11 7 0.0 ProvisionStart(1); 12 7 0.0 ProvisionOutput { prov: 1, line: 0 }; 12 7 0.0 ProvisionComplete(1); 12 7 0.0 Complete(12); ended 12;
-["delete"] => [{"seconds":5,"provisioners":[{"provisioner":"local-exec","seconds":3,"output":["bye"],"failed":{"summary":"boom"}},{"provisioner":"local-exec","seconds":4,"output":["bye"]}]}] => begins 0; 0 7 0.0 Start; 0 7 0.0 ProvisionStart(0); 3 7 0.0 ProvisionOutput { prov: 0, line: 0 }; 3 7 0.0 ProvisionErrored(0); 3 7 0.0 Errored(3); 3 7 0.0 ErrorNote; ended 3;
-["delete"] => [{"seconds":25,"provisioners":[{"provisioner":"local-exec","seconds":0,"output":["bye"],"on_failure":"continue"},{"provisioner":"local-exec","seconds":15,"output":["bye"]}]}] => begins 0; 0 7 0.0 Start; 0 7 0.0 ProvisionStart(0); 0 7 0.0 ProvisionOutput { prov: 0, line: 0 }; 0 7 0.0 ProvisionComplete(0); 0 7 0.0 ProvisionStart(1); 10 7 0.0 Progress(10); 15 7 0.0 ProvisionOutput { prov: 1, line: 0 }; 15 7 0.0 ProvisionComplete(1); 20 7 0.0 Progress(20); 30 7 0.0 Progress(30); 40 7 0.0 Complete(40); ended 40;"#;
+    r#"["delete"] => [{"seconds":9,"provisioners":[{"provisioner":"local-exec","seconds":2,"output":["bye"],"failed":{"summary":"boom"},"on_failure":"continue"},{"provisioner":"local-exec","seconds":1,"output":["bye"]}]}] => begins 0; 0 7 0.0 Start; 0 7 0.0 ProvisionStart(0); 2 7 0.0 ProvisionOutput { prov: 0, line: 0 }; 2 7 0.0 ProvisionErrored(0); 2 7 0.0 ProvisionStart(1); 3 7 0.0 ProvisionOutput { prov: 1, line: 0 }; 3 7 0.0 ProvisionComplete(1); 10 7 0.0 Progress(10); 12 7 0.0 Complete(12); counted 0 0 1 0 0; ended 12;
+["create"] => [{"seconds":9,"provisioners":[{"provisioner":"local-exec","seconds":2,"output":["bye"],"failed":{"summary":"boom"},"on_failure":"continue"},{"provisioner":"local-exec","seconds":1,"output":["bye"]}]}] => begins 0; 0 7 0.0 Start; 9 7 0.0 ProvisionStart(0); 10 7 0.0 Progress(10); 11 7 0.0 ProvisionOutput { prov: 0, line: 0 }; 11 7 0.0 ProvisionErrored(0); 11 7 0.0 ProvisionStart(1); 12 7 0.0 ProvisionOutput { prov: 1, line: 0 }; 12 7 0.0 ProvisionComplete(1); 12 7 0.0 Complete(12); counted 1 0 0 0 0; ended 12;
+["delete"] => [{"seconds":5,"provisioners":[{"provisioner":"local-exec","seconds":3,"output":["bye"],"failed":{"summary":"boom"}},{"provisioner":"local-exec","seconds":4,"output":["bye"]}]}] => begins 0; 0 7 0.0 Start; 0 7 0.0 ProvisionStart(0); 3 7 0.0 ProvisionOutput { prov: 0, line: 0 }; 3 7 0.0 ProvisionErrored(0); 3 7 0.0 Errored(3); counted 0 0 0 1 0; 3 7 0.0 ErrorNote; ended 3;
+["delete"] => [{"seconds":25,"provisioners":[{"provisioner":"local-exec","seconds":0,"output":["bye"],"on_failure":"continue"},{"provisioner":"local-exec","seconds":15,"output":["bye"]}]}] => begins 0; 0 7 0.0 Start; 0 7 0.0 ProvisionStart(0); 0 7 0.0 ProvisionOutput { prov: 0, line: 0 }; 0 7 0.0 ProvisionComplete(0); 0 7 0.0 ProvisionStart(1); 10 7 0.0 Progress(10); 15 7 0.0 ProvisionOutput { prov: 1, line: 0 }; 15 7 0.0 ProvisionComplete(1); 20 7 0.0 Progress(20); 30 7 0.0 Progress(30); 40 7 0.0 Complete(40); counted 0 0 1 0 0; ended 40;"#;
 
 /// Outputs in their seconds, at one moment behind the progress.
 const OUTPUTS: &str =
-    r#"["create"] => [{"seconds":3,"provisioners":[{"provisioner":"local-exec","seconds":12,"output":[{"after":0,"text":"hi"},{"after":7,"text":"hi"},{"after":12,"text":"hi"},{"after":12,"text":"hi"}]}]}] => begins 0; 0 7 0.0 Start; 3 7 0.0 ProvisionStart(0); 3 7 0.0 ProvisionOutput { prov: 0, line: 0 }; 10 7 0.0 Progress(10); 10 7 0.0 ProvisionOutput { prov: 0, line: 1 }; 15 7 0.0 ProvisionOutput { prov: 0, line: 2 }; 15 7 0.0 ProvisionOutput { prov: 0, line: 3 }; 15 7 0.0 ProvisionComplete(0); 15 7 0.0 Complete(15); ended 15;
-["delete"] => [{"seconds":3,"provisioners":[{"provisioner":"local-exec","seconds":12,"output":[{"after":0,"text":"hi"},{"after":7,"text":"hi"},{"after":12,"text":"hi"},{"after":12,"text":"hi"}]}]}] => begins 0; 0 7 0.0 Start; 0 7 0.0 ProvisionStart(0); 0 7 0.0 ProvisionOutput { prov: 0, line: 0 }; 7 7 0.0 ProvisionOutput { prov: 0, line: 1 }; 10 7 0.0 Progress(10); 12 7 0.0 ProvisionOutput { prov: 0, line: 2 }; 12 7 0.0 ProvisionOutput { prov: 0, line: 3 }; 12 7 0.0 ProvisionComplete(0); 15 7 0.0 Complete(15); ended 15;
-["create"] => [{"seconds":10,"provisioners":[{"provisioner":"local-exec","seconds":25,"output":[{"after":0,"text":"hi"},{"after":10,"text":"hi"},{"after":25,"text":"hi"},{"after":25,"text":"hi"}]}]}] => begins 0; 0 7 0.0 Start; 10 7 0.0 Progress(10); 10 7 0.0 ProvisionStart(0); 10 7 0.0 ProvisionOutput { prov: 0, line: 0 }; 20 7 0.0 Progress(20); 20 7 0.0 ProvisionOutput { prov: 0, line: 1 }; 30 7 0.0 Progress(30); 35 7 0.0 ProvisionOutput { prov: 0, line: 2 }; 35 7 0.0 ProvisionOutput { prov: 0, line: 3 }; 35 7 0.0 ProvisionComplete(0); 35 7 0.0 Complete(35); ended 35;"#;
+    r#"["create"] => [{"seconds":3,"provisioners":[{"provisioner":"local-exec","seconds":12,"output":[{"after":0,"text":"hi"},{"after":7,"text":"hi"},{"after":12,"text":"hi"},{"after":12,"text":"hi"}]}]}] => begins 0; 0 7 0.0 Start; 3 7 0.0 ProvisionStart(0); 3 7 0.0 ProvisionOutput { prov: 0, line: 0 }; 10 7 0.0 Progress(10); 10 7 0.0 ProvisionOutput { prov: 0, line: 1 }; 15 7 0.0 ProvisionOutput { prov: 0, line: 2 }; 15 7 0.0 ProvisionOutput { prov: 0, line: 3 }; 15 7 0.0 ProvisionComplete(0); 15 7 0.0 Complete(15); counted 1 0 0 0 0; ended 15;
+["delete"] => [{"seconds":3,"provisioners":[{"provisioner":"local-exec","seconds":12,"output":[{"after":0,"text":"hi"},{"after":7,"text":"hi"},{"after":12,"text":"hi"},{"after":12,"text":"hi"}]}]}] => begins 0; 0 7 0.0 Start; 0 7 0.0 ProvisionStart(0); 0 7 0.0 ProvisionOutput { prov: 0, line: 0 }; 7 7 0.0 ProvisionOutput { prov: 0, line: 1 }; 10 7 0.0 Progress(10); 12 7 0.0 ProvisionOutput { prov: 0, line: 2 }; 12 7 0.0 ProvisionOutput { prov: 0, line: 3 }; 12 7 0.0 ProvisionComplete(0); 15 7 0.0 Complete(15); counted 0 0 1 0 0; ended 15;
+["create"] => [{"seconds":10,"provisioners":[{"provisioner":"local-exec","seconds":25,"output":[{"after":0,"text":"hi"},{"after":10,"text":"hi"},{"after":25,"text":"hi"},{"after":25,"text":"hi"}]}]}] => begins 0; 0 7 0.0 Start; 10 7 0.0 Progress(10); 10 7 0.0 ProvisionStart(0); 10 7 0.0 ProvisionOutput { prov: 0, line: 0 }; 20 7 0.0 Progress(20); 20 7 0.0 ProvisionOutput { prov: 0, line: 1 }; 30 7 0.0 Progress(30); 35 7 0.0 ProvisionOutput { prov: 0, line: 2 }; 35 7 0.0 ProvisionOutput { prov: 0, line: 3 }; 35 7 0.0 ProvisionComplete(0); 35 7 0.0 Complete(35); counted 1 0 0 0 0; ended 35;"#;
 
 /// A change ends before the first step that is skipped.
 const SKIPPED: &str =
-    r#"["delete","create"] => [{"seconds":3},{"skipped":true}] => begins 0; 0 7 0.0 Start; 3 7 0.0 Complete(3); ended 3;
+    r#"["delete","create"] => [{"seconds":3},{"skipped":true}] => begins 0; 0 7 0.0 Start; 3 7 0.0 Complete(3); counted 0 0 1 0 0; ended 3;
 ["delete","create"] => [{"skipped":true},{"seconds":5}] => 
 ["delete","create"] => [{"skipped":true},{"skipped":true}] => 
 ["create"] => [{"skipped":true}] => "#;
@@ -73,11 +73,11 @@ fn worked_changes(rt: HostRuntime) {
 
 /// A replacement that begins at 5.
 const FROM_5: &str =
-    r#"["delete","create"] => [{"seconds":11},{"seconds":2,"warning":{"summary":"slow"}}] => begins 0; 5 7 0.0 Start; 15 7 0.0 Progress(10); 16 7 0.0 Complete(11); ended 16; begins 1; 16 7 0.1 Start; 18 7 0.1 Complete(2); 18 7 0.1 WarnNote; ended 18;"#;
+    r#"["delete","create"] => [{"seconds":11},{"seconds":2,"warning":{"summary":"slow"}}] => begins 0; 5 7 0.0 Start; 15 7 0.0 Progress(10); 16 7 0.0 Complete(11); counted 0 0 1 0 0; ended 16; begins 1; 16 7 0.1 Start; 18 7 0.1 Complete(2); counted 1 0 1 0 0; 18 7 0.1 WarnNote; ended 18;"#;
 
 /// One under an empty script, at the last moment at which a change may begin.
 const LATE: &str =
-    r#"["delete","create"] => no script => begins 0; 1727827200 7 0.0 Start; 1727827200 7 0.0 Complete(0); begins 1; 1727827200 7 0.1 Start; 1727827200 7 0.1 Complete(0);"#;
+    r#"["delete","create"] => no script => begins 0; 1727827200 7 0.0 Start; 1727827200 7 0.0 Complete(0); counted 0 0 1 0 0; begins 1; 1727827200 7 0.1 Start; 1727827200 7 0.1 Complete(0); counted 1 0 1 0 0;"#;
 
 #[test]
 fn between_the_events_of_a_replacement(rt: HostRuntime) {
@@ -89,10 +89,11 @@ fn between_the_events_of_a_replacement(rt: HostRuntime) {
 
 /// The change goes on behind a read that only warns. Such a script is of no replacement: it was read for another plan.
 const GOES_ON: &str =
-    "begins 0; 0 7 0.0 Start; 10 7 0.0 Progress(10); 11 7 0.0 WarnNote; ended 11; begins 1; 11 7 0.1 Start; 11 7 0.1 Complete(0);";
+    "begins 0; 0 7 0.0 Start; 10 7 0.0 Progress(10); 11 7 0.0 WarnNote; ended 11; begins 1; 11 7 0.1 Start; 11 7 0.1 Complete(0); counted 1 0 0 0 0;";
 
 /// A script for more steps than the change has.
-const BEHIND_THE_LAST: &str = "begins 0; 0 7 0.0 Start; 3 7 0.0 Complete(3); ended 3;";
+const BEHIND_THE_LAST: &str =
+    "begins 0; 0 7 0.0 Start; 3 7 0.0 Complete(3); counted 1 0 0 0 0; ended 3;";
 
 #[test]
 fn scripts_of_other_plans(rt: HostRuntime) {
@@ -113,56 +114,33 @@ fn scripts_of_other_plans(rt: HostRuntime) {
     is_told(&rt, alloc, create, script, &none, 0, "");
 }
 
-/// Under three hooks, of which the second and the third halt deletes before they start: the second is told.
+/// Under hooks that halt deletes before they start: the first of them is told.
 const BEFORE: &str =
-    r#"["delete","create"] => no script => begins 0; 0 7 0.0 Halted { phase: Pre, hook: 1 };
-["create","delete"] => no script => begins 0; 0 7 0.0 Start; 0 7 0.0 Complete(0); begins 1; 0 7 0.1 Halted { phase: Pre, hook: 1 };"#;
+    r#"["delete","create"] => no script => begins 0; 0 7 0.0 Halted { phase: Pre, hook: 1 }; counted 0 0 0 0 1;
+["create","delete"] => no script => begins 0; 0 7 0.0 Start; 0 7 0.0 Complete(0); counted 1 0 0 0 0; begins 1; 0 7 0.1 Halted { phase: Pre, hook: 1 }; counted 1 0 0 0 1;"#;
 
-#[test]
-fn hooks_halt_before_a_step(rt: HostRuntime) {
-    let hooks = Hooks {
-        quiet: 1,
-        halting: 2,
-        phase: Phase::Pre,
-        kind: Some(StepKind::Delete),
-    };
-    rows_are_told_under(&rt, rt.alloc(), &hooks, BEFORE);
-}
-
-/// Under a hook that halts what has failed, also by a provisioner. A read that only warns has not failed.
+/// Under hooks that halt what has failed, also by a provisioner. A read that only warns has not failed.
 const AFTER_A_FAILURE: &str =
-    r#"["create"] => [{"seconds":5,"failed":{"summary":"boom"}}] => begins 0; 0 7 0.0 Start; 5 7 0.0 Errored(5); 5 7 0.0 ErrorNote; 5 7 0.0 Halted { phase: PostFailed, hook: 0 }; ended 5;
-["create"] => [{"seconds":5}] => begins 0; 0 7 0.0 Start; 5 7 0.0 Complete(5); ended 5;
-["create"] => [{"seconds":1,"provisioners":[{"provisioner":"a","seconds":2,"output":["x"],"failed":{"summary":"boom"}}]}] => begins 0; 0 7 0.0 Start; 1 7 0.0 ProvisionStart(0); 3 7 0.0 ProvisionOutput { prov: 0, line: 0 }; 3 7 0.0 ProvisionErrored(0); 3 7 0.0 Errored(3); 3 7 0.0 ErrorNote; 3 7 0.0 Halted { phase: PostFailed, hook: 0 }; ended 3;
-["create"] => [{"seconds":1,"provisioners":[{"provisioner":"a","seconds":2,"output":["x"]}]}] => begins 0; 0 7 0.0 Start; 1 7 0.0 ProvisionStart(0); 3 7 0.0 ProvisionOutput { prov: 0, line: 0 }; 3 7 0.0 ProvisionComplete(0); 3 7 0.0 Complete(3); ended 3;
+    r#"["create"] => [{"seconds":5,"failed":{"summary":"boom"}}] => begins 0; 0 7 0.0 Start; 5 7 0.0 Errored(5); counted 0 0 0 1 0; 5 7 0.0 ErrorNote; 5 7 0.0 Halted { phase: PostFailed, hook: 1 }; counted 0 0 0 1 1; ended 5;
+["create"] => [{"seconds":5}] => begins 0; 0 7 0.0 Start; 5 7 0.0 Complete(5); counted 1 0 0 0 0; ended 5;
+["create"] => [{"seconds":1,"provisioners":[{"provisioner":"a","seconds":2,"output":["x"],"failed":{"summary":"boom"}}]}] => begins 0; 0 7 0.0 Start; 1 7 0.0 ProvisionStart(0); 3 7 0.0 ProvisionOutput { prov: 0, line: 0 }; 3 7 0.0 ProvisionErrored(0); 3 7 0.0 Errored(3); counted 0 0 0 1 0; 3 7 0.0 ErrorNote; 3 7 0.0 Halted { phase: PostFailed, hook: 1 }; counted 0 0 0 1 1; ended 3;
+["create"] => [{"seconds":1,"provisioners":[{"provisioner":"a","seconds":2,"output":["x"]}]}] => begins 0; 0 7 0.0 Start; 1 7 0.0 ProvisionStart(0); 3 7 0.0 ProvisionOutput { prov: 0, line: 0 }; 3 7 0.0 ProvisionComplete(0); 3 7 0.0 Complete(3); counted 1 0 0 0 0; ended 3;
 ["read"] => [{"seconds":1,"failed":{"severity":"warning","summary":"no"}}] => begins 0; 0 7 0.0 Start; 1 7 0.0 WarnNote; ended 1;"#;
 
-#[test]
-fn hooks_halt_after_a_failed_step(rt: HostRuntime) {
-    let hooks = Hooks {
-        quiet: 0,
-        halting: 1,
-        phase: Phase::PostFailed,
-        kind: None,
-    };
-    rows_are_told_under(&rt, rt.alloc(), &hooks, AFTER_A_FAILURE);
-}
-
-/// Under a hook that halts what is done: between the steps of a replacement, behind provisioners, and behind a read that only
-/// warns. It is not asked where a provisioner fails.
+/// Under hooks that halt what is done: between the steps of a replacement, behind provisioners, and behind a read that only
+/// warns. They are not asked where a provisioner fails.
 const AFTER_A_DONE_STEP: &str =
-    r#"["delete","create"] => [{"seconds":1},{"seconds":2}] => begins 0; 0 7 0.0 Start; 1 7 0.0 Complete(1); 1 7 0.0 Halted { phase: PostDone, hook: 0 }; ended 1;
-["create"] => [{"seconds":1,"provisioners":[{"provisioner":"a","seconds":2,"output":["x"]}]}] => begins 0; 0 7 0.0 Start; 1 7 0.0 ProvisionStart(0); 3 7 0.0 ProvisionOutput { prov: 0, line: 0 }; 3 7 0.0 ProvisionComplete(0); 3 7 0.0 Complete(3); 3 7 0.0 Halted { phase: PostDone, hook: 0 }; ended 3;
-["create"] => [{"seconds":1,"provisioners":[{"provisioner":"a","seconds":2,"output":["x"],"failed":{"summary":"boom"}}]}] => begins 0; 0 7 0.0 Start; 1 7 0.0 ProvisionStart(0); 3 7 0.0 ProvisionOutput { prov: 0, line: 0 }; 3 7 0.0 ProvisionErrored(0); 3 7 0.0 Errored(3); 3 7 0.0 ErrorNote; ended 3;
-["read"] => [{"seconds":1,"failed":{"severity":"warning","summary":"no"}}] => begins 0; 0 7 0.0 Start; 1 7 0.0 WarnNote; 1 7 0.0 Halted { phase: PostDone, hook: 0 }; ended 1;"#;
+    r#"["delete","create"] => [{"seconds":1},{"seconds":2}] => begins 0; 0 7 0.0 Start; 1 7 0.0 Complete(1); counted 0 0 1 0 0; 1 7 0.0 Halted { phase: PostDone, hook: 1 }; counted 0 0 1 0 1; ended 1;
+["create"] => [{"seconds":1,"provisioners":[{"provisioner":"a","seconds":2,"output":["x"]}]}] => begins 0; 0 7 0.0 Start; 1 7 0.0 ProvisionStart(0); 3 7 0.0 ProvisionOutput { prov: 0, line: 0 }; 3 7 0.0 ProvisionComplete(0); 3 7 0.0 Complete(3); counted 1 0 0 0 0; 3 7 0.0 Halted { phase: PostDone, hook: 1 }; counted 1 0 0 0 1; ended 3;
+["create"] => [{"seconds":1,"provisioners":[{"provisioner":"a","seconds":2,"output":["x"],"failed":{"summary":"boom"}}]}] => begins 0; 0 7 0.0 Start; 1 7 0.0 ProvisionStart(0); 3 7 0.0 ProvisionOutput { prov: 0, line: 0 }; 3 7 0.0 ProvisionErrored(0); 3 7 0.0 Errored(3); counted 0 0 0 1 0; 3 7 0.0 ErrorNote; ended 3;
+["read"] => [{"seconds":1,"failed":{"severity":"warning","summary":"no"}}] => begins 0; 0 7 0.0 Start; 1 7 0.0 WarnNote; 1 7 0.0 Halted { phase: PostDone, hook: 1 }; counted 0 0 0 0 1; ended 1;"#;
 
 #[test]
-fn hooks_halt_after_a_step_that_is_done(rt: HostRuntime) {
-    let hooks = Hooks {
-        quiet: 0,
-        halting: 1,
-        phase: Phase::PostDone,
-        kind: None,
-    };
-    rows_are_told_under(&rt, rt.alloc(), &hooks, AFTER_A_DONE_STEP);
+fn hooks_halt_before_and_after_steps(rt: HostRuntime) {
+    let alloc = rt.alloc();
+    let deletes = Some(StepKind::Delete);
+    rows_are_told_under(&rt, alloc, Phase::Pre, deletes, BEFORE);
+    rows_are_told_under(&rt, alloc, Phase::Pre, deletes, lanes::HALTED);
+    rows_are_told_under(&rt, alloc, Phase::PostFailed, None, AFTER_A_FAILURE);
+    rows_are_told_under(&rt, alloc, Phase::PostDone, None, AFTER_A_DONE_STEP);
 }

@@ -3,7 +3,8 @@
 use super::*;
 
 /// A change's actions, the steps of a script, and all that can happen to its steps of what is tried, for each row: of each the
-/// step, and what happens. Nothing can happen to a skipped step, nor to one behind it.
+/// step, and what happens. Nothing can happen to a skipped step, nor to one behind it; neither a completion nor an error to a read
+/// that only warns.
 const FITTING: &str =
     r#"["delete","create"] => [{"seconds":10}] => 0 Start; 0 Complete(10); 0 Halted { phase: Pre, hook: 31 }; 0 Halted { phase: PostDone, hook: 0 }; 1 Start; 1 Complete(0); 1 Halted { phase: Pre, hook: 31 }; 1 Halted { phase: PostDone, hook: 0 };
 ["delete","create"] => [{"seconds":11,"warning":{"summary":"slow"}}] => 0 Start; 0 Progress(10); 0 Complete(11); 0 WarnNote; 0 Halted { phase: Pre, hook: 31 }; 0 Halted { phase: PostDone, hook: 0 }; 1 Start; 1 Complete(0); 1 Halted { phase: Pre, hook: 31 }; 1 Halted { phase: PostDone, hook: 0 };
@@ -11,11 +12,8 @@ const FITTING: &str =
 ["delete","create"] => [{"seconds":0},{"seconds":1,"warning":{"summary":"slow"},"provisioners":[{"provisioner":"a","seconds":8,"output":["x","y"]},{"provisioner":"b","seconds":2}]}] => 0 Start; 0 Complete(0); 0 Halted { phase: Pre, hook: 31 }; 0 Halted { phase: PostDone, hook: 0 }; 1 Start; 1 Progress(10); 1 Complete(11); 1 WarnNote; 1 Halted { phase: Pre, hook: 31 }; 1 Halted { phase: PostDone, hook: 0 }; 1 ProvisionStart(0); 1 ProvisionOutput { prov: 0, line: 0 }; 1 ProvisionOutput { prov: 0, line: 1 }; 1 ProvisionComplete(0); 1 ProvisionStart(1); 1 ProvisionComplete(1);
 ["delete","create"] => [{"seconds":0},{"seconds":1,"warning":{"summary":"slow"},"provisioners":[{"provisioner":"a","seconds":9,"output":["x"],"failed":{"summary":"boom"}},{"provisioner":"b","seconds":15,"output":["y"]}]}] => 0 Start; 0 Complete(0); 0 Halted { phase: Pre, hook: 31 }; 0 Halted { phase: PostDone, hook: 0 }; 1 Start; 1 Errored(10); 1 ErrorNote; 1 Halted { phase: Pre, hook: 31 }; 1 Halted { phase: PostFailed, hook: 0 }; 1 ProvisionStart(0); 1 ProvisionOutput { prov: 0, line: 0 }; 1 ProvisionErrored(0);
 ["delete","create"] => [{"seconds":10},{"skipped":true}] => 0 Start; 0 Complete(10); 0 Halted { phase: Pre, hook: 31 }; 0 Halted { phase: PostDone, hook: 0 };
-["delete","create"] => [{"skipped":true},{"seconds":5}] => "#;
-
-/// Neither a completion nor an error can happen to a read that only warns.
-const WARNED: &str =
-    r#"["read"] => [{"seconds":10,"failed":{"severity":"warning","summary":"no"}}] => 0 Start; 0 WarnNote; 0 Halted { phase: Pre, hook: 31 }; 0 Halted { phase: PostDone, hook: 0 };"#;
+["delete","create"] => [{"skipped":true},{"seconds":5}] => 
+["read"] => [{"seconds":10,"failed":{"severity":"warning","summary":"no"}}] => 0 Start; 0 WarnNote; 0 Halted { phase: Pre, hook: 31 }; 0 Halted { phase: PostDone, hook: 0 };"#;
 
 /// How much is tried of a step, and of which on notes are, up to the provisioners.
 const TRIED: u8 = 37;
@@ -67,7 +65,7 @@ fn halted(phase: Phase, hook: u8) -> What {
     What::Halted { phase, hook }
 }
 
-pub(super) fn event(change: u32, step: u8, what: What, at: u64) -> Event {
+fn event(change: u32, step: u8, what: What, at: u64) -> Event {
     Event {
         worker: 200,
         change,
@@ -118,11 +116,6 @@ fn rows_fit(rt: &impl Abort, alloc: Global, table: &str) {
 #[test]
 fn events_that_can_happen(rt: HostRuntime) {
     rows_fit(&rt, rt.alloc(), FITTING);
-}
-
-#[test]
-fn neither_a_completion_nor_an_error_can_happen(rt: HostRuntime) {
-    rows_fit(&rt, rt.alloc(), WARNED);
 }
 
 /// Fails where an event of a step at that moment is of the plan and should not be, or the other way round. It takes another time

@@ -1,13 +1,8 @@
-//! What lanes report, in the order of time: rows by hand, and drawn ones, which a clock meets too.
+//! What lanes report, in the order of time.
 
 ghost use Rattle.std.specs.Prelude.{◌<◌, ◌≤◌};
 
-mod clock;
-mod drawn;
-
 use super::*;
-use clock::clock_events;
-use drawn::drawn_changes_agree;
 
 /// Of each change its actions and its steps in the script, and then how many lanes there are and what they report. At each
 /// moment the lower lane comes first, with all that it does then; a lane that is free takes the next change.
@@ -123,15 +118,15 @@ in 2 => 0 0 0.0 Start; 0 1 1.0 Start; 0 1 1.0 Complete(0); 1 0 0.0 Complete(1); 
 in 1 => 0 0 0.0 Start; 1 0 0.0 Complete(1); 1 0 1.0 Start; 3 0 1.0 Complete(2); 3 0 0.1 Start; 4 0 0.1 Complete(1);"#;
 
 /// Each delete is halted before it starts, and takes no time. What waits for it is left out.
-const HALTED: &str = r#"["delete","create"] => [{"seconds":5},{"seconds":4}]
+pub(super) const HALTED: &str = r#"["delete","create"] => [{"seconds":5},{"seconds":4}]
 ["create"] => [{"seconds":11}]
 ["create"] => [{"seconds":1}]
-in 2 => 0 0 0.0 Halted { phase: Pre, hook: 0 }; 0 0 1.0 Start; 0 1 2.0 Start; 1 1 2.0 Complete(1); 10 0 1.0 Progress(10); 11 0 1.0 Complete(11);
+in 2 => 0 0 0.0 Halted { phase: Pre, hook: 1 }; 0 0 1.0 Start; 0 1 2.0 Start; 1 1 2.0 Complete(1); 10 0 1.0 Progress(10); 11 0 1.0 Complete(11);
 
 ["delete"] => [{"seconds":2}]
 ["create"] => [{"seconds":1,"after":["null_resource.r0"]}]
 ["create"] => [{"seconds":1}]
-in 2 => 0 0 0.0 Halted { phase: Pre, hook: 0 }; 0 0 2.0 Start; 1 0 2.0 Complete(1);"#;
+in 2 => 0 0 0.0 Halted { phase: Pre, hook: 1 }; 0 0 2.0 Start; 1 0 2.0 Complete(1);"#;
 
 /// A plan with the changes in the place of `CELL`.
 const CHANGES: &str = r#"{"format_version":"1.2","resource_changes":[CELL]}"#;
@@ -157,12 +152,8 @@ fn add(rt: &impl Abort, alloc: Global, list: &mut String, text: &str, number: u3
     push(rt, list, kept(rt, alloc, text.expect(rt, "memory")));
 }
 
-/// The plan of changes `null_resource.r0` and so on, and the script, where it is one: of some a step could never begin.
-fn read_both(
-    rt: &impl Abort,
-    alloc: Global,
-    changes: &str,
-) -> (&'static Plan, Option<&'static Script>) {
+/// The plan of changes `null_resource.r0` and so on, and the script.
+fn read_both(rt: &impl Abort, alloc: Global, changes: &str) -> (&'static Plan, &'static Script) {
     let (mut planned, mut scripted) = (String::new(alloc), String::new(alloc));
     let mut number: u32 = 0;
     for change in changes.lines() {
@@ -173,14 +164,11 @@ fn read_both(
     }
     let plan = plan_in(rt, alloc, put(rt, alloc, CHANGES, planned.as_str()));
     let scripted = put(rt, alloc, ENTRIES, scripted.as_str());
-    match read_script(alloc, scripted.as_bytes(), plan) {
-        Ok(script) => (plan, Some(kept(rt, alloc, script))),
-        Err(_) => (plan, None),
-    }
+    (plan, script_in(rt, alloc, plan, scripted))
 }
 
 /// All events that so many lanes give.
-pub(super) fn lane_events(
+fn lane_events(
     rt: &impl Abort,
     alloc: Global,
     plan: &Plan,
@@ -199,17 +187,8 @@ pub(super) fn lane_events(
     kept(rt, alloc, events).as_slice()
 }
 
-/// Of each event the moment, the lane, the change with its step, and what happens.
-fn text_of(rt: &impl Abort, alloc: Global, events: &[Event]) -> &'static str {
-    let mut text = String::new(alloc);
-    for event in events {
-        push_event(rt, alloc, &mut text, event);
-    }
-    kept(rt, alloc, text).as_str()
-}
-
-/// Fails where so many lanes report something else than the clock, and otherwise gives that as text.
-fn reported(
+/// Of each event that so many lanes give the moment, the lane, the change with its step, and what happens.
+pub(super) fn reported(
     rt: &impl Abort,
     alloc: Global,
     plan: &Plan,
@@ -219,18 +198,17 @@ fn reported(
 ) -> &'static str {
     holds(rt, "some lanes", 0 < count);
     holds(rt, "64 lanes at most", count <= 64);
-    let events = lane_events(rt, alloc, plan, script, registry, count);
-    let found = text_of(rt, alloc, events);
-    let events = clock_events(rt, alloc, plan, script, registry, count);
-    text_is(rt, found, text_of(rt, alloc, events), found);
-    found
+    let mut text = String::new(alloc);
+    for event in lane_events(rt, alloc, plan, script, registry, count) {
+        push_event(rt, alloc, &mut text, event);
+    }
+    kept(rt, alloc, text).as_str()
 }
 
 /// Fails where lanes report something else of the changes of a block than its rows have.
 fn block_is_reported(rt: &impl Abort, alloc: Global, registry: &Registry, block: &str) {
     let (changes, rows) = block.split_once("\nin ").expect(rt, "a row");
     let (plan, script) = read_both(rt, alloc, changes);
-    let script = script.expect(rt, "a script");
     for row in rows.split("\nin ") {
         let (count, wanted) = parted(rt, row);
         let count = count.parse::<u8>().ok().expect(rt, count);
@@ -240,7 +218,7 @@ fn block_is_reported(rt: &impl Abort, alloc: Global, registry: &Registry, block:
 }
 
 /// Fails where lanes report something else than a table has.
-fn lanes_report(rt: &impl Abort, alloc: Global, registry: &Registry, table: &str) {
+pub(super) fn lanes_report(rt: &impl Abort, alloc: Global, registry: &Registry, table: &str) {
     for block in table.split("\n\n") {
         block_is_reported(rt, alloc, registry, block);
     }
@@ -249,38 +227,8 @@ fn lanes_report(rt: &impl Abort, alloc: Global, registry: &Registry, table: &str
 #[test]
 fn changes_in_lanes(rt: HostRuntime) {
     let alloc = rt.alloc();
-    lanes_report(&rt, alloc, &Registry::new(alloc), REPORTED);
-}
-
-#[test]
-fn steps_wait_for_others(rt: HostRuntime) {
-    let alloc = rt.alloc();
-    lanes_report(&rt, alloc, &Registry::new(alloc), WAITING);
-}
-
-#[test]
-fn steps_of_replacements_wait(rt: HostRuntime) {
-    let alloc = rt.alloc();
-    lanes_report(&rt, alloc, &Registry::new(alloc), WAITING_REPLACEMENTS);
-}
-
-#[test]
-fn drawn_waits_in_lanes(rt: HostRuntime) {
-    let alloc = rt.alloc();
-    drawn_changes_agree(&rt, alloc, &Registry::new(alloc));
-}
-
-/// A hook halts each delete before it starts.
-#[test]
-fn halted_changes_beside_others(rt: HostRuntime) {
-    let alloc = rt.alloc();
-    let mut registry = Registry::new(alloc);
-    let rules = halting(&rt, alloc, Phase::Pre, Some(StepKind::Delete));
-    let answer: HookClosure = Box::new(alloc, |call: &HookCall<'_>| {
-        halts(call, Phase::Pre, Some(StepKind::Delete))
-    })
-    .expect(&rt, "memory");
-    add_hook(&rt, &mut registry, rules, answer);
-    lanes_report(&rt, alloc, &registry, HALTED);
-    drawn_changes_agree(&rt, alloc, &registry);
+    let none = Registry::new(alloc);
+    lanes_report(&rt, alloc, &none, REPORTED);
+    lanes_report(&rt, alloc, &none, WAITING);
+    lanes_report(&rt, alloc, &none, WAITING_REPLACEMENTS);
 }

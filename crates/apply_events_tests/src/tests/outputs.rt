@@ -8,16 +8,16 @@ use apply_model::{
     TimedTexts, Waits,
 };
 
-/// A copy of a text.
-fn copied(rt: &impl Abort, alloc: Global, text: &str) -> Text {
-    Text::new(alloc, text).ok().expect(rt, "memory")
+/// A text.
+fn hi(rt: &impl Abort, alloc: Global) -> Text {
+    Text::new(alloc, "hi").ok().expect(rt, "memory")
 }
 
 /// A text that comes after so many seconds.
 fn timed(rt: &impl Abort, alloc: Global, after: u32) -> TimedText {
     TimedText {
         after,
-        text: copied(rt, alloc, "hi"),
+        text: hi(rt, alloc),
     }
 }
 
@@ -51,7 +51,7 @@ fn provisioned(rt: &impl Abort, alloc: Global, output: TimedTexts) -> &'static S
 {
     let mut provisioners = Vec::new(alloc);
     let provisioner = Provisioner {
-        name: copied(rt, alloc, "local-exec"),
+        name: hi(rt, alloc),
         seconds: 12,
         output,
         failed: None,
@@ -77,7 +77,7 @@ fn provisioned(rt: &impl Abort, alloc: Global, output: TimedTexts) -> &'static S
 
 /// Those that come too soon come with the one before them, and those that come too late with the end.
 const OUT_OF_TIME: &str =
-    "begins 0; 0 7 0.0 Start; 3 7 0.0 ProvisionStart(0); 10 7 0.0 Progress(10); 10 7 0.0 ProvisionOutput { prov: 0, line: 0 }; 10 7 0.0 ProvisionOutput { prov: 0, line: 1 }; 15 7 0.0 ProvisionOutput { prov: 0, line: 2 }; 15 7 0.0 ProvisionOutput { prov: 0, line: 3 }; 15 7 0.0 ProvisionComplete(0); 15 7 0.0 Complete(15); ended 15;";
+    "begins 0; 0 7 0.0 Start; 3 7 0.0 ProvisionStart(0); 10 7 0.0 Progress(10); 10 7 0.0 ProvisionOutput { prov: 0, line: 0 }; 10 7 0.0 ProvisionOutput { prov: 0, line: 1 }; 15 7 0.0 ProvisionOutput { prov: 0, line: 2 }; 15 7 0.0 ProvisionOutput { prov: 0, line: 3 }; 15 7 0.0 ProvisionComplete(0); 15 7 0.0 Complete(15); counted 1 0 0 0 0; ended 15;";
 
 #[test]
 fn outputs_out_of_time(rt: HostRuntime) {
