@@ -6,8 +6,8 @@ use Rattle.apply_lines.specs.Cut.{cut_lines}
 use Rattle.apply_check.specs.Lines.{verdict_of}
 use Rattle.apply_events.specs.declared.counts.Counts.{Counts}
 use Rattle.apply_events.specs.declared.event.Event.{Event}
-use Rattle.apply_run.specs.declared.report.Report.{Report}
-use Rattle.apply_run.specs.Stream.Delivered.{IsDelivered}
+use Rattle.apply_writer.specs.declared.report.Report.{Report}
+use Rattle.apply_writer.specs.Stream.Delivered.{IsDelivered}
 use Rattle.apply_agreement.specs.Accepted.{totals_said, whole_stream}
 use Rattle.apply_agreement.specs.Applied.{HasShortLines, whole_reported}
 use Rattle.apply_agreement.specs.Passing.{plain}

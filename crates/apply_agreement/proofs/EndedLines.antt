@@ -22,7 +22,7 @@ use Rattle.apply_form.specs.Message.{event_message, is_silent, kept_of, note_mes
 use Rattle.apply_form.specs.Moment.{fine_text}
 use Rattle.apply_run.specs.InForm.{form_of}
 use Rattle.apply_run.specs.Read.{Told, applied_plan, applied_script, besides_of}
-use Rattle.apply_run.specs.Stream.Terraform.{head_pieces, planned_at, planned_id_of}
+use Rattle.apply_writer.specs.Stream.Terraform.{head_pieces, planned_at, planned_id_of}
 use Rattle.apply_agreement.specs.Levels.{IsLineOrNothing, event_lines, lines_before_end}
 
 abbrev AreLines : List (List ℕ) → Type 0

@@ -37,8 +37,8 @@ use Rattle.apply_form.specs.Message.{event_message, is_silent, kept_of, note_mes
 use Rattle.apply_form.specs.Moment.{fine_text}
 use Rattle.apply_run.specs.InForm.{form_of}
 use Rattle.apply_run.specs.Read.{Told, applied_plan, applied_script, besides_of}
-use Rattle.apply_run.specs.Stream.Form.{lines_in}
-use Rattle.apply_run.specs.Stream.Terraform.{head_pieces, is_error, is_severe, planned_at, planned_id_of, tells_error}
+use Rattle.apply_writer.specs.Stream.Form.{lines_in}
+use Rattle.apply_writer.specs.Stream.Terraform.{head_pieces, is_error, is_severe, planned_at, planned_id_of, tells_error}
 use Rattle.apply_agreement.specs.Levels.{HasAnEndOrAnError, end_of, event_lines, has_error_line, is_error_line, lines_before_end}
 use Rattle.apply_agreement.specs.WholeSteps.{IsOfWholeSteps}
 use Rattle.apply_agreement.proofs.EndedLines.{all_lines}

@@ -15,8 +15,8 @@ use Rattle.apply_events.specs.declared.event.Event.{Event}
 use Rattle.apply_text.specs.declared.operation.Operation.{Operation}
 use Rattle.apply_run.specs.declared.form_report.FormReport.{FormReport}
 use Rattle.apply_run.specs.Read.{Told, applied_plan, applied_script, besides_of, is_unfinished}
-use Rattle.apply_run.specs.Stream.Delivered.{IsDelivered}
-use Rattle.apply_run.specs.Stream.Terraform.{Besides, tells_error}
+use Rattle.apply_writer.specs.Stream.Delivered.{IsDelivered}
+use Rattle.apply_writer.specs.Stream.Terraform.{Besides, tells_error}
 use Rattle.apply_agreement.specs.Accepted.{totals_said}
 use Rattle.apply_agreement.specs.AcceptedInForm.{AreAcceptedInForm}
 use Rattle.apply_agreement.specs.Applied.{HasShortLines}

@@ -25,7 +25,7 @@ use Rattle.apply_form.specs.Lines.{note_text, summary_text, version_members, ver
 use Rattle.apply_form.specs.Message.{imported_text, summary_message, summary_words}
 use Rattle.apply_form.specs.Moment.{fine_text}
 use Rattle.apply_form.specs.Objects.{changes_object}
-use Rattle.apply_run.specs.Stream.Terraform.{is_severe}
+use Rattle.apply_writer.specs.Stream.Terraform.{is_severe}
 use Rattle.apply_agreement.specs.Accepted.{totals_said}
 use Rattle.apply_agreement.specs.Forms.{AreKept}
 use Rattle.apply_agreement.specs.Objects.{object_at}

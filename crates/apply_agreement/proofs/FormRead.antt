@@ -31,7 +31,7 @@ use Rattle.apply_form_plan.specs.Told.{DetailsOfPlan, details_of}
 use Rattle.apply_run.specs.Bytes.{Given, IsRead, given_script}
 use Rattle.apply_run.specs.InForm.{work_of}
 use Rattle.apply_run.specs.Read.{IsTold, Told, applied_plan, applied_script, besides_of, given_extras, is_unfinished}
-use Rattle.apply_run.specs.Stream.Terraform.{imported_in}
+use Rattle.apply_writer.specs.Stream.Terraform.{imported_in}
 use Rattle.apply_agreement.specs.AcceptedInForm.{MayBeApplied}
 use Rattle.apply_agreement.specs.FormTexts.{HasFormTexts}
 use Rattle.apply_agreement.specs.Plans.{ProvisionsCreates, WarnsOfReads}

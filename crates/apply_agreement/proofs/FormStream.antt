@@ -26,8 +26,8 @@ use Rattle.apply_text.specs.Order.{as_written, hook_messages_of, notes_of}
 use Rattle.apply_form.specs.Lines.{event_line, note_text, outputs_text, planned_text, summary_text}
 use Rattle.apply_form.specs.Message.{is_silent}
 use Rattle.apply_form.specs.Moment.{fine_text}
-use Rattle.apply_run.specs.Stream.Form.{stream_in}
-use Rattle.apply_run.specs.Stream.Terraform.{Besides, head_pieces, imported_in, outputs_of_apply, planned_at, planned_id_of, tells_error, terraform_form}
+use Rattle.apply_writer.specs.Stream.Form.{stream_in}
+use Rattle.apply_writer.specs.Stream.Terraform.{Besides, head_pieces, imported_in, outputs_of_apply, planned_at, planned_id_of, tells_error, terraform_form}
 use Rattle.apply_agreement.specs.Accepted.{totals_said}
 use Rattle.apply_agreement.specs.Forms.{told_diag}
 use Rattle.apply_agreement.specs.FormTexts.{HasFormTexts, HasKept, HasKeptDiags, SayInLines}

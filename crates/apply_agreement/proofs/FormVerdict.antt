@@ -28,8 +28,8 @@ use Rattle.apply_events.specs.Totals.{is_errored, totals_of}
 use Rattle.apply_text.specs.declared.operation.Operation.{Operation}
 use Rattle.apply_text.specs.declared.operation.Operation.TheVariants.{Apply, Destroy}
 use Rattle.apply_text.specs.Order.{as_written, hook_messages_of, notes_of}
-use Rattle.apply_run.specs.Stream.Terraform.{Besides, tells_error}
-use Rattle.apply_run.specs.Stream.Terraform as form
+use Rattle.apply_writer.specs.Stream.Terraform.{Besides, tells_error}
+use Rattle.apply_writer.specs.Stream.Terraform as form
 use Rattle.apply_agreement.specs.Accepted.{totals_said}
 use Rattle.apply_agreement.specs.Passing.{plain, verdict_on, with_all}
 use Rattle.apply_agreement.specs.Plans.{ChangesAreWhole, IsOrdinary, ProvisionsCreates, WarnsOfReads}

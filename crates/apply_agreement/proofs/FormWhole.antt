@@ -22,7 +22,7 @@ use Rattle.apply_events.specs.declared.event.Event.{Event}
 use Rattle.apply_events.specs.Step.{Work, kinds_of}
 use Rattle.apply_text.specs.Order.{as_written}
 use Rattle.apply_form.specs.Details.{planned_word}
-use Rattle.apply_run.specs.Stream.Terraform.{Besides}
+use Rattle.apply_writer.specs.Stream.Terraform.{Besides}
 use Rattle.apply_agreement.specs.Passing.{with_all}
 use Rattle.apply_agreement.specs.Plans.{ChangesAreWhole, IsOrdinary, ProvisionsCreates, WarnsOfReads}
 use Rattle.apply_agreement.specs.Told.{all_told}

@@ -4,7 +4,7 @@ use Rattle.std.specs.List.{AllByRecursion}
 use Rattle.apply_check.specs.declared.verdict.whole.Whole.{Whole}
 use Rattle.apply_lines.specs.Cut.{cut_lines}
 use Rattle.apply_lines.specs.Limits.{max_bytes}
-use Rattle.apply_run.specs.declared.report.Report.{Report}
+use Rattle.apply_writer.specs.declared.report.Report.{Report}
 use Rattle.apply_agreement.specs.Accepted.{totals_said}
 
 -- no line of the stream is longer than a line may be

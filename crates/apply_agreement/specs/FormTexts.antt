@@ -9,7 +9,7 @@ use Rattle.apply_model.specs.Plan.SavedPlan.{SavedPlan}
 use Rattle.apply_model.specs.Script.OutcomeMap.{OutcomeMap, outcome_of}
 use Rattle.apply_check.specs.Message.{Message}
 use Rattle.apply_text.specs.Message.{told_failure, warning_of}
-use Rattle.apply_run.specs.Stream.Terraform.{Besides, imported_in}
+use Rattle.apply_writer.specs.Stream.Terraform.{Besides, imported_in}
 use Rattle.apply_agreement.specs.Forms.{AreKept, IsKept}
 use Rattle.apply_agreement.specs.Texts.{HasTexts}
 use Rattle.apply_agreement.specs.ToldInForm.{AllSay, HasDetailTexts, HasNoteTexts}

@@ -11,8 +11,8 @@ use Rattle.apply_text.specs.Order.{as_written}
 use Rattle.apply_form.specs.Lines.{line_of, note_text, summary_text, told_line}
 use Rattle.apply_run.specs.InForm.{form_of}
 use Rattle.apply_run.specs.Read.{Told, applied_plan, besides_of}
-use Rattle.apply_run.specs.Stream.Form.{StreamForm, stream_in}
-use Rattle.apply_run.specs.Stream.Terraform.{head_pieces, imported_in, outputs_of_apply}
+use Rattle.apply_writer.specs.Stream.Form.{StreamForm, stream_in}
+use Rattle.apply_writer.specs.Stream.Terraform.{head_pieces, imported_in, outputs_of_apply}
 
 -- the line of a message, with what is kept of a diagnostic as text
 abbrev pub IsTold : List ℕ → Type 0

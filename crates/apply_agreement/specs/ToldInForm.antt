@@ -28,7 +28,7 @@ use Rattle.apply_text.specs.Order.{as_written}
 use Rattle.apply_form.specs.Details.{planned_word}
 use Rattle.apply_form.specs.Message.{is_silent, noted_address}
 use Rattle.apply_run.specs.declared.form_report.FormReport.{FormReport}
-use Rattle.apply_run.specs.Stream.Terraform.{Besides, is_error, tells_error}
+use Rattle.apply_writer.specs.Stream.Terraform.{Besides, is_error, tells_error}
 use Rattle.apply_agreement.specs.Accepted.{totals_said}
 use Rattle.apply_agreement.specs.Forms.{AreKept}
 use Rattle.apply_agreement.specs.Sound.{IsSound}

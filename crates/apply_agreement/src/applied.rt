@@ -18,7 +18,7 @@ ghost use Rattle.apply_events.specs.WorkerEvents.{worker_events};
 ghost use Rattle.apply_text.specs.declared.operation.Operation.{Operation};
 ghost use Rattle.apply_text.specs.Lines.{stream_of};
 ghost use Rattle.apply_run.specs.declared.options.Options.{Options};
-ghost use Rattle.apply_run.specs.declared.report.Report.{Report};
+ghost use Rattle.apply_writer.specs.declared.report.Report.{Report};
 ghost use Rattle.apply_run.specs.Bytes.{Given, IsRead, WasApplied};
 ghost use Rattle.apply_run.specs.Lanes.{WasAppliedInLanes};
 ghost use Rattle.apply_run.specs.Run.{Sight};

@@ -16,7 +16,7 @@ ghost use Rattle.apply_run.specs.Bytes.{Given};
 ghost use Rattle.apply_run.specs.InForm.{WasAppliedAsTold, WasAppliedAsToldInLanes, form_of, work_of};
 ghost use Rattle.apply_run.specs.Read.{IsTold, Told, applied_plan, applied_script, besides_of};
 ghost use Rattle.apply_run.specs.Run.{Sight};
-ghost use Rattle.apply_run.specs.Stream.Form.{stream_in};
+ghost use Rattle.apply_writer.specs.Stream.Form.{stream_in};
 ghost use Rattle.apply_agreement.specs.AcceptedInForm.{AreAcceptedInForm, MayBeApplied};
 ghost use Rattle.apply_agreement.specs.Applied.{HasShortLines};
 ghost use Rattle.apply_agreement.specs.FormTexts.{HasFormTexts};

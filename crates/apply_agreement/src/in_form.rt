@@ -29,7 +29,7 @@ ghost use Rattle.apply_text.specs.Moment.{moment_text};
 ghost use Rattle.apply_form.specs.Escapes.{escaped};
 ghost use Rattle.apply_form.specs.Lines.{event_line, note_text, planned_text, summary_text, version_text};
 ghost use Rattle.apply_form.specs.Moment.{fine_text};
-ghost use Rattle.apply_run.specs.Stream.Terraform.{Besides};
+ghost use Rattle.apply_writer.specs.Stream.Terraform.{Besides};
 ghost use Rattle.apply_agreement.specs.Accepted.{totals_said};
 ghost use Rattle.apply_agreement.specs.Applied.{HasShortLines};
 ghost use Rattle.apply_agreement.specs.Forms.{AreKept, IsReadAs, TellsTheSame, said_in_form, told_diag};

@@ -13,13 +13,13 @@ use Rattle.apply_run.specs.InForm.{WasAppliedAsTold, WasAppliedAsToldInLanes, Wa
 use Rattle.apply_run.specs.Lanes.{HasFailedInFormAndLanes}
 use Rattle.apply_run.specs.Read.{IsTold, Told, WasNotRead}
 use Rattle.apply_run.specs.Run.{HasFailedInForm, Sight}
-use Rattle.apply_run.specs.Stream.Form.{stream_in}
+use Rattle.apply_writer.specs.Stream.Form.{stream_in}
 use Rattle.apply_run.specs.declared.form_report.FormReport.{FormReport}
 use Rattle.apply_run.specs.declared.options.Options.{Options}
 use Rattle.apply_run.specs.declared.refusal.Refusal.{Refusal}
 use Rattle.apply_run.specs.declared.refusal.Refusal.TheVariants as refusal
-use Rattle.apply_run.specs.declared.report.Report.{Report}
-use Rattle.apply_run.specs.declared.why.Why.{Why}
+use Rattle.apply_writer.specs.declared.report.Report.{Report}
+use Rattle.apply_writer.specs.declared.why.Why.{Why}
 use Rattle.apply_cli.specs.CommandAsTold.{HasAppliedAsTold, HasAppliedAsToldInLanes, HasBegunAsTold, HasBegunAsToldInLanes}
 use Rattle.apply_cli.specs.Status.{refusal_status_of}
 use Rattle.apply_cli.proofs.Ending.{OneWorkerInOrder}

@@ -16,10 +16,10 @@ use Rattle.apply_run.specs.Bytes.{Given, IsRead, WasApplied, WasRefused}
 use Rattle.apply_run.specs.declared.options.Options.{Options}
 use Rattle.apply_run.specs.declared.refusal.Refusal.{Refusal}
 use Rattle.apply_run.specs.declared.refusal.Refusal.TheVariants as refusal
-use Rattle.apply_run.specs.declared.report.Report.{Report}
-use Rattle.apply_run.specs.declared.why.Why.{Why}
+use Rattle.apply_writer.specs.declared.report.Report.{Report}
+use Rattle.apply_writer.specs.declared.why.Why.{Why}
 use Rattle.apply_run.specs.Run.{HasFailed, Sight, plain_for, stream_for}
-use Rattle.apply_run.specs.Stream.Form.{plain_form}
+use Rattle.apply_writer.specs.Stream.Form.{plain_form}
 use Rattle.apply_cli.specs.Command.{HasApplied, HasBegun}
 use Rattle.apply_cli.specs.Status.{refusal_status_of, unfinished}
 use Rattle.apply_cli.proofs.Front.{too_large}

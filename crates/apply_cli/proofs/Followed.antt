@@ -3,7 +3,7 @@ use Rattle.std.proofs.Common.{◌≡◌, ◌⊎◌, inl, inr, ⊎_elim, ℕ, Lis
 use Rattle.std.specs.Io.KnownBytes.{Keeps}
 use Rattle.clap.specs.Walk.{Text}
 use Rattle.apply_run.specs.Run.{Sight}
-use Rattle.apply_run.specs.Sinks.{OverWriter}
+use Rattle.apply_writer.specs.Sinks.{OverWriter}
 use Rattle.apply_cli.specs.Command.{OfFile, OfInput, sight_of}
 use Rattle.apply_cli.specs.Invocation.{HasAppliedAsAsked, HasBegunAsAsked, WereApplied, WereBegun, given_of, unfailed}
 use Rattle.apply_settings.specs.Invocation.{IsOfWords}

@@ -9,13 +9,13 @@ use Rattle.apply_events.specs.declared.event.Event.{Event}
 use Rattle.apply_events.specs.Waits.TimeLine.{IsTimeLine}
 use Rattle.apply_events.specs.Step.{Work}
 use Rattle.apply_text.specs.Order.{as_written}
-use Rattle.apply_run.specs.declared.report.Report.{Report}
-use Rattle.apply_run.specs.declared.why.Why.{Why}
-use Rattle.apply_run.specs.declared.why.Why.TheVariants as why
+use Rattle.apply_writer.specs.declared.report.Report.{Report}
+use Rattle.apply_writer.specs.declared.why.Why.{Why}
+use Rattle.apply_writer.specs.declared.why.Why.TheVariants as why
 use Rattle.apply_run.specs.Lanes.{HasFailedInFormAndLanes, HasStreamedInFormAndLanes, IsCutOffInLanes}
 use Rattle.apply_run.specs.Run.{DidNothing, HasFailedInForm, HasStreamedInForm, RanOutOfMemoryInForm, Sight, WasCutOffInForm, WasNotWrittenInForm}
-use Rattle.apply_run.specs.Stream.Ended.{IsWhole}
-use Rattle.apply_run.specs.Stream.Form.{StreamForm, lines_in, stream_in}
+use Rattle.apply_writer.specs.Stream.Ended.{IsWhole}
+use Rattle.apply_writer.specs.Stream.Form.{StreamForm, lines_in, stream_in}
 use Rattle.apply_cli.specs.Command.{IsFrontInForm}
 use Rattle.apply_cli.specs.CommandInLanes.{IsFrontOfTimeLine}
 

@@ -12,11 +12,11 @@ use Rattle.apply_run.specs.Bytes.{Given, IsRead}
 use Rattle.apply_run.specs.declared.options.Options.{Options}
 use Rattle.apply_run.specs.declared.refusal.Refusal.{Refusal}
 use Rattle.apply_run.specs.declared.refusal.Refusal.TheVariants as refusal
-use Rattle.apply_run.specs.declared.report.Report.{Report}
-use Rattle.apply_run.specs.declared.why.Why.{Why}
+use Rattle.apply_writer.specs.declared.report.Report.{Report}
+use Rattle.apply_writer.specs.declared.why.Why.{Why}
 use Rattle.apply_run.specs.Lanes.{HasFailedInLanes, WasAppliedInLanes, WasRefusedInLanes}
 use Rattle.apply_run.specs.Run.{Sight}
-use Rattle.apply_run.specs.Stream.Form.{plain_form}
+use Rattle.apply_writer.specs.Stream.Form.{plain_form}
 use Rattle.apply_cli.specs.CommandInLanes.{HasAppliedInLanes, HasBegunInLanes}
 use Rattle.apply_cli.specs.Status.{refusal_status_of, unfinished}
 use Rattle.apply_cli.proofs.Ending.{refused_large}

@@ -13,10 +13,10 @@ use Rattle.apply_run.specs.Applied.{IsApplied, IsAppliedInPart}
 use Rattle.apply_text.specs.Order.{as_written, hook_messages_of}
 use Rattle.apply_run.specs.Bytes.{Given, IsRead, WasApplied}
 use Rattle.apply_run.specs.declared.options.Options.{Options}
-use Rattle.apply_run.specs.declared.report.Report.{Report}
+use Rattle.apply_writer.specs.declared.report.Report.{Report}
 use Rattle.apply_run.specs.Run.{Sight}
-use Rattle.apply_run.specs.Sinks.{OverWriter}
-use Rattle.apply_run.specs.Stream.Form.{StreamForm, lines_in, plain_form, stream_in}
+use Rattle.apply_writer.specs.Sinks.{OverWriter}
+use Rattle.apply_writer.specs.Stream.Form.{StreamForm, lines_in, plain_form, stream_in}
 use Rattle.apply_cli.specs.Status.{unfinished}
 
 -- the output, as the run sees it, where the writer tells these contents

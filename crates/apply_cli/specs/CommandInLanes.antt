@@ -9,10 +9,10 @@ use Rattle.apply_events.specs.Waits.TimeLine.{IsTimeLine}
 use Rattle.apply_text.specs.declared.operation.Operation.{Operation}
 use Rattle.apply_text.specs.Order.{as_written}
 use Rattle.apply_run.specs.Bytes.{Given, IsRead}
-use Rattle.apply_run.specs.declared.report.Report.{Report}
+use Rattle.apply_writer.specs.declared.report.Report.{Report}
 use Rattle.apply_run.specs.Lanes.{WasAppliedInLanes}
 use Rattle.apply_run.specs.Run.{Sight}
-use Rattle.apply_run.specs.Stream.Form.{StreamForm, lines_in, plain_form, stream_in}
+use Rattle.apply_writer.specs.Stream.Form.{StreamForm, lines_in, plain_form, stream_in}
 use Rattle.apply_cli.specs.Status.{unfinished}
 
 -- what was given was applied in so many lanes, the output has all of the stream of its time line behind the bytes that

@@ -16,7 +16,7 @@ use Rattle.apply_form.specs.Lines.{message_line, planned_text, version_members, 
 use Rattle.apply_form.specs.Message.{planned_message}
 use Rattle.apply_form.specs.Moment.{fine_text}
 use Rattle.apply_form.proofs.Absent.{feeds_in_line}
-use Rattle.apply_run.specs.Stream.Terraform.{head_pieces, planned_at}
+use Rattle.apply_writer.specs.Stream.Terraform.{head_pieces, planned_at}
 use Rattle.apply_laws.specs.PlannedChanges.{TellsThatPlanned, is_planned, is_planned_at, planned_in}
 
 -- ---- lists

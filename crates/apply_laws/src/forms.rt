@@ -12,8 +12,8 @@ ghost use Rattle.apply_text.specs.Lines.{lines_of, stream_of};
 ghost use Rattle.apply_model.specs.declared.details.change_details.ChangeDetails.{ChangeDetails};
 ghost use Rattle.apply_form.specs.Lines.{version_text};
 ghost use Rattle.apply_form_plan.specs.Told.{DetailsOfPlan, details_of};
-ghost use Rattle.apply_run.specs.Stream.Form.{lines_in, plain_form, stream_in};
-ghost use Rattle.apply_run.specs.Stream.Terraform.{head_pieces, planned_at};
+ghost use Rattle.apply_writer.specs.Stream.Form.{lines_in, plain_form, stream_in};
+ghost use Rattle.apply_writer.specs.Stream.Terraform.{head_pieces, planned_at};
 ghost use Rattle.apply_laws.specs.PlannedChanges.{AllButNoOpsArePlanned, TellsThatPlanned, planned_in};
 
 /// A stream in the default form is what it was before there was another form: its lines, and all of it.

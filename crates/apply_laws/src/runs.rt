@@ -10,7 +10,7 @@ ghost use Rattle.apply_events.specs.Step.{Work};
 ghost use Rattle.apply_text.specs.declared.operation.Operation.{Operation};
 ghost use Rattle.apply_text.specs.Order.{as_written};
 ghost use Rattle.apply_run.specs.Applied.{IsApplied};
-ghost use Rattle.apply_run.specs.declared.report.Report.{Report};
+ghost use Rattle.apply_writer.specs.declared.report.Report.{Report};
 ghost use Rattle.apply_events.specs.Lanes.{AreLanes};
 ghost use Rattle.apply_run.specs.Lanes.{HasStreamedInLanes};
 ghost use Rattle.apply_laws.specs.LaneLines.{HaveOneBegin};

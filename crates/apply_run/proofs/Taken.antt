@@ -6,9 +6,9 @@ use Rattle.apply_events.specs.declared.event.Event.{Event}
 use Rattle.apply_bus.specs.declared.item.Item.{Item}
 use Rattle.apply_bus.specs.Items.{event_of, events, max_taken}
 use Rattle.apply_events.specs.Fits.{IsOfPlan}
-use Rattle.apply_run.specs.Stream.Counting.{max_told}
-use Rattle.apply_run.specs.Stream.Form.{StreamForm}
-use Rattle.apply_run.specs.Stream.Telling.{HasTold, Telling}
+use Rattle.apply_writer.specs.Stream.Counting.{max_told}
+use Rattle.apply_writer.specs.Stream.Form.{StreamForm}
+use Rattle.apply_writer.specs.Stream.Telling.{HasTold, Telling}
 
 events_more : (taken new : List Item) (item : Item) → new ≡ taken ++ item ∷ [] → events new ≡ events taken ++ events (item ∷ [])
 events_more taken new item is = ap events is ∙ filter_map-append event_of taken (item ∷ [])

@@ -11,7 +11,7 @@ use Rattle.apply_hooks.specs.declared.rule.Rule.{Rule}
 use Rattle.apply_run.specs.declared.options.Options.{Options}
 use Rattle.apply_run.specs.declared.refusal.Refusal.{Refusal}
 use Rattle.apply_run.specs.declared.refusal.Refusal.TheVariants.{Plan, Script, Waits, Size, Fault}
-use Rattle.apply_run.specs.declared.report.Report.{Report}
+use Rattle.apply_writer.specs.declared.report.Report.{Report}
 use Rattle.apply_run.specs.Options.{IsInRange}
 use Rattle.apply_run.specs.Run.{HasFailed, HasStreamed, Sight}
 

@@ -15,8 +15,8 @@ use Rattle.apply_run.specs.Lanes.{HasFailedInFormAndLanes, HasStreamedInFormAndL
 use Rattle.apply_run.specs.Options.{IsInRange}
 use Rattle.apply_run.specs.Read.{IsTold, Told, WasNotRead, applied_plan, applied_script, besides_of}
 use Rattle.apply_run.specs.Run.{HasFailedInForm, HasStreamedInForm, Sight}
-use Rattle.apply_run.specs.Stream.Form.{StreamForm}
-use Rattle.apply_run.specs.Stream.Terraform.{tells_error, terraform_form}
+use Rattle.apply_writer.specs.Stream.Form.{StreamForm}
+use Rattle.apply_writer.specs.Stream.Terraform.{tells_error, terraform_form}
 
 -- what is applied
 abbrev pub work_of : Given → Told → Work

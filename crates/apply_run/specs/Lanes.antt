@@ -12,11 +12,11 @@ use Rattle.apply_run.specs.Bytes.{Given, IsRead, WasRefused}
 use Rattle.apply_run.specs.declared.options.Options.{Options}
 use Rattle.apply_run.specs.declared.refusal.Refusal.{Refusal}
 use Rattle.apply_run.specs.declared.refusal.Refusal.TheVariants.{Plan, Script, Waits, Size, Fault}
-use Rattle.apply_run.specs.declared.report.Report.{Report}
-use Rattle.apply_run.specs.declared.why.Why.{Why}
-use Rattle.apply_run.specs.declared.why.Why.TheVariants.{Bus, Workers, Memory, Write}
-use Rattle.apply_run.specs.Stream.Ended.{IsCutOff, IsWhole}
-use Rattle.apply_run.specs.Stream.Form.{StreamForm, lines_in, plain_form, stream_in}
+use Rattle.apply_writer.specs.declared.report.Report.{Report}
+use Rattle.apply_writer.specs.declared.why.Why.{Why}
+use Rattle.apply_writer.specs.declared.why.Why.TheVariants.{Bus, Workers, Memory, Write}
+use Rattle.apply_writer.specs.Stream.Ended.{IsCutOff, IsWhole}
+use Rattle.apply_writer.specs.Stream.Form.{StreamForm, lines_in, plain_form, stream_in}
 use Rattle.apply_run.specs.Run.{DidNothing, Sight}
 
 -- ---- in any form

@@ -1,11 +1,8 @@
 pub mod Applied
 pub mod Bytes
-pub mod Forms
 pub mod InForm
 pub mod Lanes
 pub mod Options
 pub mod Read
 pub mod Run
-pub mod Sinks
-pub mod Stream
 pub mod Worker

@@ -14,11 +14,11 @@ use Rattle.apply_form_plan.specs.Extras.{ExtrasOfScript, extras_of_bytes}
 use Rattle.apply_form_plan.specs.Notes.{told_notes}
 use Rattle.apply_form_plan.specs.Outputs.{OutputsOfPlan, told_outputs}
 use Rattle.apply_form_plan.specs.Told.{DetailsOfPlan, details_of}
-use Rattle.apply_run.specs.declared.forms.read_besides.ReadBesides.{ReadBesides}
+use Rattle.apply_run.specs.declared.read_besides.ReadBesides.{ReadBesides}
 use Rattle.apply_run.specs.declared.refusal.Refusal.{Refusal}
 use Rattle.apply_run.specs.declared.refusal.Refusal.TheVariants.{Plan, Script, Waits, Size, Fault}
 use Rattle.apply_run.specs.Bytes.{MayBeRead, given_script}
-use Rattle.apply_run.specs.Stream.Terraform.{Besides}
+use Rattle.apply_writer.specs.Stream.Terraform.{Besides}
 
 -- what the script that the bytes are says besides, and nothing where there are none
 abbrev pub given_extras : OutputsOfPlan → Option (List ℕ) → Result ExtrasOfScript ScriptError

@@ -12,11 +12,11 @@ use Rattle.apply_text.specs.Lines.{lines_of, stream_of}
 use Rattle.apply_text.specs.Order.{as_written, hook_messages_of}
 use Rattle.apply_run.specs.Applied.{IsApplied, IsAppliedInPart}
 use Rattle.apply_run.specs.declared.options.Options.{Options}
-use Rattle.apply_run.specs.declared.report.Report.{Report}
-use Rattle.apply_run.specs.declared.why.Why.{Why}
-use Rattle.apply_run.specs.declared.why.Why.TheVariants.{Bus, Workers, Memory, Write}
-use Rattle.apply_run.specs.Stream.Ended.{IsCutOff, IsWhole}
-use Rattle.apply_run.specs.Stream.Form.{StreamForm, lines_in, plain_form, stream_in}
+use Rattle.apply_writer.specs.declared.report.Report.{Report}
+use Rattle.apply_writer.specs.declared.why.Why.{Why}
+use Rattle.apply_writer.specs.declared.why.Why.TheVariants.{Bus, Workers, Memory, Write}
+use Rattle.apply_writer.specs.Stream.Ended.{IsCutOff, IsWhole}
+use Rattle.apply_writer.specs.Stream.Form.{StreamForm, lines_in, plain_form, stream_in}
 
 -- a sink, as contracts see it: the bytes that it has, where it tells them, and how many writes to it have failed
 pub record Sight : Type 0 where

@@ -8,24 +8,18 @@ ghost use Rattle.apply_run.specs.Run.{HasFailed, HasFailedInForm, HasStreamed, H
 ghost use Rattle.apply_run.specs.Run.Endpoints.{AreReady};
 ghost use Rattle.apply_run.specs.Run.Finished.{IsFinishedRun};
 ghost use Rattle.apply_run.specs.Run.NotBegun.{GivesBack};
-ghost use Rattle.apply_run.specs.Stream.Counting.{IsNew};
-ghost use Rattle.apply_run.specs.Stream.Telling.{telling_of};
+ghost use Rattle.apply_writer.specs.Stream.Counting.{IsNew};
+ghost use Rattle.apply_writer.specs.Stream.Telling.{telling_of};
 
-use crate::fault::Fault;
-use crate::forms::form_lines::FormLines;
-use crate::forms::plain_lines::PlainLines;
 use crate::options::Options;
-use crate::report::Report;
 use crate::run::prepared::Prepared;
 use crate::run::{FinishedRun, NotBegun, run_workers};
-use crate::sinks::sink::Sink;
-use crate::stream::StreamWriter;
-use crate::why::Why;
 use crate::worker::gate::Gate;
 use crate::worker::job::Job;
 use crate::worker::signal::Signal;
 use apply_hooks::Registry;
 use apply_plan::{Plan, Script};
+use apply_writer::{Fault, FormLines, PlainLines, Report, Sink, StreamWriter, Why};
 use std::alloc::Global;
 use std::marker::Brand;
 use std::sync::Wait;

@@ -4,15 +4,13 @@ ghost use Rattle.std.specs.Prelude.{◌≡◌, ◌<◌, ◌≤◌, ◌+◌, ◌�
 ghost use Rattle.apply_events.specs.declared.event.Event.{Event};
 ghost use Rattle.apply_bus.specs.Bus.{NamesWorkersBelow};
 ghost use Rattle.apply_bus.specs.Items.{closes, events};
-ghost use Rattle.apply_run.specs.Stream.Counting.{CountsFit, IsNew, max_told};
+ghost use Rattle.apply_writer.specs.Stream.Counting.{CountsFit, IsNew, max_told};
 ghost use Rattle.apply_events.specs.Fits.{IsOfPlan};
-ghost use Rattle.apply_run.specs.Stream.Telling.{HasTold, IsSameStream, IsToldSince, telling_of};
+ghost use Rattle.apply_writer.specs.Stream.Telling.{HasTold, IsSameStream, IsToldSince, telling_of};
 
-use crate::forms::form_lines::FormLines;
-use crate::sinks::sink::Sink;
-use crate::stream::StreamWriter;
 use apply_bus::{Item, Rx, Taken};
 use apply_events::is_of_plan;
+use apply_writer::{FormLines, Sink, StreamWriter};
 use std::sync::Wait;
 
 /// What a collector gives back: the stream as far as it was told, with the notes that it keeps, what was taken, and

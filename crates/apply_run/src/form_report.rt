@@ -1,6 +1,6 @@
 //! What a run in some form has done.
 
-use crate::report::Report;
+use apply_writer::Report;
 
 /// What a run in some form has done.
 #[derive(Clone, Copy, Debug, PartialEq, Eq)]

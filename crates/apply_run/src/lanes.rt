@@ -8,22 +8,16 @@ ghost use Rattle.apply_events.specs.Lanes.ToCome.{to_come, told_count, work_of};
 ghost use Rattle.apply_run.specs.Bytes.{IsRead};
 ghost use Rattle.apply_run.specs.Lanes.{HasFailedInFormAndLanes, HasFailedInLanes, HasStreamedInFormAndLanes, HasStreamedInLanes, WasAppliedInLanes, WasRefusedInLanes};
 ghost use Rattle.apply_run.specs.Run.{sight_of};
-ghost use Rattle.apply_run.specs.Stream.Counting.{CountsFit, IsNew};
-ghost use Rattle.apply_run.specs.Stream.Telling.{IsSameStream, IsToldSince, telling_of};
+ghost use Rattle.apply_writer.specs.Stream.Counting.{CountsFit, IsNew};
+ghost use Rattle.apply_writer.specs.Stream.Telling.{IsSameStream, IsToldSince, telling_of};
 
-use crate::fault::Fault;
-use crate::forms::form_lines::FormLines;
-use crate::forms::plain_lines::PlainLines;
 use crate::read_bytes::{ReadBytes, read_bytes};
 use crate::refusal::Refusal;
-use crate::report::Report;
-use crate::sinks::sink::Sink;
-use crate::stream::StreamWriter;
-use crate::why::Why;
 use apply_events::{Lanes, MAX_LANES, there_is_a_time_line};
 use apply_hooks::Registry;
 use apply_plan::{Plan, Script};
 use apply_text::{Operation, Start};
+use apply_writer::{Fault, FormLines, PlainLines, Report, Sink, StreamWriter, Why};
 use std::alloc::Global;
 
 /// Applies a plan in 1 to 64 lanes, as `terraform apply -parallelism` has it. A lane takes up a change as a whole, or, of one

@@ -1,7 +1,7 @@
 //! Why bytes were not applied.
 
-use crate::fault::Fault;
 use apply_plan::{PlanError, ScriptError};
+use apply_writer::Fault;
 use thiserror::Error;
 
 /// Why the bytes of a plan were not applied, or not to the end. The variants are tested in this order; the first four

@@ -4,18 +4,18 @@ use Rattle.apply_events.specs.declared.event.Event.{Event}
 use Rattle.apply_events.specs.Step.{Work}
 use Rattle.apply_text.specs.Order.{as_written, hook_messages_of}
 use Rattle.apply_run.specs.Applied.{IsApplied, IsAppliedInPart}
-use Rattle.apply_run.specs.declared.fault.Fault.{Fault}
-use Rattle.apply_run.specs.declared.report.Report.{Report}
-use Rattle.apply_run.specs.declared.stream.output.Stop.{Stop}
-use Rattle.apply_run.specs.declared.stream.output.Stop.TheVariants.{Going, Failed, NoMemory}
-use Rattle.apply_run.specs.declared.why.Why.{Why}
-use Rattle.apply_run.specs.declared.why.Why.TheVariants.{Bus, Memory, Workers, Write}
-use Rattle.apply_run.specs.Stream.Ended.{IsCutOff, IsFaulted, IsWhole}
-use Rattle.apply_run.specs.Stream.Outlet.{failed_writes}
-use Rattle.apply_run.specs.declared.stream.StreamWriter.{StreamWriter}
+use Rattle.apply_writer.specs.declared.fault.Fault.{Fault}
+use Rattle.apply_writer.specs.declared.report.Report.{Report}
+use Rattle.apply_writer.specs.declared.stream.output.Stop.{Stop}
+use Rattle.apply_writer.specs.declared.stream.output.Stop.TheVariants.{Going, Failed, NoMemory}
+use Rattle.apply_writer.specs.declared.why.Why.{Why}
+use Rattle.apply_writer.specs.declared.why.Why.TheVariants.{Bus, Memory, Workers, Write}
+use Rattle.apply_writer.specs.Stream.Ended.{IsCutOff, IsFaulted, IsWhole}
+use Rattle.apply_writer.specs.Stream.Outlet.{failed_writes}
+use Rattle.apply_writer.specs.declared.stream.StreamWriter.{StreamWriter}
 use Rattle.apply_run.specs.Run.{HasFailedInForm, HasStreamedInForm, Sight, sight_of}
-use Rattle.apply_run.specs.Stream.Form.{StreamForm, lines_in, stream_in}
-use Rattle.apply_run.specs.Stream.Telling.{HasTold, IsSameStream, IsToldSince, telling_of}
+use Rattle.apply_writer.specs.Stream.Form.{StreamForm, lines_in, stream_in}
+use Rattle.apply_writer.specs.Stream.Telling.{HasTold, IsSameStream, IsToldSince, telling_of}
 
 pub if_ok : {A E : Type 0} → (r : Result A E) (P Q : A → Type 0) → ((x : A) → P x → Q x) → IfOk r P → IfOk r Q
 if_ok (Ok x) P Q f h = f x h

@@ -4,12 +4,12 @@ use Rattle.apply_events.specs.declared.event.Event.{Event}
 use Rattle.apply_events.specs.Step.{Work}
 use Rattle.apply_events.specs.Waits.TimeLine.{IsTimeLine}
 use Rattle.apply_text.specs.Order.{as_written}
-use Rattle.apply_run.specs.declared.fault.Fault.{Fault}
-use Rattle.apply_run.specs.declared.why.Why.TheVariants.{Memory, Write}
-use Rattle.apply_run.specs.Stream.Ended.{IsCutOff, IsFaulted}
+use Rattle.apply_writer.specs.declared.fault.Fault.{Fault}
+use Rattle.apply_writer.specs.declared.why.Why.TheVariants.{Memory, Write}
+use Rattle.apply_writer.specs.Stream.Ended.{IsCutOff, IsFaulted}
 use Rattle.apply_run.specs.Lanes.{HasFailedInFormAndLanes}
 use Rattle.apply_run.specs.Run.{Sight}
-use Rattle.apply_run.specs.Stream.Form.{StreamForm, lines_in, stream_in}
+use Rattle.apply_writer.specs.Stream.Form.{StreamForm, lines_in, stream_in}
 
 -- a write failed, or memory was refused for a line
 pub faulted_in_lanes : (form : StreamForm) (work : Work) (lanes : ℕ) (fault : Fault) (before after : Sight) (events : List Event) → IsTimeLine work lanes events

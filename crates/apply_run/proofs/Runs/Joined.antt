@@ -20,7 +20,8 @@ use Rattle.apply_events.specs.Fits.{IsOfPlan}
 use Rattle.apply_run.specs.Run.Reconciled.{IsReconciled, IsReconciledWhole}
 use Rattle.apply_run.specs.Run.Threads.{EachAt}
 use Rattle.apply_run.specs.Worker.Stopped.{sender_of, is_closed, IsStoppedWorker}
-use Rattle.apply_run.proofs.Workers.Prefixes.{all_of_prefix, events_prefix, prefix_more}
+use Rattle.apply_run.proofs.Workers.Prefixes.{all_of_prefix, events_prefix}
+use Rattle.apply_writer.proofs.Prefixes.{prefix_more}
 
 -- ---- one worker
 

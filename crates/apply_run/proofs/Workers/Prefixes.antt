@@ -1,23 +1,14 @@
 -- Facts about prefixes.
 use Rattle.std.proofs.Common.{◌≡◌, ℕ, zero, suc, ◌+◌, List, [], ◌∷◌, ◌++◌, All, refl, sym, ap, ◌∙◌, subst, append_assoc, arith}
-use Rattle.std.proofs.lemmas.List.{append-nil}
 use mathlib.Core.List.{IsPrefix}
 use Rattle.apply_events.specs.declared.event.Event.{Event}
 use Rattle.apply_events.specs.ChangeEvents.{change_events, in_turn, span_of}
 use Rattle.apply_events.specs.Step.{Work}
 use Rattle.apply_events.specs.WorkerEvents.{worker_events}
-
-pub prefix_same : {X : Type 0} → (xs : List X) → IsPrefix xs xs
-prefix_same xs = ([], append-nil xs)
+use Rattle.apply_writer.proofs.Prefixes.{prefix_behind}
 
 pub prefix_push : {X : Type 0} → (xs ys zs : List X) (x : X) → IsPrefix xs ys → zs ≡ ys ++ x ∷ [] → IsPrefix xs zs
 prefix_push xs ys zs x p is = (p.0 ++ x ∷ [], sym (append_assoc xs p.0 (x ∷ [])) ∙ ap (λ l. l ++ x ∷ []) p.1 ∙ sym is)
-
-pub prefix_more : {X : Type 0} → (xs ys zs : List X) → IsPrefix xs ys → IsPrefix ys zs → IsPrefix xs zs
-prefix_more xs ys zs p q = (p.0 ++ q.0, sym (append_assoc xs p.0 q.0) ∙ ap (λ l. l ++ q.0) p.1 ∙ q.1)
-
-pub prefix_behind : {X : Type 0} → (front xs ys : List X) → IsPrefix xs ys → IsPrefix (front ++ xs) (front ++ ys)
-prefix_behind front xs ys p = (p.0, append_assoc front xs p.0 ∙ ap (λ l. front ++ l) p.1)
 
 pub all_of_prefix : {X : Type 0} → (P : X → Type 0) (xs ys : List X) → IsPrefix xs ys → All P ys → All P xs
 all_of_prefix P [] ys p all k d low = absurd (omega arith)

@@ -8,11 +8,11 @@ use Rattle.apply_bus.specs.Items.{events}
 use Rattle.apply_run.specs.Applied.{IsApplied, IsAppliedInPart}
 use Rattle.apply_run.specs.declared.run.JoinedRun.{JoinedRun}
 use Rattle.apply_run.specs.declared.run.FinishedRun.{FinishedRun}
-use Rattle.apply_run.specs.declared.stream.StreamWriter.{StreamWriter}
+use Rattle.apply_writer.specs.declared.stream.StreamWriter.{StreamWriter}
 use Rattle.apply_events.specs.Fits.{IsOfPlan}
-use Rattle.apply_run.specs.Stream.Counting.{CountsFit}
-use Rattle.apply_run.specs.Stream.Form.{StreamForm}
-use Rattle.apply_run.specs.Stream.Telling.{IsSameStream, IsToldSince, telling_of}
+use Rattle.apply_writer.specs.Stream.Counting.{CountsFit}
+use Rattle.apply_writer.specs.Stream.Form.{StreamForm}
+use Rattle.apply_writer.specs.Stream.Telling.{IsSameStream, IsToldSince, telling_of}
 use Rattle.apply_run.specs.Run.Threads.{EachAt}
 use Rattle.apply_run.specs.Worker.Stopped.{IsStoppedWorker}
 

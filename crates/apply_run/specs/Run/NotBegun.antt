@@ -3,7 +3,7 @@ use Rattle.std.specs.Prelude.{◌≡◌}
 use Rattle.apply_run.specs.declared.run.NotBegun.{NotBegun}
 use Rattle.apply_run.specs.declared.run.NotBegun.TheVariants.{NoThread, NoMemory}
 use Rattle.apply_run.specs.declared.run.prepared.Endpoints.{Endpoints}
-use Rattle.apply_run.specs.declared.stream.StreamWriter.{StreamWriter}
+use Rattle.apply_writer.specs.declared.stream.StreamWriter.{StreamWriter}
 
 -- the stream is as before; where memory was refused, so is what the workers and the collector would have had, so that no
 -- thread was started with it

@@ -1,5 +1,5 @@
 use Rattle.apply_run.specs.InForm.{form_of}
-use Rattle.apply_run.specs.Stream.Form.{stream_in}
+use Rattle.apply_writer.specs.Stream.Form.{stream_in}
 use Rattle.apply_agreement.proofs.FormAccepted.{bytes_reported, stream_reported}
 use Rattle.apply_agreement.proofs.applied_in_form.every_stream_in_terraforms_form_in_lanes_is_accepted.Goals as goal
 

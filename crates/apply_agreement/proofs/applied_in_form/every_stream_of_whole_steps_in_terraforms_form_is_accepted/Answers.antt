@@ -1,7 +1,7 @@
 use Rattle.std.proofs.Common.{◌<◌, ◌^◌, length, arith}
 use Rattle.apply_run.specs.InForm.{form_of, work_of}
 use Rattle.apply_run.specs.Read.{applied_plan, applied_script, besides_of}
-use Rattle.apply_run.specs.Stream.Form.{stream_in}
+use Rattle.apply_writer.specs.Stream.Form.{stream_in}
 use Rattle.apply_agreement.specs.ToldInForm.{form_told, whole_in_form}
 use Rattle.apply_agreement.proofs.FormAccepted.{are_accepted, taken_as_told}
 use Rattle.apply_agreement.proofs.applied_in_form.every_stream_of_whole_steps_in_terraforms_form_is_accepted.Goals as goal

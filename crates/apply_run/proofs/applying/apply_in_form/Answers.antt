@@ -3,10 +3,10 @@ use Rattle.apply_hooks.specs.Registry.{rules_of}
 use Rattle.apply_events.specs.Step.{Work}
 use Rattle.apply_text.specs.Order.{hook_messages_of}
 use Rattle.apply_run.specs.Applied.{IsApplied, IsAppliedInPart}
-use Rattle.apply_run.specs.declared.stream.StreamWriter.{StreamWriter}
-use Rattle.apply_run.specs.Stream.Ended.{IsCutOff, IsFaulted, IsWhole}
-use Rattle.apply_run.specs.Stream.Form.{lines_in, stream_in}
-use Rattle.apply_run.specs.Stream.Outlet.{failed_writes}
+use Rattle.apply_writer.specs.declared.stream.StreamWriter.{StreamWriter}
+use Rattle.apply_writer.specs.Stream.Ended.{IsCutOff, IsFaulted, IsWhole}
+use Rattle.apply_writer.specs.Stream.Form.{lines_in, stream_in}
+use Rattle.apply_writer.specs.Stream.Outlet.{failed_writes}
 use Rattle.apply_run.specs.Run.{Sight, sight_of}
 use Rattle.apply_run.specs.Run.NotBegun.{GivesBack}
 use Rattle.apply_run.proofs.Runs.Headline.{faulted, for_form, if_err, if_ok, lost, not_started, refused, streamed, told_for}

@@ -2,7 +2,7 @@ use Rattle.std.proofs.Common.{◌≤◌, ◌∙◌, All, length, refl, sym, ap, 
 use Rattle.apply_bus.specs.Bus.{Account, NamesWorkersBelow}
 use Rattle.apply_bus.specs.Items.{events}
 use Rattle.apply_events.specs.Fits.{IsOfPlan}
-use Rattle.apply_run.specs.Stream.Telling.{HasTold, telling_of}
+use Rattle.apply_writer.specs.Stream.Telling.{HasTold, telling_of}
 use Rattle.apply_run.proofs.Taken.{count_more, fewer_to_lose, fewer_to_take, room_to_tell, told_more_items, told_no_items}
 use Rattle.apply_run.proofs.collector.collect.Goals as goal
 

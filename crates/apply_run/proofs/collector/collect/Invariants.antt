@@ -1,8 +1,8 @@
 use Rattle.std.proofs.Common.{◌≡◌, ◌≤◌, ◌+◌, ◌-◌, All, length}
 use Rattle.apply_bus.specs.Items.{events, max_taken}
-use Rattle.apply_run.specs.Stream.Counting.{CountsFit}
+use Rattle.apply_writer.specs.Stream.Counting.{CountsFit}
 use Rattle.apply_events.specs.Fits.{IsOfPlan}
-use Rattle.apply_run.specs.Stream.Telling.{HasTold, telling_of}
+use Rattle.apply_writer.specs.Stream.Telling.{HasTold, telling_of}
 use Rattle.apply_run.proofs.collector.collect.Given as goal
 
 -- the events so far were told

@@ -2,7 +2,7 @@ use Rattle.std.proofs.Common.{◌∷◌, ◌++◌, [], All, sym, subst}
 use Rattle.std.proofs.lemmas.List.Elements.{All-head}
 use Rattle.apply_bus.specs.Items.{events}
 use Rattle.apply_events.specs.Fits.{IsOfPlan}
-use Rattle.apply_run.specs.Stream.Telling.{HasTold, telling_of}
+use Rattle.apply_writer.specs.Stream.Telling.{HasTold, telling_of}
 use Rattle.apply_run.proofs.collector.note.Goals as goal
 
 pub returns-then-is_of_plan-clause-told : goal.returns-then-is_of_plan-clause-told

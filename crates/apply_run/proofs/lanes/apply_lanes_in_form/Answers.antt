@@ -3,9 +3,9 @@ use Rattle.apply_hooks.specs.Registry.{rules_of}
 use Rattle.apply_events.specs.Step.{Work}
 use Rattle.apply_events.specs.Waits.Merging.{time_line}
 use Rattle.apply_run.specs.Run.{Sight, sight_of}
-use Rattle.apply_run.specs.Stream.Ended.{IsFaulted, IsWhole}
-use Rattle.apply_run.specs.Stream.Form.{stream_in}
-use Rattle.apply_run.specs.Stream.Telling.{IsToldSince}
+use Rattle.apply_writer.specs.Stream.Ended.{IsFaulted, IsWhole}
+use Rattle.apply_writer.specs.Stream.Form.{stream_in}
+use Rattle.apply_writer.specs.Stream.Telling.{IsToldSince}
 use Rattle.apply_run.proofs.Runs.Headline.{for_form, if_err, if_ok, told_for}
 use Rattle.apply_run.proofs.Runs.InLanes.{faulted_in_lanes}
 use Rattle.apply_run.proofs.lanes.apply_lanes_in_form.Goals as goal

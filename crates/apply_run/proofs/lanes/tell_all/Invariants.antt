@@ -1,8 +1,8 @@
 use Rattle.std.proofs.Common.{◌≡◌, ◌++◌, List, length}
 use Rattle.apply_events.specs.declared.event.Event.{Event}
 use Rattle.apply_events.specs.Lanes.ToCome.{to_come, told_count, work_of}
-use Rattle.apply_run.specs.Stream.Counting.{CountsFit}
-use Rattle.apply_run.specs.Stream.Telling.{HasTold, telling_of}
+use Rattle.apply_writer.specs.Stream.Counting.{CountsFit}
+use Rattle.apply_writer.specs.Stream.Telling.{HasTold, telling_of}
 use Rattle.apply_run.proofs.lanes.tell_all.Given as goal
 
 -- the events that the lanes gave were told, and no others

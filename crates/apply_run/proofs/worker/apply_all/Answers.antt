@@ -9,7 +9,7 @@ use Rattle.apply_events.specs.Fits.{IsOfPlan}
 use Rattle.apply_run.specs.Worker.Drawn.{IsDrawn}
 use Rattle.apply_run.specs.Worker.Job.{work_of}
 use Rattle.apply_run.proofs.Workers.Drawing.{drawn_on, none_drawn, room_left}
-use Rattle.apply_run.proofs.Workers.Prefixes.{prefix_behind}
+use Rattle.apply_writer.proofs.Prefixes.{prefix_behind}
 use Rattle.apply_run.proofs.worker.apply_all.Goals as goal
 
 pub loop-change-init : goal.loop-change-init

@@ -1,0 +1,3 @@
+pub mod Forms
+pub mod Sinks
+pub mod Stream

@@ -1,0 +1,77 @@
+//! What a plan and a script say besides for Terraform's form.
+
+ghost use Rattle.std.specs.Prelude.{◌≡◌};
+ghost use Rattle.std.specs.List.{list_any};
+ghost use Rattle.std.specs.Option.{option_copied};
+ghost use Rattle.apply_writer.specs.Stream.Terraform as specs;
+ghost use Rattle.apply_writer.specs.Stream.Terraform.{imported_in, planned_id_of, tells_error};
+
+use apply_events::Counts;
+use apply_model::{ChangeDetails, Note, Output, Severity};
+
+/// What a plan and a script say besides for Terraform's form.
+#[derive(Clone, Copy)]
+pub struct ToldBesides<'a> {
+    /// What is told of each change, by its number.
+    pub details: &'a [ChangeDetails],
+    /// The diagnostics of no step, in their order.
+    pub notes: &'a [Note],
+    /// The outputs, in their order.
+    pub outputs: &'a [Output],
+}
+
+impl ToldBesides<'_> {
+    /// The id that the object of a change is to have, where it is known.
+    pub fn planned_id(&self, change: u32) -> Option<&str>
+        ensures { option_copied result ≡ planned_id_of self.now.details.now change }
+    {
+        match self.details.get(change as usize) {
+            Some(details) => details.planned_id(),
+            None => None,
+        }
+    }
+
+    /// How many changes import something.
+    pub fn imported(&self) -> u64
+        ensures { result ≡ imported_in self.now.details.now }
+    {
+        count_imports(self.details)
+    }
+
+    /// Whether the stream tells of an error, where its events add up so.
+    pub fn tells_error(&self, counts: &Counts) -> bool
+        ensures { result ≡ tells_error self.now.notes.now counts.now }
+    {
+        0 < counts.failed || 0 < counts.halted || has_error(self.notes)
+    }
+}
+
+/// Whether a diagnostic of no step is an error.
+fn is_error(note: &Note) -> bool
+    ensures { result ≡ specs.is_error note.now }
+{
+    match note.severity {
+        Severity::Error => true,
+        Severity::Warning => false,
+    }
+}
+
+/// Whether one of them is.
+fn has_error(notes: &[Note]) -> bool
+    ensures { result ≡ list_any specs.is_error notes.now }
+{
+    notes.iter().any(is_error)
+}
+
+/// How many of the changes import something.
+fn count_imports(details: &[ChangeDetails]) -> u64
+    ensures { result ≡ imported_in details.now }
+{
+    let mut count: u64 = 0;
+    for change in details {
+        if change.importing.is_some() {
+            count += 1;
+        }
+    }
+    count
+}

@@ -1,0 +1,22 @@
+//! The stream that is written: its lines in either form, what their events add up to, and the sink that takes the bytes.
+#![tactic(auto)]
+
+mod fault;
+mod forms;
+mod report;
+mod sinks;
+mod stream;
+mod why;
+
+pub use fault::Fault;
+pub use forms::form_lines::FormLines;
+pub use forms::plain_lines::PlainLines;
+pub use forms::terraform_lines::TerraformLines;
+pub use forms::told_besides::ToldBesides;
+pub use report::Report;
+pub use sinks::memory_sink::MemorySink;
+pub use sinks::sink::{Sink, SinkFault, write_all};
+pub use sinks::std_sink::StdSink;
+pub use stream::StreamWriter;
+pub use stream::output::{Output, Stop};
+pub use why::Why;
