@@ -1,5 +1,5 @@
 -- Which steps could begin: rounds, and chains of steps each of which waits for the next.
-use Rattle.std.proofs.Common.{◌≡◌, ℕ, zero, suc, ◌+◌, ◌-◌, ◌≤◌, Bool, true, false, List, [], ◌∷◌, ◌++◌, Some, refl, arith, ⊎_elim}
+use Rattle.std.proofs.Common.{◌≡◌, ℕ, zero, suc, ◌+◌, ◌-◌, ◌≤◌, Bool, true, false, List, [], ◌∷◌, ◌++◌, Some, refl, sym, ◌∙◌, arith, ⊎_elim}
 use Rattle.std.specs.Prelude.{◌&&◌, ◌||◌, ◌==◌, slice_get}
 use Rattle.std.specs.List.{AllByRecursion, list_all, list_any}
 use Rattle.std.proofs.lemmas.Bool.{cases_Bool}
@@ -123,6 +123,23 @@ one_more script rounds (wait ∷ []) last other chain none waits not =
 one_more script rounds (wait ∷ (next ∷ rest)) last other chain none waits not =
     (waits_for_one script rounds wait chain.0.0 next chain.0.1 none.1.0, one_more script rounds (next ∷ rest) last other chain.1 none.1 waits not)
 
+-- a step that waits for one that does not begin does not either, and so none on a chain to it
+waits_for_none : (script : OutcomeMap) (rounds : ℕ) (wait other : Wait) → WaitsFor script wait other → begins_at script rounds other ≡ false → begins_at script rounds wait ≡ false
+waits_for_none script rounds wait other waits none = ⊎_elim
+    (λ (begun : begins_at script rounds wait ≡ true).
+    let both : true ≡ false = sym (next_round script rounds wait begun) ∙ waits_for_one script rounds wait waits.0 other waits.1 none in absurd cc)
+    (λ (not : begins_at script rounds wait ≡ false). not)
+    (cases_Bool (begins_at script rounds wait))
+
+none_to_stuck : (script : OutcomeMap) (rounds : ℕ) (front : List Wait) (last other : Wait) → IsChain script (front ++ last ∷ []) → WaitsFor script last other → begins_at script rounds other ≡ false → NoneBegins script rounds (front ++ last ∷ [])
+none_to_stuck script rounds [] last other chain waits none = (waits_for_none script rounds last other waits none, tt)
+none_to_stuck script rounds (wait ∷ []) last other chain waits none =
+    let rest = none_to_stuck script rounds [] last other tt waits none in
+    (waits_for_none script rounds wait last chain.0 rest.0, rest)
+none_to_stuck script rounds (wait ∷ (next ∷ rest)) last other chain waits none =
+    let behind = none_to_stuck script rounds (next ∷ rest) last other chain.1 waits none in
+    (waits_for_none script rounds wait next chain.0 behind.0, behind)
+
 or_either : (a b : Bool) → (a || b) ≡ true → (a ≡ false) → b ≡ true
 or_either true b e none = absurd cc
 or_either false b e none = e
@@ -146,3 +163,8 @@ pub none_of_circle : (script : OutcomeMap) (rounds : ℕ) (front : List Wait) (l
     → list_any (is_step one) (front ++ last ∷ []) ≡ true → begins_at script rounds one ≡ false
 none_of_circle script rounds front last other one chain waits among here =
     among_none script rounds (front ++ last ∷ []) one (circle script rounds front last other chain waits among) here
+
+pub none_of_stuck : (script : OutcomeMap) (rounds : ℕ) (front : List Wait) (last other one : Wait) → IsChain script (front ++ last ∷ []) → WaitsFor script last other → begins_at script rounds other ≡ false
+    → list_any (is_step one) (front ++ last ∷ []) ≡ true → begins_at script rounds one ≡ false
+none_of_stuck script rounds front last other one chain waits none here =
+    among_none script rounds (front ++ last ∷ []) one (none_to_stuck script rounds front last other chain waits none) here

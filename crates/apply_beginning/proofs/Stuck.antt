@@ -1,16 +1,16 @@
--- The first entry with a step that could never begin, one by one.
+-- The entries with a step that could never begin, one by one.
 use Rattle.std.proofs.Common.{◌≡◌, ℕ, zero, suc, ◌+◌, ◌*◌, ◌<◌, ◌≤◌, Bool, true, false, List, [], ◌∷◌, ◌++◌, length, drop, get_or, Option, Some, None, refl, sym, ap, ◌∙◌, add-one, arith}
 use Rattle.std.specs.Prelude.{◌||◌, not, replicate}
 use Rattle.std.specs.List.{list_any, position_from, range_with_len}
-use Rattle.std.proofs.lemmas.List.{drop_all, length-replicate}
+use Rattle.std.proofs.lemmas.List.{append-nil, append_assoc, drop_all, length-replicate}
 use Rattle.std.proofs.lemmas.List.Folds.{list_any-append}
 use Rattle.apply_model.proofs.Lists.{left_at}
 use Rattle.apply_model.specs.Script.OutcomeMap.{OutcomeMap}
 use Rattle.apply_model.specs.Script.Waits.{could_begin}
 use Rattle.apply_beginning.specs.declared.mark.Mark.{Mark}
-use Rattle.apply_beginning.specs.declared.mark.Mark.TheVariants.{Unseen, OnPath, Begins}
+use Rattle.apply_beginning.specs.declared.mark.Mark.TheVariants.{Unseen, OnPath, Begins, Stuck}
 use Rattle.apply_beginning.specs.Marks.{AreSettled, index_of, mark_of}
-use Rattle.apply_beginning.specs.Stuck.{is_stuck_at}
+use Rattle.apply_beginning.specs.Stuck.{is_stuck_at, numbers_from}
 
 -- ---- the steps of one entry
 
@@ -53,6 +53,22 @@ not_here script entries n entry below is fine = rw (left_at entries n entry belo
 pub no_entry_left : (script : OutcomeMap) (entries : List (ℕ × ℕ)) (n : ℕ) → length entries ≤ n → stuck_from script n entries ≡ None
 no_entry_left script entries n past = rw (drop_all n entries past) refl
 
+-- all of them, behind those that were found among the first
+abbrev pub with_rest : OutcomeMap → List ℕ → ℕ → List (ℕ × ℕ) → List ℕ
+with_rest script found n entries = found ++ numbers_from n (is_stuck_at script) (drop n entries)
+
+pub one_found : (script : OutcomeMap) (entries : List (ℕ × ℕ)) (found more : List ℕ) (n : ℕ) (entry : ℕ × ℕ) → n < length entries → entry ≡ get_or entries n entry → is_stuck_at script entry ≡ true → more ≡ found ++ n ∷ []
+    → with_rest script more (n + 1) entries ≡ with_rest script found n entries
+one_found script entries found more n entry below is stuck more_is =
+    rw (more_is, left_at entries n entry below is, stuck) (append_assoc found (n ∷ []) (numbers_from (n + 1) (is_stuck_at script) (drop (n + 1) entries)))
+
+pub none_found : (script : OutcomeMap) (entries : List (ℕ × ℕ)) (found : List ℕ) (n : ℕ) (entry : ℕ × ℕ) → n < length entries → entry ≡ get_or entries n entry → is_stuck_at script entry ≡ false
+    → with_rest script found (n + 1) entries ≡ with_rest script found n entries
+none_found script entries found n entry below is fine = rw (left_at entries n entry below is, fine) refl
+
+pub all_found : (script : OutcomeMap) (entries : List (ℕ × ℕ)) (found : List ℕ) (n : ℕ) → length entries ≤ n → with_rest script found n entries ≡ found
+all_found script entries found n past = rw (drop_all n entries past) (append-nil found)
+
 -- ---- before anything is known
 
 unseen : (n i : ℕ) → get_or (replicate n Unseen) i Unseen ≡ Unseen
@@ -64,5 +80,6 @@ pub none_seen : (script : OutcomeMap) (changes : ℕ) (marks : List Mark) → ch
 none_seen script changes marks count is = record {
   long = ap (λ (m : List Mark). length m) is ∙ length-replicate (2 * changes) Unseen ∙ ap (λ (n : ℕ). 2 * n) count;
   begin = λ wait placed marked. let both : Unseen ≡ Begins = sym (unseen (2 * changes) (index_of wait)) ∙ sym (ap (λ (m : List Mark). mark_of m wait) is) ∙ marked in absurd cc;
+  stuck = λ wait placed marked. let both : Unseen ≡ Stuck = sym (unseen (2 * changes) (index_of wait)) ∙ sym (ap (λ (m : List Mark). mark_of m wait) is) ∙ marked in absurd cc;
   settled = λ wait placed marked. let both : Unseen ≡ OnPath = sym (unseen (2 * changes) (index_of wait)) ∙ sym (ap (λ (m : List Mark). mark_of m wait) is) ∙ marked in absurd cc;
 }

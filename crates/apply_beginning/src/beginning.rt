@@ -1,12 +1,12 @@
 //! Which steps of a script could begin.
 
-ghost use Rattle.std.specs.Prelude.{◌≡◌, ◌<◌, ◌≤◌, All, IfOk, OnSome, length, slice_get, true, false};
+ghost use Rattle.std.specs.Prelude.{◌≡◌, ◌<◌, ◌≤◌, All, IfOk, OnSome, length, map, slice_get};
 ghost use Rattle.std.specs.List.{position_from};
 ghost use Rattle.apply_model.specs.Script.Limits.{max_waits};
 ghost use Rattle.apply_model.specs.Script.Waits.{could_begin, named_for, waits_told};
-ghost use Rattle.apply_beginning.specs.Marks.{AreSettled};
+ghost use Rattle.apply_beginning.specs.Marks.{AreSettled, index_of, with_stuck};
 ghost use Rattle.apply_beginning.specs.Placed.{AreAllPlaced, IsPlaced};
-ghost use Rattle.apply_beginning.specs.Stuck.{is_stuck_at};
+ghost use Rattle.apply_beginning.specs.Stuck.{is_stuck_at, numbers_from};
 
 use crate::mark::Mark;
 use crate::marks::Marks;
@@ -43,6 +43,29 @@ pub fn first_stuck(
     Ok(None)
 }
 
+/// The numbers of all these changes that have a step that could never begin, among so many of their first steps.
+pub fn all_stuck(
+    alloc: Global,
+    script: &Script,
+    changes: u32,
+    entries: &[(u32, u8)],
+) -> Result<Vec<u32>, AllocError>
+    requires changes { changes ≡ length script.now }
+    requires placed { AreAllPlaced script.now }
+    requires few { length entries.now ≤ length script.now }
+    requires within { All (λ entry. (entry.0 < length script.now) × (entry.1 ≤ 2)) entries.now }
+    ensures { IfOk result (λ found. found.items ≡ numbers_from 0 (is_stuck_at script.now) entries.now) }
+{
+    let mut marks = Marks::new(alloc, changes)?;
+    let mut stuck = Vec::new(alloc);
+    for (number, (change, steps)) in entries.iter().enumerate() {
+        if is_stuck(alloc, script, &mut marks, *change, *steps)? {
+            stuck.push(number as u32)?;
+        }
+    }
+    Ok(stuck)
+}
+
 /// Whether one of so many first steps of the change could never begin.
 fn is_stuck(
     alloc: Global,
@@ -56,7 +79,7 @@ fn is_stuck(
     requires change { change < length script.now }
     requires steps { steps ≤ 2 }
     ensures found { IfOk result (λ stuck. stuck ≡ is_stuck_at script.now (change, steps)) }
-    ensures settled { result ≡ Ok false → AreSettled script.now marks.new }
+    ensures settled { IfOk result (λ _. AreSettled script.now marks.new) }
 {
     for step in 0..steps {
         if !could_begin(alloc, script, marks, Wait { change, step })? {
@@ -66,7 +89,7 @@ fn is_stuck(
     Ok(false)
 }
 
-/// Whether the step could begin. Those that do are marked on the way.
+/// Whether the step could begin. Each step of which that is known then is marked, so that none is on a path twice.
 fn could_begin(
     alloc: Global,
     script: &Script,
@@ -77,10 +100,12 @@ fn could_begin(
     requires settled { AreSettled script.now marks.old }
     requires step { IsPlaced (length script.now) step }
     ensures found { IfOk result (λ begins. begins ≡ could_begin script.now step.change step.step) }
-    ensures settled { result ≡ Ok true → AreSettled script.now marks.new }
+    ensures settled { IfOk result (λ _. AreSettled script.now marks.new) }
 {
-    if marks.get(step) == Mark::Begins {
-        return Ok(true);
+    match marks.get(step) {
+        Mark::Begins => return Ok(true),
+        Mark::Stuck => return Ok(false),
+        Mark::Unseen | Mark::OnPath => {}
     }
     let mut path = Vec::new(alloc);
     path.push(Visit { step, passed: 0 })?;
@@ -91,7 +116,11 @@ fn could_begin(
             continue;
         };
         match marks.get(next) {
-            Mark::OnPath => return Ok(false),
+            Mark::OnPath | Mark::Stuck => {
+                marks.set(visit.step, Mark::Stuck);
+                mark_stuck(marks, &path);
+                return Ok(false);
+            }
             Mark::Begins => {
                 path.push(Visit {
                     step: visit.step,
@@ -109,6 +138,16 @@ fn could_begin(
         }
     }
     Ok(true)
+}
+
+/// Marks the steps of a path of which the last waits for one that could never begin.
+fn mark_stuck(marks: &mut Marks, path: &[Visit])
+    requires { All (λ visit. index_of visit.step < length marks.old) path.now }
+    ensures { marks.new ≡ with_stuck marks.old (map (λ visit. visit.step) path.now) }
+{
+    for visit in path {
+        marks.set(visit.step, Mark::Stuck);
+    }
 }
 
 /// The step of that number among those that a step waits for by what the script says of it, skipped or not: first the one

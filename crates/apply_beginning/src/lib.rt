@@ -5,4 +5,4 @@ mod beginning;
 mod mark;
 mod marks;
 
-pub use beginning::first_stuck;
+pub use beginning::{all_stuck, first_stuck};

@@ -1,7 +1,7 @@
 //! What is known of a step.
 
 /// What is known of a step while it is asked which steps could begin.
-#[derive(Clone, Copy, PartialEq, Eq)]
+#[derive(Clone, Copy)]
 pub enum Mark {
     /// Nothing.
     Unseen,
@@ -9,4 +9,6 @@ pub enum Mark {
     OnPath,
     /// It could begin.
     Begins,
+    /// It could never begin.
+    Stuck,
 }

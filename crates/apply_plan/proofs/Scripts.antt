@@ -5,6 +5,7 @@ pub mod Found
 pub mod Held
 pub mod Kept
 pub mod Limits
+pub mod NeverBeginning
 pub mod Numbers
 pub mod OneEntry
 pub mod Read

@@ -9,6 +9,7 @@ pub mod Entry
 pub mod HashedId
 pub mod Limit
 pub mod Members
+pub mod NeverBeginning
 pub mod NextEntry
 pub mod OutcomeMap
 pub mod OutputView

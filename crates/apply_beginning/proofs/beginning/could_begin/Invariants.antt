@@ -1,4 +1,5 @@
-use Rattle.apply_beginning.proofs.Searching.{IsSearching, left_of}
+use Rattle.apply_beginning.proofs.Left.{left_of}
+use Rattle.apply_beginning.proofs.Searching.{IsSearching}
 use Rattle.apply_beginning.proofs.beginning.could_begin.Given as goal
 
 abbrev pub invariant-loop-visit : goal.invariant-loop-visit

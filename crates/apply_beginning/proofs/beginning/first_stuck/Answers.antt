@@ -21,7 +21,7 @@ loop-number-preserved c =
     let entries = c.args.entries.now in
     let n = c.loop-number.number in
     let entry : ℕ × ℕ = get_or entries n (0, 0) in (
-      c.in_ok-is_stuck.ensures.settled (rw c.if-branch.false refl),
+      c.in_ok-is_stuck.ensures.settled,
       sym (not_here c.args.script.now entries n entry c.loop-number-test.true (get_or_default entries n (0, 0) entry c.loop-number-test.true) (sym c.in_ok-is_stuck.ensures.found ∙ c.if-branch.false)) ∙ c.loop-number.invariant.1,
     )
 

@@ -10,7 +10,7 @@ could_begin-requires-clause-settled c = c.loop-step.invariant.0
 
 pub loop-step-preserved : goal.loop-step-preserved
 loop-step-preserved c =
-    (c.in_ok-could_begin.ensures.settled (rw c.if-not-branch.false refl), none_stuck_more c.args.script.now c.args.change c.loop-step.step c.loop-step.invariant.1 (sym c.if-not-branch.false ∙ c.in_ok-could_begin.ensures.found))
+    (c.in_ok-could_begin.ensures.settled, none_stuck_more c.args.script.now c.args.change c.loop-step.step c.loop-step.invariant.1 (sym c.if-not-branch.false ∙ c.in_ok-could_begin.ensures.found))
 
 pub returns-clause-found : goal.returns-clause-found
 returns-clause-found c =
@@ -18,4 +18,4 @@ returns-clause-found c =
     sym (ap (stuck_below c.args.script.now c.args.change) (sym all) ∙ c.loop-step.invariant.1)
 
 pub returns-clause-settled : goal.returns-clause-settled
-returns-clause-settled c = λ ok. c.loop-step.invariant.0
+returns-clause-settled c = c.loop-step.invariant.0
