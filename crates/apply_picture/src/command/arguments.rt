@@ -4,7 +4,7 @@ ghost use Rattle.std.specs.Prelude.{◌≡◌, None, Some, false, true, IfErr, I
 ghost use Rattle.clap.specs.Matches.{found_of};
 ghost use Rattle.clap.specs.Simple.{App, app_of, with_rule};
 ghost use Rattle.clap.specs.Walk.{Rule, one_of, rows_of as found_rows, rule_of};
-ghost use Rattle.apply_picture.specs.CommandLine.{AreRowsSaid, AreSaid, HaveSaid, IsNumber, IsTextSaid, SayNoSettings, TakesColours, are_beside, colour_of_word, colour_rule, colour_said, command_line, flag_named, is_given, number_named, rows_of_form, width_rule};
+ghost use Rattle.apply_picture.specs.CommandLine.{AreRowsSaid, AreSaid, HaveSaid, IsNumber, IsTextSaid, SayNoSettings, TakesColours, are_beside, colour_of_word, colour_rule, colour_said, command_line, flag_named, is_given, number_named, option_named, rows_of_form, width_rule};
 ghost use Rattle.apply_picture.specs.Usages.{IsWordsOrMemory};
 ghost use Rattle.apply_picture.specs.declared.command.form.Form.TheVariants as form;
 
@@ -126,56 +126,62 @@ fn add<'a>(
     }
 }
 
+/// `--NAME`, and what is said of it.
+fn flag<'a>(alloc: Global, name: &'a str, help: &'a str) -> Arg<'a>
+    ensures { (rule_of result ≡ flag_named name.entry.now) × (result.global ≡ false) }
+{
+    Arg::new(alloc, name)
+        .long(name)
+        .action(ArgAction::SetTrue)
+        .help(help)
+}
+
+/// `--NAME VALUE`, and what is said of it.
+fn option<'a>(alloc: Global, name: &'a str, value: &'a str, help: &'a str) -> Arg<'a>
+    ensures { (rule_of result ≡ option_named name.entry.now) × (result.global ≡ false) }
+{
+    Arg::new(alloc, name)
+        .long(name)
+        .value_name(value)
+        .help(help)
+}
+
 fn svg<'a>(alloc: Global) -> Arg<'a>
     ensures { (rule_of result ≡ flag_named (codes "svg")) × (result.global ≡ false) }
 {
-    Arg::new(alloc, "svg")
-        .long("svg")
-        .action(ArgAction::SetTrue)
-        .help("Draws an SVG in place of a text")
-}
-
-fn rows<'a>(alloc: Global) -> Arg<'a>
-    ensures { (rule_of result ≡ number_named (codes "rows") 1 100000) × (result.global ≡ false) }
-{
-    Arg::new(alloc, "rows")
-        .long("rows")
-        .value_name("N")
-        .value_parser(value_parser!(u32).range(1..=100000))
-        .help("At most so many steps get a row, 1 to 100000; without it 40, with --svg 200")
+    flag(alloc, "svg", "Draws an SVG in place of a text")
 }
 
 fn all<'a>(alloc: Global) -> Arg<'a>
     ensures { (rule_of result ≡ flag_named (codes "all")) × (result.global ≡ false) }
 {
-    Arg::new(alloc, "all")
-        .long("all")
-        .action(ArgAction::SetTrue)
-        .help("Every step gets a row")
+    flag(alloc, "all", "Every step gets a row")
+}
+
+fn rows<'a>(alloc: Global) -> Arg<'a>
+    ensures { (rule_of result ≡ number_named (codes "rows") 1 100000) × (result.global ≡ false) }
+{
+    let help = "At most so many steps get a row, 1 to 100000; without it 40, with --svg 200";
+    option(alloc, "rows", "N", help).value_parser(value_parser!(u32).range(1..=100000))
 }
 
 fn width<'a>(alloc: Global) -> Arg<'a>
     ensures { (rule_of result ≡ width_rule) × (result.global ≡ false) }
 {
-    Arg::new(alloc, "width")
-        .long("width")
-        .value_name("N")
+    let help = "How many columns the text has, 60 to 400";
+    option(alloc, "width", "N", help)
         .value_parser(value_parser!(u32).range(60..=400))
         .default_value("120")
-        .help("How many columns the text has, 60 to 400")
 }
 
 fn color<'a>(alloc: Global) -> Arg<'a>
     ensures { (colours : _) × TakesColours colours × (rule_of result ≡ colour_rule colours) × (result.global ≡ false) }
 {
-    Arg::new(alloc, "color")
-        .long("color")
-        .value_name("WHEN")
+    let help =
+        "When the text has colours; auto is where it goes to a terminal and NO_COLOR is absent or empty";
+    option(alloc, "color", "WHEN", help)
         .value_parser(COLOURS.as_slice())
         .default_value("auto")
-        .help(
-            "When the text has colours; auto is where it goes to a terminal and NO_COLOR is absent or empty",
-        )
 }
 
 /// Whether options stand beside one another that may not.
