@@ -173,7 +173,7 @@ fn holds(rt: &impl Abort, case: &str, is_so: bool) {
 
 /// Fails where the number is another.
 fn number_is(rt: &impl Abort, case: &str, found: usize, wanted: usize) {
-    assert!(rt; found == wanted, "{case}: {found}, not {wanted}");
+    holds(rt, case, found == wanted);
 }
 
 /// Fails where the text is another.
@@ -183,7 +183,7 @@ fn text_is(rt: &impl Abort, case: &str, found: &str, wanted: &str) {
 
 /// Fails where the status is another.
 fn status_is(rt: &impl Abort, case: &str, found: u8, wanted: u8) {
-    assert!(rt; found == wanted, "{case}: {found}, not {wanted}");
+    holds(rt, case, found == wanted);
 }
 
 /// Fails where the status is another, or other texts were printed or said.

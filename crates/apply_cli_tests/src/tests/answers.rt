@@ -21,19 +21,12 @@ fn words_with(rt: &impl Abort, alloc: Global, text: &str) -> Usage {
     Usage::Words(Text::new(alloc, text).expect(rt, "memory"))
 }
 
+/// Help, words that are refused and what stands beside a parallelism are rows of the built program.
 #[test]
 fn each_usage_has_its_answer(rt: HostRuntime) {
     let alloc = rt.alloc();
-    let help = help_with(&rt, alloc, "how it goes\n");
-    answer_is(&rt, alloc, help, 0, "how it goes\n", "");
     let line = version_of(&rt, alloc);
     answer_is(&rt, alloc, Usage::Version, 0, line, "");
-    let words = words_with(&rt, alloc, "error: no\n");
-    answer_is(&rt, alloc, words, 2, "", "error: no\n");
-    let said = "applystream: --parallelism takes no --workers and no --queue beside it\n";
-    answer_is(&rt, alloc, Usage::Beside, 2, "", said);
-    let said = "applystream: more than 32 hooks\n";
-    answer_is(&rt, alloc, Usage::Hooks, 2, "", said);
     let said = "applystream: out of memory\n";
     answer_is(&rt, alloc, Usage::Memory, 3, "", said);
 }
