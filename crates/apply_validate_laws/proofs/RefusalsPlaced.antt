@@ -29,15 +29,15 @@ use Rattle.apply_validate.specs.declared.findings.part.Part.TheVariants.{Item, M
 use Rattle.apply_validate.specs.declared.findings.what.What.TheVariants as what
 use Rattle.apply_validate.specs.Beside.{first_waiting, has_waiting, is_waiting, path_to, place_of_waits, step_waiting, waits_in}
 use Rattle.apply_validate.specs.Findings.{finding_at, finding_here, under}
-use Rattle.apply_validate.specs.Laws.{has_refusal, is_entry, is_script}
+use Rattle.apply_validate_laws.specs.Laws.{has_refusal, is_entry, is_script}
 use Rattle.apply_validate.specs.ScriptFindings.{is_skipped}
 use Rattle.apply_validate.specs.Walks.{items_at}
 use Rattle.apply_validate.specs.Whole.{beside_plan, entry_of_refusal, given_findings, placed, refusals_of, script_findings, unless_waits, waits_at}
-use Rattle.apply_validate.proofs.Alike.{Alike, both_trees, bytes_alike}
-use Rattle.apply_validate.proofs.Clean.{clean}
-use Rattle.apply_validate.proofs.Members.{count_same}
-use Rattle.apply_validate.proofs.Refused.{each_taken, elements_in}
-use Rattle.apply_validate.proofs.Scripts.{clean_bytes, entries_fit, is_script_beside}
+use Rattle.apply_validate_laws.proofs.Alike.{Alike, both_trees, bytes_alike}
+use Rattle.apply_validate_laws.proofs.Clean.{clean}
+use Rattle.apply_validate_laws.proofs.Members.{count_same}
+use Rattle.apply_validate_laws.proofs.Refused.{each_taken, elements_in}
+use Rattle.apply_validate_laws.proofs.Scripts.{clean_bytes, entries_fit, is_script_beside}
 use Rattle.apply_validate_laws.specs.Paths.{ArePlaced}
 use Rattle.apply_validate_laws.specs.Unread.{IsRead}
 use Rattle.apply_validate_laws.proofs.BytesPlaced.{AreTold, both_told, none_told, script_told, told_placed}
