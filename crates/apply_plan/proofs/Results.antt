@@ -1,6 +1,7 @@
 -- Steps that may be refused.
 use Rattle.std.proofs.Common.{◌≡◌, Bool, true, false, cond, Option, Some, None, Result, Ok, Err, refl}
-use Rattle.apply_plan.specs.Results.{◌>>=◌, or_refuse, unless_refused}
+use Rattle.std.specs.Prelude.{◌≢◌, IsErrAnd}
+use Rattle.apply_plan.specs.Results.{◌>>=◌, Gives, or_refuse, unless_refused}
 
 pub bind_ok : {A B E : Type 0} (r : Result A E) (f : A → Result B E) (y : B) → (r >>= f) ≡ Ok y → (x : A) × (r ≡ Ok x) × (f x ≡ Ok y)
 bind_ok (Ok x) f y e = (x, refl, e)
@@ -30,3 +31,8 @@ ok_is x y e = cc
 pub bind_same : {A B E : Type 0} (r : Result A E) (f g : A → Result B E) → ((x : A) → f x ≡ g x) → (r >>= f) ≡ (r >>= g)
 bind_same (Ok x) f g same = same x
 bind_same (Err e) f g same = refl
+
+-- a refusal that is handed on
+pub gives_refusal : {X Y E : Type 0} (memory : E) (view : X → Y) (answer : Result X E) (refusal : E) (defined : Result Y E) → IsErrAnd answer (λ e. e ≡ refusal) → (refusal ≢ memory → defined ≡ Err refusal) → Gives memory view answer defined
+gives_refusal memory view (Ok x) refusal defined never is = absurd never
+gives_refusal memory view (Err e) refusal defined same is = rw same is

@@ -1,18 +1,16 @@
 -- Lemmas on scripts.
-pub mod Beginning
 pub mod Entries
 pub mod Forgotten
 pub mod Found
 pub mod Held
 pub mod Kept
 pub mod Limits
+pub mod NeverBeginning
 pub mod Numbers
 pub mod OneEntry
 pub mod Read
 pub mod Refusals
-pub mod Rounds
 pub mod Slots
-pub mod Stuck
 pub mod Timed
 pub mod TreeSteps
 pub mod Waited

@@ -18,5 +18,5 @@ pub use apply_model::{
 pub use bytes::MAX_BYTES;
 pub use plan::plan_error::PlanError;
 pub use plan::reading::read_plan;
-pub use script::reading::read_script;
+pub use script::reading::{never_beginning, read_script};
 pub use script::script_error::ScriptError;

@@ -1,6 +1,5 @@
 //! How a script of outcomes is read.
 
-pub mod beginning;
 pub mod change_numbers;
 pub mod diag_slots;
 pub mod entries;
@@ -10,8 +9,6 @@ pub mod found_items;
 pub mod hashed_id;
 pub mod limit;
 pub mod list_item;
-pub mod mark;
-pub mod marks;
 pub mod number_or_none;
 pub mod object_text;
 pub mod output_slots;

@@ -4,6 +4,7 @@ ghost use Rattle.std.specs.Prelude.{◌≡◌, true};
 
 mod accepted;
 mod limits;
+mod never_beginning;
 mod outcomes;
 mod own_texts;
 mod plain;

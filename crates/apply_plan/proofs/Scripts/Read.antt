@@ -11,21 +11,22 @@ use Rattle.apply_json.specs.Tree.{list_of, unless_null}
 use Rattle.apply_json.specs.Tree as json
 use Rattle.apply_json.proofs.Held.{member_in}
 use Rattle.apply_model.specs.declared.script.script_step.ScriptStep.{ScriptStep}
-use Rattle.apply_model.specs.Plan.SavedPlan.{SavedPlan, max_changes}
+use Rattle.apply_model.specs.Plan.SavedPlan.{max_changes}
 use Rattle.apply_model.specs.Script.Limits.{max_waits}
-use Rattle.apply_model.specs.Script.OutcomeMap.{OutcomeMap}
 use Rattle.apply_plan.specs.declared.script.entries.Entries.{Entries}
 use Rattle.apply_plan.specs.declared.script.script_error.ScriptError.{ScriptError}
 use Rattle.apply_plan.specs.declared.script.script_error.ScriptError.TheVariants.{BadShape, Memory, NeverBegins}
 use Rattle.apply_plan.specs.ListReading.{items_of, made_after}
 use Rattle.apply_plan.specs.Results.{◌>>=◌, or_refuse, unless_refused}
-use Rattle.apply_plan.specs.Script.Beginning.{is_stuck_at}
+use Rattle.apply_beginning.specs.Stuck.{is_stuck_at, numbers_from}
 use Rattle.apply_plan.specs.Script.EntriesView.{AreNumbersOf, HoldsEntries, KeepsOneMore, entries_in, kind_of}
+use Rattle.apply_plan.specs.Script.NeverBeginning.{elements_of_tree, never_beginning_in}
 use Rattle.apply_plan.specs.Script.NextEntry.{entry_after, entry_beside}
-use Rattle.apply_plan.specs.Script.OutcomeMap.{Said, by_number, script_of_entries, script_of_tree}
-use Rattle.apply_plan.specs.Script.Placed.{ArePlaced}
+use Rattle.apply_plan.specs.Script.OutcomeMap.{Said, by_number, script_of_entries}
+use Rattle.apply_beginning.specs.Placed.{ArePlaced}
 use Rattle.apply_plan.proofs.ListReading.{list_of-items_of, made_more, one_more}
 use Rattle.apply_plan.proofs.Scripts.Entries.{length-by_number}
+use Rattle.apply_plan.proofs.Scripts.NeverBeginning.{made_numbers, refused_numbers}
 use Rattle.apply_plan.proofs.Scripts.WholeList.{entries_one_by_one, made_script, nothing_kept, nothing_said, one_kept, refused_script, said_more, same_entry}
 
 -- ---- the entries
@@ -135,47 +136,64 @@ made_entries entries ds stuck holds none is =
     ∙ made_script plan (items_of ds) entries.said.items entries.waits (length entries.kept.items) holds.made entries.kept.items stuck holds.said holds.kept.kept_is is
     (sym (entries_one_by_one plan.changes (items_of ds)) ∙ holds.so_far (λ want. absurd (let never : None ≡ Some Memory = sym none ∙ want in cc)) ∙ rw none refl)
 
+-- the entries of them that never begin
+pub refused_beginning : (entries : Entries) (ds : List Data) (fault : ScriptError) → HoldsEntries entries ds → entries.fault ≡ Some fault → fault ≢ Memory → never_beginning_in entries.plan.now ds ≡ Err fault
+refused_beginning entries ds fault holds is known =
+    let plan = entries.plan.now in
+    ap (never_beginning_in plan) (sym (list_of-items_of ds))
+    ∙ refused_numbers plan (items_of ds) fault (sym (entries_one_by_one plan.changes (items_of ds)) ∙ holds.so_far (λ want. known (same (sym is ∙ want))) ∙ rw is refl)
+  where
+    same : {x y : ScriptError} → Some x ≡ Some y → x ≡ y
+    same e = cc
+
+pub made_beginning : (entries : Entries) (ds : List Data) (stuck : List ℕ) → HoldsEntries entries ds → entries.fault ≡ None → stuck ≡ numbers_from 0 (is_stuck_at entries.said.items) entries.kept.items
+    → never_beginning_in entries.plan.now ds ≡ Ok stuck
+made_beginning entries ds stuck holds none is =
+    let plan = entries.plan.now in
+    ap (never_beginning_in plan) (sym (list_of-items_of ds))
+    ∙ made_numbers plan (items_of ds) entries.said.items entries.waits (length entries.kept.items) holds.made entries.kept.items stuck holds.said holds.kept.kept_is is
+    (sym (entries_one_by_one plan.changes (items_of ds)) ∙ holds.so_far (λ want. absurd (let never : None ≡ Some Memory = sym none ∙ want in cc)) ∙ rw none refl)
+
 -- ---- the top level
 
-abbrev from_found : SavedPlan → Option Data → Result OutcomeMap ScriptError
-from_found plan found = or_refuse (BadShape None) (json.◌>>=◌ (json.◌>>=◌ found unless_null) as_array) >>= λ elements. script_of_entries plan (list_of elements)
+abbrev from_found : Option Data → Result (List Data) ScriptError
+from_found found = or_refuse (BadShape None) (json.◌>>=◌ (json.◌>>=◌ found unless_null) as_array) >>= λ elements. Ok (list_of elements)
 
-found_at : (plan : SavedPlan) (d : Data) → script_of_tree plan d ≡ from_found plan (get_member (codes "changes") (members_in d))
-unfolding script_of_tree
-found_at plan d = ap (λ (o : Option Data). or_refuse (BadShape None) (json.◌>>=◌ o as_array) >>= λ elements. script_of_entries plan (list_of elements)) (member_in (codes "changes") d)
+found_at : (d : Data) → elements_of_tree d ≡ from_found (get_member (codes "changes") (members_in d))
+found_at d = ap (λ (o : Option Data). or_refuse (BadShape None) (json.◌>>=◌ o as_array) >>= λ elements. Ok (list_of elements)) (member_in (codes "changes") d)
 
-from_list : (plan : SavedPlan) (o : Option Data) → kind.List ≡ kind_of o → from_found plan o ≡ script_of_entries plan (entries_in o)
-from_list plan None is = absurd cc
-from_list plan (Some null) is = absurd cc
-from_list plan (Some (boolean b)) is = absurd cc
-from_list plan (Some (number n)) is = absurd cc
-from_list plan (Some (string s)) is = absurd cc
-from_list plan (Some (array ds)) is = refl
-from_list plan (Some (object ms)) is = absurd cc
+from_list : (o : Option Data) → kind.List ≡ kind_of o → from_found o ≡ Ok (entries_in o)
+from_list None is = absurd cc
+from_list (Some null) is = absurd cc
+from_list (Some (boolean b)) is = absurd cc
+from_list (Some (number n)) is = absurd cc
+from_list (Some (string s)) is = absurd cc
+from_list (Some (array ds)) is = refl
+from_list (Some (object ms)) is = absurd cc
 
-from_absent : (plan : SavedPlan) (o : Option Data) → kind.Absent ≡ kind_of o → from_found plan o ≡ Err (BadShape None)
-from_absent plan None is = refl
-from_absent plan (Some null) is = refl
-from_absent plan (Some (boolean b)) is = refl
-from_absent plan (Some (number n)) is = refl
-from_absent plan (Some (string s)) is = refl
-from_absent plan (Some (array ds)) is = absurd cc
-from_absent plan (Some (object ms)) is = refl
+from_absent : (o : Option Data) → kind.Absent ≡ kind_of o → from_found o ≡ Err (BadShape None)
+from_absent None is = refl
+from_absent (Some null) is = refl
+from_absent (Some (boolean b)) is = refl
+from_absent (Some (number n)) is = refl
+from_absent (Some (string s)) is = refl
+from_absent (Some (array ds)) is = absurd cc
+from_absent (Some (object ms)) is = refl
 
-from_other : (plan : SavedPlan) (o : Option Data) → kind.Other ≡ kind_of o → from_found plan o ≡ Err (BadShape None)
-from_other plan None is = refl
-from_other plan (Some null) is = refl
-from_other plan (Some (boolean b)) is = refl
-from_other plan (Some (number n)) is = refl
-from_other plan (Some (string s)) is = refl
-from_other plan (Some (array ds)) is = absurd cc
-from_other plan (Some (object ms)) is = refl
+from_other : (o : Option Data) → kind.Other ≡ kind_of o → from_found o ≡ Err (BadShape None)
+from_other None is = refl
+from_other (Some null) is = refl
+from_other (Some (boolean b)) is = refl
+from_other (Some (number n)) is = refl
+from_other (Some (string s)) is = refl
+from_other (Some (array ds)) is = absurd cc
+from_other (Some (object ms)) is = refl
 
-pub script_of_list : (plan : SavedPlan) (d : Data) → kind.List ≡ kind_of (get_member (codes "changes") (members_in d)) → script_of_tree plan d ≡ script_of_entries plan (entries_in (get_member (codes "changes") (members_in d)))
-script_of_list plan d is = found_at plan d ∙ from_list plan _ is
+pub elements_of_list : (d : Data) → kind.List ≡ kind_of (get_member (codes "changes") (members_in d)) → elements_of_tree d ≡ Ok (entries_in (get_member (codes "changes") (members_in d)))
+elements_of_list d is = found_at d ∙ from_list _ is
 
-pub script_of_absent : (plan : SavedPlan) (d : Data) → kind.Absent ≡ kind_of (get_member (codes "changes") (members_in d)) → script_of_tree plan d ≡ Err (BadShape None)
-script_of_absent plan d is = found_at plan d ∙ from_absent plan _ is
+pub elements_of_absent : (d : Data) → kind.Absent ≡ kind_of (get_member (codes "changes") (members_in d)) → elements_of_tree d ≡ Err (BadShape None)
+elements_of_absent d is = found_at d ∙ from_absent _ is
 
-pub script_of_other : (plan : SavedPlan) (d : Data) → kind.Other ≡ kind_of (get_member (codes "changes") (members_in d)) → script_of_tree plan d ≡ Err (BadShape None)
-script_of_other plan d is = found_at plan d ∙ from_other plan _ is
+pub elements_of_other : (d : Data) → kind.Other ≡ kind_of (get_member (codes "changes") (members_in d)) → elements_of_tree d ≡ Err (BadShape None)
+elements_of_other d is = found_at d ∙ from_other _ is

@@ -25,7 +25,7 @@ use Rattle.apply_plan.specs.Results.{unless_refused}
 use Rattle.apply_plan.specs.Script.ChangeNumbers.{number_of}
 use Rattle.apply_plan.specs.Script.NextEntry.{count_waits, entry_after}
 use Rattle.apply_plan.specs.Script.OutcomeMap.{Said, by_number, said_of}
-use Rattle.apply_plan.specs.Script.Placed.{ArePlaced}
+use Rattle.apply_beginning.specs.Placed.{ArePlaced}
 
 -- what is said of each change has a property
 abbrev pub Says : (List ScriptStep → Type 0) → List Said → Type 0

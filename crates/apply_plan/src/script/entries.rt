@@ -6,13 +6,14 @@ ghost use Rattle.apply_model.specs.Script.Limits.{max_waits};
 ghost use Rattle.apply_plan.specs.Results.{Gives};
 ghost use Rattle.apply_plan.specs.Script.Entry.{is_kept};
 ghost use Rattle.apply_plan.specs.Script.EntriesView.{AreCovered, HoldsEntries, KeepsOneMore};
+ghost use Rattle.apply_plan.specs.Script.NeverBeginning.{never_beginning_in};
 ghost use Rattle.apply_plan.specs.Script.OutcomeMap.{by_number, script_of_entries};
 
-use crate::script::beginning::first_stuck;
 use crate::script::change_numbers::ChangeNumbers;
 use crate::script::said::said_by_entry;
 use crate::script::script_error::ScriptError;
 use crate::script::tree_entry::TreeEntry;
+use apply_beginning::{all_stuck, first_stuck};
 use apply_json::{KeepingCollector, ReadFault, Reader, pass};
 use apply_model::{Plan, Script, StepOutcomes};
 use std::alloc::{AllocError, Global};
@@ -87,6 +88,19 @@ impl<'a> Entries<'a> {
             Some(number) => Err(ScriptError::NeverBegins(number)),
             None => Ok(script),
         }
+    }
+
+    /// The numbers of the entries that have a step which could never begin.
+    pub fn never_beginning(self, alloc: Global) -> Result<Vec<u32>, ScriptError>
+        requires { (ds : List Data) × HoldsEntries self ds }
+        ensures { (ds : List Data) → HoldsEntries self.entry ds → Gives ScriptError.Memory (λ numbers. numbers.items) result
+            (never_beginning_in self.entry.plan.now ds) }
+    {
+        if let Some(fault) = self.fault {
+            return Err(fault);
+        }
+        let script = Script::new(self.said);
+        Ok(all_stuck(alloc, &script, self.plan.len(), &self.kept)?)
     }
 }
 

@@ -1,11 +1,16 @@
 //! Reading a script.
 
-ghost use Rattle.std.specs.Prelude.{◌≡◌, ◌≤◌, length};
+ghost use Rattle.std.specs.Prelude.{◌≡◌, ◌≢◌, ◌≤◌, IfErr, IfOk, List, Ok, length};
+ghost use Rattle.std.specs.Result.{result_err};
+ghost use Rattle.serde_json.specs.Data.{Data};
 ghost use Rattle.apply_plan.specs.Bytes.{max_bytes};
 ghost use Rattle.apply_plan.specs.Results.{Gives};
+ghost use Rattle.apply_plan.specs.Script.EntriesView.{HoldsEntries};
+ghost use Rattle.apply_plan.specs.Script.NeverBeginning.{elements_in, never_beginning_of, refusal_of};
 ghost use Rattle.apply_plan.specs.Script.OutcomeMap.{script_of};
 
 use crate::bytes::MAX_BYTES;
+use crate::script::entries::Entries;
 use crate::script::script_error::ScriptError;
 use crate::script::script_slots::ScriptSlots;
 use apply_json::{JsonFault, Listed, Scratch, read_kept_slots};
@@ -18,19 +23,47 @@ use std::alloc::Global;
 /// Members that are not known are ignored, `null` counts as absent, and of a member that stands twice the last counts.
 /// The answer is the script, or the refusal that [`ScriptError`] describes; want of memory is answered where it is met,
 /// and never for a script that is too large.
-#[tactic(auto, unfolding(crate::specs::Script::OutcomeMap::script_of))]
 pub fn read_script(alloc: Global, bytes: &[u8], plan: &Plan) -> Result<Script, ScriptError>
     ensures defined { Gives ScriptError.Memory (λ script. script) result
         (script_of plan.now bytes.now) }
     ensures memory { result ≡ Err ScriptError.Memory → length bytes.now ≤ max_bytes }
 {
+    let mut scratch = Scratch::new(alloc);
+    read_entries(alloc, &mut scratch, bytes, plan)?.script(alloc)
+}
+
+/// The numbers of all entries of a script that have a step which could never begin, where it has no other fault: none
+/// where it is a script. [`read_script`] names the first of them alone.
+///
+/// The bytes are read as [`read_script`] reads them, and each other fault is refused as there.
+pub fn never_beginning(alloc: Global, bytes: &[u8], plan: &Plan) -> Result<Vec<u32>, ScriptError>
+    ensures defined { Gives ScriptError.Memory (λ numbers. numbers.items) result
+        (never_beginning_of plan.now bytes.now) }
+    ensures first { result_err (script_of plan.now bytes.now) ≡ refusal_of (never_beginning_of plan.now bytes.now) }
+    ensures memory { result ≡ Err ScriptError.Memory → length bytes.now ≤ max_bytes }
+{
+    let mut scratch = Scratch::new(alloc);
+    read_entries(alloc, &mut scratch, bytes, plan)?.never_beginning(alloc)
+}
+
+/// Reads the entries of a script, up to the first that has a fault.
+fn read_entries<'a>(
+    alloc: Global,
+    scratch: &'a mut Scratch,
+    bytes: &'a [u8],
+    plan: &'a Plan,
+) -> Result<Entries<'a>, ScriptError>
+    ensures ok { IfOk result (λ entries. (entries.plan ≡ plan.entry)
+        × (ds : List Data) × (elements_in bytes.now ≡ Ok ds) × HoldsEntries entries ds) }
+    ensures err { IfErr result (λ refusal. refusal ≢ ScriptError.Memory → elements_in bytes.now ≡ Err refusal) }
+    ensures memory { result ≢ Err ScriptError.TooLarge → length bytes.now ≤ max_bytes }
+{
     if bytes.len() > MAX_BYTES {
         return Err(ScriptError::TooLarge);
     }
-    let mut scratch = Scratch::new(alloc);
     let mut slots = ScriptSlots::new(alloc, plan)?;
-    match read_kept_slots(alloc, &mut scratch, bytes, MAX_BYTES, &mut slots) {
-        Ok(()) => slots.script(alloc),
+    match read_kept_slots(alloc, scratch, bytes, MAX_BYTES, &mut slots) {
+        Ok(()) => slots.entries(),
         Err(JsonFault::TooLarge) => Err(ScriptError::TooLarge),
         Err(JsonFault::NotJson) => Err(ScriptError::NotJson),
         Err(JsonFault::Memory) => Err(ScriptError::Memory),

@@ -11,7 +11,7 @@ ghost use Rattle.apply_plan.specs.Plan.SeenObjects.{is_of};
 ghost use Rattle.apply_plan.specs.Script.ChangeNumbers.{number_of};
 ghost use Rattle.apply_plan.specs.Script.Entry.{entry_of};
 ghost use Rattle.apply_plan.specs.Script.NextEntry.{entry_beside, steps_or_fault, said_view};
-ghost use Rattle.apply_plan.specs.Script.Placed.{ArePlaced, IsPlaced};
+ghost use Rattle.apply_beginning.specs.Placed.{ArePlaced, IsPlaced};
 ghost use Rattle.apply_plan.specs.Script.TreeView.{entry_step_view, entry_view, step_view, tree_waits};
 
 use crate::plan::object_id::ObjectId;

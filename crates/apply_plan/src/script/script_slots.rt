@@ -1,18 +1,17 @@
 //! What is kept of the top level of a script.
 
-ghost use Rattle.std.specs.Prelude.{◌≡◌, IfOk};
-ghost use Rattle.serde_json.specs.Data.{Data, Members, no_members};
+ghost use Rattle.std.specs.Prelude.{◌≡◌, IfErr, IfOk, List, Ok};
+ghost use Rattle.serde_json.specs.Data.{Data, no_members};
 ghost use Rattle.apply_json.specs.Seen.{members_in};
-ghost use Rattle.apply_plan.specs.Results.{Gives};
 ghost use Rattle.apply_plan.specs.Script.Entry.{is_kept};
-ghost use Rattle.apply_plan.specs.Script.EntriesView.{HoldsScript};
-ghost use Rattle.apply_plan.specs.Script.OutcomeMap.{script_of_tree};
+ghost use Rattle.apply_plan.specs.Script.EntriesView.{HoldsEntries, HoldsScript};
+ghost use Rattle.apply_plan.specs.Script.NeverBeginning.{elements_of_tree};
 
 use crate::script::entries::Entries;
 use crate::script::script_error::ScriptError;
 use crate::text_test::is_text;
 use apply_json::{KeepingSlots, Listed, ReadFault, Reader, pass, read_kept_list};
-use apply_model::{Plan, Script};
+use apply_model::Plan;
 use std::alloc::{AllocError, Global};
 
 /// The top level of a script.
@@ -34,14 +33,15 @@ impl<'a> ScriptSlots<'a> {
         })
     }
 
-    /// The script that the members make.
-    pub fn script(self, alloc: Global) -> Result<Script, ScriptError>
-        requires { (ms : Members) × HoldsScript self ms }
-        ensures { (d : Data) → HoldsScript self.entry (members_in d) → Gives ScriptError.Memory (λ script. script) result
-            (script_of_tree self.entry.entries.plan.now d) }
+    /// The entries that the members hold.
+    pub fn entries(self) -> Result<Entries<'a>, ScriptError>
+        ensures ok { IfOk result (λ entries. (entries.plan ≡ self.entry.entries.plan) × ((d : Data)
+            → HoldsScript self.entry (members_in d) → (ds : List Data) × (elements_of_tree d ≡ Ok ds) × HoldsEntries entries ds)) }
+        ensures err { IfErr result (λ refusal. (d : Data)
+            → HoldsScript self.entry (members_in d) → elements_of_tree d ≡ Err refusal) }
     {
         match self.changes {
-            Listed::List => self.entries.script(alloc),
+            Listed::List => Ok(self.entries),
             Listed::Absent | Listed::Other => Err(ScriptError::BadShape(None)),
         }
     }

@@ -5,7 +5,7 @@ ghost use Rattle.std.specs.List.{enumerate_from};
 ghost use Rattle.apply_model.specs.Script.Limits.{max_waits};
 ghost use Rattle.apply_plan.specs.Plan.SeenObjects.{is_of};
 ghost use Rattle.apply_plan.specs.Script.ChangeNumbers.{number_of};
-ghost use Rattle.apply_plan.specs.Script.Placed.{IsPlaced};
+ghost use Rattle.apply_beginning.specs.Placed.{IsPlaced};
 ghost use Rattle.apply_plan.specs.Script.TreeView.{waits_view};
 
 use crate::plan::object_id::ObjectId;

@@ -1,0 +1,5 @@
+pub mod Left
+pub mod Marked
+pub mod Rounds
+pub mod Searching
+pub mod Stuck
