@@ -28,6 +28,7 @@ pub mod ScriptsPlaced
 pub mod ScriptsWarn
 pub mod Spelt
 pub mod Steps
+pub mod StuckTold
 pub mod Taken
 pub mod Wanted
 pub mod Warned

@@ -24,6 +24,7 @@ use Rattle.apply_plan.specs.declared.script.script_error.ScriptError.TheVariants
 use Rattle.apply_plan.specs.Results as results
 use Rattle.apply_plan.specs.Results.{all_or_first, each_with_earlier, or_refuse, unless_refused}
 use Rattle.apply_plan.specs.Script.Entry.{Entry, EntryStep, entry_of, is_kept}
+use Rattle.apply_plan.specs.Script.NeverBeginning.{never_beginning_of}
 use Rattle.apply_plan.specs.Script.OutcomeMap.{Said, by_number, change_of_entry, count_in, elements_of, entry_at, is_stuck, names_change, said_by, script_of, script_of_entries, script_of_tree, unless_stuck}
 use Rattle.apply_plan.specs.Script.Refusals.{fault_of_entry, fault_of_steps, fault_of_waits}
 use Rattle.apply_validate.specs.declared.findings.finding.Finding.{Finding}
@@ -38,7 +39,7 @@ use Rattle.apply_validate_laws.specs.Laws.{goes_through, has_refusal, has_refusa
 use Rattle.apply_validate.specs.PlanFindings.{first_named, name_read}
 use Rattle.apply_validate.specs.ScriptFindings.{in_entry_behind, in_script, script_names}
 use Rattle.apply_validate.specs.Walks.{fault_of, items_at, items_behind, known, unread}
-use Rattle.apply_validate.specs.Whole.{beside_plan, entry_of_refusal, given_findings, refusals_of, refused_for, script_findings}
+use Rattle.apply_validate.specs.Whole.{behind_first, beside_plan, entry_of_refusal, given_findings, refusals_of, refused_for, script_findings, stuck_entries}
 use Rattle.apply_validate_laws.proofs.Alike.{Alike, AlikeItems, AreAlike, both_trees, bytes_alike, member_alike, object_alike}
 use Rattle.apply_validate_laws.proofs.Besides.{all_waits_same, name_same}
 use Rattle.apply_validate_laws.proofs.Clean.{clean}
@@ -315,7 +316,7 @@ stuck_at script (Some m) refusal n e same named =
 placed_in : (n : ℕ) → has_refusal_in n (refused_for (NeverBegins n)) ≡ true
 placed_in n = rw (same_number n) refl
 
-whole_clean : (plan : SavedPlan) (bytes : List ℕ) (k : Data) (es : Items) → nat_lt max_bytes (length bytes) ≡ false → keeping_tree_of is_kept bytes ≡ Some k → elements_of k ≡ Some es
+pub whole_clean : (plan : SavedPlan) (bytes : List ℕ) (k : Data) (es : Items) → nat_lt max_bytes (length bytes) ≡ false → keeping_tree_of is_kept bytes ≡ Some k → elements_of k ≡ Some es
     → is_ok (all_or_first (each_with_earlier (entry_at plan.changes) (list_of es))) ≡ true → has_refusal (script_findings (Some plan.changes) bytes) ≡ false
 whole_clean plan bytes k es small kept elements taken =
     let fits : (list_all is_entry (list_of es) && entries_fit (Some plan.changes) [] (list_of es)) ≡ true = sym (each_taken plan (list_of es)) ∙ taken in
@@ -335,9 +336,10 @@ by_entries lanes plan bytes refusal n k es is named small kept elements (Err x) 
 by_entries lanes plan bytes refusal n k es is named small kept elements (Ok entries) all e =
     let none : has_refusal (script_findings (Some plan.changes) bytes) ≡ false = whole_clean plan bytes k es small kept elements (ap (λ r. is_ok r) all) in
     let stuck : NeverBegins n ≡ refusal = stuck_at (by_number (length plan.changes) entries) (position_from (is_stuck (by_number (length plan.changes) entries)) 0 entries) refusal n e refl named in
-    let told : beside_plan lanes plan bytes ≡ refused_for refusal = rw none (ap (refusals_of lanes bytes) is) in
+    let others : List Finding = stuck_entries (behind_first (never_beginning_of plan bytes)) in
+    let told : beside_plan lanes plan bytes ≡ refused_for refusal ++ others = rw none (ap (λ (q : Result OutcomeMap ScriptError). refusals_of lanes bytes q (never_beginning_of plan bytes)) is) in
     any_right (through n) (script_findings (Some plan.changes) bytes) (beside_plan lanes plan bytes)
-    (ap (has_refusal_in n) (told ∙ ap refused_for (sym stuck)) ∙ placed_in n)
+    (ap (has_refusal_in n) told ∙ any_left (through n) (refused_for refusal) others (ap (λ (r : ScriptError). has_refusal_in n (refused_for r)) (sym stuck) ∙ placed_in n))
 
 of_entries : (lanes : Bool) (plan : SavedPlan) (bytes : List ℕ) (refusal : ScriptError) (n : ℕ) (k : Data) (es : Items) → script_of plan bytes ≡ Err refusal → entry_of_refusal refusal ≡ Some n → nat_lt max_bytes (length bytes) ≡ false → keeping_tree_of is_kept bytes ≡ Some k
     → elements_of k ≡ Some es → script_of_entries plan (list_of es) ≡ Err refusal
