@@ -3,7 +3,6 @@ pub mod Extras
 pub mod Findings
 pub mod FirstNamed
 pub mod InForm
-pub mod Laws
 pub mod Names
 pub mod Near
 pub mod ObjectNames

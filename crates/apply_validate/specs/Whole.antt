@@ -1,6 +1,6 @@
 -- What is found in bytes.
-use Rattle.std.specs.Prelude.{ℕ, List, [], ◌∷◌, ◌++◌, length, map, Bool, ◌&&◌, not, nat_lt, if◌then◌else◌, Option, Some, None, option_map, Result, Ok, Err}
-use Rattle.std.specs.List.{list_any}
+use Rattle.std.specs.Prelude.{ℕ, List, [], ◌∷◌, ◌++◌, drop, length, map, Bool, ◌&&◌, not, nat_lt, if◌then◌else◌, Option, Some, None, option_map, Result, Ok, Err}
+use Rattle.std.specs.List.{flat_map, list_any}
 use Rattle.std.specs.Option.{option_map_or}
 use Rattle.serde_json.specs.Data.{Data}
 use Rattle.apply_json.specs.Tree.{tree_of}
@@ -12,6 +12,7 @@ use Rattle.apply_plan.specs.Bytes.{max_bytes}
 use Rattle.apply_plan.specs.declared.plan.plan_error.PlanError.{PlanError}
 use Rattle.apply_plan.specs.declared.script.script_error.ScriptError.{ScriptError}
 use Rattle.apply_plan.specs.declared.script.script_error.ScriptError.TheVariants as error
+use Rattle.apply_plan.specs.Script.NeverBeginning.{never_beginning_of}
 use Rattle.apply_plan.specs.Script.OutcomeMap.{script_of}
 use Rattle.apply_validate.specs.declared.findings.finding.Finding.{Finding}
 use Rattle.apply_validate.specs.declared.findings.what.What.{What}
@@ -77,14 +78,25 @@ waits_at bytes = if nat_lt max_bytes (length bytes) then [] else option_map_or p
 abbrev pub unless_waits : (lanes : Bool) → List ℕ → OutcomeMap → List Finding
 unless_waits lanes bytes script = if not lanes && has_waits script then record { path = waits_at bytes; what = Waits } ∷ [] else []
 
-abbrev pub refusals_of : (lanes : Bool) → List ℕ → Result OutcomeMap ScriptError → List Finding
-refusals_of lanes bytes (Ok script) = unless_waits lanes bytes script
-refusals_of lanes bytes (Err refusal) = refused_for refusal
+-- each of these entries has a step that could never begin
+abbrev pub stuck_entries : List ℕ → List Finding
+stuck_entries numbers = flat_map (λ n. refused_for (error.NeverBegins n)) numbers
+
+-- those behind the first, for which a run refuses the script
+abbrev pub behind_first : Result (List ℕ) ScriptError → List ℕ
+behind_first (Ok numbers) = drop 1 numbers
+behind_first (Err refusal) = []
+
+-- what a run refuses a script for, and each further entry that has a step which could never begin
+abbrev pub refusals_of : (lanes : Bool) → List ℕ → Result OutcomeMap ScriptError → (stuck : Result (List ℕ) ScriptError) → List Finding
+refusals_of lanes bytes (Ok script) stuck = unless_waits lanes bytes script
+refusals_of lanes bytes (Err refusal) stuck = refused_for refusal ++ stuck_entries (behind_first stuck)
 
 -- what a run refuses a script for in which nothing else is found
 abbrev pub beside_plan : (lanes : Bool) → SavedPlan → List ℕ → List Finding
 beside_plan lanes plan bytes =
-    if list_any is_refusal (script_findings (Some plan.changes) bytes) then [] else refusals_of lanes bytes (script_of plan bytes)
+    if list_any is_refusal (script_findings (Some plan.changes) bytes) then []
+    else refusals_of lanes bytes (script_of plan bytes) (never_beginning_of plan bytes)
 
 -- what is found in a script for a plan that may be refused
 abbrev pub script_findings_for : (lanes : Bool) → Result SavedPlan PlanError → List ℕ → List Finding

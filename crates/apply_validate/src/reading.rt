@@ -4,11 +4,12 @@ ghost use Rattle.std.specs.Prelude.{◌≡◌, ◌++◌, [], IfOk, None, Some, i
 ghost use Rattle.std.specs.Option.{option_copied};
 ghost use Rattle.serde_json.specs.View.{view};
 ghost use Rattle.apply_plan.specs.Plan.SavedPlan.{plan_of};
+ghost use Rattle.apply_plan.specs.Script.NeverBeginning.{never_beginning_of};
 ghost use Rattle.apply_plan.specs.Script.OutcomeMap.{script_of};
 ghost use Rattle.apply_validate.specs.Findings.{told};
 ghost use Rattle.apply_validate.specs.InForm.{findings_in};
 ghost use Rattle.apply_validate.specs.ScriptFindings.{in_script};
-ghost use Rattle.apply_validate.specs.Whole.{beside_plan, changes_in, entry_of_refusal, given_findings, plan_findings, refusals_of, refused_for, script_findings, script_findings_for, unless_waits, waits_at};
+ghost use Rattle.apply_validate.specs.Whole.{behind_first, beside_plan, changes_in, entry_of_refusal, given_findings, plan_findings, refusals_of, refused_for, script_findings, script_findings_for, stuck_entries, unless_waits, waits_at};
 
 use crate::beside::planned::Planned;
 use crate::beside::waiting::place_of_waits;
@@ -22,7 +23,9 @@ use crate::form::Form;
 use crate::plan::top_level::walk_plan;
 use crate::script::top_level::walk_script;
 use apply_json::{JsonFault, parse};
-use apply_plan::{MAX_BYTES, Plan, PlanError, Script, ScriptError, read_plan, read_script};
+use apply_plan::{
+    MAX_BYTES, Plan, PlanError, Script, ScriptError, never_beginning, read_plan, read_script,
+};
 use serde_json::Value;
 use std::alloc::{AllocError, Global};
 
@@ -158,7 +161,8 @@ fn beside_plan(
     bytes: &[u8],
     lanes: bool,
 ) -> Result<Findings, AllocError>
-    ensures { IfOk result (λ f. f ≡ told (if is_refused then [] else refusals_of lanes bytes.now (script_of plan.now bytes.now))) }
+    ensures { IfOk result (λ f. f ≡ told (if is_refused then []
+        else refusals_of lanes bytes.now (script_of plan.now bytes.now) (never_beginning_of plan.now bytes.now))) }
 {
     if is_refused {
         return Ok(Findings::none(alloc));
@@ -166,8 +170,47 @@ fn beside_plan(
     match read_script(alloc, bytes, plan) {
         Ok(script) => unless_waits(alloc, lanes, bytes, &script),
         Err(ScriptError::Memory) => Err(AllocError),
-        Err(refusal) => refused_for(alloc, refusal),
+        Err(refusal) => refused_with(alloc, refusal, plan, bytes),
     }
+}
+
+/// What a run refuses a script for, and behind it each further entry that has a step which could never begin.
+fn refused_with(
+    alloc: Global,
+    refusal: ScriptError,
+    plan: &Plan,
+    bytes: &[u8],
+) -> Result<Findings, AllocError>
+    ensures { IfOk result (λ f. f ≡ told (refused_for refusal ++ stuck_entries (behind_first (never_beginning_of plan.now bytes.now)))) }
+{
+    let first = refused_for(alloc, refusal)?;
+    let others = stuck_behind_first(alloc, plan, bytes)?;
+    first.then(others)
+}
+
+/// Each entry that has a step which could never begin, but for the first.
+fn stuck_behind_first(alloc: Global, plan: &Plan, bytes: &[u8]) -> Result<Findings, AllocError>
+    ensures { IfOk result (λ f. f ≡ told (stuck_entries (behind_first (never_beginning_of plan.now bytes.now)))) }
+{
+    match never_beginning(alloc, bytes, plan) {
+        Ok(numbers) => match numbers.as_slice() {
+            [_, others @ ..] => stuck_entries(alloc, others),
+            [] => Ok(Findings::none(alloc)),
+        },
+        Err(ScriptError::Memory) => Err(AllocError),
+        Err(_) => Ok(Findings::none(alloc)),
+    }
+}
+
+/// That each of these entries has a step which could never begin.
+fn stuck_entries(alloc: Global, numbers: &[u32]) -> Result<Findings, AllocError>
+    ensures { IfOk result (λ f. f ≡ told (stuck_entries numbers.now)) }
+{
+    let mut all = Findings::none(alloc);
+    for number in numbers {
+        all = all.then(refused_for(alloc, ScriptError::NeverBegins(*number))?)?;
+    }
+    Ok(all)
 }
 
 /// That a script has waits, which take lanes, where the first step stands that waits.

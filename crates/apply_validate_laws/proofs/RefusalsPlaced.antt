@@ -1,13 +1,14 @@
 -- What a run refuses a script for beside the plan is told in its place.
-use Rattle.std.proofs.Common.{◌≡◌, ℕ, suc, ◌+◌, ◌<◌, List, [], ◌∷◌, length, map, take, Bool, true, false, cond, not, ◌&&◌, is_ok, is_some, slice_get, Option, Some, None, Result, Ok, Err, unwrap_or, if◌then◌else◌, refl, sym, ap, subst, ◌∙◌, arith}
+use Rattle.std.proofs.Common.{◌≡◌, ℕ, suc, ◌+◌, ◌<◌, ◌≤◌, List, [], ◌∷◌, drop, length, map, take, Bool, true, false, cond, not, ◌&&◌, is_ok, is_some, slice_get, Option, Some, None, Result, Ok, Err, tt, unwrap_or, if◌then◌else◌, refl, sym, ap, subst, ◌∙◌, arith}
 use Rattle.std.specs.Prelude.{codes, nat_lt}
-use Rattle.std.specs.List.{enumerate_from, list_all, position_from}
+use Rattle.std.specs.List.{AllByRecursion, enumerate_from, list_all, position_from}
 use Rattle.std.specs.Option.{option_and_then, option_map, option_map_or}
 use Rattle.std.proofs.lemmas.Bool.{and_from, and_parts}
 use Rattle.std.proofs.lemmas.List.{length-map}
 use Rattle.std.proofs.lemmas.List.FromFn.{length-enumerate_from}
 use Rattle.std.proofs.lemmas.Option.{slice_get_within}
 use Rattle.serde_json.specs.Data.{Data, Items}
+use Rattle.apply_beginning.specs.Stuck.{numbers_from}
 use Rattle.apply_json.specs.Keeping.{keeping_tree_of}
 use Rattle.apply_json.specs.Tree.{list_of, member_of, tree_of}
 use Rattle.apply_model.specs.Plan.SavedPlan.{SavedPlan}
@@ -20,6 +21,7 @@ use Rattle.apply_plan.specs.declared.script.script_error.ScriptError.TheVariants
 use Rattle.apply_plan.specs.Results as results
 use Rattle.apply_plan.specs.Results.{all_or_first, each_with_earlier, or_refuse, unless_refused}
 use Rattle.apply_plan.specs.Script.Entry.{is_kept}
+use Rattle.apply_plan.specs.Script.NeverBeginning.{never_beginning_in, never_beginning_of}
 use Rattle.apply_plan.specs.Script.OutcomeMap.{Said, by_number, elements_of, entry_at, is_stuck, script_of, script_of_entries, script_of_tree, unless_stuck}
 use Rattle.apply_validate.specs.declared.findings.finding.Finding.{Finding}
 use Rattle.apply_validate.specs.declared.findings.name.Name.{Name}
@@ -29,15 +31,15 @@ use Rattle.apply_validate.specs.declared.findings.part.Part.TheVariants.{Item, M
 use Rattle.apply_validate.specs.declared.findings.what.What.TheVariants as what
 use Rattle.apply_validate.specs.Beside.{first_waiting, has_waiting, is_waiting, path_to, place_of_waits, step_waiting, waits_in}
 use Rattle.apply_validate.specs.Findings.{finding_at, finding_here, under}
-use Rattle.apply_validate.specs.Laws.{has_refusal, is_entry, is_script}
+use Rattle.apply_validate_laws.specs.Laws.{has_refusal, is_entry, is_script}
 use Rattle.apply_validate.specs.ScriptFindings.{is_skipped}
 use Rattle.apply_validate.specs.Walks.{items_at}
-use Rattle.apply_validate.specs.Whole.{beside_plan, entry_of_refusal, given_findings, placed, refusals_of, script_findings, unless_waits, waits_at}
-use Rattle.apply_validate.proofs.Alike.{Alike, both_trees, bytes_alike}
-use Rattle.apply_validate.proofs.Clean.{clean}
-use Rattle.apply_validate.proofs.Members.{count_same}
-use Rattle.apply_validate.proofs.Refused.{each_taken, elements_in}
-use Rattle.apply_validate.proofs.Scripts.{clean_bytes, entries_fit, is_script_beside}
+use Rattle.apply_validate.specs.Whole.{behind_first, beside_plan, entry_of_refusal, given_findings, placed, refusals_of, refused_for, script_findings, stuck_entries, unless_waits, waits_at}
+use Rattle.apply_validate_laws.proofs.Alike.{Alike, both_trees, bytes_alike}
+use Rattle.apply_validate_laws.proofs.Clean.{clean}
+use Rattle.apply_validate_laws.proofs.Members.{count_same}
+use Rattle.apply_validate_laws.proofs.Refused.{each_taken, elements_in}
+use Rattle.apply_validate_laws.proofs.Scripts.{clean_bytes, entries_fit, is_script_beside}
 use Rattle.apply_validate_laws.specs.Paths.{ArePlaced}
 use Rattle.apply_validate_laws.specs.Unread.{IsRead}
 use Rattle.apply_validate_laws.proofs.BytesPlaced.{AreTold, both_told, none_told, script_told, told_placed}
@@ -130,6 +132,10 @@ kept_elements : (test : Items → Bool) (o : Option Items) → option_map_or tes
 kept_elements test None e = absurd cc
 kept_elements test (Some es) e = (es, refl, e)
 
+-- each number is below that one
+abbrev AreBelow : ℕ → List ℕ → Type 0
+AreBelow m numbers = AllByRecursion (λ n. n < m) numbers
+
 ok_is : {A E : Type 0} (x y : A) → (let r : Result A E = Ok x in r) ≡ Ok y → x ≡ y
 ok_is x y e = cc
 
@@ -178,6 +184,51 @@ no_tree plan bytes tree none =
     let never : false ≡ true = sym (ap (λ (o : Option Data). is_some o) tree) ∙ both_trees bytes ∙ ap (λ (o : Option Data). is_some o) kept.2 in
     absurd cc
 
+-- the numbers of those that pass a test are below the end of the list
+number_below : (b : Bool) (first m : ℕ) (rest : List ℕ) → first < m → AreBelow m rest → AreBelow m (cond b (first ∷ rest) rest)
+number_below true first m rest here there = (here, there)
+number_below false first m rest here there = there
+
+pub numbers_one : {A : Type 0} (test : A → Bool) (first : ℕ) (x : A) (xs : List A) (b : Bool) → test x ≡ b → numbers_from first test (x ∷ xs) ≡ cond b (first ∷ numbers_from (first + 1) test xs) (numbers_from (first + 1) test xs)
+numbers_one test first x xs true is = rw is refl
+numbers_one test first x xs false is = rw is refl
+
+numbers_below : {A : Type 0} (test : A → Bool) (first : ℕ) (xs : List A) (m : ℕ) → first + length xs ≤ m → AreBelow m (numbers_from first test xs)
+numbers_below test first [] m few = tt
+numbers_below test first (x ∷ xs) m few =
+    subst (AreBelow m) (sym (numbers_one test first x xs (test x) refl))
+    (number_below (test x) first m (numbers_from (first + 1) test xs) (omega arith) (numbers_below test (first + 1) xs m (omega arith)))
+
+below_more : (m n : ℕ) → m ≤ n → (numbers : List ℕ) → AreBelow m numbers → AreBelow n numbers
+below_more m n few [] all = tt
+below_more m n few (x ∷ numbers) all = (let here : x < m = all.0 in omega arith, below_more m n few numbers all.1)
+
+-- each entry with a step that could never begin is there
+stuck_numbers : (plan : SavedPlan) (ds : List Data) (numbers : List ℕ) (r : Result (List Said) ScriptError) → all_or_first (each_with_earlier (entry_at plan.changes) ds) ≡ r
+    → results.◌>>=◌ r (λ entries. let q : Result (List ℕ) ScriptError = Ok (numbers_from 0 (is_stuck (by_number (length plan.changes) entries)) entries) in q) ≡ Ok numbers
+    → AreBelow (length ds) numbers
+stuck_numbers plan ds numbers (Err x) is e = absurd cc
+stuck_numbers plan ds numbers (Ok entries) is e =
+    let long : length entries ≡ length ds =
+    count_read (each_with_earlier (entry_at plan.changes) ds) entries is
+    ∙ length-map (enumerate_from 0 ds) (λ p. entry_at plan.changes (take p.0 ds) p.1)
+    ∙ length-enumerate_from 0 ds in
+    subst (AreBelow (length ds)) (ok_is {E = ScriptError} (numbers_from 0 (is_stuck (by_number (length plan.changes) entries)) entries) numbers e)
+    (numbers_below (is_stuck (by_number (length plan.changes) entries)) 0 entries (length ds) (omega (arith, long)))
+
+all_stuck : (plan : SavedPlan) (bytes : List ℕ) (k : Data) (es : Items) (numbers : List ℕ) → nat_lt max_bytes (length bytes) ≡ false → keeping_tree_of is_kept bytes ≡ Some k → elements_of k ≡ Some es
+    → never_beginning_of plan bytes ≡ Ok numbers → AreBelow (length (list_of es)) numbers
+unfolding never_beginning_of never_beginning_in
+all_stuck plan bytes k es numbers small kept elements e =
+    let here : results.◌>>=◌ (all_or_first (each_with_earlier (entry_at plan.changes) (list_of es)))
+    (λ entries. let q : Result (List ℕ) ScriptError = Ok (numbers_from 0 (is_stuck (by_number (length plan.changes) entries)) entries) in q) ≡ Ok numbers =
+    rw (small, kept, elements) at e in
+    stuck_numbers plan (list_of es) numbers (all_or_first (each_with_earlier (entry_at plan.changes) (list_of es))) refl here
+
+others_below : (m : ℕ) (numbers : List ℕ) → AreBelow m numbers → AreBelow m (drop 1 numbers)
+others_below m [] all = tt
+others_below m (n ∷ numbers) all = all.1
+
 -- the entry that the refusal names is there, of a script in which nothing else is found
 named_entry : (plan : SavedPlan) (bytes : List ℕ) (d : Data) (refusal : ScriptError) (n : ℕ) → clean (script_findings (Some plan.changes) bytes) ≡ true → tree_of bytes ≡ Some d
     → script_of plan bytes ≡ Err refusal → entry_of_refusal refusal ≡ Some n → n < length (items_at name.Changes d)
@@ -195,6 +246,31 @@ named_entry plan bytes d refusal n none tree e named =
     let long : length (items_at name.Changes d) ≡ length (list_of es) = count_same name.Changes refl d k alike ∙ ap (λ (ds : List Data). length ds) listed in
     omega (arith, inside, long)
 
+-- and so is each further one that has a step which could never begin
+others_there : (plan : SavedPlan) (bytes : List ℕ) (d : Data) → clean (script_findings (Some plan.changes) bytes) ≡ true → tree_of bytes ≡ Some d
+    → (stuck : Result (List ℕ) ScriptError) → never_beginning_of plan bytes ≡ stuck → AreBelow (length (items_at name.Changes d)) (behind_first stuck)
+others_there plan bytes d none tree (Err refusal) e = tt
+others_there plan bytes d none tree (Ok numbers) e =
+    let kept = kept_tree (nat_lt max_bytes (length bytes)) (is_script_beside (Some plan.changes)) (keeping_tree_of is_kept bytes) (sym (clean_bytes (Some plan.changes) bytes) ∙ none) in
+    let k : Data = kept.1 in
+    let both_hold = and_parts (is_script k) (entries_fit (Some plan.changes) [] (items_at name.Changes k)) kept.3 in
+    let elements = kept_elements (λ es. list_all is_entry (list_of es)) (elements_of k) both_hold.0 in
+    let es : Items = elements.0 in
+    let listed : items_at name.Changes k ≡ list_of es = elements_in (member_of (codes "changes") k) es elements.1 in
+    let alike : Alike d k = bytes_alike bytes d k tree kept.2 in
+    let long : length (items_at name.Changes d) ≡ length (list_of es) = count_same name.Changes refl d k alike ∙ ap (λ (ds : List Data). length ds) listed in
+    below_more (length (list_of es)) (length (items_at name.Changes d)) (omega (arith, long)) (drop 1 numbers)
+    (others_below (length (list_of es)) numbers (all_stuck plan bytes k es numbers kept.0 kept.2 elements.1 e))
+
+-- such entries are told in their places
+each_told : (d : Data) (numbers : List ℕ) → AreBelow (length (items_at name.Changes d)) numbers → AreTold IsRead (Some d) (stuck_entries numbers)
+each_told d [] all = none_told IsRead (Some d)
+each_told d (n ∷ numbers) all =
+    let entry = within (items_at name.Changes d) n all.0 in
+    both_told IsRead (Some d) (refused_for (NeverBegins n)) (stuck_entries numbers)
+    (item_right IsRead name.Changes d n entry.0 (finding_here (what.ForPlan (NeverBegins n)) ∷ []) entry.1 (refl, tt))
+    (each_told d numbers all.1)
+
 -- ---- a script for a plan
 
 refusal_by : (plan : SavedPlan) (bytes : List ℕ) (refusal : ScriptError) (o : Option ℕ) (tree : Option Data) → entry_of_refusal refusal ≡ o → tree_of bytes ≡ tree
@@ -206,13 +282,21 @@ refusal_by plan bytes refusal (Some n) (Some d) is tree none e =
     let entry = within (items_at name.Changes d) n (named_entry plan bytes d refusal n none tree e is) in
     item_right IsRead name.Changes d n entry.0 (finding_here (what.ForPlan refusal) ∷ []) entry.1 (refl, tt)
 
+others_told : (plan : SavedPlan) (bytes : List ℕ) (tree : Option Data) → tree_of bytes ≡ tree → clean (script_findings (Some plan.changes) bytes) ≡ true
+    → AreTold IsRead tree (stuck_entries (behind_first (never_beginning_of plan bytes)))
+others_told plan bytes None tree none = absurd (no_tree plan bytes tree none)
+others_told plan bytes (Some d) tree none =
+    each_told d (behind_first (never_beginning_of plan bytes)) (others_there plan bytes d none tree (never_beginning_of plan bytes) refl)
+
 refusals_told : (lanes : Bool) (plan : SavedPlan) (bytes : List ℕ) (r : Result OutcomeMap ScriptError) → script_of plan bytes ≡ r → clean (script_findings (Some plan.changes) bytes) ≡ true
-    → AreTold IsRead (tree_of bytes) (refusals_of lanes bytes r)
+    → AreTold IsRead (tree_of bytes) (refusals_of lanes bytes r (never_beginning_of plan bytes))
 refusals_told lanes plan bytes (Ok script) e none = waits_told lanes bytes script
-refusals_told lanes plan bytes (Err refusal) e none = refusal_by plan bytes refusal (entry_of_refusal refusal) (tree_of bytes) refl refl none e
+refusals_told lanes plan bytes (Err refusal) e none =
+    both_told IsRead (tree_of bytes) (refused_for refusal) (stuck_entries (behind_first (never_beginning_of plan bytes)))
+    (refusal_by plan bytes refusal (entry_of_refusal refusal) (tree_of bytes) refl refl none e) (others_told plan bytes (tree_of bytes) refl none)
 
 beside_by : (lanes : Bool) (plan : SavedPlan) (bytes : List ℕ) (b : Bool) → has_refusal (script_findings (Some plan.changes) bytes) ≡ b
-    → AreTold IsRead (tree_of bytes) (if b then [] else refusals_of lanes bytes (script_of plan bytes))
+    → AreTold IsRead (tree_of bytes) (if b then [] else refusals_of lanes bytes (script_of plan bytes) (never_beginning_of plan bytes))
 beside_by lanes plan bytes true is = none_told IsRead (tree_of bytes)
 beside_by lanes plan bytes false is = refusals_told lanes plan bytes (script_of plan bytes) refl (ap not is)
 

@@ -1,8 +1,8 @@
 //! The objects that a plan changes, as people are told of them.
 
-use crate::texts::edits::edits;
+use crate::texts::edits::edits_within;
 use crate::texts::found::json_text;
-use crate::texts::near::{first_near, push_near};
+use crate::texts::near::{MOST_NEAR, first_near, push_near};
 use crate::texts::plan_outputs::output_names;
 use apply_validate::{Name, nearest};
 use serde_json::Value;
@@ -87,26 +87,31 @@ fn push_near_among(
     found: &str,
     all: &[&str],
 ) -> Result<(), AllocError> {
-    let len = found.chars().count();
-    let reach = (len / 3).max(1);
+    let sought = chars_of(alloc, found)?;
+    let reach = (sought.len() / 3).max(1);
     let mut names = Vec::new(alloc);
-    // Those that are farther than another take no comparison as a whole.
+    // Only the first of the nearest are told: the others take no comparison as a whole.
     let mut least = reach;
     for name in all {
-        if name.chars().count().abs_diff(len) <= reach {
-            match edits(alloc, found, name)? {
-                Some(count) if count > least => {}
-                Some(count) => {
-                    least = count;
-                    names.push(*name)?;
-                }
-                None => names.push(*name)?,
+        let chars = chars_of(alloc, name)?;
+        if let Some(count) = edits_within(alloc, &sought, &chars, least)? {
+            if count < least {
+                least = count;
+                names.clear();
+            }
+            if names.len() < MOST_NEAR {
+                names.push(*name)?;
             }
         }
     }
     let near = nearest(alloc, found, &names, reach)?;
     let shown = first_near(alloc, &names, &near)?;
     push_near(text, &shown)
+}
+
+/// The characters of a text.
+fn chars_of(alloc: Global, text: &str) -> Result<Vec<char>, AllocError> {
+    text.chars().collect(alloc)
 }
 
 /// Adds the key of a deposed object, or that there is none.

@@ -7,7 +7,7 @@ use Rattle.serde_json.specs.View.{items_view, view}
 use Rattle.serde_json.specs.declared.value.Value.{Value}
 use Rattle.apply_json.specs.Tree.{list_of}
 use Rattle.apply_validate.specs.Beside.{waits_in}
-use Rattle.apply_validate.proofs.Besides.{behind_left, behind_over}
+use Rattle.apply_validate.proofs.WaitsLeft.{behind_left, behind_over}
 use Rattle.apply_validate.proofs.Trees.{sum_listed}
 use Rattle.apply_validate.proofs.beside.waits.waits_behind.Goals as goal
 

@@ -9,7 +9,7 @@ use Rattle.apply_validate.specs.Beside.{again_mark, beyond_in, change_at, steps_
 use Rattle.apply_validate.specs.Findings.{told}
 use Rattle.apply_validate.specs.ScriptFindings.{in_entry, in_step}
 use Rattle.apply_validate.specs.Walks.{in_items, inside, marked}
-use Rattle.apply_validate.proofs.Besides.{some_copied}
+use Rattle.apply_validate.proofs.WaitsLeft.{some_copied}
 use Rattle.apply_validate.proofs.script.entry.walk_entry.Goals as goal
 
 pub returns : goal.returns

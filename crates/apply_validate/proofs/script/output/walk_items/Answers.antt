@@ -2,7 +2,7 @@ use Rattle.std.proofs.Common.{◌<◌, ℕ, Option, length, ap, sym, ◌∙◌, 
 use Rattle.serde_json.specs.View.{view}
 use Rattle.apply_validate.specs.Findings.{told}
 use Rattle.apply_validate.specs.ScriptFindings.{in_output}
-use Rattle.apply_validate.proofs.Outputs.{last_more, outputs_more}
+use Rattle.apply_validate.proofs.OutputsSoFar.{last_more, outputs_more}
 use Rattle.apply_validate.proofs.script.output.walk_items.Goals as goal
 
 pub loop-number-preserved : goal.loop-number-preserved

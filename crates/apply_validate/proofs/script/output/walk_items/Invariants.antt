@@ -3,7 +3,7 @@ use Rattle.serde_json.specs.View.{items_view}
 use Rattle.apply_json.specs.Tree.{list_of}
 use Rattle.apply_validate.specs.Findings.{told}
 use Rattle.apply_validate.specs.ScriptFindings.{outputs_behind}
-use Rattle.apply_validate.proofs.Outputs.{last_after}
+use Rattle.apply_validate.proofs.OutputsSoFar.{last_after}
 use Rattle.apply_validate.proofs.script.output.walk_items.Given as goal
 
 abbrev pub invariant-loop-number : goal.invariant-loop-number

@@ -10,7 +10,7 @@ use Rattle.apply_validate.specs.FirstNamed.{AreFirst}
 use Rattle.apply_validate.specs.ObjectNames.{Named}
 use Rattle.apply_validate.specs.PlanFindings.{first_named, name_read}
 use Rattle.apply_validate.specs.ScriptFindings.{in_entry, in_entry_behind}
-use Rattle.apply_validate.proofs.Besides.{left_more}
+use Rattle.apply_validate.proofs.WaitsLeft.{left_more}
 use Rattle.apply_validate.proofs.Trees.{behind_more, length_so_far, named_more, sum_more}
 use Rattle.apply_validate.proofs.script.top_level.walk_entries.Goals as goal
 

@@ -1,0 +1,238 @@
+-- Provisioners: nothing is found for which a run refuses, exactly where one is read and puts out no more than it may.
+use Rattle.std.proofs.Common.{◌≡◌, ℕ, suc, ◌+◌, List, [], ◌∷◌, ◌++◌, length, map, Bool, true, false, not, ◌&&◌, if◌then◌else◌, is_some, Option, Some, None, unwrap_or, refl, sym, ap, ◌∙◌}
+use Rattle.std.specs.Prelude.{codes, nat_lt}
+use Rattle.std.specs.List.{list_all, sum_by}
+use Rattle.std.specs.Option.{option_and_then, option_map_or}
+use Rattle.std.proofs.lemmas.List.{length-map}
+use Rattle.std.proofs.lemmas.List.Sums.{sum_by-cons}
+use Rattle.serde_json.specs.Data.{Data, null, boolean, number, string, array, object}
+use Rattle.serde_json.specs.Find.{as_number, as_object, as_str, as_u64}
+use Rattle.apply_json.specs.Seen.{items_in}
+use Rattle.apply_json.specs.Tree.{◌>>=◌, list_of, member_of, non_empty_text_of, unless_empty}
+use Rattle.apply_model.specs.declared.script.diag.Diag.{Diag}
+use Rattle.apply_model.specs.declared.script.provisioner.Provisioner.{Provisioner}
+use Rattle.apply_model.specs.declared.script.timed_text.TimedText.{TimedText}
+use Rattle.apply_model.specs.Script.Limits.{max_outputs}
+use Rattle.apply_model.specs.Script.Outcome.{are_in_time, puts_out_too_much, seconds_of_all}
+use Rattle.apply_plan.specs.Script.Entry.{OutputItem, all_some, diag_from, diag_or_none, each_of, may_fail_or_not, output_from, provisioner_from, seconds_of, timed, timed_outputs}
+use Rattle.apply_validate.specs.declared.findings.finding.Finding.{Finding}
+use Rattle.apply_validate.specs.declared.findings.name.Name.TheVariants as name
+use Rattle.apply_validate.specs.declared.findings.want.Want.TheVariants as want
+use Rattle.apply_validate.specs.ScriptFindings.{growth_of_provisioner, in_diagnostic, in_outputs, in_provisioner, provisioner_mark, provisioner_names, provisioner_table, seconds_in, whole_at}
+use Rattle.apply_validate.specs.Walks.{faults_of, in_list, inside, items_at, known, marked, unless_suits, unread}
+use Rattle.apply_validate.specs.Wants.{is_met}
+use Rattle.apply_validate_laws.proofs.Clean.{all_items, clean, clean-append, clean-faults_of, clean-marked, clean-then_unread, clean-unless_suits, clean-where_suits, is_absent_or}
+use Rattle.apply_validate_laws.proofs.Diagnostics.{absent_or_diagnostic, clean_diagnostic, two}
+use Rattle.apply_validate_laws.proofs.Alike.{object_alike}
+use Rattle.apply_validate_laws.proofs.Members.{IsCleanBeside, array_or, count_same, inside_clean, list_clean, non_empty_there, on_failure_there, whole_there}
+use Rattle.apply_validate_laws.proofs.Wanted.{needs_object}
+use Rattle.apply_validate.proofs.Options.{and_comm, and_false, and_then_is, and_true, bind_some, crossed}
+use Rattle.apply_validate_laws.proofs.Outputs.{are_shaped, clean_outputs, come_in_time, is_shaped, outputs_read, shape_alike}
+
+-- what a run reads of a provisioner, that puts out no more than it may
+abbrev pub fits : Provisioner → Bool
+fits provisioner = not (puts_out_too_much provisioner)
+
+abbrev pub is_provisioner : Data → Bool
+is_provisioner k = option_map_or fits (provisioner_from k) false
+
+-- the same, but for what comes of its failure, and when its outputs come
+abbrev members_fit : (name : Option (List ℕ)) (seconds : Option ℕ) (shaped many : Bool) (failed : Option (Option Diag)) → Bool
+members_fit name seconds shaped many failed = (((is_some name && is_some seconds) && shaped) && not many) && is_some failed
+
+unfoldable pub fits_first : Data → Bool
+fits_first k =
+    members_fit (non_empty_text_of (codes "provisioner") k) (seconds_of k) (are_shaped (member_of (codes "output") k))
+    (nat_lt max_outputs (length (items_at name.Output k))) (diag_or_none (member_of (codes "failed") k))
+
+-- and that
+abbrev pub fits_growth : Data → Bool
+fits_growth k =
+    is_some (may_fail_or_not (member_of (codes "on_failure") k)) && come_in_time (whole_at name.Seconds k) None (items_at name.Output k)
+
+abbrev made : List ℕ → ℕ → List TimedText → Option Diag → Bool → Provisioner
+made name seconds output failed may_fail = record { name = name; seconds = seconds; output = output; failed = failed; may_fail = may_fail }
+
+-- the tests in the order in which the members are read
+in_order : (shaped few failed may_fail timely : Bool) → (((shaped && few) && failed) && (may_fail && timely)) ≡ (failed && ((shaped && timely) && (may_fail && few)))
+in_order false few failed may_fail timely = sym (and_false failed)
+in_order true false false may_fail timely = refl
+in_order true false true may_fail false = refl
+in_order true false true may_fail true = sym (and_false may_fail)
+in_order true true false may_fail timely = refl
+in_order true true true may_fail timely = ap (λ (b : Bool). b && timely) (sym (and_true may_fail)) ∙ and_comm (may_fail && true) timely
+
+-- by what is put out
+reads_output : (n : List ℕ) (s : ℕ) (f : Option Diag) (output : Option (List TimedText)) (may_fail : Option Bool) (many : Bool)
+    → ((texts : List TimedText) → output ≡ Some texts → many ≡ nat_lt max_outputs (length texts))
+    → (is_some output && (is_some may_fail && not many)) ≡ option_map_or fits (output >>= λ o. may_fail >>= λ m. Some (made n s o f m)) false
+reads_output n s f None may_fail many are = refl
+reads_output n s f (Some o) None many are = refl
+reads_output n s f (Some o) (Some m) many are = ap not (are o refl)
+
+one_by_one : (items : Option (List OutputItem)) (f : List OutputItem → Option (List TimedText)) (g : List TimedText → Option Provisioner)
+    → (items >>= f >>= g) ≡ (items >>= λ i. f i >>= g)
+one_by_one None f g = refl
+one_by_one (Some i) f g = refl
+
+reads : (name : Option (List ℕ)) (seconds : Option ℕ) (failed : Option (Option Diag)) (items : Option (List OutputItem)) (may_fail : Option Bool) (shaped many timely : Bool)
+    → ((s : ℕ) → seconds ≡ Some s → (shaped && timely) ≡ is_some (items >>= timed_outputs s))
+    → ((s : ℕ) (texts : List TimedText) → (items >>= timed_outputs s) ≡ Some texts → many ≡ nat_lt max_outputs (length texts))
+    → (members_fit name seconds shaped many failed && (is_some may_fail && timely))
+    ≡ option_map_or fits (name >>= λ n. seconds >>= λ s. failed >>= λ f. items >>= λ i. timed_outputs s i >>= λ o. may_fail >>= λ m. Some (made n s o f m)) false
+reads None seconds failed items may_fail shaped many timely come are = refl
+reads (Some n) None failed items may_fail shaped many timely come are = refl
+reads (Some n) (Some s) None items may_fail shaped many timely come are = in_order shaped (not many) false (is_some may_fail) timely
+reads (Some n) (Some s) (Some f) items may_fail shaped many timely come are =
+    in_order shaped (not many) true (is_some may_fail) timely
+    ∙ ap (λ (b : Bool). b && (is_some may_fail && not many)) (come s refl)
+    ∙ reads_output n s f (items >>= timed_outputs s) may_fail many (are s)
+    ∙ ap (λ (p : Option Provisioner). option_map_or fits p false) (one_by_one items (timed_outputs s) (λ o. may_fail >>= λ m. Some (made n s o f m)))
+
+-- ---- as many items as were read
+
+some_is : {A : Type 0} (x y : A) → Some x ≡ Some y → x ≡ y
+some_is x y e = cc
+
+pub length_of_all : {A : Type 0} (part : Data → Option A) (ds : List Data) (xs : List A) → all_some (map part ds) ≡ Some xs → length ds ≡ length xs
+length_of_all part [] xs e = ap length (some_is [] xs e)
+length_of_all {A} part (d ∷ ds) xs e =
+    let one = bind_some (part d) (λ x. all_some (map part ds) >>= λ ys. Some (x ∷ ys)) xs e in
+    let others = bind_some (all_some (map part ds)) (λ ys. Some (one.0 ∷ ys)) xs one.2 in
+    ap suc (length_of_all part ds others.0 others.1) ∙ ap length (some_is (one.0 ∷ others.0) xs others.2)
+
+pub length_read : {A : Type 0} (part : Data → Option A) (o : Option Data) (xs : List A) → each_of part o ≡ Some xs
+    → length (option_map_or (λ value. list_of (items_in value)) o []) ≡ length xs
+length_read part None xs e = ap length (some_is [] xs e)
+length_read part (Some null) xs e = absurd cc
+length_read part (Some (boolean b)) xs e = absurd cc
+length_read part (Some (number n)) xs e = absurd cc
+length_read part (Some (string s)) xs e = absurd cc
+length_read part (Some (array ds)) xs e = length_of_all part (list_of ds) xs e
+length_read part (Some (object ms)) xs e = absurd cc
+
+one_of : {A : Type 0} (b : Bool) (xs ys : List A) → (let o : Option (List A) = if b then Some xs else None in o) ≡ Some ys → xs ≡ ys
+one_of true xs ys e = some_is xs ys e
+one_of false xs ys e = absurd cc
+
+-- as many texts as items
+texts_read : (s : ℕ) (o : Option Data) (texts : List TimedText) → (each_of output_from o >>= timed_outputs s) ≡ Some texts
+    → length (option_map_or (λ value. list_of (items_in value)) o []) ≡ length texts
+texts_read s o texts e =
+    let items = bind_some (each_of output_from o) (timed_outputs s) texts e in
+    length_read output_from o items.0 items.1
+    ∙ sym (length-map items.0 (timed s))
+    ∙ ap length (one_of (are_in_time 0 s (map (timed s) items.0)) (map (timed s) items.0) texts items.2)
+
+-- ---- the seconds that were read
+
+pub seconds_are : (o : Option Data) → option_and_then as_u64 (option_and_then as_number o) ≡ (o >>= as_number >>= as_u64)
+seconds_are o = and_then_is as_u64 (option_and_then as_number o) ∙ ap (λ n. n >>= as_u64) (and_then_is as_number o)
+
+pub seconds_read : (d : Data) (s : ℕ) → seconds_of d ≡ Some s → seconds_in d ≡ s
+seconds_read d s e = ap (λ (n : Option ℕ). unwrap_or n 0) (seconds_are (member_of (codes "seconds") d) ∙ e)
+
+of_provisioner : (d : Data) (p : Provisioner) → provisioner_from d ≡ Some p → seconds_in d ≡ p.seconds
+unfolding provisioner_from
+of_provisioner d p e =
+    let may : Option Bool = may_fail_or_not (member_of (codes "on_failure") d) in
+    let items : Option (List OutputItem) = each_of output_from (member_of (codes "output") d) in
+    let name = bind_some (non_empty_text_of (codes "provisioner") d) (λ n. seconds_of d >>= λ s. diag_or_none (member_of (codes "failed") d) >>= λ f. items >>= λ i. timed_outputs s i >>= λ o. may >>= λ m. Some (made n s o f m)) p e in
+    let seconds = bind_some (seconds_of d) (λ s. diag_or_none (member_of (codes "failed") d) >>= λ f. items >>= λ i. timed_outputs s i >>= λ o. may >>= λ m. Some (made name.0 s o f m)) p name.2 in
+    let failed = bind_some (diag_or_none (member_of (codes "failed") d)) (λ f. items >>= λ i. timed_outputs seconds.0 i >>= λ o. may >>= λ m. Some (made name.0 seconds.0 o f m)) p seconds.2 in
+    let item = bind_some items (λ i. timed_outputs seconds.0 i >>= λ o. may >>= λ m. Some (made name.0 seconds.0 o failed.0 m)) p failed.2 in
+    let output = bind_some (timed_outputs seconds.0 item.0) (λ o. may >>= λ m. Some (made name.0 seconds.0 o failed.0 m)) p item.2 in
+    let growth = bind_some may (λ m. Some (made name.0 seconds.0 output.0 failed.0 m)) p output.2 in
+    seconds_read d seconds.0 seconds.1 ∙ ap (λ (x : Provisioner). x.seconds) (some_is (made name.0 seconds.0 output.0 failed.0 growth.0) p growth.2)
+
+seconds_of_list : (ds : List Data) (ps : List Provisioner) → all_some (map provisioner_from ds) ≡ Some ps → sum_by seconds_in ds ≡ seconds_of_all ps
+seconds_of_list [] ps e = ap seconds_of_all (some_is [] ps e)
+seconds_of_list (d ∷ ds) ps e =
+    let one = bind_some (provisioner_from d) (λ x. all_some (map provisioner_from ds) >>= λ ys. Some (x ∷ ys)) ps e in
+    let others = bind_some (all_some (map provisioner_from ds)) (λ ys. Some (one.0 ∷ ys)) ps one.2 in
+    sum_by-cons seconds_in d ds
+    ∙ ap (λ (n : ℕ). n + sum_by seconds_in ds) (of_provisioner d one.0 one.1)
+    ∙ ap (λ (n : ℕ). one.0.seconds + n) (seconds_of_list ds others.0 others.1)
+    ∙ sym (sum_by-cons (λ (p : Provisioner). p.seconds) one.0 others.0)
+    ∙ ap seconds_of_all (some_is (one.0 ∷ others.0) ps others.2)
+
+pub all_seconds_read : (o : Option Data) (ps : List Provisioner) → each_of provisioner_from o ≡ Some ps
+    → sum_by seconds_in (option_map_or (λ value. list_of (items_in value)) o []) ≡ seconds_of_all ps
+all_seconds_read None ps e = ap seconds_of_all (some_is [] ps e)
+all_seconds_read (Some null) ps e = absurd cc
+all_seconds_read (Some (boolean b)) ps e = absurd cc
+all_seconds_read (Some (number n)) ps e = absurd cc
+all_seconds_read (Some (string s)) ps e = absurd cc
+all_seconds_read (Some (array ds)) ps e = seconds_of_list (list_of ds) ps e
+all_seconds_read (Some (object ms)) ps e = absurd cc
+
+-- ---- the provisioner
+
+pub clean_provisioner : IsCleanBeside in_provisioner fits_first
+unfolding in_provisioner fits_first
+clean_provisioner d k alike =
+    let wrong : List Finding = faults_of provisioner_table d in
+    let output : List Finding = in_list (λ number. unless_suits want.Output) (known name.Output want.ArrayOrAbsent) d in
+    let marks : List Finding = marked (provisioner_mark d ∷ []) in
+    let failed : List Finding = inside in_diagnostic name.Failed d in
+    let many : Bool = nat_lt max_outputs (length (items_at name.Output k)) in
+    let name_read : Option (List ℕ) = non_empty_text_of (codes "provisioner") k in
+    let seconds : Option ℕ = seconds_of k in
+    let failed_read : Option (Option Diag) = diag_or_none (member_of (codes "failed") k) in
+    let shaped : Bool = are_shaped (member_of (codes "output") k) in
+    let a : clean wrong ≡ (is_some name_read && is_some seconds) =
+    two (known name.Provisioner want.NonEmptyText) (known name.Seconds want.Seconds) d
+    ∙ ap (λ (b : Bool). b && is_met want.Seconds (member_of (codes "seconds") d)) (non_empty_there (codes "provisioner") refl d k alike)
+    ∙ ap (λ (b : Bool). is_some name_read && b) (whole_there (codes "seconds") refl d k alike) in
+    let b : clean output ≡ shaped =
+    list_clean (λ number. unless_suits want.Output) is_shaped
+    (λ number x y same. clean-unless_suits want.Output x ∙ shape_alike x y same) (known name.Output want.ArrayOrAbsent) array_or refl d k alike in
+    let m : clean marks ≡ not many =
+    clean-marked (provisioner_mark d ∷ []) refl ∙ and_true (not (nat_lt max_outputs (length (items_at name.Output d)))) ∙ ap (λ (n : ℕ). not (nat_lt max_outputs n)) (count_same name.Output refl d k alike) in
+    let f : clean failed ≡ is_some failed_read =
+    inside_clean in_diagnostic (λ e. is_some (diag_from e)) clean_diagnostic name.Failed refl d k alike ∙ absent_or_diagnostic (member_of (codes "failed") k) in
+    clean-where_suits want.Provisioner d (wrong ++ output ++ marks ++ failed ++ unread provisioner_names d)
+    ∙ ap (λ (x : Bool). is_some (as_object d) && x)
+    (clean-then_unread (wrong ++ output ++ marks ++ failed) provisioner_names d
+    ∙ clean-append (wrong ++ output ++ marks) failed
+    ∙ ap (λ (x : Bool). x && clean failed) (clean-append (wrong ++ output) marks ∙ ap (λ (x : Bool). x && clean marks) (clean-append wrong output))
+    ∙ ap (λ (x : Bool). ((x && clean output) && clean marks) && clean failed) a
+    ∙ ap (λ (x : Bool). (((is_some name_read && is_some seconds) && x) && clean marks) && clean failed) b
+    ∙ ap (λ (x : Bool). (((is_some name_read && is_some seconds) && shaped) && x) && clean failed) m
+    ∙ ap (λ (x : Bool). (((is_some name_read && is_some seconds) && shaped) && not many) && x) f)
+    ∙ ap (λ (x : Bool). x && members_fit name_read seconds shaped many failed_read) (object_alike d k alike)
+    ∙ needs_object (codes "provisioner") k (members_fit name_read seconds shaped many failed_read)
+    (λ none. ap (λ (o : Option Data). members_fit (o >>= as_str >>= unless_empty) seconds shaped many failed_read) none)
+
+-- what comes of its failure, and when its outputs come
+pub clean_growth : IsCleanBeside growth_of_provisioner fits_growth
+unfolding growth_of_provisioner
+clean_growth d k alike =
+    let growth : List Finding = faults_of (known name.OnFailure want.OnFailure ∷ []) d in
+    let a : clean growth ≡ is_some (may_fail_or_not (member_of (codes "on_failure") k)) =
+    clean-faults_of (known name.OnFailure want.OnFailure ∷ []) d
+    ∙ and_true (is_met want.OnFailure (member_of (codes "on_failure") d))
+    ∙ on_failure_there (codes "on_failure") refl d k alike in
+    clean-append growth (in_outputs d)
+    ∙ ap (λ (x : Bool). x && clean (in_outputs d)) a
+    ∙ ap (λ (x : Bool). is_some (may_fail_or_not (member_of (codes "on_failure") k)) && x) (clean_outputs d k alike)
+
+-- both
+pub fits_both : (k : Data) → (fits_first k && fits_growth k) ≡ is_provisioner k
+unfolding provisioner_from fits_first
+fits_both k =
+    let o : Option Data = member_of (codes "output") k in
+    let seconds : whole_at name.Seconds k ≡ seconds_of k = seconds_are (member_of (codes "seconds") k) in
+    reads (non_empty_text_of (codes "provisioner") k) (seconds_of k) (diag_or_none (member_of (codes "failed") k)) (each_of output_from o)
+    (may_fail_or_not (member_of (codes "on_failure") k)) (are_shaped o) (nat_lt max_outputs (length (items_at name.Output k)))
+    (come_in_time (whole_at name.Seconds k) None (items_at name.Output k))
+    (λ s e. ap (λ (x : Option ℕ). are_shaped o && come_in_time x None (items_at name.Output k)) (seconds ∙ e) ∙ outputs_read s o)
+    (λ s texts e. ap (λ (n : ℕ). nat_lt max_outputs n) (texts_read s o texts e))
+
+all_both : (ks : List Data) → (list_all fits_first ks && list_all fits_growth ks) ≡ list_all is_provisioner ks
+all_both [] = refl
+all_both (k ∷ ks) = crossed (fits_first k) (list_all fits_first ks) (fits_growth k) (list_all fits_growth ks) ∙ ap (λ (b : Bool). b && (list_all fits_first ks && list_all fits_growth ks)) (fits_both k) ∙ ap (λ (b : Bool). is_provisioner k && b) (all_both ks)
+
+pub items_both : (o : Option Data) → (is_absent_or (all_items fits_first) o && is_absent_or (all_items fits_growth) o) ≡ is_absent_or (all_items is_provisioner) o
+items_both None = refl
+items_both (Some k) = all_both (list_of (items_in k))
