@@ -1,5 +1,5 @@
 -- What a run refuses a script for beside the plan is told in its place.
-use Rattle.std.proofs.Common.{◌≡◌, ℕ, suc, ◌+◌, ◌<◌, ◌≤◌, List, [], ◌∷◌, drop, length, map, take, Bool, true, false, cond, not, ◌&&◌, is_ok, is_some, slice_get, Option, Some, None, Result, Ok, Err, tt, unwrap_or, if◌then◌else◌, refl, sym, ap, subst, ◌∙◌, arith}
+use Rattle.std.proofs.Common.{◌≡◌, ℕ, suc, ◌+◌, ◌<◌, ◌≤◌, List, [], ◌∷◌, drop, length, map, take, Bool, true, false, cond, not, ◌&&◌, is_ok, is_some, slice_get, Option, Some, None, Result, Ok, Err, unwrap_or, if◌then◌else◌, refl, sym, ap, subst, ◌∙◌, arith}
 use Rattle.std.specs.Prelude.{codes, nat_lt}
 use Rattle.std.specs.List.{AllByRecursion, enumerate_from, list_all, position_from}
 use Rattle.std.specs.Option.{option_and_then, option_map, option_map_or}

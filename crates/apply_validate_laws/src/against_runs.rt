@@ -1,6 +1,6 @@
 //! What is found, beside what a run refuses.
 
-ghost use Rattle.std.specs.Prelude.{◌≡◌, ◌<◌, ◌++◌, ◌||◌, ℕ, List, Bool, Err, None, Ok, Option, Some, false, is_err, not, true};
+ghost use Rattle.std.specs.Prelude.{◌≡◌, ◌<◌, ◌++◌, ◌||◌, ℕ, List, Bool, Err, None, Ok, Option, Some, false, is_err, length, not, true};
 ghost use Rattle.apply_model.specs.Plan.SavedPlan.{SavedPlan};
 ghost use Rattle.apply_model.specs.Script.OutcomeMap.{OutcomeMap};
 ghost use Rattle.apply_plan.specs.Plan.SavedPlan.{plan_of};
