@@ -18,6 +18,7 @@ mod reasons;
 mod script_notes;
 mod script_outputs;
 mod telling;
+mod text_test;
 mod texts;
 mod told_of_plan;
 

@@ -1,14 +1,15 @@
 //! Diagnostics of no step that a script gives.
 
-ghost use Rattle.std.specs.Prelude.{◌≡◌, IfOk, Some, map, option_map};
+ghost use Rattle.std.specs.Prelude.{◌≡◌, IfOk, Some, codes, map, option_map};
 ghost use Rattle.std.specs.Option.{option_copied};
 ghost use Rattle.serde_json.specs.View.{view};
+ghost use Rattle.apply_json.specs.Tree.{unless_empty};
 ghost use Rattle.apply_plan.specs.Results.{Gives};
 ghost use Rattle.apply_form_plan.specs.Notes as specs;
 
+use crate::text_test::is_text;
 use crate::texts::items::read_items;
 use apply_json::ReadFault;
-use apply_json::members::non_empty;
 use apply_model::{Diag, Note, Severity, Text};
 use apply_outputs::{is_that, text_of};
 use apply_plan::ScriptError;
@@ -68,13 +69,35 @@ fn note_in(alloc: Global, item: &Value) -> Result<Option<Note>, AllocError>
     let Some(diag) = diag_in(alloc, item)? else {
         return Ok(None);
     };
-    match said_or_empty(alloc, kept_at(item, "address"))? {
+    match address_in(alloc, item)? {
         Some(address) => Ok(Some(Note {
             severity,
             diag,
-            address: Text::of_option(alloc, non_empty(address.as_str()))?,
+            address,
         })),
         None => Ok(None),
+    }
+}
+
+/// The address that the diagnostic names that an item is, where it names one. `None` where that is no text.
+fn address_in(alloc: Global, item: &Value) -> Result<Option<Option<Text>>, AllocError>
+    ensures { IfOk result (λ address. address
+        ≡ option_map unless_empty (specs.said_or_empty (specs.kept_at (codes "address") (view item.now)))) }
+{
+    match said_or_empty(alloc, kept_at(item, "address"))? {
+        Some(address) => Ok(Some(unless_empty(address))),
+        None => Ok(None),
+    }
+}
+
+/// The text, where it is not empty.
+fn unless_empty(text: Text) -> Option<Text>
+    ensures { result ≡ unless_empty text }
+{
+    if text.as_str().is_empty() {
+        None
+    } else {
+        Some(text)
     }
 }
 
@@ -83,9 +106,9 @@ fn severity_in(item: &Value) -> Option<Severity>
     ensures { result ≡ specs.severity_in (view item.now) }
 {
     let text = kept_at(item, "severity")?;
-    if text == "\"error\"" {
+    if is_text(text, "\"error\"") {
         Some(Severity::Error)
-    } else if text == "\"warning\"" {
+    } else if is_text(text, "\"warning\"") {
         Some(Severity::Warning)
     } else {
         None
@@ -121,7 +144,11 @@ fn kept_at<'a>(item: &'a Value, name: &str) -> Option<&'a str>
     ensures { option_copied result ≡ specs.kept_at name.now (view item.now) }
 {
     let text = item.get(name)?.as_str()?;
-    if text == "null" { None } else { Some(text) }
+    if is_text(text, "null") {
+        None
+    } else {
+        Some(text)
+    }
 }
 
 /// A member that has to be a text. `None` where it is none.

@@ -1,6 +1,6 @@
 //! The outputs that are told.
 
-ghost use Rattle.std.specs.Prelude.{◌≡◌, ◌++◌, IfOk, IsTrue, OnOk, option_map};
+ghost use Rattle.std.specs.Prelude.{◌≡◌, ◌++◌, ◌∷◌, [], IfOk, IsTrue, OnOk, option_map};
 ghost use Rattle.serde_json.specs.View.{view};
 ghost use Rattle.apply_form_plan.specs.InOrder.{IsAscending, told_each, told_one};
 ghost use Rattle.apply_form_plan.specs.Kept as kept;
@@ -108,8 +108,24 @@ fn push_told(
         ++ told_one (option_map (λ value. view value.now) changes.entry) name.now (kept.view output.now)) }
 {
     if is_told(changes, name, output.kind()) {
-        outputs.push(output_of(alloc, name, output)?)?;
+        push_output(alloc, outputs, name, output)
+    } else {
+        Ok(())
     }
+}
+
+/// Appends the output of that name. `Err` where memory is refused.
+fn push_output(
+    alloc: Global,
+    outputs: &mut Vec<Output>,
+    name: &str,
+    output: &KeptOutput,
+) -> Result<(), AllocError>
+    ensures { OnOk result (outputs.new.items
+        ≡ outputs.old.items ++ told.output_of name.now (kept.view output.now) ∷ []) }
+{
+    let output = output_of(alloc, name, output)?;
+    outputs.push(output)?;
     Ok(())
 }
 
@@ -140,7 +156,7 @@ fn as_outputs(alloc: Global, found: Map<String, KeptOutput>) -> Result<Vec<Outpu
     let mut found = found;
     let mut outputs = Vec::with_capacity(alloc, found.len())?;
     while let Some((name, output)) = found.pop_first() {
-        outputs.push(output_of(alloc, name.as_str(), &output)?)?;
+        push_output(alloc, &mut outputs, name.as_str(), &output)?;
     }
     Ok(outputs)
 }

@@ -102,11 +102,11 @@ fn push_open(alloc: Global, text: &mut String, open: &[OpenEntry<'_>]) -> Result
     if open.len() != 1 {
         push_count(alloc, text, open.len() as u64, " stand open: ")?;
     }
-    for (index, entry) in open.iter().take(MAX_OPEN).enumerate() {
-        if index > 0 {
-            text.push_str(", ")?;
-        }
+    let mut before = "";
+    for entry in open.get(..MAX_OPEN).unwrap_or(open) {
+        text.push_str(before)?;
         push_entry(alloc, text, *entry)?;
+        before = ", ";
     }
     if open.len() > MAX_OPEN {
         text.push_str(", and ")?;

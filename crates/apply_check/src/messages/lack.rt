@@ -15,13 +15,20 @@ pub enum Lack {
     NoWholeNumber,
 }
 
-impl fmt::Display for Lack {
-    fn fmt<W: fmt::Write>(&self, f: &mut fmt::Formatter<W>) -> fmt::Result {
-        f.write_str(match self {
+impl Lack {
+    /// What is said of it.
+    pub(crate) fn text(self) -> &'static str {
+        match self {
             Lack::Missing => "is missing",
             Lack::NoObject => "is no object",
             Lack::NoText => "is no text",
             Lack::NoWholeNumber => "is no whole number",
-        })
+        }
+    }
+}
+
+impl fmt::Display for Lack {
+    fn fmt<W: fmt::Write>(&self, f: &mut fmt::Formatter<W>) -> fmt::Result {
+        f.write_str(self.text())
     }
 }

@@ -175,9 +175,16 @@ impl fmt::Display for Fault {
     fn fmt<W: fmt::Write>(&self, f: &mut fmt::Formatter<W>) -> fmt::Result {
         f.write_str(self.text())?;
         match *self {
-            Fault::Malformed(path, lack) => write!(f, "{path} {lack}"),
+            Fault::Malformed(path, lack) => {
+                f.write_str(path.text())?;
+                f.write_str(" ")?;
+                f.write_str(lack.text())
+            }
             _ => match self.other() {
-                Some(line) => write!(f, "{line}{}", self.text_behind()),
+                Some(line) => {
+                    write!(f, "{line}")?;
+                    f.write_str(self.text_behind())
+                }
                 None => Ok(()),
             },
         }

@@ -3,7 +3,7 @@
 use crate::kept::kept_output::KeptOutput;
 
 /// What stands where the outputs are.
-#[derive(Debug, Drop)]
+#[derive(Drop)]
 pub enum FoundOutputs {
     /// An object: the outputs with their names, in its order.
     Object(Vec<(String, KeptOutput)>),

@@ -10,9 +10,10 @@ use crate::kept::output_members::OutputMembers;
 use crate::kept::sensitivity::Sensitivity;
 use crate::kept::usual_output::UsualOutput;
 use std::alloc::{AllocError, Global};
+use std::fmt;
 
 /// What is kept of an output. There may be very many, so the usual form is a small one.
-#[derive(Debug, Drop)]
+#[derive(Drop)]
 pub enum KeptOutput {
     /// The usual form.
     Usual(UsualOutput),
@@ -80,6 +81,13 @@ impl KeptOutput {
             KeptOutput::Object(members) => text_of(&members.value),
             KeptOutput::Other(_) => None,
         }
+    }
+}
+
+/// The type alone: a value may be sensitive.
+impl fmt::Debug for KeptOutput {
+    fn fmt<W: fmt::Write>(&self, f: &mut fmt::Formatter<W>) -> fmt::Result {
+        f.write_str(self.kind().unwrap_or("null"))
     }
 }
 

@@ -8,7 +8,7 @@ use crate::kept::output_member::OutputMember;
 use crate::kept::sensitivity::Sensitivity;
 
 /// The members of an output that are kept, each as a text.
-#[derive(Debug, Drop)]
+#[derive(Drop)]
 pub struct OutputMembers {
     /// `sensitive`.
     pub sensitive: Sensitivity,

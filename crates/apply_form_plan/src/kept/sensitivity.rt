@@ -4,8 +4,10 @@ ghost use Rattle.std.specs.Prelude.{◌≡◌, string_bytes, IfSome, Some};
 ghost use Rattle.std.specs.Option.{option_copied};
 ghost use Rattle.apply_form_plan.specs.Kept.{flag_text, sensitive_text};
 
+use crate::text_test::is_text;
+
 /// The member `sensitive` of an output. Its two usual texts take no memory.
-#[derive(Debug, Drop)]
+#[derive(Drop)]
 pub enum Sensitivity {
     /// There is none.
     Absent,
@@ -22,9 +24,9 @@ impl Sensitivity {
     pub fn of(text: String) -> Sensitivity
         ensures { sensitive_text result ≡ Some (string_bytes text) }
     {
-        if text.as_str() == "true" {
+        if is_text(text.as_str(), "true") {
             Sensitivity::Yes
-        } else if text.as_str() == "false" {
+        } else if is_text(text.as_str(), "false") {
             Sensitivity::No
         } else {
             Sensitivity::Other(text)

@@ -6,7 +6,7 @@ use crate::kept::found_outputs::FoundOutputs;
 use serde_json::Value;
 
 /// What is looked for in a plan, in a part of it, or in a script.
-#[derive(Debug, Drop)]
+#[derive(Drop)]
 pub struct Sought {
     /// What stands where the outputs are.
     pub outputs: Option<FoundOutputs>,

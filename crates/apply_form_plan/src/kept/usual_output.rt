@@ -1,7 +1,7 @@
 //! An output as plans and scripts have it.
 
 /// An output as plans and scripts have it: an object with a flag, a type and a value.
-#[derive(Debug, Drop)]
+#[derive(Drop)]
 pub struct UsualOutput {
     /// Whether `sensitive` is `true`; it is `false` otherwise.
     pub is_sensitive: bool,
