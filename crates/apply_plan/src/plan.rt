@@ -7,6 +7,7 @@ pub mod element_member;
 pub mod element_slots;
 pub mod elements;
 pub mod id_slots;
+pub mod names;
 pub mod object_id;
 pub mod plan_error;
 pub mod plan_slots;

@@ -5,6 +5,7 @@ ghost use Rattle.apply_model.specs.Plan.Address.{relative_address};
 
 use crate::plan::element::Element;
 use crate::plan::element_slots::ElementSlots;
+use crate::plan::names::Names;
 use crate::plan::plan_error::PlanError;
 use apply_json::{ReadFault, Reader, read_object};
 use apply_model::{Action, Change, ChangeParts, Text, relative_address};
@@ -67,15 +68,19 @@ impl<'a> Planned<'a> {
         ensures { IfOk result (λ change. change ≡ planned_view self.entry) }
     {
         let Planned { element, action } = self;
+        let key = element.key.copied(alloc)?;
+        let deposed = Text::of_option(alloc, element.deposed)?;
+        let prior_id = Text::of_option(alloc, element.prior_id)?;
+        let names = Names::of(alloc, element)?;
         Ok(Change::new(ChangeParts {
-            address: Text::new(alloc, element.address)?,
-            module_address: Text::new(alloc, element.module_address)?,
+            address: names.address,
+            module_address: names.module_address,
             mode: element.mode,
-            kind_name: Text::new(alloc, element.kind_name)?,
-            name: Text::new(alloc, element.name)?,
-            key: element.key.copied(alloc)?,
-            deposed: Text::of_option(alloc, element.deposed)?,
-            prior_id: Text::of_option(alloc, element.prior_id)?,
+            kind_name: names.kind_name,
+            name: names.name,
+            key,
+            deposed,
+            prior_id,
             action,
         }))
     }
