@@ -9,11 +9,11 @@ use Rattle.std.proofs.lemmas.Slice.Eq.{bytes_eq-Decides}
 use Rattle.apply_view.specs.declared.told.open_places.OpenPlaces.{OpenPlaces}
 use Rattle.apply_view.specs.declared.told.viewer.Viewer.{Viewer}
 use Rattle.apply_view.specs.Details.{ToldDiagnostic}
-use Rattle.apply_view.specs.OpenPlaces.{AreFilled, HoldsPlaces, index_bytes, places_at, places_bytes, text_bytes, without}
-use Rattle.apply_view.specs.Steps.{ToldStep, at_place, begun_step, ended, first_of, is_open_at, is_open_with, last_of, passes_at, places, places_from, provisions, with_provisioner, with_provisioner_ended}
+use Rattle.apply_view.specs.OpenPlaces.{AreFilled, HoldsPlaces, bytes_for, index_bytes, place_bytes, places_at, spent_bytes, text_bytes, without}
+use Rattle.apply_view.specs.Steps.{ToldStep, at_place, begun_step, ended, first_of, is_open, is_open_at, is_open_with, last_of, passes_at, places, places_from, provisions, with_provisioner, with_provisioner_ended}
 use Rattle.apply_view.specs.Telling.{KeptDiagnostics, Telling, max_lines, with_begin, with_diagnostic, with_end, with_provisioner_begin, with_provisioner_end}
 use Rattle.apply_view.specs.Viewing.{HasTold, Takes, added}
-use Rattle.apply_view.proofs.Places.{places_apart, places_kept, places_left, places_push}
+use Rattle.apply_view.proofs.Places.{bytes_left, places_apart, places_kept, places_left, places_push}
 
 -- ---- counts fit
 
@@ -23,18 +23,42 @@ capped n lines l m = omega arith
 pub added_is : (d : ToldDiagnostic) (ds : KeptDiagnostics) (lines : ℕ) → ds.count < lines → lines ≤ max_lines → added d ds ≡ with_diagnostic d ds
 added_is d ds lines l m = rw (capped ds.count lines l m) refl
 
--- ---- what becomes of steps leaves their addresses
+-- ---- what is counted for the open steps
 
-abbrev pub indexed : ToldStep → ℕ
-indexed s = text_bytes s.address + 32
-
-pub placed_index : (k : ℕ) (f : ToldStep → ToldStep) (steps : List ToldStep) → ((s : ToldStep) → (f s).address ≡ s.address)
+-- what becomes of a step leaves its address, and whether it is open
+pub placed_index : (k : ℕ) (f : ToldStep → ToldStep) (steps : List ToldStep) → ((s : ToldStep) → place_bytes (f s) ≡ place_bytes s)
     → index_bytes (at_place k f steps) ≡ index_bytes steps
 placed_index k f [] same = refl
 placed_index zero f (s ∷ ss) same =
-    sum_by-cons indexed (f s) ss ∙ (ap (λ (a : List ℕ). text_bytes a + 32 + index_bytes ss) (same s) ∙ sym (sum_by-cons indexed s ss))
+    sum_by-cons place_bytes (f s) ss ∙ (ap (λ (n : ℕ). n + index_bytes ss) (same s) ∙ sym (sum_by-cons place_bytes s ss))
 placed_index (suc k) f (s ∷ ss) same =
-    sum_by-cons indexed s (at_place k f ss) ∙ (ap (λ (n : ℕ). indexed s + n) (placed_index k f ss same) ∙ sym (sum_by-cons indexed s ss))
+    sum_by-cons place_bytes s (at_place k f ss) ∙ (ap (λ (n : ℕ). place_bytes s + n) (placed_index k f ss same) ∙ sym (sum_by-cons place_bytes s ss))
+
+closed_bytes : (f : ToldStep → ToldStep) (s : ToldStep) → is_open (f s) ≡ false → place_bytes (f s) ≡ 0
+closed_bytes f s closed = rw closed refl
+
+open_bytes : (a : List ℕ) (s : ToldStep) → is_open_at a s ≡ true → place_bytes s ≡ text_bytes a + 32
+open_bytes a s h =
+    let parts = and_parts (is_none s.end) (bytes_eq s.address a) h in
+    let same : s.address ≡ a = (bytes_eq-Decides s.address a).0 parts.1 in
+    rw (parts.0, same) refl
+
+-- an open step is closed
+left_index : (a : List ℕ) (k : ℕ) (f : ToldStep → ToldStep) (steps : List ToldStep) → ((s : ToldStep) → is_open (f s) ≡ false) → passes_at k (is_open_at a) steps ≡ true
+    → index_bytes (at_place k f steps) + (text_bytes a + 32) ≡ index_bytes steps
+left_index a k f [] closed h = absurd cc
+left_index a zero f (s ∷ ss) closed h =
+    omega (arith, sum_by-cons place_bytes (f s) ss, sum_by-cons place_bytes s ss, closed_bytes f s (closed s), open_bytes a s h)
+left_index a (suc k) f (s ∷ ss) closed h =
+    omega (arith, sum_by-cons place_bytes s (at_place k f ss), sum_by-cons place_bytes s ss, left_index a k f ss closed h)
+
+-- a step is closed, whichever
+pub closed_index : (k : ℕ) (f : ToldStep → ToldStep) (steps : List ToldStep) → ((s : ToldStep) → is_open (f s) ≡ false)
+    → index_bytes (at_place k f steps) ≤ index_bytes steps
+closed_index k f [] closed = omega arith
+closed_index zero f (s ∷ ss) closed = omega (arith, sum_by-cons place_bytes (f s) ss, sum_by-cons place_bytes s ss, closed_bytes f s (closed s))
+closed_index (suc k) f (s ∷ ss) closed =
+    omega (arith, sum_by-cons place_bytes s (at_place k f ss), sum_by-cons place_bytes s ss, closed_index k f ss closed)
 
 -- ---- what is told is known, and so are the places
 
@@ -86,7 +110,7 @@ begun_places address action line m steps a =
 
 pub begun_held : (old new : Viewer) (t : Telling) (address action : List ℕ) (m : ℤ) → Takes old t → new.told ≡ with_begin address action m old.told
     → ((a : List ℕ) → places_at new.opened a ≡ cond (bytes_eq address a) (places_at old.opened a ++ length old.told.steps ∷ []) (places_at old.opened a))
-    → (AreFilled old.opened → AreFilled new.opened) → places_bytes new.opened ≤ places_bytes old.opened + (text_bytes address + 32)
+    → (AreFilled old.opened → AreFilled new.opened) → spent_bytes new.opened ≤ spent_bytes old.opened + (text_bytes address + 32)
     → HasTold new (with_begin address action m t)
 begun_held old new t address action m h is at filled bytes =
     held old new t (with_begin address action m t) h (is ∙ ap (with_begin address action m) h.is)
@@ -95,7 +119,7 @@ begun_held old new t address action m h is at filled bytes =
           ∙ (ap₂ (λ (ps : List ℕ) (n : ℕ). cond (bytes_eq address a) (ps ++ n ∷ []) ps) (h.opened.places a) (ap (λ (x : Telling). length x.steps) h.is)
           ∙ sym (begun_places address action t.lines m t.steps a));
       filled = filled h.opened.filled;
-      bytes = let before = h.opened.bytes in omega (arith, before, bytes, sum_by_push indexed t.steps (begun_step t.lines address action m));
+      bytes = let before = h.opened.bytes in omega (arith, before, bytes, sum_by_push place_bytes t.steps (begun_step t.lines address action m));
     })
     refl (less _ _ h.passed) (less _ _ h.errors) (less _ _ h.warnings)
 
@@ -145,11 +169,20 @@ ended_places a action failed m steps k e b =
     rw out (places_apart (is_open_at b) (ended m failed) 0 k steps apart))
     (cases_Bool (bytes_eq a b))
 
+-- the first of those is open
+first_is_open : (a action : List ℕ) (k : ℕ) (steps : List ToldStep) → first_of (places (is_open_with a action) steps) ≡ Some k → passes_at k (is_open_at a) steps ≡ true
+first_is_open a action k steps e =
+    let there = first_passes (is_open_with a action) 0 k steps e in
+    let at : k ≡ there.0 = there.1 ∙ add_zero there.0 in
+    passes_weaker (is_open_with a action) (is_open_at a) (λ s h. (and_parts (is_open_at a s) (bytes_eq s.action action) h).0) k steps
+    (subst (λ (n : ℕ). passes_at n (is_open_with a action) steps ≡ true) (sym at) there.2)
+
 pub end_held : (old new : Viewer) (t : Telling) (address action : List ℕ) (failed : Bool) (m : ℤ) (k : ℕ) → Takes old t
     → first_of (places (is_open_with address action) t.steps) ≡ Some k
     → new.told ≡ record old.told { steps = at_place k (ended m failed) old.told.steps }
     → ((b : List ℕ) → places_at new.opened b ≡ cond (bytes_eq address b) (without k (places_at old.opened b)) (places_at old.opened b))
-    → (AreFilled old.opened → AreFilled new.opened) → places_bytes new.opened ≤ places_bytes old.opened
+    → (AreFilled old.opened → AreFilled new.opened)
+    → spent_bytes new.opened + bytes_for address (places_at old.opened address) ≤ spent_bytes old.opened + bytes_for address (places_at new.opened address)
     → HasTold new (with_end address action failed m t)
 end_held old new t address action failed m k h e is at filled bytes =
     rw e
@@ -159,7 +192,16 @@ end_held old new t address action failed m k h e is at filled bytes =
       places = λ b. at b
           ∙ (ap (λ (ps : List ℕ). cond (bytes_eq address b) (without k ps) ps) (h.opened.places b) ∙ sym (ended_places address action failed m t.steps k e b));
       filled = filled h.opened.filled;
-      bytes = let before = h.opened.bytes in omega (arith, before, bytes, placed_index k (ended m failed) t.steps (λ s. refl));
+      bytes =
+          let before = h.opened.bytes in
+          let passes = first_is_open address action k t.steps e in
+          let index = left_index address k (ended m failed) t.steps (λ s. refl) passes in
+          let was : bytes_for address (places_at old.opened address) ≡ bytes_for address (places (is_open_at address) t.steps) = ap (bytes_for address) (h.opened.places address) in
+          let is : bytes_for address (places_at new.opened address) ≡ bytes_for address (places (is_open_at address) (at_place k (ended m failed) t.steps)) =
+          ap (bytes_for address) (at address
+          ∙ (ap (λ (ps : List ℕ). cond (bytes_eq address address) (without k ps) ps) (h.opened.places address) ∙ sym (ended_places address action failed m t.steps k e address))) in
+          let left = bytes_left (text_bytes address + 32) (is_open_at address) (ended m failed) (λ s. refl) 0 k t.steps passes in
+          omega (arith, before, bytes, index, was, is, left);
     })
     refl (less _ _ h.passed) (less _ _ h.errors) (less _ _ h.warnings))
 

@@ -6,11 +6,11 @@ use Rattle.std.proofs.lemmas.List.Sums.{sum_by-cons}
 use Rattle.apply_view.specs.declared.told.open_places.OpenPlaces.{OpenPlaces}
 use Rattle.apply_view.specs.declared.told.viewer.Viewer.{Viewer}
 use Rattle.apply_view.specs.Details.{ToldDiagnostic}
-use Rattle.apply_view.specs.OpenPlaces.{HoldsPlaces, index_bytes, places_at, text_bytes}
+use Rattle.apply_view.specs.OpenPlaces.{HoldsPlaces, index_bytes, place_bytes, places_at}
 use Rattle.apply_view.specs.Steps.{ToldStep, at_place, is_open_at, marked, marked_by_error, places, places_from}
 use Rattle.apply_view.specs.Telling.{Telling, with_error}
 use Rattle.apply_view.specs.Viewing.{HasTold, Takes, added, marked_at}
-use Rattle.apply_view.proofs.Holding.{added_is, held, indexed, kept_places, less}
+use Rattle.apply_view.proofs.Holding.{added_is, held, kept_places, less}
 use Rattle.apply_view.proofs.Places.{places_mapped}
 
 at_front : (front : List ToldStep) (x : ToldStep) (xs : List ToldStep) → at_place (length front) marked (front ++ x ∷ xs) ≡ front ++ marked x ∷ xs
@@ -52,16 +52,16 @@ still_open None b s = refl
 still_open (Some a) b s =
     ⊎_elim (λ (yes : is_open_at a s ≡ true). rw yes refl) (λ (out : is_open_at a s ≡ false). rw out refl) (cases_Bool (is_open_at a s))
 
-same_address : (address : Option (List ℕ)) (s : ToldStep) → (marked_by_error address s).address ≡ s.address
-same_address None s = refl
-same_address (Some a) s =
+same_bytes : (address : Option (List ℕ)) (s : ToldStep) → place_bytes (marked_by_error address s) ≡ place_bytes s
+same_bytes None s = refl
+same_bytes (Some a) s =
     ⊎_elim (λ (yes : is_open_at a s ≡ true). rw yes refl) (λ (out : is_open_at a s ≡ false). rw out refl) (cases_Bool (is_open_at a s))
 
 marked_index : (address : Option (List ℕ)) (steps : List ToldStep) → index_bytes (map (marked_by_error address) steps) ≡ index_bytes steps
 marked_index address [] = refl
 marked_index address (s ∷ ss) =
-    sum_by-cons indexed (marked_by_error address s) (map (marked_by_error address) ss)
-    ∙ (ap₂ (λ (a : List ℕ) (n : ℕ). text_bytes a + 32 + n) (same_address address s) (marked_index address ss) ∙ sym (sum_by-cons indexed s ss))
+    sum_by-cons place_bytes (marked_by_error address s) (map (marked_by_error address) ss)
+    ∙ (ap₂ (λ (a b : ℕ). a + b) (same_bytes address s) (marked_index address ss) ∙ sym (sum_by-cons place_bytes s ss))
 
 error_held : (old new : Viewer) (t : Telling) (address : Option (List ℕ)) (d : ToldDiagnostic) → Takes old t
     → new.told ≡ record old.told { errors = added d old.told.errors; steps = map (marked_by_error address) old.told.steps }

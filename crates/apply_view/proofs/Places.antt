@@ -1,7 +1,9 @@
 -- The places of steps that pass a test, when the steps change.
 use Rattle.std.proofs.Common.{◌≡◌, ℕ, ◌+◌, ◌<◌, ◌≤◌, List, [], ◌∷◌, ◌++◌, Bool, true, false, cond, eqb, length, map, suc, zero, refl, sym, ap, ◌∙◌, ⊎_elim, arith}
 use Rattle.std.specs.Prelude.{◌&&◌, not}
+use Rattle.std.specs.List.{sum_by}
 use Rattle.std.proofs.lemmas.Bool.{cases_Bool, eq-eqb, ne_eqb}
+use Rattle.std.proofs.lemmas.List.Sums.{sum_by-cons}
 use Rattle.apply_view.specs.OpenPlaces.{without}
 use Rattle.apply_view.specs.Steps.{at_place, passes_at, places_from}
 
@@ -100,4 +102,18 @@ places_apart p f n (suc k) (x ∷ xs) h =
     ⊎_elim
     (λ (yes : p x ≡ true). rw yes (ap (λ ms. n ∷ ms) (places_apart p f (n + 1) k xs h)))
     (λ (out : p x ≡ false). rw out (places_apart p f (n + 1) k xs h))
+    (cases_Bool (p x))
+
+-- ---- as many bytes for each place
+
+pub bytes_left : {A : Type 0} (c : ℕ) (p : A → Bool) (f : A → A) → ((x : A) → p (f x) ≡ false) → (n k : ℕ) (xs : List A) → passes_at k p xs ≡ true
+    → sum_by (λ (m : ℕ). c) (places_from n p (at_place k f xs)) + c ≡ sum_by (λ (m : ℕ). c) (places_from n p xs)
+bytes_left c p f gone n k [] h = absurd cc
+bytes_left c p f gone n zero (x ∷ xs) h = rw (h, gone x) (omega (arith, sum_by-cons (λ (m : ℕ). c) n (places_from (n + 1) p xs)))
+bytes_left c p f gone n (suc k) (x ∷ xs) h =
+    let rest = bytes_left c p f gone (n + 1) k xs h in
+    ⊎_elim
+    (λ (yes : p x ≡ true).
+    rw yes (omega (arith, sum_by-cons (λ (m : ℕ). c) n (places_from (n + 1) p (at_place k f xs)), sum_by-cons (λ (m : ℕ). c) n (places_from (n + 1) p xs), rest)))
+    (λ (out : p x ≡ false). rw out rest)
     (cases_Bool (p x))

@@ -1,11 +1,11 @@
 -- What contracts see of the places of open steps, for private clauses.
-use Rattle.std.specs.Prelude.{◌≡◌, ◌<◌, ◌≤◌, ℕ, ◌+◌, ◌*◌, ◌==◌, List, [], length, not, IfSome, String, Vec, string_bytes}
+use Rattle.std.specs.Prelude.{◌≡◌, ◌<◌, ◌≤◌, ℕ, ◌+◌, ◌*◌, ◌==◌, List, [], ◌∷◌, length, not, IfSome, String, Vec, string_bytes, if◌then◌else◌}
 use Rattle.std.specs.Global.{Global}
 use Rattle.std.specs.BTreeMap.{get_by_text}
 use Rattle.std.specs.List.{filter, sum_by}
 use Rattle.std.specs.Option.{option_map_or}
 use Rattle.apply_view.specs.declared.told.open_places.OpenPlaces.{OpenPlaces}
-use Rattle.apply_view.specs.Steps.{ToldStep, is_open_at, places}
+use Rattle.apply_view.specs.Steps.{ToldStep, is_open, is_open_at, places}
 
 abbrev pub places_at : OpenPlaces → (address : List ℕ) → List ℕ
 places_at standing address = option_map_or (λ places. places.items) (get_by_text standing.by_address address) []
@@ -34,12 +34,31 @@ entry_bytes entry = key_bytes entry.0 + 8 * length entry.1.items
 abbrev pub places_bytes : OpenPlaces → ℕ
 places_bytes standing = sum_by entry_bytes standing.by_address.entries
 
--- for each step its address once more, and 32
-abbrev pub index_bytes : List ToldStep → ℕ
-index_bytes steps = sum_by (λ (s : ToldStep). text_bytes s.address + 32) steps
+-- for an open step its address once more, and 32
+abbrev pub place_bytes : ToldStep → ℕ
+place_bytes s = if is_open s then text_bytes s.address + 32 else 0
 
--- They are those of the open steps, each at its address, and no other address is kept; and they take no more than that.
+abbrev pub index_bytes : List ToldStep → ℕ
+index_bytes steps = sum_by place_bytes steps
+
+-- as much for each place of an address
+abbrev pub bytes_for : (address : List ℕ) → List ℕ → ℕ
+bytes_for address places = sum_by (λ (place : ℕ). text_bytes address + 32) places
+
+-- the same by the bytes of the address, which is kept once where there is no place
+abbrev pub spent_for : (text : ℕ) → List ℕ → ℕ
+spent_for text [] = text + 24
+spent_for text (place ∷ places) = sum_by (λ (p : ℕ). text + 32) (place ∷ places)
+
+abbrev pub spent_entry : String Global × Vec ℕ Global → ℕ
+spent_entry entry = spent_for (text_bytes (string_bytes entry.0)) entry.1.items
+
+-- what the places would take where each had its address by itself
+abbrev pub spent_bytes : OpenPlaces → ℕ
+spent_bytes standing = sum_by spent_entry standing.by_address.entries
+
+-- They are those of the open steps, each at its address, and no other address is kept; and they take no more than that, even with an address for each.
 pub record HoldsPlaces (standing : OpenPlaces) (steps : List ToldStep) : Type 0 where
   pub places : (address : List ℕ) → places_at standing address ≡ places (is_open_at address) steps
   pub filled : AreFilled standing
-  pub bytes : places_bytes standing ≤ index_bytes steps
+  pub bytes : spent_bytes standing ≤ index_bytes steps

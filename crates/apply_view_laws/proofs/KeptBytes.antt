@@ -11,13 +11,13 @@ use Rattle.serde_json.specs.Data.{Data}
 use Rattle.apply_json.specs.Tree.{◌>>=◌, text_of, tree_of}
 use Rattle.apply_view_laws.specs.Messages.{message_in}
 use Rattle.apply_view.specs.Memory.{kept_bytes, provisioner_bytes, step_bytes}
-use Rattle.apply_view_laws.specs.Memory.{allowed_bytes, is_kept, is_kept_line, is_progress, is_progress_line, is_progress_type}
+use Rattle.apply_view_laws.specs.Memory.{allowed_bytes, is_end, is_end_line, is_kept, is_kept_line, is_progress, is_progress_line, is_progress_type}
 use Rattle.apply_view.specs.Messages.{Message, Said, begins, ends, begins_provisioner, ends_provisioner, error, warning, version, plan_summary, summary, other, lacking, message_at, message_of, moment_of, said_of, tree_message}
-use Rattle.apply_view.specs.OpenPlaces.{index_bytes, text_bytes}
+use Rattle.apply_view.specs.OpenPlaces.{index_bytes, place_bytes, text_bytes}
 use Rattle.apply_view.specs.Steps.{ToldProvisioner, ToldStep, at_place, ended, ended_with_step, first_of, is_open_at, is_open_with, last_of, passes_at, places, provisions, with_last_ended, with_provisioner_ended}
 use Rattle.apply_view.specs.Telling.{Telling, is_blank_line, nothing_told, told_of, with_line, with_message_or_passed, with_passed, with_provisioner_end_at, with_said}
 use Rattle.apply_view_laws.proofs.DiagnosticBytes.{AreFew, Fits, one_more_fits, said_fits}
-use Rattle.apply_view.proofs.Holding.{placed_index}
+use Rattle.apply_view.proofs.Holding.{closed_index, placed_index}
 
 -- ---- how much it is at most
 
@@ -124,7 +124,7 @@ abbrev Same : Telling → Telling → Type 0
 Same t u = kept_bytes u ≡ kept_bytes t
 
 -- a step changes, and its texts don't
-step_same : (k : ℕ) (f : ToldStep → ToldStep) (t : Telling) → ((s : ToldStep) → step_bytes (f s) ≡ step_bytes s) → ((s : ToldStep) → (f s).address ≡ s.address)
+step_same : (k : ℕ) (f : ToldStep → ToldStep) (t : Telling) → ((s : ToldStep) → step_bytes (f s) ≡ step_bytes s) → ((s : ToldStep) → place_bytes (f s) ≡ place_bytes s)
     → Same t (record t { steps = at_place k f t.steps })
 step_same k f t bytes address = let steps = placed_bytes k f t.steps bytes in let index = placed_index k f t.steps address in omega (arith, steps, index)
 
@@ -143,62 +143,107 @@ provisioner_end_same place failed m t =
     (λ (no : passes_at place provisions t.steps ≡ false). rw no refl)
     (cases_Bool (passes_at place provisions t.steps))
 
-said_same : (m : ℤ) (said : Said) (t : Telling) → is_kept said ≡ false → Same t (with_said m said t)
-said_same m (begins address action) t e = absurd cc
-said_same m (ends address action failed) t e =
-    same_where _ (first_of (places (is_open_with address action) t.steps)) (with_passed t) t
-    (λ place. step_same place (ended m failed) t (ended_bytes m failed) (λ s. refl)) refl
-said_same m (begins_provisioner address name) t e = absurd cc
-said_same m (ends_provisioner address failed) t e =
+said_same : (m : ℤ) (said : Said) (t : Telling) → is_kept said ≡ false → is_end said ≡ false → Same t (with_said m said t)
+said_same m (begins address action) t e g = absurd cc
+said_same m (ends address action failed) t e g = absurd cc
+said_same m (begins_provisioner address name) t e g = absurd cc
+said_same m (ends_provisioner address failed) t e g =
     same_where _ (last_of (places (is_open_at address) t.steps)) (with_passed t) t (λ place. provisioner_end_same place failed m t) refl
-said_same m (error address d) t e = absurd cc
-said_same m (warning d) t e = absurd cc
-said_same m (version text) t e = absurd cc
-said_same m plan_summary t e = refl
-said_same m (summary totals) t e = refl
-said_same m other t e = refl
-said_same m lacking t e = refl
+said_same m (error address d) t e g = absurd cc
+said_same m (warning d) t e g = absurd cc
+said_same m (version text) t e g = absurd cc
+said_same m plan_summary t e g = refl
+said_same m (summary totals) t e g = refl
+said_same m other t e g = refl
+said_same m lacking t e g = refl
 
-message_same : (message : Option Message) (t : Telling) → option_map_or (λ (x : Message). is_kept x.said) message false ≡ false → Same t (with_message_or_passed message t)
-message_same None t e = refl
-message_same (Some message) t e = said_same message.moment message.said _ e
+message_same : (message : Option Message) (t : Telling) → option_map_or (λ (x : Message). is_kept x.said) message false ≡ false → option_map_or (λ (x : Message). is_end x.said) message false ≡ false
+    → Same t (with_message_or_passed message t)
+message_same None t e g = refl
+message_same (Some message) t e g = said_same message.moment message.said _ e g
 
-pub line_same : (line : List ℕ) (t : Telling) → is_kept_line line ≡ false → kept_bytes (with_line line t) ≡ kept_bytes t
-line_same line t e =
+pub line_same : (line : List ℕ) (t : Telling) → is_kept_line line ≡ false → is_end_line line ≡ false → kept_bytes (with_line line t) ≡ kept_bytes t
+line_same line t e g =
     ⊎_elim
     (λ (yes : is_blank_line line ≡ true). rw yes refl)
-    (λ (no : is_blank_line line ≡ false). rw no (message_same (message_of line) _ (rw no at e)))
+    (λ (no : is_blank_line line ≡ false). rw no (message_same (message_of line) _ (rw no at e) (rw no at g)))
+    (cases_Bool (is_blank_line line))
+
+-- ---- the end of a step
+
+abbrev AtMost : Telling → Telling → Type 0
+AtMost t u = kept_bytes u ≤ kept_bytes t
+
+at_most_same : (t u : Telling) → Same t u → AtMost t u
+at_most_same t u same = omega (arith, same)
+
+end_at_most : (k : ℕ) (m : ℤ) (failed : Bool) (t : Telling) → AtMost t (record t { steps = at_place k (ended m failed) t.steps })
+end_at_most k m failed t =
+    let steps = placed_bytes k (ended m failed) t.steps (ended_bytes m failed) in
+    let index = closed_index k (ended m failed) t.steps (λ s. refl) in
+    omega (arith, steps, index)
+
+at_most_where : (more : ℕ → Telling) (o : Option ℕ) (none t : Telling) → ((place : ℕ) → AtMost t (more place)) → AtMost t none → AtMost t (option_map_or more o none)
+at_most_where more None none t h k = k
+at_most_where more (Some place) none t h k = h place
+
+said_at_most : (m : ℤ) (said : Said) (t : Telling) → is_kept said ≡ false → AtMost t (with_said m said t)
+said_at_most m (begins address action) t e = absurd cc
+said_at_most m (ends address action failed) t e =
+    at_most_where _ (first_of (places (is_open_with address action) t.steps)) (with_passed t) t (λ place. end_at_most place m failed t) (at_most_same t (with_passed t) refl)
+said_at_most m (begins_provisioner address name) t e = absurd cc
+said_at_most m (ends_provisioner address failed) t e = at_most_same t _ (said_same m (ends_provisioner address failed) t e refl)
+said_at_most m (error address d) t e = absurd cc
+said_at_most m (warning d) t e = absurd cc
+said_at_most m (version text) t e = absurd cc
+said_at_most m plan_summary t e = at_most_same t _ refl
+said_at_most m (summary totals) t e = at_most_same t _ refl
+said_at_most m other t e = at_most_same t _ refl
+said_at_most m lacking t e = at_most_same t _ refl
+
+message_at_most : (message : Option Message) (t : Telling) → option_map_or (λ (x : Message). is_kept x.said) message false ≡ false → AtMost t (with_message_or_passed message t)
+message_at_most None t e = at_most_same t _ refl
+message_at_most (Some message) t e = said_at_most message.moment message.said _ e
+
+pub line_at_most : (line : List ℕ) (t : Telling) → is_kept_line line ≡ false → kept_bytes (with_line line t) ≤ kept_bytes t
+line_at_most line t e =
+    ⊎_elim
+    (λ (yes : is_blank_line line ≡ true). rw yes (at_most_same t _ refl))
+    (λ (no : is_blank_line line ≡ false). rw no (message_at_most (message_of line) _ (rw no at e)))
     (cases_Bool (is_blank_line line))
 
 -- ---- a line of progress
 
-abbrev kept_of : Message → Bool
-kept_of message = is_kept message.said
+abbrev Neither : Said → Type 0
+Neither said = (is_kept said ≡ false) × (is_end said ≡ false)
 
-typed_progress : (name : List ℕ) (d : Data) → is_progress_type name ≡ true → is_kept (said_of name d) ≡ false
+abbrev NeitherOf : Option Message → Type 0
+NeitherOf message = (option_map_or (λ (x : Message). is_kept x.said) message false ≡ false) × (option_map_or (λ (x : Message). is_end x.said) message false ≡ false)
+
+typed_progress : (name : List ℕ) (d : Data) → is_progress_type name ≡ true → Neither (said_of name d)
 typed_progress name d e =
     ⊎_elim
     (λ (apply : bytes_eq name (codes "apply_progress") ≡ true).
     let same : name ≡ codes "apply_progress" = (bytes_eq-Decides name (codes "apply_progress")).0 apply in
-    rw same refl)
+    rw same (refl, refl))
     (λ (no : bytes_eq name (codes "apply_progress") ≡ false).
     let same : name ≡ codes "provision_progress" = (bytes_eq-Decides name (codes "provision_progress")).0 (rw no at e) in
-    rw same refl)
+    rw same (refl, refl))
     (cases_Bool (bytes_eq name (codes "apply_progress")))
 
 message_progress : (d : Data) (n : Option (List ℕ)) (moment : Option ℤ) → option_map_or is_progress_type n false ≡ true
-    → option_map_or kept_of (n >>= λ name. (moment >>= λ at. Some (message_at name d at))) false ≡ false
-message_progress d None moment e = refl
-message_progress d (Some name) None e = refl
+    → NeitherOf (n >>= λ name. (moment >>= λ at. Some (message_at name d at)))
+message_progress d None moment e = (refl, refl)
+message_progress d (Some name) None e = (refl, refl)
 message_progress d (Some name) (Some at) e = typed_progress name d e
 
-tree_progress : (o : Option Data) → option_map_or is_progress o false ≡ true → option_map_or kept_of (o >>= tree_message) false ≡ false
-tree_progress None e = refl
+tree_progress : (o : Option Data) → option_map_or is_progress o false ≡ true → NeitherOf (o >>= tree_message)
+tree_progress None e = (refl, refl)
 tree_progress (Some d) e = message_progress d (text_of (codes "type") d) (moment_of d) e
 
-pub progress_is_not_kept : (line : List ℕ) → is_progress_line line ≡ true → is_kept_line line ≡ false
-progress_is_not_kept line e =
+pub progress_is_neither : (line : List ℕ) → is_progress_line line ≡ true → (is_kept_line line ≡ false) × (is_end_line line ≡ false)
+progress_is_neither line e =
     ⊎_elim
-    (λ (yes : is_blank_line line ≡ true). rw yes refl)
+    (λ (yes : is_blank_line line ≡ true). rw yes (refl, refl))
     (λ (no : is_blank_line line ≡ false). rw no (tree_progress (tree_of line) e))
     (cases_Bool (is_blank_line line))

@@ -39,6 +39,23 @@ is_kept (summary totals) = false
 is_kept other = false
 is_kept lacking = false
 
+-- the end of a step, with which less may be kept
+abbrev pub is_end : Said → Bool
+is_end (begins address action) = false
+is_end (ends address action failed) = true
+is_end (begins_provisioner address name) = false
+is_end (ends_provisioner address failed) = false
+is_end (error address d) = false
+is_end (warning d) = false
+is_end (version text) = false
+is_end plan_summary = false
+is_end (summary totals) = false
+is_end other = false
+is_end lacking = false
+
+abbrev pub is_end_line : List ℕ → Bool
+is_end_line line = option_map_or (λ (message : Message). is_end message.said) (message_in line) false
+
 -- it is a message of which something is kept
 abbrev pub is_kept_line : List ℕ → Bool
 is_kept_line line = option_map_or (λ (message : Message). is_kept message.said) (message_in line) false

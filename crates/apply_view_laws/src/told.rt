@@ -4,7 +4,7 @@ ghost use Rattle.std.specs.Prelude.{◌≡◌, ◌≤◌, ℕ, List, All, false,
 ghost use Rattle.apply_view.specs.Memory.{kept_bytes};
 ghost use Rattle.apply_view.specs.Steps.{ToldStep};
 ghost use Rattle.apply_view.specs.Telling.{Telling, told_of, with_line};
-ghost use Rattle.apply_view_laws.specs.Memory.{allowed_bytes, is_kept_line, is_progress_line};
+ghost use Rattle.apply_view_laws.specs.Memory.{allowed_bytes, is_end_line, is_kept_line, is_progress_line};
 ghost use Rattle.apply_view_laws.specs.Messages.{IsOfItsLines, begin_lines};
 
 /// Each line that begins a step gives one, and no other line does.
@@ -23,10 +23,12 @@ pub fn memory_is_kept_for_steps_and_few_diagnostics()
     ensures { (lines : List (List ℕ)) → kept_bytes (told_of lines) ≤ allowed_bytes (told_of lines) }
 {}
 
-/// No line changes how many bytes that are that begins no step and no provisioner, and is no error, no warning and no
-/// version; and so none of progress does.
+/// No line makes more bytes of that which begins no step and no provisioner, and is no error, no warning and no version; none of
+/// these but the end of a step changes how many they are, and so none of progress does.
 pub fn progress_takes_no_memory()
-    ensures lines { (line : List ℕ) (told : Telling) → is_kept_line line ≡ false
+    ensures more { (line : List ℕ) (told : Telling) → is_kept_line line ≡ false
+        → kept_bytes (with_line line told) ≤ kept_bytes told }
+    ensures lines { (line : List ℕ) (told : Telling) → is_kept_line line ≡ false → is_end_line line ≡ false
         → kept_bytes (with_line line told) ≡ kept_bytes told }
     ensures progress { (line : List ℕ) (told : Telling) → is_progress_line line ≡ true
         → kept_bytes (with_line line told) ≡ kept_bytes told }

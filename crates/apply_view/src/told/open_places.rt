@@ -1,9 +1,10 @@
 //! Where the steps stand that are open, by address.
 
-ghost use Rattle.std.specs.Prelude.{◌≡◌, ◌<◌, ◌≤◌, ◌+◌, ◌*◌, ◌++◌, ◌∷◌, [], ℕ, List, None, OnOk, false, length, true, if◌then◌else◌};
+ghost use Rattle.std.specs.Prelude.{◌≡◌, ◌<◌, ◌≤◌, ◌+◌, ◌++◌, ◌∷◌, [], ℕ, List, None, OnOk, Some, Vec, false, length, true, if◌then◌else◌};
+ghost use Rattle.std.specs.Global.{Global as global};
 ghost use Rattle.std.specs.BTreeMap.{get_by_text};
 ghost use Rattle.std.specs.Str.{bytes_eq};
-ghost use Rattle.apply_view.specs.OpenPlaces.{AreFilled, places_at, places_bytes, text_bytes, without};
+ghost use Rattle.apply_view.specs.OpenPlaces.{AreFilled, bytes_for, places_at, spent_bytes, text_bytes, without};
 
 use std::alloc::{AllocError, Global};
 use std::collections::BTreeMap;
@@ -24,7 +25,7 @@ impl OpenPlaces {
     pub fn new(alloc: Global) -> OpenPlaces
         ensures places { (address : List ℕ) → places_at result address ≡ [] }
         ensures filled { AreFilled result }
-        ensures bytes { places_bytes result ≡ 0 }
+        ensures bytes { spent_bytes result ≡ 0 }
     {
         OpenPlaces {
             by_address: BTreeMap::new(alloc),
@@ -47,7 +48,7 @@ impl OpenPlaces {
             ≡ (if bytes_eq address.now other then places_at self.old other ++ place ∷ []
             else places_at self.old other)) }
         ensures filled { OnOk result (AreFilled self.old → AreFilled self.new) }
-        ensures bytes { OnOk result (places_bytes self.new ≤ places_bytes self.old + (text_bytes address.now + 32)) }
+        ensures bytes { OnOk result (spent_bytes self.new ≤ spent_bytes self.old + (text_bytes address.now + 32)) }
     {
         let mut places = self.taken(alloc, address);
         places.push(place)?;
@@ -61,7 +62,7 @@ impl OpenPlaces {
         ensures places { result.items ≡ places_at self.old address.now }
         ensures others { (other : List ℕ) → get_by_text self.new.by_address other
             ≡ (if bytes_eq address.now other then None else get_by_text self.old.by_address other) }
-        ensures bytes { places_bytes self.new + 8 * length result.items ≤ places_bytes self.old }
+        ensures bytes { spent_bytes self.new + bytes_for address.now result.items ≤ spent_bytes self.old }
     {
         match self.by_address.remove(address) {
             Some(places) => places,
@@ -75,7 +76,8 @@ impl OpenPlaces {
             ≡ (if bytes_eq address.now other then without place (places_at self.old other)
             else places_at self.old other) }
         ensures filled { AreFilled self.old → AreFilled self.new }
-        ensures bytes { places_bytes self.new ≤ places_bytes self.old }
+        ensures bytes { spent_bytes self.new + bytes_for address.now (places_at self.old address.now)
+            ≤ spent_bytes self.old + bytes_for address.now (places_at self.new address.now) }
     {
         if self.cut(address, place) {
             let _ = self.by_address.remove(address);
@@ -91,7 +93,12 @@ impl OpenPlaces {
         ensures filled { result ≡ false → AreFilled self.old → AreFilled self.new }
         ensures others { (other : List ℕ) → bytes_eq address.now other ≡ false
             → get_by_text self.new.by_address other ≡ get_by_text self.old.by_address other }
-        ensures bytes { places_bytes self.new ≤ places_bytes self.old }
+        ensures bytes { result ≡ false → spent_bytes self.new + bytes_for address.now (places_at self.old address.now)
+            ≤ spent_bytes self.old + bytes_for address.now (places_at self.new address.now) }
+        ensures rest { result ≡ true → spent_bytes self.new + bytes_for address.now (places_at self.old address.now)
+            ≤ spent_bytes self.old + (text_bytes address.now + 24) }
+        ensures emptied { result ≡ true → (left : Vec ℕ global)
+            × (get_by_text self.new.by_address address.now ≡ Some left) × (left.items ≡ []) }
     {
         match self.by_address.get_mut(address) {
             Some(places) => drop_place(places, place),
