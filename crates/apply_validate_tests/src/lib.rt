@@ -3,6 +3,8 @@
 #![tactic(auto)]
 
 #[cfg(test)]
+mod beside_plan;
+#[cfg(test)]
 mod extras;
 #[cfg(test)]
 mod tests;
