@@ -1,4 +1,5 @@
 pub mod Collected
+pub mod EditRows
 pub mod FirstNames
 pub mod Named
 pub mod Options

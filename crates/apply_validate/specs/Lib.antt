@@ -1,4 +1,5 @@
 pub mod Beside
+pub mod EditRows
 pub mod Extras
 pub mod Findings
 pub mod FirstNamed

@@ -3,5 +3,6 @@
 pub mod arguments;
 pub mod entry_points;
 pub mod inputs;
+pub mod read_input;
 pub mod settings;
 pub mod telling;

@@ -2,9 +2,11 @@
 #![tactic(auto)]
 
 mod command;
+mod lens;
 mod texts;
 
 pub use command::arguments::read_words;
 pub use command::entry_points::{follow, validate};
 pub use command::settings::Settings;
 pub use command::telling::found_text;
+pub use lens::Lens;

@@ -2,7 +2,6 @@
 
 pub mod beside;
 pub mod count;
-pub mod edits;
 pub mod finding;
 pub mod found;
 pub mod near;

@@ -2,7 +2,7 @@
 
 use crate::tests::{PLAN, of_script, told};
 use apply_validate::Form;
-use apply_validate_command::validate;
+use apply_validate_command::{Lens, validate};
 use std::alloc::Global;
 use std::process::Abort;
 
@@ -117,6 +117,7 @@ fn ends_with(rt: &impl Abort, alloc: Global, plan: &str, script: Option<&str>, s
         false,
         plan,
         script,
+        Lens::of(plan, script),
         &mut out,
         &mut faults,
     );

@@ -1,7 +1,7 @@
 //! What is told of what a script says for Terraform's form alone.
 
 use apply_validate::{Form, findings_of};
-use apply_validate_command::found_text;
+use apply_validate_command::{Lens, found_text};
 use std::alloc::Global;
 use std::process::Abort;
 
@@ -22,7 +22,8 @@ fn told(
 ) {
     let (plan, script) = (plan.as_bytes(), Some(script.as_bytes()));
     let found = findings_of(alloc, plan, script, false, form).expect(rt, "memory");
-    let text = found_text(alloc, &found, plan, script).expect(rt, "memory");
+    let lens = Lens::of(plan, script);
+    let text = found_text(alloc, &found, plan, script, lens).expect(rt, "memory");
     assert_eq!(rt; text.as_str(), expected);
     assert_eq!(rt; found.plan.refuses() || found.script.refuses(), refused);
 }

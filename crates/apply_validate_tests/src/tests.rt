@@ -1,7 +1,7 @@
 //! What no clause says: the texts of findings in a plan and in a script.
 
 use apply_validate::{Form, findings_of};
-use apply_validate_command::found_text;
+use apply_validate_command::{Lens, found_text};
 use std::alloc::Global;
 use std::process::Abort;
 
@@ -25,7 +25,8 @@ pub fn told(
         None => None,
     };
     let found = findings_of(alloc, plan, script, lanes, Form::Applystream).expect(rt, "memory");
-    let text = found_text(alloc, &found, plan, script).expect(rt, "memory");
+    let lens = Lens::of(plan, script);
+    let text = found_text(alloc, &found, plan, script, lens).expect(rt, "memory");
     (text, found.plan.refuses() || found.script.refuses())
 }
 
@@ -88,7 +89,7 @@ plan .resource_changes[1].deposed: is an array of 0, and has to be a text, or ab
 plan .resource_changes[1].change.actions: is [\"import\"], and has to be [\"no-op\"], [\"create\"], [\"read\"], [\"update\"], [\"delete\"], [\"forget\"], [\"delete\",\"create\"] or [\"create\",\"delete\"]\n\
 plan .resource_changes[2].change.actions: is missing, and has to be an array\n\
 plan .resource_changes[2].address: is empty\n\
-plan .resource_changes[3].address: is \"module.n.t.n\", and has to begin with its module, \"module.m\"\n\
+plan .resource_changes[3].address: is \"module.n.t.n\", and has to begin with its module, \"module.m.\"\n\
 plan .resource_changes[5]: is of the object of .resource_changes[4] again: \"t.n\"\n",
     );
 }

@@ -8,8 +8,10 @@ ghost use Rattle.apply_validate_command.specs.Validated.{IsScriptOf, IsToldOf, W
 
 use crate::command::arguments::read_words;
 use crate::command::inputs::{InputFault, read_all, read_script_file};
+use crate::command::read_input::ReadInput;
 use crate::command::settings::Settings;
 use crate::command::telling::found_text;
+use crate::lens::Lens;
 use apply_validate::{Form, Found, findings_of};
 use apply_words::{FAILED, REFUSED, answer_usage, refuse_memory, report};
 use std::alloc::Global;
@@ -45,13 +47,15 @@ pub fn follow<F: Files, R: Read, W: Write, E: Write>(
     };
     match read_all(alloc, input, InputFault::Plan) {
         Ok(plan) => {
+            let lens = lens_of(&plan, &script);
             let script = bytes_of(&script);
             validate(
                 alloc,
                 settings.form,
                 settings.lanes,
-                &plan,
+                &plan.bytes,
                 script,
+                lens,
                 out,
                 faults,
             )
@@ -60,13 +64,13 @@ pub fn follow<F: Files, R: Read, W: Write, E: Write>(
     }
 }
 
-/// The bytes of the script, where one is named.
+/// What is read of the script, where one is named.
 fn read_script<F: Files>(
     files: &F,
     alloc: Global,
     settings: &Settings,
-) -> Result<Option<Vec<u8>>, InputFault>
-    ensures { IfOk result (λ script. IsScriptOf F.File.remaining settings.now.script (option_map (λ bytes. bytes.items) script)) }
+) -> Result<Option<ReadInput>, InputFault>
+    ensures { IfOk result (λ script. IsScriptOf F.File.remaining settings.now.script (option_map (λ read. read.bytes.items) script)) }
 {
     match &settings.script {
         Some(name) => Ok(Some(read_script_file(files, alloc, name.as_str())?)),
@@ -75,12 +79,24 @@ fn read_script<F: Files>(
 }
 
 /// The bytes, where there are some.
-fn bytes_of(script: &Option<Vec<u8>>) -> Option<&[u8]>
-    ensures { option_copied result ≡ option_map (λ bytes. bytes.items) script.now }
+fn bytes_of(script: &Option<ReadInput>) -> Option<&[u8]>
+    ensures { option_copied result ≡ option_map (λ read. read.bytes.items) script.now }
 {
     match script {
-        Some(bytes) => Some(bytes.as_slice()),
+        Some(read) => Some(read.bytes.as_slice()),
         None => None,
+    }
+}
+
+/// How large the inputs are.
+fn lens_of(plan: &ReadInput, script: &Option<ReadInput>) -> Lens {
+    let script = match script {
+        Some(read) => read.len,
+        None => 0,
+    };
+    Lens {
+        plan: plan.len,
+        script,
     }
 }
 
@@ -97,13 +113,15 @@ fn refuse<E: Write>(faults: &mut E, fault: InputFault) -> u8
 
 /// Says what is found in the bytes of a plan, and in those of a script for it, where one is given, and answers the exit status: 2
 /// where something is found for which a run refuses, 1 where only warnings are, 0 where nothing is; but 3 where memory was refused
-/// or `out` could not be written. The run writes its stream in that form; `lanes` says that it has `--parallelism`.
+/// or `out` could not be written. The run writes its stream in that form; `lanes` says that it has `--parallelism`. The inputs have
+/// `lens` bytes, of which what is given is all, or more than they may have.
 pub fn validate<W: Write, E: Write>(
     alloc: Global,
     form: Form,
     lanes: bool,
     plan: &[u8],
     script: Option<&[u8]>,
+    lens: Lens,
     out: &mut W,
     faults: &mut E,
 ) -> u8
@@ -113,7 +131,7 @@ pub fn validate<W: Write, E: Write>(
     let Ok(found) = findings_of(alloc, plan, script, lanes, form) else {
         return refuse_memory(faults);
     };
-    let Ok(text) = found_text(alloc, &found, plan, script) else {
+    let Ok(text) = found_text(alloc, &found, plan, script, lens) else {
         return refuse_memory(faults);
     };
     match write_whole(out, text.as_str()) {

@@ -4,6 +4,7 @@ ghost use Rattle.std.specs.Prelude.{◌≡◌, ◌<◌, ◌≤◌, ◌+◌, ◌+
 ghost use Rattle.std.specs.Io.KnownBytes.{Consumes, IsAtEnd};
 ghost use Rattle.apply_validate_command.specs.Validated.{IsReadOf};
 
+use crate::command::read_input::ReadInput;
 use apply_plan::MAX_BYTES;
 use std::alloc::{AllocError, AllocFailed, Global};
 use std::fs;
@@ -43,13 +44,13 @@ impl<T: Drop> From<AllocFailed<T>> for InputFault {
     }
 }
 
-/// The bytes of a script's file, and no more than one more than it may have.
+/// What is read of a script's file.
 pub fn read_script_file<F: Files>(
     files: &F,
     alloc: Global,
     name: &str,
-) -> Result<Vec<u8>, InputFault>
-    ensures { IfOk result (λ bytes. (file : _) × IsReadOf (F.File.remaining file) bytes.items) }
+) -> Result<ReadInput, InputFault>
+    ensures { IfOk result (λ read. (file : _) × IsReadOf (F.File.remaining file) read.bytes.items) }
 {
     match fs::open(files, name) {
         Ok(mut file) => read_all(alloc, &mut file, InputFault::Script),
@@ -63,11 +64,33 @@ pub fn read_all<R: Read>(
     alloc: Global,
     input: &mut R,
     fault: InputFault,
-) -> Result<Vec<u8>, InputFault>
-    ensures { IfOk result (λ bytes. IsReadOf (R.remaining input.old) bytes.items) }
+) -> Result<ReadInput, InputFault>
+    ensures { IfOk result (λ read. IsReadOf (R.remaining input.old) read.bytes.items) }
 {
     let mut buffer = zeros(alloc, BUFFER_LEN)?;
-    read_front(alloc, input, &mut buffer, MAX_READ, fault)
+    let bytes = read_front(alloc, input, &mut buffer, MAX_READ, fault)?;
+    let mut len = bytes.len() as u64;
+    if bytes.len() == MAX_READ {
+        len = len.saturating_add(count_rest(input, &mut buffer, fault)?);
+    }
+    Ok(ReadInput { bytes, len })
+}
+
+/// How many bytes an input has left, which are read through the buffer.
+fn count_rest<R: Read>(
+    input: &mut R,
+    buffer: &mut [u8],
+    fault: InputFault,
+) -> Result<u64, InputFault> {
+    let mut len = 0u64;
+    for _ in 0..u64::MAX {
+        match input.read(buffer) {
+            Ok(0) => return Ok(len),
+            Ok(count) => len = len.saturating_add(count as u64),
+            Err(_) => return Err(fault),
+        }
+    }
+    Ok(len)
 }
 
 /// So many zeros.

@@ -6,6 +6,7 @@ ghost use Rattle.apply_validate_command.specs.Validated.{TellsOf, accepted, noth
 use crate::texts::count::Count;
 use crate::texts::finding::{Input, bytes_text, finding_text};
 use crate::texts::plan_names::PlanNames;
+use crate::lens::Lens;
 use apply_json::{JsonFault, parse};
 use apply_plan::MAX_BYTES;
 use apply_validate::{Findings, Found, What};
@@ -15,7 +16,7 @@ use std::alloc::{AllocError, Global};
 /// How many findings are told.
 const MOST_TOLD: usize = 1000;
 
-/// For how many unknown names near ones are looked for, as each is compared with all of the plan's.
+/// For how many unknown addresses near ones are looked for, as each is compared with all of the plan's, and for how many outputs.
 const MOST_SOUGHT: usize = 10;
 
 /// What is told, as lines: the first 1,000 findings, and how many more there are. `Err` where memory is refused.
@@ -24,10 +25,11 @@ pub fn found_text(
     found: &Found,
     plan: &[u8],
     script: Option<&[u8]>,
+    lens: Lens,
 ) -> Result<String, AllocError>
     ensures { IfOk result (λ text. TellsOf found.now.plan found.now.script (is_some script.entry) (string_bytes text)) }
 {
-    let text = lines_text(alloc, found, plan, script)?;
+    let text = lines_text(alloc, found, plan, script, lens)?;
     or_accepted(text, script.is_some())
 }
 
@@ -48,6 +50,7 @@ fn lines_text(
     found: &Found,
     plan: &[u8],
     script: Option<&[u8]>,
+    lens: Lens,
 ) -> Result<String, AllocError>
     ensures { found.now.plan ≡ nothing → found.now.script ≡ nothing → IfOk result (λ text. string_bytes text ≡ []) }
 {
@@ -57,13 +60,13 @@ fn lines_text(
     push_findings(
         alloc,
         &mut text,
-        Input::Plan,
+        Input::Plan(lens.plan),
         &found.plan,
         plan,
         &names,
         MOST_TOLD,
     )?;
-    push_script(alloc, &mut text, found, script, &names)?;
+    push_script(alloc, &mut text, found, script, lens.script, &names)?;
     push_more(
         alloc,
         &mut text,
@@ -78,6 +81,7 @@ fn push_script(
     text: &mut String,
     found: &Found,
     script: Option<&[u8]>,
+    len: u64,
     names: &PlanNames<'_>,
 ) -> Result<(), AllocError>
     ensures { found.now.script.kept ≡ [] → OnOk result (string_bytes text.new ≡ string_bytes text.old) }
@@ -89,7 +93,7 @@ fn push_script(
     push_findings(
         alloc,
         text,
-        Input::Script,
+        Input::Script(len),
         &found.script,
         script,
         names,
@@ -145,7 +149,7 @@ fn push_findings(
     }
     match tree_of(alloc, bytes)? {
         Some(tree) => push_tree(alloc, text, input, findings, &tree, names, most),
-        None => push_no_tree(alloc, text, input, findings, bytes.len()),
+        None => push_no_tree(alloc, text, input, findings),
     }
 }
 
@@ -159,16 +163,25 @@ fn push_tree(
     names: &PlanNames<'_>,
     most: usize,
 ) -> Result<(), AllocError> {
-    let mut unknown = 0usize;
+    let mut addresses = 0usize;
+    let mut outputs = 0usize;
     for finding in findings.kept().iter().take(most) {
-        let has_near = unknown < MOST_SOUGHT;
-        if matches!(finding.what, What::UnknownAddress | What::UnknownOutput) {
-            unknown = unknown.saturating_add(1);
-        }
+        let has_near = match finding.what {
+            What::UnknownAddress => is_sought(&mut addresses),
+            What::UnknownOutput => is_sought(&mut outputs),
+            _ => false,
+        };
         text.push_str(finding_text(alloc, input, tree, finding, names, has_near)?.as_str())?;
         text.push('\n')?;
     }
     Ok(())
+}
+
+/// Whether near names are looked for once more.
+fn is_sought(count: &mut usize) -> bool {
+    let before = *count;
+    *count = before.saturating_add(1);
+    before < MOST_SOUGHT
 }
 
 /// Adds what is found in bytes that are no tree.
@@ -177,10 +190,9 @@ fn push_no_tree(
     text: &mut String,
     input: Input,
     findings: &Findings,
-    len: usize,
 ) -> Result<(), AllocError> {
     for finding in findings.kept() {
-        text.push_str(bytes_text(alloc, input, finding.what, len)?.as_str())?;
+        text.push_str(bytes_text(alloc, input, finding.what)?.as_str())?;
         text.push('\n')?;
     }
     Ok(())

@@ -8,7 +8,7 @@ use crate::texts::count::Count;
 use crate::texts::found::{found_text, shortened_json};
 use crate::texts::near::not_read_text;
 use crate::texts::place::{path_text, value_at};
-use crate::texts::plan_names::PlanNames;
+use crate::texts::plan_names::{PlanNames, text_at};
 use crate::texts::plan_outputs::unknown_output_text;
 use crate::texts::wants::want_text;
 use apply_plan::{
@@ -18,18 +18,24 @@ use apply_validate::{Finding, Name, What};
 use serde_json::Value;
 use std::alloc::{AllocError, Global};
 
-/// Which of the two inputs it is about.
+/// Which of the two inputs it is about, and how many bytes that has.
 #[derive(Clone, Copy)]
 pub enum Input {
-    Plan,
-    Script,
+    Plan(u64),
+    Script(u64),
 }
 
 impl Input {
     fn word(self) -> &'static str {
         match self {
-            Input::Plan => "plan",
-            Input::Script => "script",
+            Input::Plan(_) => "plan",
+            Input::Script(_) => "script",
+        }
+    }
+
+    fn len(self) -> Count {
+        match self {
+            Input::Plan(len) | Input::Script(len) => Count(len),
         }
     }
 }
@@ -39,16 +45,11 @@ const ACTIONS: &str =
     r#"["no-op"], ["create"], ["read"], ["update"], ["delete"], ["forget"], ["delete","create"] or ["create","delete"]"#;
 
 /// What is found in bytes that are no tree. `Err` where memory is refused.
-pub fn bytes_text(
-    alloc: Global,
-    input: Input,
-    what: What,
-    len: usize,
-) -> Result<String, AllocError> {
+pub fn bytes_text(alloc: Global, input: Input, what: What) -> Result<String, AllocError> {
     let word = input.word();
     match what {
         What::TooManyBytes => {
-            let (len, most) = (Count(len as u64), Count(MAX_BYTES as u64));
+            let (len, most) = (input.len(), Count(MAX_BYTES as u64));
             format!(in alloc; "{word} .: has {len} bytes, {most} at most")
         }
         _ => format!(in alloc; "{word} .: is not JSON, or nested more than 127 deep"),
@@ -107,8 +108,8 @@ fn what_text(
         What::EmptyAddress => String::from_str(alloc, "is empty"),
         What::OutsideModule => {
             let shown = json_there(alloc, found)?;
-            let module = module_text(alloc, tree, finding)?;
-            format!(in alloc; "is {shown}, and has to begin with its module, {module}")
+            let front = module_front(alloc, tree, finding)?;
+            format!(in alloc; "is {shown}, and has to begin with its module, {front}")
         }
         What::NamedBefore(number) => {
             let address = address_text(alloc, found)?;
@@ -214,13 +215,15 @@ fn address_text(alloc: Global, found: Option<&Value>) -> Result<String, AllocErr
     json_there(alloc, value.get(Name::Address.text()))
 }
 
-/// The address of the module of the element that a path goes through.
-fn module_text(alloc: Global, tree: &Value, finding: &Finding) -> Result<String, AllocError> {
+/// How the address of an element in a module begins: with the module's, and a dot.
+fn module_front(alloc: Global, tree: &Value, finding: &Finding) -> Result<String, AllocError> {
     let element = value_at(tree, &finding.path, finding.path.len().saturating_sub(1));
-    match element {
-        Some(element) => json_there(alloc, element.get(Name::ModuleAddress.text())),
-        None => Ok(String::new(alloc)),
-    }
+    let module = match element {
+        Some(element) => text_at(element, Name::ModuleAddress).unwrap_or(""),
+        None => "",
+    };
+    let front = Value::String(format!(in alloc; "{module}.")?);
+    shortened_json(alloc, &front)
 }
 
 /// How long a step takes.

@@ -1,11 +1,11 @@
 //! What stands somewhere.
 
-use apply_shown::shown_within;
+use apply_fitting::{ShownText, fitted};
 use serde_json::Value;
 use std::alloc::{AllocError, Global};
 
-/// How many bytes are shown of a text or a number.
-const MAX_SHOWN: usize = 60;
+/// How many columns are shown of a text or a number.
+const MOST_COLUMNS: usize = 60;
 
 /// A value as it is told: what it is, and of a text or a number itself. `Err` where memory is refused.
 pub fn found_text(alloc: Global, value: &Value) -> Result<String, AllocError> {
@@ -22,10 +22,12 @@ pub fn found_text(alloc: Global, value: &Value) -> Result<String, AllocError> {
     }
 }
 
-/// A value as JSON, as far as there is room for it.
+/// A value as JSON, as far as there is room for it: what it begins and ends with.
 pub fn shortened_json(alloc: Global, value: &Value) -> Result<String, AllocError> {
     let text = value.to_string(alloc)?;
-    shown_within(alloc, MAX_SHOWN, text.as_str().as_bytes())
+    let whole = ShownText::of(alloc, text.as_str().as_bytes())?;
+    let short = fitted(alloc, &whole, MOST_COLUMNS)?;
+    short.characters().iter().copied().collect(alloc)
 }
 
 /// A value as JSON, so that it steers no terminal.

@@ -7,7 +7,7 @@ use serde_json::Value;
 use std::alloc::{AllocError, Global};
 
 /// How many names that may be meant are told.
-pub const MOST_NEAR: usize = 3;
+const MOST_NEAR: usize = 3;
 
 /// That nobody reads a member, and which known ones its name is nearly. `Err` where memory is refused.
 pub fn not_read_text(alloc: Global, tree: &Value, finding: &Finding) -> Result<String, AllocError> {

@@ -1,8 +1,7 @@
 //! The objects that a plan changes, as people are told of them.
 
-use crate::texts::edits::edits_within;
 use crate::texts::found::json_text;
-use crate::texts::near::{MOST_NEAR, first_near, push_near};
+use crate::texts::near::{first_near, push_near};
 use crate::texts::plan_outputs::output_names;
 use apply_validate::{Name, nearest};
 use serde_json::Value;
@@ -87,31 +86,10 @@ fn push_near_among(
     found: &str,
     all: &[&str],
 ) -> Result<(), AllocError> {
-    let sought = chars_of(alloc, found)?;
-    let reach = (sought.len() / 3).max(1);
-    let mut names = Vec::new(alloc);
-    // Only the first of the nearest are told: the others take no comparison as a whole.
-    let mut least = reach;
-    for name in all {
-        let chars = chars_of(alloc, name)?;
-        if let Some(count) = edits_within(alloc, &sought, &chars, least)? {
-            if count < least {
-                least = count;
-                names.clear();
-            }
-            if names.len() < MOST_NEAR {
-                names.push(*name)?;
-            }
-        }
-    }
-    let near = nearest(alloc, found, &names, reach)?;
-    let shown = first_near(alloc, &names, &near)?;
+    let reach = (found.chars().count() / 3).max(1);
+    let near = nearest(alloc, found, all, reach)?;
+    let shown = first_near(alloc, all, &near)?;
     push_near(text, &shown)
-}
-
-/// The characters of a text.
-fn chars_of(alloc: Global, text: &str) -> Result<Vec<char>, AllocError> {
-    text.chars().collect(alloc)
 }
 
 /// Adds the key of a deposed object, or that there is none.

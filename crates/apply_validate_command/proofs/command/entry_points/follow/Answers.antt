@@ -28,8 +28,8 @@ was_validated remaining words input before after status settings plan given scri
 
 pub returns-in-Ok-read_all-clause-validated : goal.returns-in-Ok-read_all-clause-validated
 returns-in-Ok-read_all-clause-validated g c =
-    was_validated g.F.File.Read.remaining _ (g.R.Read.remaining c.args.input.now) _ _ _ c.in-Ok.settings c.in-Ok-read_all.plan.items _
-    (option_map (λ bytes. bytes.items) c.in-Ok-read_script.script) _ c.deref.ensures.value c.bytes_of-script.ensures c.in-Ok.ensures.said c.in-Ok-read_all.ensures c.in-Ok-read_script.ensures
+    was_validated g.F.File.Read.remaining _ (g.R.Read.remaining c.args.input.now) _ _ _ c.in-Ok.settings c.in-Ok-read_all.plan.bytes.items _
+    (option_map (λ read. read.bytes.items) c.in-Ok-read_script.script) _ c.deref.ensures.value c.bytes_of-script.ensures c.in-Ok.ensures.said c.in-Ok-read_all.ensures c.in-Ok-read_script.ensures
     c.validate.ensures
 
 pub returns-in-Err-clause-validated : goal.returns-in-Err-clause-validated
