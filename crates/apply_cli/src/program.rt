@@ -37,7 +37,7 @@ pub fn given_words<R: Env + AllocGlobal>(rt: &R) -> Result<Vec<String>, Usage> {
     match std::env::args(rt) {
         Ok(words) => Ok(words.collect(rt.alloc())?),
         Err(error) if error.kind() == ErrorKind::InvalidData => {
-            Err(Usage::Words(Text::new(rt.alloc(), "error: a word is not UTF-8\n")?))
+            Err(Usage::Words(Text::new(rt.alloc(), "error: an argument is not UTF-8\n")?))
         }
         Err(_) => Err(Usage::Memory),
     }

@@ -6,7 +6,7 @@ use Rattle.apply_hooks.specs.declared.verdict.Verdict.TheVariants as verdict
 use Rattle.apply_settings.specs.declared.halt.Halt.{Halt}
 use Rattle.apply_settings.specs.declared.halt.Halt.TheVariants.{Before, Inside}
 
--- one rule, which halts before a step: each of that kind, or each of a change whose address begins so
+-- one rule, which halts before a step: each of that kind, or each whose address begins with the prefix
 abbrev pub rules_of_halt : Halt → List Rule
 rules_of_halt (Before kind) =
     record { phase = Some phase.Pre; kind = Some kind; address_begins = []; verdict = verdict.Halt } ∷ []

@@ -51,7 +51,7 @@ Example of a script, for --script: one step takes 12 seconds and tells an id, on
 
 Exit status:
   0  all messages were written, and no step failed or was halted; or help or the version was asked for
-  1  all messages were written, and some step failed or was halted
+  1  all messages were written, and some step failed or was halted; with --form terraform also where they tell an error of no step
   2  the options, the plan or the script were refused or could not be read: no message was written
   3  memory or a thread was refused, or the output could not be written: a part of the messages may have been written"#;
 
@@ -197,7 +197,7 @@ fn halt_in<'a>(alloc: Global) -> Arg<'a>
     ensures { (rule_of result ≡ said.list_named (codes "halt-in")) × (result.global ≡ false) }
 {
     let help =
-        "Halts each step of a resource whose address begins so before it begins, as module.a. May be given again: 32 halts at most";
+        "Halts each step whose address begins with PREFIX, as module.a, before it begins. May be given again: 32 halts at most";
     option_named(alloc, "halt-in", "PREFIX", help).action(ArgAction::Append)
 }
 
