@@ -92,12 +92,14 @@ any_under : (p : Finding → Bool) (part : Part) (xs : List Finding) → list_an
 any_under p part xs e = all_under p part xs ∙ e
 
 -- what a mark tells where it holds
-marked_first : (p : Finding → Bool) (holds : Bool) (x : Finding) (rest : List Finding) → p x ≡ true → holds ≡ true → list_any p ((if holds then x ∷ [] else []) ++ rest) ≡ true
+marked_first : (p : Finding → Bool) (holds : Bool) (x : Finding) (rest : List Finding) → p x ≡ true → holds ≡ true
+    → list_any p ((if holds then x ∷ [] else []) ++ rest) ≡ true
 marked_first p true x rest is holds = first_is p x rest is
 marked_first p false x rest is holds = absurd cc
 
 -- a value is something else, or what is found in it
-where_told : (p : Finding → Bool) (b : Bool) (xs : List Finding) (y : Finding) → p y ≡ true → (b ≡ true → list_any p xs ≡ true) → list_any p (if b then xs else y ∷ []) ≡ true
+where_told : (p : Finding → Bool) (b : Bool) (xs : List Finding) (y : Finding) → p y ≡ true → (b ≡ true → list_any p xs ≡ true)
+    → list_any p (if b then xs else y ∷ []) ≡ true
 where_told p true xs y is inner = inner refl
 where_told p false xs y is inner = first_is p y [] is
 
@@ -113,7 +115,8 @@ unmet_told : (p : Finding → Bool) (met : Bool) (x : Finding) → p x ≡ true 
 unmet_told p true x is unmet = absurd cc
 unmet_told p false x is unmet = first_is p x [] is
 
-faults_told : (p : Finding → Bool) (table : List Known) (d : Data) → AllByRecursion (IsTold p) table → list_all (λ known. is_met known.want (member_at known.name d)) table ≡ false
+faults_told : (p : Finding → Bool) (table : List Known) (d : Data) → AllByRecursion (IsTold p) table
+    → list_all (λ known. is_met known.want (member_at known.name d)) table ≡ false
     → list_any p (faults_of table d) ≡ true
 faults_told p [] d told e = absurd cc
 faults_told p (known ∷ table) d told e =
@@ -157,12 +160,14 @@ no_actions : (o : Option Items) (prior : Option (List ℕ)) → is_some (o >>= �
 no_actions None prior = refl
 no_actions (Some actions) prior = refl
 
-no_list : (o : Option Data) (prior : Option (List ℕ)) → is_some (o >>= λ list. as_array list >>= λ actions. Some (planned actions prior)) ≡ is_some (o >>= as_array)
+no_list : (o : Option Data) (prior : Option (List ℕ))
+    → is_some (o >>= λ list. as_array list >>= λ actions. Some (planned actions prior)) ≡ is_some (o >>= as_array)
 no_list None prior = refl
 no_list (Some list) prior = no_actions (as_array list) prior
 
 -- an object without actions
-lacks_actions : (p : Finding → Bool) (change : Data) → ((o : Option Data) → p (finding_at (Member name.Actions) (lack want.Array o)) ≡ true) → is_some (as_object change) ≡ true
+lacks_actions : (p : Finding → Bool) (change : Data) → ((o : Option Data) → p (finding_at (Member name.Actions) (lack want.Array o)) ≡ true)
+    → is_some (as_object change) ≡ true
     → is_some (read_change change) ≡ false → list_any p (in_change change) ≡ true
 unfolding in_change
 lacks_actions p change told there none =
@@ -171,18 +176,21 @@ lacks_actions p change told there none =
     let unmet : (is_met want.Array o && true) ≡ false = ap (λ (b : Bool). b && true) (met_array o ∙ sym (no_list o (prior_id_of change)) ∙ none) in
     rw there (any_left p (faults_of table change) (marked (actions_mark change ∷ [])) (faults_told p table change (λ o none. told o, tt) unmet))
 
-lacks_change : (p : Finding → Bool) (ch : Option Data) → ((o : Option Data) → p (under (Member name.Change) (finding_at (Member name.Actions) (lack want.Array o))) ≡ true) → is_met want.Object ch ≡ true
+lacks_change : (p : Finding → Bool) (ch : Option Data)
+    → ((o : Option Data) → p (under (Member name.Change) (finding_at (Member name.Actions) (lack want.Array o))) ≡ true) → is_met want.Object ch ≡ true
     → is_some (ch >>= read_change) ≡ false → list_any p (option_map_or (λ value. map (under (Member name.Change)) (in_change value)) ch []) ≡ true
 lacks_change p None told met none = absurd (let never : false ≡ true = met in cc)
 lacks_change p (Some change) told met none =
     any_under p (Member name.Change) (in_change change) (lacks_actions (below (Member name.Change) p) change told met none)
 
 -- the change that a run reads
-actions_of : (o : Option Items) (prior : Option (List ℕ)) (actions : Items) (id : Option (List ℕ)) → (o >>= λ found. Some (planned found prior)) ≡ Some (planned actions id) → o ≡ Some actions
+actions_of : (o : Option Items) (prior : Option (List ℕ)) (actions : Items) (id : Option (List ℕ))
+    → (o >>= λ found. Some (planned found prior)) ≡ Some (planned actions id) → o ≡ Some actions
 actions_of None prior actions id e = absurd cc
 actions_of (Some found) prior actions id e = ap (λ (it : Items × Option (List ℕ)). Some it.0) (some_is (planned found prior) (planned actions id) e)
 
-list_read : (o : Option Data) (prior : Option (List ℕ)) (actions : Items) (id : Option (List ℕ)) → (o >>= λ list. as_array list >>= λ found. Some (planned found prior)) ≡ Some (planned actions id)
+list_read : (o : Option Data) (prior : Option (List ℕ)) (actions : Items) (id : Option (List ℕ))
+    → (o >>= λ list. as_array list >>= λ found. Some (planned found prior)) ≡ Some (planned actions id)
     → (o >>= as_array) ≡ Some actions
 list_read None prior actions id e = absurd cc
 list_read (Some list) prior actions id e = actions_of (as_array list) prior actions id e
@@ -196,7 +204,8 @@ change_read (Some change) actions id e = (change, refl, list_read (member_of (co
 no_steps : (actions : Items) → steps_of_actions actions ≡ None → not (is_one_of_eight actions) ≡ true
 no_steps actions e = ap (λ (o : Option (List StepKind)). not (is_some o)) e
 
-bad_actions : (p : Finding → Bool) (change : Data) (actions : Items) → p (finding_at (Member name.Actions) what.BadActions) ≡ true → (member_at name.Actions change >>= as_array) ≡ Some actions
+bad_actions : (p : Finding → Bool) (change : Data) (actions : Items) → p (finding_at (Member name.Actions) what.BadActions) ≡ true
+    → (member_at name.Actions change >>= as_array) ≡ Some actions
     → steps_of_actions actions ≡ None → list_any p (in_change change) ≡ true
 unfolding in_change
 bad_actions p change actions told is none =
@@ -208,8 +217,10 @@ bad_actions p change actions told is none =
     rw there
     (any_right p faults (marked (actions_mark change ∷ [])) (marked_first p (actions_mark change).holds (finding_at (Member name.Actions) what.BadActions) [] told holds))
 
-bad_change : (p : Finding → Bool) (ch : Option Data) (actions : Items) (id : Option (List ℕ)) → p (under (Member name.Change) (finding_at (Member name.Actions) what.BadActions)) ≡ true
-    → (ch >>= read_change) ≡ Some (planned actions id) → steps_of_actions actions ≡ None → list_any p (option_map_or (λ value. map (under (Member name.Change)) (in_change value)) ch []) ≡ true
+bad_change : (p : Finding → Bool) (ch : Option Data) (actions : Items) (id : Option (List ℕ))
+    → p (under (Member name.Change) (finding_at (Member name.Actions) what.BadActions)) ≡ true
+    → (ch >>= read_change) ≡ Some (planned actions id) → steps_of_actions actions ≡ None
+    → list_any p (option_map_or (λ value. map (under (Member name.Change)) (in_change value)) ch []) ≡ true
 bad_change p ch actions id told is none =
     let it = change_read ch actions id is in
     rw it.1 (any_under p (Member name.Change) (in_change it.0) (bad_actions (below (Member name.Change) p) it.0 actions told it.2 none))
@@ -217,14 +228,16 @@ bad_change p ch actions id told is none =
 -- ---- the address
 
 -- what is told of an address that does not fit its module
-address_told : (p : Finding → Bool) (misplaced empty : Bool) → p (finding_at (Member name.Address) what.EmptyAddress) ≡ true → p (finding_at (Member name.Address) what.OutsideModule) ≡ true → misplaced ≡ true
+address_told : (p : Finding → Bool) (misplaced empty : Bool) → p (finding_at (Member name.Address) what.EmptyAddress) ≡ true
+    → p (finding_at (Member name.Address) what.OutsideModule) ≡ true → misplaced ≡ true
     → list_any p ((if misplaced && empty then finding_at (Member name.Address) what.EmptyAddress ∷ [] else [])
     ++ ((if misplaced && not empty then finding_at (Member name.Address) what.OutsideModule ∷ [] else []) ++ [])) ≡ true
 address_told p true true one other holds = first_is p (finding_at (Member name.Address) what.EmptyAddress) [] one
 address_told p true false one other holds = first_is p (finding_at (Member name.Address) what.OutsideModule) [] other
 address_told p false empty one other holds = absurd cc
 
-misplaced_there : (address module_address : Option (List ℕ)) (a m : List ℕ) → address ≡ Some a → module_address ≡ Some m → relative_address m a ≡ None → is_misplaced address module_address ≡ true
+misplaced_there : (address module_address : Option (List ℕ)) (a m : List ℕ) → address ≡ Some a → module_address ≡ Some m → relative_address m a ≡ None
+    → is_misplaced address module_address ≡ true
 misplaced_there address module_address a m one other none =
     ap (λ (o : Option (List ℕ)). is_misplaced o module_address) one ∙ ap (λ (o : Option (List ℕ)). is_misplaced (Some a) o) other ∙ ap (λ (o : Option (List ℕ)). is_none o) none
 
@@ -243,7 +256,8 @@ read_as address mode kind_name name module_address key deposed planned = record 
   prior_id = planned.1;
 }
 
-abbrev gathered : Option (List ℕ) → Option Mode → Option (List ℕ) → Option (List ℕ) → Option (List ℕ) → Option Key → Option (List ℕ) → Option (Items × Option (List ℕ)) → Option Element
+abbrev gathered : Option (List ℕ) → Option Mode → Option (List ℕ) → Option (List ℕ) → Option (List ℕ) → Option Key → Option (List ℕ)
+    → Option (Items × Option (List ℕ)) → Option Element
 gathered address mode kind_name name module_address key deposed planned =
     address >>= λ a. mode >>= λ o. kind_name >>= λ k. name >>= λ n. module_address >>= λ m. key >>= λ x. deposed >>= λ p. planned >>= λ c.
     Some (read_as a o k n m x p c)
@@ -304,7 +318,8 @@ is_gathered (Some a) (Some o) (Some k) (Some n) (Some m) (Some x) (Some p) (Some
       change_is = ap (λ (y : Element). Some (planned y.actions y.prior_id)) same;
     }
 
-gathered_there : (d : Data) (e : Element) → element_of d ≡ Some e → IsGathered (text_of (codes "address") d) (text_or [] (member_of (codes "module_address") d)) (planned_change_of d) e
+gathered_there : (d : Data) (e : Element) → element_of d ≡ Some e
+    → IsGathered (text_of (codes "address") d) (text_or [] (member_of (codes "module_address") d)) (planned_change_of d) e
 gathered_there d e is =
     is_gathered (text_of (codes "address") d) (text_of (codes "mode") d >>= mode_named) (non_empty_text_of (codes "type") d) (non_empty_text_of (codes "name") d)
     (text_or [] (member_of (codes "module_address") d)) (key_of (member_of (codes "index") d)) (text_or [] (member_of (codes "deposed") d)) (planned_change_of d) e (sym (element_is d) ∙ is)
@@ -316,7 +331,8 @@ of_tests true c m n = refl
 of_tests false true m n = refl
 of_tests false false m n = refl
 
-mode_text : (text : Option (List ℕ)) → (option_map_or (λ t. bytes_eq t (codes "managed")) text false || option_map_or (λ t. bytes_eq t (codes "data")) text false) ≡ is_some (text >>= mode_named)
+mode_text : (text : Option (List ℕ))
+    → (option_map_or (λ t. bytes_eq t (codes "managed")) text false || option_map_or (λ t. bytes_eq t (codes "data")) text false) ≡ is_some (text >>= mode_named)
 mode_text None = refl
 mode_text (Some t) = of_tests (bytes_eq t (codes "managed")) (bytes_eq t (codes "data")) Managed DataSource
 
@@ -343,7 +359,8 @@ last_of true true true true true true false j e = absurd cc
 last_of true true true true true true true j e = and_left j true e
 
 -- where a run reads no element, some member of it is told
-not_read : (p : Finding → Bool) (d : Data) → ((path : List Part) (wanted : Want) (o : Option Data) → p (record { path = path; what = lack wanted o }) ≡ true) → element_of d ≡ None
+not_read : (p : Finding → Bool) (d : Data) → ((path : List Part) (wanted : Want) (o : Option Data) → p (record { path = path; what = lack wanted o }) ≡ true)
+    → element_of d ≡ None
     → list_any p (faults_of element_table d ++ inside in_change name.Change d) ≡ true
 not_read p d told none =
     let a : Option (List ℕ) = text_of (codes "address") d in
@@ -383,18 +400,21 @@ named_as_read : (e : Element) (d : Data) (o : Option Element) → element_of d �
 named_as_read e d None is sound = absurd (let never : false ≡ true = ap (λ (o : Option Element). option_map_or has_change o false) (sym is) ∙ sym (sound_is d) ∙ sound in cc)
 named_as_read e d (Some x) is sound = ap (is_named (name_in e)) (sym (name_there d x is sound))
 
-repeats : (e : Element) (before : List Data) → list_all is_sound before ≡ true → list_any (names e) before ≡ list_any (is_named (name_in e)) (map name_of before)
+repeats : (e : Element) (before : List Data) → list_all is_sound before ≡ true
+    → list_any (names e) before ≡ list_any (is_named (name_in e)) (map name_of before)
 repeats e [] sound = refl
 repeats e (d ∷ ds) sound =
     ap (λ (b : Bool). b || list_any (names e) ds) (named_as_read e d (element_of d) refl (and_left (is_sound d) (list_all is_sound ds) sound))
     ∙ ap (λ (b : Bool). is_named (name_in e) (name_of d) || b) (repeats e ds (and_right (is_sound d) (list_all is_sound ds) sound))
 
-by_first : (p : Finding → Bool) (b : Bool) (n : ℕ) (o : Option ℕ) (r : Bool) → p (finding_here (what.NamedBefore n)) ≡ true → (b || r) ≡ true → (r ≡ true → list_any p (named_again o) ≡ true)
+by_first : (p : Finding → Bool) (b : Bool) (n : ℕ) (o : Option ℕ) (r : Bool) → p (finding_here (what.NamedBefore n)) ≡ true → (b || r) ≡ true
+    → (r ≡ true → list_any p (named_again o) ≡ true)
     → list_any p (named_again (cond b (Some n) o)) ≡ true
 by_first p true n o r told e later = first_is p (finding_here (what.NamedBefore n)) [] told
 by_first p false n o r told e later = later e
 
-again_told : {A : Type 0} (p : Finding → Bool) (test : A → Bool) (bound n : ℕ) (xs : List A) → ((m : ℕ) → m < bound → p (finding_here (what.NamedBefore m)) ≡ true) → n + length xs ≤ bound
+again_told : {A : Type 0} (p : Finding → Bool) (test : A → Bool) (bound n : ℕ) (xs : List A)
+    → ((m : ℕ) → m < bound → p (finding_here (what.NamedBefore m)) ≡ true) → n + length xs ≤ bound
     → list_any test xs ≡ true → list_any p (named_again (position_from test n xs)) ≡ true
 again_told p test bound n [] told fits e = absurd cc
 again_told p test bound n (x ∷ xs) told fits e =
@@ -403,7 +423,8 @@ again_told p test bound n (x ∷ xs) told fits e =
 
 -- ---- one element
 
-in_object : (p : Finding → Bool) (d : Data) (xs : List Finding) → is_some (as_object d) ≡ true → list_any p xs ≡ true → list_any p (where_suits want.Object d xs) ≡ true
+in_object : (p : Finding → Bool) (d : Data) (xs : List Finding) → is_some (as_object d) ≡ true → list_any p xs ≡ true
+    → list_any p (where_suits want.Object d xs) ≡ true
 in_object p d xs there found = rw there found
 
 abbrev finished : ℕ → List Data → ResourceChange → Result ResourceChange PlanError
@@ -424,12 +445,14 @@ change_is before d = refl
 
 -- an element that a run takes is sound
 taken_steps : (n : ℕ) (before : List Data) (e : Element) (steps : Option (List StepKind)) (relative : Option (List ℕ))
-    → is_ok (results.◌>>=◌ (results.◌>>=◌ (or_refuse (BadActions n) steps) (λ found. with_relative n e found relative)) (finished n before)) ≡ true → (is_some steps && is_some relative) ≡ true
+    → is_ok (results.◌>>=◌ (results.◌>>=◌ (or_refuse (BadActions n) steps) (λ found. with_relative n e found relative)) (finished n before)) ≡ true
+    → (is_some steps && is_some relative) ≡ true
 taken_steps n before e None relative ok = ok
 taken_steps n before e (Some steps) None ok = ok
 taken_steps n before e (Some steps) (Some relative) ok = refl
 
-taken_element : (n : ℕ) (before : List Data) (o : Option Element) → is_ok (results.◌>>=◌ (with_element n o) (finished n before)) ≡ true → option_map_or has_change o false ≡ true
+taken_element : (n : ℕ) (before : List Data) (o : Option Element) → is_ok (results.◌>>=◌ (with_element n o) (finished n before)) ≡ true
+    → option_map_or has_change o false ≡ true
 taken_element n before None ok = ok
 taken_element n before (Some e) ok = taken_steps n before e (steps_of_actions e.actions) (relative_address e.module_address e.address) ok
 
@@ -447,7 +470,8 @@ told_read n before d none =
     (λ suits_it. any_left p (by_itself d) (named_again (first_named (map name_of before) (name_of d)))
     (any_left p (faults_of element_table d ++ inside in_change name.Change d) (marked (address_marks d)) (not_read p d (lack_in_item n) none)))
 
-told_steps : (n : ℕ) (before : List Data) (d : Data) (e : Element) → element_of d ≡ Some e → steps_of_actions e.actions ≡ None → list_any (in_item (BadActions n) n) (in_element before d) ≡ true
+told_steps : (n : ℕ) (before : List Data) (d : Data) (e : Element) → element_of d ≡ Some e → steps_of_actions e.actions ≡ None
+    → list_any (in_item (BadActions n) n) (in_element before d) ≡ true
 told_steps n before d e is none =
     let p : Finding → Bool = in_item (BadActions n) n in
     let it = gathered_there d e is in
@@ -457,7 +481,8 @@ told_steps n before d e is none =
     (any_left p (faults_of element_table d ++ inside in_change name.Change d) (marked (address_marks d))
     (any_right p (faults_of element_table d) (inside in_change name.Change d) (bad_change p (member_at name.Change d) e.actions e.prior_id told it.change_is none))))
 
-told_address : (n : ℕ) (before : List Data) (d : Data) (e : Element) → element_of d ≡ Some e → relative_address e.module_address e.address ≡ None → list_any (in_item (BadAddress n) n) (in_element before d) ≡ true
+told_address : (n : ℕ) (before : List Data) (d : Data) (e : Element) → element_of d ≡ Some e → relative_address e.module_address e.address ≡ None
+    → list_any (in_item (BadAddress n) n) (in_element before d) ≡ true
 told_address n before d e is none =
     let p : Finding → Bool = in_item (BadAddress n) n in
     let it = gathered_there d e is in
@@ -468,7 +493,8 @@ told_address n before d e is none =
     (any_left p (by_itself d) (named_again (first_named (map name_of before) (name_of d)))
     (any_right p (faults_of element_table d ++ inside in_change name.Change d) (marked (address_marks d)) (address_told p (misplaces d) (has_empty_address d) told told misplaced)))
 
-told_again : (before : List Data) (d : Data) (e : Element) → element_of d ≡ Some e → is_sound d ≡ true → list_all is_sound before ≡ true → list_any (names e) before ≡ true
+told_again : (before : List Data) (d : Data) (e : Element) → element_of d ≡ Some e → is_sound d ≡ true → list_all is_sound before ≡ true
+    → list_any (names e) before ≡ true
     → list_any (in_item (Duplicate (length before)) (length before)) (in_element before d) ≡ true
 told_again before d e is sound all repeated =
     let n : ℕ = length before in
@@ -482,16 +508,20 @@ told_again before d e is sound all repeated =
     (ap (λ (o : Option (List ℕ × Option (List ℕ))). list_any p (named_again (first_named (map name_of before) o))) (name_there d e is sound) ∙ again))
 
 -- the same of any refusal
-as_refused : (x refusal : PlanError) (n : ℕ) (xs : List Finding) → (let r : Result ResourceChange PlanError = Err x in r) ≡ Err refusal → list_any (in_item x n) xs ≡ true → list_any (in_item refusal n) xs ≡ true
+as_refused : (x refusal : PlanError) (n : ℕ) (xs : List Finding) → (let r : Result ResourceChange PlanError = Err x in r) ≡ Err refusal
+    → list_any (in_item x n) xs ≡ true → list_any (in_item refusal n) xs ≡ true
 as_refused x refusal n xs e found = ap (λ (y : PlanError). list_any (in_item y n) xs) (sym (err_is x refusal e)) ∙ found
 
-by_repeat : (before : List Data) (d : Data) (e : Element) (change : ResourceChange) (refusal : PlanError) (again : Bool) → (again ≡ true → list_any (in_item (Duplicate (length before)) (length before)) (in_element before d) ≡ true)
-    → (let r : Result ResourceChange PlanError = if again then Err (Duplicate (length before)) else Ok change in r) ≡ Err refusal → list_any (in_item refusal (length before)) (in_element before d) ≡ true
+by_repeat : (before : List Data) (d : Data) (e : Element) (change : ResourceChange) (refusal : PlanError) (again : Bool)
+    → (again ≡ true → list_any (in_item (Duplicate (length before)) (length before)) (in_element before d) ≡ true)
+    → (let r : Result ResourceChange PlanError = if again then Err (Duplicate (length before)) else Ok change in r) ≡ Err refusal
+    → list_any (in_item refusal (length before)) (in_element before d) ≡ true
 by_repeat before d e change refusal true told is = as_refused (Duplicate (length before)) refusal (length before) (in_element before d) is (told refl)
 by_repeat before d e change refusal false told is = absurd cc
 
 by_steps : (before : List Data) (d : Data) (e : Element) (refusal : PlanError) → element_of d ≡ Some e → list_all is_sound before ≡ true
-    → (steps : Option (List StepKind)) → steps_of_actions e.actions ≡ steps → (relative : Option (List ℕ)) → relative_address e.module_address e.address ≡ relative
+    → (steps : Option (List StepKind)) → steps_of_actions e.actions ≡ steps → (relative : Option (List ℕ))
+    → relative_address e.module_address e.address ≡ relative
     → results.◌>>=◌ (results.◌>>=◌ (or_refuse (BadActions (length before)) steps) (λ found. with_relative (length before) e found relative)) (finished (length before) before) ≡ Err refusal
     → list_any (in_item refusal (length before)) (in_element before d) ≡ true
 by_steps before d e refusal is all None none relative there r =
@@ -505,23 +535,27 @@ by_steps before d e refusal is all (Some steps) some (Some relative) there r =
     by_repeat before d e (change_of e steps) refusal (list_any (names e) before) (told_again before d e is sound all) r
 
 by_element : (before : List Data) (d : Data) (refusal : PlanError) → list_all is_sound before ≡ true → (o : Option Element) → element_of d ≡ o
-    → results.◌>>=◌ (with_element (length before) o) (finished (length before) before) ≡ Err refusal → list_any (in_item refusal (length before)) (in_element before d) ≡ true
+    → results.◌>>=◌ (with_element (length before) o) (finished (length before) before) ≡ Err refusal
+    → list_any (in_item refusal (length before)) (in_element before d) ≡ true
 by_element before d refusal all None is r = as_refused (BadChange (length before)) refusal (length before) (in_element before d) r (told_read (length before) before d is)
 by_element before d refusal all (Some e) is r =
     by_steps before d e refusal is all (steps_of_actions e.actions) refl (relative_address e.module_address e.address) refl r
 
 -- behind sound elements what a run refuses of one is found in it
-element_told : (before : List Data) (d : Data) (refusal : PlanError) → list_all is_sound before ≡ true → change_at before d ≡ Err refusal → list_any (in_item refusal (length before)) (in_element before d) ≡ true
+element_told : (before : List Data) (d : Data) (refusal : PlanError) → list_all is_sound before ≡ true → change_at before d ≡ Err refusal
+    → list_any (in_item refusal (length before)) (in_element before d) ≡ true
 element_told before d refusal all r = by_element before d refusal all (element_of d) refl (sym (change_is before d) ∙ r)
 
 -- ---- the elements
 
-of_rest : (rs : Result (List ResourceChange) PlanError) (x : ResourceChange) (refusal : PlanError) → results.◌>>=◌ rs (λ xs. let r : Result (List ResourceChange) PlanError = Ok (x ∷ xs) in r) ≡ Err refusal → rs ≡ Err refusal
+of_rest : (rs : Result (List ResourceChange) PlanError) (x : ResourceChange) (refusal : PlanError)
+    → results.◌>>=◌ rs (λ xs. let r : Result (List ResourceChange) PlanError = Ok (x ∷ xs) in r) ≡ Err refusal → rs ≡ Err refusal
 of_rest (Ok xs) x refusal e = absurd cc
 of_rest (Err y) x refusal e = ap (λ (z : PlanError). let r : Result (List ResourceChange) PlanError = Err z in r) (err_is y refusal e)
 
 -- what is refused of a list: its first, or one behind it
-first_or_later : (r : Result ResourceChange PlanError) (rs : List (Result ResourceChange PlanError)) (refusal : PlanError) (G : Type 0) → all_or_first (r ∷ rs) ≡ Err refusal
+first_or_later : (r : Result ResourceChange PlanError) (rs : List (Result ResourceChange PlanError)) (refusal : PlanError) (G : Type 0)
+    → all_or_first (r ∷ rs) ≡ Err refusal
     → (r ≡ Err refusal → G) → (is_ok r ≡ true → all_or_first rs ≡ Err refusal → G) → G
 first_or_later (Err x) rs refusal G e first later = first (ap (λ (y : PlanError). let r : Result ResourceChange PlanError = Err y in r) (err_is x refusal e))
 first_or_later (Ok x) rs refusal G e first later = later refl (of_rest (all_or_first rs) x refusal e)
@@ -564,16 +598,19 @@ plan_with version changes = record { version = version; changes = changes }
 abbrev then_changes : List ℕ → (many : Bool) → Result (List ResourceChange) PlanError → Result SavedPlan PlanError
 then_changes version many r = if many then Err TooMany else results.◌>>=◌ r (λ changes. Ok (plan_with version changes))
 
-of_changes : (version : List ℕ) (r : Result (List ResourceChange) PlanError) (refusal : PlanError) → results.◌>>=◌ r (λ changes. let ok : Result SavedPlan PlanError = Ok (plan_with version changes) in ok) ≡ Err refusal → r ≡ Err refusal
+of_changes : (version : List ℕ) (r : Result (List ResourceChange) PlanError) (refusal : PlanError)
+    → results.◌>>=◌ r (λ changes. let ok : Result SavedPlan PlanError = Ok (plan_with version changes) in ok) ≡ Err refusal → r ≡ Err refusal
 of_changes version (Ok changes) refusal e = absurd cc
 of_changes version (Err x) refusal e = ap (λ (y : PlanError). let r : Result (List ResourceChange) PlanError = Err y in r) (err_is x refusal e)
 
-by_many : (many : Bool) (version : List ℕ) (r : Result (List ResourceChange) PlanError) (refusal : PlanError) (xs : List Finding) → then_changes version many r ≡ Err refusal → (r ≡ Err refusal → list_any (is_told refusal) xs ≡ true)
+by_many : (many : Bool) (version : List ℕ) (r : Result (List ResourceChange) PlanError) (refusal : PlanError) (xs : List Finding)
+    → then_changes version many r ≡ Err refusal → (r ≡ Err refusal → list_any (is_told refusal) xs ≡ true)
     → list_any (is_told refusal) (if many then finding_at (Member name.ResourceChanges) what.TooManyChanges ∷ [] else xs) ≡ true
 by_many true version r refusal xs e told = ap (λ (x : PlanError). list_any (is_told x) (finding_at (Member name.ResourceChanges) what.TooManyChanges ∷ [])) (sym (err_is TooMany refusal e))
 by_many false version r refusal xs e told = told (of_changes version r refusal e)
 
-elements_told : (version : List ℕ) (ds : Items) (refusal : PlanError) → then_changes version (nat_lt max_changes (items_len ds)) (changes_of (list_of ds)) ≡ Err refusal
+elements_told : (version : List ℕ) (ds : Items) (refusal : PlanError)
+    → then_changes version (nat_lt max_changes (items_len ds)) (changes_of (list_of ds)) ≡ Err refusal
     → list_any (is_told refusal) (in_elements (list_of ds)) ≡ true
 elements_told version ds refusal e =
     by_many (nat_lt max_changes (length (list_of ds))) version (changes_of (list_of ds)) refusal (map (under (Member name.ResourceChanges)) (items_behind in_element [] (list_of ds)))
@@ -596,7 +633,8 @@ with_format b version ds = if b then Some (record { version = version; elements 
 abbrev header_with : Option (List ℕ) → Option (List ℕ) → Option Items → Option Header
 header_with format version elements = format >>= λ f. version >>= λ v. elements >>= λ ds. with_format (is_first_format f) v ds
 
-header_is : (d : Data) → header_of d ≡ header_with (text_of (codes "format_version") d) (text_or (codes "0.0.0") (member_of (codes "terraform_version") d)) (items_or_empty (member_of (codes "resource_changes") d))
+header_is : (d : Data)
+    → header_of d ≡ header_with (text_of (codes "format_version") d) (text_or (codes "0.0.0") (member_of (codes "terraform_version") d)) (items_or_empty (member_of (codes "resource_changes") d))
 unfolding header_of
 header_is d = refl
 
@@ -616,7 +654,8 @@ of_format true v ds h e = ap (λ (it : Header). it.elements) (some_is (let it : 
 of_format false v ds h e = absurd cc
 
 -- what a header was read of
-header_there : (format version : Option (List ℕ)) (elements : Option Items) (h : Header) → header_with format version elements ≡ Some h → ((f : List ℕ) × (format ≡ Some f)) × (elements ≡ Some h.elements)
+header_there : (format version : Option (List ℕ)) (elements : Option Items) (h : Header) → header_with format version elements ≡ Some h
+    → ((f : List ℕ) × (format ≡ Some f)) × (elements ≡ Some h.elements)
 header_there None version elements h e = absurd cc
 header_there (Some f) None elements h e = absurd cc
 header_there (Some f) (Some v) None h e = absurd cc
@@ -661,7 +700,8 @@ not_a_plan d none =
     (faults_told (is_told NotAPlan) header_table d (no_format, (no_version, (no_elements, tt))) unmet))
 
 -- a plan, some element of which is refused, or which has too many
-in_header : (d : Data) (h : Header) (refusal : PlanError) → header_of d ≡ Some h → then_changes h.version (nat_lt max_changes (items_len h.elements)) (changes_of (list_of h.elements)) ≡ Err refusal
+in_header : (d : Data) (h : Header) (refusal : PlanError) → header_of d ≡ Some h
+    → then_changes h.version (nat_lt max_changes (items_len h.elements)) (changes_of (list_of h.elements)) ≡ Err refusal
     → list_any (is_told refusal) (in_plan d) ≡ true
 unfolding in_plan
 in_header d h refusal is e =
@@ -683,11 +723,13 @@ tree_told d refusal e = by_header d refusal (header_of d) refl e
 
 -- ---- the bytes
 
-by_tree : (o : Option Data) (refusal : PlanError) → results.◌>>=◌ (or_refuse NotJson o) plan_of_tree ≡ Err refusal → list_any (is_told refusal) (option_map_or in_plan o (finding_here what.NotJson ∷ [])) ≡ true
+by_tree : (o : Option Data) (refusal : PlanError) → results.◌>>=◌ (or_refuse NotJson o) plan_of_tree ≡ Err refusal
+    → list_any (is_told refusal) (option_map_or in_plan o (finding_here what.NotJson ∷ [])) ≡ true
 by_tree None refusal e = ap (λ (x : PlanError). list_any (is_told x) (finding_here what.NotJson ∷ [])) (sym (err_is NotJson refusal e))
 by_tree (Some d) refusal e = tree_told d refusal e
 
-by_size : (large : Bool) (xs : List Finding) (r : Result SavedPlan PlanError) (refusal : PlanError) → (if large then Err TooLarge else r) ≡ Err refusal → (r ≡ Err refusal → list_any (is_told refusal) xs ≡ true)
+by_size : (large : Bool) (xs : List Finding) (r : Result SavedPlan PlanError) (refusal : PlanError) → (if large then Err TooLarge else r) ≡ Err refusal
+    → (r ≡ Err refusal → list_any (is_told refusal) xs ≡ true)
     → list_any (is_told refusal) (if large then finding_here what.TooManyBytes ∷ [] else xs) ≡ true
 by_size true xs r refusal e told = ap (λ (x : PlanError). list_any (is_told x) (finding_here what.TooManyBytes ∷ [])) (sym (err_is TooLarge refusal e))
 by_size false xs r refusal e told = told e

@@ -68,8 +68,8 @@ pub fn the_refusal_of_a_run_in_terraforms_form_is_found()
         → extras_of_bytes details.outputs bytes ≡ Err refusal → has_refusal_to refusal (findings_in Terraform lanes plan (Some bytes)) ≡ true }
 {}
 
-/// Of what a run refuses a plan for, a finding is told where the refusal says, and says the same, whatever else is found: of the whole, of
-/// one of the members that every plan has, or of the element of that number.
+/// Of what a run refuses a plan for, a finding is told, whatever else is found: where the refusal says, which is at the top, at one of three
+/// members there or in the element of that number, and of what it says that is wrong there.
 pub fn the_refusal_of_a_plan_is_found()
     ensures { (bytes : List ℕ) (refusal : PlanError) → plan_of bytes ≡ Err refusal → has_refusal_of refusal (plan_findings bytes) ≡ true }
 {}
