@@ -16,6 +16,7 @@ pub mod Marks
 pub mod Members
 pub mod Outputs
 pub mod Placing
+pub mod PlanRefusals
 pub mod Plans
 pub mod PlansPlaced
 pub mod Provisioners

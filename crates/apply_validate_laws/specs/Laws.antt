@@ -1,5 +1,5 @@
 -- Where findings are told, and what a run does.
-use Rattle.std.specs.Prelude.{ℕ, List, ◌∷◌, length, Bool, true, false, ◌&&◌, ◌||◌, not, is_err, nat_eq, nat_lt, if◌then◌else◌, Option, Some, None, Result, Ok, Err}
+use Rattle.std.specs.Prelude.{ℕ, List, [], ◌∷◌, length, Bool, true, false, ◌&&◌, ◌||◌, not, is_err, nat_eq, nat_lt, if◌then◌else◌, Option, Some, None, Result, Ok, Err}
 use Rattle.std.specs.List.{list_all, list_any}
 use Rattle.std.specs.Option.{option_map_or}
 use Rattle.serde_json.specs.Data.{Data}
@@ -12,6 +12,7 @@ use Rattle.apply_model.specs.Script.OutcomeMap.{OutcomeMap}
 use Rattle.apply_model.specs.Script.Waits.{has_waits}
 use Rattle.apply_plan.specs.Bytes.{max_bytes}
 use Rattle.apply_plan.specs.declared.plan.plan_error.PlanError.{PlanError}
+use Rattle.apply_plan.specs.declared.plan.plan_error.PlanError.TheVariants as plan_error
 use Rattle.apply_plan.specs.declared.script.script_error.ScriptError.{ScriptError}
 use Rattle.apply_plan.specs.declared.script.script_error.ScriptError.TheVariants as error
 use Rattle.apply_plan.specs.Plan.SavedPlan.{plan_of}
@@ -23,6 +24,9 @@ use Rattle.apply_validate.specs.declared.findings.finding.Finding.{Finding}
 use Rattle.apply_validate.specs.declared.findings.name.Name.TheVariants as name
 use Rattle.apply_validate.specs.declared.findings.part.Part.{Part}
 use Rattle.apply_validate.specs.declared.findings.part.Part.TheVariants.{Item, Member, Other}
+use Rattle.apply_validate.specs.declared.findings.want.Want.TheVariants as want
+use Rattle.apply_validate.specs.declared.findings.what.What.{What}
+use Rattle.apply_validate.specs.declared.findings.what.What.TheVariants as what
 use Rattle.apply_validate.specs.declared.form.Form.{Form}
 use Rattle.apply_validate.specs.declared.form.Form.TheVariants.{Applystream, Terraform}
 use Rattle.apply_validate.specs.Findings.{is_refusal}
@@ -103,3 +107,27 @@ goes_to _ _ = false
 -- one of them is something there for which a run refuses
 abbrev pub has_refusal_to : ScriptError → List Finding → Bool
 has_refusal_to refusal all = list_any (λ finding. is_refusal finding && goes_to refusal finding.path) all
+
+-- ---- what a run refuses a plan for
+
+-- what stands at that path is wrong as a refusal of a plan says; the object of an element that repeats another was named before it
+abbrev pub tells : PlanError → List Part → What → Bool
+tells plan_error.TooLarge [] what.TooManyBytes = true
+tells plan_error.NotJson [] what.NotJson = true
+tells plan_error.NotAPlan [] (what.IsNot want.Plan) = true
+tells plan_error.NotAPlan (Member name.FormatVersion ∷ []) (what.IsNot want.FormatVersion) = true
+tells plan_error.NotAPlan (Member name.FormatVersion ∷ []) (what.IsMissing want.FormatVersion) = true
+tells plan_error.NotAPlan (Member name.TerraformVersion ∷ []) (what.IsNot want.TextOrAbsent) = true
+tells plan_error.NotAPlan (Member name.ResourceChanges ∷ []) (what.IsNot want.ArrayOrAbsent) = true
+tells plan_error.TooMany (Member name.ResourceChanges ∷ []) what.TooManyChanges = true
+tells (plan_error.BadChange n) (Member name.ResourceChanges ∷ Item m ∷ parts) (what.IsNot wanted) = nat_eq m n
+tells (plan_error.BadChange n) (Member name.ResourceChanges ∷ Item m ∷ parts) (what.IsMissing wanted) = nat_eq m n
+tells (plan_error.BadActions n) (Member name.ResourceChanges ∷ Item m ∷ Member name.Change ∷ Member name.Actions ∷ []) what.BadActions = nat_eq m n
+tells (plan_error.BadAddress n) (Member name.ResourceChanges ∷ Item m ∷ Member name.Address ∷ []) what.EmptyAddress = nat_eq m n
+tells (plan_error.BadAddress n) (Member name.ResourceChanges ∷ Item m ∷ Member name.Address ∷ []) what.OutsideModule = nat_eq m n
+tells (plan_error.Duplicate n) (Member name.ResourceChanges ∷ Item m ∷ []) (what.NamedBefore earlier) = nat_eq m n && nat_lt earlier n
+tells _ _ _ = false
+
+-- one of them is that for which a run refuses the plan
+abbrev pub has_refusal_of : PlanError → List Finding → Bool
+has_refusal_of refusal all = list_any (λ finding. is_refusal finding && tells refusal finding.path finding.what) all

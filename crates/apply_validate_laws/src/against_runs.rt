@@ -4,6 +4,7 @@ ghost use Rattle.std.specs.Prelude.{◌≡◌, ◌<◌, ◌++◌, ◌||◌, ℕ,
 ghost use Rattle.apply_model.specs.Plan.SavedPlan.{SavedPlan};
 ghost use Rattle.apply_model.specs.Script.OutcomeMap.{OutcomeMap};
 ghost use Rattle.apply_plan.specs.Plan.SavedPlan.{plan_of};
+ghost use Rattle.apply_plan.specs.declared.plan.plan_error.PlanError.{PlanError};
 ghost use Rattle.apply_plan.specs.Script.NeverBeginning.{never_beginning_of};
 ghost use Rattle.apply_plan.specs.Script.OutcomeMap.{script_of};
 ghost use Rattle.apply_plan.specs.declared.script.script_error.ScriptError.{ScriptError};
@@ -12,7 +13,7 @@ ghost use Rattle.apply_form_plan.specs.Told.{DetailsOfPlan, details_of};
 ghost use Rattle.apply_validate.specs.declared.form.Form.{Form};
 ghost use Rattle.apply_validate.specs.declared.form.Form.TheVariants.{Terraform};
 ghost use Rattle.apply_validate.specs.InForm.{findings_in};
-ghost use Rattle.apply_validate_laws.specs.Laws.{are_script, has_refusal, has_refusal_in, has_refusal_to, run_refuses, run_refuses_in};
+ghost use Rattle.apply_validate_laws.specs.Laws.{are_script, has_refusal, has_refusal_in, has_refusal_of, has_refusal_to, run_refuses, run_refuses_in};
 ghost use Rattle.apply_validate.specs.Whole.{behind_first, entry_of_refusal, given_findings, plan_findings, refused_for, script_findings, stuck_entries};
 
 /// Something is found in a plan for which a run refuses, exactly where a run refuses it.
@@ -65,4 +66,10 @@ pub fn the_refusal_of_a_run_in_terraforms_form_is_found()
     ensures { (lanes : Bool) (plan bytes : List ℕ) (saved : SavedPlan) (script : OutcomeMap) (details : DetailsOfPlan) (refusal : ScriptError)
         → plan_of plan ≡ Ok saved → script_of saved bytes ≡ Ok script → details_of plan ≡ Some details
         → extras_of_bytes details.outputs bytes ≡ Err refusal → has_refusal_to refusal (findings_in Terraform lanes plan (Some bytes)) ≡ true }
+{}
+
+/// Of what a run refuses a plan for, a finding is told, whatever else is found: where the refusal says, which is at the top, at one of three
+/// members there or in the element of that number, and of what it says that is wrong there.
+pub fn the_refusal_of_a_plan_is_found()
+    ensures { (bytes : List ℕ) (refusal : PlanError) → plan_of bytes ≡ Err refusal → has_refusal_of refusal (plan_findings bytes) ≡ true }
 {}
