@@ -1,6 +1,6 @@
 -- Plans: something is found exactly where a run refuses one.
-use Rattle.std.proofs.Common.{◌≡◌, ℕ, suc, ◌+◌, List, [], ◌∷◌, ◌++◌, length, map, take, Bool, true, false, not, ◌&&◌, ◌||◌, cond, is_some, is_ok, is_err, Option, Some, None, Result, Ok, Err, refl, sym, ap, ◌∙◌, append_assoc, arith}
-use Rattle.std.specs.Prelude.{codes, if◌then◌else◌, nat_eq, nat_lt}
+use Rattle.std.proofs.Common.{◌≡◌, ◌+◌, ◌++◌, length, map, take, cond, not, ◌&&◌, ◌||◌, is_err, is_ok, is_some, refl, sym, ap, ◌∙◌, append_assoc, arith}
+use Rattle.std.specs.Prelude.{ℕ, suc, List, [], ◌∷◌, Bool, true, false, Option, Some, None, Result, Ok, Err, codes, if◌then◌else◌, nat_eq, nat_lt}
 use Rattle.std.specs.List.{enumerate_from, list_all, list_any, position_from, starts_with}
 use Rattle.std.specs.Option.{option_map_or}
 use Rattle.std.proofs.lemmas.List.{length-append, take_at}
