@@ -48,7 +48,7 @@ abbrev pub is_told : PlanError → Finding → Bool
 is_told refusal finding = is_refusal finding && tells refusal finding.path finding.what
 
 -- the same of what is found in the element of that number
-abbrev pub in_item : PlanError → ℕ → Finding → Bool
+abbrev in_item : PlanError → ℕ → Finding → Bool
 in_item refusal n finding = is_told refusal (under (Member name.ResourceChanges) (under (Item n) finding))
 
 lack_in_item : (n : ℕ) (path : List Part) (wanted : Want) (o : Option Data) → in_item (BadChange n) n (record { path = path; what = lack wanted o }) ≡ true

@@ -222,7 +222,7 @@ mode_first None w rest = refl
 mode_first (Some a) None rest = refl
 mode_first (Some a) (Some w) rest = refl
 
-abbrev pub gathered_of : Data → Option Element
+abbrev gathered_of : Data → Option Element
 gathered_of d =
     gathered (text_of (codes "address") d) (text_of (codes "mode") d >>= mode_named) (non_empty_text_of (codes "type") d) (non_empty_text_of (codes "name") d)
     (text_or [] (member_of (codes "module_address") d)) (key_of (member_of (codes "index") d)) (text_or [] (member_of (codes "deposed") d)) (planned_change_of d)

@@ -3,7 +3,7 @@ use Rattle.std.proofs.Common.{◌≡◌, ℕ, List, [], ◌∷◌, ◌++◌, map
 use Rattle.std.specs.Prelude.{codes, if◌then◌else◌, is_none}
 use Rattle.std.specs.List.{list_any}
 use Rattle.std.specs.Option.{option_and_then, option_map_or}
-use Rattle.serde_json.specs.Data.{Data, Items, null, boolean, number, string, array, object}
+use Rattle.serde_json.specs.Data.{Data, Items}
 use Rattle.serde_json.specs.Find.{as_array, as_object}
 use Rattle.apply_json.specs.Tree.{◌>>=◌, member_of, non_empty_text_of, text_of, text_or}
 use Rattle.apply_model.specs.declared.plan.key.Key.{Key}
@@ -24,19 +24,17 @@ use Rattle.apply_validate.specs.Findings.{finding_at, under}
 use Rattle.apply_validate.specs.PlanFindings.{actions_mark, element_table, in_change, is_misplaced, is_one_of_eight}
 use Rattle.apply_validate.specs.Walks.{faults_of, inside, known, lack, marked, member_at}
 use Rattle.apply_validate.specs.Wants.{is_met}
-use Rattle.apply_validate.proofs.Options.{and_false, and_left, and_then_is}
+use Rattle.apply_validate.proofs.Options.{and_left, and_then_is}
 use Rattle.apply_validate_laws.proofs.Elements.{element_is, gathered, members_met, planned, read_change, some_is}
-use Rattle.apply_validate_laws.proofs.Found.{any_left, any_right, any_under, below, each_told, faults_told, first_is, marked_first, one_fails}
-use Rattle.apply_validate_laws.proofs.Wanted.{met_array}
+use Rattle.apply_validate_laws.proofs.Found.{any_left, any_right, any_under, below, each_told, faults_told, first_is, marked_first}
+use Rattle.apply_validate_laws.proofs.Wanted.{met_array, needs_object}
 
 -- a member that has to be there makes the value an object
 pub is_object : {A : Type 0} (n : List ℕ) (f : Data → Option A) (d : Data) (x : A) → (member_of n d >>= f) ≡ Some x → is_some (as_object d) ≡ true
-is_object n f null x e = absurd cc
-is_object n f (boolean b) x e = absurd cc
-is_object n f (number z) x e = absurd cc
-is_object n f (string s) x e = absurd cc
-is_object n f (array ds) x e = absurd cc
-is_object n f (object ms) x e = refl
+is_object {A} n f d x e =
+    let there : Bool = is_some (member_of n d >>= f) in
+    and_left (is_some (as_object d)) there
+    (needs_object n d there (λ none. ap (λ (o : Option Data). is_some (o >>= f)) none) ∙ ap (λ (o : Option A). is_some o) e)
 
 -- ---- `change`
 
@@ -127,47 +125,32 @@ misplaced_there address module_address a m one other none =
 
 -- ---- the element
 
--- where none was gathered, a member is not what it has to be, or `change` has no actions
-not_gathered : (a : Option (List ℕ)) (o : Option Mode) (k n m : Option (List ℕ)) (x : Option Key) (p : Option (List ℕ)) (c : Option (Items × Option (List ℕ))) (j : Bool)
-    → gathered a o k n m x p c ≡ None
-    → ((is_some a && (is_some m && (is_some o && (is_some k && (is_some n && (is_some x && (is_some p && (j && true)))))))) && is_some c) ≡ false
-not_gathered None o k n m x p c j e = refl
-not_gathered (Some a) o k n None x p c j e = refl
-not_gathered (Some a) None k n (Some m) x p c j e = refl
-not_gathered (Some a) (Some o) None n (Some m) x p c j e = refl
-not_gathered (Some a) (Some o) (Some k) None (Some m) x p c j e = refl
-not_gathered (Some a) (Some o) (Some k) (Some n) (Some m) None p c j e = refl
-not_gathered (Some a) (Some o) (Some k) (Some n) (Some m) (Some x) None c j e = refl
-not_gathered (Some a) (Some o) (Some k) (Some n) (Some m) (Some x) (Some p) None j e = and_false (j && true)
-not_gathered (Some a) (Some o) (Some k) (Some n) (Some m) (Some x) (Some p) (Some c) j e = absurd cc
-
-last_of : (a m o k n x p j : Bool) → (a && (m && (o && (k && (n && (x && (p && (j && true)))))))) ≡ true → j ≡ true
-last_of false m o k n x p j e = absurd cc
-last_of true false o k n x p j e = absurd cc
-last_of true true false k n x p j e = absurd cc
-last_of true true true false n x p j e = absurd cc
-last_of true true true true false x p j e = absurd cc
-last_of true true true true true false p j e = absurd cc
-last_of true true true true true true false j e = absurd cc
-last_of true true true true true true true j e = and_left j true e
+-- where none was gathered, a member is not what it has to be, or there is a `change` without actions
+not_gathered : (a : Option (List ℕ)) (o : Option Mode) (k n m : Option (List ℕ)) (x : Option Key) (p : Option (List ℕ)) (c : Option (Items × Option (List ℕ)))
+    (j : Bool) (G : Type 0) → gathered a o k n m x p c ≡ None
+    → ((is_some a && (is_some m && (is_some o && (is_some k && (is_some n && (is_some x && (is_some p && (j && true)))))))) ≡ false → G)
+    → (j ≡ true → is_some c ≡ false → G) → G
+not_gathered None o k n m x p c j G e first second = first refl
+not_gathered (Some a) o k n None x p c j G e first second = first refl
+not_gathered (Some a) None k n (Some m) x p c j G e first second = first refl
+not_gathered (Some a) (Some o) None n (Some m) x p c j G e first second = first refl
+not_gathered (Some a) (Some o) (Some k) None (Some m) x p c j G e first second = first refl
+not_gathered (Some a) (Some o) (Some k) (Some n) (Some m) None p c j G e first second = first refl
+not_gathered (Some a) (Some o) (Some k) (Some n) (Some m) (Some x) None c j G e first second = first refl
+not_gathered (Some a) (Some o) (Some k) (Some n) (Some m) (Some x) (Some p) None false G e first second = first refl
+not_gathered (Some a) (Some o) (Some k) (Some n) (Some m) (Some x) (Some p) None true G e first second = second refl refl
+not_gathered (Some a) (Some o) (Some k) (Some n) (Some m) (Some x) (Some p) (Some c) j G e first second = absurd cc
 
 -- where a run reads no element, some member of it is told
 pub not_read : (p : Finding → Bool) (d : Data) → ((path : List Part) (wanted : Want) (o : Option Data) → p (record { path = path; what = lack wanted o }) ≡ true)
     → element_of d ≡ None
     → list_any p (faults_of element_table d ++ inside in_change name.Change d) ≡ true
 not_read p d told none =
-    let a : Option (List ℕ) = text_of (codes "address") d in
-    let m : Option (List ℕ) = text_or [] (member_of (codes "module_address") d) in
-    let o : Option Mode = text_of (codes "mode") d >>= mode_named in
-    let k : Option (List ℕ) = non_empty_text_of (codes "type") d in
-    let n : Option (List ℕ) = non_empty_text_of (codes "name") d in
-    let x : Option Key = key_of (member_of (codes "index") d) in
-    let q : Option (List ℕ) = text_or [] (member_of (codes "deposed") d) in
-    let ch : Option Data = member_of (codes "change") d in
-    let j : Bool = is_met want.Object ch in
-    let tests : Bool = is_some a && (is_some m && (is_some o && (is_some k && (is_some n && (is_some x && (is_some q && (j && true))))))) in
-    one_fails tests (is_some (planned_change_of d)) _ (not_gathered a o k n m x q (planned_change_of d) j (sym (element_is d) ∙ none))
+    let change : Option Data = member_of (codes "change") d in
+    not_gathered (text_of (codes "address") d) (text_of (codes "mode") d >>= mode_named) (non_empty_text_of (codes "type") d) (non_empty_text_of (codes "name") d)
+    (text_or [] (member_of (codes "module_address") d)) (key_of (member_of (codes "index") d)) (text_or [] (member_of (codes "deposed") d)) (planned_change_of d)
+    (is_met want.Object change) _ (sym (element_is d) ∙ none)
     (λ unmet. any_left p (faults_of element_table d) (inside in_change name.Change d)
     (faults_told p element_table d (each_told p (λ it lacking none. told (Member it.name ∷ []) it.want lacking) element_table) (members_met d ∙ unmet)))
     (λ are unmet. any_right p (faults_of element_table d) (inside in_change name.Change d)
-    (lacks_change p ch (told (Member name.Change ∷ Member name.Actions ∷ []) want.Array) (last_of (is_some a) (is_some m) (is_some o) (is_some k) (is_some n) (is_some x) (is_some q) j are) unmet))
+    (lacks_change p change (told (Member name.Change ∷ Member name.Actions ∷ []) want.Array) are unmet))

@@ -16,7 +16,7 @@ use Rattle.apply_validate.specs.Walks.{fault_of, faults_of, lack, member_at}
 use Rattle.apply_validate.specs.Wants.{is_met}
 
 -- one of two tests fails: the first, or behind it the second
-pub one_fails : (b c : Bool) (G : Type 0) → (b && c) ≡ false → (b ≡ false → G) → (b ≡ true → c ≡ false → G) → G
+one_fails : (b c : Bool) (G : Type 0) → (b && c) ≡ false → (b ≡ false → G) → (b ≡ true → c ≡ false → G) → G
 one_fails false c G e first second = first refl
 one_fails true c G e first second = second refl e
 

@@ -97,7 +97,7 @@ by_repeat n true change = refl
 by_repeat n false change = refl
 
 -- what a run makes of an element: of its relative address, of its steps, and of what was read
-abbrev pub with_relative : ℕ → Element → List StepKind → Option (List ℕ) → Result ResourceChange PlanError
+abbrev with_relative : ℕ → Element → List StepKind → Option (List ℕ) → Result ResourceChange PlanError
 with_relative n e steps relative = results.◌>>=◌ (or_refuse (BadAddress n) relative) (λ it. Ok (change_of e steps))
 
 abbrev pub with_steps : ℕ → Element → Option (List StepKind) → Option (List ℕ) → Result ResourceChange PlanError
@@ -222,7 +222,7 @@ with_format b version ds = if b then Some (record { version = version; elements 
 abbrev pub header_with : Option (List ℕ) → Option (List ℕ) → Option Items → Option Header
 header_with format version elements = format >>= λ f. version >>= λ v. elements >>= λ ds. with_format (is_first_format f) v ds
 
-abbrev pub header_read : Data → Option Header
+abbrev header_read : Data → Option Header
 header_read d = header_with (text_of (codes "format_version") d) (text_or (codes "0.0.0") (member_of (codes "terraform_version") d)) (items_or_empty (member_of (codes "resource_changes") d))
 
 pub header_is : (d : Data) → header_of d ≡ header_read d
