@@ -1,0 +1,1 @@
+cat ../each_kind/stream.jsonl

@@ -1,0 +1,1 @@
+cat ../many_diagnostics/stream.jsonl
