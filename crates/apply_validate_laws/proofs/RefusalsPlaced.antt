@@ -102,20 +102,23 @@ module _ (changes : Option (List ResourceChange)) where
   step_is : (ds : List Data) (n : ℕ) (d : Data) → slice_get ds n ≡ Some d → step_waiting changes ds n ≡ unwrap_or (first_waiting changes d) 0
   step_is ds n d is = ap (λ (o : Option Data). unwrap_or (option_and_then (first_waiting changes) o) 0) is
 
-  entry_right : (R : List Part → List Name → Type 0) (d : Data) (n : ℕ) → entry_waiting changes d ≡ Some n → AreRight R d (record { path = path_in changes d n; what = what.Waits } ∷ [])
+  entry_right : (R : List Part → List Name → Type 0) (d : Data) (n : ℕ) → entry_waiting changes d ≡ Some n
+      → AreRight R d (record { path = path_in changes d n; what = what.Waits } ∷ [])
   entry_right R d n is =
       let entry = first_at (has_waiting changes) (items_at name.Changes d) n is in
       let step : ℕ = unwrap_or (first_waiting changes entry.0) 0 in
       let told : List Finding = map (under (Member name.Steps)) (map (under (Item step)) (finding_at (Member name.After) what.Waits ∷ [])) in
       subst (λ (m : ℕ). AreRight R d (record { path = path_to n m; what = what.Waits } ∷ [])) (sym (step_is (items_at name.Changes d) n entry.0 entry.1))
-      (item_right R name.Changes d n entry.0 told entry.1 (step_by (below (Item n) (below (Member name.Changes) R)) entry.0 (first_waiting changes entry.0) refl entry.2))
+      (item_right R name.Changes d n entry.0 told entry.1
+      (step_by (below (Item n) (below (Member name.Changes) R)) entry.0 (first_waiting changes entry.0) refl entry.2))
 
   waits_by : (R : List Part → List Name → Type 0) (d : Data) (o : Option ℕ) → entry_waiting changes d ≡ o
       → AreRight R d (record { path = option_map_or (path_in changes d) o []; what = what.Waits } ∷ [])
   waits_by R d None is = (refl, tt)
   waits_by R d (Some n) is = entry_right R d n is
 
-  waits_in_tree : (large : Bool) (o : Option Data) → AreTold IsRead o (record { path = if large then [] else option_map_or (place_of_waits changes) o []; what = what.Waits } ∷ [])
+  waits_in_tree : (large : Bool) (o : Option Data)
+      → AreTold IsRead o (record { path = if large then [] else option_map_or (place_of_waits changes) o []; what = what.Waits } ∷ [])
   waits_in_tree true None = (refl, tt)
   waits_in_tree true (Some d) = (refl, tt)
   waits_in_tree false None = (refl, tt)
@@ -139,7 +142,8 @@ only_where : (o : Option Data) (b : Bool) (xs : List Finding) → AreTold IsRead
 only_where o true xs h = h
 only_where o false xs h = none_told IsRead o
 
-exact_told : (lanes : Bool) (changes : List ResourceChange) (bytes : List ℕ) (script : OutcomeMap) → AreTold IsRead (tree_of bytes) (unless_waits lanes changes bytes script)
+exact_told : (lanes : Bool) (changes : List ResourceChange) (bytes : List ℕ) (script : OutcomeMap)
+    → AreTold IsRead (tree_of bytes) (unless_waits lanes changes bytes script)
 exact_told lanes changes bytes script =
     only_where (tree_of bytes) (not lanes && has_waits script) (record { path = waits_at (Some changes) bytes; what = what.Waits } ∷ [])
     (waits_in_tree (Some changes) (nat_lt max_bytes (length bytes)) (tree_of bytes))

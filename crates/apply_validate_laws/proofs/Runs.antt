@@ -41,7 +41,8 @@ refusals_are lanes changes bytes (Err refusal) stuck =
     (placed_refuses (entry_of_refusal refusal) (ForPlan refusal) refl)
 
 -- a script in which something is found by itself is refused
-own_refused : (lanes : Bool) (changes : List ResourceChange) (bytes : List ℕ) (q : Result OutcomeMap ScriptError) (stuck : Result (List ℕ) ScriptError) (own : Bool) → (is_ok q ≡ true → own ≡ false)
+own_refused : (lanes : Bool) (changes : List ResourceChange) (bytes : List ℕ) (q : Result OutcomeMap ScriptError) (stuck : Result (List ℕ) ScriptError) (own : Bool)
+    → (is_ok q ≡ true → own ≡ false)
     → (own || has_refusal (cond own (waits_said lanes (Some changes) bytes) (refusals_of lanes changes bytes q stuck))) ≡ refuses_read lanes q
 own_refused lanes changes bytes q stuck false taken = refusals_are lanes changes bytes q stuck
 own_refused lanes changes bytes (Ok script) stuck true taken = absurd (let e : true ≡ false = taken refl in cc)
@@ -51,7 +52,8 @@ of_script : (lanes : Bool) (plan : SavedPlan) (bytes : List ℕ)
     → has_refusal (script_findings (Some plan.changes) bytes ++ beside_plan lanes plan bytes) ≡ refuses_read lanes (script_of plan bytes)
 of_script lanes plan bytes =
     list_any-append is_refusal (script_findings (Some plan.changes) bytes) (beside_plan lanes plan bytes)
-    ∙ own_refused lanes plan.changes bytes (script_of plan bytes) (never_beginning_of plan bytes) (has_refusal (script_findings (Some plan.changes) bytes)) (taken_script plan bytes)
+    ∙ own_refused lanes plan.changes bytes (script_of plan bytes) (never_beginning_of plan bytes)
+    (has_refusal (script_findings (Some plan.changes) bytes)) (taken_script plan bytes)
 
 of_given : (lanes : Bool) (r : Result SavedPlan PlanError) (script : Option (List ℕ))
     → (is_err r || has_refusal (given_findings lanes r script)) ≡ refuses_given lanes r script
@@ -67,7 +69,8 @@ refusals_of_run lanes plan script =
 -- where nothing is found in a script by itself, the finding of a run's refusal is told behind its warnings, then further entries and that steps wait
 pub refusal_among : (lanes : Bool) (plan : SavedPlan) (bytes : List ℕ) (refusal : ScriptError) → has_refusal (script_findings (Some plan.changes) bytes) ≡ false
     → script_of plan bytes ≡ Err refusal → given_findings lanes (Ok plan) (Some bytes)
-    ≡ script_findings (Some plan.changes) bytes ++ (refused_for refusal ++ stuck_entries (behind_first (never_beginning_of plan bytes)) ++ waits_said lanes (Some plan.changes) bytes)
+    ≡ script_findings (Some plan.changes) bytes
+    ++ (refused_for refusal ++ stuck_entries (behind_first (never_beginning_of plan bytes)) ++ waits_said lanes (Some plan.changes) bytes)
 refusal_among lanes plan bytes refusal none is =
     ap (λ (xs : List Finding). script_findings (Some plan.changes) bytes ++ xs)
     (rw none (ap (λ (q : Result OutcomeMap ScriptError). refusals_of lanes plan.changes bytes q (never_beginning_of plan bytes)) is))

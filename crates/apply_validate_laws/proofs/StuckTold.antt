@@ -17,7 +17,7 @@ use Rattle.apply_plan.specs.Script.Entry.{is_kept}
 use Rattle.apply_plan.specs.Script.NeverBeginning.{elements_in, elements_of_tree, never_beginning_in, never_beginning_of}
 use Rattle.apply_plan.specs.Script.OutcomeMap.{Said, by_number, elements_of, entry_at, is_stuck, script_of, script_of_entries, script_of_tree, unless_stuck}
 use Rattle.apply_validate.specs.declared.findings.finding.Finding.{Finding}
-use Rattle.apply_validate.specs.Whole.{behind_first, beside_plan, given_findings, refusals_of, refused_for, script_findings, stuck_entries, waits_said}
+use Rattle.apply_validate.specs.Whole.{behind_first, given_findings, refusals_of, refused_for, script_findings, stuck_entries, waits_said}
 use Rattle.apply_validate_laws.specs.Laws.{has_refusal}
 use Rattle.apply_validate_laws.proofs.Refusals.{whole_clean}
 use Rattle.apply_validate_laws.proofs.RefusalsPlaced.{numbers_one}

@@ -7,4 +7,5 @@ use Rattle.apply_validate.proofs.beside.waiting.first_of.Given as goal
 
 abbrev pub invariant-loop-number : goal.invariant-loop-number
 invariant-loop-number l =
-    position_from (is_waiting (option_copied l.planned)) 0 (map view l.steps) ≡ position_from (is_waiting (option_copied l.planned)) l.number (map view (drop l.number l.steps))
+    position_from (is_waiting (option_copied l.planned)) 0 (map view l.steps)
+    ≡ position_from (is_waiting (option_copied l.planned)) l.number (map view (drop l.number l.steps))

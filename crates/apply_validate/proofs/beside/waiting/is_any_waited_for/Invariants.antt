@@ -7,4 +7,5 @@ use Rattle.apply_validate.proofs.beside.waiting.is_any_waited_for.Given as goal
 
 abbrev pub invariant-loop-item : goal.invariant-loop-item
 invariant-loop-item l =
-    list_any (is_waited_for (option_copied l.planned)) (map view l.items) ≡ list_any (is_waited_for (option_copied l.planned)) (map view (drop l.item-index l.items))
+    list_any (is_waited_for (option_copied l.planned)) (map view l.items)
+    ≡ list_any (is_waited_for (option_copied l.planned)) (map view (drop l.item-index l.items))

@@ -19,4 +19,5 @@ returns-then-not-is_skipped c =
     let test : Data → Bool = is_waited_for (option_copied c.args.planned) in
     let any : c.is_any_waited_for.result ≡ list_any test (items_at name.After d) =
     c.is_any_waited_for.ensures ∙ ap (λ (ds : List Data). list_any test ds) (sym (listed c.items_at.result.now) ∙ c.items_at.ensures) in
-    not_skipped c.is_skipped.result (is_skipped d) c.is_any_waited_for.result (list_any test (items_at name.After d)) c.is_skipped.ensures c.if-not-is_skipped.true any
+    not_skipped c.is_skipped.result (is_skipped d) c.is_any_waited_for.result (list_any test (items_at name.After d))
+    c.is_skipped.ensures c.if-not-is_skipped.true any
