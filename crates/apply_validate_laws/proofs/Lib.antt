@@ -24,9 +24,14 @@ pub mod Refusals
 pub mod RefusalsPlaced
 pub mod Refused
 pub mod Runs
+pub mod ScriptEntries
+pub mod ScriptRefusals
+pub mod ScriptSteps
 pub mod Scripts
 pub mod ScriptsPlaced
 pub mod ScriptsWarn
+pub mod Shapes
+pub mod ShapesRead
 pub mod Spelt
 pub mod Steps
 pub mod StuckTold

@@ -1,0 +1,267 @@
+-- Where a run reads no entry, something is told that breaks its rule.
+use Rattle.std.proofs.Common.{◌≡◌, ℕ, suc, ◌+◌, ◌<◌, List, [], ◌∷◌, ◌++◌, length, map, Bool, true, false, not, ◌&&◌, ◌||◌, is_some, Option, Some, None, unwrap_or, if◌then◌else◌, refl, sym, ap, ◌∙◌, arith}
+use Rattle.std.specs.Prelude.{codes, nat_lt}
+use Rattle.std.specs.List.{list_all, list_any}
+use Rattle.std.specs.Option.{option_map, option_map_or}
+use Rattle.std.proofs.lemmas.Bool.{lt-ltb}
+use Rattle.std.proofs.lemmas.List.Folds.{list_any-append}
+use Rattle.serde_json.specs.Data.{Data, Items, null, boolean, number, string, array, object}
+use Rattle.serde_json.specs.Find.{as_array, as_object, as_str}
+use Rattle.apply_json.specs.Seen.{items_in}
+use Rattle.apply_json.specs.Tree.{◌>>=◌, list_of, member_of, non_empty_text_of, text_of, text_or, unless_empty}
+use Rattle.apply_model.specs.declared.script.diag.Diag.{Diag}
+use Rattle.apply_model.specs.declared.script.ending.Ending.{Ending}
+use Rattle.apply_model.specs.declared.script.outcome.Outcome.{Outcome}
+use Rattle.apply_model.specs.declared.script.provisioner.Provisioner.{Provisioner}
+use Rattle.apply_model.specs.declared.script.timed_text.TimedText.{TimedText}
+use Rattle.apply_model.specs.Plan.ResourceChange.{ResourceChange}
+use Rattle.apply_model.specs.Script.Outcome.{is_failed, is_warned, seconds_of_all}
+use Rattle.apply_plan.specs.Script.Entry.{Entry, EntryStep, Failure, OutputItem, WaitName, all_some, answered_with, diag_from, diag_or_none, each_of, ending_from, ending_of, entry_of, failure_from, failure_or_none, flag_or_false, may_fail_or_not, output_from, provisioner_from, says_nothing, seconds_of, skipped_with, step_from, timed_outputs, wait_from}
+use Rattle.apply_validate.specs.declared.findings.finding.Finding.{Finding}
+use Rattle.apply_validate.specs.declared.findings.name.Name.TheVariants as name
+use Rattle.apply_validate.specs.declared.findings.part.Part.TheVariants.{Item, Member}
+use Rattle.apply_validate.specs.declared.findings.want.Want.TheVariants as want
+use Rattle.apply_validate.specs.declared.findings.what.What.TheVariants as what
+use Rattle.apply_validate.specs.Beside.{again_mark, beyond_at, beyond_in, change_at, kind_marks, steps_mark, unknown_marks, waits_beyond, waits_in}
+use Rattle.apply_validate.specs.Findings.{finding_here, is_refusal, under}
+use Rattle.apply_validate_laws.specs.Laws.{is_bounded}
+use Rattle.apply_validate.specs.ScriptFindings.{entry_names, entry_table, growth_of_provisioner, in_diagnostic, in_entry, in_failure, in_provisioner, in_step, in_wait, is_skipped, provisioner_mark, provisioner_names, provisioner_table, skipped_marks, step_marks, step_names, step_table, whole_at}
+use Rattle.apply_validate.specs.Walks.{fault_of, faults_of, in_items, in_list, inside, items_at, known, marked, unless_suits, unread, where_suits}
+use Rattle.apply_validate.specs.Wants.{is_met}
+use Rattle.apply_validate_laws.proofs.Alike.{Alike, member_alike, object_alike}
+use Rattle.apply_validate_laws.proofs.Clean.{all_items, appended, clean, clean-append, clean-fault_of, clean-faults_of, clean-marked, clean-then_unread, clean-unless_suits, clean-where_suits, is_absent_or}
+use Rattle.apply_validate_laws.proofs.Diagnostics.{absent_or_diagnostic, absent_or_failure, clean_diagnostic, clean_failure, clean_wait, fits_wait, two}
+use Rattle.apply_validate_laws.proofs.Besides.{is_found}
+use Rattle.apply_validate_laws.proofs.Members.{IsCleanBeside, array_or, array_there, count_same, flag_same, flag_there, inside_clean, is_there_same, items_inside, list_clean, non_empty_same, non_empty_there, text_or_there, text_there, whole_there}
+use Rattle.apply_validate.proofs.Options.{and_assoc, and_comm, and_false, and_true, crossed, nothing_then, not_not}
+use Rattle.apply_validate_laws.proofs.Outputs.{are_shaped, come_in_time, is_shaped, outputs_read, shape_alike}
+use Rattle.apply_validate_laws.proofs.Provisioners.{clean_growth, fits, fits_growth, length_read, seconds_are}
+use Rattle.apply_validate_laws.proofs.Scripts.{waits_free}
+use Rattle.apply_validate_laws.proofs.Shapes.{IsSame, Same, both_same, is_shape, no_unknown, picked, same_diagnostic, same_failure, same_fault, same_faults, same_growth, same_inside, same_items, same_list, same_picked, same_unless, same_unread, same_wait, same_where, without}
+use Rattle.apply_validate_laws.proofs.Steps.{alone, apart, both_absent, diagnostic_there, failure_there, fit, flag_read, given, id_there, parts, reads as step_reads, silent_read, step_read, table_clean, timed, untouched}
+use Rattle.apply_validate_laws.proofs.Wanted.{each_is, needs_object}
+
+some_is : {A : Type 0} (x y : A) → Some x ≡ Some y → x ≡ y
+some_is x y e = cc
+
+-- ---- provisioners, but for how much they put out
+
+abbrev shaped_provisioner : Data → List Finding
+shaped_provisioner d = where_suits want.Provisioner d
+    (faults_of provisioner_table d
+    ++ in_list (λ number. unless_suits want.Output) (known name.Output want.ArrayOrAbsent) d
+    ++ inside in_diagnostic name.Failed d
+    ++ unread provisioner_names d)
+
+same_provisioner : IsSame in_provisioner shaped_provisioner
+unfolding in_provisioner
+same_provisioner d =
+    let wrong : List Finding = faults_of provisioner_table d in
+    let output : List Finding = in_list (λ number. unless_suits want.Output) (known name.Output want.ArrayOrAbsent) d in
+    let marks : List Finding = marked (provisioner_mark d ∷ []) in
+    let failed : List Finding = inside in_diagnostic name.Failed d in
+    let rest : List Finding = unread provisioner_names d in
+    same_where want.Provisioner d (wrong ++ output ++ marks ++ failed ++ rest) (wrong ++ output ++ failed ++ rest)
+    (both_same (wrong ++ output ++ marks ++ failed) rest (wrong ++ output ++ failed) rest
+    (both_same (wrong ++ output ++ marks) failed (wrong ++ output) failed
+    (without (wrong ++ output) marks (wrong ++ output)
+    (both_same wrong output wrong output (same_faults provisioner_table d)
+    (same_list (λ number. unless_suits want.Output) (λ number. unless_suits want.Output) (λ number. same_unless want.Output) (known name.Output want.ArrayOrAbsent) d))
+    (same_picked (provisioner_mark d ∷ [])))
+    (same_inside in_diagnostic in_diagnostic same_diagnostic name.Failed d))
+    (same_unread provisioner_names d))
+
+abbrev made : List ℕ → ℕ → List TimedText → Option Diag → Bool → Provisioner
+made name seconds output failed may_fail = record { name = name; seconds = seconds; output = output; failed = failed; may_fail = may_fail }
+
+abbrev members_shaped : (name : Option (List ℕ)) (seconds : Option ℕ) (shaped : Bool) (failed : Option (Option Diag)) → Bool
+members_shaped name seconds shaped failed = ((is_some name && is_some seconds) && shaped) && is_some failed
+
+unfoldable first_shaped : Data → Bool
+first_shaped k =
+    members_shaped (non_empty_text_of (codes "provisioner") k) (seconds_of k) (are_shaped (member_of (codes "output") k)) (diag_or_none (member_of (codes "failed") k))
+
+clean_shaped : IsCleanBeside shaped_provisioner first_shaped
+unfolding first_shaped
+clean_shaped d k alike =
+    let wrong : List Finding = faults_of provisioner_table d in
+    let output : List Finding = in_list (λ number. unless_suits want.Output) (known name.Output want.ArrayOrAbsent) d in
+    let failed : List Finding = inside in_diagnostic name.Failed d in
+    let name_read : Option (List ℕ) = non_empty_text_of (codes "provisioner") k in
+    let seconds : Option ℕ = seconds_of k in
+    let failed_read : Option (Option Diag) = diag_or_none (member_of (codes "failed") k) in
+    let shaped : Bool = are_shaped (member_of (codes "output") k) in
+    let a : clean wrong ≡ (is_some name_read && is_some seconds) =
+    two (known name.Provisioner want.NonEmptyText) (known name.Seconds want.Seconds) d
+    ∙ ap (λ (b : Bool). b && is_met want.Seconds (member_of (codes "seconds") d)) (non_empty_there (codes "provisioner") refl d k alike)
+    ∙ ap (λ (b : Bool). is_some name_read && b) (whole_there (codes "seconds") refl d k alike) in
+    let b : clean output ≡ shaped =
+    list_clean (λ number. unless_suits want.Output) is_shaped
+    (λ number x y same. clean-unless_suits want.Output x ∙ shape_alike x y same) (known name.Output want.ArrayOrAbsent) array_or refl d k alike in
+    let f : clean failed ≡ is_some failed_read =
+    inside_clean in_diagnostic (λ e. is_some (diag_from e)) clean_diagnostic name.Failed refl d k alike ∙ absent_or_diagnostic (member_of (codes "failed") k) in
+    clean-where_suits want.Provisioner d (wrong ++ output ++ failed ++ unread provisioner_names d)
+    ∙ ap (λ (x : Bool). is_some (as_object d) && x)
+    (clean-then_unread (wrong ++ output ++ failed) provisioner_names d
+    ∙ appended (wrong ++ output) failed _ _ (appended wrong output _ _ a b) f)
+    ∙ ap (λ (x : Bool). x && members_shaped name_read seconds shaped failed_read) (object_alike d k alike)
+    ∙ needs_object (codes "provisioner") k (members_shaped name_read seconds shaped failed_read)
+    (λ none. ap (λ (o : Option Data). members_shaped (o >>= as_str >>= unless_empty) seconds shaped failed_read) none)
+
+in_order : (shaped failed may_fail timely : Bool) → ((shaped && failed) && (may_fail && timely)) ≡ (failed && ((shaped && timely) && may_fail))
+in_order false failed may_fail timely = sym (and_false failed)
+in_order true false may_fail timely = refl
+in_order true true may_fail timely = and_comm may_fail timely
+
+reads_output : (n : List ℕ) (s : ℕ) (f : Option Diag) (output : Option (List TimedText)) (may_fail : Option Bool)
+    → (is_some output && is_some may_fail) ≡ is_some (output >>= λ o. may_fail >>= λ m. Some (made n s o f m))
+reads_output n s f None may_fail = refl
+reads_output n s f (Some o) None = refl
+reads_output n s f (Some o) (Some m) = refl
+
+one_by_one : (items : Option (List OutputItem)) (f : List OutputItem → Option (List TimedText)) (g : List TimedText → Option Provisioner)
+    → (items >>= f >>= g) ≡ (items >>= λ i. f i >>= g)
+one_by_one None f g = refl
+one_by_one (Some i) f g = refl
+
+reads : (name : Option (List ℕ)) (seconds : Option ℕ) (failed : Option (Option Diag)) (items : Option (List OutputItem)) (may_fail : Option Bool) (shaped timely : Bool)
+    → ((s : ℕ) → seconds ≡ Some s → (shaped && timely) ≡ is_some (items >>= timed_outputs s))
+    → (members_shaped name seconds shaped failed && (is_some may_fail && timely))
+    ≡ is_some (name >>= λ n. seconds >>= λ s. failed >>= λ f. items >>= λ i. timed_outputs s i >>= λ o. may_fail >>= λ m. Some (made n s o f m))
+reads None seconds failed items may_fail shaped timely come = refl
+reads (Some n) None failed items may_fail shaped timely come = refl
+reads (Some n) (Some s) None items may_fail shaped timely come = in_order shaped false (is_some may_fail) timely
+reads (Some n) (Some s) (Some f) items may_fail shaped timely come =
+    in_order shaped true (is_some may_fail) timely
+    ∙ ap (λ (b : Bool). b && is_some may_fail) (come s refl)
+    ∙ reads_output n s f (items >>= timed_outputs s) may_fail
+    ∙ ap (λ (p : Option Provisioner). is_some p) (one_by_one items (timed_outputs s) (λ o. may_fail >>= λ m. Some (made n s o f m)))
+
+shaped_both : (k : Data) → (first_shaped k && fits_growth k) ≡ is_some (provisioner_from k)
+unfolding provisioner_from first_shaped
+shaped_both k =
+    let o : Option Data = member_of (codes "output") k in
+    let seconds : whole_at name.Seconds k ≡ seconds_of k = seconds_are (member_of (codes "seconds") k) in
+    reads (non_empty_text_of (codes "provisioner") k) (seconds_of k) (diag_or_none (member_of (codes "failed") k)) (each_of output_from o)
+    (may_fail_or_not (member_of (codes "on_failure") k)) (are_shaped o) (come_in_time (whole_at name.Seconds k) None (items_at name.Output k))
+    (λ s e. ap (λ (x : Option ℕ). are_shaped o && come_in_time x None (items_at name.Output k)) (seconds ∙ e) ∙ outputs_read s o)
+
+abbrev is_read : Data → Bool
+is_read k = is_some (provisioner_from k)
+
+all_shaped : (ks : List Data) → (list_all first_shaped ks && list_all fits_growth ks) ≡ list_all is_read ks
+all_shaped [] = refl
+all_shaped (k ∷ ks) =
+    crossed (first_shaped k) (list_all first_shaped ks) (fits_growth k) (list_all fits_growth ks)
+    ∙ ap (λ (b : Bool). b && (list_all first_shaped ks && list_all fits_growth ks)) (shaped_both k) ∙ ap (λ (b : Bool). is_read k && b) (all_shaped ks)
+
+items_shaped : (o : Option Data) → (is_absent_or (all_items first_shaped) o && is_absent_or (all_items fits_growth) o) ≡ is_absent_or (all_items is_read) o
+items_shaped None = refl
+items_shaped (Some k) = all_shaped (list_of (items_in k))
+
+-- ---- steps, but for their limits
+
+abbrev shaped_step : Data → List Finding
+shaped_step d = where_suits want.Step d
+    (faults_of (step_table (is_skipped d)) d
+    ++ inside in_diagnostic name.Warning d
+    ++ inside in_failure name.Failed d
+    ++ in_list (λ number. shaped_provisioner) (known name.Provisioners want.ArrayOrAbsent) d
+    ++ marked (picked (step_marks d))
+    ++ faults_of (known name.Skipped want.FlagOrAbsent ∷ []) d
+    ++ marked (skipped_marks d)
+    ++ inside (in_items (λ number. growth_of_provisioner)) name.Provisioners d
+    ++ in_list (λ item. in_wait None) (known name.After want.ArrayOrAbsent) d
+    ++ unread step_names d)
+
+same_step : (changes : Option (List ResourceChange)) (change : Option ResourceChange) (n : ℕ) → IsSame (in_step changes change n) shaped_step
+unfolding in_step
+same_step changes change n d =
+    let wrong : List Finding = faults_of (step_table (is_skipped d)) d in
+    let warning : List Finding = inside in_diagnostic name.Warning d in
+    let failed : List Finding = inside in_failure name.Failed d in
+    let provisioners : List Finding = in_list (λ number. in_provisioner) (known name.Provisioners want.ArrayOrAbsent) d in
+    let shaped : List Finding = in_list (λ number. shaped_provisioner) (known name.Provisioners want.ArrayOrAbsent) d in
+    let marks : List Finding = marked (step_marks d) in
+    let short : List Finding = marked (picked (step_marks d)) in
+    let kinds : List Finding = marked (kind_marks change n d) in
+    let flag : List Finding = faults_of (known name.Skipped want.FlagOrAbsent ∷ []) d in
+    let skipped : List Finding = marked (skipped_marks d) in
+    let growth : List Finding = inside (in_items (λ number. growth_of_provisioner)) name.Provisioners d in
+    let after : List Finding = in_list (λ item. in_wait changes) (known name.After want.ArrayOrAbsent) d in
+    let alone_after : List Finding = in_list (λ item. in_wait None) (known name.After want.ArrayOrAbsent) d in
+    let rest : List Finding = unread step_names d in
+    let s2 = both_same wrong warning wrong warning (same_faults (step_table (is_skipped d)) d) (same_inside in_diagnostic in_diagnostic same_diagnostic name.Warning d) in
+    let s3 = both_same (wrong ++ warning) failed (wrong ++ warning) failed s2 (same_inside in_failure in_failure same_failure name.Failed d) in
+    let s4 = both_same (wrong ++ warning ++ failed) provisioners (wrong ++ warning ++ failed) shaped s3
+    (same_list (λ number. in_provisioner) (λ number. shaped_provisioner) (λ number. same_provisioner) (known name.Provisioners want.ArrayOrAbsent) d) in
+    let s5 = both_same (wrong ++ warning ++ failed ++ provisioners) marks (wrong ++ warning ++ failed ++ shaped) short s4 (same_picked (step_marks d)) in
+    let s6 = without (wrong ++ warning ++ failed ++ provisioners ++ marks) kinds (wrong ++ warning ++ failed ++ shaped ++ short) s5 (same_picked (kind_marks change n d)) in
+    let s7 = both_same (wrong ++ warning ++ failed ++ provisioners ++ marks ++ kinds) flag (wrong ++ warning ++ failed ++ shaped ++ short) flag s6
+    (same_faults (known name.Skipped want.FlagOrAbsent ∷ []) d) in
+    let s8 = both_same (wrong ++ warning ++ failed ++ provisioners ++ marks ++ kinds ++ flag) skipped (wrong ++ warning ++ failed ++ shaped ++ short ++ flag) skipped s7
+    (same_picked (skipped_marks d)) in
+    let s9 = both_same (wrong ++ warning ++ failed ++ provisioners ++ marks ++ kinds ++ flag ++ skipped) growth (wrong ++ warning ++ failed ++ shaped ++ short ++ flag ++ skipped) growth s8
+    (same_items (λ number. growth_of_provisioner) (λ number. growth_of_provisioner) (λ number. same_growth) name.Provisioners d) in
+    let s10 = both_same (wrong ++ warning ++ failed ++ provisioners ++ marks ++ kinds ++ flag ++ skipped ++ growth) after
+    (wrong ++ warning ++ failed ++ shaped ++ short ++ flag ++ skipped ++ growth) alone_after s9
+    (same_list (λ item. in_wait changes) (λ item. in_wait None) (λ item. same_wait changes) (known name.After want.ArrayOrAbsent) d) in
+    same_where want.Step d (wrong ++ warning ++ failed ++ provisioners ++ marks ++ kinds ++ flag ++ skipped ++ growth ++ after ++ rest)
+    (wrong ++ warning ++ failed ++ shaped ++ short ++ flag ++ skipped ++ growth ++ alone_after ++ rest)
+    (both_same (wrong ++ warning ++ failed ++ provisioners ++ marks ++ kinds ++ flag ++ skipped ++ growth ++ after) rest
+    (wrong ++ warning ++ failed ++ shaped ++ short ++ flag ++ skipped ++ growth ++ alone_after) rest s10 (same_unread step_names d))
+
+-- a step that tells as much, within the limits
+abbrev tiny : Provisioner
+tiny = made [] 0 [] None false
+
+abbrev small : List Provisioner → List Provisioner
+small [] = []
+small (p ∷ ps) = tiny ∷ []
+
+abbrev quick : Option ℕ → Option ℕ
+quick s = option_map (λ (n : ℕ). 0) s
+
+quick_there : (s : Option ℕ) → is_some (quick s) ≡ is_some s
+quick_there None = refl
+quick_there (Some n) = refl
+
+some_small : (l : List Provisioner) → nat_lt 0 (length (small l)) ≡ nat_lt 0 (length l)
+some_small [] = refl
+some_small (p ∷ ps) = sym (lt-ltb 0 (length (p ∷ ps)) (let l : 0 < suc (length ps) = omega arith in l))
+
+small_fits : (l : Option (List Provisioner)) → option_map_or (list_all fits) (option_map small l) false ≡ is_some l
+small_fits None = refl
+small_fits (Some []) = refl
+small_fits (Some (p ∷ ps)) = refl
+
+small_bounded : (r : Ending) (l : List Provisioner) → is_bounded (record { seconds = 0; provisioners = small l; result = r; after = [] }) ≡ true
+small_bounded r [] = refl
+small_bounded r (p ∷ ps) = refl
+
+abbrev step_of : List WaitName → Option Outcome → EntryStep
+step_of after outcome = record { outcome = outcome; after = after }
+
+by_skip : (b : Bool) (after : List WaitName)
+    → fit ((let o : Option (Option Outcome) = if b then None else Some None in o) >>= λ o. Some (step_of after o))
+    ≡ is_some ((let o : Option (Option Outcome) = if b then None else Some None in o) >>= λ o. Some (step_of after o))
+by_skip true after = refl
+by_skip false after = refl
+
+by_answer : (b : Bool) (x y : Outcome) (after : List WaitName) → is_bounded x ≡ true
+    → fit (option_map (λ (z : Outcome). Some z) (let o : Option Outcome = if b then None else Some x in o) >>= λ o. Some (step_of after o))
+    ≡ is_some (option_map (λ (z : Outcome). Some z) (let o : Option Outcome = if b then None else Some y in o) >>= λ o. Some (step_of after o))
+by_answer true x y after is = refl
+by_answer false x y after is = is
+
+pub ends_small : (skipped told : Bool) (s : Option ℕ) (r : Ending) (l : List Provisioner) (after : List WaitName)
+    → fit ((if skipped then skipped_with told r (small l) else answered_with (quick s) r (small l)) >>= λ o. Some (step_of after o))
+    ≡ is_some ((if skipped then skipped_with told r l else answered_with s r l) >>= λ o. Some (step_of after o))
+ends_small true told s r l after =
+    ap (λ (b : Bool). fit ((let o : Option (Option Outcome) = if told || (not (says_nothing r) || b) then None else Some None in o) >>= λ o. Some (step_of after o))) (some_small l)
+    ∙ by_skip (told || (not (says_nothing r) || nat_lt 0 (length l))) after
+ends_small false told None r l after = refl
+ends_small false told (Some n) r l after =
+    let x : Outcome = record { seconds = 0; provisioners = small l; result = r; after = [] } in
+    ap (λ (b : Bool). fit (option_map (λ (z : Outcome). Some z) (let o : Option Outcome = if (is_failed r || is_warned r) && b then None else Some x in o) >>= λ o. Some (step_of after o))) (some_small l)
+    ∙ by_answer ((is_failed r || is_warned r) && nat_lt 0 (length l)) x (record { seconds = n; provisioners = l; result = r; after = [] }) after (small_bounded r l)
