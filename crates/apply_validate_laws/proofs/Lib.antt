@@ -30,6 +30,7 @@ pub mod ScriptSteps
 pub mod Scripts
 pub mod ScriptsPlaced
 pub mod ScriptsWarn
+pub mod ShapedEntries
 pub mod Shapes
 pub mod ShapesRead
 pub mod Spelt

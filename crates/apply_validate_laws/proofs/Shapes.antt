@@ -58,7 +58,7 @@ without xs ys us one none =
 
 -- ---- in values
 
-shape_under : (part : Part) (xs : List Finding) → list_any is_shape (map (under part) xs) ≡ list_any is_shape xs
+pub shape_under : (part : Part) (xs : List Finding) → list_any is_shape (map (under part) xs) ≡ list_any is_shape xs
 shape_under part [] = refl
 shape_under part (x ∷ xs) = ap (λ (b : Bool). is_shape x || b) (shape_under part xs)
 

@@ -1,4 +1,4 @@
--- Where a run reads no entry, something is told that breaks its rule.
+-- Provisioners, but for how much they put out: nothing is found that breaks a rule, exactly where one is read.
 use Rattle.std.proofs.Common.{◌≡◌, ℕ, suc, ◌+◌, ◌<◌, List, [], ◌∷◌, ◌++◌, length, map, Bool, true, false, not, ◌&&◌, ◌||◌, is_some, Option, Some, None, unwrap_or, if◌then◌else◌, refl, sym, ap, ◌∙◌, arith}
 use Rattle.std.specs.Prelude.{codes, nat_lt}
 use Rattle.std.specs.List.{list_all, list_any}
@@ -46,14 +46,14 @@ some_is x y e = cc
 
 -- ---- provisioners, but for how much they put out
 
-abbrev shaped_provisioner : Data → List Finding
+abbrev pub shaped_provisioner : Data → List Finding
 shaped_provisioner d = where_suits want.Provisioner d
     (faults_of provisioner_table d
     ++ in_list (λ number. unless_suits want.Output) (known name.Output want.ArrayOrAbsent) d
     ++ inside in_diagnostic name.Failed d
     ++ unread provisioner_names d)
 
-same_provisioner : IsSame in_provisioner shaped_provisioner
+pub same_provisioner : IsSame in_provisioner shaped_provisioner
 unfolding in_provisioner
 same_provisioner d =
     let wrong : List Finding = faults_of provisioner_table d in
@@ -71,17 +71,17 @@ same_provisioner d =
     (same_inside in_diagnostic in_diagnostic same_diagnostic name.Failed d))
     (same_unread provisioner_names d))
 
-abbrev made : List ℕ → ℕ → List TimedText → Option Diag → Bool → Provisioner
+abbrev pub made : List ℕ → ℕ → List TimedText → Option Diag → Bool → Provisioner
 made name seconds output failed may_fail = record { name = name; seconds = seconds; output = output; failed = failed; may_fail = may_fail }
 
 abbrev members_shaped : (name : Option (List ℕ)) (seconds : Option ℕ) (shaped : Bool) (failed : Option (Option Diag)) → Bool
 members_shaped name seconds shaped failed = ((is_some name && is_some seconds) && shaped) && is_some failed
 
-unfoldable first_shaped : Data → Bool
+unfoldable pub first_shaped : Data → Bool
 first_shaped k =
     members_shaped (non_empty_text_of (codes "provisioner") k) (seconds_of k) (are_shaped (member_of (codes "output") k)) (diag_or_none (member_of (codes "failed") k))
 
-clean_shaped : IsCleanBeside shaped_provisioner first_shaped
+pub clean_shaped : IsCleanBeside shaped_provisioner first_shaped
 unfolding first_shaped
 clean_shaped d k alike =
     let wrong : List Finding = faults_of provisioner_table d in
@@ -146,7 +146,7 @@ shaped_both k =
     (may_fail_or_not (member_of (codes "on_failure") k)) (are_shaped o) (come_in_time (whole_at name.Seconds k) None (items_at name.Output k))
     (λ s e. ap (λ (x : Option ℕ). are_shaped o && come_in_time x None (items_at name.Output k)) (seconds ∙ e) ∙ outputs_read s o)
 
-abbrev is_read : Data → Bool
+abbrev pub is_read : Data → Bool
 is_read k = is_some (provisioner_from k)
 
 all_shaped : (ks : List Data) → (list_all first_shaped ks && list_all fits_growth ks) ≡ list_all is_read ks
@@ -155,113 +155,7 @@ all_shaped (k ∷ ks) =
     crossed (first_shaped k) (list_all first_shaped ks) (fits_growth k) (list_all fits_growth ks)
     ∙ ap (λ (b : Bool). b && (list_all first_shaped ks && list_all fits_growth ks)) (shaped_both k) ∙ ap (λ (b : Bool). is_read k && b) (all_shaped ks)
 
-items_shaped : (o : Option Data) → (is_absent_or (all_items first_shaped) o && is_absent_or (all_items fits_growth) o) ≡ is_absent_or (all_items is_read) o
+pub items_shaped : (o : Option Data) → (is_absent_or (all_items first_shaped) o && is_absent_or (all_items fits_growth) o) ≡ is_absent_or (all_items is_read) o
 items_shaped None = refl
 items_shaped (Some k) = all_shaped (list_of (items_in k))
 
--- ---- steps, but for their limits
-
-abbrev shaped_step : Data → List Finding
-shaped_step d = where_suits want.Step d
-    (faults_of (step_table (is_skipped d)) d
-    ++ inside in_diagnostic name.Warning d
-    ++ inside in_failure name.Failed d
-    ++ in_list (λ number. shaped_provisioner) (known name.Provisioners want.ArrayOrAbsent) d
-    ++ marked (picked (step_marks d))
-    ++ faults_of (known name.Skipped want.FlagOrAbsent ∷ []) d
-    ++ marked (skipped_marks d)
-    ++ inside (in_items (λ number. growth_of_provisioner)) name.Provisioners d
-    ++ in_list (λ item. in_wait None) (known name.After want.ArrayOrAbsent) d
-    ++ unread step_names d)
-
-same_step : (changes : Option (List ResourceChange)) (change : Option ResourceChange) (n : ℕ) → IsSame (in_step changes change n) shaped_step
-unfolding in_step
-same_step changes change n d =
-    let wrong : List Finding = faults_of (step_table (is_skipped d)) d in
-    let warning : List Finding = inside in_diagnostic name.Warning d in
-    let failed : List Finding = inside in_failure name.Failed d in
-    let provisioners : List Finding = in_list (λ number. in_provisioner) (known name.Provisioners want.ArrayOrAbsent) d in
-    let shaped : List Finding = in_list (λ number. shaped_provisioner) (known name.Provisioners want.ArrayOrAbsent) d in
-    let marks : List Finding = marked (step_marks d) in
-    let short : List Finding = marked (picked (step_marks d)) in
-    let kinds : List Finding = marked (kind_marks change n d) in
-    let flag : List Finding = faults_of (known name.Skipped want.FlagOrAbsent ∷ []) d in
-    let skipped : List Finding = marked (skipped_marks d) in
-    let growth : List Finding = inside (in_items (λ number. growth_of_provisioner)) name.Provisioners d in
-    let after : List Finding = in_list (λ item. in_wait changes) (known name.After want.ArrayOrAbsent) d in
-    let alone_after : List Finding = in_list (λ item. in_wait None) (known name.After want.ArrayOrAbsent) d in
-    let rest : List Finding = unread step_names d in
-    let s2 = both_same wrong warning wrong warning (same_faults (step_table (is_skipped d)) d) (same_inside in_diagnostic in_diagnostic same_diagnostic name.Warning d) in
-    let s3 = both_same (wrong ++ warning) failed (wrong ++ warning) failed s2 (same_inside in_failure in_failure same_failure name.Failed d) in
-    let s4 = both_same (wrong ++ warning ++ failed) provisioners (wrong ++ warning ++ failed) shaped s3
-    (same_list (λ number. in_provisioner) (λ number. shaped_provisioner) (λ number. same_provisioner) (known name.Provisioners want.ArrayOrAbsent) d) in
-    let s5 = both_same (wrong ++ warning ++ failed ++ provisioners) marks (wrong ++ warning ++ failed ++ shaped) short s4 (same_picked (step_marks d)) in
-    let s6 = without (wrong ++ warning ++ failed ++ provisioners ++ marks) kinds (wrong ++ warning ++ failed ++ shaped ++ short) s5 (same_picked (kind_marks change n d)) in
-    let s7 = both_same (wrong ++ warning ++ failed ++ provisioners ++ marks ++ kinds) flag (wrong ++ warning ++ failed ++ shaped ++ short) flag s6
-    (same_faults (known name.Skipped want.FlagOrAbsent ∷ []) d) in
-    let s8 = both_same (wrong ++ warning ++ failed ++ provisioners ++ marks ++ kinds ++ flag) skipped (wrong ++ warning ++ failed ++ shaped ++ short ++ flag) skipped s7
-    (same_picked (skipped_marks d)) in
-    let s9 = both_same (wrong ++ warning ++ failed ++ provisioners ++ marks ++ kinds ++ flag ++ skipped) growth (wrong ++ warning ++ failed ++ shaped ++ short ++ flag ++ skipped) growth s8
-    (same_items (λ number. growth_of_provisioner) (λ number. growth_of_provisioner) (λ number. same_growth) name.Provisioners d) in
-    let s10 = both_same (wrong ++ warning ++ failed ++ provisioners ++ marks ++ kinds ++ flag ++ skipped ++ growth) after
-    (wrong ++ warning ++ failed ++ shaped ++ short ++ flag ++ skipped ++ growth) alone_after s9
-    (same_list (λ item. in_wait changes) (λ item. in_wait None) (λ item. same_wait changes) (known name.After want.ArrayOrAbsent) d) in
-    same_where want.Step d (wrong ++ warning ++ failed ++ provisioners ++ marks ++ kinds ++ flag ++ skipped ++ growth ++ after ++ rest)
-    (wrong ++ warning ++ failed ++ shaped ++ short ++ flag ++ skipped ++ growth ++ alone_after ++ rest)
-    (both_same (wrong ++ warning ++ failed ++ provisioners ++ marks ++ kinds ++ flag ++ skipped ++ growth ++ after) rest
-    (wrong ++ warning ++ failed ++ shaped ++ short ++ flag ++ skipped ++ growth ++ alone_after) rest s10 (same_unread step_names d))
-
--- a step that tells as much, within the limits
-abbrev tiny : Provisioner
-tiny = made [] 0 [] None false
-
-abbrev small : List Provisioner → List Provisioner
-small [] = []
-small (p ∷ ps) = tiny ∷ []
-
-abbrev quick : Option ℕ → Option ℕ
-quick s = option_map (λ (n : ℕ). 0) s
-
-quick_there : (s : Option ℕ) → is_some (quick s) ≡ is_some s
-quick_there None = refl
-quick_there (Some n) = refl
-
-some_small : (l : List Provisioner) → nat_lt 0 (length (small l)) ≡ nat_lt 0 (length l)
-some_small [] = refl
-some_small (p ∷ ps) = sym (lt-ltb 0 (length (p ∷ ps)) (let l : 0 < suc (length ps) = omega arith in l))
-
-small_fits : (l : Option (List Provisioner)) → option_map_or (list_all fits) (option_map small l) false ≡ is_some l
-small_fits None = refl
-small_fits (Some []) = refl
-small_fits (Some (p ∷ ps)) = refl
-
-small_bounded : (r : Ending) (l : List Provisioner) → is_bounded (record { seconds = 0; provisioners = small l; result = r; after = [] }) ≡ true
-small_bounded r [] = refl
-small_bounded r (p ∷ ps) = refl
-
-abbrev step_of : List WaitName → Option Outcome → EntryStep
-step_of after outcome = record { outcome = outcome; after = after }
-
-by_skip : (b : Bool) (after : List WaitName)
-    → fit ((let o : Option (Option Outcome) = if b then None else Some None in o) >>= λ o. Some (step_of after o))
-    ≡ is_some ((let o : Option (Option Outcome) = if b then None else Some None in o) >>= λ o. Some (step_of after o))
-by_skip true after = refl
-by_skip false after = refl
-
-by_answer : (b : Bool) (x y : Outcome) (after : List WaitName) → is_bounded x ≡ true
-    → fit (option_map (λ (z : Outcome). Some z) (let o : Option Outcome = if b then None else Some x in o) >>= λ o. Some (step_of after o))
-    ≡ is_some (option_map (λ (z : Outcome). Some z) (let o : Option Outcome = if b then None else Some y in o) >>= λ o. Some (step_of after o))
-by_answer true x y after is = refl
-by_answer false x y after is = is
-
-pub ends_small : (skipped told : Bool) (s : Option ℕ) (r : Ending) (l : List Provisioner) (after : List WaitName)
-    → fit ((if skipped then skipped_with told r (small l) else answered_with (quick s) r (small l)) >>= λ o. Some (step_of after o))
-    ≡ is_some ((if skipped then skipped_with told r l else answered_with s r l) >>= λ o. Some (step_of after o))
-ends_small true told s r l after =
-    ap (λ (b : Bool). fit ((let o : Option (Option Outcome) = if told || (not (says_nothing r) || b) then None else Some None in o) >>= λ o. Some (step_of after o))) (some_small l)
-    ∙ by_skip (told || (not (says_nothing r) || nat_lt 0 (length l))) after
-ends_small false told None r l after = refl
-ends_small false told (Some n) r l after =
-    let x : Outcome = record { seconds = 0; provisioners = small l; result = r; after = [] } in
-    ap (λ (b : Bool). fit (option_map (λ (z : Outcome). Some z) (let o : Option Outcome = if (is_failed r || is_warned r) && b then None else Some x in o) >>= λ o. Some (step_of after o))) (some_small l)
-    ∙ by_answer ((is_failed r || is_warned r) && nat_lt 0 (length l)) x (record { seconds = n; provisioners = l; result = r; after = [] }) after (small_bounded r l)

@@ -47,7 +47,7 @@ unfoldable pub alone : (skipped told id warning failed : Bool) (count : ℕ) →
 alone skipped told id warning failed count =
     not (skipped && told) && (not (skipped && id) && (not (skipped && warning) && (not (skipped && failed) && (not (skipped && nat_lt 0 count) && true))))
 
-same_alone : (x y t u i j w v f g : Bool) (c d : ℕ) → x ≡ y → t ≡ u → i ≡ j → w ≡ v → f ≡ g → c ≡ d → alone x t i w f c ≡ alone y u j v g d
+pub same_alone : (x y t u i j w v f g : Bool) (c d : ℕ) → x ≡ y → t ≡ u → i ≡ j → w ≡ v → f ≡ g → c ≡ d → alone x t i w f c ≡ alone y u j v g d
 same_alone x y t u i j w v f g c d e1 e2 e3 e4 e5 e6 = cc
 
 some_is : {A : Type 0} (x y : A) → Some x ≡ Some y → x ≡ y
