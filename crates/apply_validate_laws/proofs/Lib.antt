@@ -27,6 +27,7 @@ pub mod Runs
 pub mod ScriptEntries
 pub mod ScriptRefusals
 pub mod ScriptSteps
+pub mod ScriptWaits
 pub mod Scripts
 pub mod ScriptsPlaced
 pub mod ScriptsWarn
