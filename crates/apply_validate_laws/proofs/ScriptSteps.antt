@@ -256,3 +256,125 @@ module _ (changes : Option (List ResourceChange)) (change : Option ResourceChang
       (tenth p (faults_of (step_table (is_skipped d)) d) (inside in_diagnostic name.Warning d) (inside in_failure name.Failed d) (in_list (λ number. in_provisioner) (known name.Provisioners want.ArrayOrAbsent) d)
       (marked (step_marks d)) (marked (kind_marks change n d)) (faults_of (known name.Skipped want.FlagOrAbsent ∷ []) d) (marked (skipped_marks d))
       (inside (in_items (λ number. growth_of_provisioner)) name.Provisioners d) (in_list (λ item. in_wait changes) (known name.After want.ArrayOrAbsent) d) (unread step_names d) is)
+
+-- ---- the finding of a refusal
+
+abbrev pub entry_told : ScriptError → Finding → Bool
+entry_told refusal finding = is_refusal finding && tells_of_entry refusal finding.path finding.what
+
+abbrev pub step_told : ScriptError → ℕ → Finding → Bool
+step_told refusal n finding = entry_told refusal (under (Member name.Steps) (under (Item n) finding))
+
+-- one of the steps passes a test, and that is told of it
+pub each_step : (refusal : ScriptError) (changes : Option (List ResourceChange)) (change : Option ResourceChange) (test : EntryStep → Bool)
+    → ((n : ℕ) (d k : Data) (step : EntryStep) → Alike d k → step_from k ≡ Some step → test step ≡ true → list_any (step_told refusal n) (in_step changes change n d) ≡ true)
+    → (d k : Data) → Alike d k → (steps : List EntryStep) → all_some (map step_from (items_at name.Steps k)) ≡ Some steps → list_any test steps ≡ true
+    → list_any (entry_told refusal) (inside (in_items (in_step changes change)) name.Steps d) ≡ true
+each_step refusal changes change test told d k alike steps read any =
+    inside_any (entry_told refusal) (in_step changes change) name.Steps d
+    (each_any EntryStep step_from test (below (Member name.Steps) (entry_told refusal)) (in_step changes change) told 0 (items_at name.Steps d) (items_at name.Steps k)
+    (pairs_at name.Steps refl d k alike) steps read any)
+
+any_outcome : (test : Option Outcome → Bool) (steps : List EntryStep) → list_any test (outcomes steps) ≡ list_any (λ step. test step.outcome) steps
+any_outcome test [] = refl
+any_outcome test (step ∷ steps) = ap (λ (b : Bool). test step.outcome || b) (any_outcome test steps)
+
+-- ---- limits
+
+abbrev too_long : Data → Mark
+too_long d = record { holds = nat_lt max_seconds (seconds_in_all d); at = None; what = what.TooLong }
+
+abbrev too_many : Data → Mark
+too_many d = record { holds = nat_lt max_provisioners (length (items_at name.Provisioners d)); at = Some name.Provisioners; what = what.TooManyProvisioners }
+
+abbrev beside_id : Data → Mark
+beside_id d = beside name.Id (is_some (non_empty_text_of (name_text name.Id) d)) d
+
+abbrev beside_warning : Data → Mark
+beside_warning d = beside name.Warning (is_some (member_at name.Warning d)) d
+
+abbrev beside_provisioners : Data → Mark
+beside_provisioners d = beside name.Provisioners (nat_lt 0 (length (items_at name.Provisioners d))) d
+
+limit_told : (p : Finding → Bool) (d : Data) → list_any p (marked (too_long d ∷ too_many d ∷ [])) ≡ true → list_any p (marked (step_marks d)) ≡ true
+limit_told p d is =
+    next_mark p (beside_id d) (beside_warning d ∷ beside_provisioners d ∷ too_long d ∷ too_many d ∷ [])
+    (next_mark p (beside_warning d) (beside_provisioners d ∷ too_long d ∷ too_many d ∷ [])
+    (next_mark p (beside_provisioners d) (too_long d ∷ too_many d ∷ []) is))
+
+module _ (m : ℕ) (changes : Option (List ResourceChange)) (change : Option ResourceChange) where
+  long_told : (n : ℕ) (d k : Data) (step : EntryStep) → Alike d k → step_from k ≡ Some step → passes is_too_long step.outcome ≡ true
+      → list_any (step_told (SecondsRange m) n) (in_step changes change n d) ≡ true
+  long_told n d k step alike read long =
+      let p : Finding → Bool = step_told (SecondsRange m) n in
+      let taken : seconds_in_all d ≡ seconds_in_all k =
+      ap (λ (s : ℕ). s + sum_by seconds_in (items_at name.Provisioners d)) (seconds_same d k alike)
+      ∙ ap (λ (s : ℕ). seconds_in k + s) (sum_same seconds_in seconds_same name.Provisioners refl d k alike) in
+      marks_told changes change n p d k alike step read
+      (limit_told p d (this_mark p (too_long d) (too_many d ∷ []) (ap (nat_lt max_seconds) taken ∙ long_read k step read long) refl))
+
+  many_told : (n : ℕ) (d k : Data) (step : EntryStep) → Alike d k → step_from k ≡ Some step → passes has_too_many_provisioners step.outcome ≡ true
+      → list_any (step_told (TooManyProvisioners m) n) (in_step changes change n d) ≡ true
+  many_told n d k step alike read many =
+      let p : Finding → Bool = step_told (TooManyProvisioners m) n in
+      let holds : nat_lt max_provisioners (length (items_at name.Provisioners d)) ≡ true =
+      ap (nat_lt max_provisioners) (count_same name.Provisioners refl d k alike) ∙ many_read k step read many in
+      marks_told changes change n p d k alike step read
+      (limit_told p d (next_mark p (too_long d) (too_many d ∷ []) (this_mark p (too_many d) [] holds refl)))
+
+-- ---- what provisioners put out
+
+provisioner_object : (k : Data) (x : Provisioner) → provisioner_from k ≡ Some x → is_some (as_object k) ≡ true
+unfolding provisioner_from
+provisioner_object null x e = absurd cc
+provisioner_object (boolean b) x e = absurd cc
+provisioner_object (number n) x e = absurd cc
+provisioner_object (string s) x e = absurd cc
+provisioner_object (array ds) x e = absurd cc
+provisioner_object (object ms) x e = refl
+
+abbrev made : List ℕ → ℕ → List TimedText → Option Diag → Bool → Provisioner
+made name seconds output failed may_fail = record { name = name; seconds = seconds; output = output; failed = failed; may_fail = may_fail }
+
+output_of : (d : Data) (x : Provisioner) → provisioner_from d ≡ Some x → length (items_at name.Output d) ≡ length x.output
+unfolding provisioner_from
+output_of d x e =
+    let may : Option Bool = may_fail_or_not (member_of (codes "on_failure") d) in
+    let items : Option (List OutputItem) = each_of output_from (member_of (codes "output") d) in
+    let name = bind_some (non_empty_text_of (codes "provisioner") d) (λ n. seconds_of d >>= λ s. diag_or_none (member_of (codes "failed") d) >>= λ f. items >>= λ i. timed_outputs s i >>= λ o. may >>= λ m. Some (made n s o f m)) x e in
+    let seconds = bind_some (seconds_of d) (λ s. diag_or_none (member_of (codes "failed") d) >>= λ f. items >>= λ i. timed_outputs s i >>= λ o. may >>= λ m. Some (made name.0 s o f m)) x name.2 in
+    let failed = bind_some (diag_or_none (member_of (codes "failed") d)) (λ f. items >>= λ i. timed_outputs seconds.0 i >>= λ o. may >>= λ m. Some (made name.0 seconds.0 o f m)) x seconds.2 in
+    let item = bind_some items (λ i. timed_outputs seconds.0 i >>= λ o. may >>= λ m. Some (made name.0 seconds.0 o failed.0 m)) x failed.2 in
+    let output = bind_some (timed_outputs seconds.0 item.0) (λ o. may >>= λ m. Some (made name.0 seconds.0 o failed.0 m)) x item.2 in
+    let growth = bind_some may (λ m. Some (made name.0 seconds.0 output.0 failed.0 m)) x output.2 in
+    let both : (items >>= timed_outputs seconds.0) ≡ Some output.0 = ap (λ (o : Option (List OutputItem)). o >>= timed_outputs seconds.0) item.1 ∙ output.1 in
+    texts_read seconds.0 (member_of (codes "output") d) output.0 both ∙ ap (λ (y : Provisioner). length y.output) (some_is (made name.0 seconds.0 output.0 failed.0 growth.0) x growth.2)
+
+third : (p : Finding → Bool) (a b c e f : List Finding) → list_any p c ≡ true → list_any p (a ++ b ++ c ++ e ++ f) ≡ true
+third p a b c e f is = any_left p _ f (any_left p _ e (any_right p (a ++ b) c is))
+
+in_provisioner_object : (p : Finding → Bool) (d : Data) (xs : List Finding) → is_some (as_object d) ≡ true → list_any p xs ≡ true → list_any p (where_suits want.Provisioner d xs) ≡ true
+in_provisioner_object p d xs there found = rw there found
+
+texts_told : (p : Finding → Bool) (d k : Data) (x : Provisioner) → p (place_of (Some name.Output) what.TooManyTexts) ≡ true → Alike d k → provisioner_from k ≡ Some x → puts_out_too_much x ≡ true
+    → list_any p (in_provisioner d) ≡ true
+unfolding in_provisioner
+texts_told p d k x told alike read much =
+    in_provisioner_object p d _ (object_alike d k alike ∙ provisioner_object k x read)
+    (third p (faults_of provisioner_table d) (in_list (λ number. unless_suits want.Output) (known name.Output want.ArrayOrAbsent) d) (marked (provisioner_mark d ∷ []))
+    (inside in_diagnostic name.Failed d) (unread provisioner_names d)
+    (this_mark p (provisioner_mark d) [] (ap (nat_lt max_outputs) (count_same name.Output refl d k alike ∙ output_of k x read) ∙ much) told))
+
+much_told : (m : ℕ) (changes : Option (List ResourceChange)) (change : Option ResourceChange) (n : ℕ) (d k : Data) (step : EntryStep) → Alike d k → step_from k ≡ Some step
+    → passes has_too_much_output step.outcome ≡ true → list_any (step_told (TooMuchOutput m) n) (in_step changes change n d) ≡ true
+much_told m changes change n d k step alike read much =
+    let p : Finding → Bool = step_told (TooMuchOutput m) n in
+    let it = holding has_too_much_output step.outcome much in
+    let items = outcome_of k step it.0 read it.1 in
+    provisioners_told changes change n p d k alike step read
+    (any_right p (fault_of d (known name.Provisioners want.ArrayOrAbsent)) (inside (in_items (λ number. in_provisioner)) name.Provisioners d)
+    (inside_any p (λ number. in_provisioner) name.Provisioners d
+    (each_any Provisioner provisioner_from puts_out_too_much (below (Member name.Provisioners) p) (λ number. in_provisioner)
+    (λ i e l x same is too_much. texts_told (below (Item i) (below (Member name.Provisioners) p)) e l x refl same is too_much) 0
+    (items_at name.Provisioners d) (items_at name.Provisioners k) (pairs_at name.Provisioners refl d k alike) it.0.provisioners
+    (each_list provisioner_from (member_of (codes "provisioners") k) it.0.provisioners items.1) it.2)))
