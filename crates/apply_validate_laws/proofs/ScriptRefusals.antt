@@ -5,7 +5,7 @@ use Rattle.apply_plan.specs.declared.script.script_error.ScriptError.{ScriptErro
 use Rattle.apply_plan.specs.Script.OutcomeMap.{script_of}
 use Rattle.apply_validate.specs.Whole.{given_findings}
 use Rattle.apply_validate_laws.specs.Laws.{has_script_refusal}
-use Rattle.apply_validate_laws.proofs.ScriptSteps.{each_step}
+use Rattle.apply_validate_laws.proofs.ScriptEntries.{refusal_told}
 
 pub refusal_of_script : (lanes : Bool) (plan : SavedPlan) (bytes : List ℕ) (refusal : ScriptError) → script_of plan bytes ≡ Err refusal
     → has_script_refusal refusal (given_findings lanes (Ok plan) (Some bytes)) ≡ true

@@ -241,7 +241,7 @@ module _ (changes : Option (List ResourceChange)) (change : Option ResourceChang
       (marked (step_marks d)) (marked (kind_marks change n d)) (faults_of (known name.Skipped want.FlagOrAbsent ∷ []) d) (marked (skipped_marks d))
       (inside (in_items (λ number. growth_of_provisioner)) name.Provisioners d) (in_list (λ item. in_wait changes) (known name.After want.ArrayOrAbsent) d) (unread step_names d) is)
 
-  kinds_told : list_any p (marked (kind_marks change n d)) ≡ true → list_any p (in_step changes change n d) ≡ true
+  pub kinds_told : list_any p (marked (kind_marks change n d)) ≡ true → list_any p (in_step changes change n d) ≡ true
   unfolding in_step
   kinds_told is =
       in_object p d _ there
@@ -275,7 +275,7 @@ each_step refusal changes change test told d k alike steps read any =
     (each_any EntryStep step_from test (below (Member name.Steps) (entry_told refusal)) (in_step changes change) told 0 (items_at name.Steps d) (items_at name.Steps k)
     (pairs_at name.Steps refl d k alike) steps read any)
 
-any_outcome : (test : Option Outcome → Bool) (steps : List EntryStep) → list_any test (outcomes steps) ≡ list_any (λ step. test step.outcome) steps
+pub any_outcome : (test : Option Outcome → Bool) (steps : List EntryStep) → list_any test (outcomes steps) ≡ list_any (λ step. test step.outcome) steps
 any_outcome test [] = refl
 any_outcome test (step ∷ steps) = ap (λ (b : Bool). test step.outcome || b) (any_outcome test steps)
 
@@ -303,7 +303,7 @@ limit_told p d is =
     (next_mark p (beside_provisioners d) (too_long d ∷ too_many d ∷ []) is))
 
 module _ (m : ℕ) (changes : Option (List ResourceChange)) (change : Option ResourceChange) where
-  long_told : (n : ℕ) (d k : Data) (step : EntryStep) → Alike d k → step_from k ≡ Some step → passes is_too_long step.outcome ≡ true
+  pub long_told : (n : ℕ) (d k : Data) (step : EntryStep) → Alike d k → step_from k ≡ Some step → passes is_too_long step.outcome ≡ true
       → list_any (step_told (SecondsRange m) n) (in_step changes change n d) ≡ true
   long_told n d k step alike read long =
       let p : Finding → Bool = step_told (SecondsRange m) n in
@@ -313,7 +313,7 @@ module _ (m : ℕ) (changes : Option (List ResourceChange)) (change : Option Res
       marks_told changes change n p d k alike step read
       (limit_told p d (this_mark p (too_long d) (too_many d ∷ []) (ap (nat_lt max_seconds) taken ∙ long_read k step read long) refl))
 
-  many_told : (n : ℕ) (d k : Data) (step : EntryStep) → Alike d k → step_from k ≡ Some step → passes has_too_many_provisioners step.outcome ≡ true
+  pub many_told : (n : ℕ) (d k : Data) (step : EntryStep) → Alike d k → step_from k ≡ Some step → passes has_too_many_provisioners step.outcome ≡ true
       → list_any (step_told (TooManyProvisioners m) n) (in_step changes change n d) ≡ true
   many_told n d k step alike read many =
       let p : Finding → Bool = step_told (TooManyProvisioners m) n in
@@ -365,7 +365,7 @@ texts_told p d k x told alike read much =
     (inside in_diagnostic name.Failed d) (unread provisioner_names d)
     (this_mark p (provisioner_mark d) [] (ap (nat_lt max_outputs) (count_same name.Output refl d k alike ∙ output_of k x read) ∙ much) told))
 
-much_told : (m : ℕ) (changes : Option (List ResourceChange)) (change : Option ResourceChange) (n : ℕ) (d k : Data) (step : EntryStep) → Alike d k → step_from k ≡ Some step
+pub much_told : (m : ℕ) (changes : Option (List ResourceChange)) (change : Option ResourceChange) (n : ℕ) (d k : Data) (step : EntryStep) → Alike d k → step_from k ≡ Some step
     → passes has_too_much_output step.outcome ≡ true → list_any (step_told (TooMuchOutput m) n) (in_step changes change n d) ≡ true
 much_told m changes change n d k step alike read much =
     let p : Finding → Bool = step_told (TooMuchOutput m) n in
