@@ -96,7 +96,7 @@ entry_read d entry e =
       each = λ test. ap (λ (o : Option Data). is_absent_or (all_items_from test) o) l.1 ∙ ap (λ (xs : List Data). all_from test 0 xs) (array_in l.0 ds.0 ds.1);
     }
 
-pub there_is : {A : Type 0} (f : A → Bool) (o : Option A) → option_map_or f o false ≡ true → (x : A) × (o ≡ Some x)
+there_is : {A : Type 0} (f : A → Bool) (o : Option A) → option_map_or f o false ≡ true → (x : A) × (o ≡ Some x)
 there_is f None e = absurd cc
 there_is f (Some x) e = (x, refl)
 

@@ -1,13 +1,12 @@
 -- Where a run refuses an entry, what it refuses is found in it.
-use Rattle.std.proofs.Common.{◌≡◌, ℕ, ◌+◌, ◌-◌, ◌≤◌, List, [], ◌∷◌, ◌++◌, length, map, Bool, true, false, cond, not, ◌&&◌, ◌||◌, is_some, Option, Some, None, unwrap_or, Result, Ok, Err, if◌then◌else◌, refl, subst, sym, ap, ◌∙◌, arith}
-use Rattle.std.specs.Prelude.{codes, is_none, nat_le, nat_lt, slice_get}
+use Rattle.std.proofs.Common.{◌≡◌, ℕ, ◌+◌, ◌-◌, ◌≤◌, List, [], ◌∷◌, ◌++◌, length, map, Bool, true, false, cond, ◌&&◌, is_some, Option, Some, None, unwrap_or, Result, Err, if◌then◌else◌, refl, subst, sym, ap, ◌∙◌, arith}
+use Rattle.std.specs.Prelude.{is_none, nat_le, nat_lt, slice_get}
 use Rattle.std.specs.List.{enumerate_from, list_all, list_any, position_from, sum_by, zip}
-use Rattle.std.specs.Option.{option_and_then, option_map, option_map_or, option_or}
+use Rattle.std.specs.Option.{option_and_then, option_map, option_map_or}
 use Rattle.std.proofs.lemmas.Bool.Decides.{nat_tests}
 use Rattle.std.proofs.lemmas.List.{length-map}
 use Rattle.serde_json.specs.Data.{Data, null, boolean, number, string, array, object}
 use Rattle.serde_json.specs.Find.{as_object, as_str}
-use Rattle.apply_json.specs.Tree.{member_of}
 use Rattle.apply_model.specs.declared.plan.step_kind.StepKind.{StepKind}
 use Rattle.apply_model.specs.declared.script.outcome.Outcome.{Outcome}
 use Rattle.apply_model.specs.Plan.ResourceChange.{ResourceChange}
@@ -19,7 +18,7 @@ use Rattle.apply_plan.specs.Plan.ObjectName.{name_one_object}
 use Rattle.apply_plan.specs.Results as results
 use Rattle.apply_plan.specs.Results.{or_refuse, unless_refused}
 use Rattle.apply_plan.specs.Script.Entry.{Entry, EntryStep, all_some, entry_of, step_from}
-use Rattle.apply_plan.specs.Script.OutcomeMap.{Said, change_of_entry, count_in, entry_at, names_change, said_by}
+use Rattle.apply_plan.specs.Script.OutcomeMap.{change_of_entry, count_in, entry_at, names_change}
 use Rattle.apply_plan.specs.Script.Refusals as run
 use Rattle.apply_plan.specs.Script.Refusals.{count_of_waits, fault_of_entry, fault_of_steps, fault_of_waits, is_any_wait, misplaces_provisioners, passes, warns_not_a_read}
 use Rattle.apply_validate.specs.declared.findings.finding.Finding.{Finding}
@@ -28,7 +27,7 @@ use Rattle.apply_validate.specs.declared.findings.part.Part.TheVariants.{Member}
 use Rattle.apply_validate.specs.declared.findings.want.Want.TheVariants as want
 use Rattle.apply_validate.specs.declared.findings.what.What.{What}
 use Rattle.apply_validate.specs.declared.findings.what.What.TheVariants as what
-use Rattle.apply_validate.specs.Beside.{again_mark, beyond_at, beyond_in, change_at, change_named, named_first, object_named, place_unknown, steps_mark, unknown_marks, waits_beyond, waits_in, waits_in_all, waits_left}
+use Rattle.apply_validate.specs.Beside.{again_mark, beyond_at, beyond_in, change_at, change_named, named_first, object_named, steps_mark, unknown_marks, waits_beyond, waits_in_all, waits_left}
 use Rattle.apply_validate.specs.ObjectNames.{Named}
 use Rattle.apply_validate.specs.PlanFindings.{first_named, is_named, name_read}
 use Rattle.apply_validate.specs.ScriptFindings.{entry_names, entry_table, in_entry, in_step}
@@ -37,87 +36,23 @@ use Rattle.apply_validate_laws.specs.Laws.{is_entry}
 use Rattle.apply_validate_laws.proofs.Alike.{Alike, object_alike}
 use Rattle.apply_validate_laws.proofs.Besides.{all_waits_same, change_same, is_unknown, less}
 use Rattle.apply_validate_laws.proofs.Elements.{named}
-use Rattle.apply_validate_laws.proofs.Entries.{IsEntryOf, any_first, any_of, counts_before, entry_read, found_passes, misplaced, name_of_change, named_before, warned}
+use Rattle.apply_validate_laws.proofs.Entries.{IsEntryOf, any_first, counts_before, entry_read, found_passes, name_of_change, named_before}
 use Rattle.apply_validate.proofs.FirstNames.{same_name}
 use Rattle.apply_validate_laws.proofs.Members.{count_same}
 use Rattle.apply_validate_laws.proofs.Provisioners.{length_of_all}
 use Rattle.apply_validate_laws.proofs.Refusals.{any_left, any_right}
-use Rattle.apply_validate_laws.proofs.ScriptSteps.{any_outcome, any_under, below, each_step, entry_told, inside_any, long_told, many_told, much_told, pairs_at, step_told, this_mark}
+use Rattle.apply_validate_laws.proofs.ScriptLimits.{long_told, many_told, much_told}
+use Rattle.apply_validate_laws.proofs.ScriptSteps.{any_outcome, any_under, below, each_step, entry_told, inside_any, pairs_at, step_told, this_mark}
 use Rattle.apply_validate_laws.proofs.ScriptWaits.{beyond_told, each_kind, no_step_told, of_no_change_told, placed_told, unknown_told, warns_told}
 use Rattle.apply_validate_laws.proofs.ShapedEntries.{shape_told}
 use Rattle.apply_validate_laws.proofs.Taken.{found_with, outcomes, waits_read}
+use Rattle.apply_validate_laws.proofs.ScriptTests.{AreStepsTold, AreWaitsTold, Told, by_change, refused_with}
 
 some_is : {A : Type 0} (x y : A) → Some x ≡ Some y → x ≡ y
 some_is x y e = cc
 
 err_is : {A E : Type 0} (x y : E) → (let r : Result A E = Err x in r) ≡ Err y → x ≡ y
 err_is x y e = cc
-
--- ---- what a run tests, one after another
-
--- what a refusal is of is among these
-abbrev Told : List Finding → ScriptError → Type 0
-Told xs refusal = list_any (entry_told refusal) xs ≡ true
-
-by_fault : (xs : List Finding) (refusal : ScriptError) (b : Bool) (x : ScriptError) (o : Option ScriptError) → (b ≡ true → Told xs x) → (o ≡ Some refusal → Told xs refusal)
-    → cond b (Some x) o ≡ Some refusal → Told xs refusal
-by_fault xs refusal true x o told later e = subst (Told xs) (some_is x refusal e) (told refl)
-by_fault xs refusal false x o told later e = later e
-
-no_more : (xs : List Finding) (refusal : ScriptError) → None ≡ Some refusal → Told xs refusal
-no_more xs refusal e = absurd cc
-
-record AreStepsTold (xs : List Finding) (n : ℕ) (deposed : Bool) (kinds : List StepKind) (steps : List EntryStep) : Type 0 where
-  pub many : nat_lt (length kinds) (length (outcomes steps)) ≡ true → Told xs (TooManySteps n)
-  pub long : any_of is_too_long steps ≡ true → Told xs (SecondsRange n)
-  pub wide : any_of has_too_many_provisioners steps ≡ true → Told xs (TooManyProvisioners n)
-  pub loud : any_of has_too_much_output steps ≡ true → Told xs (TooMuchOutput n)
-  pub placed : misplaced deposed kinds steps ≡ true → Told xs (NotACreate n)
-  pub warns : warned kinds steps ≡ true → Told xs (WarnsNotARead n)
-
-by_steps : (xs : List Finding) (n : ℕ) (deposed : Bool) (kinds : List StepKind) (steps : List EntryStep) (refusal : ScriptError) → AreStepsTold xs n deposed kinds steps
-    → fault_of_steps n deposed kinds (outcomes steps) ≡ Some refusal → Told xs refusal
-unfolding fault_of_steps
-by_steps xs n deposed kinds steps refusal told e =
-    by_fault xs refusal _ (TooManySteps n) _ told.many
-    (by_fault xs refusal _ (SecondsRange n) _ told.long
-    (by_fault xs refusal _ (TooManyProvisioners n) _ told.wide
-    (by_fault xs refusal _ (TooMuchOutput n) _ told.loud
-    (by_fault xs refusal _ (NotACreate n) _ told.placed
-    (by_fault xs refusal _ (WarnsNotARead n) None told.warns (no_more xs refusal)))))) e
-
-record AreWaitsTold (xs : List Finding) (n : ℕ) (changes : List ResourceChange) (earlier : ℕ) (steps : List EntryStep) : Type 0 where
-  pub many : nat_lt max_waits (earlier + count_of_waits steps) ≡ true → Told xs (TooManyWaits n)
-  pub unknown : is_any_wait (run.is_unknown changes) steps ≡ true → Told xs (UnknownWait n)
-  pub lacking : is_any_wait (run.lacks_step changes) steps ≡ true → Told xs (NoSuchStep n)
-
-by_waits : (xs : List Finding) (n : ℕ) (changes : List ResourceChange) (earlier : ℕ) (steps : List EntryStep) (refusal : ScriptError) → AreWaitsTold xs n changes earlier steps
-    → fault_of_waits n changes earlier steps ≡ Some refusal → Told xs refusal
-unfolding fault_of_waits
-by_waits xs n changes earlier steps refusal told e =
-    by_fault xs refusal _ (TooManyWaits n) _ told.many
-    (by_fault xs refusal _ (UnknownWait n) _ told.unknown
-    (by_fault xs refusal _ (NoSuchStep n) None told.lacking (no_more xs refusal))) e
-
-by_either : (xs : List Finding) (a b : Option ScriptError) (refusal : ScriptError) → (a ≡ Some refusal → Told xs refusal) → (b ≡ Some refusal → Told xs refusal) → option_or a b ≡ Some refusal → Told xs refusal
-by_either xs None b refusal first second e = second e
-by_either xs (Some x) b refusal first second e = first e
-
-by_said : (xs : List Finding) (o : Option ScriptError) (said : Said) (refusal : ScriptError) → (o ≡ Some refusal → Told xs refusal) → unless_refused o said ≡ Err refusal → Told xs refusal
-by_said xs None said refusal told e = absurd cc
-by_said xs (Some x) said refusal told e = told (ap (λ (y : ScriptError). Some y) (err_is x refusal e))
-
-abbrev refused_with : (dup : Bool) (n : ℕ) (changes : List ResourceChange) (earlier : ℕ) (entry : Entry) → ℕ × ResourceChange → Result Said ScriptError
-refused_with dup n changes earlier entry it = cond dup (Err (Duplicate n)) (unless_refused (fault_of_entry n changes earlier it.1 entry.steps) (said_by changes it.0 entry.steps))
-
-by_change : (xs : List Finding) (dup : Bool) (n : ℕ) (changes : List ResourceChange) (earlier : ℕ) (entry : Entry) (it : ℕ × ResourceChange) (refusal : ScriptError)
-    → (dup ≡ true → Told xs (Duplicate n)) → AreStepsTold xs n (is_some it.1.deposed) it.1.steps entry.steps → AreWaitsTold xs n changes earlier entry.steps
-    → refused_with dup n changes earlier entry it ≡ Err refusal → Told xs refusal
-by_change xs true n changes earlier entry it refusal again steps waits e = subst (Told xs) (err_is (Duplicate n) refusal e) (again refl)
-by_change xs false n changes earlier entry it refusal again steps waits e =
-    by_said xs (fault_of_entry n changes earlier it.1 entry.steps) (said_by changes it.0 entry.steps) refusal
-    (by_either xs (fault_of_steps n (is_some it.1.deposed) it.1.steps (map (λ step. step.outcome) entry.steps)) (fault_of_waits n changes earlier entry.steps) refusal
-    (by_steps xs n (is_some it.1.deposed) it.1.steps entry.steps refusal steps) (by_waits xs n changes earlier entry.steps refusal waits)) e
 
 -- ---- what is found in an entry
 
@@ -136,7 +71,8 @@ sixth p a b c e f g h i is = any_left p _ i (any_left p _ h (any_right p (a ++ b
 seventh : (p : Finding → Bool) (a b c e f g h i : List Finding) → list_any p h ≡ true → list_any p (a ++ b ++ c ++ e ++ f ++ g ++ h ++ i) ≡ true
 seventh p a b c e f g h i is = any_left p _ i (any_right p (a ++ b ++ c ++ e ++ f ++ g) h is)
 
-in_object : (p : Finding → Bool) (d : Data) (xs : List Finding) → is_some (as_object d) ≡ true → list_any p xs ≡ true → list_any p (where_suits want.Entry d xs) ≡ true
+in_object : (p : Finding → Bool) (d : Data) (xs : List Finding) → is_some (as_object d) ≡ true → list_any p xs ≡ true
+    → list_any p (where_suits want.Entry d xs) ≡ true
 in_object p d xs there found = rw there found
 
 module _ (p : Finding → Bool) (changes : List ResourceChange) (first left : Option ℕ) (d : Data) (there : is_some (as_object d) ≡ true) where
@@ -144,36 +80,47 @@ module _ (p : Finding → Bool) (changes : List ResourceChange) (first left : Op
   unfolding in_entry
   unknown_in is =
       in_object p d _ there
-      (second p (faults_of entry_table d) (marked (unknown_marks (Some changes) d)) (marked (again_mark (change_at (Some changes) d) first ∷ [])) (fault_of d (known name.Steps want.Array))
-      (marked (steps_mark (change_at (Some changes) d) d ∷ [])) (inside (in_items (in_step (Some changes) (change_at (Some changes) d))) name.Steps d) (beyond_in true left d) (unread entry_names d) is)
+      (second p (faults_of entry_table d) (marked (unknown_marks (Some changes) d)) (marked (again_mark (change_at (Some changes) d) first ∷ []))
+      (fault_of d (known name.Steps want.Array))
+      (marked (steps_mark (change_at (Some changes) d) d ∷ []))
+      (inside (in_items (in_step (Some changes) (change_at (Some changes) d))) name.Steps d) (beyond_in true left d) (unread entry_names d) is)
 
   again_in : list_any p (marked (again_mark (change_at (Some changes) d) first ∷ [])) ≡ true → list_any p (in_entry (Some changes) first left d) ≡ true
   unfolding in_entry
   again_in is =
       in_object p d _ there
-      (third p (faults_of entry_table d) (marked (unknown_marks (Some changes) d)) (marked (again_mark (change_at (Some changes) d) first ∷ [])) (fault_of d (known name.Steps want.Array))
-      (marked (steps_mark (change_at (Some changes) d) d ∷ [])) (inside (in_items (in_step (Some changes) (change_at (Some changes) d))) name.Steps d) (beyond_in true left d) (unread entry_names d) is)
+      (third p (faults_of entry_table d) (marked (unknown_marks (Some changes) d)) (marked (again_mark (change_at (Some changes) d) first ∷ []))
+      (fault_of d (known name.Steps want.Array))
+      (marked (steps_mark (change_at (Some changes) d) d ∷ []))
+      (inside (in_items (in_step (Some changes) (change_at (Some changes) d))) name.Steps d) (beyond_in true left d) (unread entry_names d) is)
 
   many_in : list_any p (marked (steps_mark (change_at (Some changes) d) d ∷ [])) ≡ true → list_any p (in_entry (Some changes) first left d) ≡ true
   unfolding in_entry
   many_in is =
       in_object p d _ there
-      (fifth p (faults_of entry_table d) (marked (unknown_marks (Some changes) d)) (marked (again_mark (change_at (Some changes) d) first ∷ [])) (fault_of d (known name.Steps want.Array))
-      (marked (steps_mark (change_at (Some changes) d) d ∷ [])) (inside (in_items (in_step (Some changes) (change_at (Some changes) d))) name.Steps d) (beyond_in true left d) (unread entry_names d) is)
+      (fifth p (faults_of entry_table d) (marked (unknown_marks (Some changes) d)) (marked (again_mark (change_at (Some changes) d) first ∷ []))
+      (fault_of d (known name.Steps want.Array))
+      (marked (steps_mark (change_at (Some changes) d) d ∷ []))
+      (inside (in_items (in_step (Some changes) (change_at (Some changes) d))) name.Steps d) (beyond_in true left d) (unread entry_names d) is)
 
-  steps_in : list_any p (inside (in_items (in_step (Some changes) (change_at (Some changes) d))) name.Steps d) ≡ true → list_any p (in_entry (Some changes) first left d) ≡ true
+  steps_in : list_any p (inside (in_items (in_step (Some changes) (change_at (Some changes) d))) name.Steps d) ≡ true
+      → list_any p (in_entry (Some changes) first left d) ≡ true
   unfolding in_entry
   steps_in is =
       in_object p d _ there
-      (sixth p (faults_of entry_table d) (marked (unknown_marks (Some changes) d)) (marked (again_mark (change_at (Some changes) d) first ∷ [])) (fault_of d (known name.Steps want.Array))
-      (marked (steps_mark (change_at (Some changes) d) d ∷ [])) (inside (in_items (in_step (Some changes) (change_at (Some changes) d))) name.Steps d) (beyond_in true left d) (unread entry_names d) is)
+      (sixth p (faults_of entry_table d) (marked (unknown_marks (Some changes) d)) (marked (again_mark (change_at (Some changes) d) first ∷ []))
+      (fault_of d (known name.Steps want.Array))
+      (marked (steps_mark (change_at (Some changes) d) d ∷ []))
+      (inside (in_items (in_step (Some changes) (change_at (Some changes) d))) name.Steps d) (beyond_in true left d) (unread entry_names d) is)
 
   beyond_at_steps : list_any p (beyond_in true left d) ≡ true → list_any p (in_entry (Some changes) first left d) ≡ true
   unfolding in_entry
   beyond_at_steps is =
       in_object p d _ there
-      (seventh p (faults_of entry_table d) (marked (unknown_marks (Some changes) d)) (marked (again_mark (change_at (Some changes) d) first ∷ [])) (fault_of d (known name.Steps want.Array))
-      (marked (steps_mark (change_at (Some changes) d) d ∷ [])) (inside (in_items (in_step (Some changes) (change_at (Some changes) d))) name.Steps d) (beyond_in true left d) (unread entry_names d) is)
+      (seventh p (faults_of entry_table d) (marked (unknown_marks (Some changes) d)) (marked (again_mark (change_at (Some changes) d) first ∷ []))
+      (fault_of d (known name.Steps want.Array))
+      (marked (steps_mark (change_at (Some changes) d) d ∷ []))
+      (inside (in_items (in_step (Some changes) (change_at (Some changes) d))) name.Steps d) (beyond_in true left d) (unread entry_names d) is)
 
 -- ---- an entry of no change
 
@@ -198,25 +145,30 @@ abbrev of_object : Bool → What
 of_object there = if there then what.UnknownObject else what.UnknownAddress
 
 object_told : (n : ℕ) (text deposed there : Bool) → text ≡ false
-    → entry_told (UnknownChange n) (place_of (if text then None else if there && deposed then Some name.Deposed else Some name.Address) (of_object there)) ≡ true
+    → entry_told (UnknownChange n) (place_of (if text then None else if there && deposed then Some name.Deposed else Some name.Address)
+    (of_object there)) ≡ true
 object_told n true deposed there e = absurd cc
 object_told n false true true e = refl
 object_told n false false true e = refl
 object_told n false deposed false e = refl
 
-no_change : (changes : List ResourceChange) (first left : Option ℕ) (n : ℕ) (d k : Data) (entry : Entry) → Alike d k → entry_of k ≡ Some entry → change_of_entry changes entry ≡ None
+no_change : (changes : List ResourceChange) (first left : Option ℕ) (n : ℕ) (d k : Data) (entry : Entry) → Alike d k → entry_of k ≡ Some entry
+    → change_of_entry changes entry ≡ None
     → Told (in_entry (Some changes) first left d) (UnknownChange n)
 no_change changes first left n d k entry alike is about =
     let p : Finding → Bool = entry_told (UnknownChange n) in
     let there : is_some (as_object d) ≡ true = object_alike d k alike ∙ entry_object k entry is in
-    let none : change_named changes (named entry.address entry.deposed) ≡ None = found_with (λ c. name_one_object c.address c.deposed entry.address entry.deposed) 0 changes ∙ ap (option_map (λ p. p.1)) about in
-    let unknown : is_unknown (Some changes) (object_named k) ≡ true = ap (λ (o : Option Named). is_unknown (Some changes) o) (entry_read k entry is).object ∙ ap is_none none in
+    let none : change_named changes (named entry.address entry.deposed) ≡ None =
+    found_with (λ c. name_one_object c.address c.deposed entry.address entry.deposed) 0 changes ∙ ap (option_map (λ p. p.1)) about in
+    let unknown : is_unknown (Some changes) (object_named k) ≡ true =
+    ap (λ (o : Option Named). is_unknown (Some changes) o) (entry_read k entry is).object ∙ ap is_none none in
     unknown_in p changes first left d there
     (unknown_told p changes d k alike (λ it. object_told n (is_some (as_str d)) (is_some (member_at name.Deposed d)) it (no_text d there)) unknown)
 
 -- ---- an entry of a change
 
-by_first : (b : Bool) (bound n : ℕ) (o : Option ℕ) → nat_lt n bound ≡ true → (is_some o ≡ true → nat_lt (unwrap_or o 0) bound ≡ true) → is_some (cond b (Some n) o) ≡ true
+by_first : (b : Bool) (bound n : ℕ) (o : Option ℕ) → nat_lt n bound ≡ true → (is_some o ≡ true → nat_lt (unwrap_or o 0) bound ≡ true)
+    → is_some (cond b (Some n) o) ≡ true
     → nat_lt (unwrap_or (cond b (Some n) o) 0) bound ≡ true
 by_first true bound n o here later e = here
 by_first false bound n o here later e = later e
@@ -226,9 +178,13 @@ first_below : (test : Option Named → Bool) (bound n : ℕ) (names : List (Opti
     → nat_lt (unwrap_or (position_from test n names) 0) bound ≡ true
 first_below test bound n [] few e = absurd cc
 first_below test bound n (x ∷ names) few e =
-    by_first (test x) bound n (position_from test (n + 1) names) (let l : n + (length names + 1) ≤ bound = omega (arith, few) in grind (arith, nat_tests)) (λ later. first_below test bound (n + 1) names (omega (arith, few)) later) e
+    by_first (test x) bound n (position_from test (n + 1) names)
+    (let l : n + (length names + 1) ≤ bound = omega (arith, few) in grind (arith, nat_tests))
+    (λ later. first_below test bound (n + 1) names (omega (arith, few)) later) e
 
-beyond_by : (p : Finding → Bool) (b : Bool) (count : ℕ) (d : Data) → ((n most : ℕ) → list_any (below (Member name.Steps) p) (beyond_at n most) ≡ true) → b ≡ true → nat_lt (max_waits - count) (waits_in_all d) ≡ true
+beyond_by : (p : Finding → Bool) (b : Bool) (count : ℕ) (d : Data)
+    → ((n most : ℕ) → list_any (below (Member name.Steps) p) (beyond_at n most) ≡ true) → b ≡ true
+    → nat_lt (max_waits - count) (waits_in_all d) ≡ true
     → list_any p (beyond_in true (let o : Option ℕ = if b then Some (max_waits - count) else None in o) d) ≡ true
 beyond_by p true count d told few e =
     any_under p (Member name.Steps) (waits_beyond (max_waits - count) 0 (items_at name.Steps d))
@@ -238,7 +194,8 @@ beyond_by p false count d told few e = absurd cc
 at_most : (count : ℕ) → nat_le count max_waits ≡ true → count ≤ max_waits
 at_most count e = grind (arith, nat_tests)
 
-module _ (changes : List ResourceChange) (before : List Data) (d k : Data) (alike : Alike d k) (entry : Entry) (is : entry_of k ≡ Some entry) (it : ℕ × ResourceChange) (about : change_of_entry changes entry ≡ Some it)
+module _ (changes : List ResourceChange) (before : List Data) (d k : Data) (alike : Alike d k) (entry : Entry) (is : entry_of k ≡ Some entry)
+    (it : ℕ × ResourceChange) (about : change_of_entry changes entry ≡ Some it)
     (are : list_all is_entry before ≡ true) (few : nat_le (sum_by waits_in_all before) max_waits ≡ true) where
   there : is_some (as_object d) ≡ true
   there = object_alike d k alike ∙ entry_object k entry is
@@ -258,7 +215,8 @@ module _ (changes : List ResourceChange) (before : List Data) (d k : Data) (alik
   first_is_some : is_some (named_first before k) ≡ list_any (names_change it.1) before
   first_is_some =
       let same : name_of_change it.1 ≡ named entry.address entry.deposed =
-      same_name (name_of_change it.1) (named entry.address entry.deposed) (found_passes (λ c. name_one_object c.address c.deposed entry.address entry.deposed) changes it.1 held_by) in
+      same_name (name_of_change it.1) (named entry.address entry.deposed)
+      (found_passes (λ c. name_one_object c.address c.deposed entry.address entry.deposed) changes it.1 held_by) in
       ap (λ (o : Option Named). is_some (first_named (map name_read before) o)) read.read
       ∙ any_first (is_named (named entry.address entry.deposed)) 0 (map name_read before)
       ∙ ap (λ (x : Named). list_any (is_named x) (map name_read before)) (sym same)
@@ -267,7 +225,8 @@ module _ (changes : List ResourceChange) (before : List Data) (d k : Data) (alik
   first_told : is_some (named_first before k) ≡ true → nat_lt (unwrap_or (named_first before k) 0) (length before) ≡ true
   first_told some =
       let test : Option Named → Bool = is_named (named entry.address entry.deposed) in
-      let as_read : named_first before k ≡ position_from test 0 (map name_read before) = ap (λ (o : Option Named). first_named (map name_read before) o) read.read in
+      let as_read : named_first before k ≡ position_from test 0 (map name_read before) =
+      ap (λ (o : Option Named). first_named (map name_read before) o) read.read in
       let long : length (map name_read before) ≡ length before = length-map before name_read in
       ap (λ (o : Option ℕ). nat_lt (unwrap_or o 0) (length before)) as_read
       ∙ first_below test (length before) 0 (map name_read before) (omega (arith, long)) (ap (λ (o : Option ℕ). is_some o) (sym as_read) ∙ some)
@@ -276,7 +235,8 @@ module _ (changes : List ResourceChange) (before : List Data) (d k : Data) (alik
   again_told dup =
       let p : Finding → Bool = entry_told (Duplicate (length before)) in
       let some : is_some (named_first before k) ≡ true = first_is_some ∙ dup in
-      let holds : (is_some (change_at (Some changes) d) && is_some (named_first before k)) ≡ true = ap (λ (o : Option ResourceChange). is_some o && is_some (named_first before k)) about_it ∙ some in
+      let holds : (is_some (change_at (Some changes) d) && is_some (named_first before k)) ≡ true =
+      ap (λ (o : Option ResourceChange). is_some o && is_some (named_first before k)) about_it ∙ some in
       again_in p changes (named_first before k) (waits_left (sum_by waits_in_all before)) d there
       (this_mark p (again_mark (change_at (Some changes) d) (named_first before k)) [] holds (first_told some))
 
@@ -285,27 +245,32 @@ module _ (changes : List ResourceChange) (before : List Data) (d k : Data) (alik
 
   counted : length (items_at name.Steps d) ≡ length (outcomes entry.steps)
   counted =
-      count_same name.Steps refl d k alike ∙ length_of_all step_from (items_at name.Steps k) entry.steps steps_read ∙ sym (length-map entry.steps (λ step. step.outcome))
+      count_same name.Steps refl d k alike ∙ length_of_all step_from (items_at name.Steps k) entry.steps steps_read
+      ∙ sym (length-map entry.steps (λ step. step.outcome))
 
   -- what is found in the steps of its change
-  in_steps : (refusal : ScriptError) → list_any (entry_told refusal) (inside (in_items (in_step (Some changes) (Some it.1))) name.Steps d) ≡ true → Told found refusal
+  in_steps : (refusal : ScriptError) → list_any (entry_told refusal) (inside (in_items (in_step (Some changes) (Some it.1))) name.Steps d) ≡ true
+      → Told found refusal
   in_steps refusal told =
       steps_in (entry_told refusal) changes (named_first before k) (waits_left (sum_by waits_in_all before)) d there
       (ap (λ (o : Option ResourceChange). list_any (entry_told refusal) (inside (in_items (in_step (Some changes) o)) name.Steps d)) about_it ∙ told)
 
   by_step : (refusal : ScriptError) (test : EntryStep → Bool)
-      → ((n : ℕ) (e l : Data) (step : EntryStep) → Alike e l → step_from l ≡ Some step → test step ≡ true → list_any (step_told refusal n) (in_step (Some changes) (Some it.1) n e) ≡ true)
+      → ((n : ℕ) (e l : Data) (step : EntryStep) → Alike e l → step_from l ≡ Some step → test step ≡ true
+      → list_any (step_told refusal n) (in_step (Some changes) (Some it.1) n e) ≡ true)
       → list_any test entry.steps ≡ true → Told found refusal
   by_step refusal test told any = in_steps refusal (each_step refusal (Some changes) (Some it.1) test told d k alike entry.steps steps_read any)
 
   by_kind : (refusal : ScriptError) (test : (ℕ × StepKind) × Option Outcome → Bool)
-      → ((n : ℕ) (kind : StepKind) (e l : Data) (step : EntryStep) → Alike e l → step_from l ≡ Some step → slice_get it.1.steps n ≡ Some kind → test ((n, kind), step.outcome) ≡ true
+      → ((n : ℕ) (kind : StepKind) (e l : Data) (step : EntryStep) → Alike e l → step_from l ≡ Some step → slice_get it.1.steps n ≡ Some kind
+      → test ((n, kind), step.outcome) ≡ true
       → list_any (step_told refusal n) (in_step (Some changes) (Some it.1) n e) ≡ true)
       → list_any test (zip (enumerate_from 0 it.1.steps) (outcomes entry.steps)) ≡ true → Told found refusal
   by_kind refusal test told any =
       in_steps refusal
       (inside_any (entry_told refusal) (in_step (Some changes) (Some it.1)) name.Steps d
-      (each_kind it.1 test (below (Member name.Steps) (entry_told refusal)) (in_step (Some changes) (Some it.1)) told 0 it.1.steps (items_at name.Steps d) (items_at name.Steps k) refl
+      (each_kind it.1 test (below (Member name.Steps) (entry_told refusal)) (in_step (Some changes) (Some it.1)) told 0 it.1.steps
+      (items_at name.Steps d) (items_at name.Steps k) refl
       (pairs_at name.Steps refl d k alike) entry.steps steps_read any))
 
   steps_told : AreStepsTold found (length before) (is_some it.1.deposed) it.1.steps entry.steps
@@ -317,8 +282,10 @@ module _ (changes : List ResourceChange) (before : List Data) (d k : Data) (alik
             let holds : option_map_or (λ change. nat_lt (length change.steps) (length (items_at name.Steps d))) (change_at (Some changes) d) false ≡ true =
             ap (λ (o : Option ResourceChange). option_map_or (λ change. nat_lt (length change.steps) (length (items_at name.Steps d))) o false) about_it
             ∙ ap (nat_lt (length it.1.steps)) counted ∙ e in
-            many_in p changes (named_first before k) (waits_left (sum_by waits_in_all before)) d there (this_mark p (steps_mark (change_at (Some changes) d) d) [] holds refl);
-        long = λ e. by_step (SecondsRange n) (λ step. passes is_too_long step.outcome) (long_told n (Some changes) (Some it.1)) (sym (any_outcome (passes is_too_long) entry.steps) ∙ e);
+            many_in p changes (named_first before k) (waits_left (sum_by waits_in_all before)) d there
+            (this_mark p (steps_mark (change_at (Some changes) d) d) [] holds refl);
+        long = λ e. by_step (SecondsRange n) (λ step. passes is_too_long step.outcome) (long_told n (Some changes) (Some it.1))
+        (sym (any_outcome (passes is_too_long) entry.steps) ∙ e);
         wide = λ e.
             by_step (TooManyProvisioners n) (λ step. passes has_too_many_provisioners step.outcome) (many_told n (Some changes) (Some it.1))
             (sym (any_outcome (passes has_too_many_provisioners) entry.steps) ∙ e);
@@ -328,7 +295,8 @@ module _ (changes : List ResourceChange) (before : List Data) (d k : Data) (alik
         placed = λ e.
             by_kind (NotACreate n) (misplaces_provisioners (is_some it.1.deposed))
             (λ i kind e l step same is at wrong. placed_told n (Some changes) it.1 i kind e l step same is at wrong) e;
-        warns = λ e. by_kind (WarnsNotARead n) warns_not_a_read (λ i kind e l step same is at wrong. warns_told n (Some changes) it.1 i kind e l step same is at wrong) e;
+        warns = λ e. by_kind (WarnsNotARead n) warns_not_a_read
+        (λ i kind e l step same is at wrong. warns_told n (Some changes) it.1 i kind e l step same is at wrong) e;
       }
 
   waits_told : AreWaitsTold found (length before) changes (sum_by count_in before) entry.steps
@@ -344,39 +312,51 @@ module _ (changes : List ResourceChange) (before : List Data) (d k : Data) (alik
             less max_waits count (waits_in_all d) (at_most count few)
             ∙ ap (λ (m : ℕ). nat_lt max_waits (m + waits_in_all d)) (sym (counts_before before are))
             ∙ ap (λ (m : ℕ). nat_lt max_waits (sum_by count_in before + m)) own ∙ e in
-            beyond_at_steps p changes (named_first before k) (waits_left count) d there (beyond_by p (nat_le count max_waits) count d (λ i most. refl) few over);
+            beyond_at_steps p changes (named_first before k) (waits_left count) d there
+            (beyond_by p (nat_le count max_waits) count d (λ i most. refl) few over);
         unknown = λ e.
-            by_step (UnknownWait n) (λ step. list_any (run.is_unknown changes) step.after) (λ i e l step same is any. of_no_change_told n changes (Some it.1) i e l step same is any) e;
+            by_step (UnknownWait n) (λ step. list_any (run.is_unknown changes) step.after)
+            (λ i e l step same is any. of_no_change_told n changes (Some it.1) i e l step same is any) e;
         lacking = λ e.
-            by_step (NoSuchStep n) (λ step. list_any (run.lacks_step changes) step.after) (λ i e l step same is any. no_step_told n changes (Some it.1) i e l step same is any) e;
+            by_step (NoSuchStep n) (λ step. list_any (run.lacks_step changes) step.after)
+            (λ i e l step same is any. no_step_told n changes (Some it.1) i e l step same is any) e;
       }
 
-  of_change : (refusal : ScriptError) → refused_with (list_any (names_change it.1) before) (length before) changes (sum_by count_in before) entry it ≡ Err refusal → Told found refusal
+  of_change : (refusal : ScriptError) → refused_with (list_any (names_change it.1) before) (length before) changes (sum_by count_in before) entry it
+      ≡ Err refusal → Told found refusal
   of_change refusal e =
       by_change found (list_any (names_change it.1) before) (length before) changes (sum_by count_in before) entry it refusal again_told steps_told waits_told e
 
 -- ---- an entry
 
-of_found : (changes : List ResourceChange) (before : List Data) (d k : Data) → Alike d k → (entry : Entry) → entry_of k ≡ Some entry → list_all is_entry before ≡ true → nat_le (sum_by waits_in_all before) max_waits ≡ true
+of_found : (changes : List ResourceChange) (before : List Data) (d k : Data) → Alike d k → (entry : Entry) → entry_of k ≡ Some entry
+    → list_all is_entry before ≡ true → nat_le (sum_by waits_in_all before) max_waits ≡ true
     → (o : Option (ℕ × ResourceChange)) → change_of_entry changes entry ≡ o → (refusal : ScriptError)
-    → results.◌>>=◌ (or_refuse (UnknownChange (length before)) o) (λ it. refused_with (list_any (names_change it.1) before) (length before) changes (sum_by count_in before) entry it) ≡ Err refusal
+    → results.◌>>=◌ (or_refuse (UnknownChange (length before)) o)
+    (λ it. refused_with (list_any (names_change it.1) before) (length before) changes (sum_by count_in before) entry it) ≡ Err refusal
     → Told (in_entry (Some changes) (named_first before k) (waits_left (sum_by waits_in_all before)) d) refusal
 of_found changes before d k alike entry is are few None about refusal e =
     subst (Told (in_entry (Some changes) (named_first before k) (waits_left (sum_by waits_in_all before)) d)) (err_is (UnknownChange (length before)) refusal e)
     (no_change changes (named_first before k) (waits_left (sum_by waits_in_all before)) (length before) d k entry alike is about)
 of_found changes before d k alike entry is are few (Some it) about refusal e = of_change changes before d k alike entry is it about are few refusal e
 
-of_read : (changes : List ResourceChange) (before : List Data) (d k : Data) → Alike d k → list_all is_entry before ≡ true → nat_le (sum_by waits_in_all before) max_waits ≡ true
+of_read : (changes : List ResourceChange) (before : List Data) (d k : Data) → Alike d k → list_all is_entry before ≡ true
+    → nat_le (sum_by waits_in_all before) max_waits ≡ true
     → (o : Option Entry) → entry_of k ≡ o → (refusal : ScriptError)
-    → results.◌>>=◌ (or_refuse (BadShape (Some (length before))) o) (λ entry. results.◌>>=◌ (or_refuse (UnknownChange (length before)) (change_of_entry changes entry))
+    → results.◌>>=◌ (or_refuse (BadShape (Some (length before))) o)
+    (λ entry. results.◌>>=◌ (or_refuse (UnknownChange (length before)) (change_of_entry changes entry))
     (λ it. refused_with (list_any (names_change it.1) before) (length before) changes (sum_by count_in before) entry it)) ≡ Err refusal
     → Told (in_entry (Some changes) (named_first before k) (waits_left (sum_by waits_in_all before)) d) refusal
 of_read changes before d k alike are few None is refusal e =
-    subst (Told (in_entry (Some changes) (named_first before k) (waits_left (sum_by waits_in_all before)) d)) (err_is (BadShape (Some (length before))) refusal e)
+    subst (Told (in_entry (Some changes) (named_first before k) (waits_left (sum_by waits_in_all before)) d))
+    (err_is (BadShape (Some (length before))) refusal e)
     (shape_told (Some changes) (named_first before k) (waits_left (sum_by waits_in_all before)) d k alike is)
-of_read changes before d k alike are few (Some entry) is refusal e = of_found changes before d k alike entry is are few (change_of_entry changes entry) refl refusal e
+of_read changes before d k alike are few (Some entry) is refusal e =
+    of_found changes before d k alike entry is are few (change_of_entry changes entry) refl refusal e
 
-pub refusal_told : (changes : List ResourceChange) (before : List Data) (d k : Data) (refusal : ScriptError) → Alike d k → list_all is_entry before ≡ true → nat_le (sum_by waits_in_all before) max_waits ≡ true
-    → entry_at changes before k ≡ Err refusal → list_any (entry_told refusal) (in_entry (Some changes) (named_first before k) (waits_left (sum_by waits_in_all before)) d) ≡ true
+pub refusal_told : (changes : List ResourceChange) (before : List Data) (d k : Data) (refusal : ScriptError) → Alike d k
+    → list_all is_entry before ≡ true → nat_le (sum_by waits_in_all before) max_waits ≡ true
+    → entry_at changes before k ≡ Err refusal → list_any (entry_told refusal)
+    (in_entry (Some changes) (named_first before k) (waits_left (sum_by waits_in_all before)) d) ≡ true
 unfolding entry_at
 refusal_told changes before d k refusal alike are few e = of_read changes before d k alike are few (entry_of k) refl refusal e

@@ -80,7 +80,8 @@ by_inside found made each at (Some d) = same_under (Member at) (found d) (made d
 pub same_inside : (found made : Data → List Finding) → IsSame found made → (name : Name) (d : Data) → Same (inside found name d) (inside made name d)
 same_inside found made each name d = by_inside found made each name (member_at name d)
 
-items_same : (found made : ℕ → Data → List Finding) → ((n : ℕ) → IsSame (found n) (made n)) → (n : ℕ) (ds : List Data) → Same (items_from found n ds) (items_from made n ds)
+items_same : (found made : ℕ → Data → List Finding) → ((n : ℕ) → IsSame (found n) (made n)) → (n : ℕ) (ds : List Data)
+    → Same (items_from found n ds) (items_from made n ds)
 items_same found made each n [] = refl
 items_same found made each n (d ∷ ds) =
     both_same (map (under (Item n)) (found n d)) (items_from found (suc n) ds) (map (under (Item n)) (made n d)) (items_from made (suc n) ds)
@@ -104,7 +105,8 @@ same_fault d known = by_met (is_met known.want (member_at known.name d)) known.n
 
 pub same_faults : (table : List Known) (d : Data) → Same (faults_of table d) (faults_of table d)
 same_faults [] d = refl
-same_faults (known ∷ table) d = both_same (fault_of d known) (faults_of table d) (fault_of d known) (faults_of table d) (same_fault d known) (same_faults table d)
+same_faults (known ∷ table) d = both_same (fault_of d known) (faults_of table d) (fault_of d known) (faults_of table d) (same_fault d known)
+    (same_faults table d)
 
 pub same_list : (found made : ℕ → Data → List Finding) → ((n : ℕ) → IsSame (found n) (made n)) → (known : Known) (d : Data)
     → Same (in_list found known d) (in_list made known d)
@@ -143,10 +145,12 @@ by_mark false at found is = refl
 by_mark true None found is = ap (λ (b : Bool). (is_refusal_of found && b) || false) is ∙ ap (λ (b : Bool). b || false) (and_true (is_refusal_of found))
 by_mark true (Some member) found is = ap (λ (b : Bool). (is_refusal_of found && b) || false) is ∙ ap (λ (b : Bool). b || false) (and_true (is_refusal_of found))
 
-no_mark : (holds : Bool) (at : Option Name) (found : What) → breaks_rule found ≡ false → list_any is_shape (if holds then place_of at found ∷ [] else []) ≡ false
+no_mark : (holds : Bool) (at : Option Name) (found : What) → breaks_rule found ≡ false
+    → list_any is_shape (if holds then place_of at found ∷ [] else []) ≡ false
 no_mark false at found is = refl
 no_mark true None found is = ap (λ (b : Bool). (is_refusal_of found && b) || false) is ∙ ap (λ (b : Bool). b || false) (and_false (is_refusal_of found))
-no_mark true (Some member) found is = ap (λ (b : Bool). (is_refusal_of found && b) || false) is ∙ ap (λ (b : Bool). b || false) (and_false (is_refusal_of found))
+no_mark true (Some member) found is = ap (λ (b : Bool). (is_refusal_of found && b) || false) is
+    ∙ ap (λ (b : Bool). b || false) (and_false (is_refusal_of found))
 
 -- those of some tests that say so
 abbrev pick : Bool → Mark → List Mark → List Mark
@@ -161,7 +165,8 @@ by_pick : (b : Bool) (mark : Mark) (marks others : List Mark) → breaks_rule ma
     → Same (found_by mark ++ marked marks) (marked (pick b mark others))
 by_pick true mark marks others is e = both_same (found_by mark) (marked marks) (found_by mark) (marked others) (by_mark mark.holds mark.at mark.what is) e
 by_pick false mark marks others is e =
-    list_any-append is_shape (found_by mark) (marked marks) ∙ ap (λ (b : Bool). b || list_any is_shape (marked marks)) (no_mark mark.holds mark.at mark.what is) ∙ e
+    list_any-append is_shape (found_by mark) (marked marks) ∙ ap (λ (b : Bool). b || list_any is_shape (marked marks))
+    (no_mark mark.holds mark.at mark.what is) ∙ e
 
 pub same_picked : (marks : List Mark) → Same (marked marks) (marked (picked marks))
 same_picked [] = refl
@@ -174,11 +179,13 @@ object_breaks_none : (there : Bool) → breaks_rule (of_object there) ≡ false
 object_breaks_none true = refl
 object_breaks_none false = refl
 
-no_unknown_by : (all : List ResourceChange) (d : Data) (o : Option Named) → list_any is_shape (marked (option_map_or (λ nm. unknown_mark all d nm ∷ []) o [])) ≡ false
+no_unknown_by : (all : List ResourceChange) (d : Data) (o : Option Named)
+    → list_any is_shape (marked (option_map_or (λ nm. unknown_mark all d nm ∷ []) o [])) ≡ false
 no_unknown_by all d None = refl
 no_unknown_by all d (Some nm) =
     let mark : Mark = unknown_mark all d nm in
-    list_any-append is_shape (found_by mark) [] ∙ ap (λ (b : Bool). b || false) (no_mark mark.holds mark.at mark.what (object_breaks_none (has_address all nm.0)))
+    list_any-append is_shape (found_by mark) [] ∙ ap (λ (b : Bool). b || false)
+    (no_mark mark.holds mark.at mark.what (object_breaks_none (has_address all nm.0)))
 
 -- that no change is of an object breaks none
 pub no_unknown : (changes : Option (List ResourceChange)) (d : Data) → list_any is_shape (marked (unknown_marks changes d)) ≡ false
@@ -192,7 +199,8 @@ unfolding in_diagnostic
 same_diagnostic d =
     let wrong : List Finding = faults_of diagnostic_table d in
     let rest : List Finding = unread diagnostic_names d in
-    same_where want.Diagnostic d (wrong ++ rest) (wrong ++ rest) (both_same wrong rest wrong rest (same_faults diagnostic_table d) (same_unread diagnostic_names d))
+    same_where want.Diagnostic d (wrong ++ rest) (wrong ++ rest)
+    (both_same wrong rest wrong rest (same_faults diagnostic_table d) (same_unread diagnostic_names d))
 
 pub same_failure : IsSame in_failure in_failure
 unfolding in_failure
@@ -247,7 +255,8 @@ same_wait changes d =
     let lacking : List Finding = marked (step ∷ []) in
     let rest : List Finding = unread wait_names d in
     let none : List Finding = [] in
-    by_text (is_some (as_str d)) unknown none (where_suits want.Wait d (wrong ++ unknown ++ lacking ++ rest)) (where_suits want.Wait d (wrong ++ none ++ none ++ rest))
+    by_text (is_some (as_str d)) unknown none (where_suits want.Wait d (wrong ++ unknown ++ lacking ++ rest))
+    (where_suits want.Wait d (wrong ++ none ++ none ++ rest))
     (no_unknown changes d)
     (same_where want.Wait d (wrong ++ unknown ++ lacking ++ rest) (wrong ++ none ++ none ++ rest)
     (both_same (wrong ++ unknown ++ lacking) rest (wrong ++ none ++ none) rest

@@ -1,45 +1,30 @@
 -- Provisioners, but for how much they put out: nothing is found that breaks a rule, exactly where one is read.
-use Rattle.std.proofs.Common.{◌≡◌, ℕ, suc, ◌+◌, ◌<◌, List, [], ◌∷◌, ◌++◌, length, map, Bool, true, false, not, ◌&&◌, ◌||◌, is_some, Option, Some, None, unwrap_or, if◌then◌else◌, refl, sym, ap, ◌∙◌, arith}
-use Rattle.std.specs.Prelude.{codes, nat_lt}
-use Rattle.std.specs.List.{list_all, list_any}
-use Rattle.std.specs.Option.{option_map, option_map_or}
-use Rattle.std.proofs.lemmas.Bool.{lt-ltb}
-use Rattle.std.proofs.lemmas.List.Folds.{list_any-append}
-use Rattle.serde_json.specs.Data.{Data, Items, null, boolean, number, string, array, object}
-use Rattle.serde_json.specs.Find.{as_array, as_object, as_str}
+use Rattle.std.proofs.Common.{◌≡◌, ℕ, List, [], ◌∷◌, ◌++◌, Bool, true, false, ◌&&◌, is_some, Option, Some, None, refl, sym, ap, ◌∙◌}
+use Rattle.std.specs.Prelude.{codes}
+use Rattle.std.specs.List.{list_all}
+use Rattle.serde_json.specs.Data.{Data}
+use Rattle.serde_json.specs.Find.{as_object, as_str}
 use Rattle.apply_json.specs.Seen.{items_in}
-use Rattle.apply_json.specs.Tree.{◌>>=◌, list_of, member_of, non_empty_text_of, text_of, text_or, unless_empty}
+use Rattle.apply_json.specs.Tree.{◌>>=◌, list_of, member_of, non_empty_text_of, unless_empty}
 use Rattle.apply_model.specs.declared.script.diag.Diag.{Diag}
-use Rattle.apply_model.specs.declared.script.ending.Ending.{Ending}
-use Rattle.apply_model.specs.declared.script.outcome.Outcome.{Outcome}
 use Rattle.apply_model.specs.declared.script.provisioner.Provisioner.{Provisioner}
 use Rattle.apply_model.specs.declared.script.timed_text.TimedText.{TimedText}
-use Rattle.apply_model.specs.Plan.ResourceChange.{ResourceChange}
-use Rattle.apply_model.specs.Script.Outcome.{is_failed, is_warned, seconds_of_all}
-use Rattle.apply_plan.specs.Script.Entry.{Entry, EntryStep, Failure, OutputItem, WaitName, all_some, answered_with, diag_from, diag_or_none, each_of, ending_from, ending_of, entry_of, failure_from, failure_or_none, flag_or_false, may_fail_or_not, output_from, provisioner_from, says_nothing, seconds_of, skipped_with, step_from, timed_outputs, wait_from}
+use Rattle.apply_plan.specs.Script.Entry.{OutputItem, diag_from, diag_or_none, each_of, may_fail_or_not, output_from, provisioner_from, seconds_of, timed_outputs}
 use Rattle.apply_validate.specs.declared.findings.finding.Finding.{Finding}
 use Rattle.apply_validate.specs.declared.findings.name.Name.TheVariants as name
-use Rattle.apply_validate.specs.declared.findings.part.Part.TheVariants.{Item, Member}
 use Rattle.apply_validate.specs.declared.findings.want.Want.TheVariants as want
-use Rattle.apply_validate.specs.declared.findings.what.What.TheVariants as what
-use Rattle.apply_validate.specs.Beside.{again_mark, beyond_at, beyond_in, change_at, kind_marks, steps_mark, unknown_marks, waits_beyond, waits_in}
-use Rattle.apply_validate.specs.Findings.{finding_here, is_refusal, under}
-use Rattle.apply_validate_laws.specs.Laws.{is_bounded}
-use Rattle.apply_validate.specs.ScriptFindings.{entry_names, entry_table, growth_of_provisioner, in_diagnostic, in_entry, in_failure, in_provisioner, in_step, in_wait, is_skipped, provisioner_mark, provisioner_names, provisioner_table, skipped_marks, step_marks, step_names, step_table, whole_at}
-use Rattle.apply_validate.specs.Walks.{fault_of, faults_of, in_items, in_list, inside, items_at, known, marked, unless_suits, unread, where_suits}
+use Rattle.apply_validate.specs.ScriptFindings.{in_diagnostic, in_provisioner, provisioner_mark, provisioner_names, provisioner_table, whole_at}
+use Rattle.apply_validate.specs.Walks.{faults_of, in_list, inside, items_at, known, marked, unless_suits, unread, where_suits}
 use Rattle.apply_validate.specs.Wants.{is_met}
-use Rattle.apply_validate_laws.proofs.Alike.{Alike, member_alike, object_alike}
-use Rattle.apply_validate_laws.proofs.Clean.{all_items, appended, clean, clean-append, clean-fault_of, clean-faults_of, clean-marked, clean-then_unread, clean-unless_suits, clean-where_suits, is_absent_or}
-use Rattle.apply_validate_laws.proofs.Diagnostics.{absent_or_diagnostic, absent_or_failure, clean_diagnostic, clean_failure, clean_wait, fits_wait, two}
-use Rattle.apply_validate_laws.proofs.Besides.{is_found}
-use Rattle.apply_validate_laws.proofs.Members.{IsCleanBeside, array_or, array_there, count_same, flag_same, flag_there, inside_clean, is_there_same, items_inside, list_clean, non_empty_same, non_empty_there, text_or_there, text_there, whole_there}
-use Rattle.apply_validate.proofs.Options.{and_assoc, and_comm, and_false, and_true, crossed, nothing_then, not_not}
+use Rattle.apply_validate_laws.proofs.Alike.{object_alike}
+use Rattle.apply_validate_laws.proofs.Clean.{all_items, appended, clean, clean-then_unread, clean-unless_suits, clean-where_suits, is_absent_or}
+use Rattle.apply_validate_laws.proofs.Diagnostics.{absent_or_diagnostic, clean_diagnostic, two}
+use Rattle.apply_validate_laws.proofs.Members.{IsCleanBeside, array_or, inside_clean, list_clean, non_empty_there, whole_there}
+use Rattle.apply_validate.proofs.Options.{and_comm, and_false, crossed}
 use Rattle.apply_validate_laws.proofs.Outputs.{are_shaped, come_in_time, is_shaped, outputs_read, shape_alike}
-use Rattle.apply_validate_laws.proofs.Provisioners.{clean_growth, fits, fits_growth, length_read, seconds_are}
-use Rattle.apply_validate_laws.proofs.Scripts.{waits_free}
-use Rattle.apply_validate_laws.proofs.Shapes.{IsSame, Same, both_same, is_shape, no_unknown, picked, same_diagnostic, same_failure, same_fault, same_faults, same_growth, same_inside, same_items, same_list, same_picked, same_unless, same_unread, same_wait, same_where, without}
-use Rattle.apply_validate_laws.proofs.Steps.{alone, apart, both_absent, diagnostic_there, failure_there, fit, flag_read, given, id_there, parts, reads as step_reads, silent_read, step_read, table_clean, timed, untouched}
-use Rattle.apply_validate_laws.proofs.Wanted.{each_is, needs_object}
+use Rattle.apply_validate_laws.proofs.Provisioners.{fits_growth, seconds_are}
+use Rattle.apply_validate_laws.proofs.Shapes.{IsSame, both_same, same_diagnostic, same_faults, same_inside, same_list, same_picked, same_unless, same_unread, same_where, without}
+use Rattle.apply_validate_laws.proofs.Wanted.{needs_object}
 
 some_is : {A : Type 0} (x y : A) → Some x ≡ Some y → x ≡ y
 some_is x y e = cc
@@ -66,7 +51,8 @@ same_provisioner d =
     (both_same (wrong ++ output ++ marks) failed (wrong ++ output) failed
     (without (wrong ++ output) marks (wrong ++ output)
     (both_same wrong output wrong output (same_faults provisioner_table d)
-    (same_list (λ number. unless_suits want.Output) (λ number. unless_suits want.Output) (λ number. same_unless want.Output) (known name.Output want.ArrayOrAbsent) d))
+    (same_list (λ number. unless_suits want.Output) (λ number. unless_suits want.Output) (λ number. same_unless want.Output)
+    (known name.Output want.ArrayOrAbsent) d))
     (same_picked (provisioner_mark d ∷ [])))
     (same_inside in_diagnostic in_diagnostic same_diagnostic name.Failed d))
     (same_unread provisioner_names d))
@@ -79,7 +65,8 @@ members_shaped name seconds shaped failed = ((is_some name && is_some seconds) &
 
 unfoldable pub first_shaped : Data → Bool
 first_shaped k =
-    members_shaped (non_empty_text_of (codes "provisioner") k) (seconds_of k) (are_shaped (member_of (codes "output") k)) (diag_or_none (member_of (codes "failed") k))
+    members_shaped (non_empty_text_of (codes "provisioner") k) (seconds_of k) (are_shaped (member_of (codes "output") k))
+    (diag_or_none (member_of (codes "failed") k))
 
 pub clean_shaped : IsCleanBeside shaped_provisioner first_shaped
 unfolding first_shaped
@@ -124,7 +111,8 @@ one_by_one : (items : Option (List OutputItem)) (f : List OutputItem → Option 
 one_by_one None f g = refl
 one_by_one (Some i) f g = refl
 
-reads : (name : Option (List ℕ)) (seconds : Option ℕ) (failed : Option (Option Diag)) (items : Option (List OutputItem)) (may_fail : Option Bool) (shaped timely : Bool)
+reads : (name : Option (List ℕ)) (seconds : Option ℕ) (failed : Option (Option Diag)) (items : Option (List OutputItem)) (may_fail : Option Bool)
+    (shaped timely : Bool)
     → ((s : ℕ) → seconds ≡ Some s → (shaped && timely) ≡ is_some (items >>= timed_outputs s))
     → (members_shaped name seconds shaped failed && (is_some may_fail && timely))
     ≡ is_some (name >>= λ n. seconds >>= λ s. failed >>= λ f. items >>= λ i. timed_outputs s i >>= λ o. may_fail >>= λ m. Some (made n s o f m))
@@ -158,4 +146,3 @@ all_shaped (k ∷ ks) =
 pub items_shaped : (o : Option Data) → (is_absent_or (all_items first_shaped) o && is_absent_or (all_items fits_growth) o) ≡ is_absent_or (all_items is_read) o
 items_shaped None = refl
 items_shaped (Some k) = all_shaped (list_of (items_in k))
-
