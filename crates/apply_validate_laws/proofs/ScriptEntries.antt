@@ -285,7 +285,7 @@ module _ (changes : List ResourceChange) (before : List Data) (d k : Data) (alik
             many_in p changes (named_first before k) (waits_left (sum_by waits_in_all before)) d there
             (this_mark p (steps_mark (change_at (Some changes) d) d) [] holds refl);
         long = λ e. by_step (SecondsRange n) (λ step. passes is_too_long step.outcome) (long_told n (Some changes) (Some it.1))
-        (sym (any_outcome (passes is_too_long) entry.steps) ∙ e);
+            (sym (any_outcome (passes is_too_long) entry.steps) ∙ e);
         wide = λ e.
             by_step (TooManyProvisioners n) (λ step. passes has_too_many_provisioners step.outcome) (many_told n (Some changes) (Some it.1))
             (sym (any_outcome (passes has_too_many_provisioners) entry.steps) ∙ e);
@@ -296,7 +296,7 @@ module _ (changes : List ResourceChange) (before : List Data) (d k : Data) (alik
             by_kind (NotACreate n) (misplaces_provisioners (is_some it.1.deposed))
             (λ i kind e l step same is at wrong. placed_told n (Some changes) it.1 i kind e l step same is at wrong) e;
         warns = λ e. by_kind (WarnsNotARead n) warns_not_a_read
-        (λ i kind e l step same is at wrong. warns_told n (Some changes) it.1 i kind e l step same is at wrong) e;
+            (λ i kind e l step same is at wrong. warns_told n (Some changes) it.1 i kind e l step same is at wrong) e;
       }
 
   waits_told : AreWaitsTold found (length before) changes (sum_by count_in before) entry.steps

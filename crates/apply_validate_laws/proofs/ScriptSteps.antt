@@ -28,6 +28,7 @@ use Rattle.apply_validate.proofs.Options.{bind_some}
 use Rattle.apply_validate_laws.proofs.Refusals.{any_left, any_right}
 use Rattle.apply_validate_laws.proofs.Scripts.{listed_in}
 use Rattle.apply_validate_laws.proofs.Taken.{outcomes}
+
 some_is : {A : Type 0} (x y : A) → Some x ≡ Some y → x ≡ y
 some_is x y e = cc
 

@@ -18,6 +18,7 @@ use Rattle.apply_validate.specs.declared.findings.finding.Finding.{Finding}
 use Rattle.apply_validate_laws.proofs.Entries.{any_of, misplaced, warned}
 use Rattle.apply_validate_laws.proofs.ScriptSteps.{entry_told}
 use Rattle.apply_validate_laws.proofs.Taken.{outcomes}
+
 some_is : {A : Type 0} (x y : A) → Some x ≡ Some y → x ≡ y
 some_is x y e = cc
 

@@ -35,6 +35,7 @@ use Rattle.apply_validate_laws.proofs.Shapes.{IsSame, both_same, picked, same_di
 use Rattle.apply_validate_laws.proofs.ShapedProvisioners.{clean_shaped, first_shaped, is_read, items_shaped, made, same_provisioner, shaped_provisioner}
 use Rattle.apply_validate_laws.proofs.Steps.{alone, same_alone, apart, both_absent, diagnostic_there, failure_there, fit, flag_read, given, id_there, parts, reads as step_reads, silent_read, step_read, table_clean, timed, untouched}
 use Rattle.apply_validate_laws.proofs.Wanted.{each_is}
+
 some_is : {A : Type 0} (x y : A) → Some x ≡ Some y → x ≡ y
 some_is x y e = cc
 
@@ -203,7 +204,7 @@ tests_read k t w f l et ew ef el =
     let warning = diagnostic_there (member_of (codes "warning") k) w ew in (
       same_clear _ _ _ _ _ _ _ _ failed id warning count,
       same_alone (is_skipped k) (is_skipped k) (is_some (member_of (codes "seconds") k))
-      (is_some (member_of (codes "seconds") k)) _ _ _ _ _ _ _ _ refl refl id warning failed count,
+          (is_some (member_of (codes "seconds") k)) _ _ _ _ _ _ _ _ refl refl id warning failed count,
     )
 
 -- and of the other tree
@@ -240,10 +241,10 @@ step_reads_shape q skipped told s id warning failed ps after tests tests_skipped
     let it = opened small ps l el in
     let both = are t w f it.0 et ew ef it.1 in (
       both.0 ∙ clear_small (is_some f) (is_some (unless_empty t)) (is_some w) s it.0
-      ∙ ap (λ (x : List Provisioner). untouched (is_some f) (is_some (unless_empty t)) (is_some w) (length x)
-      (given (quick s) + seconds_of_all x)) it.2,
+          ∙ ap (λ (x : List Provisioner). untouched (is_some f) (is_some (unless_empty t)) (is_some w) (length x)
+          (given (quick s) + seconds_of_all x)) it.2,
       both.1 ∙ alone_small skipped told (is_some (unless_empty t)) (is_some w) (is_some f) it.0
-      ∙ ap (λ (x : List Provisioner). alone skipped told (is_some (unless_empty t)) (is_some w) (is_some f) (length x)) it.2,
+          ∙ ap (λ (x : List Provisioner). alone skipped told (is_some (unless_empty t)) (is_some w) (is_some f) (length x)) it.2,
     ))
     ∙ shrunk q told s (id >>= λ t. warning >>= λ w. failed >>= λ f. ending_from (unless_empty t) w f) ps after
 

@@ -163,7 +163,7 @@ tells_of_step (error.UnknownWait n) (Member name.After ∷ Item wait ∷ parts) 
 tells_of_step (error.NoSuchStep n) (Member name.After ∷ Item wait ∷ Member name.Step ∷ []) (what.NoSuchStep one other) = true
 tells_of_step _ _ _ = false
 
--- the same in an entry; the entry about whose change another is stands before that
+-- the same in an entry; of a change that an earlier entry is about, that entry is told
 abbrev pub tells_of_entry : ScriptError → List Part → What → Bool
 tells_of_entry (error.BadShape entry) parts found = breaks_rule found
 tells_of_entry (error.UnknownChange n) (Member name.Address ∷ []) found = is_of_no_change found
