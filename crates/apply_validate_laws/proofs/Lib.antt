@@ -3,13 +3,16 @@ pub mod Besides
 pub mod BytesPlaced
 pub mod Clean
 pub mod Diagnostics
+pub mod ElementRefusals
 pub mod Elements
+pub mod ElementsTold
 pub mod Entries
 pub mod ExtrasPlaced
 pub mod ExtrasRead
 pub mod ExtrasWarn
 pub mod FormRefusals
 pub mod FormRuns
+pub mod Found
 pub mod Joined
 pub mod KeptBeside
 pub mod Marks

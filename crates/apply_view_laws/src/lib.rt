@@ -25,8 +25,8 @@ pub use told::{
     progress_takes_no_memory, steps_are_of_their_lines,
 };
 
-/// Of a stream that is accepted as that of an apply, each of whose lines tells a moment, and in which no ephemeral
-/// operation calls itself a create, an update or a delete: the creates, updates and deletes that are completed are its
+/// Of a stream that is accepted as that of an apply, without a search for messages in a log, each of whose lines tells a moment, and
+/// in which no ephemeral operation calls itself a create, an update or a delete: the creates, updates and deletes that are completed are its
 /// totals, and none of them is without an end.
 pub fn a_picture_shows_what_was_counted()
     ensures { (mode : Mode) (texts : List (List ℕ)) (whole : Whole) → verdict_of mode texts ≡ Ok whole
