@@ -66,14 +66,14 @@ at_item n _ = false
 abbrev begins : ℕ → Finding → Bool
 begins n finding = is_refusal finding && at_item n finding.path
 
-pub any_left : (p : Finding → Bool) (xs ys : List Finding) → list_any p xs ≡ true → list_any p (xs ++ ys) ≡ true
+any_left : (p : Finding → Bool) (xs ys : List Finding) → list_any p xs ≡ true → list_any p (xs ++ ys) ≡ true
 any_left p xs ys e = list_any-append p xs ys ∙ ap (λ (b : Bool). b || list_any p ys) e
 
 or_true : (a b : Bool) → b ≡ true → (a || b) ≡ true
 or_true true b e = refl
 or_true false b e = e
 
-pub any_right : (p : Finding → Bool) (xs ys : List Finding) → list_any p ys ≡ true → list_any p (xs ++ ys) ≡ true
+any_right : (p : Finding → Bool) (xs ys : List Finding) → list_any p ys ≡ true → list_any p (xs ++ ys) ≡ true
 any_right p xs ys e = list_any-append p xs ys ∙ or_true (list_any p xs) (list_any p ys) e
 
 and_one : (a b : Bool) → b ≡ true → (a && b) ≡ a

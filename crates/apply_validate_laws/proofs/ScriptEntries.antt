@@ -38,11 +38,11 @@ use Rattle.apply_validate_laws.proofs.Besides.{all_waits_same, change_same, is_u
 use Rattle.apply_validate_laws.proofs.Elements.{named}
 use Rattle.apply_validate_laws.proofs.Entries.{IsEntryOf, any_first, counts_before, entry_read, found_passes, name_of_change, named_before}
 use Rattle.apply_validate.proofs.FirstNames.{same_name}
+use Rattle.apply_validate_laws.proofs.Found.{any_left, any_right, any_under, below}
 use Rattle.apply_validate_laws.proofs.Members.{count_same}
 use Rattle.apply_validate_laws.proofs.Provisioners.{length_of_all}
-use Rattle.apply_validate_laws.proofs.Refusals.{any_left, any_right}
 use Rattle.apply_validate_laws.proofs.ScriptLimits.{long_told, many_told, much_told}
-use Rattle.apply_validate_laws.proofs.ScriptSteps.{any_outcome, any_under, below, each_step, entry_told, inside_any, pairs_at, step_told, this_mark}
+use Rattle.apply_validate_laws.proofs.ScriptSteps.{any_outcome, each_step, entry_told, inside_any, pairs_at, step_told, this_mark}
 use Rattle.apply_validate_laws.proofs.ScriptWaits.{beyond_told, each_kind, no_step_told, of_no_change_told, placed_told, unknown_told, warns_told}
 use Rattle.apply_validate_laws.proofs.ShapedEntries.{shape_told}
 use Rattle.apply_validate_laws.proofs.Taken.{found_with, outcomes, waits_read}

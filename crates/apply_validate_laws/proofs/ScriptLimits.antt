@@ -26,13 +26,13 @@ use Rattle.apply_validate.specs.Names.{name_text}
 use Rattle.apply_validate.specs.ScriptFindings.{beside, in_diagnostic, in_provisioner, in_step, provisioner_mark, provisioner_names, provisioner_table, seconds_in, seconds_in_all, step_marks}
 use Rattle.apply_validate.specs.Walks.{fault_of, faults_of, in_items, in_list, inside, items_at, known, marked, member_at, place_of, unless_suits, unread, where_suits}
 use Rattle.apply_validate_laws.proofs.Alike.{Alike, object_alike}
+use Rattle.apply_validate_laws.proofs.Found.{any_left, any_right, below}
 use Rattle.apply_validate_laws.proofs.Marks.{holding}
 use Rattle.apply_validate_laws.proofs.Members.{count_same, seconds_same, sum_same}
 use Rattle.apply_validate.proofs.Options.{bind_some}
 use Rattle.apply_validate_laws.proofs.Provisioners.{all_seconds_read, length_read, seconds_read, texts_read}
-use Rattle.apply_validate_laws.proofs.Refusals.{any_left, any_right}
 use Rattle.apply_validate_laws.proofs.Taken.{by_answer, by_skip}
-use Rattle.apply_validate_laws.proofs.ScriptSteps.{below, each_any, each_list, inside_any, marks_told, next_mark, pairs_at, provisioners_told, step_told, this_mark}
+use Rattle.apply_validate_laws.proofs.ScriptSteps.{each_any, each_list, inside_any, marks_told, next_mark, pairs_at, provisioners_told, step_told, this_mark}
 
 some_is : {A : Type 0} (x y : A) → Some x ≡ Some y → x ≡ y
 some_is x y e = cc

@@ -38,10 +38,11 @@ use Rattle.apply_validate_laws.specs.Laws.{has_refusal, has_script_refusal, is_e
 use Rattle.apply_validate_laws.proofs.Alike.{Alike, AlikeItems, both_trees, bytes_alike, member_alike, object_alike}
 use Rattle.apply_validate_laws.proofs.Besides.{all_waits_same, name_same}
 use Rattle.apply_validate_laws.proofs.Entries.{behind_one, one_entry}
+use Rattle.apply_validate_laws.proofs.Found.{any_left, any_right, any_under, below, where_told}
 use Rattle.apply_validate_laws.proofs.Members.{array_there}
-use Rattle.apply_validate_laws.proofs.Refusals.{any_left, any_right, arrays, entry_number, first_or_later, is_object, same_number, tree_there, whole_clean}
+use Rattle.apply_validate_laws.proofs.Refusals.{arrays, entry_number, first_or_later, is_object, same_number, tree_there, whole_clean}
 use Rattle.apply_validate_laws.proofs.ScriptEntries.{refusal_told}
-use Rattle.apply_validate_laws.proofs.ScriptSteps.{any_under, below, entry_told}
+use Rattle.apply_validate_laws.proofs.ScriptSteps.{entry_told}
 use Rattle.apply_validate_laws.proofs.Scripts.{fits_entry}
 use Rattle.apply_validate_laws.proofs.Wanted.{met_array}
 
@@ -134,11 +135,6 @@ by_met true o e = absurd cc
 by_met false None e = refl
 by_met false (Some d) e = refl
 
-by_suits : (b : Bool) (xs : List Finding) → list_any (is_told (BadShape None)) xs ≡ true
-    → list_any (is_told (BadShape None)) (if b then xs else finding_here (what.IsNot want.Object) ∷ []) ≡ true
-by_suits true xs e = e
-by_suits false xs e = refl
-
 -- no script
 no_elements : (changes : List ResourceChange) (d k : Data) → Alike d k → elements_of k ≡ None
     → list_any (is_told (BadShape None)) (in_script (Some changes) d) ≡ true
@@ -150,8 +146,8 @@ no_elements changes d k alike none =
     let unmet : is_met want.Array (member_at name.Changes d) ≡ false =
     array_there (member_of (codes "changes") d) (member_of (codes "changes") k) (member_alike (codes "changes") refl d k alike)
     ∙ met_array (member_of (codes "changes") k) ∙ ap (λ (o : Option Items). is_some o) none in
-    by_suits (is_some (as_object d)) (list ++ entries ++ unread script_names d)
-    (any_left p (list ++ entries) (unread script_names d) (any_left p list entries
+    where_told p (is_some (as_object d)) (list ++ entries ++ unread script_names d) (finding_here (what.IsNot want.Object)) refl
+    (λ suits. any_left p (list ++ entries) (unread script_names d) (any_left p list entries
     (by_met (is_met want.Array (member_at name.Changes d)) (get (name_text name.Changes) d) unmet)))
 
 -- ---- the bytes

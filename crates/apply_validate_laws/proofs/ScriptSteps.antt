@@ -25,37 +25,18 @@ use Rattle.apply_validate.specs.Walks.{faults_of, found_by, in_items, in_list, i
 use Rattle.apply_validate_laws.specs.Laws.{tells_of_entry}
 use Rattle.apply_validate_laws.proofs.Alike.{Alike, AlikeItems, AreAlike, member_alike, object_alike}
 use Rattle.apply_validate.proofs.Options.{bind_some}
-use Rattle.apply_validate_laws.proofs.Refusals.{any_left, any_right}
+use Rattle.apply_validate_laws.proofs.Found.{any_left, any_right, any_under, below, marked_first}
 use Rattle.apply_validate_laws.proofs.Scripts.{listed_in}
 use Rattle.apply_validate_laws.proofs.Taken.{outcomes}
 
 some_is : {A : Type 0} (x y : A) → Some x ≡ Some y → x ≡ y
 some_is x y e = cc
 
--- ---- one of some findings
-
-pub first_is : (p : Finding → Bool) (x : Finding) (xs : List Finding) → p x ≡ true → list_any p (x ∷ xs) ≡ true
-first_is p x xs is = ap (λ (b : Bool). b || list_any p xs) is
-
--- the test of a finding in the value to which a step leads
-abbrev pub below : Part → (Finding → Bool) → Finding → Bool
-below part p finding = p (under part finding)
-
-all_under : (p : Finding → Bool) (part : Part) (xs : List Finding) → list_any p (map (under part) xs) ≡ list_any (below part p) xs
-all_under p part [] = refl
-all_under p part (x ∷ xs) = ap (λ (b : Bool). p (under part x) || b) (all_under p part xs)
-
-pub any_under : (p : Finding → Bool) (part : Part) (xs : List Finding) → list_any (below part p) xs ≡ true → list_any p (map (under part) xs) ≡ true
-any_under p part xs e = all_under p part xs ∙ e
-
--- what a test tells that holds
-marked_by : (p : Finding → Bool) (holds : Bool) (x : Finding) → holds ≡ true → p x ≡ true → list_any p (if holds then x ∷ [] else []) ≡ true
-marked_by p true x holds is = first_is p x [] is
-marked_by p false x holds is = absurd cc
+-- ---- tests
 
 pub this_mark : (p : Finding → Bool) (mark : Mark) (marks : List Mark) → mark.holds ≡ true → p (place_of mark.at mark.what) ≡ true
     → list_any p (marked (mark ∷ marks)) ≡ true
-this_mark p mark marks holds is = any_left p (found_by mark) (marked marks) (marked_by p mark.holds (place_of mark.at mark.what) holds is)
+this_mark p mark marks holds is = marked_first p mark.holds (place_of mark.at mark.what) (marked marks) is holds
 
 pub next_mark : (p : Finding → Bool) (mark : Mark) (marks : List Mark) → list_any p (marked marks) ≡ true → list_any p (marked (mark ∷ marks)) ≡ true
 next_mark p mark marks is = any_right p (found_by mark) (marked marks) is

@@ -33,10 +33,10 @@ use Rattle.apply_validate.specs.Walks.{fault_of, faults_of, in_items, inside, it
 use Rattle.apply_validate_laws.proofs.Alike.{Alike}
 use Rattle.apply_validate_laws.proofs.Besides.{change_by, change_same, few_of, is_unknown, lacks_step, less, no_step, none_over, object_same, warns_same}
 use Rattle.apply_validate_laws.proofs.Elements.{named}
+use Rattle.apply_validate_laws.proofs.Found.{any_left, any_right, any_under, below}
 use Rattle.apply_validate_laws.proofs.Members.{count_same, whole_same}
 use Rattle.apply_validate_laws.proofs.Outputs.{is_shaped, shape_alike}
-use Rattle.apply_validate_laws.proofs.Refusals.{any_left, any_right}
-use Rattle.apply_validate_laws.proofs.ScriptSteps.{Pairs, any_under, below, each_any, each_list, inside_any, kinds_told, next_mark, pairs_at, step_told, this_mark, waits_told}
+use Rattle.apply_validate_laws.proofs.ScriptSteps.{Pairs, each_any, each_list, inside_any, kinds_told, next_mark, pairs_at, step_told, this_mark, waits_told}
 use Rattle.apply_validate_laws.proofs.Taken.{at_drop, found_with, held, lacks_with, more_steps, none_with, outcomes, step_read, wait_read}
 
 some_is : {A : Type 0} (x y : A) → Some x ≡ Some y → x ≡ y
