@@ -1,5 +1,5 @@
--- What is found in a script beside the changes of a plan; nothing where the plan is refused. All paths are from the value.
-use Rattle.std.specs.Prelude.{ℕ, suc, codes, ◌∷◌, ◌-◌, List, [], find, length, map, sum_by, Bool, false, ◌&&◌, not, is_none, is_some, nat_le, nat_lt, if◌then◌else◌, Option, Some, None, option_and_then, slice_get, unwrap_or}
+-- What is found in a script beside the changes of a plan; nothing but that steps wait where the plan is refused. All paths are from the value.
+use Rattle.std.specs.Prelude.{ℕ, suc, codes, ◌∷◌, ◌-◌, List, [], find, length, map, sum_by, Bool, true, false, ◌&&◌, not, is_none, is_some, nat_le, nat_lt, if◌then◌else◌, Option, Some, None, option_and_then, slice_get, unwrap_or}
 use Rattle.std.specs.List.{list_any, position_from}
 use Rattle.std.specs.Option.{option_map_or}
 use Rattle.std.specs.Str.{bytes_eq}
@@ -158,27 +158,42 @@ beyond_in has_plan (Some most) d =
 
 -- ---- where steps wait
 
+-- a step waits for what an item of its `after` names; a change without steps is nothing to wait for
+abbrev pub is_waited_for : Option (List ResourceChange) → Data → Bool
+is_waited_for changes d = option_map_or (λ change. nat_lt 0 (length change.steps)) (change_at changes d) true
+
 -- a step waits for others, and is not skipped
-abbrev pub is_waiting : Data → Bool
-is_waiting d = not (is_skipped d) && nat_lt 0 (waits_in d)
+abbrev pub is_waiting : Option (List ResourceChange) → Data → Bool
+is_waiting changes d = not (is_skipped d) && list_any (is_waited_for changes) (items_at name.After d)
 
 -- the first step of an entry that does
-abbrev pub first_waiting : Data → Option ℕ
-first_waiting d = position_from is_waiting 0 (items_at name.Steps d)
+abbrev pub first_waiting : Option (List ResourceChange) → Data → Option ℕ
+first_waiting changes d = position_from (is_waiting changes) 0 (items_at name.Steps d)
 
 -- an entry has one
-abbrev pub has_waiting : Data → Bool
-has_waiting d = is_some (first_waiting d)
+abbrev pub has_waiting : Option (List ResourceChange) → Data → Bool
+has_waiting changes d = is_some (first_waiting changes d)
+
+-- the first entry of a script that has one
+abbrev pub entry_waiting : Option (List ResourceChange) → Data → Option ℕ
+entry_waiting changes d = position_from (has_waiting changes) 0 (items_at name.Changes d)
 
 -- the first step that waits of the entry of that number, 0 where none does
-abbrev pub step_waiting : List Data → ℕ → ℕ
-step_waiting ds n = unwrap_or (option_and_then first_waiting (slice_get ds n)) 0
+abbrev pub step_waiting : Option (List ResourceChange) → List Data → ℕ → ℕ
+step_waiting changes ds n = unwrap_or (option_and_then (first_waiting changes) (slice_get ds n)) 0
 
 -- the path to what a step of an entry waits for
 abbrev pub path_to : (entry step : ℕ) → List Part
 path_to entry step = Member name.Changes ∷ Item entry ∷ Member name.Steps ∷ Item step ∷ Member name.After ∷ []
 
+-- the path to what the first step that waits of the entry of that number waits for
+abbrev pub path_in : Option (List ResourceChange) → Data → (entry : ℕ) → List Part
+path_in changes d entry = path_to entry (step_waiting changes (items_at name.Changes d) entry)
+
 -- where the first step of a script stands that waits; its top where none does
-abbrev pub place_of_waits : Data → List Part
-place_of_waits d =
-    option_map_or (λ n. path_to n (step_waiting (items_at name.Changes d) n)) (position_from has_waiting 0 (items_at name.Changes d)) []
+abbrev pub place_of_waits : Option (List ResourceChange) → Data → List Part
+place_of_waits changes d = option_map_or (path_in changes d) (entry_waiting changes d) []
+
+-- that steps of a script wait, at the first that does
+abbrev pub waits_told : Option (List ResourceChange) → Data → List Finding
+waits_told changes d = option_map_or (λ entry. record { path = path_in changes d entry; what = what.Waits } ∷ []) (entry_waiting changes d) []

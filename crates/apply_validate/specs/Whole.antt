@@ -20,7 +20,7 @@ use Rattle.apply_validate.specs.declared.findings.what.What.TheVariants.{ForPlan
 use Rattle.apply_validate.specs.declared.findings.name.Name.TheVariants.{Changes}
 use Rattle.apply_validate.specs.declared.findings.part.Part.{Part}
 use Rattle.apply_validate.specs.declared.findings.part.Part.TheVariants.{Item, Member}
-use Rattle.apply_validate.specs.Beside.{place_of_waits}
+use Rattle.apply_validate.specs.Beside.{place_of_waits, waits_told}
 use Rattle.apply_validate.specs.Findings.{finding_here, is_refusal, under}
 use Rattle.apply_validate.specs.PlanFindings.{in_plan}
 use Rattle.apply_validate.specs.ScriptFindings.{in_script}
@@ -70,13 +70,19 @@ placed (Some n) what = map (under (Member Changes)) (map (under (Item n)) (findi
 abbrev pub refused_for : ScriptError → List Finding
 refused_for refusal = placed (entry_of_refusal refusal) (ForPlan refusal)
 
--- where the first step stands that waits
-abbrev pub waits_at : List ℕ → List Part
-waits_at bytes = if nat_lt max_bytes (length bytes) then [] else option_map_or place_of_waits (tree_of bytes) []
+-- where the first step stands that waits, beside the changes of a plan where there are some
+abbrev pub waits_at : Option (List ResourceChange) → List ℕ → List Part
+waits_at changes bytes = if nat_lt max_bytes (length bytes) then [] else option_map_or (place_of_waits changes) (tree_of bytes) []
 
--- waits take lanes
-abbrev pub unless_waits : (lanes : Bool) → List ℕ → OutcomeMap → List Finding
-unless_waits lanes bytes script = if not lanes && has_waits script then record { path = waits_at bytes; what = Waits } ∷ [] else []
+-- waits take lanes; of a script that a run reads
+abbrev pub unless_waits : (lanes : Bool) → List ResourceChange → List ℕ → OutcomeMap → List Finding
+unless_waits lanes changes bytes script =
+    if not lanes && has_waits script then record { path = waits_at (Some changes) bytes; what = Waits } ∷ [] else []
+
+-- the same of the tree of the bytes, whatever else is found there; nothing where they are too many or no JSON
+abbrev pub waits_said : (lanes : Bool) → Option (List ResourceChange) → List ℕ → List Finding
+waits_said lanes changes bytes =
+    if lanes then [] else if nat_lt max_bytes (length bytes) then [] else option_map_or (waits_told changes) (tree_of bytes) []
 
 -- each of these entries has a step that could never begin
 abbrev pub stuck_entries : List ℕ → List Finding
@@ -87,21 +93,21 @@ abbrev pub behind_first : Result (List ℕ) ScriptError → List ℕ
 behind_first (Ok numbers) = drop 1 numbers
 behind_first (Err refusal) = []
 
--- what a run refuses a script for, and each further entry that has a step which could never begin
-abbrev pub refusals_of : (lanes : Bool) → List ℕ → Result OutcomeMap ScriptError → (stuck : Result (List ℕ) ScriptError) → List Finding
-refusals_of lanes bytes (Ok script) stuck = unless_waits lanes bytes script
-refusals_of lanes bytes (Err refusal) stuck = refused_for refusal ++ stuck_entries (behind_first stuck)
+-- what a run refuses a script for, then each further entry that has a step which could never begin, and that steps wait
+abbrev pub refusals_of : (lanes : Bool) → List ResourceChange → List ℕ → Result OutcomeMap ScriptError → (stuck : Result (List ℕ) ScriptError) → List Finding
+refusals_of lanes changes bytes (Ok script) stuck = unless_waits lanes changes bytes script
+refusals_of lanes changes bytes (Err refusal) stuck = refused_for refusal ++ stuck_entries (behind_first stuck) ++ waits_said lanes (Some changes) bytes
 
--- what a run refuses a script for in which nothing else is found
+-- what a run refuses a script for; where something else is found for which it is refused, only that steps wait
 abbrev pub beside_plan : (lanes : Bool) → SavedPlan → List ℕ → List Finding
 beside_plan lanes plan bytes =
-    if list_any is_refusal (script_findings (Some plan.changes) bytes) then []
-    else refusals_of lanes bytes (script_of plan bytes) (never_beginning_of plan bytes)
+    if list_any is_refusal (script_findings (Some plan.changes) bytes) then waits_said lanes (Some plan.changes) bytes
+    else refusals_of lanes plan.changes bytes (script_of plan bytes) (never_beginning_of plan bytes)
 
 -- what is found in a script for a plan that may be refused
 abbrev pub script_findings_for : (lanes : Bool) → Result SavedPlan PlanError → List ℕ → List Finding
 script_findings_for lanes (Ok plan) bytes = script_findings (Some plan.changes) bytes ++ beside_plan lanes plan bytes
-script_findings_for lanes (Err refusal) bytes = script_findings None bytes
+script_findings_for lanes (Err refusal) bytes = script_findings None bytes ++ waits_said lanes None bytes
 
 -- what is found in a script that may not be given
 abbrev pub given_findings : (lanes : Bool) → Result SavedPlan PlanError → Option (List ℕ) → List Finding

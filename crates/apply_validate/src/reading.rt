@@ -6,13 +6,14 @@ ghost use Rattle.serde_json.specs.View.{view};
 ghost use Rattle.apply_plan.specs.Plan.SavedPlan.{plan_of};
 ghost use Rattle.apply_plan.specs.Script.NeverBeginning.{never_beginning_of};
 ghost use Rattle.apply_plan.specs.Script.OutcomeMap.{script_of};
+ghost use Rattle.apply_validate.specs.Beside.{place_of_waits, waits_told};
 ghost use Rattle.apply_validate.specs.Findings.{told};
 ghost use Rattle.apply_validate.specs.InForm.{findings_in};
 ghost use Rattle.apply_validate.specs.ScriptFindings.{in_script};
-ghost use Rattle.apply_validate.specs.Whole.{behind_first, beside_plan, changes_in, entry_of_refusal, given_findings, plan_findings, refusals_of, refused_for, script_findings, script_findings_for, stuck_entries, unless_waits, waits_at};
+ghost use Rattle.apply_validate.specs.Whole.{behind_first, beside_plan, changes_in, entry_of_refusal, given_findings, plan_findings, refusals_of, refused_for, script_findings, script_findings_for, stuck_entries, unless_waits, waits_at, waits_said};
 
 use crate::beside::planned::Planned;
-use crate::beside::waiting::place_of_waits;
+use crate::beside::waiting::{place_of_waits, waits_told};
 use crate::extras::bytes::extras_for;
 use crate::findings::list::Findings;
 use crate::findings::name::Name;
@@ -134,8 +135,17 @@ fn findings_for(
     match read_plan(alloc, plan) {
         Ok(plan) => findings_beside_plan(alloc, &plan, bytes, lanes),
         Err(PlanError::Memory) => Err(AllocError),
-        Err(_) => findings_of_script(alloc, bytes),
+        Err(_) => findings_alone(alloc, bytes, lanes),
     }
+}
+
+/// What is found in a script for a plan that is refused.
+fn findings_alone(alloc: Global, bytes: &[u8], lanes: bool) -> Result<Findings, AllocError>
+    ensures { IfOk result (λ f. f ≡ told (script_findings None bytes.now ++ waits_said lanes None bytes.now)) }
+{
+    let found = findings_beside(alloc, None, bytes)?;
+    let waits = waits_said(alloc, lanes, None, bytes)?;
+    found.then(waits)
 }
 
 /// What is found in a script for a plan.
@@ -153,7 +163,7 @@ fn findings_beside_plan(
     Ok(all)
 }
 
-/// What a run refuses a script for, unless something else is found for which it is refused.
+/// What a run refuses a script for; where something else is found for which it is refused, only that steps wait.
 fn beside_plan(
     alloc: Global,
     is_refused: bool,
@@ -161,31 +171,35 @@ fn beside_plan(
     bytes: &[u8],
     lanes: bool,
 ) -> Result<Findings, AllocError>
-    ensures { IfOk result (λ f. f ≡ told (if is_refused then []
-        else refusals_of lanes bytes.now (script_of plan.now bytes.now) (never_beginning_of plan.now bytes.now))) }
+    ensures { IfOk result (λ f. f ≡ told (if is_refused then waits_said lanes (Some plan.now.changes) bytes.now
+        else refusals_of lanes plan.now.changes bytes.now (script_of plan.now bytes.now) (never_beginning_of plan.now bytes.now))) }
 {
     if is_refused {
-        return Ok(Findings::none(alloc));
+        return waits_said(alloc, lanes, Some(plan), bytes);
     }
     match read_script(alloc, bytes, plan) {
-        Ok(script) => unless_waits(alloc, lanes, bytes, &script),
+        Ok(script) => unless_waits(alloc, lanes, plan, bytes, &script),
         Err(ScriptError::Memory) => Err(AllocError),
-        Err(refusal) => refused_with(alloc, refusal, plan, bytes),
+        Err(refusal) => refused_with(alloc, lanes, refusal, plan, bytes),
     }
 }
 
-/// What a run refuses a script for, and behind it each further entry that has a step which could never begin.
+/// What a run refuses a script for, behind it each further entry that has a step which could never begin, and that steps wait.
 fn refused_with(
     alloc: Global,
+    lanes: bool,
     refusal: ScriptError,
     plan: &Plan,
     bytes: &[u8],
 ) -> Result<Findings, AllocError>
-    ensures { IfOk result (λ f. f ≡ told (refused_for refusal ++ stuck_entries (behind_first (never_beginning_of plan.now bytes.now)))) }
+    ensures { IfOk result (λ f. f ≡ told (refused_for refusal ++ stuck_entries (behind_first (never_beginning_of plan.now bytes.now))
+        ++ waits_said lanes (Some plan.now.changes) bytes.now)) }
 {
     let first = refused_for(alloc, refusal)?;
     let others = stuck_behind_first(alloc, plan, bytes)?;
-    first.then(others)
+    let all = first.then(others)?;
+    let waits = waits_said(alloc, lanes, Some(plan), bytes)?;
+    all.then(waits)
 }
 
 /// Each entry that has a step which could never begin, but for the first.
@@ -217,27 +231,69 @@ fn stuck_entries(alloc: Global, numbers: &[u32]) -> Result<Findings, AllocError>
 fn unless_waits(
     alloc: Global,
     lanes: bool,
+    plan: &Plan,
     bytes: &[u8],
     script: &Script,
 ) -> Result<Findings, AllocError>
-    ensures { IfOk result (λ f. f ≡ told (unless_waits lanes bytes.now script.now)) }
+    ensures { IfOk result (λ f. f ≡ told (unless_waits lanes plan.now.changes bytes.now script.now)) }
 {
     if !lanes && script.has_waits() {
-        Findings::one(alloc, waits_at(alloc, bytes)?, What::Waits)
+        Findings::one(alloc, waits_at(alloc, plan, bytes)?, What::Waits)
     } else {
         Ok(Findings::none(alloc))
     }
 }
 
-/// Where the first step stands that waits, in the bytes of a script.
-fn waits_at(alloc: Global, bytes: &[u8]) -> Result<Path, AllocError>
-    ensures { IfOk result (λ path. path ≡ waits_at bytes.now) }
+/// Where the first step stands that waits, in the bytes of a script for a plan.
+fn waits_at(alloc: Global, plan: &Plan, bytes: &[u8]) -> Result<Path, AllocError>
+    ensures { IfOk result (λ path. path ≡ waits_at (Some plan.now.changes) bytes.now) }
 {
     match parse(alloc, bytes, MAX_BYTES) {
-        Ok(script) => place_of_waits(alloc, &script),
+        Ok(script) => place_beside(alloc, plan, &script),
         Err(JsonFault::TooLarge) => Ok(Path::here(alloc)),
         Err(JsonFault::NotJson) => Ok(Path::here(alloc)),
         Err(JsonFault::Memory) => Err(AllocError),
+    }
+}
+
+/// Where the first step stands that waits, in the tree of a script for a plan.
+fn place_beside(alloc: Global, plan: &Plan, script: &Value) -> Result<Path, AllocError>
+    ensures { IfOk result (λ path. path ≡ place_of_waits (Some plan.now.changes) (view script.now)) }
+{
+    let planned = Planned::of(alloc, plan)?;
+    place_of_waits(alloc, Some(&planned), script)
+}
+
+/// That steps of a script wait, which takes lanes, whatever else is found in its bytes; beside the changes of a plan where one is given.
+fn waits_said(
+    alloc: Global,
+    lanes: bool,
+    plan: Option<&Plan>,
+    bytes: &[u8],
+) -> Result<Findings, AllocError>
+    ensures { IfOk result (λ f. f ≡ told (waits_said lanes (changes_in (option_copied plan.entry)) bytes.now)) }
+{
+    if lanes {
+        return Ok(Findings::none(alloc));
+    }
+    match parse(alloc, bytes, MAX_BYTES) {
+        Ok(script) => waits_beside(alloc, plan, &script),
+        Err(JsonFault::TooLarge) => Ok(Findings::none(alloc)),
+        Err(JsonFault::NotJson) => Ok(Findings::none(alloc)),
+        Err(JsonFault::Memory) => Err(AllocError),
+    }
+}
+
+/// That steps of the tree of a script wait, beside the changes of a plan where one is given.
+fn waits_beside(alloc: Global, plan: Option<&Plan>, script: &Value) -> Result<Findings, AllocError>
+    ensures { IfOk result (λ f. f ≡ told (waits_told (changes_in (option_copied plan.entry)) (view script.now))) }
+{
+    match plan {
+        Some(plan) => {
+            let planned = Planned::of(alloc, plan)?;
+            waits_told(alloc, Some(&planned), script)
+        }
+        None => waits_told(alloc, None, script),
     }
 }
 

@@ -39,7 +39,7 @@ use Rattle.apply_validate_laws.specs.Laws.{goes_through, has_refusal, has_refusa
 use Rattle.apply_validate.specs.PlanFindings.{first_named, name_read}
 use Rattle.apply_validate.specs.ScriptFindings.{in_entry_behind, in_script, script_names}
 use Rattle.apply_validate.specs.Walks.{fault_of, items_at, items_behind, known, unread}
-use Rattle.apply_validate.specs.Whole.{behind_first, beside_plan, entry_of_refusal, given_findings, refusals_of, refused_for, script_findings, stuck_entries}
+use Rattle.apply_validate.specs.Whole.{behind_first, beside_plan, entry_of_refusal, given_findings, refusals_of, refused_for, script_findings, stuck_entries, waits_said}
 use Rattle.apply_validate_laws.proofs.Alike.{Alike, AlikeItems, AreAlike, both_trees, bytes_alike, member_alike, object_alike}
 use Rattle.apply_validate_laws.proofs.Besides.{all_waits_same, name_same}
 use Rattle.apply_validate_laws.proofs.Clean.{clean}
@@ -337,9 +337,13 @@ by_entries lanes plan bytes refusal n k es is named small kept elements (Ok entr
     let none : has_refusal (script_findings (Some plan.changes) bytes) ≡ false = whole_clean plan bytes k es small kept elements (ap (λ r. is_ok r) all) in
     let stuck : NeverBegins n ≡ refusal = stuck_at (by_number (length plan.changes) entries) (position_from (is_stuck (by_number (length plan.changes) entries)) 0 entries) refusal n e refl named in
     let others : List Finding = stuck_entries (behind_first (never_beginning_of plan bytes)) in
-    let told : beside_plan lanes plan bytes ≡ refused_for refusal ++ others = rw none (ap (λ (q : Result OutcomeMap ScriptError). refusals_of lanes bytes q (never_beginning_of plan bytes)) is) in
+    let waits : List Finding = waits_said lanes (Some plan.changes) bytes in
+    let told : beside_plan lanes plan bytes ≡ refused_for refusal ++ others ++ waits =
+    rw none (ap (λ (q : Result OutcomeMap ScriptError). refusals_of lanes plan.changes bytes q (never_beginning_of plan bytes)) is) in
     any_right (through n) (script_findings (Some plan.changes) bytes) (beside_plan lanes plan bytes)
-    (ap (has_refusal_in n) told ∙ any_left (through n) (refused_for refusal) others (ap (λ (r : ScriptError). has_refusal_in n (refused_for r)) (sym stuck) ∙ placed_in n))
+    (ap (has_refusal_in n) told
+    ∙ any_left (through n) (refused_for refusal ++ others) waits
+    (any_left (through n) (refused_for refusal) others (ap (λ (r : ScriptError). has_refusal_in n (refused_for r)) (sym stuck) ∙ placed_in n)))
 
 of_entries : (lanes : Bool) (plan : SavedPlan) (bytes : List ℕ) (refusal : ScriptError) (n : ℕ) (k : Data) (es : Items) → script_of plan bytes ≡ Err refusal → entry_of_refusal refusal ≡ Some n → nat_lt max_bytes (length bytes) ≡ false → keeping_tree_of is_kept bytes ≡ Some k
     → elements_of k ≡ Some es → script_of_entries plan (list_of es) ≡ Err refusal

@@ -1,7 +1,7 @@
 -- What a run refuses a script for beside the plan is told in its place.
-use Rattle.std.proofs.Common.{◌≡◌, ℕ, suc, ◌+◌, ◌<◌, ◌≤◌, List, [], ◌∷◌, drop, length, map, take, Bool, true, false, cond, not, ◌&&◌, is_ok, is_some, slice_get, Option, Some, None, Result, Ok, Err, unwrap_or, if◌then◌else◌, refl, sym, ap, subst, ◌∙◌, arith}
+use Rattle.std.proofs.Common.{◌≡◌, ℕ, suc, ◌+◌, ◌<◌, ◌≤◌, List, [], ◌∷◌, ◌++◌, drop, length, map, take, Bool, true, false, cond, not, ◌&&◌, is_ok, is_some, slice_get, Option, Some, None, Result, Ok, Err, unwrap_or, if◌then◌else◌, refl, sym, ap, subst, ◌∙◌, arith}
 use Rattle.std.specs.Prelude.{codes, nat_lt}
-use Rattle.std.specs.List.{AllByRecursion, enumerate_from, list_all, position_from}
+use Rattle.std.specs.List.{AllByRecursion, enumerate_from, list_all, list_any, position_from}
 use Rattle.std.specs.Option.{option_and_then, option_map, option_map_or}
 use Rattle.std.proofs.lemmas.Bool.{and_from, and_parts}
 use Rattle.std.proofs.lemmas.List.{length-map}
@@ -10,7 +10,9 @@ use Rattle.std.proofs.lemmas.Option.{slice_get_within}
 use Rattle.serde_json.specs.Data.{Data, Items}
 use Rattle.apply_beginning.specs.Stuck.{numbers_from}
 use Rattle.apply_json.specs.Keeping.{keeping_tree_of}
+use Rattle.apply_json.specs.Seen.{items_in}
 use Rattle.apply_json.specs.Tree.{list_of, member_of, tree_of}
+use Rattle.apply_model.specs.Plan.ResourceChange.{ResourceChange}
 use Rattle.apply_model.specs.Plan.SavedPlan.{SavedPlan}
 use Rattle.apply_model.specs.Script.OutcomeMap.{OutcomeMap}
 use Rattle.apply_model.specs.Script.Waits.{has_waits}
@@ -29,12 +31,12 @@ use Rattle.apply_validate.specs.declared.findings.name.Name.TheVariants as name
 use Rattle.apply_validate.specs.declared.findings.part.Part.{Part}
 use Rattle.apply_validate.specs.declared.findings.part.Part.TheVariants.{Item, Member}
 use Rattle.apply_validate.specs.declared.findings.what.What.TheVariants as what
-use Rattle.apply_validate.specs.Beside.{first_waiting, has_waiting, is_waiting, path_to, place_of_waits, step_waiting, waits_in}
+use Rattle.apply_validate.specs.Beside.{entry_waiting, first_waiting, has_waiting, is_waited_for, is_waiting, path_in, path_to, place_of_waits, step_waiting, waits_told}
 use Rattle.apply_validate.specs.Findings.{finding_at, finding_here, under}
 use Rattle.apply_validate_laws.specs.Laws.{has_refusal, is_entry, is_script}
 use Rattle.apply_validate.specs.ScriptFindings.{is_skipped}
-use Rattle.apply_validate.specs.Walks.{items_at}
-use Rattle.apply_validate.specs.Whole.{behind_first, beside_plan, entry_of_refusal, given_findings, placed, refusals_of, refused_for, script_findings, stuck_entries, unless_waits, waits_at}
+use Rattle.apply_validate.specs.Walks.{items_at, member_at}
+use Rattle.apply_validate.specs.Whole.{behind_first, beside_plan, entry_of_refusal, given_findings, placed, refusals_of, refused_for, script_findings, stuck_entries, unless_waits, waits_at, waits_said}
 use Rattle.apply_validate_laws.proofs.Alike.{Alike, both_trees, bytes_alike}
 use Rattle.apply_validate_laws.proofs.Clean.{clean}
 use Rattle.apply_validate_laws.proofs.Members.{count_same}
@@ -43,7 +45,7 @@ use Rattle.apply_validate_laws.proofs.Scripts.{clean_bytes, entries_fit, is_scri
 use Rattle.apply_validate_laws.specs.Paths.{ArePlaced}
 use Rattle.apply_validate_laws.specs.Unread.{IsRead}
 use Rattle.apply_validate_laws.proofs.BytesPlaced.{AreTold, both_told, none_told, script_told, told_placed}
-use Rattle.apply_validate_laws.proofs.Marks.{member_leads, there_items}
+use Rattle.apply_validate_laws.proofs.Marks.{member_leads, there}
 use Rattle.apply_validate_laws.proofs.Placing.{AreRight, below, item_right, within}
 
 some_is : {A : Type 0} (x y : A) → Some x ≡ Some y → x ≡ y
@@ -81,44 +83,66 @@ first_at test xs n e =
     let same : at.number ≡ n = omega (arith, at.number_is) in
     (at.value, ap (slice_get xs) (sym same) ∙ at.value_is, at.passes)
 
-step_by : (R : List Part → List Name → Type 0) (d : Data) (o : Option ℕ) → first_waiting d ≡ o → is_some o ≡ true
-    → AreRight R d (map (under (Member name.Steps)) (map (under (Item (unwrap_or o 0))) (finding_at (Member name.After) what.Waits ∷ [])))
-step_by R d None is some = absurd cc
-step_by R d (Some m) is some =
-    let step = first_at is_waiting (items_at name.Steps d) m is in
-    let waits : nat_lt 0 (waits_in step.0) ≡ true = (and_parts (not (is_skipped step.0)) (nat_lt 0 (waits_in step.0)) step.2).1 in
-    item_right R name.Steps d m step.0 (finding_at (Member name.After) what.Waits ∷ []) step.1
-    (member_leads name.After step.0 (there_items name.After step.0 0 waits), tt)
+-- where a step waits for an item, the member is there that has it
+waited_there : (test : Data → Bool) (o : Option Data) → list_any test (option_map_or (λ value. list_of (items_in value)) o []) ≡ true → is_some o ≡ true
+waited_there test None e = absurd cc
+waited_there test (Some d) e = refl
 
-step_is : (ds : List Data) (n : ℕ) (d : Data) → slice_get ds n ≡ Some d → step_waiting ds n ≡ unwrap_or (first_waiting d) 0
-step_is ds n d is = ap (λ (o : Option Data). unwrap_or (option_and_then first_waiting o) 0) is
+module _ (changes : Option (List ResourceChange)) where
+  step_by : (R : List Part → List Name → Type 0) (d : Data) (o : Option ℕ) → first_waiting changes d ≡ o → is_some o ≡ true
+      → AreRight R d (map (under (Member name.Steps)) (map (under (Item (unwrap_or o 0))) (finding_at (Member name.After) what.Waits ∷ [])))
+  step_by R d None is some = absurd cc
+  step_by R d (Some m) is some =
+      let step = first_at (is_waiting changes) (items_at name.Steps d) m is in
+      let waits : list_any (is_waited_for changes) (items_at name.After step.0) ≡ true =
+      (and_parts (not (is_skipped step.0)) (list_any (is_waited_for changes) (items_at name.After step.0)) step.2).1 in
+      item_right R name.Steps d m step.0 (finding_at (Member name.After) what.Waits ∷ []) step.1
+      (member_leads name.After step.0 (there name.After step.0 (waited_there (is_waited_for changes) (member_at name.After step.0) waits)), tt)
 
-waits_by : (R : List Part → List Name → Type 0) (d : Data) (o : Option ℕ) → position_from has_waiting 0 (items_at name.Changes d) ≡ o
-    → AreRight R d (record { path = option_map_or (λ n. path_to n (step_waiting (items_at name.Changes d) n)) o []; what = what.Waits } ∷ [])
-waits_by R d None is = (refl, tt)
-waits_by R d (Some n) is =
-    let entry = first_at has_waiting (items_at name.Changes d) n is in
-    let step : ℕ = unwrap_or (first_waiting entry.0) 0 in
-    let told : List Finding = map (under (Member name.Steps)) (map (under (Item step)) (finding_at (Member name.After) what.Waits ∷ [])) in
-    subst (λ (m : ℕ). AreRight R d (record { path = path_to n m; what = what.Waits } ∷ [])) (sym (step_is (items_at name.Changes d) n entry.0 entry.1))
-    (item_right R name.Changes d n entry.0 told entry.1 (step_by (below (Item n) (below (Member name.Changes) R)) entry.0 (first_waiting entry.0) refl entry.2))
+  step_is : (ds : List Data) (n : ℕ) (d : Data) → slice_get ds n ≡ Some d → step_waiting changes ds n ≡ unwrap_or (first_waiting changes d) 0
+  step_is ds n d is = ap (λ (o : Option Data). unwrap_or (option_and_then (first_waiting changes) o) 0) is
 
-waits_right : (R : List Part → List Name → Type 0) (d : Data) → AreRight R d (record { path = place_of_waits d; what = what.Waits } ∷ [])
-waits_right R d = waits_by R d (position_from has_waiting 0 (items_at name.Changes d)) refl
+  entry_right : (R : List Part → List Name → Type 0) (d : Data) (n : ℕ) → entry_waiting changes d ≡ Some n → AreRight R d (record { path = path_in changes d n; what = what.Waits } ∷ [])
+  entry_right R d n is =
+      let entry = first_at (has_waiting changes) (items_at name.Changes d) n is in
+      let step : ℕ = unwrap_or (first_waiting changes entry.0) 0 in
+      let told : List Finding = map (under (Member name.Steps)) (map (under (Item step)) (finding_at (Member name.After) what.Waits ∷ [])) in
+      subst (λ (m : ℕ). AreRight R d (record { path = path_to n m; what = what.Waits } ∷ [])) (sym (step_is (items_at name.Changes d) n entry.0 entry.1))
+      (item_right R name.Changes d n entry.0 told entry.1 (step_by (below (Item n) (below (Member name.Changes) R)) entry.0 (first_waiting changes entry.0) refl entry.2))
 
-waits_in_tree : (large : Bool) (o : Option Data) → AreTold IsRead o (record { path = if large then [] else option_map_or place_of_waits o []; what = what.Waits } ∷ [])
-waits_in_tree true None = (refl, tt)
-waits_in_tree true (Some d) = (refl, tt)
-waits_in_tree false None = (refl, tt)
-waits_in_tree false (Some d) = waits_right IsRead d
+  waits_by : (R : List Part → List Name → Type 0) (d : Data) (o : Option ℕ) → entry_waiting changes d ≡ o
+      → AreRight R d (record { path = option_map_or (path_in changes d) o []; what = what.Waits } ∷ [])
+  waits_by R d None is = (refl, tt)
+  waits_by R d (Some n) is = entry_right R d n is
+
+  waits_in_tree : (large : Bool) (o : Option Data) → AreTold IsRead o (record { path = if large then [] else option_map_or (place_of_waits changes) o []; what = what.Waits } ∷ [])
+  waits_in_tree true None = (refl, tt)
+  waits_in_tree true (Some d) = (refl, tt)
+  waits_in_tree false None = (refl, tt)
+  waits_in_tree false (Some d) = waits_by IsRead d (entry_waiting changes d) refl
+
+  told_by : (d : Data) (o : Option ℕ) → entry_waiting changes d ≡ o
+      → AreRight IsRead d (option_map_or (λ entry. record { path = path_in changes d entry; what = what.Waits } ∷ []) o [])
+  told_by d None is = tt
+  told_by d (Some n) is = entry_right IsRead d n is
+
+  said_in_tree : (lanes large : Bool) (o : Option Data) → AreTold IsRead o (if lanes then [] else if large then [] else option_map_or (waits_told changes) o [])
+  said_in_tree true large o = none_told IsRead o
+  said_in_tree false true o = none_told IsRead o
+  said_in_tree false false None = tt
+  said_in_tree false false (Some d) = told_by d (entry_waiting changes d) refl
+
+  said_told : (lanes : Bool) (bytes : List ℕ) → AreTold IsRead (tree_of bytes) (waits_said lanes changes bytes)
+  said_told lanes bytes = said_in_tree lanes (nat_lt max_bytes (length bytes)) (tree_of bytes)
 
 only_where : (o : Option Data) (b : Bool) (xs : List Finding) → AreTold IsRead o xs → AreTold IsRead o (if b then xs else [])
 only_where o true xs h = h
 only_where o false xs h = none_told IsRead o
 
-waits_told : (lanes : Bool) (bytes : List ℕ) (script : OutcomeMap) → AreTold IsRead (tree_of bytes) (unless_waits lanes bytes script)
-waits_told lanes bytes script =
-    only_where (tree_of bytes) (not lanes && has_waits script) (record { path = waits_at bytes; what = what.Waits } ∷ []) (waits_in_tree (nat_lt max_bytes (length bytes)) (tree_of bytes))
+exact_told : (lanes : Bool) (changes : List ResourceChange) (bytes : List ℕ) (script : OutcomeMap) → AreTold IsRead (tree_of bytes) (unless_waits lanes changes bytes script)
+exact_told lanes changes bytes script =
+    only_where (tree_of bytes) (not lanes && has_waits script) (record { path = waits_at (Some changes) bytes; what = what.Waits } ∷ [])
+    (waits_in_tree (Some changes) (nat_lt max_bytes (length bytes)) (tree_of bytes))
 
 -- ---- the entry that a refusal names, of a script in which nothing else is found
 
@@ -289,19 +313,24 @@ others_told plan bytes (Some d) tree none =
     each_told d (behind_first (never_beginning_of plan bytes)) (others_there plan bytes d none tree (never_beginning_of plan bytes) refl)
 
 refusals_told : (lanes : Bool) (plan : SavedPlan) (bytes : List ℕ) (r : Result OutcomeMap ScriptError) → script_of plan bytes ≡ r → clean (script_findings (Some plan.changes) bytes) ≡ true
-    → AreTold IsRead (tree_of bytes) (refusals_of lanes bytes r (never_beginning_of plan bytes))
-refusals_told lanes plan bytes (Ok script) e none = waits_told lanes bytes script
+    → AreTold IsRead (tree_of bytes) (refusals_of lanes plan.changes bytes r (never_beginning_of plan bytes))
+refusals_told lanes plan bytes (Ok script) e none = exact_told lanes plan.changes bytes script
 refusals_told lanes plan bytes (Err refusal) e none =
-    both_told IsRead (tree_of bytes) (refused_for refusal) (stuck_entries (behind_first (never_beginning_of plan bytes)))
-    (refusal_by plan bytes refusal (entry_of_refusal refusal) (tree_of bytes) refl refl none e) (others_told plan bytes (tree_of bytes) refl none)
+    let others : List Finding = stuck_entries (behind_first (never_beginning_of plan bytes)) in
+    both_told IsRead (tree_of bytes) (refused_for refusal ++ others) (waits_said lanes (Some plan.changes) bytes)
+    (both_told IsRead (tree_of bytes) (refused_for refusal) others
+    (refusal_by plan bytes refusal (entry_of_refusal refusal) (tree_of bytes) refl refl none e) (others_told plan bytes (tree_of bytes) refl none))
+    (said_told (Some plan.changes) lanes bytes)
 
 beside_by : (lanes : Bool) (plan : SavedPlan) (bytes : List ℕ) (b : Bool) → has_refusal (script_findings (Some plan.changes) bytes) ≡ b
-    → AreTold IsRead (tree_of bytes) (if b then [] else refusals_of lanes bytes (script_of plan bytes) (never_beginning_of plan bytes))
-beside_by lanes plan bytes true is = none_told IsRead (tree_of bytes)
+    → AreTold IsRead (tree_of bytes)
+    (if b then waits_said lanes (Some plan.changes) bytes else refusals_of lanes plan.changes bytes (script_of plan bytes) (never_beginning_of plan bytes))
+beside_by lanes plan bytes true is = said_told (Some plan.changes) lanes bytes
 beside_by lanes plan bytes false is = refusals_told lanes plan bytes (script_of plan bytes) refl (ap not is)
 
 pub given_told : (lanes : Bool) (plan : Result SavedPlan PlanError) (bytes : List ℕ) → AreTold IsRead (tree_of bytes) (given_findings lanes plan (Some bytes))
-given_told lanes (Err refusal) bytes = script_told None bytes
+given_told lanes (Err refusal) bytes =
+    both_told IsRead (tree_of bytes) (script_findings None bytes) (waits_said lanes None bytes) (script_told None bytes) (said_told None lanes bytes)
 given_told lanes (Ok plan) bytes =
     both_told IsRead (tree_of bytes) (script_findings (Some plan.changes) bytes) (beside_plan lanes plan bytes) (script_told (Some plan.changes) bytes)
     (beside_by lanes plan bytes (has_refusal (script_findings (Some plan.changes) bytes)) refl)

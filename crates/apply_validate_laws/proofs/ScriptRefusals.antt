@@ -33,7 +33,7 @@ use Rattle.apply_validate.specs.PlanFindings.{first_named, name_read}
 use Rattle.apply_validate.specs.ScriptFindings.{in_entry, in_entry_behind, in_script, script_names}
 use Rattle.apply_validate.specs.Walks.{fault_of, items_at, items_behind, known, lack, member_at, unread}
 use Rattle.apply_validate.specs.Wants.{is_met}
-use Rattle.apply_validate.specs.Whole.{behind_first, beside_plan, entry_of_refusal, given_findings, refusals_of, refused_for, script_findings, stuck_entries}
+use Rattle.apply_validate.specs.Whole.{behind_first, beside_plan, entry_of_refusal, given_findings, refusals_of, refused_for, script_findings, stuck_entries, waits_said}
 use Rattle.apply_validate_laws.specs.Laws.{has_refusal, has_script_refusal, is_entry, names_entry, tells_of_entry, tells_of_script}
 use Rattle.apply_validate_laws.proofs.Alike.{Alike, AlikeItems, both_trees, bytes_alike, member_alike, object_alike}
 use Rattle.apply_validate_laws.proofs.Besides.{all_waits_same, name_same}
@@ -168,10 +168,12 @@ not_json false found None small none = refl
 not_json false found (Some d) small none = absurd cc
 
 -- what a run refuses comes first of what is told beside the plan
-first_beside : (lanes : Bool) (bytes : List ℕ) (refusal : ScriptError) (stuck : Result (List ℕ) ScriptError) (p : Finding → Bool)
-    → list_any p (refused_for refusal) ≡ true
-    → list_any p (refusals_of lanes bytes (Err refusal) stuck) ≡ true
-first_beside lanes bytes refusal stuck p told = any_left p (refused_for refusal) (stuck_entries (behind_first stuck)) told
+first_beside : (lanes : Bool) (changes : List ResourceChange) (bytes : List ℕ) (refusal : ScriptError) (stuck : Result (List ℕ) ScriptError)
+    (p : Finding → Bool) → list_any p (refused_for refusal) ≡ true
+    → list_any p (refusals_of lanes changes bytes (Err refusal) stuck) ≡ true
+first_beside lanes changes bytes refusal stuck p told =
+    any_left p (refused_for refusal ++ stuck_entries (behind_first stuck)) (waits_said lanes (Some changes) bytes)
+    (any_left p (refused_for refusal) (stuck_entries (behind_first stuck)) told)
 
 never_told : (n : ℕ) → list_any (is_told (NeverBegins n)) (refused_for (NeverBegins n)) ≡ true
 never_told n = rw (same_number n) refl
@@ -211,11 +213,11 @@ module _ (lanes : Bool) (plan : SavedPlan) (bytes : List ℕ) (refusal : ScriptE
       let script : OutcomeMap = by_number (length plan.changes) entries in
       let it = never script (position_from (is_stuck script) 0 entries) refusal e in
       let stuck : Result (List ℕ) ScriptError = never_beginning_of plan bytes in
-      let beside : beside_plan lanes plan bytes ≡ refusals_of lanes bytes (Err refusal) stuck =
-      rw none (ap (λ (q : Result OutcomeMap ScriptError). refusals_of lanes bytes q stuck) refused) in
+      let beside : beside_plan lanes plan bytes ≡ refusals_of lanes plan.changes bytes (Err refusal) stuck =
+      rw none (ap (λ (q : Result OutcomeMap ScriptError). refusals_of lanes plan.changes bytes q stuck) refused) in
       any_right (is_told refusal) (script_findings (Some plan.changes) bytes) (beside_plan lanes plan bytes)
       (ap (list_any (is_told refusal)) beside
-      ∙ first_beside lanes bytes refusal stuck (is_told refusal) (ap (λ (x : ScriptError). list_any (is_told x) (refused_for x)) (sym it.1) ∙ never_told it.0))
+      ∙ first_beside lanes plan.changes bytes refusal stuck (is_told refusal) (ap (λ (x : ScriptError). list_any (is_told x) (refused_for x)) (sym it.1) ∙ never_told it.0))
 
   of_entries : (k : Data) (es : Items) → nat_lt max_bytes (length bytes) ≡ false → keeping_tree_of is_kept bytes ≡ Some k → elements_of k ≡ Some es
       → script_of_entries plan (list_of es) ≡ Err refusal → IsFound lanes plan bytes refusal

@@ -17,7 +17,7 @@ use Rattle.apply_plan.specs.Script.Entry.{is_kept}
 use Rattle.apply_plan.specs.Script.NeverBeginning.{elements_in, elements_of_tree, never_beginning_in, never_beginning_of}
 use Rattle.apply_plan.specs.Script.OutcomeMap.{Said, by_number, elements_of, entry_at, is_stuck, script_of, script_of_entries, script_of_tree, unless_stuck}
 use Rattle.apply_validate.specs.declared.findings.finding.Finding.{Finding}
-use Rattle.apply_validate.specs.Whole.{behind_first, beside_plan, given_findings, refusals_of, refused_for, script_findings, stuck_entries}
+use Rattle.apply_validate.specs.Whole.{behind_first, beside_plan, given_findings, refusals_of, refused_for, script_findings, stuck_entries, waits_said}
 use Rattle.apply_validate_laws.specs.Laws.{has_refusal}
 use Rattle.apply_validate_laws.proofs.Refusals.{whole_clean}
 use Rattle.apply_validate_laws.proofs.RefusalsPlaced.{numbers_one}
@@ -103,10 +103,12 @@ script_refused plan bytes n numbers e =
     (of_entries plan n numbers (all_or_first (each_with_earlier (entry_at plan.changes) (list_of read.elements))) read.numbers_are)
 
 pub each_stuck : (lanes : Bool) (plan : SavedPlan) (bytes numbers : List ℕ) → never_beginning_of plan bytes ≡ Ok numbers → 0 < length numbers
-    → given_findings lanes (Ok plan) (Some bytes) ≡ script_findings (Some plan.changes) bytes ++ stuck_entries numbers
+    → given_findings lanes (Ok plan) (Some bytes)
+    ≡ script_findings (Some plan.changes) bytes ++ (stuck_entries numbers ++ waits_said lanes (Some plan.changes) bytes)
 each_stuck lanes plan bytes [] e more = absurd (omega arith)
 each_stuck lanes plan bytes (n ∷ numbers) e more =
-    let told : refusals_of lanes bytes (script_of plan bytes) (never_beginning_of plan bytes) ≡ stuck_entries (n ∷ numbers) =
-    ap (λ (q : Result OutcomeMap ScriptError). refusals_of lanes bytes q (never_beginning_of plan bytes)) (script_refused plan bytes n numbers e)
-    ∙ ap (λ (stuck : Result (List ℕ) ScriptError). refused_for (NeverBegins n) ++ stuck_entries (behind_first stuck)) e in
+    let waits : List Finding = waits_said lanes (Some plan.changes) bytes in
+    let told : refusals_of lanes plan.changes bytes (script_of plan bytes) (never_beginning_of plan bytes) ≡ stuck_entries (n ∷ numbers) ++ waits =
+    ap (λ (q : Result OutcomeMap ScriptError). refusals_of lanes plan.changes bytes q (never_beginning_of plan bytes)) (script_refused plan bytes n numbers e)
+    ∙ ap (λ (stuck : Result (List ℕ) ScriptError). refused_for (NeverBegins n) ++ stuck_entries (behind_first stuck) ++ waits) e in
     ap (λ (xs : List Finding). script_findings (Some plan.changes) bytes ++ xs) (rw (alone plan bytes (n ∷ numbers) e) told)

@@ -18,7 +18,7 @@ use Rattle.apply_validate.specs.declared.findings.what.What.TheVariants.{NotJson
 use Rattle.apply_validate.specs.Findings.{finding_here}
 use Rattle.apply_validate.specs.ScriptFindings.{in_script}
 use Rattle.apply_validate.specs.Walks.{is_known, texts_in}
-use Rattle.apply_validate.specs.Whole.{beside_plan, given_findings, script_findings}
+use Rattle.apply_validate.specs.Whole.{beside_plan, given_findings, script_findings, waits_said}
 use Rattle.apply_validate_laws.specs.Paths.{value_at}
 use Rattle.apply_validate_laws.specs.Unread.{IsRead, IsUnread, entry, failure, failure_of_provisioner, output, provisioner, step, top, wait, warning, warning_at}
 use Rattle.apply_validate_laws.proofs.BytesPlaced.{AreTold}
@@ -45,7 +45,8 @@ in_findings changes script tree path small is h =
 
 pub in_given : (lanes : Bool) (plan : Result SavedPlan PlanError) (script : List ℕ) (tree : Data) (path : List Part) → nat_lt max_bytes (length script) ≡ false → tree_of script ≡ Some tree → IsUnread IsRead tree path
     → Has (warning_at path) (given_findings lanes plan (Some script))
-in_given lanes (Err refusal) script tree path small is h = in_findings None script tree path small is h
+in_given lanes (Err refusal) script tree path small is h =
+    has_left (warning_at path) (script_findings None script) (waits_said lanes None script) (in_findings None script tree path small is h)
 in_given lanes (Ok plan) script tree path small is h =
     has_left (warning_at path) (script_findings (Some plan.changes) script) (beside_plan lanes plan script) (in_findings (Some plan.changes) script tree path small is h)
 

@@ -14,7 +14,7 @@ ghost use Rattle.apply_validate.specs.declared.form.Form.{Form};
 ghost use Rattle.apply_validate.specs.declared.form.Form.TheVariants.{Terraform};
 ghost use Rattle.apply_validate.specs.InForm.{findings_in};
 ghost use Rattle.apply_validate_laws.specs.Laws.{are_script, has_refusal, has_refusal_in, has_refusal_of, has_refusal_to, has_script_refusal, run_refuses, run_refuses_in};
-ghost use Rattle.apply_validate.specs.Whole.{behind_first, entry_of_refusal, given_findings, plan_findings, refused_for, script_findings, stuck_entries};
+ghost use Rattle.apply_validate.specs.Whole.{behind_first, entry_of_refusal, given_findings, plan_findings, refused_for, script_findings, stuck_entries, waits_said};
 
 /// Something is found in a plan for which a run refuses, exactly where a run refuses it.
 pub fn findings_of_plans_are_refusals()
@@ -47,17 +47,20 @@ pub fn the_refusal_of_a_run_is_found_in_its_entry()
 {}
 
 /// Where nothing else is found in a script for which a run refuses, what it refuses is told behind the warnings, and behind that each
-/// further entry that has a step which could never begin.
+/// further entry that has a step which could never begin, and that steps wait without lanes.
 pub fn the_refusal_of_a_run_is_found()
     ensures { (lanes : Bool) (plan : SavedPlan) (bytes : List ℕ) (refusal : ScriptError) → has_refusal (script_findings (Some plan.changes) bytes) ≡ false
         → script_of plan bytes ≡ Err refusal → given_findings lanes (Ok plan) (Some bytes)
-        ≡ script_findings (Some plan.changes) bytes ++ (refused_for refusal ++ stuck_entries (behind_first (never_beginning_of plan bytes))) }
+        ≡ script_findings (Some plan.changes) bytes ++ (refused_for refusal ++ stuck_entries (behind_first (never_beginning_of plan bytes))
+            ++ waits_said lanes (Some plan.changes) bytes) }
 {}
 
-/// Where a run refuses a script for steps that could never begin, each entry that has one is told, in their order, behind the warnings.
+/// Where a run refuses a script for steps that could never begin, each entry that has one is told, in their order, behind the warnings,
+/// and behind them that steps wait without lanes.
 pub fn each_entry_that_never_begins_is_found()
     ensures { (lanes : Bool) (plan : SavedPlan) (bytes numbers : List ℕ) → never_beginning_of plan bytes ≡ Ok numbers → 0 < length numbers
-        → given_findings lanes (Ok plan) (Some bytes) ≡ script_findings (Some plan.changes) bytes ++ stuck_entries numbers }
+        → given_findings lanes (Ok plan) (Some bytes)
+        ≡ script_findings (Some plan.changes) bytes ++ (stuck_entries numbers ++ waits_said lanes (Some plan.changes) bytes) }
 {}
 
 /// Of what a run in Terraform's form refuses of what a script says for that form alone, a finding is told where the refusal says:

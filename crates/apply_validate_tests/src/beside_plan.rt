@@ -159,14 +159,16 @@ script .changes[1].steps[1].seconds: is \"x\", and has to be a whole number from
 script .changes[2]: is about the change of .changes[1] again: \"a.c\"\n\
 script .changes[3].address: is missing, and has to be a text\n\
 warning: script .changes[3].addres: is not read; is \"address\" meant?\n\
-script .changes[4].address: is \"something.else\", which the plan does not change\n",
+script .changes[4].address: is \"something.else\", which the plan does not change\n\
+script .changes[0].steps[0].after: waits, which takes --parallelism\n",
         true,
     );
     of_script(
         &rt,
         alloc,
         r#"{"changes":[{"address":"a.c","steps":[{"seconds":1,"after":["a.c"]}]}]}"#,
-        "script .changes[0]: has a step that could never begin\n",
+        "script .changes[0]: has a step that could never begin\n\
+script .changes[0].steps[0].after: waits, which takes --parallelism\n",
         true,
     );
 }
@@ -196,18 +198,52 @@ script .changes[1].address: names an object that the plan does not change; at th
 }
 
 #[test]
+fn the_first_step_that_waits_names_a_change_with_steps(rt: HostRuntime) {
+    let alloc = rt.alloc();
+    let (text, refuses) = told(
+        &rt,
+        alloc,
+        QUIET,
+        Some(
+            r#"{"changes":[{"address":"a.d","deposed":"1f","steps":[{"seconds":1,"after":["a.n"]}]}]}"#,
+        ),
+        false,
+    );
+    assert_eq!(rt; text.as_str(), "plan and script are accepted\n");
+    assert_eq!(rt; refuses, false);
+    let (text, refuses) = told(
+        &rt,
+        alloc,
+        QUIET,
+        Some(
+            r#"{"changes":[{"address":"a.n","steps":[]},
+{"address":"a.d","deposed":"1f","steps":[{"seconds":"x","after":["a.n"]},{"seconds":1,"after":["a.n",{"address":"a.d","deposed":"1f"}]}]}]}"#,
+        ),
+        false,
+    );
+    assert_eq!(rt;
+        text.as_str(),
+        "script .changes[1].steps: has 2 steps, and the change has 1 step (delete)\n\
+script .changes[1].steps[0].seconds: is \"x\", and has to be a whole number from 0 to 86400\n\
+script .changes[1].steps[1].after: waits, which takes --parallelism\n"
+    );
+    assert_eq!(rt; refuses, true);
+}
+
+#[test]
 fn where_the_plan_is_refused_the_script_is_told_of_by_itself(rt: HostRuntime) {
     let alloc = rt.alloc();
     let (text, _) = told(
         &rt,
         alloc,
         "{}",
-        Some(r#"{"changes":[{"address":"a.x","steps":[{"seconds":-1}]}]}"#),
+        Some(r#"{"changes":[{"address":"a.x","steps":[{"seconds":-1,"after":["a.n"]}]}]}"#),
         false,
     );
     assert_eq!(rt;
         text.as_str(),
         "plan .format_version: is missing, and has to be a text that begins with \"1.\"\n\
-script .changes[0].steps[0].seconds: is -1, and has to be a whole number from 0 to 86400\n"
+script .changes[0].steps[0].seconds: is -1, and has to be a whole number from 0 to 86400\n\
+script .changes[0].steps[0].after: waits, which takes --parallelism\n"
     );
 }

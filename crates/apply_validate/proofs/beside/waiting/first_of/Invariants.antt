@@ -1,8 +1,10 @@
 use Rattle.std.proofs.Common.{◌≡◌, drop, map}
 use Rattle.std.specs.List.{position_from}
+use Rattle.std.specs.Option.{option_copied}
 use Rattle.serde_json.specs.View.{view}
 use Rattle.apply_validate.specs.Beside.{is_waiting}
 use Rattle.apply_validate.proofs.beside.waiting.first_of.Given as goal
 
 abbrev pub invariant-loop-number : goal.invariant-loop-number
-invariant-loop-number l = position_from is_waiting 0 (map view l.steps) ≡ position_from is_waiting l.number (map view (drop l.number l.steps))
+invariant-loop-number l =
+    position_from (is_waiting (option_copied l.planned)) 0 (map view l.steps) ≡ position_from (is_waiting (option_copied l.planned)) l.number (map view (drop l.number l.steps))

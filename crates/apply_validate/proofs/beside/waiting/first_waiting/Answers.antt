@@ -1,5 +1,6 @@
 use Rattle.std.proofs.Common.{List, ap, sym, ◌∙◌}
 use Rattle.std.specs.List.{position_from}
+use Rattle.std.specs.Option.{option_copied}
 use Rattle.serde_json.specs.Data.{Data}
 use Rattle.apply_validate.specs.Beside.{is_waiting}
 use Rattle.apply_validate.proofs.Trees.{listed}
@@ -7,4 +8,5 @@ use Rattle.apply_validate.proofs.beside.waiting.first_waiting.Goals as goal
 
 pub returns : goal.returns
 returns c =
-    c.first_of.ensures ∙ ap (λ (ds : List Data). position_from is_waiting 0 ds) (sym (listed c.items_at.result.now) ∙ c.items_at.ensures)
+    c.first_of.ensures
+    ∙ ap (λ (ds : List Data). position_from (is_waiting (option_copied c.args.planned)) 0 ds) (sym (listed c.items_at.result.now) ∙ c.items_at.ensures)
