@@ -217,7 +217,8 @@ module _ (lanes : Bool) (plan : SavedPlan) (bytes : List ℕ) (refusal : ScriptE
       rw none (ap (λ (q : Result OutcomeMap ScriptError). refusals_of lanes plan.changes bytes q stuck) refused) in
       any_right (is_told refusal) (script_findings (Some plan.changes) bytes) (beside_plan lanes plan bytes)
       (ap (list_any (is_told refusal)) beside
-      ∙ first_beside lanes plan.changes bytes refusal stuck (is_told refusal) (ap (λ (x : ScriptError). list_any (is_told x) (refused_for x)) (sym it.1) ∙ never_told it.0))
+      ∙ first_beside lanes plan.changes bytes refusal stuck (is_told refusal)
+      (ap (λ (x : ScriptError). list_any (is_told x) (refused_for x)) (sym it.1) ∙ never_told it.0))
 
   of_entries : (k : Data) (es : Items) → nat_lt max_bytes (length bytes) ≡ false → keeping_tree_of is_kept bytes ≡ Some k → elements_of k ≡ Some es
       → script_of_entries plan (list_of es) ≡ Err refusal → IsFound lanes plan bytes refusal

@@ -52,7 +52,7 @@ pub fn the_refusal_of_a_run_is_found()
     ensures { (lanes : Bool) (plan : SavedPlan) (bytes : List ℕ) (refusal : ScriptError) → has_refusal (script_findings (Some plan.changes) bytes) ≡ false
         → script_of plan bytes ≡ Err refusal → given_findings lanes (Ok plan) (Some bytes)
         ≡ script_findings (Some plan.changes) bytes ++ (refused_for refusal ++ stuck_entries (behind_first (never_beginning_of plan bytes))
-            ++ waits_said lanes (Some plan.changes) bytes) }
+        ++ waits_said lanes (Some plan.changes) bytes) }
 {}
 
 /// Where a run refuses a script for steps that could never begin, each entry that has one is told, in their order, behind the warnings,
