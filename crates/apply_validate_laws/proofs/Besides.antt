@@ -128,7 +128,7 @@ warns_by None p a = rw a refl
 warns_by (Some d) p a =
     rw (a.1) (word_same (codes "warning") (member_at name.Severity d) (member_at name.Severity a.0) (member_alike (codes "severity") refl d a.0 a.2))
 
-warns_same : (d k : Data) → Alike d k → only_warns d ≡ only_warns k
+pub warns_same : (d k : Data) → Alike d k → only_warns d ≡ only_warns k
 warns_same d k a = warns_by (member_at name.Failed d) (member_at name.Failed k) (member_alike (codes "failed") refl d k a)
 
 pub kind_same : (change : Option ResourceChange) (number : ℕ) (d k : Data) → Alike d k → clean (marked (kind_marks change number d)) ≡ fits_kind change number k
@@ -158,7 +158,7 @@ less most w r few = grind (arith, nat_tests)
 more : (most w r : ℕ) → nat_lt most w ≡ true → nat_lt most (w + r) ≡ true
 more most w r e = grind (arith, nat_tests)
 
-few_of : (most w : ℕ) → nat_lt most w ≡ false → w ≤ most
+pub few_of : (most w : ℕ) → nat_lt most w ≡ false → w ≤ most
 few_of most w e = grind (arith, nat_tests)
 
 by_room : (b : Bool) (n most w r : ℕ) (xs : List Finding) → nat_lt most w ≡ b → clean xs ≡ not (nat_lt (most - w) r)
@@ -171,7 +171,7 @@ by_room true n most w r xs e is =
     one ∙ ap not (sym (more most w r e))
 by_room false n most w r xs e is = is ∙ ap not (less most w r (few_of most w e))
 
-none_over : (most : ℕ) → nat_lt most 0 ≡ false
+pub none_over : (most : ℕ) → nat_lt most 0 ≡ false
 none_over most = grind (arith, nat_tests)
 
 clean_beyond : (most n : ℕ) (ds : List Data) → clean (waits_beyond most n ds) ≡ not (nat_lt most (sum_by waits_in ds))

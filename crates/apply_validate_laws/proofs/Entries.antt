@@ -117,14 +117,14 @@ flipped one other = ⊎_elim
     (cases_Bool (same_object other one)))
     (cases_Bool (same_object one other))
 
-abbrev name_of_change : ResourceChange → Named
+abbrev pub name_of_change : ResourceChange → Named
 name_of_change change = (change.address, change.deposed)
 
 by_pass : (test : ResourceChange → Bool) (change x : ResourceChange) (b : Bool) (o : Option ResourceChange) → test change ≡ b → (o ≡ Some x → test x ≡ true) → cond b (Some change) o ≡ Some x → test x ≡ true
 by_pass test change x true o is rest e = ap test (sym (some_is change x e)) ∙ is
 by_pass test change x false o is rest e = rest e
 
-found_passes : (test : ResourceChange → Bool) (changes : List ResourceChange) (x : ResourceChange) → find test changes ≡ Some x → test x ≡ true
+pub found_passes : (test : ResourceChange → Bool) (changes : List ResourceChange) (x : ResourceChange) → find test changes ≡ Some x → test x ≡ true
 found_passes test [] x e = absurd cc
 found_passes test (change ∷ changes) x e = by_pass test change x (test change) (find test changes) refl (found_passes test changes x) e
 
@@ -132,11 +132,11 @@ by_test : (b : Bool) (n : ℕ) (o : Option ℕ) (r : Bool) → is_some o ≡ r �
 by_test true n o r e = refl
 by_test false n o r e = e
 
-any_first : (test : Option Named → Bool) (n : ℕ) (names : List (Option Named)) → is_some (position_from test n names) ≡ list_any test names
+pub any_first : (test : Option Named → Bool) (n : ℕ) (names : List (Option Named)) → is_some (position_from test n names) ≡ list_any test names
 any_first test n [] = refl
 any_first test n (x ∷ names) = by_test (test x) n (position_from test (n + 1) names) (list_any test names) (any_first test (n + 1) names)
 
-named_before : (change : ResourceChange) (before : List Data) → list_all is_entry before ≡ true
+pub named_before : (change : ResourceChange) (before : List Data) → list_all is_entry before ≡ true
     → list_any (is_named (name_of_change change)) (map name_read before) ≡ list_any (names_change change) before
 named_before change [] are = refl
 named_before change (d ∷ ds) are =
@@ -158,7 +158,7 @@ one_count d is =
     ap (λ (o : Option Entry). option_map_or (λ entry. count_of_waits entry.steps) o 0) it.1
     ∙ sym (ap (sum_by waits_in) read.listed ∙ waits_read read.items it.0.steps read.steps)
 
-counts_before : (before : List Data) → list_all is_entry before ≡ true → sum_by count_in before ≡ sum_by waits_in_all before
+pub counts_before : (before : List Data) → list_all is_entry before ≡ true → sum_by count_in before ≡ sum_by waits_in_all before
 counts_before [] are = refl
 counts_before (d ∷ ds) are =
     sum_by-cons count_in d ds
@@ -184,13 +184,13 @@ either_none : (a b : Option ScriptError) → is_none (option_or a b) ≡ (is_non
 either_none None b = refl
 either_none (Some x) b = refl
 
-abbrev any_of : (Outcome → Bool) → List EntryStep → Bool
+abbrev pub any_of : (Outcome → Bool) → List EntryStep → Bool
 any_of test steps = list_any (passes test) (outcomes steps)
 
-abbrev misplaced : (deposed : Bool) → List StepKind → List EntryStep → Bool
+abbrev pub misplaced : (deposed : Bool) → List StepKind → List EntryStep → Bool
 misplaced deposed kinds steps = list_any (misplaces_provisioners deposed) (zip (enumerate_from 0 kinds) (outcomes steps))
 
-abbrev warned : List StepKind → List EntryStep → Bool
+abbrev pub warned : List StepKind → List EntryStep → Bool
 warned kinds steps = list_any warns_not_a_read (zip (enumerate_from 0 kinds) (outcomes steps))
 
 steps_taken : (n : ℕ) (deposed : Bool) (kinds : List StepKind) (steps : List EntryStep)

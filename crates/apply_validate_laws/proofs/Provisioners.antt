@@ -116,7 +116,7 @@ one_of true xs ys e = some_is xs ys e
 one_of false xs ys e = absurd cc
 
 -- as many texts as items
-texts_read : (s : ℕ) (o : Option Data) (texts : List TimedText) → (each_of output_from o >>= timed_outputs s) ≡ Some texts
+pub texts_read : (s : ℕ) (o : Option Data) (texts : List TimedText) → (each_of output_from o >>= timed_outputs s) ≡ Some texts
     → length (option_map_or (λ value. list_of (items_in value)) o []) ≡ length texts
 texts_read s o texts e =
     let items = bind_some (each_of output_from o) (timed_outputs s) texts e in

@@ -54,7 +54,7 @@ some_is x y e = cc
 err_is : {A E : Type 0} (x y : E) → (let r : Result A E = Err x in r) ≡ Err y → x ≡ y
 err_is x y e = cc
 
-same_number : (n : ℕ) → nat_eq n n ≡ true
+pub same_number : (n : ℕ) → nat_eq n n ≡ true
 same_number n = grind (arith, nat_tests)
 
 -- ---- findings of an item
@@ -162,7 +162,7 @@ of_read : (n : ℕ) (changes : List ResourceChange) (before : List Data) (o : Op
 of_read n changes before None refusal e = ap entry_of_refusal (sym (err_is (BadShape (Some n)) refusal e))
 of_read n changes before (Some entry) refusal e = of_found n changes before entry (change_of_entry changes entry) refusal e
 
-entry_number : (changes : List ResourceChange) (before : List Data) (d : Data) (refusal : ScriptError) → entry_at changes before d ≡ Err refusal → entry_of_refusal refusal ≡ Some (length before)
+pub entry_number : (changes : List ResourceChange) (before : List Data) (d : Data) (refusal : ScriptError) → entry_at changes before d ≡ Err refusal → entry_of_refusal refusal ≡ Some (length before)
 unfolding entry_at
 entry_number changes before d refusal e = of_read (length before) changes before (entry_of d) refusal e
 
@@ -179,7 +179,7 @@ of_rest (Ok xs) x refusal e = absurd cc
 of_rest (Err y) x refusal e = ap (λ (z : ScriptError). let r : Result (List Said) ScriptError = Err z in r) (err_is y refusal e)
 
 -- what is refused of a list: its first, or one behind it
-first_or_later : (r : Result Said ScriptError) (rs : List (Result Said ScriptError)) (refusal : ScriptError) (G : Type 0) → all_or_first (r ∷ rs) ≡ Err refusal
+pub first_or_later : (r : Result Said ScriptError) (rs : List (Result Said ScriptError)) (refusal : ScriptError) (G : Type 0) → all_or_first (r ∷ rs) ≡ Err refusal
     → (r ≡ Err refusal → G) → (is_ok r ≡ true → all_or_first rs ≡ Err refusal → G) → G
 first_or_later (Err x) rs refusal G e first later = first (ap (λ (y : ScriptError). let r : Result Said ScriptError = Err y in r) (err_is x refusal e))
 first_or_later (Ok x) rs refusal G e first later = later refl (of_rest (all_or_first rs) x refusal e)
@@ -262,11 +262,11 @@ array_of (string s) k a es e = absurd (let never : as_array (string s) ≡ Some 
 array_of (array ds) k a es e = (ds, refl, subst (AlikeItems ds) (some_is a.0 es (ap as_array (sym a.1) ∙ e)) a.2)
 array_of (object ms) k a es e = absurd (let never : as_array (object a.0) ≡ Some es = ap as_array (sym a.1) ∙ e in cc)
 
-arrays : (o p : Option Data) → AreAlike o p → (es : Items) → (p >>= as_array) ≡ Some es → (ds : Items) × (listed_in o ≡ list_of ds) × AlikeItems ds es
+pub arrays : (o p : Option Data) → AreAlike o p → (es : Items) → (p >>= as_array) ≡ Some es → (ds : Items) × (listed_in o ≡ list_of ds) × AlikeItems ds es
 arrays None p a es e = absurd (let never : (let q : Option Items = None in q) ≡ Some es = ap (λ (q : Option Data). q >>= as_array) (sym a) ∙ e in cc)
 arrays (Some d) p a es e = array_of d a.0 a.2 es (ap (λ (q : Option Data). q >>= as_array) (sym a.1) ∙ e)
 
-is_object : (n : List ℕ) (k : Data) (es : Items) → (member_of n k >>= as_array) ≡ Some es → is_some (as_object k) ≡ true
+pub is_object : (n : List ℕ) (k : Data) (es : Items) → (member_of n k >>= as_array) ≡ Some es → is_some (as_object k) ≡ true
 is_object n null es e = absurd cc
 is_object n (boolean b) es e = absurd cc
 is_object n (number z) es e = absurd cc
@@ -288,7 +288,7 @@ told_bytes : (large : Bool) (changes : List ResourceChange) (n : ℕ) (o : Optio
     → has_refusal_in n (cond large (finding_here what.TooManyBytes ∷ []) (option_map_or (in_script (Some changes)) o (finding_here what.NotJson ∷ []))) ≡ true
 told_bytes large changes n o d small is found = rw (small, is) found
 
-tree_there : (o : Option Data) → is_some o ≡ true → (d : Data) × (o ≡ Some d)
+pub tree_there : (o : Option Data) → is_some o ≡ true → (d : Data) × (o ≡ Some d)
 tree_there None e = absurd cc
 tree_there (Some d) e = (d, refl)
 

@@ -289,7 +289,7 @@ all_found : (ks : List Data) → list_all (is_found None) ks ≡ true
 all_found [] = refl
 all_found (k ∷ ks) = all_found ks
 
-waits_free : (o : Option Data) → is_absent_or (all_items (is_found None)) o ≡ true
+pub waits_free : (o : Option Data) → is_absent_or (all_items (is_found None)) o ≡ true
 waits_free None = refl
 waits_free (Some d) = all_found (list_of (items_in d))
 

@@ -34,7 +34,7 @@ use Rattle.apply_validate_laws.proofs.Provisioners.{all_seconds_read, clean_grow
 use Rattle.apply_validate_laws.proofs.Wanted.{each_fits, each_is}
 
 -- none of the tests of a step by itself holds
-unfoldable untouched : (failed id warning : Bool) (count seconds : ℕ) → Bool
+unfoldable pub untouched : (failed id warning : Bool) (count seconds : ℕ) → Bool
 untouched failed id warning count seconds =
     not (failed && id) && (not (failed && warning) && (not (failed && nat_lt 0 count)
     && (not (nat_lt max_seconds seconds) && (not (nat_lt max_provisioners count) && true))))
@@ -43,11 +43,11 @@ same_tests : (f g i j w v : Bool) (c d s t : ℕ) → f ≡ g → i ≡ j → w 
 same_tests f g i j w v c d s t e1 e2 e3 e4 e5 = cc
 
 -- nor one of those of a step that is skipped
-unfoldable alone : (skipped told id warning failed : Bool) (count : ℕ) → Bool
+unfoldable pub alone : (skipped told id warning failed : Bool) (count : ℕ) → Bool
 alone skipped told id warning failed count =
     not (skipped && told) && (not (skipped && id) && (not (skipped && warning) && (not (skipped && failed) && (not (skipped && nat_lt 0 count) && true))))
 
-same_alone : (x y t u i j w v f g : Bool) (c d : ℕ) → x ≡ y → t ≡ u → i ≡ j → w ≡ v → f ≡ g → c ≡ d → alone x t i w f c ≡ alone y u j v g d
+pub same_alone : (x y t u i j w v f g : Bool) (c d : ℕ) → x ≡ y → t ≡ u → i ≡ j → w ≡ v → f ≡ g → c ≡ d → alone x t i w f c ≡ alone y u j v g d
 same_alone x y t u i j w v f g c d e1 e2 e3 e4 e5 e6 = cc
 
 some_is : {A : Type 0} (x y : A) → Some x ≡ Some y → x ≡ y
@@ -59,15 +59,15 @@ some_read : {A : Type 0} (r fo : Option A) → option_map (λ (x : A). Some x) r
 some_read None fo e = absurd cc
 some_read {A} (Some x) fo e = ap (λ (o : Option A). is_some o) (some_is (Some x) fo e)
 
-diagnostic_there : (o : Option Data) (fo : Option Diag) → diag_or_none o ≡ Some fo → is_some o ≡ is_some fo
+pub diagnostic_there : (o : Option Data) (fo : Option Diag) → diag_or_none o ≡ Some fo → is_some o ≡ is_some fo
 diagnostic_there None fo e = ap (λ (r : Option Diag). is_some r) (some_is None fo e)
 diagnostic_there (Some d) fo e = some_read (diag_from d) fo e
 
-failure_there : (o : Option Data) (fo : Option Failure) → failure_or_none o ≡ Some fo → is_some o ≡ is_some fo
+pub failure_there : (o : Option Data) (fo : Option Failure) → failure_or_none o ≡ Some fo → is_some o ≡ is_some fo
 failure_there None fo e = ap (λ (r : Option Failure). is_some r) (some_is None fo e)
 failure_there (Some d) fo e = some_read (failure_from d) fo e
 
-id_there : (o : Option Data) (t : List ℕ) → text_or [] o ≡ Some t → is_some (o >>= as_str >>= unless_empty) ≡ is_some (unless_empty t)
+pub id_there : (o : Option Data) (t : List ℕ) → text_or [] o ≡ Some t → is_some (o >>= as_str >>= unless_empty) ≡ is_some (unless_empty t)
 id_there None t e = ap (λ (x : List ℕ). is_some (unless_empty x)) (some_is [] t e)
 id_there (Some d) t e = ap (λ (x : Option (List ℕ)). is_some (x >>= unless_empty)) e
 
@@ -122,7 +122,7 @@ silent : (told : Bool) (after : List WaitName) (ps : List Provisioner) (result :
 silent told after ps None = refl
 silent told after ps (Some r) = refl
 
-abbrev given : Option ℕ → ℕ
+abbrev pub given : Option ℕ → ℕ
 given s = unwrap_or s 0
 
 skips_none : (told : Bool) (s : Option ℕ) (ps : List Provisioner) (after : List WaitName) → (told ≡ false → s ≡ None)
@@ -169,7 +169,7 @@ skips told s (Some id) w (Some f) ps after none =
     none_of (little ps) (untouched true true (is_some w) (length ps) (given s + seconds_of_all ps)) (alone true told true (is_some w) true (length ps)) (touched told true (is_some w) true (length ps) refl)
 
 -- seconds are asked for where the step is not skipped
-abbrev timed : (skipped : Bool) → Option ℕ → Bool
+abbrev pub timed : (skipped : Bool) → Option ℕ → Bool
 timed skipped s = skipped || is_some s
 
 -- nothing is asked of a step that is not
@@ -191,16 +191,16 @@ ends false told (Some s) id warning failed ps after none =
 -- ---- the step
 
 -- what is found of it, by its parts
-abbrev parts : (timed id warning failed provisioners tests flag tests_skipped after : Bool) → Bool
+abbrev pub parts : (timed id warning failed provisioners tests flag tests_skipped after : Bool) → Bool
 parts timed id warning failed provisioners tests flag tests_skipped after =
     timed && (id && (warning && (failed && (provisioners && (tests && (flag && (tests_skipped && after)))))))
 
-abbrev step_read : (q : Option Bool) (told : Bool) (s : Option ℕ) (id : Option (List ℕ)) (warning : Option (Option Diag)) (failed : Option (Option Failure)) (ps : Option (List Provisioner)) (after : Option (List WaitName)) → Option EntryStep
+abbrev pub step_read : (q : Option Bool) (told : Bool) (s : Option ℕ) (id : Option (List ℕ)) (warning : Option (Option Diag)) (failed : Option (Option Failure)) (ps : Option (List Provisioner)) (after : Option (List WaitName)) → Option EntryStep
 step_read q told s id warning failed ps after =
     q >>= λ skipped. (id >>= λ t. warning >>= λ w. failed >>= λ f. ending_from (unless_empty t) w f) >>= λ r. ps >>= λ l. after >>= λ a.
     (if skipped then skipped_with told r l else answered_with s r l) >>= λ o. Some (let step : EntryStep = record { outcome = o; after = a } in step)
 
-abbrev fit : Option EntryStep → Bool
+abbrev pub fit : Option EntryStep → Bool
 fit step = option_map_or is_within_limits step false
 
 no_flag : (timed id warning failed provisioners tests tests_skipped after : Bool) → parts timed id warning failed provisioners tests false tests_skipped after ≡ false
@@ -218,7 +218,7 @@ last_out true false tests tests_skipped = refl
 last_out true true false tests_skipped = refl
 last_out true true true tests_skipped = and_false tests_skipped
 
-reads : (q : Option Bool) (skipped told : Bool) (s : Option ℕ) (id : Option (List ℕ)) (warning : Option (Option Diag)) (failed : Option (Option Failure)) (ps : Option (List Provisioner)) (after : Option (List WaitName)) (tests tests_skipped : Bool)
+pub reads : (q : Option Bool) (skipped told : Bool) (s : Option ℕ) (id : Option (List ℕ)) (warning : Option (Option Diag)) (failed : Option (Option Failure)) (ps : Option (List Provisioner)) (after : Option (List WaitName)) (tests tests_skipped : Bool)
     → (told ≡ false → s ≡ None)
     → ((b : Bool) → q ≡ Some b → skipped ≡ b)
     → ((t : List ℕ) (w : Option Diag) (f : Option Failure) (l : List Provisioner) → id ≡ Some t → warning ≡ Some w → failed ≡ Some f → ps ≡ Some l
@@ -250,11 +250,11 @@ is_step k = fit (step_from k)
 
 -- ---- its parts, of the tree that a run reads
 
-silent_read : (o : Option Data) → is_some o ≡ false → (o >>= as_number >>= as_u64) ≡ None
+pub silent_read : (o : Option Data) → is_some o ≡ false → (o >>= as_number >>= as_u64) ≡ None
 silent_read None e = refl
 silent_read (Some d) e = absurd cc
 
-flag_read : (o : Option Data) (b : Bool) → flag_or_false o ≡ Some b → option_map_or (λ flag. flag) (option_and_then as_bool o) false ≡ b
+pub flag_read : (o : Option Data) (b : Bool) → flag_or_false o ≡ Some b → option_map_or (λ flag. flag) (option_and_then as_bool o) false ≡ b
 flag_read None b e = some_is false b e
 flag_read (Some d) b e = ap (λ (x : Option Bool). option_map_or (λ flag. flag) x false) e
 
@@ -290,7 +290,7 @@ tests_same d k a =
       same_alone _ _ _ _ _ _ _ _ _ _ _ _ (flag_same (codes "skipped") refl d k a) (is_there_same (codes "seconds") refl d k a) id warning failed count,
     )
 
-table_clean : (skipped : Bool) (d k : Data) → Alike d k → clean (faults_of (step_table skipped) d) ≡ (timed skipped (seconds_of k) && is_some (text_or [] (member_of (codes "id") k)))
+pub table_clean : (skipped : Bool) (d k : Data) → Alike d k → clean (faults_of (step_table skipped) d) ≡ (timed skipped (seconds_of k) && is_some (text_or [] (member_of (codes "id") k)))
 table_clean true d k a = clean-faults_of (known name.Id want.TextOrAbsent ∷ []) d ∙ and_true (is_met want.TextOrAbsent (member_of (codes "id") d)) ∙ text_or_there (codes "id") refl d k a
 table_clean false d k a =
     two (known name.Seconds want.Seconds) (known name.Id want.TextOrAbsent) d
@@ -298,7 +298,7 @@ table_clean false d k a =
     ∙ ap (λ (b : Bool). is_some (seconds_of k) && b) (text_or_there (codes "id") refl d k a)
 
 -- the two walks over the provisioners, apart from one another
-apart : (t i w f listed first tests flag skipped growth after all : Bool) → (first && growth) ≡ all
+pub apart : (t i w f listed first tests flag skipped growth after all : Bool) → (first && growth) ≡ all
     → (((((((((t && i) && w) && f) && (listed && first)) && tests) && flag) && skipped) && growth) && after) ≡ parts t i w f (listed && all) tests flag skipped after
 apart false i w f listed first tests flag skipped growth after all e = refl
 apart true false w f listed first tests flag skipped growth after all e = refl
@@ -322,7 +322,7 @@ both_items : (p q : Data → Bool) (ks : List Data) → list_all (λ e. p e && q
 both_items p q [] = refl
 both_items p q (k ∷ ks) = ap (λ (b : Bool). (p k && q k) && b) (both_items p q ks) ∙ crossed (p k) (q k) (list_all p ks) (list_all q ks)
 
-both_absent : (p q : Data → Bool) (o : Option Data) → is_absent_or (all_items (λ e. p e && q e)) o ≡ (is_absent_or (all_items p) o && is_absent_or (all_items q) o)
+pub both_absent : (p q : Data → Bool) (o : Option Data) → is_absent_or (all_items (λ e. p e && q e)) o ≡ (is_absent_or (all_items p) o && is_absent_or (all_items q) o)
 both_absent p q None = refl
 both_absent p q (Some d) = both_items p q (list_of (items_in d))
 

@@ -100,7 +100,7 @@ ending_read d r e =
 
 -- ---- what comes of a step
 
-by_skip : (t n m : Bool) (o : Option Outcome) → (let x : Option (Option Outcome) = if t || (n || m) then None else Some None in x) ≡ Some o → (o ≡ None) × (n ≡ false) × (m ≡ false)
+pub by_skip : (t n m : Bool) (o : Option Outcome) → (let x : Option (Option Outcome) = if t || (n || m) then None else Some None in x) ≡ Some o → (o ≡ None) × (n ≡ false) × (m ≡ false)
 by_skip true n m o e = absurd cc
 by_skip false true m o e = absurd cc
 by_skip false false true o e = absurd cc
@@ -113,7 +113,7 @@ silent (Done (Some id) w) e = absurd cc
 silent (Failed diag) e = absurd cc
 silent (Warned diag) e = absurd cc
 
-by_answer : (b : Bool) (x : Outcome) (o : Option Outcome) → option_map (λ (y : Outcome). Some y) (let z : Option Outcome = if b then None else Some x in z) ≡ Some o → o ≡ Some x
+pub by_answer : (b : Bool) (x : Outcome) (o : Option Outcome) → option_map (λ (y : Outcome). Some y) (let z : Option Outcome = if b then None else Some x in z) ≡ Some o → o ≡ Some x
 by_answer true x o e = absurd cc
 by_answer false x o e = sym (some_is (Some x) o e)
 
@@ -170,7 +170,7 @@ abbrev pub outcomes : List EntryStep → List (Option Outcome)
 outcomes steps = map (λ step. step.outcome) steps
 
 -- one after another
-more_steps : (d : Data) (ds : List Data) (steps : List EntryStep) → all_some (map step_from (d ∷ ds)) ≡ Some steps
+pub more_steps : (d : Data) (ds : List Data) (steps : List EntryStep) → all_some (map step_from (d ∷ ds)) ≡ Some steps
     → (step : EntryStep) × (others : List EntryStep) × (step_from d ≡ Some step) × (all_some (map step_from ds) ≡ Some others) × (step ∷ others ≡ steps)
 more_steps d ds steps e =
     let one = bind_some (step_from d) (λ x. all_some (map step_from ds) >>= λ xs. Some (x ∷ xs)) steps e in
@@ -188,7 +188,7 @@ waits_read (d ∷ ds) steps e =
     ∙ sym (sum_by-cons (λ (step : EntryStep). length step.after) it.0 it.1)
     ∙ ap count_of_waits it.4
 
-at_drop : (n : ℕ) (all : List StepKind) (kind : StepKind) (kinds : List StepKind) → drop n all ≡ kind ∷ kinds → (slice_get all n ≡ Some kind) × (drop (suc n) all ≡ kinds)
+pub at_drop : (n : ℕ) (all : List StepKind) (kind : StepKind) (kinds : List StepKind) → drop n all ≡ kind ∷ kinds → (slice_get all n ≡ Some kind) × (drop (suc n) all ≡ kinds)
 at_drop zero all kind kinds e = (ap (λ (ks : List StepKind). slice_get ks 0) e, ap (λ (ks : List StepKind). drop (suc zero) ks) e)
 at_drop (suc n) [] kind kinds e = absurd cc
 at_drop (suc n) (k ∷ all) kind kinds e = at_drop n all kind kinds e
@@ -286,14 +286,14 @@ pub found_with : (test : ResourceChange → Bool) (n : ℕ) (changes : List Reso
 found_with test n [] = refl
 found_with test n (change ∷ changes) = by_found (test change) n change _ _ (found_with test (n + 1) changes)
 
-abbrev held : WaitName → ResourceChange → Bool
+abbrev pub held : WaitName → ResourceChange → Bool
 held w change = name_one_object change.address change.deposed w.address w.deposed
 
-none_with : (o : Option (ℕ × ResourceChange)) → is_none (option_map (λ p. p.1) o) ≡ is_none o
+pub none_with : (o : Option (ℕ × ResourceChange)) → is_none (option_map (λ p. p.1) o) ≡ is_none o
 none_with None = refl
 none_with (Some p) = refl
 
-lacks_with : (step : Option ℕ) (o : Option (ℕ × ResourceChange))
+pub lacks_with : (step : Option ℕ) (o : Option (ℕ × ResourceChange))
     → option_map_or (λ change. option_map_or (nat_le (length change.steps)) step false) (option_map (λ p. p.1) o) false
     ≡ option_map_or (λ p. option_map_or (λ number. nat_le (length p.1.steps) number) step false) o false
 lacks_with step None = refl

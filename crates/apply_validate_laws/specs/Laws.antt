@@ -30,6 +30,7 @@ use Rattle.apply_validate.specs.declared.findings.what.What.TheVariants as what
 use Rattle.apply_validate.specs.declared.form.Form.{Form}
 use Rattle.apply_validate.specs.declared.form.Form.TheVariants.{Applystream, Terraform}
 use Rattle.apply_validate.specs.Findings.{is_refusal}
+use Rattle.apply_validate.specs.Whole.{entry_of_refusal}
 
 -- one of them is something for which a run refuses
 abbrev pub has_refusal : List Finding → Bool
@@ -131,3 +132,66 @@ tells _ _ _ = false
 -- one of them is that for which a run refuses the plan
 abbrev pub has_refusal_of : PlanError → List Finding → Bool
 has_refusal_of refusal all = list_any (λ finding. is_refusal finding && tells refusal finding.path finding.what) all
+
+-- ---- what a run refuses a script for
+
+-- what is wrong is that a value or a member breaks its rule
+abbrev pub breaks_rule : What → Bool
+breaks_rule (what.IsNot wanted) = true
+breaks_rule (what.IsMissing wanted) = true
+breaks_rule what.BesideFailed = true
+breaks_rule what.BesideSkipped = true
+breaks_rule (what.BehindTheEnd seconds) = true
+breaks_rule (what.OutOfOrder seconds) = true
+breaks_rule _ = false
+
+-- what is wrong is that no change is of an object
+abbrev pub is_of_no_change : What → Bool
+is_of_no_change what.UnknownAddress = true
+is_of_no_change what.UnknownObject = true
+is_of_no_change _ = false
+
+-- what stands at that path in a step is wrong as a refusal of a script says of an entry
+abbrev pub tells_of_step : ScriptError → List Part → What → Bool
+tells_of_step (error.SecondsRange n) [] what.TooLong = true
+tells_of_step (error.TooManyProvisioners n) (Member name.Provisioners ∷ []) what.TooManyProvisioners = true
+tells_of_step (error.TooMuchOutput n) (Member name.Provisioners ∷ Item provisioner ∷ Member name.Output ∷ []) what.TooManyTexts = true
+tells_of_step (error.NotACreate n) (Member name.Provisioners ∷ []) (what.TakesNone kind) = true
+tells_of_step (error.WarnsNotARead n) (Member name.Failed ∷ []) (what.OnlyWarns kind) = true
+tells_of_step (error.TooManyWaits n) (Member name.After ∷ Item wait ∷ []) what.TooManyWaits = true
+tells_of_step (error.UnknownWait n) (Member name.After ∷ Item wait ∷ parts) found = is_of_no_change found
+tells_of_step (error.NoSuchStep n) (Member name.After ∷ Item wait ∷ Member name.Step ∷ []) (what.NoSuchStep one other) = true
+tells_of_step _ _ _ = false
+
+-- the same in an entry; of a change that an earlier entry is about, that entry is told
+abbrev pub tells_of_entry : ScriptError → List Part → What → Bool
+tells_of_entry (error.BadShape entry) parts found = breaks_rule found
+tells_of_entry (error.UnknownChange n) (Member name.Address ∷ []) found = is_of_no_change found
+tells_of_entry (error.UnknownChange n) (Member name.Deposed ∷ []) what.UnknownObject = true
+tells_of_entry (error.Duplicate n) [] (what.AboutAgain earlier) = nat_lt earlier n
+tells_of_entry (error.TooManySteps n) (Member name.Steps ∷ []) (what.TooManySteps one other) = true
+tells_of_entry (error.NeverBegins n) [] (what.ForPlan (error.NeverBegins m)) = nat_eq m n
+tells_of_entry refusal (Member name.Steps ∷ Item step ∷ parts) found = tells_of_step refusal parts found
+tells_of_entry _ _ _ = false
+
+-- the same at the top of a script
+abbrev pub tells_of_top : ScriptError → List Part → What → Bool
+tells_of_top error.TooLarge [] what.TooManyBytes = true
+tells_of_top error.NotJson [] what.NotJson = true
+tells_of_top (error.BadShape None) [] (what.IsNot want.Object) = true
+tells_of_top (error.BadShape None) (Member name.Changes ∷ []) (what.IsNot want.Array) = true
+tells_of_top (error.BadShape None) (Member name.Changes ∷ []) (what.IsMissing want.Array) = true
+tells_of_top _ _ _ = false
+
+-- a refusal names that entry
+abbrev pub names_entry : ScriptError → ℕ → Bool
+names_entry refusal n = option_map_or (nat_eq n) (entry_of_refusal refusal) false
+
+-- what stands at that path is wrong as a refusal of a script says, in the entry that it names
+abbrev pub tells_of_script : ScriptError → List Part → What → Bool
+tells_of_script refusal (Member name.Changes ∷ Item n ∷ parts) found = names_entry refusal n && tells_of_entry refusal parts found
+tells_of_script refusal parts found = tells_of_top refusal parts found
+
+-- one of them is that for which a run refuses the script
+abbrev pub has_script_refusal : ScriptError → List Finding → Bool
+has_script_refusal refusal all = list_any (λ finding. is_refusal finding && tells_of_script refusal finding.path finding.what) all

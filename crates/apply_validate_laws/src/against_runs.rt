@@ -13,7 +13,7 @@ ghost use Rattle.apply_form_plan.specs.Told.{DetailsOfPlan, details_of};
 ghost use Rattle.apply_validate.specs.declared.form.Form.{Form};
 ghost use Rattle.apply_validate.specs.declared.form.Form.TheVariants.{Terraform};
 ghost use Rattle.apply_validate.specs.InForm.{findings_in};
-ghost use Rattle.apply_validate_laws.specs.Laws.{are_script, has_refusal, has_refusal_in, has_refusal_of, has_refusal_to, run_refuses, run_refuses_in};
+ghost use Rattle.apply_validate_laws.specs.Laws.{are_script, has_refusal, has_refusal_in, has_refusal_of, has_refusal_to, has_script_refusal, run_refuses, run_refuses_in};
 ghost use Rattle.apply_validate.specs.Whole.{behind_first, entry_of_refusal, given_findings, plan_findings, refused_for, script_findings, stuck_entries, waits_said};
 
 /// Something is found in a plan for which a run refuses, exactly where a run refuses it.
@@ -75,4 +75,11 @@ pub fn the_refusal_of_a_run_in_terraforms_form_is_found()
 /// members there or in the element of that number, and of what it says that is wrong there.
 pub fn the_refusal_of_a_plan_is_found()
     ensures { (bytes : List ℕ) (refusal : PlanError) → plan_of bytes ≡ Err refusal → has_refusal_of refusal (plan_findings bytes) ≡ true }
+{}
+
+/// Of what a run refuses a script for beside a plan, a finding is told, whatever else is found: where the refusal says, which is at the
+/// top or in the entry that it names, and of what it says that is wrong there.
+pub fn the_refusal_of_a_script_is_found()
+    ensures { (lanes : Bool) (plan : SavedPlan) (bytes : List ℕ) (refusal : ScriptError) → script_of plan bytes ≡ Err refusal
+        → has_script_refusal refusal (given_findings lanes (Ok plan) (Some bytes)) ≡ true }
 {}

@@ -29,7 +29,7 @@ pub use against_runs::{
     findings_are_refusals_of_a_run_in_its_form, findings_of_plans_are_refusals,
     findings_of_scripts_are_refusals, the_refusal_of_a_plan_is_found,
     the_refusal_of_a_run_in_terraforms_form_is_found, the_refusal_of_a_run_is_found,
-    the_refusal_of_a_run_is_found_in_its_entry,
+    the_refusal_of_a_run_is_found_in_its_entry, the_refusal_of_a_script_is_found,
 };
 
 /// The path of each finding in a plan leads to a value of its tree, or, where something is missing, to the object that lacks it. None

@@ -1,0 +1,148 @@
+-- Provisioners, but for how much they put out: nothing is found that breaks a rule, exactly where one is read.
+use Rattle.std.proofs.Common.{◌≡◌, ℕ, List, [], ◌∷◌, ◌++◌, Bool, true, false, ◌&&◌, is_some, Option, Some, None, refl, sym, ap, ◌∙◌}
+use Rattle.std.specs.Prelude.{codes}
+use Rattle.std.specs.List.{list_all}
+use Rattle.serde_json.specs.Data.{Data}
+use Rattle.serde_json.specs.Find.{as_object, as_str}
+use Rattle.apply_json.specs.Seen.{items_in}
+use Rattle.apply_json.specs.Tree.{◌>>=◌, list_of, member_of, non_empty_text_of, unless_empty}
+use Rattle.apply_model.specs.declared.script.diag.Diag.{Diag}
+use Rattle.apply_model.specs.declared.script.provisioner.Provisioner.{Provisioner}
+use Rattle.apply_model.specs.declared.script.timed_text.TimedText.{TimedText}
+use Rattle.apply_plan.specs.Script.Entry.{OutputItem, diag_from, diag_or_none, each_of, may_fail_or_not, output_from, provisioner_from, seconds_of, timed_outputs}
+use Rattle.apply_validate.specs.declared.findings.finding.Finding.{Finding}
+use Rattle.apply_validate.specs.declared.findings.name.Name.TheVariants as name
+use Rattle.apply_validate.specs.declared.findings.want.Want.TheVariants as want
+use Rattle.apply_validate.specs.ScriptFindings.{in_diagnostic, in_provisioner, provisioner_mark, provisioner_names, provisioner_table, whole_at}
+use Rattle.apply_validate.specs.Walks.{faults_of, in_list, inside, items_at, known, marked, unless_suits, unread, where_suits}
+use Rattle.apply_validate.specs.Wants.{is_met}
+use Rattle.apply_validate_laws.proofs.Alike.{object_alike}
+use Rattle.apply_validate_laws.proofs.Clean.{all_items, appended, clean, clean-then_unread, clean-unless_suits, clean-where_suits, is_absent_or}
+use Rattle.apply_validate_laws.proofs.Diagnostics.{absent_or_diagnostic, clean_diagnostic, two}
+use Rattle.apply_validate_laws.proofs.Members.{IsCleanBeside, array_or, inside_clean, list_clean, non_empty_there, whole_there}
+use Rattle.apply_validate.proofs.Options.{and_comm, and_false, crossed}
+use Rattle.apply_validate_laws.proofs.Outputs.{are_shaped, come_in_time, is_shaped, outputs_read, shape_alike}
+use Rattle.apply_validate_laws.proofs.Provisioners.{fits_growth, seconds_are}
+use Rattle.apply_validate_laws.proofs.Shapes.{IsSame, both_same, same_diagnostic, same_faults, same_inside, same_list, same_picked, same_unless, same_unread, same_where, without}
+use Rattle.apply_validate_laws.proofs.Wanted.{needs_object}
+
+some_is : {A : Type 0} (x y : A) → Some x ≡ Some y → x ≡ y
+some_is x y e = cc
+
+-- ---- provisioners, but for how much they put out
+
+abbrev pub shaped_provisioner : Data → List Finding
+shaped_provisioner d = where_suits want.Provisioner d
+    (faults_of provisioner_table d
+    ++ in_list (λ number. unless_suits want.Output) (known name.Output want.ArrayOrAbsent) d
+    ++ inside in_diagnostic name.Failed d
+    ++ unread provisioner_names d)
+
+pub same_provisioner : IsSame in_provisioner shaped_provisioner
+unfolding in_provisioner
+same_provisioner d =
+    let wrong : List Finding = faults_of provisioner_table d in
+    let output : List Finding = in_list (λ number. unless_suits want.Output) (known name.Output want.ArrayOrAbsent) d in
+    let marks : List Finding = marked (provisioner_mark d ∷ []) in
+    let failed : List Finding = inside in_diagnostic name.Failed d in
+    let rest : List Finding = unread provisioner_names d in
+    same_where want.Provisioner d (wrong ++ output ++ marks ++ failed ++ rest) (wrong ++ output ++ failed ++ rest)
+    (both_same (wrong ++ output ++ marks ++ failed) rest (wrong ++ output ++ failed) rest
+    (both_same (wrong ++ output ++ marks) failed (wrong ++ output) failed
+    (without (wrong ++ output) marks (wrong ++ output)
+    (both_same wrong output wrong output (same_faults provisioner_table d)
+    (same_list (λ number. unless_suits want.Output) (λ number. unless_suits want.Output) (λ number. same_unless want.Output)
+    (known name.Output want.ArrayOrAbsent) d))
+    (same_picked (provisioner_mark d ∷ [])))
+    (same_inside in_diagnostic in_diagnostic same_diagnostic name.Failed d))
+    (same_unread provisioner_names d))
+
+abbrev pub made : List ℕ → ℕ → List TimedText → Option Diag → Bool → Provisioner
+made name seconds output failed may_fail = record { name = name; seconds = seconds; output = output; failed = failed; may_fail = may_fail }
+
+abbrev members_shaped : (name : Option (List ℕ)) (seconds : Option ℕ) (shaped : Bool) (failed : Option (Option Diag)) → Bool
+members_shaped name seconds shaped failed = ((is_some name && is_some seconds) && shaped) && is_some failed
+
+unfoldable pub first_shaped : Data → Bool
+first_shaped k =
+    members_shaped (non_empty_text_of (codes "provisioner") k) (seconds_of k) (are_shaped (member_of (codes "output") k))
+    (diag_or_none (member_of (codes "failed") k))
+
+pub clean_shaped : IsCleanBeside shaped_provisioner first_shaped
+unfolding first_shaped
+clean_shaped d k alike =
+    let wrong : List Finding = faults_of provisioner_table d in
+    let output : List Finding = in_list (λ number. unless_suits want.Output) (known name.Output want.ArrayOrAbsent) d in
+    let failed : List Finding = inside in_diagnostic name.Failed d in
+    let name_read : Option (List ℕ) = non_empty_text_of (codes "provisioner") k in
+    let seconds : Option ℕ = seconds_of k in
+    let failed_read : Option (Option Diag) = diag_or_none (member_of (codes "failed") k) in
+    let shaped : Bool = are_shaped (member_of (codes "output") k) in
+    let a : clean wrong ≡ (is_some name_read && is_some seconds) =
+    two (known name.Provisioner want.NonEmptyText) (known name.Seconds want.Seconds) d
+    ∙ ap (λ (b : Bool). b && is_met want.Seconds (member_of (codes "seconds") d)) (non_empty_there (codes "provisioner") refl d k alike)
+    ∙ ap (λ (b : Bool). is_some name_read && b) (whole_there (codes "seconds") refl d k alike) in
+    let b : clean output ≡ shaped =
+    list_clean (λ number. unless_suits want.Output) is_shaped
+    (λ number x y same. clean-unless_suits want.Output x ∙ shape_alike x y same) (known name.Output want.ArrayOrAbsent) array_or refl d k alike in
+    let f : clean failed ≡ is_some failed_read =
+    inside_clean in_diagnostic (λ e. is_some (diag_from e)) clean_diagnostic name.Failed refl d k alike ∙ absent_or_diagnostic (member_of (codes "failed") k) in
+    clean-where_suits want.Provisioner d (wrong ++ output ++ failed ++ unread provisioner_names d)
+    ∙ ap (λ (x : Bool). is_some (as_object d) && x)
+    (clean-then_unread (wrong ++ output ++ failed) provisioner_names d
+    ∙ appended (wrong ++ output) failed _ _ (appended wrong output _ _ a b) f)
+    ∙ ap (λ (x : Bool). x && members_shaped name_read seconds shaped failed_read) (object_alike d k alike)
+    ∙ needs_object (codes "provisioner") k (members_shaped name_read seconds shaped failed_read)
+    (λ none. ap (λ (o : Option Data). members_shaped (o >>= as_str >>= unless_empty) seconds shaped failed_read) none)
+
+in_order : (shaped failed may_fail timely : Bool) → ((shaped && failed) && (may_fail && timely)) ≡ (failed && ((shaped && timely) && may_fail))
+in_order false failed may_fail timely = sym (and_false failed)
+in_order true false may_fail timely = refl
+in_order true true may_fail timely = and_comm may_fail timely
+
+reads_output : (n : List ℕ) (s : ℕ) (f : Option Diag) (output : Option (List TimedText)) (may_fail : Option Bool)
+    → (is_some output && is_some may_fail) ≡ is_some (output >>= λ o. may_fail >>= λ m. Some (made n s o f m))
+reads_output n s f None may_fail = refl
+reads_output n s f (Some o) None = refl
+reads_output n s f (Some o) (Some m) = refl
+
+one_by_one : (items : Option (List OutputItem)) (f : List OutputItem → Option (List TimedText)) (g : List TimedText → Option Provisioner)
+    → (items >>= f >>= g) ≡ (items >>= λ i. f i >>= g)
+one_by_one None f g = refl
+one_by_one (Some i) f g = refl
+
+reads : (name : Option (List ℕ)) (seconds : Option ℕ) (failed : Option (Option Diag)) (items : Option (List OutputItem)) (may_fail : Option Bool)
+    (shaped timely : Bool)
+    → ((s : ℕ) → seconds ≡ Some s → (shaped && timely) ≡ is_some (items >>= timed_outputs s))
+    → (members_shaped name seconds shaped failed && (is_some may_fail && timely))
+    ≡ is_some (name >>= λ n. seconds >>= λ s. failed >>= λ f. items >>= λ i. timed_outputs s i >>= λ o. may_fail >>= λ m. Some (made n s o f m))
+reads None seconds failed items may_fail shaped timely come = refl
+reads (Some n) None failed items may_fail shaped timely come = refl
+reads (Some n) (Some s) None items may_fail shaped timely come = in_order shaped false (is_some may_fail) timely
+reads (Some n) (Some s) (Some f) items may_fail shaped timely come =
+    in_order shaped true (is_some may_fail) timely
+    ∙ ap (λ (b : Bool). b && is_some may_fail) (come s refl)
+    ∙ reads_output n s f (items >>= timed_outputs s) may_fail
+    ∙ ap (λ (p : Option Provisioner). is_some p) (one_by_one items (timed_outputs s) (λ o. may_fail >>= λ m. Some (made n s o f m)))
+
+shaped_both : (k : Data) → (first_shaped k && fits_growth k) ≡ is_some (provisioner_from k)
+unfolding provisioner_from first_shaped
+shaped_both k =
+    let o : Option Data = member_of (codes "output") k in
+    let seconds : whole_at name.Seconds k ≡ seconds_of k = seconds_are (member_of (codes "seconds") k) in
+    reads (non_empty_text_of (codes "provisioner") k) (seconds_of k) (diag_or_none (member_of (codes "failed") k)) (each_of output_from o)
+    (may_fail_or_not (member_of (codes "on_failure") k)) (are_shaped o) (come_in_time (whole_at name.Seconds k) None (items_at name.Output k))
+    (λ s e. ap (λ (x : Option ℕ). are_shaped o && come_in_time x None (items_at name.Output k)) (seconds ∙ e) ∙ outputs_read s o)
+
+abbrev pub is_read : Data → Bool
+is_read k = is_some (provisioner_from k)
+
+all_shaped : (ks : List Data) → (list_all first_shaped ks && list_all fits_growth ks) ≡ list_all is_read ks
+all_shaped [] = refl
+all_shaped (k ∷ ks) =
+    crossed (first_shaped k) (list_all first_shaped ks) (fits_growth k) (list_all fits_growth ks)
+    ∙ ap (λ (b : Bool). b && (list_all first_shaped ks && list_all fits_growth ks)) (shaped_both k) ∙ ap (λ (b : Bool). is_read k && b) (all_shaped ks)
+
+pub items_shaped : (o : Option Data) → (is_absent_or (all_items first_shaped) o && is_absent_or (all_items fits_growth) o) ≡ is_absent_or (all_items is_read) o
+items_shaped None = refl
+items_shaped (Some k) = all_shaped (list_of (items_in k))
