@@ -6,15 +6,28 @@ _applystream() {
     return
   fi
   if [ "${COMP_WORDS[1]}" = play ] && [ "$COMP_CWORD" -gt 1 ]; then
+    case $before in
+      --speed) return ;;
+    esac
     COMPREPLY=($(compgen -W "--speed --help" -- "$word") $(compgen -f -- "$word"))
     return
   fi
   if [ "${COMP_WORDS[1]}" = view ] && [ "$COMP_CWORD" -gt 1 ]; then
+    case $before in
+      --rows) return ;;
+      --width) return ;;
+      --color) COMPREPLY=($(compgen -W "auto always never" -- "$word")); return ;;
+    esac
     COMPREPLY=($(compgen -W "--svg --rows --all --width --color --help" -- "$word") $(compgen -f -- "$word"))
     return
   fi
   if [ "${COMP_WORDS[1]}" = validate ] && [ "$COMP_CWORD" -gt 1 ]; then
-    COMPREPLY=($(compgen -W "--script --parallelism --form --help" -- "$word") $(compgen -f -- "$word"))
+    case $before in
+      --script) COMPREPLY=($(compgen -f -- "$word")); return ;;
+      --parallelism) return ;;
+      --form) COMPREPLY=($(compgen -W "applystream terraform" -- "$word")); return ;;
+    esac
+    COMPREPLY=($(compgen -W "--script --parallelism --form --help" -- "$word"))
     return
   fi
   case $before in

@@ -3,10 +3,10 @@
 ghost use Rattle.std.specs.Prelude.{◌≡◌, ◌<◌, [], IfOk, OnOk, is_some, length, string_bytes};
 ghost use Rattle.apply_validate_command.specs.Validated.{TellsOf, accepted, nothing};
 
+use crate::lens::Lens;
 use crate::texts::count::Count;
 use crate::texts::finding::{Input, bytes_text, finding_text};
 use crate::texts::plan_names::PlanNames;
-use crate::lens::Lens;
 use apply_json::{JsonFault, parse};
 use apply_plan::MAX_BYTES;
 use apply_validate::{Findings, Found, What};
