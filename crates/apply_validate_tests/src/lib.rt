@@ -3,8 +3,4 @@
 #![tactic(auto)]
 
 #[cfg(test)]
-mod beside_plan;
-#[cfg(test)]
-mod extras;
-#[cfg(test)]
 mod tests;
