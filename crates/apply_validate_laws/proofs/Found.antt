@@ -30,6 +30,15 @@ any_left p xs ys e = list_any-append p xs ys ∙ ap (λ (b : Bool). b || list_an
 pub any_right : (p : Finding → Bool) (xs ys : List Finding) → list_any p ys ≡ true → list_any p (xs ++ ys) ≡ true
 any_right p xs ys e = list_any-append p xs ys ∙ or_true (list_any p xs) (list_any p ys) e
 
+either : (a b c d : Bool) → (a ≡ true → c ≡ true) → (b ≡ true → d ≡ true) → (a || b) ≡ true → (c || d) ≡ true
+either true b c d first second e = ap (λ (x : Bool). x || d) (first refl)
+either false b c d first second e = or_true c d (second e)
+
+-- a test that each finding passes which passes another
+pub any_implied : (p q : Finding → Bool) → ((x : Finding) → p x ≡ true → q x ≡ true) → (xs : List Finding) → list_any p xs ≡ true → list_any q xs ≡ true
+any_implied p q implied [] e = e
+any_implied p q implied (x ∷ xs) e = either (p x) (list_any p xs) (q x) (list_any q xs) (implied x) (any_implied p q implied xs) e
+
 pub first_is : (p : Finding → Bool) (x : Finding) (xs : List Finding) → p x ≡ true → list_any p (x ∷ xs) ≡ true
 first_is p x xs is = ap (λ (b : Bool). b || list_any p xs) is
 

@@ -1,4 +1,4 @@
--- Where a run refuses a script for an entry, something is found in that entry.
+-- What a run refuses of a script: of which entry it is, and of what comes before it.
 use Rattle.std.proofs.Common.{◌≡◌, ℕ, ◌+◌, List, [], ◌∷◌, ◌++◌, length, map, take, Bool, true, false, cond, not, ◌&&◌, ◌||◌, is_ok, is_some, Option, Some, None, Result, Ok, Err, refl, subst, sym, ap, ◌∙◌, append_assoc, arith}
 use Rattle.std.specs.Prelude.{codes, nat_eq, nat_le, nat_lt}
 use Rattle.std.specs.List.{enumerate_from, list_all, list_any, position_from, sum_by}
@@ -56,51 +56,6 @@ err_is x y e = cc
 
 pub same_number : (n : ℕ) → nat_eq n n ≡ true
 same_number n = grind (arith, nat_tests)
-
--- ---- findings of an item
-
-abbrev at_item : ℕ → List Part → Bool
-at_item n (Item m ∷ parts) = nat_eq m n
-at_item n _ = false
-
-abbrev begins : ℕ → Finding → Bool
-begins n finding = is_refusal finding && at_item n finding.path
-
-any_left : (p : Finding → Bool) (xs ys : List Finding) → list_any p xs ≡ true → list_any p (xs ++ ys) ≡ true
-any_left p xs ys e = list_any-append p xs ys ∙ ap (λ (b : Bool). b || list_any p ys) e
-
-or_true : (a b : Bool) → b ≡ true → (a || b) ≡ true
-or_true true b e = refl
-or_true false b e = e
-
-any_right : (p : Finding → Bool) (xs ys : List Finding) → list_any p ys ≡ true → list_any p (xs ++ ys) ≡ true
-any_right p xs ys e = list_any-append p xs ys ∙ or_true (list_any p xs) (list_any p ys) e
-
-and_one : (a b : Bool) → b ≡ true → (a && b) ≡ a
-and_one true b e = e
-and_one false b e = refl
-
--- what is found in an item begins with it
-pub in_item : (n : ℕ) (xs : List Finding) → list_any (begins n) (map (under (Item n)) xs) ≡ list_any is_refusal xs
-in_item n [] = refl
-in_item n (x ∷ xs) =
-    ap (λ (b : Bool). b || list_any (begins n) (map (under (Item n)) xs)) (and_one (is_refusal x) (nat_eq n n) (same_number n))
-    ∙ ap (λ (b : Bool). is_refusal x || b) (in_item n xs)
-
-abbrev through : ℕ → Finding → Bool
-through n finding = is_refusal finding && goes_through n finding.path
-
-under_changes : (n : ℕ) (path : List Part) → goes_through n (Member name.Changes ∷ path) ≡ at_item n path
-under_changes n [] = refl
-under_changes n (Item m ∷ parts) = refl
-under_changes n (Member member ∷ parts) = refl
-under_changes n (Other m ∷ parts) = refl
-
-pub in_changes : (n : ℕ) (xs : List Finding) → has_refusal_in n (map (under (Member name.Changes)) xs) ≡ list_any (begins n) xs
-in_changes n [] = refl
-in_changes n (x ∷ xs) =
-    ap (λ (b : Bool). (is_refusal x && b) || has_refusal_in n (map (under (Member name.Changes)) xs)) (under_changes n x.path)
-    ∙ ap (λ (b : Bool). begins n x || b) (in_changes n xs)
 
 -- ---- the number of a refusal
 
@@ -168,12 +123,6 @@ entry_number changes before d refusal e = of_read (length before) changes before
 
 -- ---- the first entry that a run refuses
 
-not_clean : (xs : List Finding) → clean xs ≡ false → list_any is_refusal xs ≡ true
-not_clean xs e = sym (not_not (list_any is_refusal xs)) ∙ ap not e
-
-ok_of : {A E : Type 0} (r : Result A E) (refusal : E) → r ≡ Err refusal → is_ok r ≡ false
-ok_of r refusal e = ap (λ x. is_ok x) e
-
 of_rest : (rs : Result (List Said) ScriptError) (x : Said) (refusal : ScriptError) → results.◌>>=◌ rs (λ xs. let r : Result (List Said) ScriptError = Ok (x ∷ xs) in r) ≡ Err refusal → rs ≡ Err refusal
 of_rest (Ok xs) x refusal e = absurd cc
 of_rest (Err y) x refusal e = ap (λ (z : ScriptError). let r : Result (List Said) ScriptError = Err z in r) (err_is y refusal e)
@@ -184,75 +133,7 @@ pub first_or_later : (r : Result Said ScriptError) (rs : List (Result Said Scrip
 first_or_later (Err x) rs refusal G e first later = first (ap (λ (y : ScriptError). let r : Result Said ScriptError = Err y in r) (err_is x refusal e))
 first_or_later (Ok x) rs refusal G e first later = later refl (of_rest (all_or_first rs) x refusal e)
 
-module _ (changes : List ResourceChange) (refusal : ScriptError) (n : ℕ) (named : entry_of_refusal refusal ≡ Some n) where
-  first_refused : (ds es : Items) → AlikeItems ds es → (before others all : List Data) → length before ≡ length others → map name_read before ≡ map name_read others
-      → sum_by waits_in_all before ≡ sum_by waits_in_all others → all ≡ others ++ list_of es → list_all is_entry others ≡ true → nat_le (sum_by waits_in_all others) max_waits ≡ true
-      → all_or_first (map (λ p. entry_at changes (take p.0 all) p.1) (enumerate_from (length others) (list_of es))) ≡ Err refusal
-      → list_any (begins n) (items_behind (in_entry_behind (Some changes)) before (list_of ds)) ≡ true
-  first_refused no_items es a before others all long names waits whole are few e = absurd (let none : (let r : Result (List Said) ScriptError = Ok [] in r) ≡ Err refusal = ap (λ (xs : Items). all_or_first (map (λ p. entry_at changes (take p.0 all) p.1) (enumerate_from (length others) (list_of xs)))) (sym a) ∙ e in cc)
-  first_refused (item d ds) es a before others all long names waits whole are few e =
-      let k : Data = a.0 in
-      let ks : List Data = list_of a.1 in
-      let listed : list_of es ≡ k ∷ ks = ap list_of a.2 in
-      let front : take (length others) all ≡ others = rw (whole ∙ ap (λ (xs : List Data). others ++ xs) listed) (take_at others (k ∷ ks) (length others) refl) in
-      let longer : length (others ++ k ∷ []) ≡ length others + 1 = omega (arith, length-append others (k ∷ [])) in
-      let own : List Finding = in_entry_behind (Some changes) before d in
-      let rest : List Finding = items_behind (in_entry_behind (Some changes)) (before ++ d ∷ []) (list_of ds) in
-      let fits : Bool = is_entry k && fits_entry (Some changes) (named_first others k) (waits_left (sum_by waits_in_all others)) k in
-      let found : clean own ≡ fits =
-      clean_entry (Some changes) (named_first before d) (waits_left (sum_by waits_in_all before)) d k a.3
-      ∙ ap (λ (x : Option ℕ). is_entry k && fits_entry (Some changes) x (waits_left (sum_by waits_in_all before)) k)
-      (ap (λ all_names. first_named all_names (name_read d)) names ∙ ap (first_named (map name_read others)) (name_same d k a.3))
-      ∙ ap (λ (m : ℕ). is_entry k && fits_entry (Some changes) (named_first others k) (waits_left m) k) waits in
-      let split : all_or_first (entry_at changes (take (length others) all) k ∷ map (λ p. entry_at changes (take p.0 all) p.1) (enumerate_from (length others + 1) ks)) ≡ Err refusal =
-      ap (λ (xs : List Data). all_or_first (map (λ p. entry_at changes (take p.0 all) p.1) (enumerate_from (length others) xs))) (sym listed) ∙ e in
-      first_or_later (entry_at changes (take (length others) all) k) (map (λ p. entry_at changes (take p.0 all) p.1) (enumerate_from (length others + 1) ks)) refusal _ split
-      (λ refused.
-      let here : entry_at changes others k ≡ Err refusal = ap (λ (xs : List Data). entry_at changes xs k) (sym front) ∙ refused in
-      let at : length before ≡ n = long ∙ some_is (length others) n (sym (entry_number changes others k refusal here) ∙ named) in
-      let bad : clean own ≡ false = found ∙ sym (one_entry changes others k are few) ∙ ok_of (entry_at changes others k) refusal here in
-      any_left (begins n) (map (under (Item (length before))) own) rest
-      (ap (λ (m : ℕ). list_any (begins n) (map (under (Item m)) own)) at ∙ in_item n own ∙ not_clean own bad))
-      (λ taken later.
-      let fine : fits ≡ true = sym (one_entry changes others k are few) ∙ ap (λ (xs : List Data). is_ok (entry_at changes xs k)) (sym front) ∙ taken in
-      let known = behind_one changes others k are few fine in
-      any_right (begins n) (map (under (Item (length before))) own) rest
-      (first_refused ds a.1 a.4 (before ++ d ∷ []) (others ++ k ∷ []) all
-      (length-append before (d ∷ []) ∙ ap (λ (m : ℕ). m + 1) long ∙ sym (length-append others (k ∷ [])))
-      (map-append name_read before (d ∷ []) ∙ ap (λ xs. xs ++ name_read d ∷ []) names ∙ ap (λ x. map name_read others ++ x ∷ []) (name_same d k a.3) ∙ sym (map-append name_read others (k ∷ [])))
-      (sum_by-append waits_in_all before (d ∷ []) ∙ ap (λ (m : ℕ). m + sum_by waits_in_all (d ∷ [])) waits
-      ∙ ap (λ (m : ℕ). sum_by waits_in_all others + m) (sum_by-cons waits_in_all d [] ∙ ap (λ (m : ℕ). m + sum_by waits_in_all []) (all_waits_same d k a.3) ∙ sym (sum_by-cons waits_in_all k []))
-      ∙ sym (sum_by-append waits_in_all others (k ∷ [])))
-      (whole ∙ ap (λ (xs : List Data). others ++ xs) listed ∙ sym (append_assoc others (k ∷ []) ks)) known.0 known.1
-      (ap (λ (m : ℕ). all_or_first (map (λ p. entry_at changes (take p.0 all) p.1) (enumerate_from m ks))) longer ∙ later)))
-
 -- ---- the script
-
-sized : (large : Bool) (r : Result OutcomeMap ScriptError) (refusal : ScriptError) (n : ℕ) → (let q : Result OutcomeMap ScriptError = cond large (Err TooLarge) r in q) ≡ Err refusal → entry_of_refusal refusal ≡ Some n
-    → (large ≡ false) × (r ≡ Err refusal)
-sized true r refusal n e named = absurd (let never : (let o : Option ℕ = None in o) ≡ Some n = ap entry_of_refusal (err_is TooLarge refusal e) ∙ named in cc)
-sized false r refusal n e named = (refl, e)
-
-in_tree : (plan : SavedPlan) (o : Option Data) (refusal : ScriptError) (n : ℕ) → results.◌>>=◌ (or_refuse NotJson o) (script_of_tree plan) ≡ Err refusal → entry_of_refusal refusal ≡ Some n
-    → (k : Data) × (o ≡ Some k) × (script_of_tree plan k ≡ Err refusal)
-in_tree plan None refusal n e named = absurd (let never : (let o : Option ℕ = None in o) ≡ Some n = ap entry_of_refusal (err_is NotJson refusal e) ∙ named in cc)
-in_tree plan (Some k) refusal n e named = (k, refl, e)
-
-in_elements : (plan : SavedPlan) (o : Option Items) (refusal : ScriptError) (n : ℕ) → results.◌>>=◌ (or_refuse (BadShape None) o) (λ elements. script_of_entries plan (list_of elements)) ≡ Err refusal → entry_of_refusal refusal ≡ Some n
-    → (es : Items) × (o ≡ Some es) × (script_of_entries plan (list_of es) ≡ Err refusal)
-in_elements plan None refusal n e named = absurd (let never : (let o : Option ℕ = None in o) ≡ Some n = ap entry_of_refusal (err_is (BadShape None) refusal e) ∙ named in cc)
-in_elements plan (Some es) refusal n e named = (es, refl, e)
-
-of_tree : (plan : SavedPlan) (k : Data) (refusal : ScriptError) (n : ℕ) → script_of_tree plan k ≡ Err refusal → entry_of_refusal refusal ≡ Some n
-    → (es : Items) × (elements_of k ≡ Some es) × (script_of_entries plan (list_of es) ≡ Err refusal)
-unfolding script_of_tree
-of_tree plan k refusal n e named = in_elements plan (elements_of k) refusal n e named
-
-of_bytes : (plan : SavedPlan) (bytes : List ℕ) (refusal : ScriptError) (n : ℕ) → script_of plan bytes ≡ Err refusal → entry_of_refusal refusal ≡ Some n
-    → (nat_lt max_bytes (length bytes) ≡ false) × (results.◌>>=◌ (or_refuse NotJson (keeping_tree_of is_kept bytes)) (script_of_tree plan) ≡ Err refusal)
-unfolding script_of
-of_bytes plan bytes refusal n e named =
-    sized (nat_lt max_bytes (length bytes)) (results.◌>>=◌ (or_refuse NotJson (keeping_tree_of is_kept bytes)) (script_of_tree plan)) refusal n e named
 
 array_of : (d k : Data) → Alike d k → (es : Items) → as_array k ≡ Some es → (ds : Items) × (list_of (items_in d) ≡ list_of ds) × AlikeItems ds es
 array_of null k a es e = absurd (let never : as_array null ≡ Some es = ap as_array (sym a) ∙ e in cc)
@@ -274,47 +155,9 @@ is_object n (string s) es e = absurd cc
 is_object n (array ds) es e = absurd cc
 is_object n (object ms) es e = refl
 
--- what is found in the tree of a script, among what is found in its entries
-among : (changes : List ResourceChange) (n : ℕ) (d : Data) → is_some (as_object d) ≡ true
-    → list_any (begins n) (items_behind (in_entry_behind (Some changes)) [] (items_at name.Changes d)) ≡ true → has_refusal_in n (in_script (Some changes) d) ≡ true
-unfolding in_script
-among changes n d there found =
-    let list : List Finding = fault_of d (known name.Changes want.Array) in
-    let entries : List Finding = map (under (Member name.Changes)) (items_behind (in_entry_behind (Some changes)) [] (items_at name.Changes d)) in
-    rw there (any_left (through n) (list ++ entries) (unread script_names d)
-    (any_right (through n) list entries (in_changes n (items_behind (in_entry_behind (Some changes)) [] (items_at name.Changes d)) ∙ found)))
-
-told_bytes : (large : Bool) (changes : List ResourceChange) (n : ℕ) (o : Option Data) (d : Data) → large ≡ false → o ≡ Some d → has_refusal_in n (in_script (Some changes) d) ≡ true
-    → has_refusal_in n (cond large (finding_here what.TooManyBytes ∷ []) (option_map_or (in_script (Some changes)) o (finding_here what.NotJson ∷ []))) ≡ true
-told_bytes large changes n o d small is found = rw (small, is) found
-
 pub tree_there : (o : Option Data) → is_some o ≡ true → (d : Data) × (o ≡ Some d)
 tree_there None e = absurd cc
 tree_there (Some d) e = (d, refl)
-
--- a run refuses an entry by itself, or beside the plan
-by_itself : (plan : SavedPlan) (bytes : List ℕ) (refusal : ScriptError) (n : ℕ) (k : Data) (es : Items) → entry_of_refusal refusal ≡ Some n → nat_lt max_bytes (length bytes) ≡ false → keeping_tree_of is_kept bytes ≡ Some k
-    → elements_of k ≡ Some es → all_or_first (each_with_earlier (entry_at plan.changes) (list_of es)) ≡ Err refusal → has_refusal_in n (script_findings (Some plan.changes) bytes) ≡ true
-by_itself plan bytes refusal n k es named small kept elements e =
-    let tree = tree_there (tree_of bytes) (both_trees bytes ∙ ap (λ (o : Option Data). is_some o) kept) in
-    let d : Data = tree.0 in
-    let alike : Alike d k = bytes_alike bytes d k tree.1 kept in
-    let list = arrays (member_of (codes "changes") d) (member_of (codes "changes") k) (member_alike (codes "changes") refl d k alike) es elements in
-    let there : is_some (as_object d) ≡ true = object_alike d k alike ∙ is_object (codes "changes") k es elements in
-    let found : list_any (begins n) (items_behind (in_entry_behind (Some plan.changes)) [] (list_of list.0)) ≡ true =
-    first_refused plan.changes refusal n named list.0 es list.2 [] [] (list_of es) refl refl refl refl refl refl e in
-    told_bytes (nat_lt max_bytes (length bytes)) plan.changes n (tree_of bytes) d small tree.1
-    (among plan.changes n d there (ap (λ (ds : List Data). list_any (begins n) (items_behind (in_entry_behind (Some plan.changes)) [] ds)) list.1 ∙ found))
-
--- a step of an entry could never begin, and nothing else is refused
-stuck_at : (script : OutcomeMap) (o : Option ℕ) (refusal : ScriptError) (n : ℕ) → unless_refused (option_map NeverBegins o) script ≡ Err refusal → refusal ≡ refusal → entry_of_refusal refusal ≡ Some n → NeverBegins n ≡ refusal
-stuck_at script None refusal n e same named = absurd cc
-stuck_at script (Some m) refusal n e same named =
-    let is : NeverBegins m ≡ refusal = err_is (NeverBegins m) refusal e in
-    ap NeverBegins (sym (some_is m n (ap entry_of_refusal is ∙ named))) ∙ is
-
-placed_in : (n : ℕ) → has_refusal_in n (refused_for (NeverBegins n)) ≡ true
-placed_in n = rw (same_number n) refl
 
 pub whole_clean : (plan : SavedPlan) (bytes : List ℕ) (k : Data) (es : Items) → nat_lt max_bytes (length bytes) ≡ false → keeping_tree_of is_kept bytes ≡ Some k → elements_of k ≡ Some es
     → is_ok (all_or_first (each_with_earlier (entry_at plan.changes) (list_of es))) ≡ true → has_refusal (script_findings (Some plan.changes) bytes) ≡ false
@@ -325,37 +168,3 @@ whole_clean plan bytes k es small kept elements taken =
     ∙ ap (λ (ds : List Data). list_all is_entry (list_of es) && entries_fit (Some plan.changes) [] ds) (elements_in (member_of (codes "changes") k) es elements) ∙ fits in
     let are : are_script_beside (Some plan.changes) bytes ≡ true = rw (small, kept) tree in
     sym (not_not (has_refusal (script_findings (Some plan.changes) bytes))) ∙ ap not (clean_bytes (Some plan.changes) bytes ∙ are)
-
-by_entries : (lanes : Bool) (plan : SavedPlan) (bytes : List ℕ) (refusal : ScriptError) (n : ℕ) (k : Data) (es : Items) → script_of plan bytes ≡ Err refusal → entry_of_refusal refusal ≡ Some n → nat_lt max_bytes (length bytes) ≡ false → keeping_tree_of is_kept bytes ≡ Some k
-    → elements_of k ≡ Some es → (r : Result (List Said) ScriptError) → all_or_first (each_with_earlier (entry_at plan.changes) (list_of es)) ≡ r
-    → results.◌>>=◌ r (λ entries. unless_stuck entries (by_number (length plan.changes) entries)) ≡ Err refusal
-    → has_refusal_in n (script_findings (Some plan.changes) bytes ++ beside_plan lanes plan bytes) ≡ true
-by_entries lanes plan bytes refusal n k es is named small kept elements (Err x) all e =
-    any_left (through n) (script_findings (Some plan.changes) bytes) (beside_plan lanes plan bytes)
-    (by_itself plan bytes refusal n k es named small kept elements (all ∙ ap (λ (y : ScriptError). let r : Result (List Said) ScriptError = Err y in r) (err_is x refusal e)))
-by_entries lanes plan bytes refusal n k es is named small kept elements (Ok entries) all e =
-    let none : has_refusal (script_findings (Some plan.changes) bytes) ≡ false = whole_clean plan bytes k es small kept elements (ap (λ r. is_ok r) all) in
-    let stuck : NeverBegins n ≡ refusal = stuck_at (by_number (length plan.changes) entries) (position_from (is_stuck (by_number (length plan.changes) entries)) 0 entries) refusal n e refl named in
-    let others : List Finding = stuck_entries (behind_first (never_beginning_of plan bytes)) in
-    let waits : List Finding = waits_said lanes (Some plan.changes) bytes in
-    let told : beside_plan lanes plan bytes ≡ refused_for refusal ++ others ++ waits =
-    rw none (ap (λ (q : Result OutcomeMap ScriptError). refusals_of lanes plan.changes bytes q (never_beginning_of plan bytes)) is) in
-    any_right (through n) (script_findings (Some plan.changes) bytes) (beside_plan lanes plan bytes)
-    (ap (has_refusal_in n) told
-    ∙ any_left (through n) (refused_for refusal ++ others) waits
-    (any_left (through n) (refused_for refusal) others (ap (λ (r : ScriptError). has_refusal_in n (refused_for r)) (sym stuck) ∙ placed_in n)))
-
-of_entries : (lanes : Bool) (plan : SavedPlan) (bytes : List ℕ) (refusal : ScriptError) (n : ℕ) (k : Data) (es : Items) → script_of plan bytes ≡ Err refusal → entry_of_refusal refusal ≡ Some n → nat_lt max_bytes (length bytes) ≡ false → keeping_tree_of is_kept bytes ≡ Some k
-    → elements_of k ≡ Some es → script_of_entries plan (list_of es) ≡ Err refusal
-    → has_refusal_in n (script_findings (Some plan.changes) bytes ++ beside_plan lanes plan bytes) ≡ true
-unfolding script_of_entries
-of_entries lanes plan bytes refusal n k es is named small kept elements e =
-    by_entries lanes plan bytes refusal n k es is named small kept elements (all_or_first (each_with_earlier (entry_at plan.changes) (list_of es))) refl e
-
-pub refusal_in_entry : (lanes : Bool) (plan : SavedPlan) (bytes : List ℕ) (refusal : ScriptError) (n : ℕ) → script_of plan bytes ≡ Err refusal → entry_of_refusal refusal ≡ Some n
-    → has_refusal_in n (given_findings lanes (Ok plan) (Some bytes)) ≡ true
-refusal_in_entry lanes plan bytes refusal n is named =
-    let sized = of_bytes plan bytes refusal n is named in
-    let tree = in_tree plan (keeping_tree_of is_kept bytes) refusal n sized.1 named in
-    let list = of_tree plan tree.0 refusal n tree.2 named in
-    of_entries lanes plan bytes refusal n tree.0 list.0 is named sized.0 tree.1 list.1 list.2

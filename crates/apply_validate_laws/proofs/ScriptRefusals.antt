@@ -23,8 +23,10 @@ use Rattle.apply_plan.specs.Script.NeverBeginning.{never_beginning_of}
 use Rattle.apply_plan.specs.Script.OutcomeMap.{Said, by_number, elements_of, entry_at, is_stuck, script_of, script_of_entries, script_of_tree, unless_stuck}
 use Rattle.apply_validate.specs.declared.findings.finding.Finding.{Finding}
 use Rattle.apply_validate.specs.declared.findings.name.Name.TheVariants as name
+use Rattle.apply_validate.specs.declared.findings.part.Part.{Part}
 use Rattle.apply_validate.specs.declared.findings.part.Part.TheVariants.{Item, Member}
 use Rattle.apply_validate.specs.declared.findings.want.Want.TheVariants as want
+use Rattle.apply_validate.specs.declared.findings.what.What.{What}
 use Rattle.apply_validate.specs.declared.findings.what.What.TheVariants as what
 use Rattle.apply_validate.specs.Beside.{named_first, waits_in_all, waits_left}
 use Rattle.apply_validate.specs.Findings.{finding_at, finding_here, is_refusal, under}
@@ -34,12 +36,13 @@ use Rattle.apply_validate.specs.ScriptFindings.{in_entry, in_entry_behind, in_sc
 use Rattle.apply_validate.specs.Walks.{fault_of, items_at, items_behind, known, lack, member_at, unread}
 use Rattle.apply_validate.specs.Wants.{is_met}
 use Rattle.apply_validate.specs.Whole.{behind_first, beside_plan, entry_of_refusal, given_findings, refusals_of, refused_for, script_findings, stuck_entries, waits_said}
-use Rattle.apply_validate_laws.specs.Laws.{has_refusal, has_script_refusal, is_entry, names_entry, tells_of_entry, tells_of_script}
+use Rattle.apply_validate_laws.specs.Laws.{goes_through, has_refusal, has_refusal_in, has_script_refusal, is_entry, names_entry, tells_of_entry, tells_of_script, tells_of_top}
 use Rattle.apply_validate_laws.proofs.Alike.{Alike, AlikeItems, both_trees, bytes_alike, member_alike, object_alike}
 use Rattle.apply_validate_laws.proofs.Besides.{all_waits_same, name_same}
 use Rattle.apply_validate_laws.proofs.Entries.{behind_one, one_entry}
-use Rattle.apply_validate_laws.proofs.Found.{any_left, any_right, any_under, below, where_told}
+use Rattle.apply_validate_laws.proofs.Found.{any_implied, any_left, any_right, any_under, below, where_told}
 use Rattle.apply_validate_laws.proofs.Members.{array_there}
+use Rattle.apply_validate.proofs.Options.{and_left, and_right}
 use Rattle.apply_validate_laws.proofs.Refusals.{arrays, entry_number, first_or_later, is_object, same_number, tree_there, whole_clean}
 use Rattle.apply_validate_laws.proofs.ScriptEntries.{refusal_told}
 use Rattle.apply_validate_laws.proofs.ScriptSteps.{entry_told}
@@ -263,3 +266,32 @@ pub refusal_of_script : (lanes : Bool) (plan : SavedPlan) (bytes : List ℕ) (re
     → has_script_refusal refusal (given_findings lanes (Ok plan) (Some bytes)) ≡ true
 unfolding script_of
 refusal_of_script lanes plan bytes refusal e = by_size lanes plan bytes refusal e (nat_lt max_bytes (length bytes)) refl e
+
+-- ---- the entry that a refusal names
+
+-- what is refused at the top of a script is of no entry
+of_no_entry : (refusal : ScriptError) (path : List Part) (found : What) → tells_of_top refusal path found ≡ true → entry_of_refusal refusal ≡ None
+of_no_entry TooLarge path found e = refl
+of_no_entry NotJson path found e = refl
+of_no_entry (BadShape None) path found e = refl
+of_no_entry refusal path found e = absurd cc
+
+-- what tells a refusal of an entry stands in it
+told_in : (n : ℕ) (refusal : ScriptError) (path : List Part) (found : What) → entry_of_refusal refusal ≡ Some n
+    → tells_of_script refusal path found ≡ true → goes_through n path ≡ true
+told_in n refusal (Member name.Changes ∷ Item m ∷ parts) found named e =
+    ap (λ (o : Option ℕ). option_map_or (nat_eq m) o false) (sym named) ∙ and_left (names_entry refusal m) (tells_of_entry refusal parts found) e
+told_in n refusal path found named e =
+    absurd (let never : (let o : Option ℕ = None in o) ≡ Some n = sym (of_no_entry refusal path found e) ∙ named in cc)
+
+refused_in : (n : ℕ) (refusal : ScriptError) (named : entry_of_refusal refusal ≡ Some n) (x : Finding) → is_told refusal x ≡ true
+    → (is_refusal x && goes_through n x.path) ≡ true
+refused_in n refusal named x e =
+    let told : tells_of_script refusal x.path x.what ≡ true = and_right (is_refusal x) (tells_of_script refusal x.path x.what) e in
+    ap (λ (b : Bool). is_refusal x && b) (told_in n refusal x.path x.what named told) ∙ ap (λ (b : Bool). b && true) (and_left (is_refusal x) _ e)
+
+pub refusal_in_entry : (lanes : Bool) (plan : SavedPlan) (bytes : List ℕ) (refusal : ScriptError) (n : ℕ) → script_of plan bytes ≡ Err refusal
+    → entry_of_refusal refusal ≡ Some n → has_refusal_in n (given_findings lanes (Ok plan) (Some bytes)) ≡ true
+refusal_in_entry lanes plan bytes refusal n is named =
+    any_implied (is_told refusal) (λ x. is_refusal x && goes_through n x.path) (refused_in n refusal named)
+    (given_findings lanes (Ok plan) (Some bytes)) (refusal_of_script lanes plan bytes refusal is)
