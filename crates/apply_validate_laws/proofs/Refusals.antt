@@ -46,6 +46,7 @@ use Rattle.apply_validate_laws.proofs.Clean.{clean}
 use Rattle.apply_validate_laws.proofs.Entries.{behind_one, one_entry}
 use Rattle.apply_validate.proofs.Options.{not_not}
 use Rattle.apply_validate_laws.proofs.Refused.{each_taken, elements_in}
+use Rattle.apply_validate_laws.proofs.ScriptTests.{by_change, by_entry, refused_with}
 use Rattle.apply_validate_laws.proofs.Scripts.{are_script_beside, clean_bytes, clean_entry, entries_fit, fits_entry, is_script_beside, listed_in}
 
 some_is : {A : Type 0} (x y : A) → Some x ≡ Some y → x ≡ y
@@ -59,67 +60,23 @@ same_number n = grind (arith, nat_tests)
 
 -- ---- the number of a refusal
 
-numbered : (n : ℕ) (refusal : ScriptError) (b : Bool) (x : ScriptError) (o : Option ScriptError) → entry_of_refusal x ≡ Some n → (o ≡ Some refusal → entry_of_refusal refusal ≡ Some n)
-    → cond b (Some x) o ≡ Some refusal → entry_of_refusal refusal ≡ Some n
-numbered n refusal true x o is rest e = ap entry_of_refusal (sym (some_is x refusal e)) ∙ is
-numbered n refusal false x o is rest e = rest e
+-- it is of the entry of that number
+abbrev IsOf : ℕ → ScriptError → Type 0
+IsOf n refusal = entry_of_refusal refusal ≡ Some n
 
-no_more : (n : ℕ) (refusal : ScriptError) → None ≡ Some refusal → entry_of_refusal refusal ≡ Some n
-no_more n refusal e = absurd cc
+of_change : (n : ℕ) (changes : List ResourceChange) (earlier : ℕ) (entry : Entry) (it : ℕ × ResourceChange) (dup : Bool) (refusal : ScriptError)
+    → refused_with dup n changes earlier entry it ≡ Err refusal → IsOf n refusal
+of_change n changes earlier entry it dup refusal e =
+    by_change (IsOf n) dup n changes earlier entry it refusal (λ again. refl)
+    (record { many = λ holds. refl; long = λ holds. refl; wide = λ holds. refl; loud = λ holds. refl; placed = λ holds. refl; warns = λ holds. refl })
+    (record { many = λ holds. refl; unknown = λ holds. refl; lacking = λ holds. refl }) e
 
-of_steps : (n : ℕ) (deposed : Bool) (kinds : List StepKind) (steps : List (Option Outcome)) (refusal : ScriptError) → fault_of_steps n deposed kinds steps ≡ Some refusal → entry_of_refusal refusal ≡ Some n
-unfolding fault_of_steps
-of_steps n deposed kinds steps refusal e =
-    numbered n refusal _ (TooManySteps n) _ refl
-    (numbered n refusal _ (SecondsRange n) _ refl
-    (numbered n refusal _ (TooManyProvisioners n) _ refl
-    (numbered n refusal _ (TooMuchOutput n) _ refl
-    (numbered n refusal _ (NotACreate n) _ refl
-    (numbered n refusal _ (WarnsNotARead n) None refl (no_more n refusal)))))) e
-
-of_waits : (n : ℕ) (changes : List ResourceChange) (earlier : ℕ) (steps : List EntryStep) (refusal : ScriptError) → fault_of_waits n changes earlier steps ≡ Some refusal → entry_of_refusal refusal ≡ Some n
-unfolding fault_of_waits
-of_waits n changes earlier steps refusal e =
-    numbered n refusal _ (TooManyWaits n) _ refl
-    (numbered n refusal _ (UnknownWait n) _ refl
-    (numbered n refusal _ (NoSuchStep n) None refl (no_more n refusal))) e
-
-of_either : (n : ℕ) (a b : Option ScriptError) (refusal : ScriptError) → (a ≡ Some refusal → entry_of_refusal refusal ≡ Some n) → (b ≡ Some refusal → entry_of_refusal refusal ≡ Some n)
-    → option_or a b ≡ Some refusal → entry_of_refusal refusal ≡ Some n
-of_either n None b refusal first second e = second e
-of_either n (Some x) b refusal first second e = first e
-
-of_said : (n : ℕ) (o : Option ScriptError) (said : Said) (refusal : ScriptError) → (o ≡ Some refusal → entry_of_refusal refusal ≡ Some n) → unless_refused o said ≡ Err refusal → entry_of_refusal refusal ≡ Some n
-of_said n None said refusal rest e = absurd cc
-of_said n (Some x) said refusal rest e = rest (ap (λ (y : ScriptError). Some y) (err_is x refusal e))
-
-of_change : (n : ℕ) (changes : List ResourceChange) (before : List Data) (earlier : ℕ) (entry : Entry) (it : ℕ × ResourceChange) (dup : Bool) (refusal : ScriptError)
-    → (let r : Result Said ScriptError = cond dup (Err (Duplicate n)) (unless_refused (fault_of_entry n changes earlier it.1 entry.steps) (said_by changes it.0 entry.steps)) in r) ≡ Err refusal
-    → entry_of_refusal refusal ≡ Some n
-of_change n changes before earlier entry it true refusal e = ap entry_of_refusal (sym (err_is (Duplicate n) refusal e))
-of_change n changes before earlier entry it false refusal e =
-    of_said n (fault_of_entry n changes earlier it.1 entry.steps) (said_by changes it.0 entry.steps) refusal
-    (of_either n (fault_of_steps n (is_some it.1.deposed) it.1.steps (map (λ step. step.outcome) entry.steps)) (fault_of_waits n changes earlier entry.steps) refusal
-    (of_steps n (is_some it.1.deposed) it.1.steps (map (λ step. step.outcome) entry.steps) refusal)
-    (of_waits n changes earlier entry.steps refusal)) e
-
-of_found : (n : ℕ) (changes : List ResourceChange) (before : List Data) (entry : Entry) (o : Option (ℕ × ResourceChange)) (refusal : ScriptError)
-    → results.◌>>=◌ (or_refuse (UnknownChange n) o)
-    (λ it. let r : Result Said ScriptError = cond (list_any (names_change it.1) before) (Err (Duplicate n)) (unless_refused (fault_of_entry n changes (sum_by count_in before) it.1 entry.steps) (said_by changes it.0 entry.steps)) in r) ≡ Err refusal
-    → entry_of_refusal refusal ≡ Some n
-of_found n changes before entry None refusal e = ap entry_of_refusal (sym (err_is (UnknownChange n) refusal e))
-of_found n changes before entry (Some it) refusal e = of_change n changes before (sum_by count_in before) entry it (list_any (names_change it.1) before) refusal e
-
-of_read : (n : ℕ) (changes : List ResourceChange) (before : List Data) (o : Option Entry) (refusal : ScriptError)
-    → results.◌>>=◌ (or_refuse (BadShape (Some n)) o) (λ entry. results.◌>>=◌ (or_refuse (UnknownChange n) (change_of_entry changes entry))
-    (λ it. let r : Result Said ScriptError = cond (list_any (names_change it.1) before) (Err (Duplicate n)) (unless_refused (fault_of_entry n changes (sum_by count_in before) it.1 entry.steps) (said_by changes it.0 entry.steps)) in r)) ≡ Err refusal
-    → entry_of_refusal refusal ≡ Some n
-of_read n changes before None refusal e = ap entry_of_refusal (sym (err_is (BadShape (Some n)) refusal e))
-of_read n changes before (Some entry) refusal e = of_found n changes before entry (change_of_entry changes entry) refusal e
-
-pub entry_number : (changes : List ResourceChange) (before : List Data) (d : Data) (refusal : ScriptError) → entry_at changes before d ≡ Err refusal → entry_of_refusal refusal ≡ Some (length before)
-unfolding entry_at
-entry_number changes before d refusal e = of_read (length before) changes before (entry_of d) refusal e
+pub entry_number : (changes : List ResourceChange) (before : List Data) (d : Data) (refusal : ScriptError) → entry_at changes before d ≡ Err refusal
+    → entry_of_refusal refusal ≡ Some (length before)
+entry_number changes before d refusal e =
+    by_entry (IsOf (length before)) changes before d (λ none. refl) (λ entry is none. refl)
+    (λ entry it x is about refused.
+    of_change (length before) changes (sum_by count_in before) entry it (list_any (names_change it.1) before) x refused) refusal e
 
 -- ---- the first entry that a run refuses
 

@@ -46,13 +46,14 @@ use Rattle.apply_validate_laws.proofs.ScriptSteps.{any_outcome, each_step, entry
 use Rattle.apply_validate_laws.proofs.ScriptWaits.{beyond_told, each_kind, no_step_told, of_no_change_told, placed_told, unknown_told, warns_told}
 use Rattle.apply_validate_laws.proofs.ShapedEntries.{shape_told}
 use Rattle.apply_validate_laws.proofs.Taken.{found_with, outcomes, waits_read}
-use Rattle.apply_validate_laws.proofs.ScriptTests.{AreStepsTold, AreWaitsTold, Told, by_change, refused_with}
+use Rattle.apply_validate_laws.proofs.ScriptTests.{OfSteps, OfWaits, by_change, by_entry, refused_with}
 
 some_is : {A : Type 0} (x y : A) → Some x ≡ Some y → x ≡ y
 some_is x y e = cc
 
-err_is : {A E : Type 0} (x y : E) → (let r : Result A E = Err x in r) ≡ Err y → x ≡ y
-err_is x y e = cc
+-- what a refusal is of is among these
+abbrev Told : List Finding → ScriptError → Type 0
+Told xs refusal = list_any (entry_told refusal) xs ≡ true
 
 -- ---- what is found in an entry
 
@@ -273,7 +274,7 @@ module _ (changes : List ResourceChange) (before : List Data) (d k : Data) (alik
       (items_at name.Steps d) (items_at name.Steps k) refl
       (pairs_at name.Steps refl d k alike) entry.steps steps_read any))
 
-  steps_told : AreStepsTold found (length before) (is_some it.1.deposed) it.1.steps entry.steps
+  steps_told : OfSteps (Told found) (length before) (is_some it.1.deposed) it.1.steps entry.steps
   steps_told =
       let n : ℕ = length before in
       record {
@@ -299,7 +300,7 @@ module _ (changes : List ResourceChange) (before : List Data) (d k : Data) (alik
             (λ i kind e l step same is at wrong. warns_told n (Some changes) it.1 i kind e l step same is at wrong) e;
       }
 
-  waits_told : AreWaitsTold found (length before) changes (sum_by count_in before) entry.steps
+  waits_told : OfWaits (Told found) (length before) changes (sum_by count_in before) entry.steps
   waits_told =
       let n : ℕ = length before in
       let count : ℕ = sum_by waits_in_all before in
@@ -325,38 +326,16 @@ module _ (changes : List ResourceChange) (before : List Data) (d k : Data) (alik
   of_change : (refusal : ScriptError) → refused_with (list_any (names_change it.1) before) (length before) changes (sum_by count_in before) entry it
       ≡ Err refusal → Told found refusal
   of_change refusal e =
-      by_change found (list_any (names_change it.1) before) (length before) changes (sum_by count_in before) entry it refusal again_told steps_told waits_told e
+      by_change (Told found) (list_any (names_change it.1) before) (length before) changes (sum_by count_in before) entry it refusal again_told steps_told waits_told e
 
 -- ---- an entry
-
-of_found : (changes : List ResourceChange) (before : List Data) (d k : Data) → Alike d k → (entry : Entry) → entry_of k ≡ Some entry
-    → list_all is_entry before ≡ true → nat_le (sum_by waits_in_all before) max_waits ≡ true
-    → (o : Option (ℕ × ResourceChange)) → change_of_entry changes entry ≡ o → (refusal : ScriptError)
-    → results.◌>>=◌ (or_refuse (UnknownChange (length before)) o)
-    (λ it. refused_with (list_any (names_change it.1) before) (length before) changes (sum_by count_in before) entry it) ≡ Err refusal
-    → Told (in_entry (Some changes) (named_first before k) (waits_left (sum_by waits_in_all before)) d) refusal
-of_found changes before d k alike entry is are few None about refusal e =
-    subst (Told (in_entry (Some changes) (named_first before k) (waits_left (sum_by waits_in_all before)) d)) (err_is (UnknownChange (length before)) refusal e)
-    (no_change changes (named_first before k) (waits_left (sum_by waits_in_all before)) (length before) d k entry alike is about)
-of_found changes before d k alike entry is are few (Some it) about refusal e = of_change changes before d k alike entry is it about are few refusal e
-
-of_read : (changes : List ResourceChange) (before : List Data) (d k : Data) → Alike d k → list_all is_entry before ≡ true
-    → nat_le (sum_by waits_in_all before) max_waits ≡ true
-    → (o : Option Entry) → entry_of k ≡ o → (refusal : ScriptError)
-    → results.◌>>=◌ (or_refuse (BadShape (Some (length before))) o)
-    (λ entry. results.◌>>=◌ (or_refuse (UnknownChange (length before)) (change_of_entry changes entry))
-    (λ it. refused_with (list_any (names_change it.1) before) (length before) changes (sum_by count_in before) entry it)) ≡ Err refusal
-    → Told (in_entry (Some changes) (named_first before k) (waits_left (sum_by waits_in_all before)) d) refusal
-of_read changes before d k alike are few None is refusal e =
-    subst (Told (in_entry (Some changes) (named_first before k) (waits_left (sum_by waits_in_all before)) d))
-    (err_is (BadShape (Some (length before))) refusal e)
-    (shape_told (Some changes) (named_first before k) (waits_left (sum_by waits_in_all before)) d k alike is)
-of_read changes before d k alike are few (Some entry) is refusal e =
-    of_found changes before d k alike entry is are few (change_of_entry changes entry) refl refusal e
 
 pub refusal_told : (changes : List ResourceChange) (before : List Data) (d k : Data) (refusal : ScriptError) → Alike d k
     → list_all is_entry before ≡ true → nat_le (sum_by waits_in_all before) max_waits ≡ true
     → entry_at changes before k ≡ Err refusal → list_any (entry_told refusal)
     (in_entry (Some changes) (named_first before k) (waits_left (sum_by waits_in_all before)) d) ≡ true
-unfolding entry_at
-refusal_told changes before d k refusal alike are few e = of_read changes before d k alike are few (entry_of k) refl refusal e
+refusal_told changes before d k refusal alike are few e =
+    by_entry (Told (in_entry (Some changes) (named_first before k) (waits_left (sum_by waits_in_all before)) d)) changes before k
+    (λ none. shape_told (Some changes) (named_first before k) (waits_left (sum_by waits_in_all before)) d k alike none)
+    (λ entry is none. no_change changes (named_first before k) (waits_left (sum_by waits_in_all before)) (length before) d k entry alike is none)
+    (λ entry it x is about refused. of_change changes before d k alike entry is it about are few x refused) refusal e
