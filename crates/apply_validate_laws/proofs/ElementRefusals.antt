@@ -30,9 +30,10 @@ use Rattle.apply_validate.specs.Walks.{faults_of, inside, lack, marked, member_a
 use Rattle.apply_validate.specs.Wants.{suits}
 use Rattle.apply_validate_laws.specs.Laws.{tells}
 use Rattle.apply_validate_laws.proofs.Elements.{gathered_there, has_change, sound_is}
-use Rattle.apply_validate_laws.proofs.ElementsTold.{address_told, bad_change, is_object, misplaced_there, not_read}
+use Rattle.apply_validate_laws.proofs.ElementsTold.{address_told, bad_change, misplaced_there, not_read}
 use Rattle.apply_validate_laws.proofs.Found.{any_left, any_right, first_is, where_told}
 use Rattle.apply_validate_laws.proofs.Plans.{change_is, finished, name_in, name_is, names, repeats, with_element, with_steps}
+use Rattle.apply_validate_laws.proofs.Wanted.{is_object}
 
 pub err_is : {A E : Type 0} (x y : E) → (let r : Result A E = Err x in r) ≡ Err y → x ≡ y
 err_is x y e = cc

@@ -27,14 +27,7 @@ use Rattle.apply_validate.specs.Wants.{is_met}
 use Rattle.apply_validate.proofs.Options.{and_left, and_then_is}
 use Rattle.apply_validate_laws.proofs.Elements.{element_is, gathered, members_met, planned, read_change, some_is}
 use Rattle.apply_validate_laws.proofs.Found.{any_left, any_right, any_under, below, each_told, faults_told, first_is, marked_first}
-use Rattle.apply_validate_laws.proofs.Wanted.{met_array, needs_object}
-
--- a member that has to be there makes the value an object
-pub is_object : {A : Type 0} (n : List ℕ) (f : Data → Option A) (d : Data) (x : A) → (member_of n d >>= f) ≡ Some x → is_some (as_object d) ≡ true
-is_object {A} n f d x e =
-    let there : Bool = is_some (member_of n d >>= f) in
-    and_left (is_some (as_object d)) there
-    (needs_object n d there (λ none. ap (λ (o : Option Data). is_some (o >>= f)) none) ∙ ap (λ (o : Option A). is_some o) e)
+use Rattle.apply_validate_laws.proofs.Wanted.{is_object, met_array, needs_object}
 
 -- ---- `change`
 

@@ -1,5 +1,5 @@
 -- One of some findings passes a test.
-use Rattle.std.proofs.Common.{◌≡◌, List, [], ◌∷◌, ◌++◌, map, Bool, true, false, ◌&&◌, ◌||◌, Option, refl, ap, ◌∙◌}
+use Rattle.std.proofs.Common.{◌≡◌, ℕ, zero, suc, List, [], ◌∷◌, ◌++◌, map, slice_get, Bool, true, false, ◌&&◌, ◌||◌, Option, Some, refl, ap, ◌∙◌}
 use Rattle.std.specs.Prelude.{if◌then◌else◌}
 use Rattle.std.specs.List.{AllByRecursion, list_all, list_any}
 use Rattle.std.proofs.lemmas.List.Folds.{list_any-append}
@@ -9,11 +9,13 @@ use Rattle.apply_json.specs.Tree.{◌>>=◌, unless_null}
 use Rattle.apply_validate.specs.declared.findings.finding.Finding.{Finding}
 use Rattle.apply_validate.specs.declared.findings.part.Part.{Part}
 use Rattle.apply_validate.specs.declared.findings.part.Part.TheVariants.{Member}
+use Rattle.apply_validate.specs.declared.findings.want.Want.{Want}
 use Rattle.apply_validate.specs.declared.walks.known.Known.{Known}
 use Rattle.apply_validate.specs.Findings.{finding_at, under}
 use Rattle.apply_validate.specs.Names.{name_text}
-use Rattle.apply_validate.specs.Walks.{fault_of, faults_of, lack, member_at}
-use Rattle.apply_validate.specs.Wants.{is_met}
+use Rattle.apply_validate.specs.Walks.{fault_of, faults_of, lack, member_at, where_suits}
+use Rattle.apply_validate.specs.Wants.{is_met, suits}
+use Rattle.apply_validate_laws.proofs.Joined.{joined}
 
 -- one of two tests fails: the first, or behind it the second
 one_fails : (b c : Bool) (G : Type 0) → (b && c) ≡ false → (b ≡ false → G) → (b ≡ true → c ≡ false → G) → G
@@ -33,6 +35,19 @@ any_right p xs ys e = list_any-append p xs ys ∙ or_true (list_any p xs) (list_
 either : (a b c d : Bool) → (a ≡ true → c ≡ true) → (b ≡ true → d ≡ true) → (a || b) ≡ true → (c || d) ≡ true
 either true b c d first second e = ap (λ (x : Bool). x || d) (first refl)
 either false b c d first second e = or_true c d (second e)
+
+any_first : (p : Finding → Bool) (all : List Finding) (parts : List (List Finding)) → list_any p all ≡ true → list_any p (joined all parts) ≡ true
+any_first p all [] e = e
+any_first p all (part ∷ parts) e = any_first p (all ++ part) parts (any_left p all part e)
+
+-- it is in the part of that number
+pub any_part : (p : Finding → Bool) (all : List Finding) (parts : List (List Finding)) (n : ℕ) (part : List Finding) → slice_get parts n ≡ Some part
+    → list_any p part ≡ true → list_any p (joined all parts) ≡ true
+any_part p all [] n part is e = absurd cc
+any_part p all (x ∷ parts) zero part is e =
+    let same : x ≡ part = cc in
+    any_first p (all ++ x) parts (any_right p all x (ap (list_any p) same ∙ e))
+any_part p all (x ∷ parts) (suc n) part is e = any_part p (all ++ x) parts n part is e
 
 -- a test that each finding passes which passes another
 pub any_implied : (p q : Finding → Bool) → ((x : Finding) → p x ≡ true → q x ≡ true) → (xs : List Finding) → list_any p xs ≡ true → list_any q xs ≡ true
@@ -64,6 +79,11 @@ pub where_told : (p : Finding → Bool) (b : Bool) (xs : List Finding) (y : Find
     → list_any p (if b then xs else y ∷ []) ≡ true
 where_told p true xs y is inner = inner refl
 where_told p false xs y is inner = first_is p y [] is
+
+-- the value is what it has to be
+pub suited : (p : Finding → Bool) (wanted : Want) (d : Data) (xs : List Finding) → suits wanted d ≡ true → list_any p xs ≡ true
+    → list_any p (where_suits wanted d xs) ≡ true
+suited p wanted d xs fits e = rw fits e
 
 -- what has to stand in a member, and does not, is told
 abbrev pub IsTold : (Finding → Bool) → Known → Type 0

@@ -30,9 +30,9 @@ use Rattle.apply_validate_laws.specs.Laws.{has_refusal_of}
 use Rattle.apply_validate.proofs.Options.{and_false}
 use Rattle.apply_validate_laws.proofs.ElementRefusals.{element_told, err_is, is_told}
 use Rattle.apply_validate_laws.proofs.Elements.{some_is}
-use Rattle.apply_validate_laws.proofs.ElementsTold.{is_object}
 use Rattle.apply_validate_laws.proofs.Found.{IsTold, any_left, any_right, any_under, below, faults_told, where_told}
 use Rattle.apply_validate_laws.proofs.Plans.{all_sound, elements_there, header_is, header_met, header_with, is_first_format, len_is, of_header, passes, then_changes, with_format}
+use Rattle.apply_validate_laws.proofs.Wanted.{is_object}
 
 -- ---- the elements
 

@@ -104,14 +104,6 @@ pub arrays : (o p : Option Data) → AreAlike o p → (es : Items) → (p >>= as
 arrays None p a es e = absurd (let never : (let q : Option Items = None in q) ≡ Some es = ap (λ (q : Option Data). q >>= as_array) (sym a) ∙ e in cc)
 arrays (Some d) p a es e = array_of d a.0 a.2 es (ap (λ (q : Option Data). q >>= as_array) (sym a.1) ∙ e)
 
-pub is_object : (n : List ℕ) (k : Data) (es : Items) → (member_of n k >>= as_array) ≡ Some es → is_some (as_object k) ≡ true
-is_object n null es e = absurd cc
-is_object n (boolean b) es e = absurd cc
-is_object n (number z) es e = absurd cc
-is_object n (string s) es e = absurd cc
-is_object n (array ds) es e = absurd cc
-is_object n (object ms) es e = refl
-
 pub tree_there : (o : Option Data) → is_some o ≡ true → (d : Data) × (o ≡ Some d)
 tree_there None e = absurd cc
 tree_there (Some d) e = (d, refl)

@@ -1,5 +1,5 @@
 -- Where a run refuses an entry, what it refuses is found in it.
-use Rattle.std.proofs.Common.{◌≡◌, ℕ, ◌+◌, ◌-◌, ◌≤◌, List, [], ◌∷◌, ◌++◌, length, map, Bool, true, false, cond, ◌&&◌, is_some, Option, Some, None, unwrap_or, Result, Err, if◌then◌else◌, refl, subst, sym, ap, ◌∙◌, arith}
+use Rattle.std.proofs.Common.{◌≡◌, ℕ, ◌+◌, ◌-◌, ◌≤◌, List, [], ◌∷◌, ◌++◌, length, map, slice_get, Bool, true, false, cond, ◌&&◌, is_some, Option, Some, None, unwrap_or, Result, Err, if◌then◌else◌, refl, subst, sym, ap, ◌∙◌, arith}
 use Rattle.std.specs.Prelude.{is_none, nat_le, nat_lt, slice_get}
 use Rattle.std.specs.List.{enumerate_from, list_all, list_any, position_from, sum_by, zip}
 use Rattle.std.specs.Option.{option_and_then, option_map, option_map_or}
@@ -38,7 +38,8 @@ use Rattle.apply_validate_laws.proofs.Besides.{all_waits_same, change_same, is_u
 use Rattle.apply_validate_laws.proofs.Elements.{named}
 use Rattle.apply_validate_laws.proofs.Entries.{IsEntryOf, any_first, counts_before, entry_read, found_passes, name_of_change, named_before}
 use Rattle.apply_validate.proofs.FirstNames.{same_name}
-use Rattle.apply_validate_laws.proofs.Found.{any_left, any_right, any_under, below}
+use Rattle.apply_validate_laws.proofs.Found.{any_part, any_under, below, suited}
+use Rattle.apply_validate_laws.proofs.Joined.{joined}
 use Rattle.apply_validate_laws.proofs.Members.{count_same}
 use Rattle.apply_validate_laws.proofs.Provisioners.{length_of_all}
 use Rattle.apply_validate_laws.proofs.ScriptLimits.{long_told, many_told, much_told}
@@ -46,6 +47,7 @@ use Rattle.apply_validate_laws.proofs.ScriptSteps.{any_outcome, each_step, entry
 use Rattle.apply_validate_laws.proofs.ScriptWaits.{beyond_told, each_kind, no_step_told, of_no_change_told, placed_told, unknown_told, warns_told}
 use Rattle.apply_validate_laws.proofs.ShapedEntries.{shape_told}
 use Rattle.apply_validate_laws.proofs.Taken.{found_with, outcomes, waits_read}
+use Rattle.apply_validate_laws.proofs.Wanted.{object_there}
 use Rattle.apply_validate_laws.proofs.ScriptTests.{OfSteps, OfWaits, by_change, by_entry, refused_with}
 
 some_is : {A : Type 0} (x y : A) → Some x ≡ Some y → x ≡ y
@@ -57,82 +59,41 @@ Told xs refusal = list_any (entry_told refusal) xs ≡ true
 
 -- ---- what is found in an entry
 
-second : (p : Finding → Bool) (a b c e f g h i : List Finding) → list_any p b ≡ true → list_any p (a ++ b ++ c ++ e ++ f ++ g ++ h ++ i) ≡ true
-second p a b c e f g h i is = any_left p _ i (any_left p _ h (any_left p _ g (any_left p _ f (any_left p _ e (any_left p _ c (any_right p a b is))))))
-
-third : (p : Finding → Bool) (a b c e f g h i : List Finding) → list_any p c ≡ true → list_any p (a ++ b ++ c ++ e ++ f ++ g ++ h ++ i) ≡ true
-third p a b c e f g h i is = any_left p _ i (any_left p _ h (any_left p _ g (any_left p _ f (any_left p _ e (any_right p (a ++ b) c is)))))
-
-fifth : (p : Finding → Bool) (a b c e f g h i : List Finding) → list_any p f ≡ true → list_any p (a ++ b ++ c ++ e ++ f ++ g ++ h ++ i) ≡ true
-fifth p a b c e f g h i is = any_left p _ i (any_left p _ h (any_left p _ g (any_right p (a ++ b ++ c ++ e) f is)))
-
-sixth : (p : Finding → Bool) (a b c e f g h i : List Finding) → list_any p g ≡ true → list_any p (a ++ b ++ c ++ e ++ f ++ g ++ h ++ i) ≡ true
-sixth p a b c e f g h i is = any_left p _ i (any_left p _ h (any_right p (a ++ b ++ c ++ e ++ f) g is))
-
-seventh : (p : Finding → Bool) (a b c e f g h i : List Finding) → list_any p h ≡ true → list_any p (a ++ b ++ c ++ e ++ f ++ g ++ h ++ i) ≡ true
-seventh p a b c e f g h i is = any_left p _ i (any_right p (a ++ b ++ c ++ e ++ f ++ g) h is)
-
-in_object : (p : Finding → Bool) (d : Data) (xs : List Finding) → is_some (as_object d) ≡ true → list_any p xs ≡ true
-    → list_any p (where_suits want.Entry d xs) ≡ true
-in_object p d xs there found = rw there found
-
 module _ (p : Finding → Bool) (changes : List ResourceChange) (first left : Option ℕ) (d : Data) (there : is_some (as_object d) ≡ true) where
-  unknown_in : list_any p (marked (unknown_marks (Some changes) d)) ≡ true → list_any p (in_entry (Some changes) first left d) ≡ true
+  abbrev parts : List (List Finding)
+  parts =
+      marked (unknown_marks (Some changes) d) ∷ marked (again_mark (change_at (Some changes) d) first ∷ []) ∷ fault_of d (known name.Steps want.Array)
+      ∷ marked (steps_mark (change_at (Some changes) d) d ∷ []) ∷ inside (in_items (in_step (Some changes) (change_at (Some changes) d))) name.Steps d
+      ∷ beyond_in true left d ∷ unread entry_names d ∷ []
+
+  part_told : (m : ℕ) (part : List Finding) → slice_get parts m ≡ Some part → list_any p part ≡ true
+      → list_any p (in_entry (Some changes) first left d) ≡ true
   unfolding in_entry
-  unknown_in is =
-      in_object p d _ there
-      (second p (faults_of entry_table d) (marked (unknown_marks (Some changes) d)) (marked (again_mark (change_at (Some changes) d) first ∷ []))
-      (fault_of d (known name.Steps want.Array))
-      (marked (steps_mark (change_at (Some changes) d) d ∷ []))
-      (inside (in_items (in_step (Some changes) (change_at (Some changes) d))) name.Steps d) (beyond_in true left d) (unread entry_names d) is)
+  part_told m part at is =
+      suited p want.Entry d (joined (faults_of entry_table d) parts) there (any_part p (faults_of entry_table d) parts m part at is)
+
+  unknown_in : list_any p (marked (unknown_marks (Some changes) d)) ≡ true → list_any p (in_entry (Some changes) first left d) ≡ true
+  unknown_in is = part_told 0 (marked (unknown_marks (Some changes) d)) refl is
 
   again_in : list_any p (marked (again_mark (change_at (Some changes) d) first ∷ [])) ≡ true → list_any p (in_entry (Some changes) first left d) ≡ true
-  unfolding in_entry
-  again_in is =
-      in_object p d _ there
-      (third p (faults_of entry_table d) (marked (unknown_marks (Some changes) d)) (marked (again_mark (change_at (Some changes) d) first ∷ []))
-      (fault_of d (known name.Steps want.Array))
-      (marked (steps_mark (change_at (Some changes) d) d ∷ []))
-      (inside (in_items (in_step (Some changes) (change_at (Some changes) d))) name.Steps d) (beyond_in true left d) (unread entry_names d) is)
+  again_in is = part_told 1 (marked (again_mark (change_at (Some changes) d) first ∷ [])) refl is
 
   many_in : list_any p (marked (steps_mark (change_at (Some changes) d) d ∷ [])) ≡ true → list_any p (in_entry (Some changes) first left d) ≡ true
-  unfolding in_entry
-  many_in is =
-      in_object p d _ there
-      (fifth p (faults_of entry_table d) (marked (unknown_marks (Some changes) d)) (marked (again_mark (change_at (Some changes) d) first ∷ []))
-      (fault_of d (known name.Steps want.Array))
-      (marked (steps_mark (change_at (Some changes) d) d ∷ []))
-      (inside (in_items (in_step (Some changes) (change_at (Some changes) d))) name.Steps d) (beyond_in true left d) (unread entry_names d) is)
+  many_in is = part_told 3 (marked (steps_mark (change_at (Some changes) d) d ∷ [])) refl is
 
   steps_in : list_any p (inside (in_items (in_step (Some changes) (change_at (Some changes) d))) name.Steps d) ≡ true
       → list_any p (in_entry (Some changes) first left d) ≡ true
-  unfolding in_entry
-  steps_in is =
-      in_object p d _ there
-      (sixth p (faults_of entry_table d) (marked (unknown_marks (Some changes) d)) (marked (again_mark (change_at (Some changes) d) first ∷ []))
-      (fault_of d (known name.Steps want.Array))
-      (marked (steps_mark (change_at (Some changes) d) d ∷ []))
-      (inside (in_items (in_step (Some changes) (change_at (Some changes) d))) name.Steps d) (beyond_in true left d) (unread entry_names d) is)
+  steps_in is = part_told 4 (inside (in_items (in_step (Some changes) (change_at (Some changes) d))) name.Steps d) refl is
 
   beyond_at_steps : list_any p (beyond_in true left d) ≡ true → list_any p (in_entry (Some changes) first left d) ≡ true
-  unfolding in_entry
-  beyond_at_steps is =
-      in_object p d _ there
-      (seventh p (faults_of entry_table d) (marked (unknown_marks (Some changes) d)) (marked (again_mark (change_at (Some changes) d) first ∷ []))
-      (fault_of d (known name.Steps want.Array))
-      (marked (steps_mark (change_at (Some changes) d) d ∷ []))
-      (inside (in_items (in_step (Some changes) (change_at (Some changes) d))) name.Steps d) (beyond_in true left d) (unread entry_names d) is)
+  beyond_at_steps is = part_told 5 (beyond_in true left d) refl is
 
 -- ---- an entry of no change
 
 entry_object : (k : Data) (entry : Entry) → entry_of k ≡ Some entry → is_some (as_object k) ≡ true
 unfolding entry_of
-entry_object null entry e = absurd cc
-entry_object (boolean b) entry e = absurd cc
-entry_object (number n) entry e = absurd cc
-entry_object (string s) entry e = absurd cc
-entry_object (array ds) entry e = absurd cc
-entry_object (object ms) entry e = refl
+entry_object k entry e =
+    object_there (λ it. is_some (entry_of it)) refl (λ b. refl) (λ n. refl) (λ s. refl) (λ ds. refl) k (ap (λ (o : Option Entry). is_some o) e)
 
 no_text : (d : Data) → is_some (as_object d) ≡ true → is_some (as_str d) ≡ false
 no_text null e = refl

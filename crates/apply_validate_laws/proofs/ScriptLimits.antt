@@ -26,12 +26,14 @@ use Rattle.apply_validate.specs.Names.{name_text}
 use Rattle.apply_validate.specs.ScriptFindings.{beside, in_diagnostic, in_provisioner, in_step, provisioner_mark, provisioner_names, provisioner_table, seconds_in, seconds_in_all, step_marks}
 use Rattle.apply_validate.specs.Walks.{fault_of, faults_of, in_items, in_list, inside, items_at, known, marked, member_at, place_of, unless_suits, unread, where_suits}
 use Rattle.apply_validate_laws.proofs.Alike.{Alike, object_alike}
-use Rattle.apply_validate_laws.proofs.Found.{any_left, any_right, below}
+use Rattle.apply_validate_laws.proofs.Found.{any_part, any_right, below, suited}
+use Rattle.apply_validate_laws.proofs.Joined.{joined}
 use Rattle.apply_validate_laws.proofs.Marks.{holding}
 use Rattle.apply_validate_laws.proofs.Members.{count_same, seconds_same, sum_same}
 use Rattle.apply_validate.proofs.Options.{bind_some}
 use Rattle.apply_validate_laws.proofs.Provisioners.{all_seconds_read, length_read, seconds_read, texts_read}
-use Rattle.apply_validate_laws.proofs.Taken.{by_answer, by_skip}
+use Rattle.apply_validate_laws.proofs.Taken.{IsMadeOf, by_answer, by_skip, made_of}
+use Rattle.apply_validate_laws.proofs.Wanted.{object_there}
 use Rattle.apply_validate_laws.proofs.ScriptSteps.{each_any, each_list, inside_any, marks_told, next_mark, pairs_at, provisioners_told, step_told, this_mark}
 
 some_is : {A : Type 0} (x y : A) → Some x ≡ Some y → x ≡ y
@@ -49,32 +51,14 @@ answered false told (Some s) r l x e =
     let same : x ≡ made = some_is x made (by_answer ((is_failed r || is_warned r) && nat_lt 0 (length l)) made (Some x) e) in
     (ap (λ (y : Outcome). Some y.seconds) (sym same), ap (λ (y : Outcome). y.provisioners) (sym same))
 
-abbrev step_of : List WaitName → Option Outcome → EntryStep
-step_of after outcome = record { outcome = outcome; after = after }
-
 -- what was read of it, where it has an outcome
 outcome_of : (d : Data) (step : EntryStep) (x : Outcome) → step_from d ≡ Some step → step.outcome ≡ Some x
     → (seconds_of d ≡ Some x.seconds) × (each_of provisioner_from (member_of (codes "provisioners") d) ≡ Some x.provisioners)
-unfolding step_from
 outcome_of d step x e there =
-    let told : Bool = is_some (member_of (codes "seconds") d) in
-    let s : Option ℕ = seconds_of d in
-    let ending : Option Ending = ending_of d in
-    let provisioners : Option (List Provisioner) = each_of provisioner_from (member_of (codes "provisioners") d) in
-    let after : Option (List WaitName) = each_of wait_from (member_of (codes "after") d) in
-    let skipped = bind_some (flag_or_false (member_of (codes "skipped") d))
-    (λ b. ending >>= λ r. provisioners >>= λ l. after >>= λ a. (if b then skipped_with told r l else answered_with s r l) >>= λ o. Some (step_of a o)) step e in
-    let result = bind_some ending (λ r. provisioners >>= λ l. after >>= λ a.
-    (if skipped.0 then skipped_with told r l else answered_with s r l) >>= λ o. Some (step_of a o)) step skipped.2 in
-    let list = bind_some provisioners (λ l. after >>= λ a. (if skipped.0 then skipped_with told result.0 l else answered_with s result.0 l) >>= λ o.
-    Some (step_of a o)) step result.2 in
-    let waits = bind_some after (λ a. (if skipped.0 then skipped_with told result.0 list.0 else answered_with s result.0 list.0) >>= λ o.
-    Some (step_of a o)) step list.2 in
-    let outcome = bind_some (if skipped.0 then skipped_with told result.0 list.0 else answered_with s result.0 list.0)
-    (λ o. Some (step_of waits.0 o)) step waits.2 in
-    let is : outcome.0 ≡ Some x = ap (λ (y : EntryStep). y.outcome) (some_is (step_of waits.0 outcome.0) step outcome.2) ∙ there in
-    let both = answered skipped.0 told s result.0 list.0 x (outcome.1 ∙ ap (λ (o : Option Outcome). Some o) is) in
-    (both.0, list.1 ∙ ap (λ (l : List Provisioner). Some l) both.1)
+    let it : IsMadeOf d step = made_of d step e in
+    let both = answered it.skipped (is_some (member_of (codes "seconds") d)) (seconds_of d) it.result it.list x
+    (it.outcome ∙ ap (λ (o : Option Outcome). Some o) there) in
+    (both.0, it.provisioners ∙ ap (λ (l : List Provisioner). Some l) both.1)
 
 long_read : (k : Data) (step : EntryStep) → step_from k ≡ Some step → passes is_too_long step.outcome ≡ true → nat_lt max_seconds (seconds_in_all k) ≡ true
 long_read k step e long =
@@ -138,12 +122,8 @@ module _ (m : ℕ) (changes : Option (List ResourceChange)) (change : Option Res
 
 provisioner_object : (k : Data) (x : Provisioner) → provisioner_from k ≡ Some x → is_some (as_object k) ≡ true
 unfolding provisioner_from
-provisioner_object null x e = absurd cc
-provisioner_object (boolean b) x e = absurd cc
-provisioner_object (number n) x e = absurd cc
-provisioner_object (string s) x e = absurd cc
-provisioner_object (array ds) x e = absurd cc
-provisioner_object (object ms) x e = refl
+provisioner_object k x e =
+    object_there (λ it. is_some (provisioner_from it)) refl (λ b. refl) (λ n. refl) (λ s. refl) (λ ds. refl) k (ap (λ (o : Option Provisioner). is_some o) e)
 
 abbrev made : List ℕ → ℕ → List TimedText → Option Diag → Bool → Provisioner
 made name seconds output failed may_fail = record { name = name; seconds = seconds; output = output; failed = failed; may_fail = may_fail }
@@ -167,22 +147,17 @@ output_of d x e =
     texts_read seconds.0 (member_of (codes "output") d) output.0 both
     ∙ ap (λ (y : Provisioner). length y.output) (some_is (made name.0 seconds.0 output.0 failed.0 growth.0) x growth.2)
 
-third : (p : Finding → Bool) (a b c e f : List Finding) → list_any p c ≡ true → list_any p (a ++ b ++ c ++ e ++ f) ≡ true
-third p a b c e f is = any_left p _ f (any_left p _ e (any_right p (a ++ b) c is))
-
-in_provisioner_object : (p : Finding → Bool) (d : Data) (xs : List Finding) → is_some (as_object d) ≡ true → list_any p xs ≡ true
-    → list_any p (where_suits want.Provisioner d xs) ≡ true
-in_provisioner_object p d xs there found = rw there found
-
 texts_told : (p : Finding → Bool) (d k : Data) (x : Provisioner) → p (place_of (Some name.Output) what.TooManyTexts) ≡ true → Alike d k
     → provisioner_from k ≡ Some x → puts_out_too_much x ≡ true
     → list_any p (in_provisioner d) ≡ true
 unfolding in_provisioner
 texts_told p d k x told alike read much =
-    in_provisioner_object p d _ (object_alike d k alike ∙ provisioner_object k x read)
-    (third p (faults_of provisioner_table d) (in_list (λ number. unless_suits want.Output) (known name.Output want.ArrayOrAbsent) d)
-    (marked (provisioner_mark d ∷ []))
-    (inside in_diagnostic name.Failed d) (unread provisioner_names d)
+    let first : List Finding = faults_of provisioner_table d in
+    let parts : List (List Finding) =
+    in_list (λ number. unless_suits want.Output) (known name.Output want.ArrayOrAbsent) d ∷ marked (provisioner_mark d ∷ []) ∷ inside in_diagnostic name.Failed d
+    ∷ unread provisioner_names d ∷ [] in
+    suited p want.Provisioner d (joined first parts) (object_alike d k alike ∙ provisioner_object k x read)
+    (any_part p first parts 1 (marked (provisioner_mark d ∷ [])) refl
     (this_mark p (provisioner_mark d) [] (ap (nat_lt max_outputs) (count_same name.Output refl d k alike ∙ output_of k x read) ∙ much) told))
 
 pub much_told : (m : ℕ) (changes : Option (List ResourceChange)) (change : Option ResourceChange) (n : ℕ) (d k : Data) (step : EntryStep) → Alike d k

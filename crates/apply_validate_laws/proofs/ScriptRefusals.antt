@@ -6,7 +6,7 @@ use Rattle.std.specs.Option.{option_map, option_map_or}
 use Rattle.std.proofs.lemmas.List.{length-append, map-append, take_at}
 use Rattle.std.proofs.lemmas.List.Sums.{sum_by-append, sum_by-cons}
 use Rattle.serde_json.specs.Data.{Data, Items, no_items, item}
-use Rattle.serde_json.specs.Find.{as_object, get}
+use Rattle.serde_json.specs.Find.{as_array, as_object, get}
 use Rattle.apply_json.specs.Keeping.{keeping_tree_of}
 use Rattle.apply_json.specs.Tree.{list_of, member_of, tree_of}
 use Rattle.apply_model.specs.Plan.ResourceChange.{ResourceChange}
@@ -43,11 +43,11 @@ use Rattle.apply_validate_laws.proofs.Entries.{behind_one, one_entry}
 use Rattle.apply_validate_laws.proofs.Found.{any_implied, any_left, any_right, any_under, below, where_told}
 use Rattle.apply_validate_laws.proofs.Members.{array_there}
 use Rattle.apply_validate.proofs.Options.{and_left, and_right}
-use Rattle.apply_validate_laws.proofs.Refusals.{arrays, entry_number, first_or_later, is_object, same_number, tree_there, whole_clean}
+use Rattle.apply_validate_laws.proofs.Refusals.{arrays, entry_number, first_or_later, same_number, tree_there, whole_clean}
 use Rattle.apply_validate_laws.proofs.ScriptEntries.{refusal_told}
 use Rattle.apply_validate_laws.proofs.ScriptSteps.{entry_told}
 use Rattle.apply_validate_laws.proofs.Scripts.{fits_entry}
-use Rattle.apply_validate_laws.proofs.Wanted.{met_array}
+use Rattle.apply_validate_laws.proofs.Wanted.{is_object, met_array}
 
 err_is : {A E : Type 0} (x y : E) → (let r : Result A E = Err x in r) ≡ Err y → x ≡ y
 err_is x y e = cc
@@ -204,7 +204,7 @@ module _ (lanes : Bool) (plan : SavedPlan) (bytes : List ℕ) (refusal : ScriptE
       let d : Data = tree.0 in
       let alike : Alike d k = bytes_alike bytes d k tree.1 kept in
       let list = arrays (member_of (codes "changes") d) (member_of (codes "changes") k) (member_alike (codes "changes") refl d k alike) es elements in
-      let there : is_some (as_object d) ≡ true = object_alike d k alike ∙ is_object (codes "changes") k es elements in
+      let there : is_some (as_object d) ≡ true = object_alike d k alike ∙ is_object (codes "changes") as_array k es elements in
       let found : list_any (in_changes refusal) (items_behind (in_entry_behind (Some plan.changes)) [] (list_of list.0)) ≡ true =
       first_refused plan.changes refusal list.0 es list.2 [] [] (list_of es) refl refl refl refl refl refl first in
       in_tree refusal

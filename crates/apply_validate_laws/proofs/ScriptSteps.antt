@@ -1,5 +1,5 @@
 -- What is found in a step that a run reads, and in its items.
-use Rattle.std.proofs.Common.{◌≡◌, ℕ, suc, List, [], ◌∷◌, ◌++◌, map, Bool, true, false, not, ◌&&◌, ◌||◌, is_some, Option, Some, None, refl, sym, ap, ◌∙◌}
+use Rattle.std.proofs.Common.{◌≡◌, ℕ, suc, List, [], ◌∷◌, ◌++◌, map, slice_get, Bool, true, false, not, ◌&&◌, ◌||◌, is_some, Option, Some, None, refl, sym, ap, ◌∙◌}
 use Rattle.std.specs.List.{list_any}
 use Rattle.std.specs.Option.{option_map_or}
 use Rattle.serde_json.specs.Data.{Data, Items, no_items, item, null, boolean, number, string, array, object}
@@ -24,9 +24,11 @@ use Rattle.apply_validate.specs.Walks.{faults_of, found_by, in_items, in_list, i
 use Rattle.apply_validate_laws.specs.Laws.{tells_of_entry}
 use Rattle.apply_validate_laws.proofs.Alike.{Alike, AlikeItems, AreAlike, member_alike, object_alike}
 use Rattle.apply_validate.proofs.Options.{bind_some}
-use Rattle.apply_validate_laws.proofs.Found.{any_left, any_right, any_under, below, marked_first}
+use Rattle.apply_validate_laws.proofs.Found.{any_left, any_part, any_right, any_under, below, marked_first, suited}
+use Rattle.apply_validate_laws.proofs.Joined.{joined}
 use Rattle.apply_validate_laws.proofs.Scripts.{listed_in}
 use Rattle.apply_validate_laws.proofs.Taken.{outcomes}
+use Rattle.apply_validate_laws.proofs.Wanted.{object_there}
 
 some_is : {A : Type 0} (x y : A) → Some x ≡ Some y → x ≡ y
 some_is x y e = cc
@@ -115,81 +117,40 @@ each_list part (Some (object ms)) xs e = absurd cc
 
 step_object : (k : Data) (step : EntryStep) → step_from k ≡ Some step → is_some (as_object k) ≡ true
 unfolding step_from ending_of
-step_object null step e = absurd cc
-step_object (boolean b) step e = absurd cc
-step_object (number n) step e = absurd cc
-step_object (string s) step e = absurd cc
-step_object (array ds) step e = absurd cc
-step_object (object ms) step e = refl
-
-fourth : (p : Finding → Bool) (a b c e f g h i j k l : List Finding) → list_any p e ≡ true
-    → list_any p (a ++ b ++ c ++ e ++ f ++ g ++ h ++ i ++ j ++ k ++ l) ≡ true
-fourth p a b c e f g h i j k l is =
-    any_left p _ l (any_left p _ k (any_left p _ j (any_left p _ i (any_left p _ h (any_left p _ g (any_left p _ f (any_right p (a ++ b ++ c) e is)))))))
-
-fifth : (p : Finding → Bool) (a b c e f g h i j k l : List Finding) → list_any p f ≡ true
-    → list_any p (a ++ b ++ c ++ e ++ f ++ g ++ h ++ i ++ j ++ k ++ l) ≡ true
-fifth p a b c e f g h i j k l is = any_left p _ l (any_left p _ k
-    (any_left p _ j (any_left p _ i (any_left p _ h (any_left p _ g (any_right p (a ++ b ++ c ++ e) f is))))))
-
-sixth : (p : Finding → Bool) (a b c e f g h i j k l : List Finding) → list_any p g ≡ true
-    → list_any p (a ++ b ++ c ++ e ++ f ++ g ++ h ++ i ++ j ++ k ++ l) ≡ true
-sixth p a b c e f g h i j k l is = any_left p _ l (any_left p _ k (any_left p _ j (any_left p _ i (any_left p _ h (any_right p (a ++ b ++ c ++ e ++ f) g is)))))
-
-tenth : (p : Finding → Bool) (a b c e f g h i j k l : List Finding) → list_any p k ≡ true
-    → list_any p (a ++ b ++ c ++ e ++ f ++ g ++ h ++ i ++ j ++ k ++ l) ≡ true
-tenth p a b c e f g h i j k l is = any_left p _ l (any_right p (a ++ b ++ c ++ e ++ f ++ g ++ h ++ i ++ j) k is)
-
-in_object : (p : Finding → Bool) (d : Data) (xs : List Finding) → is_some (as_object d) ≡ true → list_any p xs ≡ true
-    → list_any p (where_suits want.Step d xs) ≡ true
-in_object p d xs there found = rw there found
+step_object k step e =
+    object_there (λ it. is_some (step_from it)) refl (λ b. refl) (λ n. refl) (λ s. refl) (λ ds. refl) k (ap (λ (o : Option EntryStep). is_some o) e)
 
 module _ (changes : Option (List ResourceChange)) (change : Option ResourceChange) (n : ℕ) (p : Finding → Bool) (d k : Data) (alike : Alike d k)
     (step : EntryStep) (read : step_from k ≡ Some step) where
   there : is_some (as_object d) ≡ true
   there = object_alike d k alike ∙ step_object k step read
 
+  abbrev parts : List (List Finding)
+  parts =
+      inside in_diagnostic name.Warning d ∷ inside in_failure name.Failed d ∷ in_list (λ number. in_provisioner) (known name.Provisioners want.ArrayOrAbsent) d
+      ∷ marked (step_marks d) ∷ marked (kind_marks change n d) ∷ faults_of (known name.Skipped want.FlagOrAbsent ∷ []) d ∷ marked (skipped_marks d)
+      ∷ inside (in_items (λ number. growth_of_provisioner)) name.Provisioners d ∷ in_list (λ item. in_wait changes) (known name.After want.ArrayOrAbsent) d
+      ∷ unread step_names d ∷ []
+
+  part_told : (m : ℕ) (part : List Finding) → slice_get parts m ≡ Some part → list_any p part ≡ true → list_any p (in_step changes change n d) ≡ true
+  unfolding in_step
+  part_told m part at is =
+      let first : List Finding = faults_of (step_table (is_skipped d)) d in
+      suited p want.Step d (joined first parts) there (any_part p first parts m part at is)
+
   pub provisioners_told : list_any p (in_list (λ number. in_provisioner) (known name.Provisioners want.ArrayOrAbsent) d) ≡ true
       → list_any p (in_step changes change n d) ≡ true
-  unfolding in_step
-  provisioners_told is =
-      in_object p d _ there
-      (fourth p (faults_of (step_table (is_skipped d)) d) (inside in_diagnostic name.Warning d) (inside in_failure name.Failed d)
-      (in_list (λ number. in_provisioner) (known name.Provisioners want.ArrayOrAbsent) d)
-      (marked (step_marks d)) (marked (kind_marks change n d)) (faults_of (known name.Skipped want.FlagOrAbsent ∷ []) d) (marked (skipped_marks d))
-      (inside (in_items (λ number. growth_of_provisioner)) name.Provisioners d)
-      (in_list (λ item. in_wait changes) (known name.After want.ArrayOrAbsent) d) (unread step_names d) is)
+  provisioners_told is = part_told 2 (in_list (λ number. in_provisioner) (known name.Provisioners want.ArrayOrAbsent) d) refl is
 
   pub marks_told : list_any p (marked (step_marks d)) ≡ true → list_any p (in_step changes change n d) ≡ true
-  unfolding in_step
-  marks_told is =
-      in_object p d _ there
-      (fifth p (faults_of (step_table (is_skipped d)) d) (inside in_diagnostic name.Warning d) (inside in_failure name.Failed d)
-      (in_list (λ number. in_provisioner) (known name.Provisioners want.ArrayOrAbsent) d)
-      (marked (step_marks d)) (marked (kind_marks change n d)) (faults_of (known name.Skipped want.FlagOrAbsent ∷ []) d) (marked (skipped_marks d))
-      (inside (in_items (λ number. growth_of_provisioner)) name.Provisioners d)
-      (in_list (λ item. in_wait changes) (known name.After want.ArrayOrAbsent) d) (unread step_names d) is)
+  marks_told is = part_told 3 (marked (step_marks d)) refl is
 
   pub kinds_told : list_any p (marked (kind_marks change n d)) ≡ true → list_any p (in_step changes change n d) ≡ true
-  unfolding in_step
-  kinds_told is =
-      in_object p d _ there
-      (sixth p (faults_of (step_table (is_skipped d)) d) (inside in_diagnostic name.Warning d) (inside in_failure name.Failed d)
-      (in_list (λ number. in_provisioner) (known name.Provisioners want.ArrayOrAbsent) d)
-      (marked (step_marks d)) (marked (kind_marks change n d)) (faults_of (known name.Skipped want.FlagOrAbsent ∷ []) d) (marked (skipped_marks d))
-      (inside (in_items (λ number. growth_of_provisioner)) name.Provisioners d)
-      (in_list (λ item. in_wait changes) (known name.After want.ArrayOrAbsent) d) (unread step_names d) is)
+  kinds_told is = part_told 4 (marked (kind_marks change n d)) refl is
 
   pub waits_told : list_any p (in_list (λ item. in_wait changes) (known name.After want.ArrayOrAbsent) d) ≡ true
       → list_any p (in_step changes change n d) ≡ true
-  unfolding in_step
-  waits_told is =
-      in_object p d _ there
-      (tenth p (faults_of (step_table (is_skipped d)) d) (inside in_diagnostic name.Warning d) (inside in_failure name.Failed d)
-      (in_list (λ number. in_provisioner) (known name.Provisioners want.ArrayOrAbsent) d)
-      (marked (step_marks d)) (marked (kind_marks change n d)) (faults_of (known name.Skipped want.FlagOrAbsent ∷ []) d) (marked (skipped_marks d))
-      (inside (in_items (λ number. growth_of_provisioner)) name.Provisioners d)
-      (in_list (λ item. in_wait changes) (known name.After want.ArrayOrAbsent) d) (unread step_names d) is)
+  waits_told is = part_told 8 (in_list (λ item. in_wait changes) (known name.After want.ArrayOrAbsent) d) refl is
 
 -- ---- the finding of a refusal
 

@@ -34,7 +34,7 @@ use Rattle.apply_validate_laws.proofs.Scripts.{waits_free}
 use Rattle.apply_validate_laws.proofs.Shapes.{IsSame, both_same, picked, same_diagnostic, same_failure, same_faults, same_growth, same_inside, same_items, same_list, same_picked, same_unread, same_wait, same_where, without}
 use Rattle.apply_validate_laws.proofs.ShapedProvisioners.{clean_shaped, first_shaped, is_read, items_shaped, made, same_provisioner, shaped_provisioner}
 use Rattle.apply_validate_laws.proofs.Steps.{alone, same_alone, apart, both_absent, diagnostic_there, failure_there, fit, flag_read, given, id_there, parts, reads as step_reads, silent_read, step_read, table_clean, timed, untouched}
-use Rattle.apply_validate_laws.proofs.Wanted.{each_is}
+use Rattle.apply_validate_laws.proofs.Wanted.{each_is, only_object}
 
 some_is : {A : Type 0} (x y : A) → Some x ≡ Some y → x ≡ y
 some_is x y e = cc
@@ -249,14 +249,9 @@ step_reads_shape q skipped told s id warning failed ps after tests tests_skipped
     ∙ shrunk q told s (id >>= λ t. warning >>= λ w. failed >>= λ f. ending_from (unless_empty t) w f) ps after
 
 -- what is no object is no step
-only_object : (k : Data) → (is_some (as_object k) && is_some (step_from k)) ≡ is_some (step_from k)
+only_step : (k : Data) → (is_some (as_object k) && is_some (step_from k)) ≡ is_some (step_from k)
 unfolding step_from ending_of
-only_object null = refl
-only_object (boolean b) = refl
-only_object (number n) = refl
-only_object (string s) = refl
-only_object (array ds) = refl
-only_object (object ms) = refl
+only_step k = only_object (λ it. is_some (step_from it)) refl (λ b. refl) (λ n. refl) (λ s. refl) (λ ds. refl) k
 
 pub clean_shaped_step : IsCleanBeside shaped_step (λ k. is_some (step_from k))
 unfolding step_from ending_of
@@ -327,4 +322,4 @@ clean_shaped_step d k alike =
     ∙ ap (λ (x : Bool). is_some (as_object d) && x)
     (clean-then_unread (wrong ++ warning ++ failed ++ provisioners ++ marks ++ flag ++ marks_skipped ++ growth ++ after) step_names d ∙ c9 ∙ by_itself)
     ∙ ap (λ (x : Bool). x && is_some (step_from k)) (object_alike d k alike)
-    ∙ only_object k
+    ∙ only_step k

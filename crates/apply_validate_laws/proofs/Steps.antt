@@ -31,7 +31,7 @@ use Rattle.apply_validate_laws.proofs.Diagnostics.{absent_or_diagnostic, absent_
 use Rattle.apply_validate_laws.proofs.Members.{IsCleanBeside, array_or, count_same, flag_same, flag_there, inside_clean, is_there_same, items_inside, list_clean, non_empty_same, seconds_same, sum_same, text_or_there, whole_there}
 use Rattle.apply_validate.proofs.Options.{and_assoc, and_false, and_true, crossed, none_any, nothing_then, still}
 use Rattle.apply_validate_laws.proofs.Provisioners.{all_seconds_read, clean_growth, clean_provisioner, fits, fits_first, fits_growth, is_provisioner, items_both, length_read, seconds_are}
-use Rattle.apply_validate_laws.proofs.Wanted.{each_fits, each_is}
+use Rattle.apply_validate_laws.proofs.Wanted.{each_fits, each_is, only_object}
 
 -- none of the tests of a step by itself holds
 unfoldable pub untouched : (failed id warning : Bool) (count seconds : ℕ) → Bool
@@ -327,14 +327,9 @@ both_absent p q None = refl
 both_absent p q (Some d) = both_items p q (list_of (items_in d))
 
 -- what is no object is no step
-only_object : (k : Data) → (is_some (as_object k) && is_step k) ≡ is_step k
+only_step : (k : Data) → (is_some (as_object k) && is_step k) ≡ is_step k
 unfolding step_from ending_of
-only_object null = refl
-only_object (boolean b) = refl
-only_object (number n) = refl
-only_object (string s) = refl
-only_object (array ds) = refl
-only_object (object ms) = refl
+only_step k = only_object is_step refl (λ b. refl) (λ n. refl) (λ s. refl) (λ ds. refl) k
 
 -- what a step waits for is there
 abbrev pub waits_found : Option (List ResourceChange) → Data → Bool
@@ -416,4 +411,4 @@ clean_step changes change n d k alike =
     clean-where_suits want.Step d (wrong ++ warning ++ failed ++ provisioners ++ marks ++ kinds ++ flag ++ marks_skipped ++ growth ++ after ++ unread step_names d)
     ∙ ap (λ (x : Bool). is_some (as_object d) && x) whole
     ∙ ap (λ (x : Bool). x && fits_step changes change n k) (object_alike d k alike)
-    ∙ still (is_some (as_object k)) (is_step k) (is_beside changes change n k) (only_object k)
+    ∙ still (is_some (as_object k)) (is_step k) (is_beside changes change n k) (only_step k)

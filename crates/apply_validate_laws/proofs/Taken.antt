@@ -138,9 +138,19 @@ pub record IsReadOf (d : Data) (step : EntryStep) : Type 0 where
 abbrev step_of : List WaitName → Option Outcome → EntryStep
 step_of after outcome = record { outcome = outcome; after = after }
 
-pub step_read : (d : Data) (step : EntryStep) → step_from d ≡ Some step → IsReadOf d step
+-- what it is made of
+pub record IsMadeOf (d : Data) (step : EntryStep) : Type 0 where
+  pub skipped : Bool
+  pub result : Ending
+  pub list : List Provisioner
+  pub ending : ending_of d ≡ Some result
+  pub provisioners : each_of provisioner_from (member_of (codes "provisioners") d) ≡ Some list
+  pub waits : each_of wait_from (member_of (codes "after") d) ≡ Some step.after
+  pub outcome : (let o : Option (Option Outcome) = if skipped then skipped_with (is_some (member_of (codes "seconds") d)) result list else answered_with (seconds_of d) result list in o) ≡ Some step.outcome
+
+pub made_of : (d : Data) (step : EntryStep) → step_from d ≡ Some step → IsMadeOf d step
 unfolding step_from
-step_read d step e =
+made_of d step e =
     let told : Bool = is_some (member_of (codes "seconds") d) in
     let s : Option ℕ = seconds_of d in
     let ending : Option Ending = ending_of d in
@@ -153,15 +163,25 @@ step_read d step e =
     let waits = bind_some after (λ a. (if skipped.0 then skipped_with told result.0 list.0 else answered_with s result.0 list.0) >>= λ o. Some (step_of a o)) step list.2 in
     let outcome = bind_some (if skipped.0 then skipped_with told result.0 list.0 else answered_with s result.0 list.0) (λ o. Some (step_of waits.0 o)) step waits.2 in
     let is : step_of waits.0 outcome.0 ≡ step = some_is (step_of waits.0 outcome.0) step outcome.2 in
-    let both = outcome_read skipped.0 told s result.0 list.0 outcome.0 outcome.1 in
-    let comes : step.outcome ≡ outcome.0 = ap (λ (x : EntryStep). x.outcome) (sym is) in
-    let named : waits.0 ≡ step.after = ap (λ (x : EntryStep). x.after) is in
-    let read : each_of wait_from (member_of (codes "after") d) ≡ Some step.after = waits.1 ∙ ap (λ (x : List WaitName). Some x) named in
     record {
-      some = ap (passes has_provisioners) comes ∙ both.0 ∙ ap (nat_lt 0) (sym (length_read provisioner_from (member_of (codes "provisioners") d) list.0 list.1));
-      warns = ap (passes run.only_warns) comes ∙ both.1 ∙ ending_read d result.0 result.1;
-      waits = read;
-      count = length_read wait_from (member_of (codes "after") d) step.after read;
+      skipped = skipped.0;
+      result = result.0;
+      list = list.0;
+      ending = result.1;
+      provisioners = list.1;
+      waits = waits.1 ∙ ap (λ (x : EntryStep). Some x.after) is;
+      outcome = outcome.1 ∙ ap (λ (x : EntryStep). Some x.outcome) is;
+    }
+
+pub step_read : (d : Data) (step : EntryStep) → step_from d ≡ Some step → IsReadOf d step
+step_read d step e =
+    let it : IsMadeOf d step = made_of d step e in
+    let both = outcome_read it.skipped (is_some (member_of (codes "seconds") d)) (seconds_of d) it.result it.list step.outcome it.outcome in
+    record {
+      some = both.0 ∙ ap (nat_lt 0) (sym (length_read provisioner_from (member_of (codes "provisioners") d) it.list it.provisioners));
+      warns = both.1 ∙ ending_read d it.result it.ending;
+      waits = it.waits;
+      count = length_read wait_from (member_of (codes "after") d) step.after it.waits;
     }
 
 -- ---- the steps of an entry

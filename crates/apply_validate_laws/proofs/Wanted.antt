@@ -4,14 +4,14 @@ use Rattle.std.specs.Prelude.{codes}
 use Rattle.std.specs.List.{list_all}
 use Rattle.std.specs.Option.{option_map_or}
 use Rattle.std.specs.Str.{bytes_eq}
-use Rattle.serde_json.specs.Data.{Data, null, boolean, number, string, array, object}
+use Rattle.serde_json.specs.Data.{Data, Items, Num, null, boolean, number, string, array, object}
 use Rattle.serde_json.specs.Find.{as_array, as_number, as_object, as_str, as_u64}
 use Rattle.apply_json.specs.Tree.{◌>>=◌, is_empty, items_or_empty, list_of, member_of, text_or, unless_empty}
 use Rattle.apply_plan.specs.Script.Entry.{all_some, each_of, flag_or_false, may_fail_by, may_fail_or_not, number_or_none, only_warns_by, only_warns_or_not}
 use Rattle.apply_validate.specs.declared.findings.want.Want.TheVariants as want
 use Rattle.apply_validate.specs.Wants.{is_met}
 use Rattle.apply_validate_laws.proofs.Clean.{all_items, is_absent_or}
-use Rattle.apply_validate.proofs.Options.{all_fit, all_some_is, and_then_is, some_map}
+use Rattle.apply_validate.proofs.Options.{all_fit, all_some_is, and_left, and_then_is, some_map}
 
 pub met_text : (o : Option Data) → is_met want.Text o ≡ is_some (o >>= as_str)
 met_text None = refl
@@ -80,6 +80,27 @@ needs_object n (number z) b none = sym (none refl)
 needs_object n (string s) b none = sym (none refl)
 needs_object n (array ds) b none = sym (none refl)
 needs_object n (object ms) b none = refl
+
+-- the same, where something is read of the member
+pub is_object : {A : Type 0} (n : List ℕ) (f : Data → Option A) (d : Data) (x : A) → (member_of n d >>= f) ≡ Some x → is_some (as_object d) ≡ true
+is_object {A} n f d x e =
+    let there : Bool = is_some (member_of n d >>= f) in
+    and_left (is_some (as_object d)) there
+    (needs_object n d there (λ none. ap (λ (o : Option Data). is_some (o >>= f)) none) ∙ ap (λ (o : Option A). is_some o) e)
+
+-- of an object alone a test may hold
+module _ (test : Data → Bool) (of_null : test null ≡ false) (of_boolean : (b : Bool) → test (boolean b) ≡ false) (of_number : (n : Num) → test (number n) ≡ false)
+    (of_string : (s : List ℕ) → test (string s) ≡ false) (of_array : (ds : Items) → test (array ds) ≡ false) where
+  pub only_object : (k : Data) → (is_some (as_object k) && test k) ≡ test k
+  only_object null = sym of_null
+  only_object (boolean b) = sym (of_boolean b)
+  only_object (number n) = sym (of_number n)
+  only_object (string s) = sym (of_string s)
+  only_object (array ds) = sym (of_array ds)
+  only_object (object ms) = refl
+
+  pub object_there : (k : Data) → test k ≡ true → is_some (as_object k) ≡ true
+  object_there k holds = and_left (is_some (as_object k)) (test k) (only_object k ∙ holds)
 
 -- ---- arrays that may be absent
 
