@@ -40,7 +40,7 @@ use Rattle.apply_validate_laws.proofs.Members.{all_from, all_items_from}
 use Rattle.apply_validate.proofs.Options.{and_false, and_if, and_left, and_right, and_true, bind_some, crossed}
 use Rattle.apply_validate_laws.proofs.Provisioners.{length_of_all}
 use Rattle.apply_validate_laws.proofs.Scripts.{entries_fit, fits_entry, is_again, steps_beside}
-use Rattle.apply_validate_laws.proofs.Steps.{is_beside, waits_found}
+use Rattle.apply_validate_laws.proofs.CleanSteps.{is_beside, waits_found}
 use Rattle.apply_validate_laws.proofs.Taken.{found_with, kinds_read, named_by, outcomes, waits_known, waits_read}
 
 some_is : {A : Type 0} (x y : A) → Some x ≡ Some y → x ≡ y

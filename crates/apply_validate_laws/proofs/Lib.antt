@@ -2,6 +2,7 @@ pub mod Alike
 pub mod Besides
 pub mod BytesPlaced
 pub mod Clean
+pub mod CleanSteps
 pub mod Diagnostics
 pub mod ElementRefusals
 pub mod Elements

@@ -32,7 +32,8 @@ use Rattle.apply_validate_laws.proofs.Clean.{all_items, appended, clean, clean-a
 use Rattle.apply_validate_laws.proofs.Diagnostics.{two}
 use Rattle.apply_validate_laws.proofs.Members.{IsCleanBeside, all_from, all_items_from, array_there, inside_clean, numbered_clean, text_or_there, text_there}
 use Rattle.apply_validate.proofs.Options.{and_assoc, and_false, and_true, crossed, not_not, still}
-use Rattle.apply_validate_laws.proofs.Steps.{clean_step, fits_step, is_beside, is_step}
+use Rattle.apply_validate_laws.proofs.CleanSteps.{clean_step, fits_step, is_beside}
+use Rattle.apply_validate_laws.proofs.Steps.{is_step}
 use Rattle.apply_validate_laws.proofs.Wanted.{each_fits_there, needs_object}
 
 abbrev within : List EntryStep → Bool

@@ -1,5 +1,5 @@
 -- Steps, but for their limits and what stands in the plan: nothing is found that breaks a rule, exactly where one is read.
-use Rattle.std.proofs.Common.{◌≡◌, ℕ, suc, ◌+◌, ◌<◌, List, [], ◌∷◌, ◌++◌, length, Bool, true, false, not, ◌&&◌, ◌||◌, is_some, Option, Some, None, if◌then◌else◌, refl, sym, ap, ◌∙◌, arith}
+use Rattle.std.proofs.Common.{◌≡◌, ℕ, suc, ◌+◌, ◌<◌, List, [], ◌∷◌, ◌++◌, length, Bool, true, false, not, ◌&&◌, ◌||◌, is_some, Option, Some, None, if◌then◌else◌, refl, sym, ap, ◌∙◌, arith, map}
 use Rattle.std.specs.Prelude.{codes, nat_lt}
 use Rattle.std.specs.List.{list_all}
 use Rattle.std.specs.Option.{option_map, option_map_or}
@@ -24,7 +24,7 @@ use Rattle.apply_validate.specs.ScriptFindings.{growth_of_provisioner, in_diagno
 use Rattle.apply_validate.specs.Walks.{faults_of, in_items, in_list, inside, items_at, known, marked, unread, where_suits}
 use Rattle.apply_validate.specs.Wants.{is_met}
 use Rattle.apply_validate_laws.proofs.Alike.{Alike, object_alike}
-use Rattle.apply_validate_laws.proofs.Clean.{all_items, appended, clean, clean-faults_of, clean-marked, clean-then_unread, clean-where_suits, is_absent_or}
+use Rattle.apply_validate_laws.proofs.Clean.{all_items, appended, clean, clean-faults_of, clean-marked, clean-then_unread, clean-where_suits, is_absent_or, all_of, clean-joined}
 use Rattle.apply_validate_laws.proofs.Diagnostics.{absent_or_diagnostic, absent_or_failure, clean_diagnostic, clean_failure, clean_wait, fits_wait}
 use Rattle.apply_validate_laws.proofs.Besides.{is_found}
 use Rattle.apply_validate_laws.proofs.Members.{IsCleanBeside, array_or, count_same, flag_same, flag_there, inside_clean, is_there_same, items_inside, list_clean, non_empty_same}
@@ -33,8 +33,10 @@ use Rattle.apply_validate_laws.proofs.Provisioners.{clean_growth, fits, fits_gro
 use Rattle.apply_validate_laws.proofs.Scripts.{waits_free}
 use Rattle.apply_validate_laws.proofs.Shapes.{IsSame, both_same, picked, same_diagnostic, same_failure, same_faults, same_growth, same_inside, same_items, same_list, same_picked, same_unread, same_wait, same_where, without}
 use Rattle.apply_validate_laws.proofs.ShapedProvisioners.{clean_shaped, first_shaped, is_read, items_shaped, made, same_provisioner, shaped_provisioner}
-use Rattle.apply_validate_laws.proofs.Steps.{alone, same_alone, apart, both_absent, diagnostic_there, failure_there, fit, flag_read, given, id_there, parts, reads as step_reads, silent_read, step_read, table_clean, timed, untouched}
+use Rattle.apply_validate_laws.proofs.Steps.{alone, same_alone, apart, diagnostic_there, failure_there, fit, flag_read, given, id_there, parts as step_parts, reads as step_reads, silent_read, step_read, table_clean, timed, untouched}
 use Rattle.apply_validate_laws.proofs.Wanted.{each_is, only_object}
+use Rattle.apply_validate_laws.proofs.CleanSteps.{both_absent, failure_clean, failure_of, flag_clean, flag_of, growth_clean, id_of, own_clean, provisioners_of, says_seconds, waits_of, warning_clean, warning_of}
+use Rattle.apply_validate_laws.proofs.Joined.{joined}
 
 some_is : {A : Type 0} (x y : A) → Some x ≡ Some y → x ≡ y
 some_is x y e = cc
@@ -229,12 +231,12 @@ step_reads_shape : (q : Option Bool) (skipped told : Bool) (s : Option ℕ) (id 
     → ((t : List ℕ) (w : Option Diag) (f : Option Failure) (l : List Provisioner) → id ≡ Some t → warning ≡ Some w → failed ≡ Some f → ps ≡ Some l
     → (tests ≡ clear (is_some f) (is_some (unless_empty t)) (is_some w) (length l))
     × (tests_skipped ≡ alone skipped told (is_some (unless_empty t)) (is_some w) (is_some f) (length l)))
-    → parts (timed skipped s) (is_some id) (is_some warning) (is_some failed) (is_some ps) tests (is_some q) tests_skipped (is_some after)
+    → step_parts (timed skipped s) (is_some id) (is_some warning) (is_some failed) (is_some ps) tests (is_some q) tests_skipped (is_some after)
     ≡ is_some (step_read q told s id warning failed ps after)
 step_reads_shape q skipped told s id warning failed ps after tests tests_skipped none flag are =
-    ap (λ (b : Bool). parts (skipped || b) (is_some id) (is_some warning) (is_some failed) (is_some ps) tests (is_some q) tests_skipped
+    ap (λ (b : Bool). step_parts (skipped || b) (is_some id) (is_some warning) (is_some failed) (is_some ps) tests (is_some q) tests_skipped
     (is_some after)) (sym (quick_there s))
-    ∙ ap (λ (b : Bool). parts (timed skipped (quick s)) (is_some id) (is_some warning) (is_some failed) b tests (is_some q) tests_skipped
+    ∙ ap (λ (b : Bool). step_parts (timed skipped (quick s)) (is_some id) (is_some warning) (is_some failed) b tests (is_some q) tests_skipped
     (is_some after)) (sym (small_fits ps))
     ∙ step_reads q skipped told (quick s) id warning failed (option_map small ps) after tests tests_skipped (λ e. ap quick (none e)) flag
     (λ t w f l et ew ef el.
@@ -256,70 +258,43 @@ only_step k = only_object (λ it. is_some (step_from it)) refl (λ b. refl) (λ 
 pub clean_shaped_step : IsCleanBeside shaped_step (λ k. is_some (step_from k))
 unfolding step_from ending_of
 clean_shaped_step d k alike =
-    let wrong : List Finding = faults_of (step_table (is_skipped d)) d in
-    let warning : List Finding = inside in_diagnostic name.Warning d in
-    let failed : List Finding = inside in_failure name.Failed d in
     let provisioners : List Finding = in_list (λ number. shaped_provisioner) (known name.Provisioners want.ArrayOrAbsent) d in
-    let marks : List Finding = marked (picked (step_marks d)) in
-    let flag : List Finding = faults_of (known name.Skipped want.FlagOrAbsent ∷ []) d in
-    let marks_skipped : List Finding = marked (skipped_marks d) in
-    let growth : List Finding = inside (in_items (λ number. growth_of_provisioner)) name.Provisioners d in
     let after : List Finding = in_list (λ item. in_wait None) (known name.After want.ArrayOrAbsent) d in
-    let q : Option Bool = flag_or_false (member_of (codes "skipped") k) in
-    let told : Bool = is_some (member_of (codes "seconds") k) in
-    let s : Option ℕ = seconds_of k in
-    let t : Option (List ℕ) = text_or [] (member_of (codes "id") k) in
-    let w : Option (Option Diag) = diag_or_none (member_of (codes "warning") k) in
-    let f : Option (Option Failure) = failure_or_none (member_of (codes "failed") k) in
     let o : Option Data = member_of (codes "provisioners") k in
-    let l : Option (List Provisioner) = each_of provisioner_from o in
     let p : Option Data = member_of (codes "after") k in
-    let a : Option (List WaitName) = each_of wait_from p in
     let tests : Bool = none_holds (picked (step_marks k)) in
     let tests_skipped : Bool = none_holds (skipped_marks k) in
-    let listed : Bool = is_met want.ArrayOrAbsent o in
-    let skipped : Bool = is_skipped k in
+    let own : Bool = timed (is_skipped k) (seconds_of k) && is_some (id_of k) in
+    let listed : Bool = is_met want.ArrayOrAbsent o && is_absent_or (all_items first_shaped) o in
+    let grown : Bool = is_absent_or (all_items fits_growth) o in
     let same = tests_same d k alike in
-    let e1 : clean wrong ≡ (timed skipped s && is_some t) =
-    table_clean (is_skipped d) d k alike ∙ ap (λ (b : Bool). timed b s && is_some t) (flag_same (codes "skipped") refl d k alike) in
-    let e2 : clean warning ≡ is_some w = inside_clean in_diagnostic (λ e. is_some (diag_from e)) clean_diagnostic name.Warning refl d k alike
-    ∙ absent_or_diagnostic (member_of (codes "warning") k) in
-    let e3 : clean failed ≡ is_some f = inside_clean in_failure (λ e. is_some (failure_from e)) clean_failure name.Failed refl d k alike
-    ∙ absent_or_failure (member_of (codes "failed") k) in
-    let e4 : clean provisioners ≡ (listed && is_absent_or (all_items first_shaped) o) =
+    let read : clean provisioners ≡ listed =
     list_clean (λ number. shaped_provisioner) first_shaped (λ number. clean_shaped) (known name.Provisioners want.ArrayOrAbsent) array_or refl d k alike in
-    let e5 : clean marks ≡ tests = clean-marked (picked (step_marks d)) refl ∙ same.0 in
-    let e6 : clean flag ≡ is_some q =
-    clean-faults_of (known name.Skipped want.FlagOrAbsent ∷ []) d ∙ and_true (is_met want.FlagOrAbsent (member_of (codes "skipped") d))
-    ∙ flag_there (codes "skipped") refl d k alike in
-    let e7 : clean marks_skipped ≡ tests_skipped = clean-marked (skipped_marks d) refl ∙ same.1 in
-    let e8 : clean growth ≡ is_absent_or (all_items fits_growth) o =
-    items_inside (λ number. growth_of_provisioner) fits_growth (λ number. clean_growth) name.Provisioners refl d k alike in
-    let e9 : clean after ≡ is_some a =
+    let awaited : clean after ≡ is_some (waits_of k) =
     list_clean (λ item. in_wait None) (fits_wait None) (λ item. clean_wait None) (known name.After want.ArrayOrAbsent) array_or refl d k alike
     ∙ ap (λ (b : Bool). is_met want.ArrayOrAbsent p && b) (both_absent (λ e. is_some (wait_from e)) (is_found None) p)
     ∙ ap (λ (b : Bool). is_met want.ArrayOrAbsent p && (is_absent_or (all_items (λ e. is_some (wait_from e))) p && b)) (waits_free p)
     ∙ ap (λ (b : Bool). is_met want.ArrayOrAbsent p && b) (and_true (is_absent_or (all_items (λ e. is_some (wait_from e))) p))
     ∙ each_is wait_from p in
-    let c2 = appended wrong warning _ _ e1 e2 in
-    let c3 = appended (wrong ++ warning) failed _ _ c2 e3 in
-    let c4 = appended (wrong ++ warning ++ failed) provisioners _ _ c3 e4 in
-    let c5 = appended (wrong ++ warning ++ failed ++ provisioners) marks _ _ c4 e5 in
-    let c6 = appended (wrong ++ warning ++ failed ++ provisioners ++ marks) flag _ _ c5 e6 in
-    let c7 = appended (wrong ++ warning ++ failed ++ provisioners ++ marks ++ flag) marks_skipped _ _ c6 e7 in
-    let c8 = appended (wrong ++ warning ++ failed ++ provisioners ++ marks ++ flag ++ marks_skipped) growth _ _ c7 e8 in
-    let c9 = appended (wrong ++ warning ++ failed ++ provisioners ++ marks ++ flag ++ marks_skipped ++ growth) after _ _ c8 e9 in
-    let by_itself : (((((((((timed skipped s && is_some t) && is_some w) && is_some f) && (listed && is_absent_or
-    (all_items first_shaped) o)) && tests) && is_some q) && tests_skipped) && is_absent_or (all_items fits_growth) o) && is_some a)
-    ≡ is_some (step_from k) =
-    apart (timed skipped s) (is_some t) (is_some w) (is_some f) listed (is_absent_or (all_items first_shaped) o) tests (is_some q) tests_skipped
-    (is_absent_or (all_items fits_growth) o) (is_some a)
+    let parts : List (List Finding × Bool) =
+    (inside in_diagnostic name.Warning d, is_some (warning_of k)) ∷ (inside in_failure name.Failed d, is_some (failure_of k)) ∷ (provisioners, listed)
+    ∷ (marked (picked (step_marks d)), tests) ∷ (faults_of (known name.Skipped want.FlagOrAbsent ∷ []) d, is_some (flag_of k))
+    ∷ (marked (skipped_marks d), tests_skipped) ∷ (inside (in_items (λ number. growth_of_provisioner)) name.Provisioners d, grown)
+    ∷ (after, is_some (waits_of k)) ∷ [] in
+    let found : List Finding = joined (faults_of (step_table (is_skipped d)) d) (map (λ (part : List Finding × Bool). part.0) parts) in
+    let are : clean found ≡ all_of own parts =
+    clean-joined (faults_of (step_table (is_skipped d)) d) own parts (own_clean d k alike)
+    (warning_clean d k alike, (failure_clean d k alike, (read, (clean-marked (picked (step_marks d)) refl ∙ same.0, (flag_clean d k alike,
+    (clean-marked (skipped_marks d) refl ∙ same.1, (growth_clean d k alike, (awaited, tt)))))))) in
+    let by_itself : all_of own parts ≡ is_some (step_from k) =
+    apart (timed (is_skipped k) (seconds_of k)) (is_some (id_of k)) (is_some (warning_of k)) (is_some (failure_of k)) (is_met want.ArrayOrAbsent o)
+    (is_absent_or (all_items first_shaped) o) tests (is_some (flag_of k)) tests_skipped grown (is_some (waits_of k))
     (is_absent_or (all_items is_read) o) (items_shaped o)
-    ∙ ap (λ (x : Bool). parts (timed skipped s) (is_some t) (is_some w) (is_some f) x tests (is_some q) tests_skipped (is_some a)) (each_is provisioner_from o)
-    ∙ step_reads_shape q skipped told s t w f l a tests tests_skipped (silent_read (member_of (codes "seconds") k))
-    (flag_read (member_of (codes "skipped") k)) (tests_read k) in
-    clean-where_suits want.Step d (wrong ++ warning ++ failed ++ provisioners ++ marks ++ flag ++ marks_skipped ++ growth ++ after ++ unread step_names d)
-    ∙ ap (λ (x : Bool). is_some (as_object d) && x)
-    (clean-then_unread (wrong ++ warning ++ failed ++ provisioners ++ marks ++ flag ++ marks_skipped ++ growth ++ after) step_names d ∙ c9 ∙ by_itself)
+    ∙ ap (λ (x : Bool). step_parts (timed (is_skipped k) (seconds_of k)) (is_some (id_of k)) (is_some (warning_of k)) (is_some (failure_of k)) x tests
+    (is_some (flag_of k)) tests_skipped (is_some (waits_of k))) (each_is provisioner_from o)
+    ∙ step_reads_shape (flag_of k) (is_skipped k) (says_seconds k) (seconds_of k) (id_of k) (warning_of k) (failure_of k) (provisioners_of k) (waits_of k) tests
+    tests_skipped (silent_read (member_of (codes "seconds") k)) (flag_read (member_of (codes "skipped") k)) (tests_read k) in
+    clean-where_suits want.Step d (found ++ unread step_names d)
+    ∙ ap (λ (x : Bool). is_some (as_object d) && x) (clean-then_unread found step_names d ∙ are ∙ by_itself)
     ∙ ap (λ (x : Bool). x && is_some (step_from k)) (object_alike d k alike)
     ∙ only_step k

@@ -1,4 +1,4 @@
--- Steps: nothing is found for which a run refuses, exactly where one is read that is within the limits.
+-- The tests of steps, and what is read of one that is within the limits.
 use Rattle.std.proofs.Common.{◌≡◌, ℕ, suc, ◌+◌, ◌<◌, List, [], ◌∷◌, ◌++◌, length, Bool, true, false, not, ◌&&◌, ◌||◌, is_some, Option, Some, None, unwrap_or, if◌then◌else◌, refl, sym, ap, ◌∙◌, arith}
 use Rattle.std.specs.Prelude.{codes, nat_lt}
 use Rattle.std.specs.List.{list_all, sum_by}
@@ -258,7 +258,7 @@ pub flag_read : (o : Option Data) (b : Bool) → flag_or_false o ≡ Some b → 
 flag_read None b e = some_is false b e
 flag_read (Some d) b e = ap (λ (x : Option Bool). option_map_or (λ flag. flag) x false) e
 
-tests_read : (k : Data) (t : List ℕ) (w : Option Diag) (f : Option Failure) (l : List Provisioner) → text_or [] (member_of (codes "id") k) ≡ Some t
+pub tests_read : (k : Data) (t : List ℕ) (w : Option Diag) (f : Option Failure) (l : List Provisioner) → text_or [] (member_of (codes "id") k) ≡ Some t
     → diag_or_none (member_of (codes "warning") k) ≡ Some w → failure_or_none (member_of (codes "failed") k) ≡ Some f
     → each_of provisioner_from (member_of (codes "provisioners") k) ≡ Some l
     → (list_all (λ mark. not mark.holds) (step_marks k) ≡ untouched (is_some f) (is_some (unless_empty t)) (is_some w) (length l) (given (seconds_of k) + seconds_of_all l))
@@ -275,7 +275,7 @@ tests_read k t w f l et ew ef el =
     (same_tests _ _ _ _ _ _ _ _ _ _ failed id warning count taken, same_alone (is_skipped k) (is_skipped k) (is_some (member_of (codes "seconds") k)) (is_some (member_of (codes "seconds") k)) _ _ _ _ _ _ _ _ refl refl id warning failed count)
 
 -- and of the other tree
-tests_same : (d k : Data) → Alike d k
+pub tests_same : (d k : Data) → Alike d k
     → (list_all (λ mark. not mark.holds) (step_marks d) ≡ list_all (λ mark. not mark.holds) (step_marks k))
     × (list_all (λ mark. not mark.holds) (skipped_marks d) ≡ list_all (λ mark. not mark.holds) (skipped_marks k))
 unfolding untouched alone
@@ -310,105 +310,3 @@ apart true true true true true true false flag skipped growth after all e = sym 
 apart true true true true true true true false skipped growth after all e = sym (and_false all)
 apart true true true true true true true true false growth after all e = sym (and_false all)
 apart true true true true true true true true true growth after all e = ap (λ (b : Bool). b && after) e
-
--- what is tested beside the changes of a plan, apart from what is tested without them
-beside_last : (x kinds flag skipped growth a waits : Bool)
-    → (((((x && kinds) && flag) && skipped) && growth) && (a && waits)) ≡ (((((x && flag) && skipped) && growth) && a) && (kinds && waits))
-beside_last false kinds flag skipped growth a waits = refl
-beside_last true true flag skipped growth a waits = and_assoc (((flag && skipped) && growth)) a waits
-beside_last true false flag skipped growth a waits = sym (and_false (((flag && skipped) && growth) && a))
-
-both_items : (p q : Data → Bool) (ks : List Data) → list_all (λ e. p e && q e) ks ≡ (list_all p ks && list_all q ks)
-both_items p q [] = refl
-both_items p q (k ∷ ks) = ap (λ (b : Bool). (p k && q k) && b) (both_items p q ks) ∙ crossed (p k) (q k) (list_all p ks) (list_all q ks)
-
-pub both_absent : (p q : Data → Bool) (o : Option Data) → is_absent_or (all_items (λ e. p e && q e)) o ≡ (is_absent_or (all_items p) o && is_absent_or (all_items q) o)
-both_absent p q None = refl
-both_absent p q (Some d) = both_items p q (list_of (items_in d))
-
--- what is no object is no step
-only_step : (k : Data) → (is_some (as_object k) && is_step k) ≡ is_step k
-unfolding step_from ending_of
-only_step k = only_object is_step refl (λ b. refl) (λ n. refl) (λ s. refl) (λ ds. refl) k
-
--- what a step waits for is there
-abbrev pub waits_found : Option (List ResourceChange) → Data → Bool
-waits_found changes k = is_absent_or (all_items (is_found changes)) (member_of (codes "after") k)
-
--- a step fits the changes of a plan
-abbrev pub is_beside : Option (List ResourceChange) → Option ResourceChange → ℕ → Data → Bool
-is_beside changes change n k = fits_kind change n k && waits_found changes k
-
--- a step that a run reads is within the limits, and fits the changes of a plan
-abbrev pub fits_step : Option (List ResourceChange) → Option ResourceChange → ℕ → Data → Bool
-fits_step changes change n k = is_step k && is_beside changes change n k
-
-pub clean_step : (changes : Option (List ResourceChange)) (change : Option ResourceChange) (n : ℕ) → IsCleanBeside (in_step changes change n) (fits_step changes change n)
-unfolding in_step step_from ending_of
-clean_step changes change n d k alike =
-    let wrong : List Finding = faults_of (step_table (is_skipped d)) d in
-    let warning : List Finding = inside in_diagnostic name.Warning d in
-    let failed : List Finding = inside in_failure name.Failed d in
-    let provisioners : List Finding = in_list (λ number. in_provisioner) (known name.Provisioners want.ArrayOrAbsent) d in
-    let marks : List Finding = marked (step_marks d) in
-    let kinds : List Finding = marked (kind_marks change n d) in
-    let flag : List Finding = faults_of (known name.Skipped want.FlagOrAbsent ∷ []) d in
-    let marks_skipped : List Finding = marked (skipped_marks d) in
-    let growth : List Finding = inside (in_items (λ number. growth_of_provisioner)) name.Provisioners d in
-    let after : List Finding = in_list (λ item. in_wait changes) (known name.After want.ArrayOrAbsent) d in
-    let q : Option Bool = flag_or_false (member_of (codes "skipped") k) in
-    let told : Bool = is_some (member_of (codes "seconds") k) in
-    let s : Option ℕ = seconds_of k in
-    let t : Option (List ℕ) = text_or [] (member_of (codes "id") k) in
-    let w : Option (Option Diag) = diag_or_none (member_of (codes "warning") k) in
-    let f : Option (Option Failure) = failure_or_none (member_of (codes "failed") k) in
-    let o : Option Data = member_of (codes "provisioners") k in
-    let l : Option (List Provisioner) = each_of provisioner_from o in
-    let p : Option Data = member_of (codes "after") k in
-    let a : Option (List WaitName) = each_of wait_from p in
-    let tests : Bool = list_all (λ mark. not mark.holds) (step_marks k) in
-    let tests_skipped : Bool = list_all (λ mark. not mark.holds) (skipped_marks k) in
-    let listed : Bool = is_met want.ArrayOrAbsent o in
-    let skipped : Bool = is_skipped k in
-    let same = tests_same d k alike in
-    let e1 : clean wrong ≡ (timed skipped s && is_some t) =
-    table_clean (is_skipped d) d k alike ∙ ap (λ (b : Bool). timed b s && is_some t) (flag_same (codes "skipped") refl d k alike) in
-    let e2 : clean warning ≡ is_some w = inside_clean in_diagnostic (λ e. is_some (diag_from e)) clean_diagnostic name.Warning refl d k alike ∙ absent_or_diagnostic (member_of (codes "warning") k) in
-    let e3 : clean failed ≡ is_some f = inside_clean in_failure (λ e. is_some (failure_from e)) clean_failure name.Failed refl d k alike ∙ absent_or_failure (member_of (codes "failed") k) in
-    let e4 : clean provisioners ≡ (listed && is_absent_or (all_items fits_first) o) =
-    list_clean (λ number. in_provisioner) fits_first (λ number. clean_provisioner) (known name.Provisioners want.ArrayOrAbsent) array_or refl d k alike in
-    let e5 : clean marks ≡ tests = clean-marked (step_marks d) refl ∙ same.0 in
-    let e6 : clean kinds ≡ fits_kind change n k = kind_same change n d k alike in
-    let e7 : clean flag ≡ is_some q =
-    clean-faults_of (known name.Skipped want.FlagOrAbsent ∷ []) d ∙ and_true (is_met want.FlagOrAbsent (member_of (codes "skipped") d)) ∙ flag_there (codes "skipped") refl d k alike in
-    let e8 : clean marks_skipped ≡ tests_skipped = clean-marked (skipped_marks d) refl ∙ same.1 in
-    let e9 : clean growth ≡ is_absent_or (all_items fits_growth) o =
-    items_inside (λ number. growth_of_provisioner) fits_growth (λ number. clean_growth) name.Provisioners refl d k alike in
-    let e10 : clean after ≡ (is_some a && waits_found changes k) =
-    list_clean (λ item. in_wait changes) (fits_wait changes) (λ item. clean_wait changes) (known name.After want.ArrayOrAbsent) array_or refl d k alike
-    ∙ ap (λ (b : Bool). is_met want.ArrayOrAbsent p && b) (both_absent (λ e. is_some (wait_from e)) (is_found changes) p)
-    ∙ and_assoc (is_met want.ArrayOrAbsent p) (is_absent_or (all_items (λ e. is_some (wait_from e))) p) (waits_found changes k)
-    ∙ ap (λ (b : Bool). b && waits_found changes k) (each_is wait_from p) in
-    let c2 = appended wrong warning _ _ e1 e2 in
-    let c3 = appended (wrong ++ warning) failed _ _ c2 e3 in
-    let c4 = appended (wrong ++ warning ++ failed) provisioners _ _ c3 e4 in
-    let c5 = appended (wrong ++ warning ++ failed ++ provisioners) marks _ _ c4 e5 in
-    let c6 = appended (wrong ++ warning ++ failed ++ provisioners ++ marks) kinds _ _ c5 e6 in
-    let c7 = appended (wrong ++ warning ++ failed ++ provisioners ++ marks ++ kinds) flag _ _ c6 e7 in
-    let c8 = appended (wrong ++ warning ++ failed ++ provisioners ++ marks ++ kinds ++ flag) marks_skipped _ _ c7 e8 in
-    let c9 = appended (wrong ++ warning ++ failed ++ provisioners ++ marks ++ kinds ++ flag ++ marks_skipped) growth _ _ c8 e9 in
-    let c10 = appended (wrong ++ warning ++ failed ++ provisioners ++ marks ++ kinds ++ flag ++ marks_skipped ++ growth) after _ _ c9 e10 in
-    let by_itself : (((((((((timed skipped s && is_some t) && is_some w) && is_some f) && (listed && is_absent_or (all_items fits_first) o)) && tests) && is_some q) && tests_skipped) && is_absent_or (all_items fits_growth) o) && is_some a) ≡ is_step k =
-    apart (timed skipped s) (is_some t) (is_some w) (is_some f) listed (is_absent_or (all_items fits_first) o) tests (is_some q) tests_skipped (is_absent_or (all_items fits_growth) o) (is_some a)
-    (is_absent_or (all_items is_provisioner) o) (items_both o)
-    ∙ ap (λ (x : Bool). parts (timed skipped s) (is_some t) (is_some w) (is_some f) x tests (is_some q) tests_skipped (is_some a)) (each_fits provisioner_from fits o)
-    ∙ reads q skipped told s t w f l a tests tests_skipped (silent_read (member_of (codes "seconds") k)) (flag_read (member_of (codes "skipped") k)) (tests_read k) in
-    let whole : clean (wrong ++ warning ++ failed ++ provisioners ++ marks ++ kinds ++ flag ++ marks_skipped ++ growth ++ after ++ unread step_names d) ≡ fits_step changes change n k =
-    clean-then_unread (wrong ++ warning ++ failed ++ provisioners ++ marks ++ kinds ++ flag ++ marks_skipped ++ growth ++ after) step_names d
-    ∙ c10
-    ∙ beside_last (((((timed skipped s && is_some t) && is_some w) && is_some f) && (listed && is_absent_or (all_items fits_first) o)) && tests) (fits_kind change n k) (is_some q) tests_skipped (is_absent_or (all_items fits_growth) o) (is_some a) (waits_found changes k)
-    ∙ ap (λ (x : Bool). x && is_beside changes change n k) by_itself in
-    clean-where_suits want.Step d (wrong ++ warning ++ failed ++ provisioners ++ marks ++ kinds ++ flag ++ marks_skipped ++ growth ++ after ++ unread step_names d)
-    ∙ ap (λ (x : Bool). is_some (as_object d) && x) whole
-    ∙ ap (λ (x : Bool). x && fits_step changes change n k) (object_alike d k alike)
-    ∙ still (is_some (as_object k)) (is_step k) (is_beside changes change n k) (only_step k)

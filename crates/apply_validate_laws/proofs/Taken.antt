@@ -32,7 +32,7 @@ use Rattle.apply_validate_laws.proofs.Elements.{named}
 use Rattle.apply_validate_laws.proofs.Members.{all_from}
 use Rattle.apply_validate.proofs.Options.{and_false, and_then_is, bind_some}
 use Rattle.apply_validate_laws.proofs.Provisioners.{length_read}
-use Rattle.apply_validate_laws.proofs.Steps.{waits_found}
+use Rattle.apply_validate_laws.proofs.CleanSteps.{waits_found}
 
 some_is : {A : Type 0} (x y : A) → Some x ≡ Some y → x ≡ y
 some_is x y e = cc

@@ -1,0 +1,164 @@
+-- A step: nothing is found for which a run refuses, exactly where one is read that is within the limits and fits the changes of a plan.
+use Rattle.std.proofs.Common.{◌≡◌, ℕ, suc, ◌+◌, ◌<◌, List, [], ◌∷◌, ◌++◌, length, Bool, true, false, not, ◌&&◌, ◌||◌, is_some, Option, Some, None, unwrap_or, if◌then◌else◌, refl, sym, ap, ◌∙◌, arith, map}
+use Rattle.std.specs.Prelude.{codes, nat_lt}
+use Rattle.std.specs.List.{list_all, sum_by}
+use Rattle.std.specs.Option.{option_and_then, option_map, option_map_or}
+use Rattle.std.proofs.lemmas.Bool.{lt-ltb}
+use Rattle.serde_json.specs.Data.{Data, null, boolean, number, string, array, object}
+use Rattle.serde_json.specs.Find.{as_bool, as_number, as_object, as_str, as_u64}
+use Rattle.apply_json.specs.Seen.{items_in}
+use Rattle.apply_json.specs.Tree.{◌>>=◌, list_of, member_of, text_or, unless_empty}
+use Rattle.apply_model.specs.declared.script.diag.Diag.{Diag}
+use Rattle.apply_model.specs.declared.script.ending.Ending.{Ending}
+use Rattle.apply_model.specs.declared.script.ending.Ending.TheVariants.{Done, Failed, Warned}
+use Rattle.apply_model.specs.declared.script.provisioner.Provisioner.{Provisioner}
+use Rattle.apply_model.specs.Script.Limits.{max_provisioners, max_seconds}
+use Rattle.apply_model.specs.Script.Outcome.{is_failed, is_warned, puts_out_too_much, seconds_of_all}
+use Rattle.apply_model.specs.Plan.ResourceChange.{ResourceChange}
+use Rattle.apply_plan.specs.Script.Entry.{EntryStep, Failure, WaitName, answered_with, diag_from, diag_or_none, each_of, ending_by, ending_from, ending_of, failure_from, failure_or_none, flag_or_false, provisioner_from, says_nothing, seconds_of, skipped_with, step_from, wait_from}
+use Rattle.apply_validate.specs.declared.findings.finding.Finding.{Finding}
+use Rattle.apply_validate.specs.declared.findings.name.Name.TheVariants as name
+use Rattle.apply_validate.specs.declared.findings.want.Want.TheVariants as want
+use Rattle.apply_validate.specs.Beside.{kind_marks}
+use Rattle.apply_validate_laws.specs.Laws.{is_within_limits}
+use Rattle.apply_validate.specs.ScriptFindings.{growth_of_provisioner, in_diagnostic, in_failure, in_provisioner, in_step, in_wait, is_skipped, seconds_in, seconds_in_all, skipped_marks, step_marks, step_names, step_table}
+use Rattle.apply_validate.specs.Walks.{faults_of, in_items, in_list, inside, items_at, known, marked, unread}
+use Rattle.apply_validate.specs.Wants.{is_met}
+use Rattle.apply_validate_laws.proofs.Alike.{Alike, object_alike}
+use Rattle.apply_validate_laws.proofs.Besides.{fits_kind, is_found, kind_same}
+use Rattle.apply_validate_laws.proofs.Clean.{all_items, appended, clean, clean-append, clean-faults_of, clean-marked, clean-then_unread, clean-where_suits, is_absent_or, all_of, clean-joined}
+use Rattle.apply_validate_laws.proofs.Diagnostics.{absent_or_diagnostic, absent_or_failure, clean_diagnostic, clean_failure, clean_wait, fits_wait, two}
+use Rattle.apply_validate_laws.proofs.Members.{IsCleanBeside, array_or, count_same, flag_same, flag_there, inside_clean, is_there_same, items_inside, list_clean, non_empty_same, seconds_same, sum_same, text_or_there, whole_there}
+use Rattle.apply_validate.proofs.Options.{and_assoc, and_false, and_true, crossed, none_any, nothing_then, still}
+use Rattle.apply_validate_laws.proofs.Provisioners.{all_seconds_read, clean_growth, clean_provisioner, fits, fits_first, fits_growth, is_provisioner, items_both, length_read, seconds_are}
+use Rattle.apply_validate_laws.proofs.Wanted.{each_fits, each_is, only_object}
+use Rattle.apply_validate_laws.proofs.Steps.{apart, flag_read, is_step, parts as step_parts, reads, silent_read, table_clean, tests_read, tests_same, timed}
+use Rattle.apply_validate_laws.proofs.Joined.{joined}
+
+-- what is tested beside the changes of a plan, apart from what is tested without them
+beside_last : (x kinds flag skipped growth a waits : Bool)
+    → (((((x && kinds) && flag) && skipped) && growth) && (a && waits)) ≡ (((((x && flag) && skipped) && growth) && a) && (kinds && waits))
+beside_last false kinds flag skipped growth a waits = refl
+beside_last true true flag skipped growth a waits = and_assoc (((flag && skipped) && growth)) a waits
+beside_last true false flag skipped growth a waits = sym (and_false (((flag && skipped) && growth) && a))
+
+both_items : (p q : Data → Bool) (ks : List Data) → list_all (λ e. p e && q e) ks ≡ (list_all p ks && list_all q ks)
+both_items p q [] = refl
+both_items p q (k ∷ ks) = ap (λ (b : Bool). (p k && q k) && b) (both_items p q ks) ∙ crossed (p k) (q k) (list_all p ks) (list_all q ks)
+
+pub both_absent : (p q : Data → Bool) (o : Option Data) → is_absent_or (all_items (λ e. p e && q e)) o ≡ (is_absent_or (all_items p) o && is_absent_or (all_items q) o)
+both_absent p q None = refl
+both_absent p q (Some d) = both_items p q (list_of (items_in d))
+
+-- what is no object is no step
+only_step : (k : Data) → (is_some (as_object k) && is_step k) ≡ is_step k
+unfolding step_from ending_of
+only_step k = only_object is_step refl (λ b. refl) (λ n. refl) (λ s. refl) (λ ds. refl) k
+
+-- what a step waits for is there
+abbrev pub waits_found : Option (List ResourceChange) → Data → Bool
+waits_found changes k = is_absent_or (all_items (is_found changes)) (member_of (codes "after") k)
+
+-- a step fits the changes of a plan
+abbrev pub is_beside : Option (List ResourceChange) → Option ResourceChange → ℕ → Data → Bool
+is_beside changes change n k = fits_kind change n k && waits_found changes k
+
+-- a step that a run reads is within the limits, and fits the changes of a plan
+abbrev pub fits_step : Option (List ResourceChange) → Option ResourceChange → ℕ → Data → Bool
+fits_step changes change n k = is_step k && is_beside changes change n k
+
+-- what is read of its members
+abbrev pub flag_of : Data → Option Bool
+flag_of k = flag_or_false (member_of (codes "skipped") k)
+
+abbrev pub says_seconds : Data → Bool
+says_seconds k = is_some (member_of (codes "seconds") k)
+
+abbrev pub id_of : Data → Option (List ℕ)
+id_of k = text_or [] (member_of (codes "id") k)
+
+abbrev pub warning_of : Data → Option (Option Diag)
+warning_of k = diag_or_none (member_of (codes "warning") k)
+
+abbrev pub failure_of : Data → Option (Option Failure)
+failure_of k = failure_or_none (member_of (codes "failed") k)
+
+abbrev pub provisioners_of : Data → Option (List Provisioner)
+provisioners_of k = each_of provisioner_from (member_of (codes "provisioners") k)
+
+abbrev pub waits_of : Data → Option (List WaitName)
+waits_of k = each_of wait_from (member_of (codes "after") k)
+
+-- what is found in those of the other tree
+module _ (d k : Data) (alike : Alike d k) where
+  pub own_clean : clean (faults_of (step_table (is_skipped d)) d) ≡ (timed (is_skipped k) (seconds_of k) && is_some (id_of k))
+  own_clean =
+      table_clean (is_skipped d) d k alike ∙ ap (λ (b : Bool). timed b (seconds_of k) && is_some (id_of k)) (flag_same (codes "skipped") refl d k alike)
+
+  pub warning_clean : clean (inside in_diagnostic name.Warning d) ≡ is_some (warning_of k)
+  warning_clean =
+      inside_clean in_diagnostic (λ e. is_some (diag_from e)) clean_diagnostic name.Warning refl d k alike
+      ∙ absent_or_diagnostic (member_of (codes "warning") k)
+
+  pub failure_clean : clean (inside in_failure name.Failed d) ≡ is_some (failure_of k)
+  failure_clean =
+      inside_clean in_failure (λ e. is_some (failure_from e)) clean_failure name.Failed refl d k alike ∙ absent_or_failure (member_of (codes "failed") k)
+
+  pub flag_clean : clean (faults_of (known name.Skipped want.FlagOrAbsent ∷ []) d) ≡ is_some (flag_of k)
+  flag_clean =
+      clean-faults_of (known name.Skipped want.FlagOrAbsent ∷ []) d ∙ and_true (is_met want.FlagOrAbsent (member_of (codes "skipped") d))
+      ∙ flag_there (codes "skipped") refl d k alike
+
+  pub growth_clean : clean (inside (in_items (λ number. growth_of_provisioner)) name.Provisioners d)
+      ≡ is_absent_or (all_items fits_growth) (member_of (codes "provisioners") k)
+  growth_clean = items_inside (λ number. growth_of_provisioner) fits_growth (λ number. clean_growth) name.Provisioners refl d k alike
+
+pub clean_step : (changes : Option (List ResourceChange)) (change : Option ResourceChange) (n : ℕ)
+    → IsCleanBeside (in_step changes change n) (fits_step changes change n)
+unfolding in_step step_from ending_of
+clean_step changes change n d k alike =
+    let provisioners : List Finding = in_list (λ number. in_provisioner) (known name.Provisioners want.ArrayOrAbsent) d in
+    let after : List Finding = in_list (λ item. in_wait changes) (known name.After want.ArrayOrAbsent) d in
+    let o : Option Data = member_of (codes "provisioners") k in
+    let p : Option Data = member_of (codes "after") k in
+    let tests : Bool = list_all (λ mark. not mark.holds) (step_marks k) in
+    let tests_skipped : Bool = list_all (λ mark. not mark.holds) (skipped_marks k) in
+    let own : Bool = timed (is_skipped k) (seconds_of k) && is_some (id_of k) in
+    let listed : Bool = is_met want.ArrayOrAbsent o && is_absent_or (all_items fits_first) o in
+    let grown : Bool = is_absent_or (all_items fits_growth) o in
+    let same = tests_same d k alike in
+    let read : clean provisioners ≡ listed =
+    list_clean (λ number. in_provisioner) fits_first (λ number. clean_provisioner) (known name.Provisioners want.ArrayOrAbsent) array_or refl d k alike in
+    let awaited : clean after ≡ (is_some (waits_of k) && waits_found changes k) =
+    list_clean (λ item. in_wait changes) (fits_wait changes) (λ item. clean_wait changes) (known name.After want.ArrayOrAbsent) array_or refl d k alike
+    ∙ ap (λ (b : Bool). is_met want.ArrayOrAbsent p && b) (both_absent (λ e. is_some (wait_from e)) (is_found changes) p)
+    ∙ and_assoc (is_met want.ArrayOrAbsent p) (is_absent_or (all_items (λ e. is_some (wait_from e))) p) (waits_found changes k)
+    ∙ ap (λ (b : Bool). b && waits_found changes k) (each_is wait_from p) in
+    let parts : List (List Finding × Bool) =
+    (inside in_diagnostic name.Warning d, is_some (warning_of k)) ∷ (inside in_failure name.Failed d, is_some (failure_of k)) ∷ (provisioners, listed)
+    ∷ (marked (step_marks d), tests) ∷ (marked (kind_marks change n d), fits_kind change n k)
+    ∷ (faults_of (known name.Skipped want.FlagOrAbsent ∷ []) d, is_some (flag_of k)) ∷ (marked (skipped_marks d), tests_skipped)
+    ∷ (inside (in_items (λ number. growth_of_provisioner)) name.Provisioners d, grown) ∷ (after, is_some (waits_of k) && waits_found changes k) ∷ [] in
+    let found : List Finding = joined (faults_of (step_table (is_skipped d)) d) (map (λ (part : List Finding × Bool). part.0) parts) in
+    let are : clean found ≡ all_of own parts =
+    clean-joined (faults_of (step_table (is_skipped d)) d) own parts (own_clean d k alike)
+    (warning_clean d k alike, (failure_clean d k alike, (read, (clean-marked (step_marks d) refl ∙ same.0, (kind_same change n d k alike,
+    (flag_clean d k alike, (clean-marked (skipped_marks d) refl ∙ same.1, (growth_clean d k alike, (awaited, tt))))))))) in
+    let by_itself : ((((((((own && is_some (warning_of k)) && is_some (failure_of k)) && listed) && tests) && is_some (flag_of k)) && tests_skipped) && grown)
+    && is_some (waits_of k)) ≡ is_step k =
+    apart (timed (is_skipped k) (seconds_of k)) (is_some (id_of k)) (is_some (warning_of k)) (is_some (failure_of k)) (is_met want.ArrayOrAbsent o)
+    (is_absent_or (all_items fits_first) o) tests (is_some (flag_of k)) tests_skipped grown (is_some (waits_of k))
+    (is_absent_or (all_items is_provisioner) o) (items_both o)
+    ∙ ap (λ (x : Bool). step_parts (timed (is_skipped k) (seconds_of k)) (is_some (id_of k)) (is_some (warning_of k)) (is_some (failure_of k)) x tests
+    (is_some (flag_of k)) tests_skipped (is_some (waits_of k))) (each_fits provisioner_from fits o)
+    ∙ reads (flag_of k) (is_skipped k) (says_seconds k) (seconds_of k) (id_of k) (warning_of k) (failure_of k) (provisioners_of k) (waits_of k) tests
+    tests_skipped (silent_read (member_of (codes "seconds") k)) (flag_read (member_of (codes "skipped") k)) (tests_read k) in
+    let whole : clean (found ++ unread step_names d) ≡ fits_step changes change n k =
+    clean-then_unread found step_names d ∙ are
+    ∙ beside_last ((((own && is_some (warning_of k)) && is_some (failure_of k)) && listed) && tests) (fits_kind change n k) (is_some (flag_of k)) tests_skipped
+    grown (is_some (waits_of k)) (waits_found changes k)
+    ∙ ap (λ (x : Bool). x && is_beside changes change n k) by_itself in
+    clean-where_suits want.Step d (found ++ unread step_names d)
+    ∙ ap (λ (x : Bool). is_some (as_object d) && x) whole
+    ∙ ap (λ (x : Bool). x && fits_step changes change n k) (object_alike d k alike)
+    ∙ still (is_some (as_object k)) (is_step k) (is_beside changes change n k) (only_step k)
