@@ -42,6 +42,7 @@ use Rattle.apply_validate_laws.proofs.Provisioners.{length_of_all}
 use Rattle.apply_validate_laws.proofs.Scripts.{entries_fit, fits_entry, is_again, steps_beside}
 use Rattle.apply_validate_laws.proofs.CleanSteps.{is_beside, waits_found}
 use Rattle.apply_validate_laws.proofs.Taken.{found_with, kinds_read, named_by, outcomes, waits_known, waits_read}
+use Rattle.apply_validate_laws.proofs.Wanted.{array_in}
 
 some_is : {A : Type 0} (x y : A) → Some x ≡ Some y → x ≡ y
 some_is x y e = cc
@@ -55,14 +56,6 @@ no_text n (number z) x e = refl
 no_text n (string s) x e = absurd cc
 no_text n (array ds) x e = refl
 no_text n (object ms) x e = refl
-
-array_in : (l : Data) (ds : Items) → as_array l ≡ Some ds → list_of (items_in l) ≡ list_of ds
-array_in null ds e = absurd cc
-array_in (boolean b) ds e = absurd cc
-array_in (number z) ds e = absurd cc
-array_in (string s) ds e = absurd cc
-array_in (array es) ds e = ap list_of (some_is es ds e)
-array_in (object ms) ds e = absurd cc
 
 abbrev made : List ℕ → List ℕ → List EntryStep → Entry
 made address deposed steps = record { address = address; deposed = unless_empty deposed; steps = steps }

@@ -1,5 +1,5 @@
 -- Provisioners: nothing is found for which a run refuses, exactly where one is read and puts out no more than it may.
-use Rattle.std.proofs.Common.{◌≡◌, ℕ, suc, ◌+◌, List, [], ◌∷◌, ◌++◌, length, map, Bool, true, false, not, ◌&&◌, if◌then◌else◌, is_some, Option, Some, None, unwrap_or, refl, sym, ap, ◌∙◌}
+use Rattle.std.proofs.Common.{◌≡◌, ℕ, suc, ◌+◌, List, [], ◌∷◌, ◌++◌, length, map, Bool, true, false, not, ◌&&◌, if◌then◌else◌, is_some, Option, Some, None, unwrap_or, refl, sym, ap, ◌∙◌, subst}
 use Rattle.std.specs.Prelude.{codes, nat_lt}
 use Rattle.std.specs.List.{list_all, sum_by}
 use Rattle.std.specs.Option.{option_and_then, option_map_or}
@@ -21,13 +21,14 @@ use Rattle.apply_validate.specs.declared.findings.want.Want.TheVariants as want
 use Rattle.apply_validate.specs.ScriptFindings.{growth_of_provisioner, in_diagnostic, in_outputs, in_provisioner, provisioner_mark, provisioner_names, provisioner_table, seconds_in, whole_at}
 use Rattle.apply_validate.specs.Walks.{faults_of, in_list, inside, items_at, known, marked, unless_suits, unread}
 use Rattle.apply_validate.specs.Wants.{is_met}
-use Rattle.apply_validate_laws.proofs.Clean.{all_items, clean, clean-append, clean-faults_of, clean-marked, clean-then_unread, clean-unless_suits, clean-where_suits, is_absent_or}
+use Rattle.apply_validate_laws.proofs.Clean.{all_items, clean, clean-append, clean-faults_of, clean-marked, clean-then_unread, clean-unless_suits, clean-where_suits, is_absent_or, clean-joined}
 use Rattle.apply_validate_laws.proofs.Diagnostics.{absent_or_diagnostic, clean_diagnostic, two}
-use Rattle.apply_validate_laws.proofs.Alike.{object_alike}
+use Rattle.apply_validate_laws.proofs.Alike.{object_alike, Alike}
 use Rattle.apply_validate_laws.proofs.Members.{IsCleanBeside, array_or, count_same, inside_clean, list_clean, non_empty_there, on_failure_there, whole_there}
 use Rattle.apply_validate_laws.proofs.Wanted.{needs_object}
 use Rattle.apply_validate.proofs.Options.{and_comm, and_false, and_then_is, and_true, bind_some, crossed}
 use Rattle.apply_validate_laws.proofs.Outputs.{are_shaped, clean_outputs, come_in_time, is_shaped, outputs_read, shape_alike}
+use Rattle.apply_validate_laws.proofs.Joined.{joined}
 
 -- what a run reads of a provisioner, that puts out no more than it may
 abbrev pub fits : Provisioner → Bool
@@ -101,15 +102,20 @@ length_of_all {A} part (d ∷ ds) xs e =
     let others = bind_some (all_some (map part ds)) (λ ys. Some (one.0 ∷ ys)) xs one.2 in
     ap suc (length_of_all part ds others.0 others.1) ∙ ap length (some_is (one.0 ∷ others.0) xs others.2)
 
+-- the items of an array that is read
+pub each_list : {A : Type 0} (part : Data → Option A) (o : Option Data) (xs : List A) → each_of part o ≡ Some xs
+    → all_some (map part (option_map_or (λ value. list_of (items_in value)) o [])) ≡ Some xs
+each_list part None xs e = e
+each_list part (Some null) xs e = absurd cc
+each_list part (Some (boolean b)) xs e = absurd cc
+each_list part (Some (number n)) xs e = absurd cc
+each_list part (Some (string s)) xs e = absurd cc
+each_list part (Some (array ds)) xs e = e
+each_list part (Some (object ms)) xs e = absurd cc
+
 pub length_read : {A : Type 0} (part : Data → Option A) (o : Option Data) (xs : List A) → each_of part o ≡ Some xs
     → length (option_map_or (λ value. list_of (items_in value)) o []) ≡ length xs
-length_read part None xs e = ap length (some_is [] xs e)
-length_read part (Some null) xs e = absurd cc
-length_read part (Some (boolean b)) xs e = absurd cc
-length_read part (Some (number n)) xs e = absurd cc
-length_read part (Some (string s)) xs e = absurd cc
-length_read part (Some (array ds)) xs e = length_of_all part (list_of ds) xs e
-length_read part (Some (object ms)) xs e = absurd cc
+length_read part o xs e = length_of_all part (option_map_or (λ value. list_of (items_in value)) o []) xs (each_list part o xs e)
 
 one_of : {A : Type 0} (b : Bool) (xs ys : List A) → (let o : Option (List A) = if b then Some xs else None in o) ≡ Some ys → xs ≡ ys
 one_of true xs ys e = some_is xs ys e
@@ -132,18 +138,29 @@ seconds_are o = and_then_is as_u64 (option_and_then as_number o) ∙ ap (λ n. n
 pub seconds_read : (d : Data) (s : ℕ) → seconds_of d ≡ Some s → seconds_in d ≡ s
 seconds_read d s e = ap (λ (n : Option ℕ). unwrap_or n 0) (seconds_are (member_of (codes "seconds") d) ∙ e)
 
-of_provisioner : (d : Data) (p : Provisioner) → provisioner_from d ≡ Some p → seconds_in d ≡ p.seconds
+-- its seconds, and what it puts out
+pub provisioner_read : (d : Data) (p : Provisioner) → provisioner_from d ≡ Some p
+    → (seconds_of d ≡ Some p.seconds) × ((each_of output_from (member_of (codes "output") d) >>= timed_outputs p.seconds) ≡ Some p.output)
 unfolding provisioner_from
-of_provisioner d p e =
+provisioner_read d p e =
     let may : Option Bool = may_fail_or_not (member_of (codes "on_failure") d) in
     let items : Option (List OutputItem) = each_of output_from (member_of (codes "output") d) in
-    let name = bind_some (non_empty_text_of (codes "provisioner") d) (λ n. seconds_of d >>= λ s. diag_or_none (member_of (codes "failed") d) >>= λ f. items >>= λ i. timed_outputs s i >>= λ o. may >>= λ m. Some (made n s o f m)) p e in
-    let seconds = bind_some (seconds_of d) (λ s. diag_or_none (member_of (codes "failed") d) >>= λ f. items >>= λ i. timed_outputs s i >>= λ o. may >>= λ m. Some (made name.0 s o f m)) p name.2 in
-    let failed = bind_some (diag_or_none (member_of (codes "failed") d)) (λ f. items >>= λ i. timed_outputs seconds.0 i >>= λ o. may >>= λ m. Some (made name.0 seconds.0 o f m)) p seconds.2 in
+    let name = bind_some (non_empty_text_of (codes "provisioner") d)
+    (λ n. seconds_of d >>= λ s. diag_or_none (member_of (codes "failed") d) >>= λ f. items >>= λ i. timed_outputs s i >>= λ o. may >>= λ m.
+    Some (made n s o f m)) p e in
+    let seconds = bind_some (seconds_of d) (λ s. diag_or_none
+    (member_of (codes "failed") d) >>= λ f. items >>= λ i. timed_outputs s i >>= λ o. may >>= λ m. Some (made name.0 s o f m)) p name.2 in
+    let failed = bind_some (diag_or_none (member_of (codes "failed") d))
+    (λ f. items >>= λ i. timed_outputs seconds.0 i >>= λ o. may >>= λ m. Some (made name.0 seconds.0 o f m)) p seconds.2 in
     let item = bind_some items (λ i. timed_outputs seconds.0 i >>= λ o. may >>= λ m. Some (made name.0 seconds.0 o failed.0 m)) p failed.2 in
     let output = bind_some (timed_outputs seconds.0 item.0) (λ o. may >>= λ m. Some (made name.0 seconds.0 o failed.0 m)) p item.2 in
     let growth = bind_some may (λ m. Some (made name.0 seconds.0 output.0 failed.0 m)) p output.2 in
-    seconds_read d seconds.0 seconds.1 ∙ ap (λ (x : Provisioner). x.seconds) (some_is (made name.0 seconds.0 output.0 failed.0 growth.0) p growth.2)
+    let is : made name.0 seconds.0 output.0 failed.0 growth.0 ≡ p = some_is (made name.0 seconds.0 output.0 failed.0 growth.0) p growth.2 in
+    let both : (items >>= timed_outputs seconds.0) ≡ Some output.0 = ap (λ (o : Option (List OutputItem)). o >>= timed_outputs seconds.0) item.1 ∙ output.1 in
+    subst (λ (x : Provisioner). (seconds_of d ≡ Some x.seconds) × ((items >>= timed_outputs x.seconds) ≡ Some x.output)) is (seconds.1, both)
+
+of_provisioner : (d : Data) (p : Provisioner) → provisioner_from d ≡ Some p → seconds_in d ≡ p.seconds
+of_provisioner d p e = seconds_read d p.seconds (provisioner_read d p e).0
 
 seconds_of_list : (ds : List Data) (ps : List Provisioner) → all_some (map provisioner_from ds) ≡ Some ps → sum_by seconds_in ds ≡ seconds_of_all ps
 seconds_of_list [] ps e = ap seconds_of_all (some_is [] ps e)
@@ -158,51 +175,49 @@ seconds_of_list (d ∷ ds) ps e =
 
 pub all_seconds_read : (o : Option Data) (ps : List Provisioner) → each_of provisioner_from o ≡ Some ps
     → sum_by seconds_in (option_map_or (λ value. list_of (items_in value)) o []) ≡ seconds_of_all ps
-all_seconds_read None ps e = ap seconds_of_all (some_is [] ps e)
-all_seconds_read (Some null) ps e = absurd cc
-all_seconds_read (Some (boolean b)) ps e = absurd cc
-all_seconds_read (Some (number n)) ps e = absurd cc
-all_seconds_read (Some (string s)) ps e = absurd cc
-all_seconds_read (Some (array ds)) ps e = seconds_of_list (list_of ds) ps e
-all_seconds_read (Some (object ms)) ps e = absurd cc
+all_seconds_read o ps e = seconds_of_list (option_map_or (λ value. list_of (items_in value)) o []) ps (each_list provisioner_from o ps e)
 
 -- ---- the provisioner
+
+-- what is found in its members
+module _ (d k : Data) (alike : Alike d k) where
+  pub named_clean : clean (faults_of provisioner_table d) ≡ (is_some (non_empty_text_of (codes "provisioner") k) && is_some (seconds_of k))
+  named_clean =
+      two (known name.Provisioner want.NonEmptyText) (known name.Seconds want.Seconds) d
+      ∙ ap (λ (b : Bool). b && is_met want.Seconds (member_of (codes "seconds") d)) (non_empty_there (codes "provisioner") refl d k alike)
+      ∙ ap (λ (b : Bool). is_some (non_empty_text_of (codes "provisioner") k) && b) (whole_there (codes "seconds") refl d k alike)
+
+  pub output_clean : clean (in_list (λ number. unless_suits want.Output) (known name.Output want.ArrayOrAbsent) d) ≡ are_shaped (member_of (codes "output") k)
+  output_clean =
+      list_clean (λ number. unless_suits want.Output) is_shaped
+      (λ number x y same. clean-unless_suits want.Output x ∙ shape_alike x y same) (known name.Output want.ArrayOrAbsent) array_or refl d k alike
+
+  pub failed_clean : clean (inside in_diagnostic name.Failed d) ≡ is_some (diag_or_none (member_of (codes "failed") k))
+  failed_clean =
+      inside_clean in_diagnostic (λ e. is_some (diag_from e)) clean_diagnostic name.Failed refl d k alike ∙ absent_or_diagnostic (member_of (codes "failed") k)
 
 pub clean_provisioner : IsCleanBeside in_provisioner fits_first
 unfolding in_provisioner fits_first
 clean_provisioner d k alike =
-    let wrong : List Finding = faults_of provisioner_table d in
-    let output : List Finding = in_list (λ number. unless_suits want.Output) (known name.Output want.ArrayOrAbsent) d in
-    let marks : List Finding = marked (provisioner_mark d ∷ []) in
-    let failed : List Finding = inside in_diagnostic name.Failed d in
     let many : Bool = nat_lt max_outputs (length (items_at name.Output k)) in
     let name_read : Option (List ℕ) = non_empty_text_of (codes "provisioner") k in
-    let seconds : Option ℕ = seconds_of k in
     let failed_read : Option (Option Diag) = diag_or_none (member_of (codes "failed") k) in
     let shaped : Bool = are_shaped (member_of (codes "output") k) in
-    let a : clean wrong ≡ (is_some name_read && is_some seconds) =
-    two (known name.Provisioner want.NonEmptyText) (known name.Seconds want.Seconds) d
-    ∙ ap (λ (b : Bool). b && is_met want.Seconds (member_of (codes "seconds") d)) (non_empty_there (codes "provisioner") refl d k alike)
-    ∙ ap (λ (b : Bool). is_some name_read && b) (whole_there (codes "seconds") refl d k alike) in
-    let b : clean output ≡ shaped =
-    list_clean (λ number. unless_suits want.Output) is_shaped
-    (λ number x y same. clean-unless_suits want.Output x ∙ shape_alike x y same) (known name.Output want.ArrayOrAbsent) array_or refl d k alike in
-    let m : clean marks ≡ not many =
-    clean-marked (provisioner_mark d ∷ []) refl ∙ and_true (not (nat_lt max_outputs (length (items_at name.Output d)))) ∙ ap (λ (n : ℕ). not (nat_lt max_outputs n)) (count_same name.Output refl d k alike) in
-    let f : clean failed ≡ is_some failed_read =
-    inside_clean in_diagnostic (λ e. is_some (diag_from e)) clean_diagnostic name.Failed refl d k alike ∙ absent_or_diagnostic (member_of (codes "failed") k) in
-    clean-where_suits want.Provisioner d (wrong ++ output ++ marks ++ failed ++ unread provisioner_names d)
+    let few : clean (marked (provisioner_mark d ∷ [])) ≡ not many =
+    clean-marked (provisioner_mark d ∷ []) refl ∙ and_true (not (nat_lt max_outputs (length (items_at name.Output d))))
+    ∙ ap (λ (n : ℕ). not (nat_lt max_outputs n)) (count_same name.Output refl d k alike) in
+    let parts : List (List Finding × Bool) =
+    (in_list (λ number. unless_suits want.Output) (known name.Output want.ArrayOrAbsent) d, shaped) ∷ (marked (provisioner_mark d ∷ []), not many)
+    ∷ (inside in_diagnostic name.Failed d, is_some failed_read) ∷ [] in
+    let found : List Finding = joined (faults_of provisioner_table d) (map (λ (part : List Finding × Bool). part.0) parts) in
+    clean-where_suits want.Provisioner d (found ++ unread provisioner_names d)
     ∙ ap (λ (x : Bool). is_some (as_object d) && x)
-    (clean-then_unread (wrong ++ output ++ marks ++ failed) provisioner_names d
-    ∙ clean-append (wrong ++ output ++ marks) failed
-    ∙ ap (λ (x : Bool). x && clean failed) (clean-append (wrong ++ output) marks ∙ ap (λ (x : Bool). x && clean marks) (clean-append wrong output))
-    ∙ ap (λ (x : Bool). ((x && clean output) && clean marks) && clean failed) a
-    ∙ ap (λ (x : Bool). (((is_some name_read && is_some seconds) && x) && clean marks) && clean failed) b
-    ∙ ap (λ (x : Bool). (((is_some name_read && is_some seconds) && shaped) && x) && clean failed) m
-    ∙ ap (λ (x : Bool). (((is_some name_read && is_some seconds) && shaped) && not many) && x) f)
-    ∙ ap (λ (x : Bool). x && members_fit name_read seconds shaped many failed_read) (object_alike d k alike)
-    ∙ needs_object (codes "provisioner") k (members_fit name_read seconds shaped many failed_read)
-    (λ none. ap (λ (o : Option Data). members_fit (o >>= as_str >>= unless_empty) seconds shaped many failed_read) none)
+    (clean-then_unread found provisioner_names d
+    ∙ clean-joined (faults_of provisioner_table d) (is_some name_read && is_some (seconds_of k)) parts (named_clean d k alike)
+    (output_clean d k alike, (few, (failed_clean d k alike, tt))))
+    ∙ ap (λ (x : Bool). x && members_fit name_read (seconds_of k) shaped many failed_read) (object_alike d k alike)
+    ∙ needs_object (codes "provisioner") k (members_fit name_read (seconds_of k) shaped many failed_read)
+    (λ none. ap (λ (o : Option Data). members_fit (o >>= as_str >>= unless_empty) (seconds_of k) shaped many failed_read) none)
 
 -- what comes of its failure, and when its outputs come
 pub clean_growth : IsCleanBeside growth_of_provisioner fits_growth

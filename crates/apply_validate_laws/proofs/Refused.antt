@@ -23,6 +23,7 @@ use Rattle.apply_validate_laws.proofs.Entries.{entries_are}
 use Rattle.apply_validate.proofs.Options.{not_not}
 use Rattle.apply_validate_laws.proofs.Plans.{all_ok}
 use Rattle.apply_validate_laws.proofs.Scripts.{are_script_beside, clean_bytes, entries_fit, is_script_beside, listed_in}
+use Rattle.apply_validate_laws.proofs.Wanted.{array_in}
 
 -- ---- the entries
 
@@ -41,17 +42,6 @@ of_entries plan ds e =
     ∙ first_ok (all_or_first (each_with_earlier (entry_at plan.changes) ds)) (λ entries. unless_stuck entries (by_number (length plan.changes) entries)) e
 
 -- ---- the script
-
-some_is : {A : Type 0} (x y : A) → Some x ≡ Some y → x ≡ y
-some_is x y e = cc
-
-array_in : (d : Data) (ds : Items) → as_array d ≡ Some ds → list_of (items_in d) ≡ list_of ds
-array_in null ds e = absurd cc
-array_in (boolean b) ds e = absurd cc
-array_in (number z) ds e = absurd cc
-array_in (string s) ds e = absurd cc
-array_in (array es) ds e = ap list_of (some_is es ds e)
-array_in (object ms) ds e = absurd cc
 
 pub elements_in : (o : Option Data) (ds : Items) → (o >>= as_array) ≡ Some ds → listed_in o ≡ list_of ds
 elements_in None ds e = absurd cc

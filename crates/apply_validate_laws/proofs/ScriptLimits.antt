@@ -31,10 +31,10 @@ use Rattle.apply_validate_laws.proofs.Joined.{joined}
 use Rattle.apply_validate_laws.proofs.Marks.{holding}
 use Rattle.apply_validate_laws.proofs.Members.{count_same, seconds_same, sum_same}
 use Rattle.apply_validate.proofs.Options.{bind_some}
-use Rattle.apply_validate_laws.proofs.Provisioners.{all_seconds_read, length_read, seconds_read, texts_read}
+use Rattle.apply_validate_laws.proofs.Provisioners.{all_seconds_read, length_read, seconds_read, texts_read, each_list, provisioner_read}
 use Rattle.apply_validate_laws.proofs.Taken.{IsMadeOf, by_answer, by_skip, made_of}
 use Rattle.apply_validate_laws.proofs.Wanted.{object_there}
-use Rattle.apply_validate_laws.proofs.ScriptSteps.{each_any, each_list, inside_any, marks_told, next_mark, pairs_at, provisioners_told, step_told, this_mark}
+use Rattle.apply_validate_laws.proofs.ScriptSteps.{each_any, inside_any, marks_told, next_mark, pairs_at, provisioners_told, step_told, this_mark}
 
 some_is : {A : Type 0} (x y : A) → Some x ≡ Some y → x ≡ y
 some_is x y e = cc
@@ -125,27 +125,8 @@ unfolding provisioner_from
 provisioner_object k x e =
     object_there (λ it. is_some (provisioner_from it)) refl (λ b. refl) (λ n. refl) (λ s. refl) (λ ds. refl) k (ap (λ (o : Option Provisioner). is_some o) e)
 
-abbrev made : List ℕ → ℕ → List TimedText → Option Diag → Bool → Provisioner
-made name seconds output failed may_fail = record { name = name; seconds = seconds; output = output; failed = failed; may_fail = may_fail }
-
 output_of : (d : Data) (x : Provisioner) → provisioner_from d ≡ Some x → length (items_at name.Output d) ≡ length x.output
-unfolding provisioner_from
-output_of d x e =
-    let may : Option Bool = may_fail_or_not (member_of (codes "on_failure") d) in
-    let items : Option (List OutputItem) = each_of output_from (member_of (codes "output") d) in
-    let name = bind_some (non_empty_text_of (codes "provisioner") d)
-    (λ n. seconds_of d >>= λ s. diag_or_none (member_of (codes "failed") d) >>= λ f. items >>= λ i. timed_outputs s i >>= λ o. may >>= λ m.
-    Some (made n s o f m)) x e in
-    let seconds = bind_some (seconds_of d) (λ s. diag_or_none
-    (member_of (codes "failed") d) >>= λ f. items >>= λ i. timed_outputs s i >>= λ o. may >>= λ m. Some (made name.0 s o f m)) x name.2 in
-    let failed = bind_some (diag_or_none (member_of (codes "failed") d))
-    (λ f. items >>= λ i. timed_outputs seconds.0 i >>= λ o. may >>= λ m. Some (made name.0 seconds.0 o f m)) x seconds.2 in
-    let item = bind_some items (λ i. timed_outputs seconds.0 i >>= λ o. may >>= λ m. Some (made name.0 seconds.0 o failed.0 m)) x failed.2 in
-    let output = bind_some (timed_outputs seconds.0 item.0) (λ o. may >>= λ m. Some (made name.0 seconds.0 o failed.0 m)) x item.2 in
-    let growth = bind_some may (λ m. Some (made name.0 seconds.0 output.0 failed.0 m)) x output.2 in
-    let both : (items >>= timed_outputs seconds.0) ≡ Some output.0 = ap (λ (o : Option (List OutputItem)). o >>= timed_outputs seconds.0) item.1 ∙ output.1 in
-    texts_read seconds.0 (member_of (codes "output") d) output.0 both
-    ∙ ap (λ (y : Provisioner). length y.output) (some_is (made name.0 seconds.0 output.0 failed.0 growth.0) x growth.2)
+output_of d x e = texts_read x.seconds (member_of (codes "output") d) x.output (provisioner_read d x e).1
 
 texts_told : (p : Finding → Bool) (d k : Data) (x : Provisioner) → p (place_of (Some name.Output) what.TooManyTexts) ≡ true → Alike d k
     → provisioner_from k ≡ Some x → puts_out_too_much x ≡ true

@@ -103,16 +103,6 @@ module _ (A : Type 0) (part : Data → Option A) (test : A → Bool) (p : Findin
       by_test n d k one.0 (list_any test rest.0) (items_from found (suc n) ds) (test one.0) pairs.3 one.1 refl (ap (list_any test) same ∙ any)
       (λ later. each_any (suc n) ds others pairs.4 rest.0 rest.1 later)
 
--- the items of an array that is read
-pub each_list : {A : Type 0} (part : Data → Option A) (o : Option Data) (xs : List A) → each_of part o ≡ Some xs → all_some (map part (listed_in o)) ≡ Some xs
-each_list part None xs e = e
-each_list part (Some null) xs e = absurd cc
-each_list part (Some (boolean b)) xs e = absurd cc
-each_list part (Some (number n)) xs e = absurd cc
-each_list part (Some (string s)) xs e = absurd cc
-each_list part (Some (array ds)) xs e = e
-each_list part (Some (object ms)) xs e = absurd cc
-
 -- ---- what is found in a step that is read
 
 step_object : (k : Data) (step : EntryStep) → step_from k ≡ Some step → is_some (as_object k) ≡ true

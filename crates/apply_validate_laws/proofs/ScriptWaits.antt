@@ -36,8 +36,9 @@ use Rattle.apply_validate_laws.proofs.Elements.{named}
 use Rattle.apply_validate_laws.proofs.Found.{any_left, any_right, any_under, below}
 use Rattle.apply_validate_laws.proofs.Members.{count_same, whole_same}
 use Rattle.apply_validate_laws.proofs.Outputs.{is_shaped, shape_alike}
-use Rattle.apply_validate_laws.proofs.ScriptSteps.{Pairs, each_any, each_list, inside_any, kinds_told, next_mark, pairs_at, step_told, this_mark, waits_told}
+use Rattle.apply_validate_laws.proofs.ScriptSteps.{Pairs, each_any, inside_any, kinds_told, next_mark, pairs_at, step_told, this_mark, waits_told}
 use Rattle.apply_validate_laws.proofs.Taken.{at_drop, found_with, held, lacks_with, more_steps, none_with, outcomes, step_read, wait_read}
+use Rattle.apply_validate_laws.proofs.Provisioners.{each_list}
 
 some_is : {A : Type 0} (x y : A) → Some x ≡ Some y → x ≡ y
 some_is x y e = cc

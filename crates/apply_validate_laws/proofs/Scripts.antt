@@ -28,13 +28,14 @@ use Rattle.apply_validate.specs.Wants.{is_met}
 use Rattle.apply_validate.specs.Whole.{script_findings}
 use Rattle.apply_validate_laws.proofs.Alike.{Alike, AlikeItems, AreAlike, both_trees, bytes_alike, member_alike, object_alike}
 use Rattle.apply_validate_laws.proofs.Besides.{all_waits_same, change_same, clean_mark, has_room, is_found, is_unknown, name_same, room_same, steps_same, too_many, unknown_same}
-use Rattle.apply_validate_laws.proofs.Clean.{all_items, appended, clean, clean-append, clean-fault_of, clean-then_unread, clean-under, clean-where_suits, is_absent_or}
+use Rattle.apply_validate_laws.proofs.Clean.{all_items, appended, clean, clean-append, clean-fault_of, clean-then_unread, clean-under, clean-where_suits, is_absent_or, clean-joined}
 use Rattle.apply_validate_laws.proofs.Diagnostics.{two}
 use Rattle.apply_validate_laws.proofs.Members.{IsCleanBeside, all_from, all_items_from, array_there, inside_clean, numbered_clean, text_or_there, text_there}
 use Rattle.apply_validate.proofs.Options.{and_assoc, and_false, and_true, crossed, not_not, still}
 use Rattle.apply_validate_laws.proofs.CleanSteps.{clean_step, fits_step, is_beside}
 use Rattle.apply_validate_laws.proofs.Steps.{is_step}
 use Rattle.apply_validate_laws.proofs.Wanted.{each_fits_there, needs_object}
+use Rattle.apply_validate_laws.proofs.Joined.{joined}
 
 abbrev within : List EntryStep → Bool
 within steps = list_all is_within_limits steps
@@ -141,16 +142,13 @@ clean_entry changes first left d k alike =
     ∙ steps_apart is_step (is_beside changes change) o
     ∙ ap (λ (c : Option ResourceChange). own && steps_beside changes c o) same in
     let e7 : clean beyond ≡ room = room_same (is_some changes) left d k alike in
-    let c2 = appended wrong unknown _ _ e1 e2 in
-    let c3 = appended (wrong ++ unknown) again _ _ c2 e3 in
-    let c4 = appended (wrong ++ unknown ++ again) list _ _ c3 e4 in
-    let c5 = appended (wrong ++ unknown ++ again ++ list) many _ _ c4 e5 in
-    let c6 = appended (wrong ++ unknown ++ again ++ list ++ many) steps _ _ c5 e6 in
-    let c7 = appended (wrong ++ unknown ++ again ++ list ++ many ++ steps) beyond _ _ c6 e7 in
-    clean-where_suits want.Entry d (wrong ++ unknown ++ again ++ list ++ many ++ steps ++ beyond ++ unread entry_names d)
+    let parts : List (List Finding × Bool) =
+    (unknown, named) ∷ (again, new) ∷ (list, there) ∷ (many, few) ∷ (steps, own && beside) ∷ (beyond, room) ∷ [] in
+    let found : List Finding = joined wrong (map (λ (part : List Finding × Bool). part.0) parts) in
+    clean-where_suits want.Entry d (found ++ unread entry_names d)
     ∙ ap (λ (x : Bool). is_some (as_object d) && x)
-    (clean-then_unread (wrong ++ unknown ++ again ++ list ++ many ++ steps ++ beyond) entry_names d
-    ∙ c7
+    (clean-then_unread found entry_names d
+    ∙ clean-joined wrong (is_some a && is_some t) parts e1 (e2, (e3, (e4, (e5, (e6, (e7, tt))))))
     ∙ shuffle (is_some a && is_some t) named new there few own beside room
     ∙ ap (λ (x : Bool). ((is_some a && is_some t) && x) && rest) (each_fits_there step_from is_within_limits o))
     ∙ ap (λ (x : Bool). x && (read && rest)) (object_alike d k alike)

@@ -21,7 +21,7 @@ use Rattle.apply_validate_laws.proofs.Clean.{all_items, appended, clean, clean-f
 use Rattle.apply_validate_laws.proofs.Diagnostics.{two}
 use Rattle.apply_validate_laws.proofs.Members.{IsCleanBeside, array_there, items_inside, text_or_there, text_there}
 use Rattle.apply_validate.proofs.Options.{and_assoc, not_not}
-use Rattle.apply_validate_laws.proofs.Shapes.{IsSame, both_same, is_shape, no_unknown, same_fault, same_faults, same_items, same_picked, same_unread, same_where, shape_under, without}
+use Rattle.apply_validate_laws.proofs.Shapes.{IsSame, both_same, is_shape, no_unknown, same_fault, same_faults, same_items, same_picked, same_unread, same_where, shape_under, without, Same}
 use Rattle.apply_validate_laws.proofs.Wanted.{each_is, needs_object}
 use Rattle.apply_validate_laws.proofs.ShapedSteps.{clean_shaped_step, same_step, shaped_step}
 
@@ -50,28 +50,30 @@ no_beyond : (has_plan : Bool) (left : Option ℕ) (d : Data) → list_any is_sha
 no_beyond has_plan None d = refl
 no_beyond has_plan (Some most) d = by_plan has_plan (waits_beyond most 0 (items_at name.Steps d)) (none_beyond most 0 (items_at name.Steps d))
 
+-- those parts alone say that a rule is broken
+same_parts : (wrong unknown again list many steps shaped beyond rest : List Finding) → Same wrong wrong → list_any is_shape unknown ≡ false
+    → list_any is_shape again ≡ false → Same list list → list_any is_shape many ≡ false → Same steps shaped → list_any is_shape beyond ≡ false
+    → Same rest rest → Same (wrong ++ unknown ++ again ++ list ++ many ++ steps ++ beyond ++ rest) (wrong ++ list ++ shaped ++ rest)
+same_parts wrong unknown again list many steps shaped beyond rest e1 e2 e3 e4 e5 e6 e7 e8 =
+    let s2 = without wrong unknown wrong e1 e2 in
+    let s3 = without (wrong ++ unknown) again wrong s2 e3 in
+    let s4 = both_same (wrong ++ unknown ++ again) list wrong list s3 e4 in
+    let s5 = without (wrong ++ unknown ++ again ++ list) many (wrong ++ list) s4 e5 in
+    let s6 = both_same (wrong ++ unknown ++ again ++ list ++ many) steps (wrong ++ list) shaped s5 e6 in
+    let s7 = without (wrong ++ unknown ++ again ++ list ++ many ++ steps) beyond (wrong ++ list ++ shaped) s6 e7 in
+    both_same (wrong ++ unknown ++ again ++ list ++ many ++ steps ++ beyond) rest (wrong ++ list ++ shaped) rest s7 e8
+
 same_entry : (changes : Option (List ResourceChange)) (first left : Option ℕ) → IsSame (in_entry changes first left) shaped_entry
 unfolding in_entry
 same_entry changes first left d =
     let change : Option ResourceChange = change_at changes d in
-    let wrong : List Finding = faults_of entry_table d in
-    let unknown : List Finding = marked (unknown_marks changes d) in
-    let again : List Finding = marked (again_mark change first ∷ []) in
-    let list : List Finding = fault_of d (known name.Steps want.Array) in
-    let many : List Finding = marked (steps_mark change d ∷ []) in
-    let steps : List Finding = inside (in_items (in_step changes change)) name.Steps d in
-    let shaped : List Finding = inside (in_items (λ number. shaped_step)) name.Steps d in
-    let beyond : List Finding = beyond_in (is_some changes) left d in
-    let rest : List Finding = unread entry_names d in
-    let s2 = without wrong unknown wrong (same_faults entry_table d) (no_unknown changes d) in
-    let s3 = without (wrong ++ unknown) again wrong s2 (same_picked (again_mark change first ∷ [])) in
-    let s4 = both_same (wrong ++ unknown ++ again) list wrong list s3 (same_fault d (known name.Steps want.Array)) in
-    let s5 = without (wrong ++ unknown ++ again ++ list) many (wrong ++ list) s4 (same_picked (steps_mark change d ∷ [])) in
-    let s6 = both_same (wrong ++ unknown ++ again ++ list ++ many) steps (wrong ++ list) shaped s5
-    (same_items (in_step changes change) (λ number. shaped_step) (same_step changes change) name.Steps d) in
-    let s7 = without (wrong ++ unknown ++ again ++ list ++ many ++ steps) beyond (wrong ++ list ++ shaped) s6 (no_beyond (is_some changes) left d) in
-    same_where want.Entry d (wrong ++ unknown ++ again ++ list ++ many ++ steps ++ beyond ++ rest) (wrong ++ list ++ shaped ++ rest)
-    (both_same (wrong ++ unknown ++ again ++ list ++ many ++ steps ++ beyond) rest (wrong ++ list ++ shaped) rest s7 (same_unread entry_names d))
+    same_where want.Entry d _ _
+    (same_parts (faults_of entry_table d) (marked (unknown_marks changes d)) (marked (again_mark change first ∷ [])) (fault_of d (known name.Steps want.Array))
+    (marked (steps_mark change d ∷ [])) (inside (in_items (in_step changes change)) name.Steps d) (inside (in_items (λ number. shaped_step)) name.Steps d)
+    (beyond_in (is_some changes) left d) (unread entry_names d) (same_faults entry_table d) (no_unknown changes d) (same_picked (again_mark change first ∷ []))
+    (same_fault d (known name.Steps want.Array)) (same_picked (steps_mark change d ∷ []))
+    (same_items (in_step changes change) (λ number. shaped_step) (same_step changes change) name.Steps d) (no_beyond (is_some changes) left d)
+    (same_unread entry_names d))
 
 abbrev entry_with : List ℕ → List ℕ → List EntryStep → Entry
 entry_with address deposed steps = record { address = address; deposed = unless_empty deposed; steps = steps }

@@ -22,7 +22,7 @@ use Rattle.apply_validate_laws.proofs.Diagnostics.{absent_or_diagnostic, clean_d
 use Rattle.apply_validate_laws.proofs.Members.{IsCleanBeside, array_or, inside_clean, list_clean, non_empty_there, whole_there}
 use Rattle.apply_validate.proofs.Options.{and_comm, and_false, crossed}
 use Rattle.apply_validate_laws.proofs.Outputs.{are_shaped, come_in_time, is_shaped, outputs_read, shape_alike}
-use Rattle.apply_validate_laws.proofs.Provisioners.{fits_growth, seconds_are}
+use Rattle.apply_validate_laws.proofs.Provisioners.{fits_growth, seconds_are, named_clean, output_clean, failed_clean}
 use Rattle.apply_validate_laws.proofs.Shapes.{IsSame, both_same, same_diagnostic, same_faults, same_inside, same_list, same_picked, same_unless, same_unread, same_where, without}
 use Rattle.apply_validate_laws.proofs.Wanted.{needs_object}
 
@@ -74,26 +74,16 @@ clean_shaped d k alike =
     let wrong : List Finding = faults_of provisioner_table d in
     let output : List Finding = in_list (λ number. unless_suits want.Output) (known name.Output want.ArrayOrAbsent) d in
     let failed : List Finding = inside in_diagnostic name.Failed d in
-    let name_read : Option (List ℕ) = non_empty_text_of (codes "provisioner") k in
-    let seconds : Option ℕ = seconds_of k in
-    let failed_read : Option (Option Diag) = diag_or_none (member_of (codes "failed") k) in
     let shaped : Bool = are_shaped (member_of (codes "output") k) in
-    let a : clean wrong ≡ (is_some name_read && is_some seconds) =
-    two (known name.Provisioner want.NonEmptyText) (known name.Seconds want.Seconds) d
-    ∙ ap (λ (b : Bool). b && is_met want.Seconds (member_of (codes "seconds") d)) (non_empty_there (codes "provisioner") refl d k alike)
-    ∙ ap (λ (b : Bool). is_some name_read && b) (whole_there (codes "seconds") refl d k alike) in
-    let b : clean output ≡ shaped =
-    list_clean (λ number. unless_suits want.Output) is_shaped
-    (λ number x y same. clean-unless_suits want.Output x ∙ shape_alike x y same) (known name.Output want.ArrayOrAbsent) array_or refl d k alike in
-    let f : clean failed ≡ is_some failed_read =
-    inside_clean in_diagnostic (λ e. is_some (diag_from e)) clean_diagnostic name.Failed refl d k alike ∙ absent_or_diagnostic (member_of (codes "failed") k) in
+    let failed_read : Option (Option Diag) = diag_or_none (member_of (codes "failed") k) in
+    let fits : Bool = members_shaped (non_empty_text_of (codes "provisioner") k) (seconds_of k) shaped failed_read in
     clean-where_suits want.Provisioner d (wrong ++ output ++ failed ++ unread provisioner_names d)
     ∙ ap (λ (x : Bool). is_some (as_object d) && x)
     (clean-then_unread (wrong ++ output ++ failed) provisioner_names d
-    ∙ appended (wrong ++ output) failed _ _ (appended wrong output _ _ a b) f)
-    ∙ ap (λ (x : Bool). x && members_shaped name_read seconds shaped failed_read) (object_alike d k alike)
-    ∙ needs_object (codes "provisioner") k (members_shaped name_read seconds shaped failed_read)
-    (λ none. ap (λ (o : Option Data). members_shaped (o >>= as_str >>= unless_empty) seconds shaped failed_read) none)
+    ∙ appended (wrong ++ output) failed _ _ (appended wrong output _ _ (named_clean d k alike) (output_clean d k alike)) (failed_clean d k alike))
+    ∙ ap (λ (x : Bool). x && fits) (object_alike d k alike)
+    ∙ needs_object (codes "provisioner") k fits
+    (λ none. ap (λ (o : Option Data). members_shaped (o >>= as_str >>= unless_empty) (seconds_of k) shaped failed_read) none)
 
 in_order : (shaped failed may_fail timely : Bool) → ((shaped && failed) && (may_fail && timely)) ≡ (failed && ((shaped && timely) && may_fail))
 in_order false failed may_fail timely = sym (and_false failed)

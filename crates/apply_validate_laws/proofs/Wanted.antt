@@ -12,6 +12,7 @@ use Rattle.apply_validate.specs.declared.findings.want.Want.TheVariants as want
 use Rattle.apply_validate.specs.Wants.{is_met}
 use Rattle.apply_validate_laws.proofs.Clean.{all_items, is_absent_or}
 use Rattle.apply_validate.proofs.Options.{all_fit, all_some_is, and_left, and_then_is, some_map}
+use Rattle.apply_json.specs.Seen.{items_in}
 
 pub met_text : (o : Option Data) → is_met want.Text o ≡ is_some (o >>= as_str)
 met_text None = refl
@@ -103,6 +104,14 @@ module _ (test : Data → Bool) (of_null : test null ≡ false) (of_boolean : (b
   object_there k holds = and_left (is_some (as_object k)) (test k) (only_object k ∙ holds)
 
 -- ---- arrays that may be absent
+
+pub array_in : (d : Data) (ds : Items) → as_array d ≡ Some ds → list_of (items_in d) ≡ list_of ds
+array_in null ds e = absurd cc
+array_in (boolean b) ds e = absurd cc
+array_in (number n) ds e = absurd cc
+array_in (string s) ds e = absurd cc
+array_in (array es) ds e = let same : es ≡ ds = cc in ap list_of same
+array_in (object ms) ds e = absurd cc
 
 in_array : {A : Type 0} (part : Data → Option A) (fits : A → Bool) (d : Data)
     → (is_some (as_array d) && all_items (λ e. option_map_or fits (part e) false) d)
