@@ -89,9 +89,15 @@ provisioners_of k = each_of provisioner_from (member_of (codes "provisioners") k
 abbrev pub waits_of : Data → Option (List WaitName)
 waits_of k = each_of wait_from (member_of (codes "after") k)
 
+abbrev pub own_of : Data → Bool
+own_of k = timed (is_skipped k) (seconds_of k) && is_some (id_of k)
+
+abbrev pub grown_of : Data → Bool
+grown_of k = is_absent_or (all_items fits_growth) (member_of (codes "provisioners") k)
+
 -- what is found in those of the other tree
 module _ (d k : Data) (alike : Alike d k) where
-  pub own_clean : clean (faults_of (step_table (is_skipped d)) d) ≡ (timed (is_skipped k) (seconds_of k) && is_some (id_of k))
+  pub own_clean : clean (faults_of (step_table (is_skipped d)) d) ≡ own_of k
   own_clean =
       table_clean (is_skipped d) d k alike ∙ ap (λ (b : Bool). timed b (seconds_of k) && is_some (id_of k)) (flag_same (codes "skipped") refl d k alike)
 
@@ -109,8 +115,7 @@ module _ (d k : Data) (alike : Alike d k) where
       clean-faults_of (known name.Skipped want.FlagOrAbsent ∷ []) d ∙ and_true (is_met want.FlagOrAbsent (member_of (codes "skipped") d))
       ∙ flag_there (codes "skipped") refl d k alike
 
-  pub growth_clean : clean (inside (in_items (λ number. growth_of_provisioner)) name.Provisioners d)
-      ≡ is_absent_or (all_items fits_growth) (member_of (codes "provisioners") k)
+  pub growth_clean : clean (inside (in_items (λ number. growth_of_provisioner)) name.Provisioners d) ≡ grown_of k
   growth_clean = items_inside (λ number. growth_of_provisioner) fits_growth (λ number. clean_growth) name.Provisioners refl d k alike
 
 pub clean_step : (changes : Option (List ResourceChange)) (change : Option ResourceChange) (n : ℕ)
@@ -123,9 +128,7 @@ clean_step changes change n d k alike =
     let p : Option Data = member_of (codes "after") k in
     let tests : Bool = list_all (λ mark. not mark.holds) (step_marks k) in
     let tests_skipped : Bool = list_all (λ mark. not mark.holds) (skipped_marks k) in
-    let own : Bool = timed (is_skipped k) (seconds_of k) && is_some (id_of k) in
     let listed : Bool = is_met want.ArrayOrAbsent o && is_absent_or (all_items fits_first) o in
-    let grown : Bool = is_absent_or (all_items fits_growth) o in
     let same = tests_same d k alike in
     let read : clean provisioners ≡ listed =
     list_clean (λ number. in_provisioner) fits_first (λ number. clean_provisioner) (known name.Provisioners want.ArrayOrAbsent) array_or refl d k alike in
@@ -138,16 +141,16 @@ clean_step changes change n d k alike =
     (inside in_diagnostic name.Warning d, is_some (warning_of k)) ∷ (inside in_failure name.Failed d, is_some (failure_of k)) ∷ (provisioners, listed)
     ∷ (marked (step_marks d), tests) ∷ (marked (kind_marks change n d), fits_kind change n k)
     ∷ (faults_of (known name.Skipped want.FlagOrAbsent ∷ []) d, is_some (flag_of k)) ∷ (marked (skipped_marks d), tests_skipped)
-    ∷ (inside (in_items (λ number. growth_of_provisioner)) name.Provisioners d, grown) ∷ (after, is_some (waits_of k) && waits_found changes k) ∷ [] in
+    ∷ (inside (in_items (λ number. growth_of_provisioner)) name.Provisioners d, grown_of k) ∷ (after, is_some (waits_of k) && waits_found changes k) ∷ [] in
     let found : List Finding = joined (faults_of (step_table (is_skipped d)) d) (map (λ (part : List Finding × Bool). part.0) parts) in
-    let are : clean found ≡ all_of own parts =
-    clean-joined (faults_of (step_table (is_skipped d)) d) own parts (own_clean d k alike)
+    let are : clean found ≡ all_of (own_of k) parts =
+    clean-joined (faults_of (step_table (is_skipped d)) d) (own_of k) parts (own_clean d k alike)
     (warning_clean d k alike, (failure_clean d k alike, (read, (clean-marked (step_marks d) refl ∙ same.0, (kind_same change n d k alike,
     (flag_clean d k alike, (clean-marked (skipped_marks d) refl ∙ same.1, (growth_clean d k alike, (awaited, tt))))))))) in
-    let by_itself : ((((((((own && is_some (warning_of k)) && is_some (failure_of k)) && listed) && tests) && is_some (flag_of k)) && tests_skipped) && grown)
+    let by_itself : ((((((((own_of k && is_some (warning_of k)) && is_some (failure_of k)) && listed) && tests) && is_some (flag_of k)) && tests_skipped) && (grown_of k))
     && is_some (waits_of k)) ≡ is_step k =
     apart (timed (is_skipped k) (seconds_of k)) (is_some (id_of k)) (is_some (warning_of k)) (is_some (failure_of k)) (is_met want.ArrayOrAbsent o)
-    (is_absent_or (all_items fits_first) o) tests (is_some (flag_of k)) tests_skipped grown (is_some (waits_of k))
+    (is_absent_or (all_items fits_first) o) tests (is_some (flag_of k)) tests_skipped (grown_of k) (is_some (waits_of k))
     (is_absent_or (all_items is_provisioner) o) (items_both o)
     ∙ ap (λ (x : Bool). step_parts (timed (is_skipped k) (seconds_of k)) (is_some (id_of k)) (is_some (warning_of k)) (is_some (failure_of k)) x tests
     (is_some (flag_of k)) tests_skipped (is_some (waits_of k))) (each_fits provisioner_from fits o)
@@ -155,8 +158,8 @@ clean_step changes change n d k alike =
     tests_skipped (silent_read (member_of (codes "seconds") k)) (flag_read (member_of (codes "skipped") k)) (tests_read k) in
     let whole : clean (found ++ unread step_names d) ≡ fits_step changes change n k =
     clean-then_unread found step_names d ∙ are
-    ∙ beside_last ((((own && is_some (warning_of k)) && is_some (failure_of k)) && listed) && tests) (fits_kind change n k) (is_some (flag_of k)) tests_skipped
-    grown (is_some (waits_of k)) (waits_found changes k)
+    ∙ beside_last ((((own_of k && is_some (warning_of k)) && is_some (failure_of k)) && listed) && tests) (fits_kind change n k) (is_some (flag_of k)) tests_skipped
+    (grown_of k) (is_some (waits_of k)) (waits_found changes k)
     ∙ ap (λ (x : Bool). x && is_beside changes change n k) by_itself in
     clean-where_suits want.Step d (found ++ unread step_names d)
     ∙ ap (λ (x : Bool). is_some (as_object d) && x) whole

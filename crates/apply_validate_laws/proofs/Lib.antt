@@ -8,6 +8,7 @@ pub mod ElementRefusals
 pub mod Elements
 pub mod ElementsTold
 pub mod Entries
+pub mod EntriesRead
 pub mod ExtrasPlaced
 pub mod ExtrasRead
 pub mod ExtrasWarn

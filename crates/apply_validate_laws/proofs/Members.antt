@@ -193,26 +193,34 @@ list_clean found test is known asks not d k a =
     (clean-fault_of d known ∙ asks (member_at known.name d) (member_at known.name k) (member_alike (name_text known.name) not d k a))
     ∙ ap (λ (b : Bool). is_met known.want (member_at known.name k) && b) (items_inside found test is known.name not d k a)
 
+-- ---- the items of a member
+
+-- what is so of no items, and of those of arrays that are alike, is so of those of a member
+module _ (R : List Data → List Data → Type 0) (none : R [] []) (each : (ds es : Items) → AlikeItems ds es → R (list_of ds) (list_of es)) where
+  items_alike : (d k : Data) → Alike d k → R (list_of (items_in d)) (list_of (items_in k))
+  items_alike null k a = rw a none
+  items_alike (boolean b) k a = rw a none
+  items_alike (number n) k a = rw a none
+  items_alike (string s) k a = rw a none
+  items_alike (array ds) k a = rw (a.1) (each ds a.0 a.2)
+  items_alike (object ms) k a = rw (a.1) none
+
+  items_of : (o p : Option Data) → AreAlike o p
+      → R (option_map_or (λ value. list_of (items_in value)) o []) (option_map_or (λ value. list_of (items_in value)) p [])
+  items_of None p a = rw a none
+  items_of (Some d) p a = rw (a.1) (items_alike d a.0 a.2)
+
+  pub at_alike : (name : Name) → is_kept (name_text name) ≡ false → (d k : Data) → Alike d k → R (items_at name d) (items_at name k)
+  at_alike name not d k a = items_of (member_at name d) (member_at name k) (member_alike (name_text name) not d k a)
+
 -- ---- how many, and how long
 
 counted : (ds es : Items) → AlikeItems ds es → length (list_of ds) ≡ length (list_of es)
 counted no_items es a = rw a refl
 counted (item d ds) es a = rw (a.2) (ap suc (counted ds a.1 a.4))
 
-count_in : (d k : Data) → Alike d k → length (list_of (items_in d)) ≡ length (list_of (items_in k))
-count_in null k a = rw a refl
-count_in (boolean b) k a = rw a refl
-count_in (number n) k a = rw a refl
-count_in (string s) k a = rw a refl
-count_in (array ds) k a = rw (a.1) (counted ds a.0 a.2)
-count_in (object ms) k a = rw (a.1) refl
-
-count_by : (o p : Option Data) → AreAlike o p → length (option_map_or (λ value. list_of (items_in value)) o []) ≡ length (option_map_or (λ value. list_of (items_in value)) p [])
-count_by None p a = rw a refl
-count_by (Some d) p a = rw (a.1) (count_in d a.0 a.2)
-
 pub count_same : (name : Name) → is_kept (name_text name) ≡ false → (d k : Data) → Alike d k → length (items_at name d) ≡ length (items_at name k)
-count_same name not d k a = count_by (member_at name d) (member_at name k) (member_alike (name_text name) not d k a)
+count_same name not d k a = at_alike (λ ds ks. length ds ≡ length ks) refl counted name not d k a
 
 pub seconds_same : (d k : Data) → Alike d k → seconds_in d ≡ seconds_in k
 seconds_same d k a = ap (λ (n : Option ℕ). unwrap_or n 0) (whole_same (codes "seconds") refl d k a)
@@ -227,17 +235,5 @@ module _ (f : Data → ℕ) (same : (d k : Data) → Alike d k → f d ≡ f k) 
       ∙ ap (λ (n : ℕ). f a.0 + n) (summed ds a.1 a.4)
       ∙ sym (sum_by-cons f a.0 (list_of a.1)))
 
-  sum_in : (d k : Data) → Alike d k → sum_by f (list_of (items_in d)) ≡ sum_by f (list_of (items_in k))
-  sum_in null k a = rw a refl
-  sum_in (boolean b) k a = rw a refl
-  sum_in (number n) k a = rw a refl
-  sum_in (string s) k a = rw a refl
-  sum_in (array ds) k a = rw (a.1) (summed ds a.0 a.2)
-  sum_in (object ms) k a = rw (a.1) refl
-
-  sum_of : (o p : Option Data) → AreAlike o p → sum_by f (option_map_or (λ value. list_of (items_in value)) o []) ≡ sum_by f (option_map_or (λ value. list_of (items_in value)) p [])
-  sum_of None p a = rw a refl
-  sum_of (Some d) p a = rw (a.1) (sum_in d a.0 a.2)
-
   pub sum_same : (name : Name) → is_kept (name_text name) ≡ false → (d k : Data) → Alike d k → sum_by f (items_at name d) ≡ sum_by f (items_at name k)
-  sum_same name not d k a = sum_of (member_at name d) (member_at name k) (member_alike (name_text name) not d k a)
+  sum_same name not d k a = at_alike (λ ds ks. sum_by f ds ≡ sum_by f ks) refl summed name not d k a

@@ -157,7 +157,7 @@ provisioner_read d p e =
     let growth = bind_some may (λ m. Some (made name.0 seconds.0 output.0 failed.0 m)) p output.2 in
     let is : made name.0 seconds.0 output.0 failed.0 growth.0 ≡ p = some_is (made name.0 seconds.0 output.0 failed.0 growth.0) p growth.2 in
     let both : (items >>= timed_outputs seconds.0) ≡ Some output.0 = ap (λ (o : Option (List OutputItem)). o >>= timed_outputs seconds.0) item.1 ∙ output.1 in
-    subst (λ (x : Provisioner). (seconds_of d ≡ Some x.seconds) × ((items >>= timed_outputs x.seconds) ≡ Some x.output)) is (seconds.1, both)
+    subst (λ (x : Provisioner). (seconds_of d ≡ Some x.seconds) × ((items >>= timed_outputs x.seconds) ≡ Some x.output)) {x = made name.0 seconds.0 output.0 failed.0 growth.0} is (seconds.1, both)
 
 of_provisioner : (d : Data) (p : Provisioner) → provisioner_from d ≡ Some p → seconds_in d ≡ p.seconds
 of_provisioner d p e = seconds_read d p.seconds (provisioner_read d p e).0

@@ -36,7 +36,7 @@ use Rattle.apply_validate_laws.specs.Laws.{is_entry}
 use Rattle.apply_validate_laws.proofs.Alike.{Alike, object_alike}
 use Rattle.apply_validate_laws.proofs.Besides.{all_waits_same, change_same, is_unknown, less}
 use Rattle.apply_validate_laws.proofs.Elements.{named}
-use Rattle.apply_validate_laws.proofs.Entries.{IsEntryOf, any_first, counts_before, entry_read, found_passes, name_of_change, named_before}
+use Rattle.apply_validate_laws.proofs.EntriesRead.{IsEntryOf, any_first, counts_before, entry_read, found_passes, name_of_change, named_before}
 use Rattle.apply_validate.proofs.FirstNames.{same_name}
 use Rattle.apply_validate_laws.proofs.Found.{any_part, any_under, below, suited}
 use Rattle.apply_validate_laws.proofs.Joined.{joined}

@@ -29,6 +29,7 @@ use Rattle.apply_validate_laws.proofs.Joined.{joined}
 use Rattle.apply_validate_laws.proofs.Scripts.{listed_in}
 use Rattle.apply_validate_laws.proofs.Taken.{outcomes}
 use Rattle.apply_validate_laws.proofs.Wanted.{object_there}
+use Rattle.apply_validate_laws.proofs.Members.{at_alike}
 
 some_is : {A : Type 0} (x y : A) → Some x ≡ Some y → x ≡ y
 some_is x y e = cc
@@ -64,20 +65,8 @@ pairs_of : (ds es : Items) → AlikeItems ds es → Pairs (list_of ds) (list_of 
 pairs_of no_items es a = ap list_of a
 pairs_of (item d ds) es a = (a.0, list_of a.1, ap list_of a.2, a.3, pairs_of ds a.1 a.4)
 
-pairs_in : (d k : Data) → Alike d k → Pairs (list_of (items_in d)) (list_of (items_in k))
-pairs_in null k a = rw a refl
-pairs_in (boolean b) k a = rw a refl
-pairs_in (number n) k a = rw a refl
-pairs_in (string s) k a = rw a refl
-pairs_in (array ds) k a = rw (a.1) (pairs_of ds a.0 a.2)
-pairs_in (object ms) k a = rw (a.1) refl
-
-pairs_by : (o p : Option Data) → AreAlike o p → Pairs (listed_in o) (listed_in p)
-pairs_by None p a = rw a refl
-pairs_by (Some d) p a = rw (a.1) (pairs_in d a.0 a.2)
-
 pub pairs_at : (name : Name) → is_kept (name_text name) ≡ false → (d k : Data) → Alike d k → Pairs (items_at name d) (items_at name k)
-pairs_at name not d k a = pairs_by (member_at name d) (member_at name k) (member_alike (name_text name) not d k a)
+pairs_at name not d k a = at_alike Pairs refl pairs_of name not d k a
 
 -- where one of the items that are read passes a test, and that is told of it
 module _ (A : Type 0) (part : Data → Option A) (test : A → Bool) (p : Finding → Bool) (found : ℕ → Data → List Finding)

@@ -35,7 +35,7 @@ use Rattle.apply_validate_laws.proofs.Shapes.{IsSame, both_same, picked, same_di
 use Rattle.apply_validate_laws.proofs.ShapedProvisioners.{clean_shaped, first_shaped, is_read, items_shaped, made, same_provisioner, shaped_provisioner}
 use Rattle.apply_validate_laws.proofs.Steps.{alone, same_alone, apart, diagnostic_there, failure_there, fit, flag_read, given, id_there, parts as step_parts, reads as step_reads, silent_read, step_read, table_clean, timed, untouched}
 use Rattle.apply_validate_laws.proofs.Wanted.{each_is, only_object}
-use Rattle.apply_validate_laws.proofs.CleanSteps.{both_absent, failure_clean, failure_of, flag_clean, flag_of, growth_clean, id_of, own_clean, provisioners_of, says_seconds, waits_of, warning_clean, warning_of}
+use Rattle.apply_validate_laws.proofs.CleanSteps.{both_absent, failure_clean, failure_of, flag_clean, flag_of, growth_clean, id_of, own_clean, provisioners_of, says_seconds, waits_of, warning_clean, warning_of, grown_of, own_of}
 use Rattle.apply_validate_laws.proofs.Joined.{joined}
 
 some_is : {A : Type 0} (x y : A) → Some x ≡ Some y → x ≡ y
@@ -264,9 +264,7 @@ clean_shaped_step d k alike =
     let p : Option Data = member_of (codes "after") k in
     let tests : Bool = none_holds (picked (step_marks k)) in
     let tests_skipped : Bool = none_holds (skipped_marks k) in
-    let own : Bool = timed (is_skipped k) (seconds_of k) && is_some (id_of k) in
     let listed : Bool = is_met want.ArrayOrAbsent o && is_absent_or (all_items first_shaped) o in
-    let grown : Bool = is_absent_or (all_items fits_growth) o in
     let same = tests_same d k alike in
     let read : clean provisioners ≡ listed =
     list_clean (λ number. shaped_provisioner) first_shaped (λ number. clean_shaped) (known name.Provisioners want.ArrayOrAbsent) array_or refl d k alike in
@@ -279,16 +277,16 @@ clean_shaped_step d k alike =
     let parts : List (List Finding × Bool) =
     (inside in_diagnostic name.Warning d, is_some (warning_of k)) ∷ (inside in_failure name.Failed d, is_some (failure_of k)) ∷ (provisioners, listed)
     ∷ (marked (picked (step_marks d)), tests) ∷ (faults_of (known name.Skipped want.FlagOrAbsent ∷ []) d, is_some (flag_of k))
-    ∷ (marked (skipped_marks d), tests_skipped) ∷ (inside (in_items (λ number. growth_of_provisioner)) name.Provisioners d, grown)
+    ∷ (marked (skipped_marks d), tests_skipped) ∷ (inside (in_items (λ number. growth_of_provisioner)) name.Provisioners d, grown_of k)
     ∷ (after, is_some (waits_of k)) ∷ [] in
     let found : List Finding = joined (faults_of (step_table (is_skipped d)) d) (map (λ (part : List Finding × Bool). part.0) parts) in
-    let are : clean found ≡ all_of own parts =
-    clean-joined (faults_of (step_table (is_skipped d)) d) own parts (own_clean d k alike)
+    let are : clean found ≡ all_of (own_of k) parts =
+    clean-joined (faults_of (step_table (is_skipped d)) d) (own_of k) parts (own_clean d k alike)
     (warning_clean d k alike, (failure_clean d k alike, (read, (clean-marked (picked (step_marks d)) refl ∙ same.0, (flag_clean d k alike,
     (clean-marked (skipped_marks d) refl ∙ same.1, (growth_clean d k alike, (awaited, tt)))))))) in
-    let by_itself : all_of own parts ≡ is_some (step_from k) =
+    let by_itself : all_of (own_of k) parts ≡ is_some (step_from k) =
     apart (timed (is_skipped k) (seconds_of k)) (is_some (id_of k)) (is_some (warning_of k)) (is_some (failure_of k)) (is_met want.ArrayOrAbsent o)
-    (is_absent_or (all_items first_shaped) o) tests (is_some (flag_of k)) tests_skipped grown (is_some (waits_of k))
+    (is_absent_or (all_items first_shaped) o) tests (is_some (flag_of k)) tests_skipped (grown_of k) (is_some (waits_of k))
     (is_absent_or (all_items is_read) o) (items_shaped o)
     ∙ ap (λ (x : Bool). step_parts (timed (is_skipped k) (seconds_of k)) (is_some (id_of k)) (is_some (warning_of k)) (is_some (failure_of k)) x tests
     (is_some (flag_of k)) tests_skipped (is_some (waits_of k))) (each_is provisioner_from o)
