@@ -1,36 +1,29 @@
 -- A step: nothing is found for which a run refuses, exactly where one is read that is within the limits and fits the changes of a plan.
-use Rattle.std.proofs.Common.{◌≡◌, ℕ, suc, ◌+◌, ◌<◌, List, [], ◌∷◌, ◌++◌, length, Bool, true, false, not, ◌&&◌, ◌||◌, is_some, Option, Some, None, unwrap_or, if◌then◌else◌, refl, sym, ap, ◌∙◌, arith, map}
-use Rattle.std.specs.Prelude.{codes, nat_lt}
-use Rattle.std.specs.List.{list_all, sum_by}
-use Rattle.std.specs.Option.{option_and_then, option_map, option_map_or}
-use Rattle.std.proofs.lemmas.Bool.{lt-ltb}
-use Rattle.serde_json.specs.Data.{Data, null, boolean, number, string, array, object}
-use Rattle.serde_json.specs.Find.{as_bool, as_number, as_object, as_str, as_u64}
+use Rattle.std.proofs.Common.{◌≡◌, ℕ, List, [], ◌∷◌, ◌++◌, Bool, true, false, not, ◌&&◌, is_some, Option, Some, None, refl, sym, ap, ◌∙◌, map}
+use Rattle.std.specs.Prelude.{codes}
+use Rattle.std.specs.List.{list_all}
+use Rattle.serde_json.specs.Data.{Data}
+use Rattle.serde_json.specs.Find.{as_object}
 use Rattle.apply_json.specs.Seen.{items_in}
-use Rattle.apply_json.specs.Tree.{◌>>=◌, list_of, member_of, text_or, unless_empty}
+use Rattle.apply_json.specs.Tree.{list_of, member_of, text_or}
 use Rattle.apply_model.specs.declared.script.diag.Diag.{Diag}
-use Rattle.apply_model.specs.declared.script.ending.Ending.{Ending}
-use Rattle.apply_model.specs.declared.script.ending.Ending.TheVariants.{Done, Failed, Warned}
 use Rattle.apply_model.specs.declared.script.provisioner.Provisioner.{Provisioner}
-use Rattle.apply_model.specs.Script.Limits.{max_provisioners, max_seconds}
-use Rattle.apply_model.specs.Script.Outcome.{is_failed, is_warned, puts_out_too_much, seconds_of_all}
 use Rattle.apply_model.specs.Plan.ResourceChange.{ResourceChange}
-use Rattle.apply_plan.specs.Script.Entry.{EntryStep, Failure, WaitName, answered_with, diag_from, diag_or_none, each_of, ending_by, ending_from, ending_of, failure_from, failure_or_none, flag_or_false, provisioner_from, says_nothing, seconds_of, skipped_with, step_from, wait_from}
+use Rattle.apply_plan.specs.Script.Entry.{Failure, WaitName, diag_from, diag_or_none, each_of, ending_of, failure_from, failure_or_none, flag_or_false, provisioner_from, seconds_of, step_from, wait_from}
 use Rattle.apply_validate.specs.declared.findings.finding.Finding.{Finding}
 use Rattle.apply_validate.specs.declared.findings.name.Name.TheVariants as name
 use Rattle.apply_validate.specs.declared.findings.want.Want.TheVariants as want
 use Rattle.apply_validate.specs.Beside.{kind_marks}
-use Rattle.apply_validate_laws.specs.Laws.{is_within_limits}
-use Rattle.apply_validate.specs.ScriptFindings.{growth_of_provisioner, in_diagnostic, in_failure, in_provisioner, in_step, in_wait, is_skipped, seconds_in, seconds_in_all, skipped_marks, step_marks, step_names, step_table}
-use Rattle.apply_validate.specs.Walks.{faults_of, in_items, in_list, inside, items_at, known, marked, unread}
+use Rattle.apply_validate.specs.ScriptFindings.{growth_of_provisioner, in_diagnostic, in_failure, in_provisioner, in_step, in_wait, is_skipped, skipped_marks, step_marks, step_names, step_table}
+use Rattle.apply_validate.specs.Walks.{faults_of, in_items, in_list, inside, known, marked, unread}
 use Rattle.apply_validate.specs.Wants.{is_met}
 use Rattle.apply_validate_laws.proofs.Alike.{Alike, object_alike}
 use Rattle.apply_validate_laws.proofs.Besides.{fits_kind, is_found, kind_same}
-use Rattle.apply_validate_laws.proofs.Clean.{all_items, appended, clean, clean-append, clean-faults_of, clean-marked, clean-then_unread, clean-where_suits, is_absent_or, all_of, clean-joined}
-use Rattle.apply_validate_laws.proofs.Diagnostics.{absent_or_diagnostic, absent_or_failure, clean_diagnostic, clean_failure, clean_wait, fits_wait, two}
-use Rattle.apply_validate_laws.proofs.Members.{IsCleanBeside, array_or, count_same, flag_same, flag_there, inside_clean, is_there_same, items_inside, list_clean, non_empty_same, seconds_same, sum_same, text_or_there, whole_there}
-use Rattle.apply_validate.proofs.Options.{and_assoc, and_false, and_true, crossed, none_any, nothing_then, still}
-use Rattle.apply_validate_laws.proofs.Provisioners.{all_seconds_read, clean_growth, clean_provisioner, fits, fits_first, fits_growth, is_provisioner, items_both, length_read, seconds_are}
+use Rattle.apply_validate_laws.proofs.Clean.{all_items, clean, clean-faults_of, clean-marked, clean-then_unread, clean-where_suits, is_absent_or, all_of, clean-joined}
+use Rattle.apply_validate_laws.proofs.Diagnostics.{absent_or_diagnostic, absent_or_failure, clean_diagnostic, clean_failure, clean_wait, fits_wait}
+use Rattle.apply_validate_laws.proofs.Members.{IsCleanBeside, array_or, flag_same, flag_there, inside_clean, items_inside, list_clean}
+use Rattle.apply_validate.proofs.Options.{and_assoc, and_false, and_true, crossed, still}
+use Rattle.apply_validate_laws.proofs.Provisioners.{clean_growth, clean_provisioner, fits, fits_first, fits_growth, is_provisioner, items_both}
 use Rattle.apply_validate_laws.proofs.Wanted.{each_fits, each_is, only_object}
 use Rattle.apply_validate_laws.proofs.Steps.{apart, flag_read, is_step, parts as step_parts, reads, silent_read, table_clean, tests_read, tests_same, timed}
 use Rattle.apply_validate_laws.proofs.Joined.{joined}
@@ -144,9 +137,22 @@ clean_step changes change n d k alike =
     ∷ (inside (in_items (λ number. growth_of_provisioner)) name.Provisioners d, grown_of k) ∷ (after, is_some (waits_of k) && waits_found changes k) ∷ [] in
     let found : List Finding = joined (faults_of (step_table (is_skipped d)) d) (map (λ (part : List Finding × Bool). part.0) parts) in
     let are : clean found ≡ all_of (own_of k) parts =
-    clean-joined (faults_of (step_table (is_skipped d)) d) (own_of k) parts (own_clean d k alike)
-    (warning_clean d k alike, (failure_clean d k alike, (read, (clean-marked (step_marks d) refl ∙ same.0, (kind_same change n d k alike,
-    (flag_clean d k alike, (clean-marked (skipped_marks d) refl ∙ same.1, (growth_clean d k alike, (awaited, tt))))))))) in
+    clean-joined (faults_of (step_table (is_skipped d)) d) (own_of k) parts (own_clean d k alike) (
+      warning_clean d k alike,
+      (
+        failure_clean d k alike,
+        (
+          read,
+          (
+            clean-marked (step_marks d) refl ∙ same.0,
+            (
+              kind_same change n d k alike,
+              (flag_clean d k alike, (clean-marked (skipped_marks d) refl ∙ same.1, (growth_clean d k alike, (awaited, tt)))),
+            ),
+          ),
+        ),
+      ),
+    ) in
     let by_itself : ((((((((own_of k && is_some (warning_of k)) && is_some (failure_of k)) && listed) && tests) && is_some (flag_of k)) && tests_skipped) && (grown_of k))
     && is_some (waits_of k)) ≡ is_step k =
     apart (timed (is_skipped k) (seconds_of k)) (is_some (id_of k)) (is_some (warning_of k)) (is_some (failure_of k)) (is_met want.ArrayOrAbsent o)

@@ -24,10 +24,10 @@ use Rattle.apply_validate.specs.Findings.{finding_at, under}
 use Rattle.apply_validate.specs.PlanFindings.{actions_mark, element_table, in_change, is_misplaced, is_one_of_eight}
 use Rattle.apply_validate.specs.Walks.{faults_of, inside, known, lack, marked, member_at}
 use Rattle.apply_validate.specs.Wants.{is_met}
-use Rattle.apply_validate.proofs.Options.{and_left, and_then_is}
+use Rattle.apply_validate.proofs.Options.{and_then_is}
 use Rattle.apply_validate_laws.proofs.Elements.{element_is, gathered, members_met, planned, read_change, some_is}
 use Rattle.apply_validate_laws.proofs.Found.{any_left, any_right, any_under, below, each_told, faults_told, first_is, marked_first}
-use Rattle.apply_validate_laws.proofs.Wanted.{is_object, met_array, needs_object}
+use Rattle.apply_validate_laws.proofs.Wanted.{is_object, met_array}
 
 -- ---- `change`
 

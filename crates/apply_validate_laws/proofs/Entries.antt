@@ -1,17 +1,14 @@
 -- Entries beside a plan: nothing is found for which a run refuses, exactly where a run takes them.
-use Rattle.std.proofs.Common.{◌≡◌, ℕ, suc, ◌+◌, ◌-◌, ◌≤◌, List, [], ◌∷◌, ◌++◌, length, map, drop, take, Bool, true, false, cond, not, ◌&&◌, ◌||◌, is_ok, is_some, Option, Some, None, Result, Ok, Err, if◌then◌else◌, refl, sym, ap, ◌∙◌, ⊎_elim, append_assoc, arith}
-use Rattle.std.specs.Prelude.{codes, find, is_none, nat_le, nat_lt}
-use Rattle.std.specs.List.{enumerate_from, list_all, list_any, position_from, sum_by, zip}
+use Rattle.std.proofs.Common.{◌≡◌, ℕ, suc, ◌+◌, ◌≤◌, List, [], ◌∷◌, ◌++◌, length, map, take, Bool, true, false, cond, not, ◌&&◌, ◌||◌, is_ok, is_some, Option, Some, None, Result, Err, refl, sym, ap, ◌∙◌, append_assoc, arith}
+use Rattle.std.specs.Prelude.{codes, is_none, nat_le, nat_lt}
+use Rattle.std.specs.List.{enumerate_from, list_all, list_any, sum_by, zip}
 use Rattle.std.specs.Option.{option_and_then, option_map, option_map_or, option_or}
-use Rattle.std.proofs.lemmas.Bool.{cases_Bool}
 use Rattle.std.proofs.lemmas.Bool.Decides.{nat_tests}
 use Rattle.std.proofs.lemmas.List.{length-append, length-map, take_at}
 use Rattle.std.proofs.lemmas.List.Folds.{list_all-append}
 use Rattle.std.proofs.lemmas.List.Sums.{sum_by-append, sum_by-cons}
-use Rattle.serde_json.specs.Data.{Data, Items, null, boolean, number, string, array, object}
-use Rattle.serde_json.specs.Find.{as_array, as_str}
-use Rattle.apply_json.specs.Seen.{items_in}
-use Rattle.apply_json.specs.Tree.{◌>>=◌, list_of, member_of, text_of, text_or, unless_empty}
+use Rattle.serde_json.specs.Data.{Data}
+use Rattle.apply_json.specs.Tree.{member_of}
 use Rattle.apply_model.specs.declared.plan.step_kind.StepKind.{StepKind}
 use Rattle.apply_model.specs.declared.script.outcome.Outcome.{Outcome}
 use Rattle.apply_model.specs.Plan.ResourceChange.{ResourceChange}
@@ -22,7 +19,7 @@ use Rattle.apply_plan.specs.declared.script.script_error.ScriptError.TheVariants
 use Rattle.apply_plan.specs.Plan.ObjectName.{name_one_object}
 use Rattle.apply_plan.specs.Results as results
 use Rattle.apply_plan.specs.Results.{or_refuse, unless_refused}
-use Rattle.apply_plan.specs.Script.Entry.{Entry, EntryStep, all_some, entry_of, step_from}
+use Rattle.apply_plan.specs.Script.Entry.{Entry, EntryStep, entry_of, step_from}
 use Rattle.apply_plan.specs.Script.OutcomeMap.{Said, change_of_entry, count_in, entry_at, names_change, said_by}
 use Rattle.apply_plan.specs.Script.Refusals as run
 use Rattle.apply_plan.specs.Script.Refusals.{count_of_waits, fault_of_entry, fault_of_names, fault_of_steps, fault_of_waits, is_any_wait, misplaces_provisioners, passes, warns_not_a_read}
@@ -32,17 +29,15 @@ use Rattle.apply_validate_laws.specs.Laws.{is_bounded, is_entry, is_within_limit
 use Rattle.apply_validate.specs.ObjectNames.{Named}
 use Rattle.apply_validate.specs.PlanFindings.{first_named, is_named, name_read}
 use Rattle.apply_validate.specs.Walks.{items_at}
-use Rattle.apply_validate_laws.proofs.Besides.{fits_kind, has_room, is_unknown, less, too_many}
-use Rattle.apply_validate_laws.proofs.Clean.{is_absent_or}
+use Rattle.apply_validate_laws.proofs.Besides.{fits_kind, has_room, is_unknown, too_many}
 use Rattle.apply_validate_laws.proofs.Elements.{named}
 use Rattle.apply_validate.proofs.FirstNames.{same_name}
-use Rattle.apply_validate_laws.proofs.Members.{all_from, all_items_from}
-use Rattle.apply_validate.proofs.Options.{and_false, and_if, and_left, and_right, and_true, bind_some, crossed}
+use Rattle.apply_validate_laws.proofs.Members.{all_from}
+use Rattle.apply_validate.proofs.Options.{and_false, and_if, and_left, and_right, and_true, crossed}
 use Rattle.apply_validate_laws.proofs.Provisioners.{length_of_all}
 use Rattle.apply_validate_laws.proofs.Scripts.{entries_fit, fits_entry, is_again, steps_beside}
 use Rattle.apply_validate_laws.proofs.CleanSteps.{is_beside, waits_found}
-use Rattle.apply_validate_laws.proofs.Taken.{found_with, kinds_read, named_by, outcomes, waits_known, waits_read}
-use Rattle.apply_validate_laws.proofs.Wanted.{array_in}
+use Rattle.apply_validate_laws.proofs.Taken.{found_with, kinds_read, outcomes, waits_known, waits_read}
 use Rattle.apply_validate_laws.proofs.EntriesRead.{entry_read, name_of_change, found_passes, any_first, named_before, counts_before, room_is}
 
 -- ---- what a run tests of an entry
@@ -66,7 +61,9 @@ warned kinds steps = list_any warns_not_a_read (zip (enumerate_from 0 kinds) (ou
 
 steps_taken : (n : ℕ) (deposed : Bool) (kinds : List StepKind) (steps : List EntryStep)
     → is_none (fault_of_steps n deposed kinds (outcomes steps))
-    ≡ (not (nat_lt (length kinds) (length (outcomes steps))) && (not (any_of is_too_long steps) && (not (any_of has_too_many_provisioners steps) && (not (any_of has_too_much_output steps) && (not (misplaced deposed kinds steps) && not (warned kinds steps))))))
+    ≡ (not (nat_lt (length kinds) (length (outcomes steps)))
+    && (not (any_of is_too_long steps)
+    && (not (any_of has_too_many_provisioners steps) && (not (any_of has_too_much_output steps) && (not (misplaced deposed kinds steps) && not (warned kinds steps))))))
 unfolding fault_of_steps
 steps_taken n deposed kinds steps =
     chain (nat_lt (length kinds) (length (outcomes steps))) (TooManySteps n) _ _
@@ -142,7 +139,9 @@ not_many most count e = grind (arith, nat_tests)
 
 taken_is : (changes : List ResourceChange) (before : List Data) (d : Data) (entry : Entry) (it : ℕ × ResourceChange) → entry_of d ≡ Some entry → change_of_entry changes entry ≡ Some it
     → list_all is_entry before ≡ true → nat_le (sum_by waits_in_all before) max_waits ≡ true
-    → is_ok (let r : Result Said ScriptError = cond (list_any (names_change it.1) before) (Err (Duplicate (length before))) (unless_refused (fault_of_entry (length before) changes (sum_by count_in before) it.1 entry.steps) (said_by changes it.0 entry.steps)) in r)
+    → is_ok (let r : Result Said ScriptError =
+    cond (list_any (names_change it.1) before) (Err (Duplicate (length before)))
+    (unless_refused (fault_of_entry (length before) changes (sum_by count_in before) it.1 entry.steps) (said_by changes it.0 entry.steps)) in r)
     ≡ (is_entry d && fits_entry (Some changes) (named_first before d) (waits_left (sum_by waits_in_all before)) d)
 taken_is changes before d entry it is about are few =
     let read = entry_read d entry is in
@@ -160,10 +159,13 @@ taken_is changes before d entry it is about are few =
     let same : name_of_change change ≡ object = same_name (name_of_change change) object (found_passes (λ c. name_one_object c.address c.deposed entry.address entry.deposed) changes change held) in
     let dup : Bool = list_any (names_change change) before in
     -- what a run tests
-    let tests : is_ok (let r : Result Said ScriptError = cond dup (Err (Duplicate (length before))) (unless_refused (fault_of_entry (length before) changes (sum_by count_in before) change steps) (said_by changes it.0 steps)) in r)
-    ≡ (not dup && ((not many && (not (any_of is_too_long steps) && (not (any_of has_too_many_provisioners steps) && (not (any_of has_too_much_output steps) && (not (misplaced deposed kinds steps) && not (warned kinds steps))))))
+    let tests : is_ok (let r : Result Said ScriptError =
+    cond dup (Err (Duplicate (length before))) (unless_refused (fault_of_entry (length before) changes (sum_by count_in before) change steps) (said_by changes it.0 steps)) in r)
+    ≡ (not dup && ((not many && (not (any_of is_too_long steps)
+    && (not (any_of has_too_many_provisioners steps) && (not (any_of has_too_much_output steps) && (not (misplaced deposed kinds steps) && not (warned kinds steps))))))
     && (not (nat_lt max_waits (sum_by count_in before + count_of_waits steps)) && (not (is_any_wait (run.is_unknown changes) steps) && not (is_any_wait (run.lacks_step changes) steps))))) =
-    ok_unless dup (length before) (fault_of_steps (length before) deposed kinds (outcomes steps)) (fault_of_waits (length before) changes (sum_by count_in before) steps) (said_by changes it.0 steps) _ _
+    ok_unless dup (length before) (fault_of_steps (length before) deposed kinds (outcomes steps))
+    (fault_of_waits (length before) changes (sum_by count_in before) steps) (said_by changes it.0 steps) _ _
     (steps_taken (length before) deposed kinds steps) (waits_taken (length before) changes (sum_by count_in before) steps) in
     -- what is found
     let unknown : is_unknown (Some changes) (object_named d) ≡ false = ap (λ (o : Option Named). is_unknown (Some changes) o) read.object ∙ ap is_none held in
@@ -178,7 +180,8 @@ taken_is changes before d entry it is about are few =
     ap (λ (o : Option ResourceChange). too_many o (length (items_at name.Steps d))) about_it
     ∙ ap (λ (xs : List Data). nat_lt (length kinds) (length xs)) read.listed
     ∙ ap (nat_lt (length kinds)) (counted ∙ sym (length-map steps (λ step. step.outcome))) in
-    let beside : steps_beside (Some changes) (change_at (Some changes) d) (member_of (codes "steps") d) ≡ (all_from (fits_kind (Some change)) 0 read.items && list_all (waits_found (Some changes)) read.items) =
+    let beside : steps_beside (Some changes) (change_at (Some changes) d) (member_of (codes "steps") d)
+    ≡ (all_from (fits_kind (Some change)) 0 read.items && list_all (waits_found (Some changes)) read.items) =
     ap (λ (o : Option ResourceChange). steps_beside (Some changes) o (member_of (codes "steps") d)) about_it
     ∙ read.each (is_beside (Some changes) (Some change))
     ∙ both_from (fits_kind (Some change)) (waits_found (Some changes)) 0 read.items in
@@ -195,7 +198,8 @@ taken_is changes before d entry it is about are few =
     let within : is_entry d ≡ (not (any_of is_too_long steps) && (not (any_of has_too_many_provisioners steps) && not (any_of has_too_much_output steps))) =
     ap (λ (o : Option Entry). option_map_or (λ x. list_all is_within_limits x.steps) o false) is ∙ within_is steps in
     tests
-    ∙ by_many many (not dup) (not (any_of is_too_long steps)) (not (any_of has_too_many_provisioners steps)) (not (any_of has_too_much_output steps)) (not (misplaced deposed kinds steps)) (not (warned kinds steps))
+    ∙ by_many many (not dup) (not (any_of is_too_long steps)) (not (any_of has_too_many_provisioners steps)) (not (any_of has_too_much_output steps))
+    (not (misplaced deposed kinds steps)) (not (warned kinds steps))
     (not (nat_lt max_waits (sum_by count_in before + count_of_waits steps))) (not (is_any_wait (run.is_unknown changes) steps)) (not (is_any_wait (run.lacks_step changes) steps))
     (all_from (fits_kind (Some change)) 0 read.items && list_all (waits_found (Some changes)) read.items) kind
     ∙ sym (rw (within, unknown, again, too, beside, room) refl)
@@ -204,21 +208,28 @@ no_change : (changes : List ResourceChange) (first left : Option ℕ) (d : Data)
     → false ≡ (is_entry d && fits_entry (Some changes) first left d)
 no_change changes first left d entry is about =
     let read = entry_read d entry is in
-    let none : change_named changes (named entry.address entry.deposed) ≡ None = found_with (λ c. name_one_object c.address c.deposed entry.address entry.deposed) 0 changes ∙ ap (option_map (λ p. p.1)) about in
+    let none : change_named changes (named entry.address entry.deposed) ≡ None =
+    found_with (λ c. name_one_object c.address c.deposed entry.address entry.deposed) 0 changes ∙ ap (option_map (λ p. p.1)) about in
     let unknown : is_unknown (Some changes) (object_named d) ≡ true = ap (λ (o : Option Named). is_unknown (Some changes) o) read.object ∙ ap is_none none in
     sym (rw unknown (and_false (is_entry d)))
 
-by_change : (changes : List ResourceChange) (before : List Data) (d : Data) (entry : Entry) → entry_of d ≡ Some entry → list_all is_entry before ≡ true → nat_le (sum_by waits_in_all before) max_waits ≡ true
+by_change : (changes : List ResourceChange) (before : List Data) (d : Data) (entry : Entry) → entry_of d ≡ Some entry → list_all is_entry before ≡ true
+    → nat_le (sum_by waits_in_all before) max_waits ≡ true
     → (o : Option (ℕ × ResourceChange)) → change_of_entry changes entry ≡ o
     → is_ok (results.◌>>=◌ (or_refuse (UnknownChange (length before)) o)
-    (λ it. let r : Result Said ScriptError = cond (list_any (names_change it.1) before) (Err (Duplicate (length before))) (unless_refused (fault_of_entry (length before) changes (sum_by count_in before) it.1 entry.steps) (said_by changes it.0 entry.steps)) in r))
+    (λ it. let r : Result Said ScriptError =
+    cond (list_any (names_change it.1) before) (Err (Duplicate (length before)))
+    (unless_refused (fault_of_entry (length before) changes (sum_by count_in before) it.1 entry.steps) (said_by changes it.0 entry.steps)) in r))
     ≡ (is_entry d && fits_entry (Some changes) (named_first before d) (waits_left (sum_by waits_in_all before)) d)
 by_change changes before d entry is are few None about = no_change changes (named_first before d) (waits_left (sum_by waits_in_all before)) d entry is about
 by_change changes before d entry is are few (Some it) about = taken_is changes before d entry it is about are few
 
-by_entry : (changes : List ResourceChange) (before : List Data) (d : Data) → list_all is_entry before ≡ true → nat_le (sum_by waits_in_all before) max_waits ≡ true → (o : Option Entry) → entry_of d ≡ o
+by_entry : (changes : List ResourceChange) (before : List Data) (d : Data) → list_all is_entry before ≡ true
+    → nat_le (sum_by waits_in_all before) max_waits ≡ true → (o : Option Entry) → entry_of d ≡ o
     → is_ok (results.◌>>=◌ (or_refuse (BadShape (Some (length before))) o) (λ entry. results.◌>>=◌ (or_refuse (UnknownChange (length before)) (change_of_entry changes entry))
-    (λ it. let r : Result Said ScriptError = cond (list_any (names_change it.1) before) (Err (Duplicate (length before))) (unless_refused (fault_of_entry (length before) changes (sum_by count_in before) it.1 entry.steps) (said_by changes it.0 entry.steps)) in r)))
+    (λ it. let r : Result Said ScriptError =
+    cond (list_any (names_change it.1) before) (Err (Duplicate (length before)))
+    (unless_refused (fault_of_entry (length before) changes (sum_by count_in before) it.1 entry.steps) (said_by changes it.0 entry.steps)) in r)))
     ≡ (is_entry d && fits_entry (Some changes) (named_first before d) (waits_left (sum_by waits_in_all before)) d)
 by_entry changes before d are few None is =
     let none : is_entry d ≡ false = ap (λ (o : Option Entry). option_map_or (λ x. list_all is_within_limits x.steps) o false) is in
@@ -250,10 +261,13 @@ behind_one changes before d are few taken =
     let fits : Bool = fits_entry (Some changes) (named_first before d) (waits_left (sum_by waits_in_all before)) d in
     let itself : is_entry d ≡ true = and_left (is_entry d) fits taken in
     let room : has_room true (waits_left (sum_by waits_in_all before)) (waits_in_all d) ≡ true =
-    last_of (not (is_unknown (Some changes) (object_named d))) (not (is_again (change_at (Some changes) d) (named_first before d))) (not (too_many (change_at (Some changes) d) (length (items_at name.Steps d))))
-    (steps_beside (Some changes) (change_at (Some changes) d) (member_of (codes "steps") d)) (has_room true (waits_left (sum_by waits_in_all before)) (waits_in_all d)) (and_right (is_entry d) fits taken) in
+    last_of (not (is_unknown (Some changes) (object_named d))) (not (is_again (change_at (Some changes) d) (named_first before d)))
+    (not (too_many (change_at (Some changes) d) (length (items_at name.Steps d))))
+    (steps_beside (Some changes) (change_at (Some changes) d) (member_of (codes "steps") d))
+    (has_room true (waits_left (sum_by waits_in_all before)) (waits_in_all d)) (and_right (is_entry d) fits taken) in
     let summed : sum_by waits_in_all (before ++ d ∷ []) ≡ sum_by waits_in_all before + waits_in_all d =
-    sum_by-append waits_in_all before (d ∷ []) ∙ ap (λ (n : ℕ). sum_by waits_in_all before + n) (sum_by-cons waits_in_all d [] ∙ (let e : waits_in_all d + sum_by waits_in_all [] ≡ waits_in_all d = omega arith in e)) in (
+    sum_by-append waits_in_all before (d ∷ [])
+    ∙ ap (λ (n : ℕ). sum_by waits_in_all before + n) (sum_by-cons waits_in_all d [] ∙ (let e : waits_in_all d + sum_by waits_in_all [] ≡ waits_in_all d = omega arith in e)) in (
       list_all-append is_entry before (d ∷ []) ∙ ap (λ (b : Bool). b && (is_entry d && true)) are ∙ ap (λ (b : Bool). b && true) itself,
       ap (λ (n : ℕ). nat_le n max_waits) summed ∙ still_few (sum_by waits_in_all before) (waits_in_all d) few (sym (room_is (sum_by waits_in_all before) (waits_in_all d) few) ∙ room),
     )

@@ -1,47 +1,34 @@
 -- What is read of an entry, and of those before it.
-use Rattle.std.proofs.Common.{◌≡◌, ℕ, suc, ◌+◌, ◌-◌, ◌≤◌, List, [], ◌∷◌, ◌++◌, length, map, drop, take, Bool, true, false, cond, not, ◌&&◌, ◌||◌, is_ok, is_some, Option, Some, None, Result, Ok, Err, if◌then◌else◌, refl, sym, ap, ◌∙◌, ⊎_elim, append_assoc, arith}
-use Rattle.std.specs.Prelude.{codes, find, is_none, nat_le, nat_lt}
-use Rattle.std.specs.List.{enumerate_from, list_all, list_any, position_from, sum_by, zip}
-use Rattle.std.specs.Option.{option_and_then, option_map, option_map_or, option_or}
+use Rattle.std.proofs.Common.{◌≡◌, ℕ, ◌+◌, ◌-◌, ◌≤◌, List, [], ◌∷◌, map, Bool, true, false, cond, not, ◌||◌, is_some, Option, Some, None, if◌then◌else◌, refl, sym, ap, ◌∙◌, ⊎_elim, arith}
+use Rattle.std.specs.Prelude.{codes, find, nat_le, nat_lt}
+use Rattle.std.specs.List.{list_all, list_any, position_from, sum_by}
+use Rattle.std.specs.Option.{option_map_or}
 use Rattle.std.proofs.lemmas.Bool.{cases_Bool}
 use Rattle.std.proofs.lemmas.Bool.Decides.{nat_tests}
-use Rattle.std.proofs.lemmas.List.{length-append, length-map, take_at}
-use Rattle.std.proofs.lemmas.List.Folds.{list_all-append}
-use Rattle.std.proofs.lemmas.List.Sums.{sum_by-append, sum_by-cons}
-use Rattle.serde_json.specs.Data.{Data, Items, null, boolean, number, string, array, object}
+use Rattle.std.proofs.lemmas.List.Sums.{sum_by-cons}
+use Rattle.serde_json.specs.Data.{Data, null, boolean, number, string, array, object}
 use Rattle.serde_json.specs.Find.{as_array, as_str}
 use Rattle.apply_json.specs.Seen.{items_in}
 use Rattle.apply_json.specs.Tree.{◌>>=◌, list_of, member_of, text_of, text_or, unless_empty}
-use Rattle.apply_model.specs.declared.plan.step_kind.StepKind.{StepKind}
-use Rattle.apply_model.specs.declared.script.outcome.Outcome.{Outcome}
 use Rattle.apply_model.specs.Plan.ResourceChange.{ResourceChange}
 use Rattle.apply_model.specs.Script.Limits.{max_waits}
-use Rattle.apply_model.specs.Script.Outcome.{has_too_many_provisioners, has_too_much_output, is_too_long}
-use Rattle.apply_plan.specs.declared.script.script_error.ScriptError.{ScriptError}
-use Rattle.apply_plan.specs.declared.script.script_error.ScriptError.TheVariants.{BadShape, Duplicate, NoSuchStep, NotACreate, SecondsRange, TooManyProvisioners, TooManySteps, TooManyWaits, TooMuchOutput, UnknownChange, UnknownWait, WarnsNotARead}
 use Rattle.apply_plan.specs.Plan.ObjectName.{name_one_object}
-use Rattle.apply_plan.specs.Results as results
-use Rattle.apply_plan.specs.Results.{or_refuse, unless_refused}
 use Rattle.apply_plan.specs.Script.Entry.{Entry, EntryStep, all_some, entry_of, step_from}
-use Rattle.apply_plan.specs.Script.OutcomeMap.{Said, change_of_entry, count_in, entry_at, names_change, said_by}
-use Rattle.apply_plan.specs.Script.Refusals as run
-use Rattle.apply_plan.specs.Script.Refusals.{count_of_waits, fault_of_entry, fault_of_names, fault_of_steps, fault_of_waits, is_any_wait, misplaces_provisioners, passes, warns_not_a_read}
+use Rattle.apply_plan.specs.Script.OutcomeMap.{count_in, names_change}
+use Rattle.apply_plan.specs.Script.Refusals.{count_of_waits}
 use Rattle.apply_validate.specs.declared.findings.name.Name.TheVariants as name
-use Rattle.apply_validate.specs.Beside.{change_at, change_named, named_first, object_named, waits_in, waits_in_all, waits_left}
-use Rattle.apply_validate_laws.specs.Laws.{is_bounded, is_entry, is_within_limits}
+use Rattle.apply_validate.specs.Beside.{object_named, waits_in, waits_in_all, waits_left}
+use Rattle.apply_validate_laws.specs.Laws.{is_entry, is_within_limits}
 use Rattle.apply_validate.specs.ObjectNames.{Named}
-use Rattle.apply_validate.specs.PlanFindings.{first_named, is_named, name_read}
+use Rattle.apply_validate.specs.PlanFindings.{is_named, name_read}
 use Rattle.apply_validate.specs.Walks.{items_at}
-use Rattle.apply_validate_laws.proofs.Besides.{fits_kind, has_room, is_unknown, less, too_many}
+use Rattle.apply_validate_laws.proofs.Besides.{has_room, less}
 use Rattle.apply_validate_laws.proofs.Clean.{is_absent_or}
 use Rattle.apply_validate_laws.proofs.Elements.{named}
 use Rattle.apply_validate.proofs.FirstNames.{same_name}
 use Rattle.apply_validate_laws.proofs.Members.{all_from, all_items_from}
-use Rattle.apply_validate.proofs.Options.{and_false, and_if, and_left, and_right, and_true, bind_some, crossed}
-use Rattle.apply_validate_laws.proofs.Provisioners.{length_of_all}
-use Rattle.apply_validate_laws.proofs.Scripts.{entries_fit, fits_entry, is_again, steps_beside}
-use Rattle.apply_validate_laws.proofs.CleanSteps.{is_beside, waits_found}
-use Rattle.apply_validate_laws.proofs.Taken.{found_with, kinds_read, named_by, outcomes, waits_known, waits_read}
+use Rattle.apply_validate.proofs.Options.{and_left, and_right, bind_some}
+use Rattle.apply_validate_laws.proofs.Taken.{named_by, waits_read}
 use Rattle.apply_validate_laws.proofs.Wanted.{array_in}
 
 some_is : {A : Type 0} (x y : A) → Some x ≡ Some y → x ≡ y
@@ -113,7 +100,8 @@ flipped one other = ⊎_elim
 abbrev pub name_of_change : ResourceChange → Named
 name_of_change change = (change.address, change.deposed)
 
-by_pass : (test : ResourceChange → Bool) (change x : ResourceChange) (b : Bool) (o : Option ResourceChange) → test change ≡ b → (o ≡ Some x → test x ≡ true) → cond b (Some change) o ≡ Some x → test x ≡ true
+by_pass : (test : ResourceChange → Bool) (change x : ResourceChange) (b : Bool) (o : Option ResourceChange) → test change ≡ b → (o ≡ Some x → test x ≡ true)
+    → cond b (Some change) o ≡ Some x → test x ≡ true
 by_pass test change x true o is rest e = ap test (sym (some_is change x e)) ∙ is
 by_pass test change x false o is rest e = rest e
 

@@ -246,7 +246,8 @@ fits_both k =
 
 all_both : (ks : List Data) → (list_all fits_first ks && list_all fits_growth ks) ≡ list_all is_provisioner ks
 all_both [] = refl
-all_both (k ∷ ks) = crossed (fits_first k) (list_all fits_first ks) (fits_growth k) (list_all fits_growth ks) ∙ ap (λ (b : Bool). b && (list_all fits_first ks && list_all fits_growth ks)) (fits_both k) ∙ ap (λ (b : Bool). is_provisioner k && b) (all_both ks)
+all_both (k ∷ ks) = crossed (fits_first k) (list_all fits_first ks) (fits_growth k) (list_all fits_growth ks)
+    ∙ ap (λ (b : Bool). b && (list_all fits_first ks && list_all fits_growth ks)) (fits_both k) ∙ ap (λ (b : Bool). is_provisioner k && b) (all_both ks)
 
 pub items_both : (o : Option Data) → (is_absent_or (all_items fits_first) o && is_absent_or (all_items fits_growth) o) ≡ is_absent_or (all_items is_provisioner) o
 items_both None = refl

@@ -1,53 +1,31 @@
 -- What a run refuses of a script: of which entry it is, and of what comes before it.
-use Rattle.std.proofs.Common.{◌≡◌, ℕ, ◌+◌, List, [], ◌∷◌, ◌++◌, length, map, take, Bool, true, false, cond, not, ◌&&◌, ◌||◌, is_ok, is_some, Option, Some, None, Result, Ok, Err, refl, subst, sym, ap, ◌∙◌, append_assoc, arith}
-use Rattle.std.specs.Prelude.{codes, nat_eq, nat_le, nat_lt}
-use Rattle.std.specs.List.{enumerate_from, list_all, list_any, position_from, sum_by}
-use Rattle.std.specs.Option.{option_map, option_map_or, option_or}
+use Rattle.std.proofs.Common.{◌≡◌, ℕ, List, [], ◌∷◌, length, Bool, true, false, not, ◌&&◌, is_ok, is_some, Option, Some, None, Result, Ok, Err, refl, subst, sym, ap, ◌∙◌, arith}
+use Rattle.std.specs.Prelude.{codes, nat_eq, nat_lt}
+use Rattle.std.specs.List.{list_all, list_any, sum_by}
+use Rattle.std.specs.Option.{option_map_or}
 use Rattle.std.proofs.lemmas.Bool.Decides.{nat_tests}
-use Rattle.std.proofs.lemmas.List.{length-append, map-append, take_at}
-use Rattle.std.proofs.lemmas.List.Folds.{list_any-append}
-use Rattle.std.proofs.lemmas.List.Sums.{sum_by-append, sum_by-cons}
-use Rattle.serde_json.specs.Data.{Data, Items, no_items, item, null, boolean, number, string, array, object}
-use Rattle.serde_json.specs.Find.{as_array, as_object}
+use Rattle.serde_json.specs.Data.{Data, Items, null, boolean, number, string, array, object}
+use Rattle.serde_json.specs.Find.{as_array}
 use Rattle.apply_json.specs.Keeping.{keeping_tree_of}
 use Rattle.apply_json.specs.Seen.{items_in}
-use Rattle.apply_json.specs.Tree.{◌>>=◌, list_of, member_of, tree_of}
-use Rattle.apply_model.specs.declared.plan.step_kind.StepKind.{StepKind}
-use Rattle.apply_model.specs.declared.script.outcome.Outcome.{Outcome}
+use Rattle.apply_json.specs.Tree.{◌>>=◌, list_of, member_of}
 use Rattle.apply_model.specs.Plan.ResourceChange.{ResourceChange}
 use Rattle.apply_model.specs.Plan.SavedPlan.{SavedPlan}
-use Rattle.apply_model.specs.Script.Limits.{max_waits}
-use Rattle.apply_model.specs.Script.OutcomeMap.{OutcomeMap}
 use Rattle.apply_plan.specs.Bytes.{max_bytes}
 use Rattle.apply_plan.specs.declared.script.script_error.ScriptError.{ScriptError}
-use Rattle.apply_plan.specs.declared.script.script_error.ScriptError.TheVariants.{BadShape, Duplicate, NeverBegins, NoSuchStep, NotACreate, NotJson, SecondsRange, TooLarge, TooManyProvisioners, TooManySteps, TooManyWaits, TooMuchOutput, UnknownChange, UnknownWait, WarnsNotARead}
 use Rattle.apply_plan.specs.Results as results
 use Rattle.apply_plan.specs.Results.{all_or_first, each_with_earlier, or_refuse, unless_refused}
-use Rattle.apply_plan.specs.Script.Entry.{Entry, EntryStep, entry_of, is_kept}
-use Rattle.apply_plan.specs.Script.NeverBeginning.{never_beginning_of}
-use Rattle.apply_plan.specs.Script.OutcomeMap.{Said, by_number, change_of_entry, count_in, elements_of, entry_at, is_stuck, names_change, said_by, script_of, script_of_entries, script_of_tree, unless_stuck}
-use Rattle.apply_plan.specs.Script.Refusals.{fault_of_entry, fault_of_steps, fault_of_waits}
-use Rattle.apply_validate.specs.declared.findings.finding.Finding.{Finding}
+use Rattle.apply_plan.specs.Script.Entry.{Entry, is_kept}
+use Rattle.apply_plan.specs.Script.OutcomeMap.{Said, count_in, elements_of, entry_at, names_change}
 use Rattle.apply_validate.specs.declared.findings.name.Name.TheVariants as name
-use Rattle.apply_validate.specs.declared.findings.part.Part.{Part}
-use Rattle.apply_validate.specs.declared.findings.part.Part.TheVariants.{Item, Member, Other}
-use Rattle.apply_validate.specs.declared.findings.want.Want.TheVariants as want
-use Rattle.apply_validate.specs.declared.findings.what.What.TheVariants as what
-use Rattle.apply_validate.specs.Beside.{named_first, waits_in_all, waits_left}
-use Rattle.apply_validate.specs.Findings.{finding_here, is_refusal, under}
-use Rattle.apply_validate_laws.specs.Laws.{goes_through, has_refusal, has_refusal_in, is_entry}
-use Rattle.apply_validate.specs.PlanFindings.{first_named, name_read}
-use Rattle.apply_validate.specs.ScriptFindings.{in_entry_behind, in_script, script_names}
-use Rattle.apply_validate.specs.Walks.{fault_of, items_at, items_behind, known, unread}
-use Rattle.apply_validate.specs.Whole.{behind_first, beside_plan, entry_of_refusal, given_findings, refusals_of, refused_for, script_findings, stuck_entries, waits_said}
-use Rattle.apply_validate_laws.proofs.Alike.{Alike, AlikeItems, AreAlike, both_trees, bytes_alike, member_alike, object_alike}
-use Rattle.apply_validate_laws.proofs.Besides.{all_waits_same, name_same}
-use Rattle.apply_validate_laws.proofs.Clean.{clean}
-use Rattle.apply_validate_laws.proofs.Entries.{behind_one, one_entry}
+use Rattle.apply_validate_laws.specs.Laws.{has_refusal, is_entry}
+use Rattle.apply_validate.specs.Walks.{items_at}
+use Rattle.apply_validate.specs.Whole.{entry_of_refusal, script_findings}
+use Rattle.apply_validate_laws.proofs.Alike.{Alike, AlikeItems, AreAlike}
 use Rattle.apply_validate.proofs.Options.{not_not}
 use Rattle.apply_validate_laws.proofs.Refused.{each_taken, elements_in}
 use Rattle.apply_validate_laws.proofs.ScriptTests.{by_change, by_entry, refused_with}
-use Rattle.apply_validate_laws.proofs.Scripts.{are_script_beside, clean_bytes, clean_entry, entries_fit, fits_entry, is_script_beside, listed_in}
+use Rattle.apply_validate_laws.proofs.Scripts.{are_script_beside, clean_bytes, entries_fit, is_script_beside, listed_in}
 
 some_is : {A : Type 0} (x y : A) → Some x ≡ Some y → x ≡ y
 some_is x y e = cc

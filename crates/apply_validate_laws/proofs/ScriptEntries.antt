@@ -1,5 +1,5 @@
 -- Where a run refuses an entry, what it refuses is found in it.
-use Rattle.std.proofs.Common.{◌≡◌, ℕ, ◌+◌, ◌-◌, ◌≤◌, List, [], ◌∷◌, ◌++◌, length, map, slice_get, Bool, true, false, cond, ◌&&◌, is_some, Option, Some, None, unwrap_or, Result, Err, if◌then◌else◌, refl, subst, sym, ap, ◌∙◌, arith}
+use Rattle.std.proofs.Common.{◌≡◌, ℕ, ◌+◌, ◌-◌, ◌≤◌, List, [], ◌∷◌, length, map, slice_get, Bool, true, false, cond, ◌&&◌, is_some, Option, Some, None, unwrap_or, Err, if◌then◌else◌, refl, sym, ap, ◌∙◌, arith}
 use Rattle.std.specs.Prelude.{is_none, nat_le, nat_lt, slice_get}
 use Rattle.std.specs.List.{enumerate_from, list_all, list_any, position_from, sum_by, zip}
 use Rattle.std.specs.Option.{option_and_then, option_map, option_map_or}
@@ -13,10 +13,8 @@ use Rattle.apply_model.specs.Plan.ResourceChange.{ResourceChange}
 use Rattle.apply_model.specs.Script.Limits.{max_waits}
 use Rattle.apply_model.specs.Script.Outcome.{has_too_many_provisioners, has_too_much_output, is_too_long}
 use Rattle.apply_plan.specs.declared.script.script_error.ScriptError.{ScriptError}
-use Rattle.apply_plan.specs.declared.script.script_error.ScriptError.TheVariants.{BadShape, Duplicate, NoSuchStep, NotACreate, SecondsRange, TooManyProvisioners, TooManySteps, TooManyWaits, TooMuchOutput, UnknownChange, UnknownWait, WarnsNotARead}
+use Rattle.apply_plan.specs.declared.script.script_error.ScriptError.TheVariants.{Duplicate, NoSuchStep, NotACreate, SecondsRange, TooManyProvisioners, TooManySteps, TooManyWaits, TooMuchOutput, UnknownChange, UnknownWait, WarnsNotARead}
 use Rattle.apply_plan.specs.Plan.ObjectName.{name_one_object}
-use Rattle.apply_plan.specs.Results as results
-use Rattle.apply_plan.specs.Results.{or_refuse, unless_refused}
 use Rattle.apply_plan.specs.Script.Entry.{Entry, EntryStep, all_some, entry_of, step_from}
 use Rattle.apply_plan.specs.Script.OutcomeMap.{change_of_entry, count_in, entry_at, names_change}
 use Rattle.apply_plan.specs.Script.Refusals as run
@@ -31,7 +29,7 @@ use Rattle.apply_validate.specs.Beside.{again_mark, beyond_at, beyond_in, change
 use Rattle.apply_validate.specs.ObjectNames.{Named}
 use Rattle.apply_validate.specs.PlanFindings.{first_named, is_named, name_read}
 use Rattle.apply_validate.specs.ScriptFindings.{entry_names, entry_table, in_entry, in_step}
-use Rattle.apply_validate.specs.Walks.{fault_of, faults_of, in_items, inside, items_at, known, marked, member_at, place_of, unread, where_suits}
+use Rattle.apply_validate.specs.Walks.{fault_of, faults_of, in_items, inside, items_at, known, marked, member_at, place_of, unread}
 use Rattle.apply_validate_laws.specs.Laws.{is_entry}
 use Rattle.apply_validate_laws.proofs.Alike.{Alike, object_alike}
 use Rattle.apply_validate_laws.proofs.Besides.{all_waits_same, change_same, is_unknown, less}

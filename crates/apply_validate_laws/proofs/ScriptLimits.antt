@@ -1,20 +1,18 @@
 -- Where a step that a run reads goes beyond a limit, that is found in it.
-use Rattle.std.proofs.Common.{◌≡◌, ℕ, ◌+◌, List, [], ◌∷◌, ◌++◌, length, Bool, true, false, not, ◌&&◌, ◌||◌, is_some, Option, Some, None, if◌then◌else◌, refl, sym, ap, ◌∙◌}
+use Rattle.std.proofs.Common.{◌≡◌, ℕ, ◌+◌, List, [], ◌∷◌, length, Bool, true, false, not, ◌&&◌, ◌||◌, is_some, Option, Some, None, if◌then◌else◌, refl, sym, ap, ◌∙◌}
 use Rattle.std.specs.Prelude.{codes, nat_lt}
 use Rattle.std.specs.List.{list_any, sum_by}
-use Rattle.serde_json.specs.Data.{Data, null, boolean, number, string, array, object}
+use Rattle.serde_json.specs.Data.{Data}
 use Rattle.serde_json.specs.Find.{as_object}
-use Rattle.apply_json.specs.Tree.{◌>>=◌, member_of, non_empty_text_of}
-use Rattle.apply_model.specs.declared.script.diag.Diag.{Diag}
+use Rattle.apply_json.specs.Tree.{member_of, non_empty_text_of}
 use Rattle.apply_model.specs.declared.script.ending.Ending.{Ending}
 use Rattle.apply_model.specs.declared.script.outcome.Outcome.{Outcome}
 use Rattle.apply_model.specs.declared.script.provisioner.Provisioner.{Provisioner}
-use Rattle.apply_model.specs.declared.script.timed_text.TimedText.{TimedText}
 use Rattle.apply_model.specs.Plan.ResourceChange.{ResourceChange}
 use Rattle.apply_model.specs.Script.Limits.{max_outputs, max_provisioners, max_seconds}
 use Rattle.apply_model.specs.Script.Outcome.{has_too_many_provisioners, has_too_much_output, is_failed, is_too_long, is_warned, puts_out_too_much}
 use Rattle.apply_plan.specs.declared.script.script_error.ScriptError.TheVariants.{SecondsRange, TooManyProvisioners, TooMuchOutput}
-use Rattle.apply_plan.specs.Script.Entry.{EntryStep, OutputItem, WaitName, answered_with, diag_or_none, each_of, ending_of, flag_or_false, may_fail_or_not, output_from, provisioner_from, says_nothing, seconds_of, skipped_with, step_from, timed_outputs, wait_from}
+use Rattle.apply_plan.specs.Script.Entry.{EntryStep, answered_with, each_of, provisioner_from, says_nothing, seconds_of, skipped_with, step_from}
 use Rattle.apply_plan.specs.Script.Refusals.{passes}
 use Rattle.apply_validate.specs.declared.findings.finding.Finding.{Finding}
 use Rattle.apply_validate.specs.declared.findings.name.Name.TheVariants as name
@@ -24,13 +22,12 @@ use Rattle.apply_validate.specs.declared.findings.what.What.TheVariants as what
 use Rattle.apply_validate.specs.declared.walks.mark.Mark.{Mark}
 use Rattle.apply_validate.specs.Names.{name_text}
 use Rattle.apply_validate.specs.ScriptFindings.{beside, in_diagnostic, in_provisioner, in_step, provisioner_mark, provisioner_names, provisioner_table, seconds_in, seconds_in_all, step_marks}
-use Rattle.apply_validate.specs.Walks.{fault_of, faults_of, in_items, in_list, inside, items_at, known, marked, member_at, place_of, unless_suits, unread, where_suits}
+use Rattle.apply_validate.specs.Walks.{fault_of, faults_of, in_items, in_list, inside, items_at, known, marked, member_at, place_of, unless_suits, unread}
 use Rattle.apply_validate_laws.proofs.Alike.{Alike, object_alike}
 use Rattle.apply_validate_laws.proofs.Found.{any_part, any_right, below, suited}
 use Rattle.apply_validate_laws.proofs.Joined.{joined}
 use Rattle.apply_validate_laws.proofs.Marks.{holding}
 use Rattle.apply_validate_laws.proofs.Members.{count_same, seconds_same, sum_same}
-use Rattle.apply_validate.proofs.Options.{bind_some}
 use Rattle.apply_validate_laws.proofs.Provisioners.{all_seconds_read, length_read, seconds_read, texts_read, each_list, provisioner_read}
 use Rattle.apply_validate_laws.proofs.Taken.{IsMadeOf, by_answer, by_skip, made_of}
 use Rattle.apply_validate_laws.proofs.Wanted.{object_there}

@@ -2,14 +2,13 @@
 use Rattle.std.proofs.Common.{◌≡◌, ℕ, suc, List, [], ◌∷◌, ◌++◌, map, slice_get, Bool, true, false, not, ◌&&◌, ◌||◌, is_some, Option, Some, None, refl, sym, ap, ◌∙◌}
 use Rattle.std.specs.List.{list_any}
 use Rattle.std.specs.Option.{option_map_or}
-use Rattle.serde_json.specs.Data.{Data, Items, no_items, item, null, boolean, number, string, array, object}
+use Rattle.serde_json.specs.Data.{Data, Items, no_items, item}
 use Rattle.serde_json.specs.Find.{as_object}
-use Rattle.apply_json.specs.Seen.{items_in}
 use Rattle.apply_json.specs.Tree.{◌>>=◌, list_of}
 use Rattle.apply_model.specs.declared.script.outcome.Outcome.{Outcome}
 use Rattle.apply_model.specs.Plan.ResourceChange.{ResourceChange}
 use Rattle.apply_plan.specs.declared.script.script_error.ScriptError.{ScriptError}
-use Rattle.apply_plan.specs.Script.Entry.{EntryStep, all_some, each_of, ending_of, is_kept, step_from}
+use Rattle.apply_plan.specs.Script.Entry.{EntryStep, all_some, ending_of, is_kept, step_from}
 use Rattle.apply_validate.specs.declared.findings.finding.Finding.{Finding}
 use Rattle.apply_validate.specs.declared.findings.name.Name.{Name}
 use Rattle.apply_validate.specs.declared.findings.name.Name.TheVariants as name
@@ -20,9 +19,9 @@ use Rattle.apply_validate.specs.Beside.{kind_marks}
 use Rattle.apply_validate.specs.Findings.{is_refusal, under}
 use Rattle.apply_validate.specs.Names.{name_text}
 use Rattle.apply_validate.specs.ScriptFindings.{growth_of_provisioner, in_diagnostic, in_failure, in_provisioner, in_step, in_wait, is_skipped, skipped_marks, step_marks, step_names, step_table}
-use Rattle.apply_validate.specs.Walks.{faults_of, found_by, in_items, in_list, inside, items_at, items_from, known, marked, member_at, place_of, unread, where_suits}
+use Rattle.apply_validate.specs.Walks.{faults_of, found_by, in_items, in_list, inside, items_at, items_from, known, marked, member_at, place_of, unread}
 use Rattle.apply_validate_laws.specs.Laws.{tells_of_entry}
-use Rattle.apply_validate_laws.proofs.Alike.{Alike, AlikeItems, AreAlike, member_alike, object_alike}
+use Rattle.apply_validate_laws.proofs.Alike.{Alike, AlikeItems, object_alike}
 use Rattle.apply_validate.proofs.Options.{bind_some}
 use Rattle.apply_validate_laws.proofs.Found.{any_left, any_part, any_right, any_under, below, marked_first, suited}
 use Rattle.apply_validate_laws.proofs.Joined.{joined}

@@ -138,7 +138,8 @@ clean_entry changes first left d k alike =
     let e5 : clean many ≡ few =
     steps_same change d k alike ∙ ap (λ (c : Option ResourceChange). not (too_many c (length (items_at name.Steps k)))) same in
     let e6 : clean steps ≡ (own && beside) =
-    inside_clean (in_items (in_step changes change)) (all_items_from (fits_step changes change)) (numbered_clean (in_step changes change) (fits_step changes change) (clean_step changes change)) name.Steps refl d k alike
+    inside_clean (in_items (in_step changes change)) (all_items_from (fits_step changes change))
+    (numbered_clean (in_step changes change) (fits_step changes change) (clean_step changes change)) name.Steps refl d k alike
     ∙ steps_apart is_step (is_beside changes change) o
     ∙ ap (λ (c : Option ResourceChange). own && steps_beside changes c o) same in
     let e7 : clean beyond ≡ room = room_same (is_some changes) left d k alike in
@@ -279,7 +280,8 @@ are_script_beside changes bytes =
 
 pub clean_bytes : (changes : Option (List ResourceChange)) (bytes : List ℕ) → clean (script_findings changes bytes) ≡ are_script_beside changes bytes
 clean_bytes changes bytes =
-    by_size (nat_lt max_bytes (length bytes)) (option_map_or (in_script changes) (tree_of bytes) (finding_here what.NotJson ∷ [])) (option_map_or (is_script_beside changes) (keeping_tree_of is_kept bytes) false)
+    by_size (nat_lt max_bytes (length bytes)) (option_map_or (in_script changes) (tree_of bytes) (finding_here what.NotJson ∷ []))
+    (option_map_or (is_script_beside changes) (keeping_tree_of is_kept bytes) false)
     (of_trees changes (tree_of bytes) (keeping_tree_of is_kept bytes) (both_trees bytes) (bytes_alike bytes))
 
 -- ---- without a plan

@@ -9,19 +9,17 @@ use Rattle.apply_json.specs.Tree.{◌>>=◌, list_of, member_of, non_empty_text_
 use Rattle.apply_model.specs.declared.script.diag.Diag.{Diag}
 use Rattle.apply_model.specs.declared.script.provisioner.Provisioner.{Provisioner}
 use Rattle.apply_model.specs.declared.script.timed_text.TimedText.{TimedText}
-use Rattle.apply_plan.specs.Script.Entry.{OutputItem, diag_from, diag_or_none, each_of, may_fail_or_not, output_from, provisioner_from, seconds_of, timed_outputs}
+use Rattle.apply_plan.specs.Script.Entry.{OutputItem, diag_or_none, each_of, may_fail_or_not, output_from, provisioner_from, seconds_of, timed_outputs}
 use Rattle.apply_validate.specs.declared.findings.finding.Finding.{Finding}
 use Rattle.apply_validate.specs.declared.findings.name.Name.TheVariants as name
 use Rattle.apply_validate.specs.declared.findings.want.Want.TheVariants as want
 use Rattle.apply_validate.specs.ScriptFindings.{in_diagnostic, in_provisioner, provisioner_mark, provisioner_names, provisioner_table, whole_at}
 use Rattle.apply_validate.specs.Walks.{faults_of, in_list, inside, items_at, known, marked, unless_suits, unread, where_suits}
-use Rattle.apply_validate.specs.Wants.{is_met}
 use Rattle.apply_validate_laws.proofs.Alike.{object_alike}
-use Rattle.apply_validate_laws.proofs.Clean.{all_items, appended, clean, clean-then_unread, clean-unless_suits, clean-where_suits, is_absent_or}
-use Rattle.apply_validate_laws.proofs.Diagnostics.{absent_or_diagnostic, clean_diagnostic, two}
-use Rattle.apply_validate_laws.proofs.Members.{IsCleanBeside, array_or, inside_clean, list_clean, non_empty_there, whole_there}
+use Rattle.apply_validate_laws.proofs.Clean.{all_items, appended, clean-then_unread, clean-where_suits, is_absent_or}
+use Rattle.apply_validate_laws.proofs.Members.{IsCleanBeside}
 use Rattle.apply_validate.proofs.Options.{and_comm, and_false, crossed}
-use Rattle.apply_validate_laws.proofs.Outputs.{are_shaped, come_in_time, is_shaped, outputs_read, shape_alike}
+use Rattle.apply_validate_laws.proofs.Outputs.{are_shaped, come_in_time, outputs_read}
 use Rattle.apply_validate_laws.proofs.Provisioners.{fits_growth, seconds_are, named_clean, output_clean, failed_clean}
 use Rattle.apply_validate_laws.proofs.Shapes.{IsSame, both_same, same_diagnostic, same_faults, same_inside, same_list, same_picked, same_unless, same_unread, same_where, without}
 use Rattle.apply_validate_laws.proofs.Wanted.{needs_object}

@@ -4,7 +4,7 @@ use Rattle.std.specs.Prelude.{codes, nat_lt}
 use Rattle.std.specs.List.{list_all}
 use Rattle.std.specs.Option.{option_map, option_map_or}
 use Rattle.std.proofs.lemmas.Bool.{lt-ltb}
-use Rattle.serde_json.specs.Data.{Data, null, boolean, number, string, array, object}
+use Rattle.serde_json.specs.Data.{Data}
 use Rattle.serde_json.specs.Find.{as_object}
 use Rattle.apply_json.specs.Tree.{◌>>=◌, member_of, text_or, unless_empty}
 use Rattle.apply_model.specs.declared.script.diag.Diag.{Diag}
@@ -13,7 +13,7 @@ use Rattle.apply_model.specs.declared.script.outcome.Outcome.{Outcome}
 use Rattle.apply_model.specs.declared.script.provisioner.Provisioner.{Provisioner}
 use Rattle.apply_model.specs.Plan.ResourceChange.{ResourceChange}
 use Rattle.apply_model.specs.Script.Outcome.{is_failed, is_warned, seconds_of_all}
-use Rattle.apply_plan.specs.Script.Entry.{EntryStep, Failure, WaitName, answered_with, diag_from, diag_or_none, each_of, ending_from, ending_of, failure_from, failure_or_none, flag_or_false, provisioner_from, says_nothing, seconds_of, skipped_with, step_from, wait_from}
+use Rattle.apply_plan.specs.Script.Entry.{EntryStep, Failure, WaitName, answered_with, diag_or_none, each_of, ending_from, ending_of, failure_or_none, provisioner_from, says_nothing, seconds_of, skipped_with, step_from, wait_from}
 use Rattle.apply_validate.specs.declared.findings.finding.Finding.{Finding}
 use Rattle.apply_validate.specs.declared.walks.mark.Mark.{Mark}
 use Rattle.apply_validate.specs.declared.findings.name.Name.TheVariants as name
@@ -24,16 +24,16 @@ use Rattle.apply_validate.specs.ScriptFindings.{growth_of_provisioner, in_diagno
 use Rattle.apply_validate.specs.Walks.{faults_of, in_items, in_list, inside, items_at, known, marked, unread, where_suits}
 use Rattle.apply_validate.specs.Wants.{is_met}
 use Rattle.apply_validate_laws.proofs.Alike.{Alike, object_alike}
-use Rattle.apply_validate_laws.proofs.Clean.{all_items, appended, clean, clean-faults_of, clean-marked, clean-then_unread, clean-where_suits, is_absent_or, all_of, clean-joined}
-use Rattle.apply_validate_laws.proofs.Diagnostics.{absent_or_diagnostic, absent_or_failure, clean_diagnostic, clean_failure, clean_wait, fits_wait}
+use Rattle.apply_validate_laws.proofs.Clean.{all_items, clean, clean-marked, clean-then_unread, clean-where_suits, is_absent_or, all_of, clean-joined}
+use Rattle.apply_validate_laws.proofs.Diagnostics.{clean_wait, fits_wait}
 use Rattle.apply_validate_laws.proofs.Besides.{is_found}
-use Rattle.apply_validate_laws.proofs.Members.{IsCleanBeside, array_or, count_same, flag_same, flag_there, inside_clean, is_there_same, items_inside, list_clean, non_empty_same}
+use Rattle.apply_validate_laws.proofs.Members.{IsCleanBeside, array_or, count_same, flag_same, is_there_same, list_clean, non_empty_same}
 use Rattle.apply_validate.proofs.Options.{and_true}
-use Rattle.apply_validate_laws.proofs.Provisioners.{clean_growth, fits, fits_growth, length_read}
+use Rattle.apply_validate_laws.proofs.Provisioners.{fits, length_read}
 use Rattle.apply_validate_laws.proofs.Scripts.{waits_free}
 use Rattle.apply_validate_laws.proofs.Shapes.{IsSame, both_same, picked, same_diagnostic, same_failure, same_faults, same_growth, same_inside, same_items, same_list, same_picked, same_unread, same_wait, same_where, without}
 use Rattle.apply_validate_laws.proofs.ShapedProvisioners.{clean_shaped, first_shaped, is_read, items_shaped, made, same_provisioner, shaped_provisioner}
-use Rattle.apply_validate_laws.proofs.Steps.{alone, same_alone, apart, diagnostic_there, failure_there, fit, flag_read, given, id_there, parts as step_parts, reads as step_reads, silent_read, step_read, table_clean, timed, untouched}
+use Rattle.apply_validate_laws.proofs.Steps.{alone, same_alone, apart, diagnostic_there, failure_there, fit, flag_read, given, id_there, parts as step_parts, reads as step_reads, silent_read, step_read, timed, untouched}
 use Rattle.apply_validate_laws.proofs.Wanted.{each_is, only_object}
 use Rattle.apply_validate_laws.proofs.CleanSteps.{both_absent, failure_clean, failure_of, flag_clean, flag_of, growth_clean, id_of, own_clean, provisioners_of, says_seconds, waits_of, warning_clean, warning_of, grown_of, own_of}
 use Rattle.apply_validate_laws.proofs.Joined.{joined}
@@ -281,9 +281,22 @@ clean_shaped_step d k alike =
     ∷ (after, is_some (waits_of k)) ∷ [] in
     let found : List Finding = joined (faults_of (step_table (is_skipped d)) d) (map (λ (part : List Finding × Bool). part.0) parts) in
     let are : clean found ≡ all_of (own_of k) parts =
-    clean-joined (faults_of (step_table (is_skipped d)) d) (own_of k) parts (own_clean d k alike)
-    (warning_clean d k alike, (failure_clean d k alike, (read, (clean-marked (picked (step_marks d)) refl ∙ same.0, (flag_clean d k alike,
-    (clean-marked (skipped_marks d) refl ∙ same.1, (growth_clean d k alike, (awaited, tt)))))))) in
+    clean-joined (faults_of (step_table (is_skipped d)) d) (own_of k) parts (own_clean d k alike) (
+      warning_clean d k alike,
+      (
+        failure_clean d k alike,
+        (
+          read,
+          (
+            clean-marked (picked (step_marks d)) refl ∙ same.0,
+            (
+              flag_clean d k alike,
+              (clean-marked (skipped_marks d) refl ∙ same.1, (growth_clean d k alike, (awaited, tt))),
+            ),
+          ),
+        ),
+      ),
+    ) in
     let by_itself : all_of (own_of k) parts ≡ is_some (step_from k) =
     apart (timed (is_skipped k) (seconds_of k)) (is_some (id_of k)) (is_some (warning_of k)) (is_some (failure_of k)) (is_met want.ArrayOrAbsent o)
     (is_absent_or (all_items first_shaped) o) tests (is_some (flag_of k)) tests_skipped (grown_of k) (is_some (waits_of k))

@@ -1,37 +1,31 @@
 -- The tests of steps, and what is read of one that is within the limits.
-use Rattle.std.proofs.Common.{◌≡◌, ℕ, suc, ◌+◌, ◌<◌, List, [], ◌∷◌, ◌++◌, length, Bool, true, false, not, ◌&&◌, ◌||◌, is_some, Option, Some, None, unwrap_or, if◌then◌else◌, refl, sym, ap, ◌∙◌, arith}
+use Rattle.std.proofs.Common.{◌≡◌, ℕ, suc, ◌+◌, ◌<◌, List, [], ◌∷◌, length, Bool, true, false, not, ◌&&◌, ◌||◌, is_some, Option, Some, None, unwrap_or, if◌then◌else◌, refl, sym, ap, ◌∙◌, arith}
 use Rattle.std.specs.Prelude.{codes, nat_lt}
 use Rattle.std.specs.List.{list_all, sum_by}
 use Rattle.std.specs.Option.{option_and_then, option_map, option_map_or}
 use Rattle.std.proofs.lemmas.Bool.{lt-ltb}
-use Rattle.serde_json.specs.Data.{Data, null, boolean, number, string, array, object}
-use Rattle.serde_json.specs.Find.{as_bool, as_number, as_object, as_str, as_u64}
-use Rattle.apply_json.specs.Seen.{items_in}
-use Rattle.apply_json.specs.Tree.{◌>>=◌, list_of, member_of, text_or, unless_empty}
+use Rattle.serde_json.specs.Data.{Data}
+use Rattle.serde_json.specs.Find.{as_bool, as_number, as_str, as_u64}
+use Rattle.apply_json.specs.Tree.{◌>>=◌, member_of, text_or, unless_empty}
 use Rattle.apply_model.specs.declared.script.diag.Diag.{Diag}
 use Rattle.apply_model.specs.declared.script.ending.Ending.{Ending}
 use Rattle.apply_model.specs.declared.script.ending.Ending.TheVariants.{Done, Failed, Warned}
 use Rattle.apply_model.specs.declared.script.provisioner.Provisioner.{Provisioner}
 use Rattle.apply_model.specs.Script.Limits.{max_provisioners, max_seconds}
 use Rattle.apply_model.specs.Script.Outcome.{is_failed, is_warned, puts_out_too_much, seconds_of_all}
-use Rattle.apply_model.specs.Plan.ResourceChange.{ResourceChange}
-use Rattle.apply_plan.specs.Script.Entry.{EntryStep, Failure, WaitName, answered_with, diag_from, diag_or_none, each_of, ending_by, ending_from, ending_of, failure_from, failure_or_none, flag_or_false, provisioner_from, says_nothing, seconds_of, skipped_with, step_from, wait_from}
-use Rattle.apply_validate.specs.declared.findings.finding.Finding.{Finding}
+use Rattle.apply_plan.specs.Script.Entry.{EntryStep, Failure, WaitName, answered_with, diag_from, diag_or_none, each_of, ending_by, ending_from, failure_from, failure_or_none, flag_or_false, provisioner_from, says_nothing, seconds_of, skipped_with, step_from}
 use Rattle.apply_validate.specs.declared.findings.name.Name.TheVariants as name
 use Rattle.apply_validate.specs.declared.findings.want.Want.TheVariants as want
-use Rattle.apply_validate.specs.Beside.{kind_marks}
 use Rattle.apply_validate_laws.specs.Laws.{is_within_limits}
-use Rattle.apply_validate.specs.ScriptFindings.{growth_of_provisioner, in_diagnostic, in_failure, in_provisioner, in_step, in_wait, is_skipped, seconds_in, seconds_in_all, skipped_marks, step_marks, step_names, step_table}
-use Rattle.apply_validate.specs.Walks.{faults_of, in_items, in_list, inside, items_at, known, marked, unread}
+use Rattle.apply_validate.specs.ScriptFindings.{is_skipped, seconds_in, seconds_in_all, skipped_marks, step_marks, step_table}
+use Rattle.apply_validate.specs.Walks.{faults_of, items_at, known}
 use Rattle.apply_validate.specs.Wants.{is_met}
-use Rattle.apply_validate_laws.proofs.Alike.{Alike, object_alike}
-use Rattle.apply_validate_laws.proofs.Besides.{fits_kind, is_found, kind_same}
-use Rattle.apply_validate_laws.proofs.Clean.{all_items, appended, clean, clean-append, clean-faults_of, clean-marked, clean-then_unread, clean-where_suits, is_absent_or}
-use Rattle.apply_validate_laws.proofs.Diagnostics.{absent_or_diagnostic, absent_or_failure, clean_diagnostic, clean_failure, clean_wait, fits_wait, two}
-use Rattle.apply_validate_laws.proofs.Members.{IsCleanBeside, array_or, count_same, flag_same, flag_there, inside_clean, is_there_same, items_inside, list_clean, non_empty_same, seconds_same, sum_same, text_or_there, whole_there}
-use Rattle.apply_validate.proofs.Options.{and_assoc, and_false, and_true, crossed, none_any, nothing_then, still}
-use Rattle.apply_validate_laws.proofs.Provisioners.{all_seconds_read, clean_growth, clean_provisioner, fits, fits_first, fits_growth, is_provisioner, items_both, length_read, seconds_are}
-use Rattle.apply_validate_laws.proofs.Wanted.{each_fits, each_is, only_object}
+use Rattle.apply_validate_laws.proofs.Alike.{Alike}
+use Rattle.apply_validate_laws.proofs.Clean.{clean, clean-faults_of}
+use Rattle.apply_validate_laws.proofs.Diagnostics.{two}
+use Rattle.apply_validate_laws.proofs.Members.{count_same, flag_same, is_there_same, non_empty_same, seconds_same, sum_same, text_or_there, whole_there}
+use Rattle.apply_validate.proofs.Options.{and_false, and_true, none_any, nothing_then}
+use Rattle.apply_validate_laws.proofs.Provisioners.{all_seconds_read, fits, length_read, seconds_are}
 
 -- none of the tests of a step by itself holds
 unfoldable pub untouched : (failed id warning : Bool) (count seconds : ℕ) → Bool
@@ -151,11 +145,13 @@ unread_of true s r ps after e = refl
 unread_of false s r ps after e = rw e refl
 
 skips : (told : Bool) (s : Option ℕ) (id : Option (List ℕ)) (warning : Option Diag) (failed : Option Failure) (ps : List Provisioner) (after : List WaitName) → (told ≡ false → s ≡ None)
-    → (little ps && (untouched (is_some failed) (is_some id) (is_some warning) (length ps) (given s + seconds_of_all ps) && alone true told (is_some id) (is_some warning) (is_some failed) (length ps)))
+    → (little ps && (untouched (is_some failed) (is_some id) (is_some warning) (length ps) (given s + seconds_of_all ps)
+    && alone true told (is_some id) (is_some warning) (is_some failed) (length ps)))
     ≡ ended true told s after ps (ending_from id warning failed)
 skips told s None None None ps after none = skips_none told s ps after none
 skips told s (Some id) w None ps after none =
-    none_of (little ps) (untouched false true (is_some w) (length ps) (given s + seconds_of_all ps)) (alone true told true (is_some w) false (length ps)) (touched told true (is_some w) false (length ps) refl)
+    none_of (little ps) (untouched false true (is_some w) (length ps) (given s + seconds_of_all ps)) (alone true told true (is_some w) false (length ps))
+    (touched told true (is_some w) false (length ps) refl)
     ∙ sym (unread_of told s (Done (Some id) w) ps after refl)
 skips told s None (Some w) None ps after none =
     none_of (little ps) (untouched false false true (length ps) (given s + seconds_of_all ps)) (alone true told false true false (length ps)) (touched told false true false (length ps) refl)
@@ -166,7 +162,8 @@ skips told s None None (Some f) ps after none =
 skips told s None (Some w) (Some f) ps after none =
     none_of (little ps) (untouched true false true (length ps) (given s + seconds_of_all ps)) (alone true told false true true (length ps)) (touched told false true true (length ps) refl)
 skips told s (Some id) w (Some f) ps after none =
-    none_of (little ps) (untouched true true (is_some w) (length ps) (given s + seconds_of_all ps)) (alone true told true (is_some w) true (length ps)) (touched told true (is_some w) true (length ps) refl)
+    none_of (little ps) (untouched true true (is_some w) (length ps) (given s + seconds_of_all ps)) (alone true told true (is_some w) true (length ps))
+    (touched told true (is_some w) true (length ps) refl)
 
 -- seconds are asked for where the step is not skipped
 abbrev pub timed : (skipped : Bool) → Option ℕ → Bool
@@ -179,12 +176,14 @@ free told id warning failed count = refl
 
 -- how it ends, skipped or not
 ends : (skipped told : Bool) (s : Option ℕ) (id : Option (List ℕ)) (warning : Option Diag) (failed : Option Failure) (ps : List Provisioner) (after : List WaitName) → (told ≡ false → s ≡ None)
-    → (timed skipped s && (little ps && (untouched (is_some failed) (is_some id) (is_some warning) (length ps) (given s + seconds_of_all ps) && alone skipped told (is_some id) (is_some warning) (is_some failed) (length ps))))
+    → (timed skipped s && (little ps && (untouched (is_some failed) (is_some id) (is_some warning) (length ps) (given s + seconds_of_all ps)
+    && alone skipped told (is_some id) (is_some warning) (is_some failed) (length ps))))
     ≡ ended skipped told s after ps (ending_from id warning failed)
 ends true told s id warning failed ps after none = skips told s id warning failed ps after none
 ends false told None id warning failed ps after none = silent told after ps (ending_from id warning failed)
 ends false told (Some s) id warning failed ps after none =
-    ap (λ (b : Bool). little ps && (untouched (is_some failed) (is_some id) (is_some warning) (length ps) (s + seconds_of_all ps) && b)) (free told (is_some id) (is_some warning) (is_some failed) (length ps))
+    ap (λ (b : Bool). little ps && (untouched (is_some failed) (is_some id) (is_some warning) (length ps) (s + seconds_of_all ps) && b))
+    (free told (is_some id) (is_some warning) (is_some failed) (length ps))
     ∙ ap (λ (b : Bool). little ps && b) (and_true (untouched (is_some failed) (is_some id) (is_some warning) (length ps) (s + seconds_of_all ps)))
     ∙ answers told s id warning failed ps after
 
@@ -195,7 +194,8 @@ abbrev pub parts : (timed id warning failed provisioners tests flag tests_skippe
 parts timed id warning failed provisioners tests flag tests_skipped after =
     timed && (id && (warning && (failed && (provisioners && (tests && (flag && (tests_skipped && after)))))))
 
-abbrev pub step_read : (q : Option Bool) (told : Bool) (s : Option ℕ) (id : Option (List ℕ)) (warning : Option (Option Diag)) (failed : Option (Option Failure)) (ps : Option (List Provisioner)) (after : Option (List WaitName)) → Option EntryStep
+abbrev pub step_read : (q : Option Bool) (told : Bool) (s : Option ℕ) (id : Option (List ℕ)) (warning : Option (Option Diag))
+    (failed : Option (Option Failure)) (ps : Option (List Provisioner)) (after : Option (List WaitName)) → Option EntryStep
 step_read q told s id warning failed ps after =
     q >>= λ skipped. (id >>= λ t. warning >>= λ w. failed >>= λ f. ending_from (unless_empty t) w f) >>= λ r. ps >>= λ l. after >>= λ a.
     (if skipped then skipped_with told r l else answered_with s r l) >>= λ o. Some (let step : EntryStep = record { outcome = o; after = a } in step)
@@ -218,7 +218,8 @@ last_out true false tests tests_skipped = refl
 last_out true true false tests_skipped = refl
 last_out true true true tests_skipped = and_false tests_skipped
 
-pub reads : (q : Option Bool) (skipped told : Bool) (s : Option ℕ) (id : Option (List ℕ)) (warning : Option (Option Diag)) (failed : Option (Option Failure)) (ps : Option (List Provisioner)) (after : Option (List WaitName)) (tests tests_skipped : Bool)
+pub reads : (q : Option Bool) (skipped told : Bool) (s : Option ℕ) (id : Option (List ℕ)) (warning : Option (Option Diag)) (failed : Option (Option Failure))
+    (ps : Option (List Provisioner)) (after : Option (List WaitName)) (tests tests_skipped : Bool)
     → (told ≡ false → s ≡ None)
     → ((b : Bool) → q ≡ Some b → skipped ≡ b)
     → ((t : List ℕ) (w : Option Diag) (f : Option Failure) (l : List Provisioner) → id ≡ Some t → warning ≡ Some w → failed ≡ Some f → ps ≡ Some l
@@ -271,8 +272,11 @@ tests_read k t w f l et ew ef el =
     ∙ ap (λ (n : ℕ). given (seconds_of k) + n) (all_seconds_read (member_of (codes "provisioners") k) l el) in
     let failed = failure_there (member_of (codes "failed") k) f ef in
     let id = id_there (member_of (codes "id") k) t et in
-    let warning = diagnostic_there (member_of (codes "warning") k) w ew in
-    (same_tests _ _ _ _ _ _ _ _ _ _ failed id warning count taken, same_alone (is_skipped k) (is_skipped k) (is_some (member_of (codes "seconds") k)) (is_some (member_of (codes "seconds") k)) _ _ _ _ _ _ _ _ refl refl id warning failed count)
+    let warning = diagnostic_there (member_of (codes "warning") k) w ew in (
+      same_tests _ _ _ _ _ _ _ _ _ _ failed id warning count taken,
+      same_alone (is_skipped k) (is_skipped k) (is_some (member_of (codes "seconds") k))
+          (is_some (member_of (codes "seconds") k)) _ _ _ _ _ _ _ _ refl refl id warning failed count,
+    )
 
 -- and of the other tree
 pub tests_same : (d k : Data) → Alike d k

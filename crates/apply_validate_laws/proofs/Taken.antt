@@ -1,5 +1,5 @@
 -- Steps that a run reads, by the values that it reads them of.
-use Rattle.std.proofs.Common.{◌≡◌, ℕ, zero, suc, ◌+◌, ◌<◌, ◌≤◌, List, [], ◌∷◌, length, map, drop, Bool, true, false, cond, not, ◌&&◌, ◌||◌, if◌then◌else◌, is_some, Option, Some, None, refl, subst, sym, ap, ◌∙◌, add-one, arith}
+use Rattle.std.proofs.Common.{◌≡◌, ℕ, zero, suc, ◌+◌, ◌≤◌, List, [], ◌∷◌, length, map, drop, Bool, true, false, cond, not, ◌&&◌, ◌||◌, if◌then◌else◌, is_some, Option, Some, None, refl, subst, sym, ap, ◌∙◌, add-one, arith}
 use Rattle.std.specs.Prelude.{codes, find, is_none, nat_lt, nat_le, slice_get}
 use Rattle.std.specs.List.{enumerate_from, list_all, list_any, sum_by, zip}
 use Rattle.std.specs.Option.{option_and_then, option_map, option_map_or}
@@ -146,7 +146,8 @@ pub record IsMadeOf (d : Data) (step : EntryStep) : Type 0 where
   pub ending : ending_of d ≡ Some result
   pub provisioners : each_of provisioner_from (member_of (codes "provisioners") d) ≡ Some list
   pub waits : each_of wait_from (member_of (codes "after") d) ≡ Some step.after
-  pub outcome : (let o : Option (Option Outcome) = if skipped then skipped_with (is_some (member_of (codes "seconds") d)) result list else answered_with (seconds_of d) result list in o) ≡ Some step.outcome
+  pub outcome : (let o : Option (Option Outcome) =
+      if skipped then skipped_with (is_some (member_of (codes "seconds") d)) result list else answered_with (seconds_of d) result list in o) ≡ Some step.outcome
 
 pub made_of : (d : Data) (step : EntryStep) → step_from d ≡ Some step → IsMadeOf d step
 unfolding step_from
@@ -227,13 +228,15 @@ no_steps : (deposed : Bool) (n : ℕ) (kinds : List StepKind)
 no_steps deposed n [] = refl
 no_steps deposed n (kind ∷ kinds) = refl
 
-pub kinds_read : (change : ResourceChange) (n : ℕ) (kinds : List StepKind) (ds : List Data) (steps : List EntryStep) → drop n change.steps ≡ kinds → all_some (map step_from ds) ≡ Some steps → length steps ≤ length kinds
+pub kinds_read : (change : ResourceChange) (n : ℕ) (kinds : List StepKind) (ds : List Data) (steps : List EntryStep) → drop n change.steps ≡ kinds
+    → all_some (map step_from ds) ≡ Some steps → length steps ≤ length kinds
     → all_from (fits_kind (Some change)) n ds
     ≡ (not (list_any (misplaces_provisioners (is_some change.deposed)) (zip (enumerate_from n kinds) (outcomes steps)))
     && not (list_any warns_not_a_read (zip (enumerate_from n kinds) (outcomes steps))))
 kinds_read change n kinds [] steps are e few =
     no_steps (is_some change.deposed) n kinds
-    ∙ ap (λ (os : List EntryStep). not (list_any (misplaces_provisioners (is_some change.deposed)) (zip (enumerate_from n kinds) (outcomes os))) && not (list_any warns_not_a_read (zip (enumerate_from n kinds) (outcomes os)))) (some_is [] steps e)
+    ∙ ap (λ (os : List EntryStep). not (list_any (misplaces_provisioners (is_some change.deposed)) (zip (enumerate_from n kinds) (outcomes os)))
+    && not (list_any warns_not_a_read (zip (enumerate_from n kinds) (outcomes os)))) (some_is [] steps e)
 kinds_read change n [] (d ∷ ds) steps are e few =
     let it = more_steps d ds steps e in
     absurd (let long : length (it.0 ∷ it.1) ≤ 0 = subst (λ (xs : List EntryStep). length xs ≤ 0) (sym it.4) few in omega arith)
@@ -242,13 +245,15 @@ kinds_read change n (kind ∷ kinds) (d ∷ ds) steps are e few =
     let read = step_read d it.0 it.2 in
     let at = at_drop n change.steps kind kinds are in
     let deposed : Bool = is_some change.deposed in
-    let shorter : length it.1 ≤ length kinds = (let long : length (it.0 ∷ it.1) ≤ length (kind ∷ kinds) = subst (λ (xs : List EntryStep). length xs ≤ length (kind ∷ kinds)) (sym it.4) few in omega arith) in
+    let shorter : length it.1 ≤ length kinds =
+    (let long : length (it.0 ∷ it.1) ≤ length (kind ∷ kinds) = subst (λ (xs : List EntryStep). length xs ≤ length (kind ∷ kinds)) (sym it.4) few in omega arith) in
     ap (λ (o : Option StepKind). kind_fits o deposed n (nat_lt 0 (length (items_at name.Provisioners d))) (only_warns d) && all_from (fits_kind (Some change)) (suc n) ds) at.0
     ∙ ap (λ (b : Bool). b && all_from (fits_kind (Some change)) (suc n) ds) (one_kind kind deposed n it.0.outcome _ _ read.some read.warns)
     ∙ ap (λ (b : Bool). (not (misplaces_provisioners deposed ((n, kind), it.0.outcome)) && (not (warns_not_a_read ((n, kind), it.0.outcome)) && true)) && b)
     (ap (λ (m : ℕ). all_from (fits_kind (Some change)) m ds) (let q : suc n ≡ n + 1 = omega arith in q) ∙ kinds_read change (n + 1) kinds ds it.1 (rw (add-one n) at.1) it.3 shorter)
     ∙ tests_of (misplaces_provisioners deposed ((n, kind), it.0.outcome)) (warns_not_a_read ((n, kind), it.0.outcome)) _ _
-    ∙ ap (λ (os : List EntryStep). not (list_any (misplaces_provisioners deposed) (zip (enumerate_from n (kind ∷ kinds)) (outcomes os))) && not (list_any warns_not_a_read (zip (enumerate_from n (kind ∷ kinds)) (outcomes os)))) it.4
+    ∙ ap (λ (os : List EntryStep). not (list_any (misplaces_provisioners deposed) (zip (enumerate_from n (kind ∷ kinds)) (outcomes os)))
+    && not (list_any warns_not_a_read (zip (enumerate_from n (kind ∷ kinds)) (outcomes os)))) it.4
 
 -- ---- what they wait for
 

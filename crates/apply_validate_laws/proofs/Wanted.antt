@@ -56,7 +56,8 @@ pub met_on_failure : (o : Option Data) → is_met want.OnFailure o ≡ is_some (
 met_on_failure None = refl
 met_on_failure (Some d) = word_text (as_str d)
 
-severity_text : (text : Option (List ℕ)) → (option_map_or (λ t. bytes_eq t (codes "warning")) text false || option_map_or (λ t. bytes_eq t (codes "error")) text false) ≡ is_some (text >>= only_warns_by)
+severity_text : (text : Option (List ℕ))
+    → (option_map_or (λ t. bytes_eq t (codes "warning")) text false || option_map_or (λ t. bytes_eq t (codes "error")) text false) ≡ is_some (text >>= only_warns_by)
 severity_text None = refl
 severity_text (Some t) = two_words (bytes_eq t (codes "warning")) (bytes_eq t (codes "error"))
 
