@@ -18,7 +18,8 @@ use Rattle.apply_validate.specs.declared.walks.known.Known.{Known}
 use Rattle.apply_validate.specs.Findings.{finding_at, finding_here, is_refusal, is_refusal_of, under}
 use Rattle.apply_validate.specs.Names.{name_text}
 use Rattle.apply_validate.specs.declared.walks.mark.Mark.{Mark}
-use Rattle.apply_validate.specs.Walks.{fault_of, faults_of, found_by, in_items, in_list, inside, is_known, items_from, lack, marked, member_at, place_of, unless_suits, unread, texts_in, unread_from, where_suits}
+use Rattle.apply_validate.specs.Walks.{fault_of, faults_of, found_by, in_items, in_list, inside, is_known, items_from, lack, marked}
+use Rattle.apply_validate.specs.Walks.{member_at, place_of, unless_suits, unread, texts_in, unread_from, where_suits}
 use Rattle.apply_validate.specs.Wants.{is_met, suits}
 use Rattle.apply_validate.proofs.Options.{and_left, and_right, and_true, not_or}
 use Rattle.apply_validate_laws.proofs.Joined.{joined}

@@ -9,7 +9,8 @@ use Rattle.apply_json.specs.Tree.{list_of, member_of, text_or}
 use Rattle.apply_model.specs.declared.script.diag.Diag.{Diag}
 use Rattle.apply_model.specs.declared.script.provisioner.Provisioner.{Provisioner}
 use Rattle.apply_model.specs.Plan.ResourceChange.{ResourceChange}
-use Rattle.apply_plan.specs.Script.Entry.{Failure, WaitName, diag_from, diag_or_none, each_of, ending_of, failure_from, failure_or_none, flag_or_false, provisioner_from, seconds_of, step_from, wait_from}
+use Rattle.apply_plan.specs.Script.Entry.{Failure, WaitName, diag_from, diag_or_none, each_of, ending_of, failure_from}
+use Rattle.apply_plan.specs.Script.Entry.{failure_or_none, flag_or_false, provisioner_from, seconds_of, step_from, wait_from}
 use Rattle.apply_validate.specs.declared.findings.finding.Finding.{Finding}
 use Rattle.apply_validate.specs.declared.findings.name.Name.TheVariants as name
 use Rattle.apply_validate.specs.declared.findings.want.Want.TheVariants as want

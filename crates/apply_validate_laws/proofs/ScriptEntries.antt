@@ -1,5 +1,6 @@
 -- Where a run refuses an entry, what it refuses is found in it.
-use Rattle.std.proofs.Common.{◌≡◌, ℕ, ◌+◌, ◌-◌, ◌≤◌, List, [], ◌∷◌, length, map, slice_get, Bool, true, false, cond, ◌&&◌, is_some, Option, Some, None, unwrap_or, Err, if◌then◌else◌, refl, sym, ap, ◌∙◌, arith}
+use Rattle.std.proofs.Common.{◌≡◌, ℕ, ◌+◌, ◌-◌, ◌≤◌, List, [], ◌∷◌, length, map, slice_get, Bool, true, false, cond, ◌&&◌}
+use Rattle.std.proofs.Common.{is_some, Option, Some, None, unwrap_or, Err, if◌then◌else◌, refl, sym, ap, ◌∙◌, arith}
 use Rattle.std.specs.Prelude.{is_none, nat_le, nat_lt, slice_get}
 use Rattle.std.specs.List.{enumerate_from, list_all, list_any, position_from, sum_by, zip}
 use Rattle.std.specs.Option.{option_and_then, option_map, option_map_or}
@@ -13,7 +14,8 @@ use Rattle.apply_model.specs.Plan.ResourceChange.{ResourceChange}
 use Rattle.apply_model.specs.Script.Limits.{max_waits}
 use Rattle.apply_model.specs.Script.Outcome.{has_too_many_provisioners, has_too_much_output, is_too_long}
 use Rattle.apply_plan.specs.declared.script.script_error.ScriptError.{ScriptError}
-use Rattle.apply_plan.specs.declared.script.script_error.ScriptError.TheVariants.{Duplicate, NoSuchStep, NotACreate, SecondsRange, TooManyProvisioners, TooManySteps, TooManyWaits, TooMuchOutput, UnknownChange, UnknownWait, WarnsNotARead}
+use Rattle.apply_plan.specs.declared.script.script_error.ScriptError.TheVariants.{Duplicate, NoSuchStep, NotACreate, SecondsRange, TooManyProvisioners, TooManySteps}
+use Rattle.apply_plan.specs.declared.script.script_error.ScriptError.TheVariants.{TooManyWaits, TooMuchOutput, UnknownChange, UnknownWait, WarnsNotARead}
 use Rattle.apply_plan.specs.Plan.ObjectName.{name_one_object}
 use Rattle.apply_plan.specs.Script.Entry.{Entry, EntryStep, all_some, entry_of, step_from}
 use Rattle.apply_plan.specs.Script.OutcomeMap.{change_of_entry, count_in, entry_at, names_change}

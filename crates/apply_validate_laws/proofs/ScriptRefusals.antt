@@ -1,5 +1,6 @@
 -- Where a run refuses a script, what it refuses is found where the refusal says.
-use Rattle.std.proofs.Common.{◌≡◌, ℕ, ◌+◌, List, [], ◌∷◌, ◌++◌, length, map, take, Bool, true, false, cond, ◌&&◌, is_ok, is_some, Option, Some, None, Result, Ok, Err, if◌then◌else◌, refl, subst, sym, ap, ◌∙◌, append_assoc, arith}
+use Rattle.std.proofs.Common.{◌≡◌, ℕ, ◌+◌, List, [], ◌∷◌, ◌++◌, length, map, take, Bool, true, false, cond, ◌&&◌, is_ok, is_some, Option}
+use Rattle.std.proofs.Common.{Some, None, Result, Ok, Err, if◌then◌else◌, refl, subst, sym, ap, ◌∙◌, append_assoc, arith}
 use Rattle.std.specs.Prelude.{codes, nat_eq, nat_le, nat_lt}
 use Rattle.std.specs.List.{enumerate_from, list_all, list_any, position_from, sum_by}
 use Rattle.std.specs.Option.{option_map, option_map_or}

@@ -9,7 +9,8 @@ use Rattle.apply_model.specs.Plan.ResourceChange.{ResourceChange}
 use Rattle.apply_model.specs.Script.Limits.{max_waits}
 use Rattle.apply_model.specs.Script.Outcome.{has_too_many_provisioners, has_too_much_output, is_too_long}
 use Rattle.apply_plan.specs.declared.script.script_error.ScriptError.{ScriptError}
-use Rattle.apply_plan.specs.declared.script.script_error.ScriptError.TheVariants.{BadShape, Duplicate, NoSuchStep, NotACreate, SecondsRange, TooManyProvisioners, TooManySteps, TooManyWaits, TooMuchOutput, UnknownChange, UnknownWait, WarnsNotARead}
+use Rattle.apply_plan.specs.declared.script.script_error.ScriptError.TheVariants.{BadShape, Duplicate, NoSuchStep, NotACreate, SecondsRange, TooManyProvisioners, TooManySteps}
+use Rattle.apply_plan.specs.declared.script.script_error.ScriptError.TheVariants.{TooManyWaits, TooMuchOutput, UnknownChange, UnknownWait, WarnsNotARead}
 use Rattle.apply_plan.specs.Results as results
 use Rattle.apply_plan.specs.Results.{or_refuse, unless_refused}
 use Rattle.apply_plan.specs.Script.Entry.{Entry, EntryStep, entry_of}

@@ -1,5 +1,6 @@
 -- Where a step that a run reads does not fit its change, or waits for what is not there, that is found in it.
-use Rattle.std.proofs.Common.{◌≡◌, ℕ, suc, ◌+◌, ◌-◌, List, [], ◌∷◌, ◌++◌, length, map, drop, Bool, true, false, not, ◌&&◌, ◌||◌, is_some, Option, Some, None, unwrap_or, if◌then◌else◌, refl, sym, ap, ◌∙◌, arith}
+use Rattle.std.proofs.Common.{◌≡◌, ℕ, suc, ◌+◌, ◌-◌, List, [], ◌∷◌, ◌++◌, length, map, drop, Bool, true, false, not, ◌&&◌, ◌||◌}
+use Rattle.std.proofs.Common.{is_some, Option, Some, None, unwrap_or, if◌then◌else◌, refl, sym, ap, ◌∙◌, arith}
 use Rattle.std.specs.Prelude.{codes, is_none, nat_le, nat_lt, slice_get}
 use Rattle.std.specs.List.{enumerate_from, list_any, sum_by, zip}
 use Rattle.std.specs.Option.{option_map_or}
@@ -25,7 +26,8 @@ use Rattle.apply_validate.specs.declared.findings.want.Want.TheVariants as want
 use Rattle.apply_validate.specs.declared.findings.what.What.{What}
 use Rattle.apply_validate.specs.declared.findings.what.What.TheVariants as what
 use Rattle.apply_validate.specs.declared.walks.mark.Mark.{Mark}
-use Rattle.apply_validate.specs.Beside.{beyond_at, change_at, change_named, has_address, kind_of, object_named, only_warns, place_unknown, step_mark, unknown_mark, unknown_marks, waits_beyond, waits_in}
+use Rattle.apply_validate.specs.Beside.{beyond_at, change_at, change_named, has_address, kind_of, object_named, only_warns}
+use Rattle.apply_validate.specs.Beside.{place_unknown, step_mark, unknown_mark, unknown_marks, waits_beyond, waits_in}
 use Rattle.apply_validate.specs.Findings.{finding_here, under}
 use Rattle.apply_validate.specs.ObjectNames.{Named}
 use Rattle.apply_validate.specs.ScriptFindings.{in_step, in_wait, wait_names, wait_table, whole_at}

@@ -13,7 +13,8 @@ use Rattle.apply_model.specs.declared.script.outcome.Outcome.{Outcome}
 use Rattle.apply_model.specs.declared.script.provisioner.Provisioner.{Provisioner}
 use Rattle.apply_model.specs.Plan.ResourceChange.{ResourceChange}
 use Rattle.apply_model.specs.Script.Outcome.{is_failed, is_warned, seconds_of_all}
-use Rattle.apply_plan.specs.Script.Entry.{EntryStep, Failure, WaitName, answered_with, diag_or_none, each_of, ending_from, ending_of, failure_or_none, provisioner_from, says_nothing, seconds_of, skipped_with, step_from, wait_from}
+use Rattle.apply_plan.specs.Script.Entry.{EntryStep, Failure, WaitName, answered_with, diag_or_none, each_of, ending_from, ending_of}
+use Rattle.apply_plan.specs.Script.Entry.{failure_or_none, provisioner_from, says_nothing, seconds_of, skipped_with, step_from, wait_from}
 use Rattle.apply_validate.specs.declared.findings.finding.Finding.{Finding}
 use Rattle.apply_validate.specs.declared.walks.mark.Mark.{Mark}
 use Rattle.apply_validate.specs.declared.findings.name.Name.TheVariants as name
@@ -31,11 +32,14 @@ use Rattle.apply_validate_laws.proofs.Members.{IsCleanBeside, array_or, count_sa
 use Rattle.apply_validate.proofs.Options.{and_true}
 use Rattle.apply_validate_laws.proofs.Provisioners.{fits, length_read}
 use Rattle.apply_validate_laws.proofs.Scripts.{waits_free}
-use Rattle.apply_validate_laws.proofs.Shapes.{IsSame, both_same, picked, same_diagnostic, same_failure, same_faults, same_growth, same_inside, same_items, same_list, same_picked, same_unread, same_wait, same_where, without}
+use Rattle.apply_validate_laws.proofs.Shapes.{IsSame, both_same, picked, same_diagnostic, same_failure, same_faults, same_growth, same_inside}
+use Rattle.apply_validate_laws.proofs.Shapes.{same_items, same_list, same_picked, same_unread, same_wait, same_where, without}
 use Rattle.apply_validate_laws.proofs.ShapedProvisioners.{clean_shaped, first_shaped, is_read, items_shaped, made, same_provisioner, shaped_provisioner}
-use Rattle.apply_validate_laws.proofs.Steps.{alone, same_alone, apart, diagnostic_there, failure_there, fit, flag_read, given, id_there, parts as step_parts, reads as step_reads, silent_read, step_read, timed, untouched}
+use Rattle.apply_validate_laws.proofs.Steps.{alone, same_alone, apart, diagnostic_there, failure_there, fit, flag_read, given, id_there}
+use Rattle.apply_validate_laws.proofs.Steps.{parts as step_parts, reads as step_reads, silent_read, step_read, timed, untouched}
 use Rattle.apply_validate_laws.proofs.Wanted.{each_is, only_object}
-use Rattle.apply_validate_laws.proofs.CleanSteps.{both_absent, failure_clean, failure_of, flag_clean, flag_of, growth_clean, id_of, own_clean, provisioners_of, says_seconds, waits_of, warning_clean, warning_of, grown_of, own_of}
+use Rattle.apply_validate_laws.proofs.CleanSteps.{both_absent, failure_clean, failure_of, flag_clean, flag_of, growth_clean, id_of, own_clean}
+use Rattle.apply_validate_laws.proofs.CleanSteps.{provisioners_of, says_seconds, waits_of, warning_clean, warning_of, grown_of, own_of}
 use Rattle.apply_validate_laws.proofs.Joined.{joined}
 
 some_is : {A : Type 0} (x y : A) → Some x ≡ Some y → x ≡ y

@@ -13,7 +13,8 @@ use Rattle.apply_model.specs.declared.script.ending.Ending.TheVariants.{Done, Fa
 use Rattle.apply_model.specs.declared.script.provisioner.Provisioner.{Provisioner}
 use Rattle.apply_model.specs.Script.Limits.{max_provisioners, max_seconds}
 use Rattle.apply_model.specs.Script.Outcome.{is_failed, is_warned, puts_out_too_much, seconds_of_all}
-use Rattle.apply_plan.specs.Script.Entry.{EntryStep, Failure, WaitName, answered_with, diag_from, diag_or_none, each_of, ending_by, ending_from, failure_from, failure_or_none, flag_or_false, provisioner_from, says_nothing, seconds_of, skipped_with, step_from}
+use Rattle.apply_plan.specs.Script.Entry.{EntryStep, Failure, WaitName, answered_with, diag_from, diag_or_none, each_of, ending_by, ending_from, failure_from}
+use Rattle.apply_plan.specs.Script.Entry.{failure_or_none, flag_or_false, provisioner_from, says_nothing, seconds_of, skipped_with, step_from}
 use Rattle.apply_validate.specs.declared.findings.name.Name.TheVariants as name
 use Rattle.apply_validate.specs.declared.findings.want.Want.TheVariants as want
 use Rattle.apply_validate_laws.specs.Laws.{is_within_limits}

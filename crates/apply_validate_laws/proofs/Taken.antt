@@ -1,5 +1,6 @@
 -- Steps that a run reads, by the values that it reads them of.
-use Rattle.std.proofs.Common.{◌≡◌, ℕ, zero, suc, ◌+◌, ◌≤◌, List, [], ◌∷◌, length, map, drop, Bool, true, false, cond, not, ◌&&◌, ◌||◌, if◌then◌else◌, is_some, Option, Some, None, refl, subst, sym, ap, ◌∙◌, add-one, arith}
+use Rattle.std.proofs.Common.{◌≡◌, ℕ, zero, suc, ◌+◌, ◌≤◌, List, [], ◌∷◌, length, map, drop, Bool, true, false, cond, not, ◌&&◌, ◌||◌}
+use Rattle.std.proofs.Common.{if◌then◌else◌, is_some, Option, Some, None, refl, subst, sym, ap, ◌∙◌, add-one, arith}
 use Rattle.std.specs.Prelude.{codes, find, is_none, nat_lt, nat_le, slice_get}
 use Rattle.std.specs.List.{enumerate_from, list_all, list_any, sum_by, zip}
 use Rattle.std.specs.Option.{option_and_then, option_map, option_map_or}
@@ -17,7 +18,8 @@ use Rattle.apply_model.specs.declared.script.provisioner.Provisioner.{Provisione
 use Rattle.apply_model.specs.Plan.ResourceChange.{ResourceChange}
 use Rattle.apply_model.specs.Script.Outcome.{is_failed, is_warned}
 use Rattle.apply_plan.specs.Plan.ObjectName.{name_one_object}
-use Rattle.apply_plan.specs.Script.Entry.{EntryStep, Failure, WaitName, all_some, answered_with, diag_from, diag_or_none, each_of, ending_by, ending_from, ending_of, failure_from, failure_or_none, flag_or_false, number_or_none, only_warns_by, only_warns_or_not, provisioner_from, says_nothing, seconds_of, skipped_with, step_from, wait_from, wait_of_members}
+use Rattle.apply_plan.specs.Script.Entry.{EntryStep, Failure, WaitName, all_some, answered_with, diag_from, diag_or_none, each_of, ending_by, ending_from, ending_of, failure_from, failure_or_none}
+use Rattle.apply_plan.specs.Script.Entry.{flag_or_false, number_or_none, only_warns_by, only_warns_or_not, provisioner_from, says_nothing, seconds_of, skipped_with, step_from, wait_from, wait_of_members}
 use Rattle.apply_plan.specs.Script.Refusals as run
 use Rattle.apply_plan.specs.Script.Refusals.{count_of_waits, has_provisioners, is_any_wait, misplaces_provisioners, passes, warns_not_a_read}
 use Rattle.apply_plan.specs.Script.WaitedStep.{change_waited}
