@@ -1,6 +1,6 @@
 -- Findings for which no run refuses.
 use Rattle.std.proofs.Common.{◌≡◌, ℕ, suc, List, [], ◌∷◌, ◌++◌, map, Bool, true, false, not, ◌&&◌, Option, Some, None, refl, sym, ap, ◌∙◌, if◌then◌else◌}
-use Rattle.std.specs.List.{list_all, list_any, AllByRecursion}
+use Rattle.std.specs.List.{list_all, list_any}
 use Rattle.std.specs.Option.{option_map_or}
 use Rattle.std.proofs.lemmas.List.Folds.{list_any-append}
 use Rattle.serde_json.specs.Data.{Data}
@@ -35,15 +35,18 @@ clean-append xs ys = ap not (list_any-append is_refusal xs ys) ∙ not_or (list_
 pub appended : (xs ys : List Finding) (a b : Bool) → clean xs ≡ a → clean ys ≡ b → clean (xs ++ ys) ≡ (a && b)
 appended xs ys a b one other = clean-append xs ys ∙ ap (λ (x : Bool). x && clean ys) one ∙ ap (λ (x : Bool). a && x) other
 
--- several parts, each of which is clean where its test holds
-abbrev pub all_of : Bool → List (List Finding × Bool) → Bool
+-- a part, clean where a test holds
+abbrev pub Cleared : Type 0
+Cleared = (found : List Finding) × (test : Bool) × (clean found ≡ test)
+
+abbrev pub all_of : Bool → List Cleared → Bool
 all_of a [] = a
 all_of a (part ∷ parts) = all_of (a && part.1) parts
 
-pub clean-joined : (xs : List Finding) (a : Bool) (parts : List (List Finding × Bool)) → clean xs ≡ a → AllByRecursion (λ part. clean part.0 ≡ part.1) parts
-    → clean (joined xs (map (λ (part : List Finding × Bool). part.0) parts)) ≡ all_of a parts
-clean-joined xs a [] e are = e
-clean-joined xs a (part ∷ parts) e are = clean-joined (xs ++ part.0) (a && part.1) parts (appended xs part.0 a part.1 e are.0) are.1
+-- several parts
+pub clean-joined : (xs : List Finding) (a : Bool) (parts : List Cleared) → clean xs ≡ a → clean (joined xs (map (λ (part : Cleared). part.0) parts)) ≡ all_of a parts
+clean-joined xs a [] e = e
+clean-joined xs a (part ∷ parts) e = clean-joined (xs ++ part.0) (a && part.1) parts (appended xs part.0 a part.1 e part.2)
 
 pub clean-under : (part : Part) (xs : List Finding) → clean (map (under part) xs) ≡ clean xs
 clean-under part [] = refl

@@ -20,7 +20,7 @@ use Rattle.apply_validate.specs.Walks.{faults_of, in_items, in_list, inside, kno
 use Rattle.apply_validate.specs.Wants.{is_met}
 use Rattle.apply_validate_laws.proofs.Alike.{Alike, object_alike}
 use Rattle.apply_validate_laws.proofs.Besides.{fits_kind, is_found, kind_same}
-use Rattle.apply_validate_laws.proofs.Clean.{all_items, clean, clean-faults_of, clean-marked, clean-then_unread, clean-where_suits, is_absent_or, all_of, clean-joined}
+use Rattle.apply_validate_laws.proofs.Clean.{all_items, clean, clean-faults_of, clean-marked, clean-then_unread, clean-where_suits, is_absent_or, Cleared, all_of, clean-joined}
 use Rattle.apply_validate_laws.proofs.Diagnostics.{absent_or_diagnostic, absent_or_failure, clean_diagnostic, clean_failure, clean_wait, fits_wait}
 use Rattle.apply_validate_laws.proofs.Members.{IsCleanBeside, array_or, flag_same, flag_there, inside_clean, items_inside, list_clean}
 use Rattle.apply_validate.proofs.Options.{and_assoc, and_false, and_true, crossed, still}
@@ -89,6 +89,21 @@ own_of k = timed (is_skipped k) (seconds_of k) && is_some (id_of k)
 abbrev pub grown_of : Data → Bool
 grown_of k = is_absent_or (all_items fits_growth) (member_of (codes "provisioners") k)
 
+-- the members, with that told of the provisioners and of the tests
+abbrev pub members_of : Data → (provisioners tests tests_skipped : Bool) → Bool
+members_of k provisioners tests tests_skipped =
+    step_parts (timed (is_skipped k) (seconds_of k)) (is_some (id_of k)) (is_some (warning_of k)) (is_some (failure_of k)) provisioners tests
+    (is_some (flag_of k)) tests_skipped (is_some (waits_of k))
+
+-- the two walks over the provisioners make one
+pub members_apart : (k : Data) (first tests tests_skipped all : Bool) → (first && grown_of k) ≡ all
+    → ((((((((own_of k && is_some (warning_of k)) && is_some (failure_of k)) && (is_met want.ArrayOrAbsent (member_of (codes "provisioners") k) && first))
+    && tests) && is_some (flag_of k)) && tests_skipped) && grown_of k) && is_some (waits_of k))
+    ≡ members_of k (is_met want.ArrayOrAbsent (member_of (codes "provisioners") k) && all) tests tests_skipped
+members_apart k first tests tests_skipped all e =
+    apart (timed (is_skipped k) (seconds_of k)) (is_some (id_of k)) (is_some (warning_of k)) (is_some (failure_of k))
+    (is_met want.ArrayOrAbsent (member_of (codes "provisioners") k)) first tests (is_some (flag_of k)) tests_skipped (grown_of k) (is_some (waits_of k)) all e
+
 -- what is found in those of the other tree
 module _ (d k : Data) (alike : Alike d k) where
   pub own_clean : clean (faults_of (step_table (is_skipped d)) d) ≡ own_of k
@@ -131,36 +146,19 @@ clean_step changes change n d k alike =
     ∙ ap (λ (b : Bool). is_met want.ArrayOrAbsent p && b) (both_absent (λ e. is_some (wait_from e)) (is_found changes) p)
     ∙ and_assoc (is_met want.ArrayOrAbsent p) (is_absent_or (all_items (λ e. is_some (wait_from e))) p) (waits_found changes k)
     ∙ ap (λ (b : Bool). b && waits_found changes k) (each_is wait_from p) in
-    let parts : List (List Finding × Bool) =
-    (inside in_diagnostic name.Warning d, is_some (warning_of k)) ∷ (inside in_failure name.Failed d, is_some (failure_of k)) ∷ (provisioners, listed)
-    ∷ (marked (step_marks d), tests) ∷ (marked (kind_marks change n d), fits_kind change n k)
-    ∷ (faults_of (known name.Skipped want.FlagOrAbsent ∷ []) d, is_some (flag_of k)) ∷ (marked (skipped_marks d), tests_skipped)
-    ∷ (inside (in_items (λ number. growth_of_provisioner)) name.Provisioners d, grown_of k) ∷ (after, is_some (waits_of k) && waits_found changes k) ∷ [] in
-    let found : List Finding = joined (faults_of (step_table (is_skipped d)) d) (map (λ (part : List Finding × Bool). part.0) parts) in
-    let are : clean found ≡ all_of (own_of k) parts =
-    clean-joined (faults_of (step_table (is_skipped d)) d) (own_of k) parts (own_clean d k alike) (
-      warning_clean d k alike,
-      (
-        failure_clean d k alike,
-        (
-          read,
-          (
-            clean-marked (step_marks d) refl ∙ same.0,
-            (
-              kind_same change n d k alike,
-              (flag_clean d k alike, (clean-marked (skipped_marks d) refl ∙ same.1, (growth_clean d k alike, (awaited, tt)))),
-            ),
-          ),
-        ),
-      ),
-    ) in
-    let by_itself : ((((((((own_of k && is_some (warning_of k)) && is_some (failure_of k)) && listed) && tests) && is_some (flag_of k)) && tests_skipped) && (grown_of k))
+    let parts : List Cleared =
+    (inside in_diagnostic name.Warning d, is_some (warning_of k), warning_clean d k alike) ∷ (inside in_failure name.Failed d, is_some (failure_of k), failure_clean d k alike)
+    ∷ (provisioners, listed, read) ∷ (marked (step_marks d), tests, clean-marked (step_marks d) refl ∙ same.0)
+    ∷ (marked (kind_marks change n d), fits_kind change n k, kind_same change n d k alike)
+    ∷ (faults_of (known name.Skipped want.FlagOrAbsent ∷ []) d, is_some (flag_of k), flag_clean d k alike)
+    ∷ (marked (skipped_marks d), tests_skipped, clean-marked (skipped_marks d) refl ∙ same.1)
+    ∷ (inside (in_items (λ number. growth_of_provisioner)) name.Provisioners d, grown_of k, growth_clean d k alike) ∷ (after, is_some (waits_of k) && waits_found changes k, awaited) ∷ [] in
+    let found : List Finding = joined (faults_of (step_table (is_skipped d)) d) (map (λ (part : Cleared). part.0) parts) in
+    let are : clean found ≡ all_of (own_of k) parts = clean-joined (faults_of (step_table (is_skipped d)) d) (own_of k) parts (own_clean d k alike) in
+    let by_itself : ((((((((own_of k && is_some (warning_of k)) && is_some (failure_of k)) && listed) && tests) && is_some (flag_of k)) && tests_skipped) && grown_of k)
     && is_some (waits_of k)) ≡ is_step k =
-    apart (timed (is_skipped k) (seconds_of k)) (is_some (id_of k)) (is_some (warning_of k)) (is_some (failure_of k)) (is_met want.ArrayOrAbsent o)
-    (is_absent_or (all_items fits_first) o) tests (is_some (flag_of k)) tests_skipped (grown_of k) (is_some (waits_of k))
-    (is_absent_or (all_items is_provisioner) o) (items_both o)
-    ∙ ap (λ (x : Bool). step_parts (timed (is_skipped k) (seconds_of k)) (is_some (id_of k)) (is_some (warning_of k)) (is_some (failure_of k)) x tests
-    (is_some (flag_of k)) tests_skipped (is_some (waits_of k))) (each_fits provisioner_from fits o)
+    members_apart k (is_absent_or (all_items fits_first) o) tests tests_skipped (is_absent_or (all_items is_provisioner) o) (items_both o)
+    ∙ ap (λ (x : Bool). members_of k x tests tests_skipped) (each_fits provisioner_from fits o)
     ∙ reads (flag_of k) (is_skipped k) (says_seconds k) (seconds_of k) (id_of k) (warning_of k) (failure_of k) (provisioners_of k) (waits_of k) tests
     tests_skipped (silent_read (member_of (codes "seconds") k)) (flag_read (member_of (codes "skipped") k)) (tests_read k) in
     let whole : clean (found ++ unread step_names d) ≡ fits_step changes change n k =

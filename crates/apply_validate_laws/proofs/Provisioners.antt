@@ -21,7 +21,7 @@ use Rattle.apply_validate.specs.declared.findings.want.Want.TheVariants as want
 use Rattle.apply_validate.specs.ScriptFindings.{growth_of_provisioner, in_diagnostic, in_outputs, in_provisioner, provisioner_mark, provisioner_names, provisioner_table, seconds_in, whole_at}
 use Rattle.apply_validate.specs.Walks.{faults_of, in_list, inside, items_at, known, marked, unless_suits, unread}
 use Rattle.apply_validate.specs.Wants.{is_met}
-use Rattle.apply_validate_laws.proofs.Clean.{all_items, clean, clean-append, clean-faults_of, clean-marked, clean-then_unread, clean-unless_suits, clean-where_suits, is_absent_or, clean-joined}
+use Rattle.apply_validate_laws.proofs.Clean.{Cleared, all_items, clean, clean-append, clean-faults_of, clean-marked, clean-then_unread, clean-unless_suits, clean-where_suits, is_absent_or, clean-joined}
 use Rattle.apply_validate_laws.proofs.Diagnostics.{absent_or_diagnostic, clean_diagnostic, two}
 use Rattle.apply_validate_laws.proofs.Alike.{object_alike, Alike}
 use Rattle.apply_validate_laws.proofs.Members.{IsCleanBeside, array_or, count_same, inside_clean, list_clean, non_empty_there, on_failure_there, whole_there}
@@ -206,15 +206,14 @@ clean_provisioner d k alike =
     let few : clean (marked (provisioner_mark d ∷ [])) ≡ not many =
     clean-marked (provisioner_mark d ∷ []) refl ∙ and_true (not (nat_lt max_outputs (length (items_at name.Output d))))
     ∙ ap (λ (n : ℕ). not (nat_lt max_outputs n)) (count_same name.Output refl d k alike) in
-    let parts : List (List Finding × Bool) =
-    (in_list (λ number. unless_suits want.Output) (known name.Output want.ArrayOrAbsent) d, shaped) ∷ (marked (provisioner_mark d ∷ []), not many)
-    ∷ (inside in_diagnostic name.Failed d, is_some failed_read) ∷ [] in
-    let found : List Finding = joined (faults_of provisioner_table d) (map (λ (part : List Finding × Bool). part.0) parts) in
+    let parts : List Cleared =
+    (in_list (λ number. unless_suits want.Output) (known name.Output want.ArrayOrAbsent) d, shaped, output_clean d k alike)
+    ∷ (marked (provisioner_mark d ∷ []), not many, few) ∷ (inside in_diagnostic name.Failed d, is_some failed_read, failed_clean d k alike) ∷ [] in
+    let found : List Finding = joined (faults_of provisioner_table d) (map (λ (part : Cleared). part.0) parts) in
     clean-where_suits want.Provisioner d (found ++ unread provisioner_names d)
     ∙ ap (λ (x : Bool). is_some (as_object d) && x)
     (clean-then_unread found provisioner_names d
-    ∙ clean-joined (faults_of provisioner_table d) (is_some name_read && is_some (seconds_of k)) parts (named_clean d k alike)
-    (output_clean d k alike, (few, (failed_clean d k alike, tt))))
+    ∙ clean-joined (faults_of provisioner_table d) (is_some name_read && is_some (seconds_of k)) parts (named_clean d k alike))
     ∙ ap (λ (x : Bool). x && members_fit name_read (seconds_of k) shaped many failed_read) (object_alike d k alike)
     ∙ needs_object (codes "provisioner") k (members_fit name_read (seconds_of k) shaped many failed_read)
     (λ none. ap (λ (o : Option Data). members_fit (o >>= as_str >>= unless_empty) (seconds_of k) shaped many failed_read) none)

@@ -28,7 +28,7 @@ use Rattle.apply_validate.specs.Wants.{is_met}
 use Rattle.apply_validate.specs.Whole.{script_findings}
 use Rattle.apply_validate_laws.proofs.Alike.{Alike, AlikeItems, AreAlike, both_trees, bytes_alike, member_alike, object_alike}
 use Rattle.apply_validate_laws.proofs.Besides.{all_waits_same, change_same, clean_mark, has_room, is_found, is_unknown, name_same, room_same, steps_same, too_many, unknown_same}
-use Rattle.apply_validate_laws.proofs.Clean.{all_items, appended, clean, clean-append, clean-fault_of, clean-then_unread, clean-under, clean-where_suits, is_absent_or, clean-joined}
+use Rattle.apply_validate_laws.proofs.Clean.{Cleared, all_items, appended, clean, clean-append, clean-fault_of, clean-then_unread, clean-under, clean-where_suits, is_absent_or, clean-joined}
 use Rattle.apply_validate_laws.proofs.Diagnostics.{two}
 use Rattle.apply_validate_laws.proofs.Members.{IsCleanBeside, all_from, all_items_from, array_there, inside_clean, numbered_clean, text_or_there, text_there}
 use Rattle.apply_validate.proofs.Options.{and_assoc, and_false, and_true, crossed, not_not, still}
@@ -143,13 +143,13 @@ clean_entry changes first left d k alike =
     ∙ steps_apart is_step (is_beside changes change) o
     ∙ ap (λ (c : Option ResourceChange). own && steps_beside changes c o) same in
     let e7 : clean beyond ≡ room = room_same (is_some changes) left d k alike in
-    let parts : List (List Finding × Bool) =
-    (unknown, named) ∷ (again, new) ∷ (list, there) ∷ (many, few) ∷ (steps, own && beside) ∷ (beyond, room) ∷ [] in
-    let found : List Finding = joined wrong (map (λ (part : List Finding × Bool). part.0) parts) in
+    let parts : List Cleared =
+    (unknown, named, e2) ∷ (again, new, e3) ∷ (list, there, e4) ∷ (many, few, e5) ∷ (steps, own && beside, e6) ∷ (beyond, room, e7) ∷ [] in
+    let found : List Finding = joined wrong (map (λ (part : Cleared). part.0) parts) in
     clean-where_suits want.Entry d (found ++ unread entry_names d)
     ∙ ap (λ (x : Bool). is_some (as_object d) && x)
     (clean-then_unread found entry_names d
-    ∙ clean-joined wrong (is_some a && is_some t) parts e1 (e2, (e3, (e4, (e5, (e6, (e7, tt))))))
+    ∙ clean-joined wrong (is_some a && is_some t) parts e1
     ∙ shuffle (is_some a && is_some t) named new there few own beside room
     ∙ ap (λ (x : Bool). ((is_some a && is_some t) && x) && rest) (each_fits_there step_from is_within_limits o))
     ∙ ap (λ (x : Bool). x && (read && rest)) (object_alike d k alike)

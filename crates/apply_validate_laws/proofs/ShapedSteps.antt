@@ -25,7 +25,7 @@ use Rattle.apply_validate.specs.ScriptFindings.{growth_of_provisioner, in_diagno
 use Rattle.apply_validate.specs.Walks.{faults_of, in_items, in_list, inside, items_at, known, marked, unread, where_suits}
 use Rattle.apply_validate.specs.Wants.{is_met}
 use Rattle.apply_validate_laws.proofs.Alike.{Alike, object_alike}
-use Rattle.apply_validate_laws.proofs.Clean.{all_items, clean, clean-marked, clean-then_unread, clean-where_suits, is_absent_or, all_of, clean-joined}
+use Rattle.apply_validate_laws.proofs.Clean.{all_items, clean, clean-marked, clean-then_unread, clean-where_suits, is_absent_or, Cleared, all_of, clean-joined}
 use Rattle.apply_validate_laws.proofs.Diagnostics.{clean_wait, fits_wait}
 use Rattle.apply_validate_laws.proofs.Besides.{is_found}
 use Rattle.apply_validate_laws.proofs.Members.{IsCleanBeside, array_or, count_same, flag_same, is_there_same, list_clean, non_empty_same}
@@ -39,6 +39,7 @@ use Rattle.apply_validate_laws.proofs.Steps.{alone, same_alone, apart, diagnosti
 use Rattle.apply_validate_laws.proofs.Steps.{parts as step_parts, reads as step_reads, silent_read, step_read, timed, untouched}
 use Rattle.apply_validate_laws.proofs.Wanted.{each_is, only_object}
 use Rattle.apply_validate_laws.proofs.CleanSteps.{both_absent, failure_clean, failure_of, flag_clean, flag_of, growth_clean, id_of, own_clean}
+use Rattle.apply_validate_laws.proofs.CleanSteps.{members_apart, members_of}
 use Rattle.apply_validate_laws.proofs.CleanSteps.{provisioners_of, says_seconds, waits_of, warning_clean, warning_of, grown_of, own_of}
 use Rattle.apply_validate_laws.proofs.Joined.{joined}
 
@@ -278,35 +279,17 @@ clean_shaped_step d k alike =
     ∙ ap (λ (b : Bool). is_met want.ArrayOrAbsent p && (is_absent_or (all_items (λ e. is_some (wait_from e))) p && b)) (waits_free p)
     ∙ ap (λ (b : Bool). is_met want.ArrayOrAbsent p && b) (and_true (is_absent_or (all_items (λ e. is_some (wait_from e))) p))
     ∙ each_is wait_from p in
-    let parts : List (List Finding × Bool) =
-    (inside in_diagnostic name.Warning d, is_some (warning_of k)) ∷ (inside in_failure name.Failed d, is_some (failure_of k)) ∷ (provisioners, listed)
-    ∷ (marked (picked (step_marks d)), tests) ∷ (faults_of (known name.Skipped want.FlagOrAbsent ∷ []) d, is_some (flag_of k))
-    ∷ (marked (skipped_marks d), tests_skipped) ∷ (inside (in_items (λ number. growth_of_provisioner)) name.Provisioners d, grown_of k)
-    ∷ (after, is_some (waits_of k)) ∷ [] in
-    let found : List Finding = joined (faults_of (step_table (is_skipped d)) d) (map (λ (part : List Finding × Bool). part.0) parts) in
-    let are : clean found ≡ all_of (own_of k) parts =
-    clean-joined (faults_of (step_table (is_skipped d)) d) (own_of k) parts (own_clean d k alike) (
-      warning_clean d k alike,
-      (
-        failure_clean d k alike,
-        (
-          read,
-          (
-            clean-marked (picked (step_marks d)) refl ∙ same.0,
-            (
-              flag_clean d k alike,
-              (clean-marked (skipped_marks d) refl ∙ same.1, (growth_clean d k alike, (awaited, tt))),
-            ),
-          ),
-        ),
-      ),
-    ) in
+    let parts : List Cleared =
+    (inside in_diagnostic name.Warning d, is_some (warning_of k), warning_clean d k alike) ∷ (inside in_failure name.Failed d, is_some (failure_of k), failure_clean d k alike)
+    ∷ (provisioners, listed, read) ∷ (marked (picked (step_marks d)), tests, clean-marked (picked (step_marks d)) refl ∙ same.0)
+    ∷ (faults_of (known name.Skipped want.FlagOrAbsent ∷ []) d, is_some (flag_of k), flag_clean d k alike)
+    ∷ (marked (skipped_marks d), tests_skipped, clean-marked (skipped_marks d) refl ∙ same.1)
+    ∷ (inside (in_items (λ number. growth_of_provisioner)) name.Provisioners d, grown_of k, growth_clean d k alike) ∷ (after, is_some (waits_of k), awaited) ∷ [] in
+    let found : List Finding = joined (faults_of (step_table (is_skipped d)) d) (map (λ (part : Cleared). part.0) parts) in
+    let are : clean found ≡ all_of (own_of k) parts = clean-joined (faults_of (step_table (is_skipped d)) d) (own_of k) parts (own_clean d k alike) in
     let by_itself : all_of (own_of k) parts ≡ is_some (step_from k) =
-    apart (timed (is_skipped k) (seconds_of k)) (is_some (id_of k)) (is_some (warning_of k)) (is_some (failure_of k)) (is_met want.ArrayOrAbsent o)
-    (is_absent_or (all_items first_shaped) o) tests (is_some (flag_of k)) tests_skipped (grown_of k) (is_some (waits_of k))
-    (is_absent_or (all_items is_read) o) (items_shaped o)
-    ∙ ap (λ (x : Bool). step_parts (timed (is_skipped k) (seconds_of k)) (is_some (id_of k)) (is_some (warning_of k)) (is_some (failure_of k)) x tests
-    (is_some (flag_of k)) tests_skipped (is_some (waits_of k))) (each_is provisioner_from o)
+    members_apart k (is_absent_or (all_items first_shaped) o) tests tests_skipped (is_absent_or (all_items is_read) o) (items_shaped o)
+    ∙ ap (λ (x : Bool). members_of k x tests tests_skipped) (each_is provisioner_from o)
     ∙ step_reads_shape (flag_of k) (is_skipped k) (says_seconds k) (seconds_of k) (id_of k) (warning_of k) (failure_of k) (provisioners_of k) (waits_of k) tests
     tests_skipped (silent_read (member_of (codes "seconds") k)) (flag_read (member_of (codes "skipped") k)) (tests_read k) in
     clean-where_suits want.Step d (found ++ unread step_names d)
