@@ -21,7 +21,7 @@ use Rattle.apply_validate.specs.declared.walks.mark.Mark.{Mark}
 use Rattle.apply_validate.specs.Walks.{fault_of, faults_of, found_by, in_items, in_list, inside, is_known, items_from, lack, marked}
 use Rattle.apply_validate.specs.Walks.{member_at, place_of, unless_suits, unread, texts_in, unread_from, where_suits}
 use Rattle.apply_validate.specs.Wants.{is_met, suits}
-use Rattle.apply_validate.proofs.Options.{and_left, and_right, and_true, not_or}
+use Rattle.apply_validate.proofs.Options.{and_left, and_right, and_true, not_or, crossed}
 use Rattle.apply_validate_laws.proofs.Joined.{joined}
 
 -- no run refuses for one of them
@@ -134,6 +134,18 @@ clean-in_list found test is known d =
     ∙ ap (λ (b : Bool). b && clean (inside (in_items found) known.name d)) (clean-fault_of d known)
     ∙ ap (λ (b : Bool). is_met known.want (member_at known.name d) && b)
     (clean-inside (in_items found) (all_items test) (λ e. clean-items_from found test is 0 (list_of (items_in e))) known.name d)
+
+all_both : (p q r : Data → Bool) → ((k : Data) → (p k && q k) ≡ r k) → (ks : List Data) → (list_all p ks && list_all q ks) ≡ list_all r ks
+all_both p q r each [] = refl
+all_both p q r each (k ∷ ks) =
+    crossed (p k) (list_all p ks) (q k) (list_all q ks)
+    ∙ ap (λ (b : Bool). b && (list_all p ks && list_all q ks)) (each k) ∙ ap (λ (b : Bool). r k && b) (all_both p q r each ks)
+
+-- two tests of the items of a value make one
+pub items_both : (p q r : Data → Bool) → ((k : Data) → (p k && q k) ≡ r k) → (o : Option Data)
+    → (is_absent_or (all_items p) o && is_absent_or (all_items q) o) ≡ is_absent_or (all_items r) o
+items_both p q r each None = refl
+items_both p q r each (Some d) = all_both p q r each (list_of (items_in d))
 
 -- each member of a table is what it has to be
 pub clean-faults_of : (table : List Known) (d : Data) → clean (faults_of table d) ≡ list_all (λ known. is_met known.want (member_at known.name d)) table

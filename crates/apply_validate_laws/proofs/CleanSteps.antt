@@ -20,11 +20,11 @@ use Rattle.apply_validate.specs.Walks.{faults_of, in_items, in_list, inside, kno
 use Rattle.apply_validate.specs.Wants.{is_met}
 use Rattle.apply_validate_laws.proofs.Alike.{Alike, object_alike}
 use Rattle.apply_validate_laws.proofs.Besides.{fits_kind, is_found, kind_same}
-use Rattle.apply_validate_laws.proofs.Clean.{all_items, clean, clean-faults_of, clean-marked, clean-then_unread, clean-where_suits, is_absent_or, Cleared, all_of, clean-joined}
+use Rattle.apply_validate_laws.proofs.Clean.{all_items, clean, clean-faults_of, clean-marked, clean-then_unread, clean-where_suits, is_absent_or, Cleared, all_of, clean-joined, items_both}
 use Rattle.apply_validate_laws.proofs.Diagnostics.{absent_or_diagnostic, absent_or_failure, clean_diagnostic, clean_failure, clean_wait, fits_wait}
 use Rattle.apply_validate_laws.proofs.Members.{IsCleanBeside, array_or, flag_same, flag_there, inside_clean, items_inside, list_clean}
 use Rattle.apply_validate.proofs.Options.{and_assoc, and_false, and_true, crossed, still}
-use Rattle.apply_validate_laws.proofs.Provisioners.{clean_growth, clean_provisioner, fits, fits_first, fits_growth, is_provisioner, items_both}
+use Rattle.apply_validate_laws.proofs.Provisioners.{clean_growth, clean_provisioner, fits, fits_first, fits_growth, is_provisioner, fits_both}
 use Rattle.apply_validate_laws.proofs.Wanted.{each_fits, each_is, only_object}
 use Rattle.apply_validate_laws.proofs.Steps.{apart, flag_read, is_step, parts as step_parts, reads, silent_read, table_clean, tests_read, tests_same, timed}
 use Rattle.apply_validate_laws.proofs.Joined.{joined}
@@ -35,14 +35,6 @@ beside_last : (x kinds flag skipped growth a waits : Bool)
 beside_last false kinds flag skipped growth a waits = refl
 beside_last true true flag skipped growth a waits = and_assoc (((flag && skipped) && growth)) a waits
 beside_last true false flag skipped growth a waits = sym (and_false (((flag && skipped) && growth) && a))
-
-both_items : (p q : Data → Bool) (ks : List Data) → list_all (λ e. p e && q e) ks ≡ (list_all p ks && list_all q ks)
-both_items p q [] = refl
-both_items p q (k ∷ ks) = ap (λ (b : Bool). (p k && q k) && b) (both_items p q ks) ∙ crossed (p k) (q k) (list_all p ks) (list_all q ks)
-
-pub both_absent : (p q : Data → Bool) (o : Option Data) → is_absent_or (all_items (λ e. p e && q e)) o ≡ (is_absent_or (all_items p) o && is_absent_or (all_items q) o)
-both_absent p q None = refl
-both_absent p q (Some d) = both_items p q (list_of (items_in d))
 
 -- what is no object is no step
 only_step : (k : Data) → (is_some (as_object k) && is_step k) ≡ is_step k
@@ -143,7 +135,7 @@ clean_step changes change n d k alike =
     list_clean (λ number. in_provisioner) fits_first (λ number. clean_provisioner) (known name.Provisioners want.ArrayOrAbsent) array_or refl d k alike in
     let awaited : clean after ≡ (is_some (waits_of k) && waits_found changes k) =
     list_clean (λ item. in_wait changes) (fits_wait changes) (λ item. clean_wait changes) (known name.After want.ArrayOrAbsent) array_or refl d k alike
-    ∙ ap (λ (b : Bool). is_met want.ArrayOrAbsent p && b) (both_absent (λ e. is_some (wait_from e)) (is_found changes) p)
+    ∙ ap (λ (b : Bool). is_met want.ArrayOrAbsent p && b) (sym (items_both (λ e. is_some (wait_from e)) (is_found changes) (fits_wait changes) (λ e. refl) p))
     ∙ and_assoc (is_met want.ArrayOrAbsent p) (is_absent_or (all_items (λ e. is_some (wait_from e))) p) (waits_found changes k)
     ∙ ap (λ (b : Bool). b && waits_found changes k) (each_is wait_from p) in
     let parts : List Cleared =
@@ -157,7 +149,7 @@ clean_step changes change n d k alike =
     let are : clean found ≡ all_of (own_of k) parts = clean-joined (faults_of (step_table (is_skipped d)) d) (own_of k) parts (own_clean d k alike) in
     let by_itself : ((((((((own_of k && is_some (warning_of k)) && is_some (failure_of k)) && listed) && tests) && is_some (flag_of k)) && tests_skipped) && grown_of k)
     && is_some (waits_of k)) ≡ is_step k =
-    members_apart k (is_absent_or (all_items fits_first) o) tests tests_skipped (is_absent_or (all_items is_provisioner) o) (items_both o)
+    members_apart k (is_absent_or (all_items fits_first) o) tests tests_skipped (is_absent_or (all_items is_provisioner) o) (items_both fits_first fits_growth is_provisioner fits_both o)
     ∙ ap (λ (x : Bool). members_of k x tests tests_skipped) (each_fits provisioner_from fits o)
     ∙ reads (flag_of k) (is_skipped k) (says_seconds k) (seconds_of k) (id_of k) (warning_of k) (failure_of k) (provisioners_of k) (waits_of k) tests
     tests_skipped (silent_read (member_of (codes "seconds") k)) (flag_read (member_of (codes "skipped") k)) (tests_read k) in

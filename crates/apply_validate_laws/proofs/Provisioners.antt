@@ -21,7 +21,8 @@ use Rattle.apply_validate.specs.declared.findings.want.Want.TheVariants as want
 use Rattle.apply_validate.specs.ScriptFindings.{growth_of_provisioner, in_diagnostic, in_outputs, in_provisioner, provisioner_mark, provisioner_names, provisioner_table, seconds_in, whole_at}
 use Rattle.apply_validate.specs.Walks.{faults_of, in_list, inside, items_at, known, marked, unless_suits, unread}
 use Rattle.apply_validate.specs.Wants.{is_met}
-use Rattle.apply_validate_laws.proofs.Clean.{Cleared, all_items, clean, clean-append, clean-faults_of, clean-marked, clean-then_unread, clean-unless_suits, clean-where_suits, is_absent_or, clean-joined}
+use Rattle.apply_validate_laws.proofs.Clean.{Cleared, all_items, clean, clean-append, clean-faults_of, clean-marked}
+use Rattle.apply_validate_laws.proofs.Clean.{clean-then_unread, clean-unless_suits, clean-where_suits, is_absent_or, clean-joined}
 use Rattle.apply_validate_laws.proofs.Diagnostics.{absent_or_diagnostic, clean_diagnostic, two}
 use Rattle.apply_validate_laws.proofs.Alike.{object_alike, Alike}
 use Rattle.apply_validate_laws.proofs.Members.{IsCleanBeside, array_or, count_same, inside_clean, list_clean, non_empty_there, on_failure_there, whole_there}
@@ -242,12 +243,3 @@ fits_both k =
     (come_in_time (whole_at name.Seconds k) None (items_at name.Output k))
     (λ s e. ap (λ (x : Option ℕ). are_shaped o && come_in_time x None (items_at name.Output k)) (seconds ∙ e) ∙ outputs_read s o)
     (λ s texts e. ap (λ (n : ℕ). nat_lt max_outputs n) (texts_read s o texts e))
-
-all_both : (ks : List Data) → (list_all fits_first ks && list_all fits_growth ks) ≡ list_all is_provisioner ks
-all_both [] = refl
-all_both (k ∷ ks) = crossed (fits_first k) (list_all fits_first ks) (fits_growth k) (list_all fits_growth ks)
-    ∙ ap (λ (b : Bool). b && (list_all fits_first ks && list_all fits_growth ks)) (fits_both k) ∙ ap (λ (b : Bool). is_provisioner k && b) (all_both ks)
-
-pub items_both : (o : Option Data) → (is_absent_or (all_items fits_first) o && is_absent_or (all_items fits_growth) o) ≡ is_absent_or (all_items is_provisioner) o
-items_both None = refl
-items_both (Some k) = all_both (list_of (items_in k))

@@ -49,6 +49,7 @@ use Rattle.apply_validate_laws.proofs.ShapedEntries.{shape_told}
 use Rattle.apply_validate_laws.proofs.Taken.{found_with, outcomes, waits_read}
 use Rattle.apply_validate_laws.proofs.Wanted.{object_there}
 use Rattle.apply_validate_laws.proofs.ScriptTests.{OfSteps, OfWaits, by_change, by_entry, refused_with}
+use Rattle.apply_validate_laws.proofs.Warning.{not_text}
 
 some_is : {A : Type 0} (x y : A) → Some x ≡ Some y → x ≡ y
 some_is x y e = cc
@@ -95,14 +96,6 @@ unfolding entry_of
 entry_object k entry e =
     object_there (λ it. is_some (entry_of it)) refl (λ b. refl) (λ n. refl) (λ s. refl) (λ ds. refl) k (ap (λ (o : Option Entry). is_some o) e)
 
-no_text : (d : Data) → is_some (as_object d) ≡ true → is_some (as_str d) ≡ false
-no_text null e = refl
-no_text (boolean b) e = refl
-no_text (number n) e = refl
-no_text (string s) e = absurd cc
-no_text (array ds) e = refl
-no_text (object ms) e = refl
-
 abbrev of_object : Bool → What
 of_object there = if there then what.UnknownObject else what.UnknownAddress
 
@@ -125,7 +118,7 @@ no_change changes first left n d k entry alike is about =
     let unknown : is_unknown (Some changes) (object_named k) ≡ true =
     ap (λ (o : Option Named). is_unknown (Some changes) o) (entry_read k entry is).object ∙ ap is_none none in
     unknown_in p changes first left d there
-    (unknown_told p changes d k alike (λ it. object_told n (is_some (as_str d)) (is_some (member_at name.Deposed d)) it (no_text d there)) unknown)
+    (unknown_told p changes d k alike (λ it. object_told n (is_some (as_str d)) (is_some (member_at name.Deposed d)) it (not_text d there)) unknown)
 
 -- ---- an entry of a change
 

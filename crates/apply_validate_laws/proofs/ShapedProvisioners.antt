@@ -113,7 +113,7 @@ reads (Some n) (Some s) (Some f) items may_fail shaped timely come =
     ∙ reads_output n s f (items >>= timed_outputs s) may_fail
     ∙ ap (λ (p : Option Provisioner). is_some p) (one_by_one items (timed_outputs s) (λ o. may_fail >>= λ m. Some (made n s o f m)))
 
-shaped_both : (k : Data) → (first_shaped k && fits_growth k) ≡ is_some (provisioner_from k)
+pub shaped_both : (k : Data) → (first_shaped k && fits_growth k) ≡ is_some (provisioner_from k)
 unfolding provisioner_from first_shaped
 shaped_both k =
     let o : Option Data = member_of (codes "output") k in
@@ -124,13 +124,3 @@ shaped_both k =
 
 abbrev pub is_read : Data → Bool
 is_read k = is_some (provisioner_from k)
-
-all_shaped : (ks : List Data) → (list_all first_shaped ks && list_all fits_growth ks) ≡ list_all is_read ks
-all_shaped [] = refl
-all_shaped (k ∷ ks) =
-    crossed (first_shaped k) (list_all first_shaped ks) (fits_growth k) (list_all fits_growth ks)
-    ∙ ap (λ (b : Bool). b && (list_all first_shaped ks && list_all fits_growth ks)) (shaped_both k) ∙ ap (λ (b : Bool). is_read k && b) (all_shaped ks)
-
-pub items_shaped : (o : Option Data) → (is_absent_or (all_items first_shaped) o && is_absent_or (all_items fits_growth) o) ≡ is_absent_or (all_items is_read) o
-items_shaped None = refl
-items_shaped (Some k) = all_shaped (list_of (items_in k))

@@ -25,20 +25,20 @@ use Rattle.apply_validate.specs.ScriptFindings.{growth_of_provisioner, in_diagno
 use Rattle.apply_validate.specs.Walks.{faults_of, in_items, in_list, inside, items_at, known, marked, unread, where_suits}
 use Rattle.apply_validate.specs.Wants.{is_met}
 use Rattle.apply_validate_laws.proofs.Alike.{Alike, object_alike}
-use Rattle.apply_validate_laws.proofs.Clean.{all_items, clean, clean-marked, clean-then_unread, clean-where_suits, is_absent_or, Cleared, all_of, clean-joined}
+use Rattle.apply_validate_laws.proofs.Clean.{all_items, clean, clean-marked, clean-then_unread, clean-where_suits, is_absent_or, Cleared, all_of, clean-joined, items_both}
 use Rattle.apply_validate_laws.proofs.Diagnostics.{clean_wait, fits_wait}
 use Rattle.apply_validate_laws.proofs.Besides.{is_found}
 use Rattle.apply_validate_laws.proofs.Members.{IsCleanBeside, array_or, count_same, flag_same, is_there_same, list_clean, non_empty_same}
 use Rattle.apply_validate.proofs.Options.{and_true}
-use Rattle.apply_validate_laws.proofs.Provisioners.{fits, length_read}
+use Rattle.apply_validate_laws.proofs.Provisioners.{fits, fits_growth, length_read}
 use Rattle.apply_validate_laws.proofs.Scripts.{waits_free}
 use Rattle.apply_validate_laws.proofs.Shapes.{IsSame, both_same, picked, same_diagnostic, same_failure, same_faults, same_growth, same_inside}
 use Rattle.apply_validate_laws.proofs.Shapes.{same_items, same_list, same_picked, same_unread, same_wait, same_where, without}
-use Rattle.apply_validate_laws.proofs.ShapedProvisioners.{clean_shaped, first_shaped, is_read, items_shaped, made, same_provisioner, shaped_provisioner}
-use Rattle.apply_validate_laws.proofs.Steps.{alone, same_alone, apart, diagnostic_there, failure_there, fit, flag_read, given, id_there}
+use Rattle.apply_validate_laws.proofs.ShapedProvisioners.{clean_shaped, first_shaped, is_read, shaped_both, made, same_provisioner, shaped_provisioner}
+use Rattle.apply_validate_laws.proofs.Steps.{alone, same_alone, diagnostic_there, failure_there, fit, flag_read, given, id_there}
 use Rattle.apply_validate_laws.proofs.Steps.{parts as step_parts, reads as step_reads, silent_read, step_read, timed, untouched}
 use Rattle.apply_validate_laws.proofs.Wanted.{each_is, only_object}
-use Rattle.apply_validate_laws.proofs.CleanSteps.{both_absent, failure_clean, failure_of, flag_clean, flag_of, growth_clean, id_of, own_clean}
+use Rattle.apply_validate_laws.proofs.CleanSteps.{failure_clean, failure_of, flag_clean, flag_of, growth_clean, id_of, own_clean}
 use Rattle.apply_validate_laws.proofs.CleanSteps.{members_apart, members_of}
 use Rattle.apply_validate_laws.proofs.CleanSteps.{provisioners_of, says_seconds, waits_of, warning_clean, warning_of, grown_of, own_of}
 use Rattle.apply_validate_laws.proofs.Joined.{joined}
@@ -275,7 +275,7 @@ clean_shaped_step d k alike =
     list_clean (λ number. shaped_provisioner) first_shaped (λ number. clean_shaped) (known name.Provisioners want.ArrayOrAbsent) array_or refl d k alike in
     let awaited : clean after ≡ is_some (waits_of k) =
     list_clean (λ item. in_wait None) (fits_wait None) (λ item. clean_wait None) (known name.After want.ArrayOrAbsent) array_or refl d k alike
-    ∙ ap (λ (b : Bool). is_met want.ArrayOrAbsent p && b) (both_absent (λ e. is_some (wait_from e)) (is_found None) p)
+    ∙ ap (λ (b : Bool). is_met want.ArrayOrAbsent p && b) (sym (items_both (λ e. is_some (wait_from e)) (is_found None) (fits_wait None) (λ e. refl) p))
     ∙ ap (λ (b : Bool). is_met want.ArrayOrAbsent p && (is_absent_or (all_items (λ e. is_some (wait_from e))) p && b)) (waits_free p)
     ∙ ap (λ (b : Bool). is_met want.ArrayOrAbsent p && b) (and_true (is_absent_or (all_items (λ e. is_some (wait_from e))) p))
     ∙ each_is wait_from p in
@@ -288,7 +288,7 @@ clean_shaped_step d k alike =
     let found : List Finding = joined (faults_of (step_table (is_skipped d)) d) (map (λ (part : Cleared). part.0) parts) in
     let are : clean found ≡ all_of (own_of k) parts = clean-joined (faults_of (step_table (is_skipped d)) d) (own_of k) parts (own_clean d k alike) in
     let by_itself : all_of (own_of k) parts ≡ is_some (step_from k) =
-    members_apart k (is_absent_or (all_items first_shaped) o) tests tests_skipped (is_absent_or (all_items is_read) o) (items_shaped o)
+    members_apart k (is_absent_or (all_items first_shaped) o) tests tests_skipped (is_absent_or (all_items is_read) o) (items_both first_shaped fits_growth is_read shaped_both o)
     ∙ ap (λ (x : Bool). members_of k x tests tests_skipped) (each_is provisioner_from o)
     ∙ step_reads_shape (flag_of k) (is_skipped k) (says_seconds k) (seconds_of k) (id_of k) (warning_of k) (failure_of k) (provisioners_of k) (waits_of k) tests
     tests_skipped (silent_read (member_of (codes "seconds") k)) (flag_read (member_of (codes "skipped") k)) (tests_read k) in

@@ -194,20 +194,21 @@ no_unknown (Some all) d = no_unknown_by all d (object_named d)
 
 -- ---- diagnostics, failures, and what provisioners put out
 
+-- a value of which nothing is asked but what its members are
+same_members : (wanted : Want) (table : List Known) (names : List Name) → IsSame (λ d. where_suits wanted d (faults_of table d ++ unread names d))
+    (λ d. where_suits wanted d (faults_of table d ++ unread names d))
+same_members wanted table names d =
+    let wrong : List Finding = faults_of table d in
+    let rest : List Finding = unread names d in
+    same_where wanted d (wrong ++ rest) (wrong ++ rest) (both_same wrong rest wrong rest (same_faults table d) (same_unread names d))
+
 pub same_diagnostic : IsSame in_diagnostic in_diagnostic
 unfolding in_diagnostic
-same_diagnostic d =
-    let wrong : List Finding = faults_of diagnostic_table d in
-    let rest : List Finding = unread diagnostic_names d in
-    same_where want.Diagnostic d (wrong ++ rest) (wrong ++ rest)
-    (both_same wrong rest wrong rest (same_faults diagnostic_table d) (same_unread diagnostic_names d))
+same_diagnostic d = same_members want.Diagnostic diagnostic_table diagnostic_names d
 
 pub same_failure : IsSame in_failure in_failure
 unfolding in_failure
-same_failure d =
-    let wrong : List Finding = faults_of failure_table d in
-    let rest : List Finding = unread failure_names d in
-    same_where want.Diagnostic d (wrong ++ rest) (wrong ++ rest) (both_same wrong rest wrong rest (same_faults failure_table d) (same_unread failure_names d))
+same_failure d = same_members want.Diagnostic failure_table failure_names d
 
 by_object : (b : Bool) (xs us : List Finding) → Same xs us → Same (if b then xs else []) (if b then us else [])
 by_object true xs us e = e
