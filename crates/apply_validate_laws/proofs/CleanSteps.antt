@@ -1,11 +1,10 @@
 -- A step: nothing is found for which a run refuses, exactly where one is read that is within the limits and fits the changes of a plan.
-use Rattle.std.proofs.Common.{◌≡◌, ℕ, List, [], ◌∷◌, ◌++◌, Bool, true, false, not, ◌&&◌, is_some, Option, Some, None, refl, sym, ap, ◌∙◌, map}
+use Rattle.std.proofs.Common.{◌≡◌, ℕ, List, [], ◌∷◌, ◌++◌, Bool, true, false, not, ◌&&◌, is_some, Option, refl, sym, ap, ◌∙◌, map}
 use Rattle.std.specs.Prelude.{codes}
 use Rattle.std.specs.List.{list_all}
 use Rattle.serde_json.specs.Data.{Data}
 use Rattle.serde_json.specs.Find.{as_object}
-use Rattle.apply_json.specs.Seen.{items_in}
-use Rattle.apply_json.specs.Tree.{list_of, member_of, text_or}
+use Rattle.apply_json.specs.Tree.{member_of, text_or}
 use Rattle.apply_model.specs.declared.script.diag.Diag.{Diag}
 use Rattle.apply_model.specs.declared.script.provisioner.Provisioner.{Provisioner}
 use Rattle.apply_model.specs.Plan.ResourceChange.{ResourceChange}
@@ -23,7 +22,7 @@ use Rattle.apply_validate_laws.proofs.Besides.{fits_kind, is_found, kind_same}
 use Rattle.apply_validate_laws.proofs.Clean.{all_items, clean, clean-faults_of, clean-marked, clean-then_unread, clean-where_suits, is_absent_or, Cleared, all_of, clean-joined, items_both}
 use Rattle.apply_validate_laws.proofs.Diagnostics.{absent_or_diagnostic, absent_or_failure, clean_diagnostic, clean_failure, clean_wait, fits_wait}
 use Rattle.apply_validate_laws.proofs.Members.{IsCleanBeside, array_or, flag_same, flag_there, inside_clean, items_inside, list_clean}
-use Rattle.apply_validate.proofs.Options.{and_assoc, and_false, and_true, crossed, still}
+use Rattle.apply_validate.proofs.Options.{and_assoc, and_false, and_true, still}
 use Rattle.apply_validate_laws.proofs.Provisioners.{clean_growth, clean_provisioner, fits, fits_first, fits_growth, is_provisioner, fits_both}
 use Rattle.apply_validate_laws.proofs.Wanted.{each_fits, each_is, only_object}
 use Rattle.apply_validate_laws.proofs.Steps.{apart, flag_read, is_step, parts as step_parts, reads, silent_read, table_clean, tests_read, tests_same, timed}

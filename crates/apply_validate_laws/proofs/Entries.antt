@@ -48,10 +48,6 @@ chain : (b : Bool) (x : ScriptError) (o : Option ScriptError) (r : Bool) → is_
 chain true x o r e = refl
 chain false x o r e = e
 
-either_none : (a b : Option ScriptError) → is_none (option_or a b) ≡ (is_none a && is_none b)
-either_none None b = refl
-either_none (Some x) b = refl
-
 abbrev pub any_of : (Outcome → Bool) → List EntryStep → Bool
 any_of test steps = list_any (passes test) (outcomes steps)
 

@@ -1,7 +1,7 @@
 -- Provisioners: nothing is found for which a run refuses, exactly where one is read and puts out no more than it may.
 use Rattle.std.proofs.Common.{◌≡◌, ℕ, suc, ◌+◌, List, [], ◌∷◌, ◌++◌, length, map, Bool, true, false, not, ◌&&◌, if◌then◌else◌, is_some, Option, Some, None, unwrap_or, refl, sym, ap, ◌∙◌, subst}
 use Rattle.std.specs.Prelude.{codes, nat_lt}
-use Rattle.std.specs.List.{list_all, sum_by}
+use Rattle.std.specs.List.{sum_by}
 use Rattle.std.specs.Option.{option_and_then, option_map_or}
 use Rattle.std.proofs.lemmas.List.{length-map}
 use Rattle.std.proofs.lemmas.List.Sums.{sum_by-cons}
@@ -21,13 +21,13 @@ use Rattle.apply_validate.specs.declared.findings.want.Want.TheVariants as want
 use Rattle.apply_validate.specs.ScriptFindings.{growth_of_provisioner, in_diagnostic, in_outputs, in_provisioner, provisioner_mark, provisioner_names, provisioner_table, seconds_in, whole_at}
 use Rattle.apply_validate.specs.Walks.{faults_of, in_list, inside, items_at, known, marked, unless_suits, unread}
 use Rattle.apply_validate.specs.Wants.{is_met}
-use Rattle.apply_validate_laws.proofs.Clean.{Cleared, all_items, clean, clean-append, clean-faults_of, clean-marked}
-use Rattle.apply_validate_laws.proofs.Clean.{clean-then_unread, clean-unless_suits, clean-where_suits, is_absent_or, clean-joined}
+use Rattle.apply_validate_laws.proofs.Clean.{Cleared, clean, clean-append, clean-faults_of, clean-marked}
+use Rattle.apply_validate_laws.proofs.Clean.{clean-then_unread, clean-unless_suits, clean-where_suits, clean-joined}
 use Rattle.apply_validate_laws.proofs.Diagnostics.{absent_or_diagnostic, clean_diagnostic, two}
 use Rattle.apply_validate_laws.proofs.Alike.{object_alike, Alike}
 use Rattle.apply_validate_laws.proofs.Members.{IsCleanBeside, array_or, count_same, inside_clean, list_clean, non_empty_there, on_failure_there, whole_there}
 use Rattle.apply_validate_laws.proofs.Wanted.{needs_object}
-use Rattle.apply_validate.proofs.Options.{and_comm, and_false, and_then_is, and_true, bind_some, crossed}
+use Rattle.apply_validate.proofs.Options.{and_comm, and_false, and_then_is, and_true, bind_some}
 use Rattle.apply_validate_laws.proofs.Outputs.{are_shaped, clean_outputs, come_in_time, is_shaped, outputs_read, shape_alike}
 use Rattle.apply_validate_laws.proofs.Joined.{joined}
 
@@ -232,14 +232,22 @@ clean_growth d k alike =
     ∙ ap (λ (x : Bool). x && clean (in_outputs d)) a
     ∙ ap (λ (x : Bool). is_some (may_fail_or_not (member_of (codes "on_failure") k)) && x) (clean_outputs d k alike)
 
+-- its outputs are read, exactly where they are outputs and come in time
+pub outputs_come : (k : Data) (s : ℕ) → seconds_of k ≡ Some s
+    → (are_shaped (member_of (codes "output") k) && come_in_time (whole_at name.Seconds k) None (items_at name.Output k))
+    ≡ is_some (each_of output_from (member_of (codes "output") k) >>= timed_outputs s)
+outputs_come k s e =
+    ap (λ (x : Option ℕ). are_shaped (member_of (codes "output") k) && come_in_time x None (items_at name.Output k))
+    (seconds_are (member_of (codes "seconds") k) ∙ e)
+    ∙ outputs_read s (member_of (codes "output") k)
+
 -- both
 pub fits_both : (k : Data) → (fits_first k && fits_growth k) ≡ is_provisioner k
 unfolding provisioner_from fits_first
 fits_both k =
     let o : Option Data = member_of (codes "output") k in
-    let seconds : whole_at name.Seconds k ≡ seconds_of k = seconds_are (member_of (codes "seconds") k) in
     reads (non_empty_text_of (codes "provisioner") k) (seconds_of k) (diag_or_none (member_of (codes "failed") k)) (each_of output_from o)
     (may_fail_or_not (member_of (codes "on_failure") k)) (are_shaped o) (nat_lt max_outputs (length (items_at name.Output k)))
     (come_in_time (whole_at name.Seconds k) None (items_at name.Output k))
-    (λ s e. ap (λ (x : Option ℕ). are_shaped o && come_in_time x None (items_at name.Output k)) (seconds ∙ e) ∙ outputs_read s o)
+    (outputs_come k)
     (λ s texts e. ap (λ (n : ℕ). nat_lt max_outputs n) (texts_read s o texts e))

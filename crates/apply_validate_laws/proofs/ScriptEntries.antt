@@ -6,7 +6,7 @@ use Rattle.std.specs.List.{enumerate_from, list_all, list_any, position_from, su
 use Rattle.std.specs.Option.{option_and_then, option_map, option_map_or}
 use Rattle.std.proofs.lemmas.Bool.Decides.{nat_tests}
 use Rattle.std.proofs.lemmas.List.{length-map}
-use Rattle.serde_json.specs.Data.{Data, null, boolean, number, string, array, object}
+use Rattle.serde_json.specs.Data.{Data}
 use Rattle.serde_json.specs.Find.{as_object, as_str}
 use Rattle.apply_model.specs.declared.plan.step_kind.StepKind.{StepKind}
 use Rattle.apply_model.specs.declared.script.outcome.Outcome.{Outcome}
@@ -50,9 +50,6 @@ use Rattle.apply_validate_laws.proofs.Taken.{found_with, outcomes, waits_read}
 use Rattle.apply_validate_laws.proofs.Wanted.{object_there}
 use Rattle.apply_validate_laws.proofs.ScriptTests.{OfSteps, OfWaits, by_change, by_entry, refused_with}
 use Rattle.apply_validate_laws.proofs.Warning.{not_text}
-
-some_is : {A : Type 0} (x y : A) → Some x ≡ Some y → x ≡ y
-some_is x y e = cc
 
 -- what a refusal is of is among these
 abbrev Told : List Finding → ScriptError → Type 0

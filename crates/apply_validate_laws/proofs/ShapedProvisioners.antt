@@ -1,11 +1,9 @@
 -- Provisioners, but for how much they put out: nothing is found that breaks a rule, exactly where one is read.
 use Rattle.std.proofs.Common.{◌≡◌, ℕ, List, [], ◌∷◌, ◌++◌, Bool, true, false, ◌&&◌, is_some, Option, Some, None, refl, sym, ap, ◌∙◌}
 use Rattle.std.specs.Prelude.{codes}
-use Rattle.std.specs.List.{list_all}
 use Rattle.serde_json.specs.Data.{Data}
 use Rattle.serde_json.specs.Find.{as_object, as_str}
-use Rattle.apply_json.specs.Seen.{items_in}
-use Rattle.apply_json.specs.Tree.{◌>>=◌, list_of, member_of, non_empty_text_of, unless_empty}
+use Rattle.apply_json.specs.Tree.{◌>>=◌, member_of, non_empty_text_of, unless_empty}
 use Rattle.apply_model.specs.declared.script.diag.Diag.{Diag}
 use Rattle.apply_model.specs.declared.script.provisioner.Provisioner.{Provisioner}
 use Rattle.apply_model.specs.declared.script.timed_text.TimedText.{TimedText}
@@ -16,16 +14,13 @@ use Rattle.apply_validate.specs.declared.findings.want.Want.TheVariants as want
 use Rattle.apply_validate.specs.ScriptFindings.{in_diagnostic, in_provisioner, provisioner_mark, provisioner_names, provisioner_table, whole_at}
 use Rattle.apply_validate.specs.Walks.{faults_of, in_list, inside, items_at, known, marked, unless_suits, unread, where_suits}
 use Rattle.apply_validate_laws.proofs.Alike.{object_alike}
-use Rattle.apply_validate_laws.proofs.Clean.{all_items, appended, clean-then_unread, clean-where_suits, is_absent_or}
+use Rattle.apply_validate_laws.proofs.Clean.{appended, clean-then_unread, clean-where_suits}
 use Rattle.apply_validate_laws.proofs.Members.{IsCleanBeside}
-use Rattle.apply_validate.proofs.Options.{and_comm, and_false, crossed}
-use Rattle.apply_validate_laws.proofs.Outputs.{are_shaped, come_in_time, outputs_read}
-use Rattle.apply_validate_laws.proofs.Provisioners.{fits_growth, seconds_are, named_clean, output_clean, failed_clean}
+use Rattle.apply_validate.proofs.Options.{and_comm, and_false}
+use Rattle.apply_validate_laws.proofs.Outputs.{are_shaped, come_in_time}
+use Rattle.apply_validate_laws.proofs.Provisioners.{outputs_come, fits_growth, named_clean, output_clean, failed_clean}
 use Rattle.apply_validate_laws.proofs.Shapes.{IsSame, both_same, same_diagnostic, same_faults, same_inside, same_list, same_picked, same_unless, same_unread, same_where, without}
 use Rattle.apply_validate_laws.proofs.Wanted.{needs_object}
-
-some_is : {A : Type 0} (x y : A) → Some x ≡ Some y → x ≡ y
-some_is x y e = cc
 
 -- ---- provisioners, but for how much they put out
 
@@ -117,10 +112,9 @@ pub shaped_both : (k : Data) → (first_shaped k && fits_growth k) ≡ is_some (
 unfolding provisioner_from first_shaped
 shaped_both k =
     let o : Option Data = member_of (codes "output") k in
-    let seconds : whole_at name.Seconds k ≡ seconds_of k = seconds_are (member_of (codes "seconds") k) in
     reads (non_empty_text_of (codes "provisioner") k) (seconds_of k) (diag_or_none (member_of (codes "failed") k)) (each_of output_from o)
     (may_fail_or_not (member_of (codes "on_failure") k)) (are_shaped o) (come_in_time (whole_at name.Seconds k) None (items_at name.Output k))
-    (λ s e. ap (λ (x : Option ℕ). are_shaped o && come_in_time x None (items_at name.Output k)) (seconds ∙ e) ∙ outputs_read s o)
+    (outputs_come k)
 
 abbrev pub is_read : Data → Bool
 is_read k = is_some (provisioner_from k)

@@ -23,8 +23,10 @@ use Rattle.apply_validate.specs.Beside.{change_at, has_address, object_named, st
 use Rattle.apply_validate.specs.Findings.{finding_at, finding_here, is_refusal, is_refusal_of, under}
 use Rattle.apply_validate.specs.Names.{name_text}
 use Rattle.apply_validate.specs.ObjectNames.{Named}
-use Rattle.apply_validate.specs.ScriptFindings.{comes_after, diagnostic_names, diagnostic_table, failure_names, failure_table, growth_of_provisioner, in_diagnostic, in_failure, in_output, in_outputs, in_wait, output_marks, output_names, output_table, outputs_behind, wait_names, wait_table, whole_at}
-use Rattle.apply_validate.specs.Walks.{fault_of, faults_of, found_by, in_items, in_list, inside, is_known, items_at, items_from, known, lack, marked, member_at, place_of, texts_in, unless_suits, unread, unread_from, where_suits}
+use Rattle.apply_validate.specs.ScriptFindings.{comes_after, diagnostic_names, diagnostic_table, failure_names, failure_table, growth_of_provisioner, in_diagnostic, in_failure}
+use Rattle.apply_validate.specs.ScriptFindings.{in_output, in_outputs, in_wait, output_marks, output_names, output_table, outputs_behind, wait_names, wait_table, whole_at}
+use Rattle.apply_validate.specs.Walks.{fault_of, faults_of, found_by, in_items, in_list, inside, is_known, items_at, items_from, known, lack}
+use Rattle.apply_validate.specs.Walks.{marked, member_at, place_of, texts_in, unless_suits, unread, unread_from, where_suits}
 use Rattle.apply_validate.specs.Wants.{is_met, suits}
 use Rattle.apply_validate_laws.specs.Laws.{breaks_rule}
 use Rattle.apply_validate.proofs.Options.{and_false, and_true}
